@@ -1,0 +1,2 @@
+pub mod CompletionLemmas
+pub mod SubmissionLemmas

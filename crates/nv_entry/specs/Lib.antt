@@ -1,0 +1,10 @@
+pub mod Layout
+pub mod Dwords
+pub mod Bytes
+pub mod Opcode
+pub mod Submission
+pub mod Status
+pub mod StatusCode
+pub mod Completion
+pub mod Descriptor
+pub mod Range

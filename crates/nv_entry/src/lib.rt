@@ -1,0 +1,30 @@
+//! The entries of NVM Express as bytes: submission and completion queue entries, SGL descriptors, the ranges of Dataset
+//! Management, and the status of a completion.
+//!
+//! An entry is its bytes: a contract sees a `Sqe` as a list of 64 numbers below 256. A field is a run of these bytes read as a
+//! little-endian number, or some bits of such a number (`specs/Layout`), and each reader gives exactly its field. Reading is
+//! total, takes no memory and refuses nothing: what a field's value means to a controller is decided above this crate.
+#![tactic(auto)]
+
+mod cqe;
+mod data_pointer;
+mod descriptor;
+mod descriptor_type;
+mod dwords;
+mod opcode;
+mod range;
+mod sqe;
+mod status;
+mod status_code;
+#[cfg(test)]
+mod tests;
+
+pub use cqe::Cqe;
+pub use data_pointer::DataPointer;
+pub use descriptor::Descriptor;
+pub use descriptor_type::DescriptorType;
+pub use opcode::{AdminOpcode, IoOpcode};
+pub use range::Range;
+pub use sqe::Sqe;
+pub use status::Status;
+pub use status_code::StatusCode;

@@ -1,0 +1,7 @@
+pub mod Counts
+pub mod Examples
+pub mod Images
+pub mod Memory
+pub mod Overlaps
+pub mod PlaceLists
+pub mod Soundness

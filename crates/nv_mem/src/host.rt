@@ -1,0 +1,144 @@
+ghost use Rattle.std.specs.Prelude.{◌≡◌, ℕ, List, [], length, replicate, ◌↔◌, IfOk, IsTrue};
+ghost use Rattle.nv_mem.specs.Bytes.{InMemory, bytes_at, after_store};
+
+use crate::no_memory::NoMemory;
+use std::alloc::Global;
+use std::marker::Model;
+
+/// The memory of the host: its bytes, from host address 0 on.
+///
+/// Its length stays as it was made. A contract sees it as the list of its bytes.
+#[derive(Debug, Drop)]
+pub struct Host {
+    bytes: Vec<u8>,
+}
+
+impl Model for Host {
+    ghost Value = { List ℕ };
+
+    ghost view = { λ h. h.bytes.items };
+}
+
+impl Host {
+    /// A memory of `len` bytes, all zero.
+    pub fn new(alloc: Global, len: u64) -> Result<Self, NoMemory>
+        ensures { IfOk result (λ host. host ≡ replicate len 0) }
+    {
+        Ok(Host {
+            bytes: zeros(alloc, len as usize)?,
+        })
+    }
+
+    /// How many bytes the memory has.
+    pub fn len(&self) -> u64
+        ensures { result ≡ length self.now }
+    {
+        self.bytes.len() as u64
+    }
+
+    /// Whether the memory has no bytes.
+    pub fn is_empty(&self) -> bool
+        ensures { IsTrue result ↔ (self.now ≡ []) }
+    {
+        self.bytes.is_empty()
+    }
+
+    /// Whether `len` bytes from host address `addr` on lie in the memory. No bytes always do, at
+    /// any address. It is what [`Host::load`] and [`Host::store`] require.
+    pub fn holds(&self, addr: u64, len: u64) -> bool
+        ensures { IsTrue result ↔ InMemory (length self.now) addr len }
+    {
+        len == 0 || (len <= self.len() && addr <= self.len() - len)
+    }
+
+    /// Reads the bytes from host address `addr` on, as many as `out` has, into `out`.
+    ///
+    /// The caller knows that they lie in the memory ([`Host::holds`] tests it).
+    pub fn load(&self, addr: u64, out: &mut [u8])
+        requires { InMemory (length self.now) addr (length out.old) }
+        ensures { out.new ≡ bytes_at self.now addr (length out.old) }
+    {
+        if out.is_empty() {
+            return;
+        }
+        let start = addr as usize;
+        out.copy_from_slice(&self.bytes[start..start + out.len()]);
+    }
+
+    /// Writes the bytes to host address `addr` on, and changes no other byte.
+    ///
+    /// The caller knows that they lie in the memory ([`Host::holds`] tests it).
+    pub fn store(&mut self, addr: u64, bytes: &[u8])
+        requires { InMemory (length self.old) addr (length bytes.now) }
+        ensures bytes { self.new ≡ after_store self.old addr bytes.now }
+        ensures len { length self.new ≡ length self.old }
+    {
+        if bytes.is_empty() {
+            return;
+        }
+        let start = addr as usize;
+        self.bytes[start..start + bytes.len()].copy_from_slice(bytes);
+    }
+}
+
+// `len` zero bytes.
+fn zeros(alloc: Global, len: usize) -> Result<Vec<u8>, NoMemory>
+    ensures { IfOk result (λ bytes. bytes.items ≡ replicate len 0) }
+{
+    Ok(vec![in alloc; 0; len]?)
+}
+
+#[cfg(test)]
+mod tests {
+    use super::*;
+    use std::test::Fail;
+
+    #[test]
+    fn loads_what_was_stored(rt: HostRuntime) -> Result<(), Fail> {
+        let mut host = Host::new(rt.alloc(), 8)?;
+        assert!(rt; host.len() == 8 && !host.is_empty());
+        let mut all = [9u8; 8];
+        assert!(rt; host.holds(0, 8));
+        host.load(0, &mut all);
+        assert_eq!(rt; all, [0; 8]);
+
+        assert!(rt; host.holds(2, 3) && host.holds(5, 3));
+        host.store(2, &[1, 2, 3]);
+        host.store(5, &[4, 5, 6]);
+        host.load(0, &mut all);
+        assert_eq!(rt; all, [0, 0, 1, 2, 3, 4, 5, 6]);
+        let mut two = [9u8; 2];
+        assert!(rt; host.holds(4, 2));
+        host.load(4, &mut two);
+        assert_eq!(rt; two, [3, 4]);
+
+        // no bytes lie in the host at any address
+        host.store(u64::MAX, &[]);
+        host.load(9, &mut []);
+        assert!(rt; host.holds(0, 8));
+        host.load(0, &mut all);
+        assert_eq!(rt; all, [0, 0, 1, 2, 3, 4, 5, 6]);
+        Ok(())
+    }
+
+    #[test]
+    fn holds_ranges(rt: HostRuntime) -> Result<(), Fail> {
+        let host = Host::new(rt.alloc(), 8)?;
+        for (addr, len, want) in [
+            (0, 8, true),
+            (0, 9, false),
+            (7, 1, true),
+            (8, 1, false),
+            (8, 0, true),
+            (u64::MAX, 0, true),
+            (u64::MAX, 1, false),
+            (1, u64::MAX, false),
+        ] {
+            assert_eq!(rt; host.holds(addr, len), want, "{len} bytes at {addr}");
+        }
+        assert!(rt; Host::new(rt.alloc(), u64::MAX).is_err());
+        let none = Host::new(rt.alloc(), 0)?;
+        assert!(rt; none.is_empty() && none.holds(0, 0) && !none.holds(0, 1));
+        Ok(())
+    }
+}

@@ -1,0 +1,38 @@
+//! Where a guest's bytes lie in the memory of the host.
+//!
+//! - [`Host`] is the host's memory: bytes from address 0 on, read and written in ranges.
+//! - [`GuestMap`] is a guest's memory map: [`Region`]s of whole pages, apart in guest and in host
+//!   addresses and inside the host. It means a finite function from guest to host addresses.
+//! - [`Places`] is where the bytes of a transfer lie in a guest's memory, as the guest's list named
+//!   them: [`Piece`]s, which are runs of addresses or bytes that go nowhere.
+//! - [`NoMemory`] is the one answer to a refused growth, here and in every crate above.
+//! - [`laws`] states what the definitions come to: different guest addresses lie at different host
+//!   addresses, maps that do not meet share no byte, a store changes the bytes that it names.
+//!
+//! NVM Express says nothing of memory maps: they are the hypervisor's, and so is every rule on them
+//! here. Sums are taken in whole numbers, so a region may end exactly at 2 to the 64.
+//!
+//! [`Host::new`], [`Places::push`] and the two `try_clone` take memory, and nothing else does. Each
+//! is called with ample memory in a test that compares its answer. `rt try --test --fail-alloc N`
+//! was run for each N up to 22: the test whose Nth allocation is refused ends with that call's
+//! error, and all others pass.
+#![tactic(auto)]
+
+pub use guest_map::GuestMap;
+pub use host::Host;
+pub use map_error::MapError;
+pub use no_memory::NoMemory;
+pub use piece::Piece;
+pub use places::Places;
+pub use region::Region;
+
+pub mod guest_map;
+pub mod host;
+pub mod laws;
+mod lookup;
+pub mod map_error;
+pub mod no_memory;
+pub mod piece;
+pub mod places;
+mod refusal;
+pub mod region;

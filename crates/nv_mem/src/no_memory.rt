@@ -1,0 +1,42 @@
+ghost use Rattle.std.specs.Prelude.{◌≡◌};
+
+use std::alloc::{AllocError, AllocFailed};
+use thiserror::Error;
+
+/// A growth of memory was refused.
+///
+/// It is the one answer to want of memory in every crate of the mediator. `?` makes it of the
+/// library's allocation errors.
+#[derive(Clone, Copy, Debug, PartialEq, Eq, Error)]
+#[error("no memory")]
+pub struct NoMemory;
+
+impl From<AllocError> for NoMemory {
+    ghost from_gives = { λ _ e. e ≡ record {} };
+
+    fn from(_error: AllocError) -> NoMemory {
+        NoMemory
+    }
+}
+
+impl<T: Drop> From<AllocFailed<T>> for NoMemory {
+    ghost from_gives = { λ _ e. e ≡ record {} };
+
+    fn from(_error: AllocFailed<T>) -> NoMemory {
+        NoMemory
+    }
+}
+
+#[cfg(test)]
+mod tests {
+    use super::*;
+    use std::test::Fail;
+
+    #[test]
+    fn comes_of_the_errors_of_the_library(rt: HostRuntime) -> Result<(), Fail> {
+        assert_eq!(rt; NoMemory::from(AllocError), NoMemory);
+        let text = format!(in rt.alloc(); "{NoMemory}")?;
+        assert_eq!(rt; text.as_str(), "no memory");
+        Ok(())
+    }
+}

@@ -1,0 +1,99 @@
+ghost use Rattle.std.specs.Prelude.{◌≡◌, List, [], ◌∷◌, ◌++◌, IfOk, OnOk, OnErr};
+
+use crate::no_memory::NoMemory;
+use crate::piece::Piece;
+use std::alloc::Global;
+use std::marker::Model;
+
+/// Where the bytes of a transfer lie in a guest's memory: pieces in order, as the guest's list
+/// named them. Pieces that touch are never joined.
+///
+/// A contract sees it as the list of its pieces.
+#[derive(Debug, Drop)]
+pub struct Places {
+    pieces: Vec<Piece>,
+}
+
+impl Model for Places {
+    ghost use Rattle.std.specs.Prelude.{List};
+    ghost use Rattle.nv_mem.specs.declared.piece.Piece.{Piece};
+
+    ghost Value = { List Piece };
+
+    ghost view = { λ p. p.pieces.items };
+}
+
+impl Places {
+    /// No places. It takes no memory; a later `push` does.
+    pub fn new(alloc: Global) -> Self
+        ensures { result ≡ [] }
+    {
+        Places {
+            pieces: Vec::new(alloc),
+        }
+    }
+
+    /// Adds a piece behind the others. Where no memory is left, the places are as they were.
+    pub fn push(&mut self, piece: Piece) -> Result<(), NoMemory>
+        ensures ok { OnOk result (self.new ≡ self.old ++ piece ∷ []) }
+        ensures err { OnErr result (self.new ≡ self.old) }
+    {
+        self.pieces.push(piece)?;
+        Ok(())
+    }
+
+    /// The pieces, in order.
+    pub fn pieces(&self) -> &[Piece]
+        ensures { result.now ≡ self.now }
+    {
+        &self.pieces
+    }
+
+    /// The same pieces again, in memory of their own.
+    pub fn try_clone(&self, alloc: Global) -> Result<Self, NoMemory>
+        ensures { IfOk result (λ places. places ≡ self.now) }
+    {
+        Ok(Places {
+            pieces: Vec::from_slice(alloc, &self.pieces)?,
+        })
+    }
+}
+
+#[cfg(test)]
+mod tests {
+    use super::*;
+    use std::test::Fail;
+
+    #[test]
+    fn keeps_pieces_as_they_were_named(rt: HostRuntime) -> Result<(), Fail> {
+        let mut places = Places::new(rt.alloc());
+        assert!(rt; places.pieces().is_empty());
+        // the first two touch, the third names addresses of the first again, and one is empty
+        let pieces = [
+            Piece::Run {
+                addr: 0x1000,
+                len: 0x200,
+            },
+            Piece::Run {
+                addr: 0x1200,
+                len: 0x200,
+            },
+            Piece::Run {
+                addr: 0x1100,
+                len: 0x10,
+            },
+            Piece::Bucket { len: 0x1_0000_0000 },
+            Piece::Bucket { len: 7 },
+            Piece::Run {
+                addr: u64::MAX,
+                len: 0,
+            },
+        ];
+        for piece in pieces {
+            places.push(piece)?;
+        }
+        assert_eq!(rt; places.pieces(), pieces.as_slice());
+        assert_eq!(rt; places.try_clone(rt.alloc())?.pieces(), pieces.as_slice());
+        Ok(())
+    }
+}

@@ -1,0 +1,3 @@
+pub mod CarriedOut
+pub mod DialogueLemmas
+pub mod MemoryLemmas

@@ -1,0 +1,14 @@
+use Rattle.std.proofs.Common.{refl}
+use Rattle.nv_entry.specs.Layout.{number_at, dword, qword, bits, bytes_of_dwords}
+use Rattle.nv_entry.specs.Completion.{completion}
+use Rattle.nv_mem.specs.GuestMap.{everywhere}
+use Rattle.nv_model.specs.Memory.{bytes_from, stored}
+use Rattle.nv_model.specs.Dialogue.{in_memory, and_then}
+use Rattle.nv_model.specs.Prp.{read_entries}
+use Rattle.nv_model.specs.Judge.{judge}
+use Rattle.nv_model.specs.Rows.{pages_from}
+use Rattle.nv_model.proofs.rows.prp_refusals.a_list_pointer_at_a_multiple_of_four.Goals as goal
+
+pub returns : goal.returns
+unfolding number_at dword qword bits bytes_of_dwords completion everywhere bytes_from stored in_memory and_then read_entries judge pages_from
+returns c = refl

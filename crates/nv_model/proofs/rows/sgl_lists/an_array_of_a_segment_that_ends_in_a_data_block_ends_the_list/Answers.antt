@@ -1,0 +1,11 @@
+use Rattle.std.proofs.Common.{refl}
+use Rattle.nv_entry.specs.Layout.{number_at, dword, qword, bits}
+use Rattle.nv_mem.specs.GuestMap.{everywhere}
+use Rattle.nv_model.specs.Memory.{bytes_from, stored}
+use Rattle.nv_model.specs.Dialogue.{in_memory}
+use Rattle.nv_model.specs.Sgl.{read_array, read_sgl}
+use Rattle.nv_model.proofs.rows.sgl_lists.an_array_of_a_segment_that_ends_in_a_data_block_ends_the_list.Goals as goal
+
+pub returns : goal.returns
+unfolding number_at dword qword bits everywhere bytes_from stored in_memory read_array read_sgl
+returns c = refl

@@ -1,0 +1,15 @@
+pub mod Memory
+pub mod Dialogue
+pub mod Reading
+pub mod Sgl
+pub mod Prp
+pub mod Judge
+pub mod Transcript
+pub mod Queue
+pub mod Controller
+pub mod Admin
+pub mod Private
+pub mod Carried
+pub mod Footprint
+pub mod Rows
+pub mod RowsRuns

@@ -1,0 +1,29 @@
+-- A guest's memory: which of its addresses are there, and the byte at each. What lies at the others has no meaning.
+use Rattle.std.specs.Prelude.{ℕ, zero, suc, ◌+◌, ◌-◌, Bool, ◌&&◌, nat_le, nat_lt, if◌then◌else◌, List, [], ◌∷◌, length, map, slice_index}
+use Rattle.nv_mem.specs.Places.{Place, At, Bucket}
+
+-- the `len` bytes from an address on
+unfoldable pub bytes_from : (ℕ → ℕ) → ℕ → ℕ → List ℕ
+bytes_from memory addr zero = []
+bytes_from memory addr (suc len) = memory addr ∷ bytes_from memory (suc addr) len
+
+-- the memory with these bytes from an address on, and all others as they were
+unfoldable pub stored : (ℕ → ℕ) → ℕ → List ℕ → ℕ → ℕ
+stored memory addr bytes at =
+    if nat_le addr at && nat_lt at (addr + length bytes) then slice_index bytes (at - addr) else memory at
+
+-- the byte at a place; a source names no bucket
+abbrev pub byte_at_place : (ℕ → ℕ) → Place → ℕ
+byte_at_place memory (At addr) = memory addr
+byte_at_place memory Bucket = 0
+
+-- the bytes at the places, in order
+unfoldable pub gathered : (ℕ → ℕ) → List Place → List ℕ
+gathered memory places = map (byte_at_place memory) places
+
+-- the memory with the bytes given to the places in order: a bucket discards its byte, and an address named twice keeps the last
+unfoldable pub scattered : (ℕ → ℕ) → List Place → List ℕ → ℕ → ℕ
+scattered memory [] bytes = memory
+scattered memory (place ∷ places) [] = memory
+scattered memory (At addr ∷ places) (byte ∷ bytes) = scattered (stored memory addr (byte ∷ [])) places bytes
+scattered memory (Bucket ∷ places) (byte ∷ bytes) = scattered memory places bytes

@@ -1,0 +1,12 @@
+//! What everything means: the definitions that the other crates' contracts cite, and the data types that they speak of.
+#![tactic(auto)]
+
+mod act;
+mod bytes;
+pub mod laws;
+mod reply;
+pub mod rows;
+
+pub use act::Act;
+pub use bytes::Bytes;
+pub use reply::Reply;

@@ -1,0 +1,19 @@
+-- Which blocks are a guest's, and where on the disk they lie.
+use Rattle.std.specs.Prelude.{ℕ, ◌+◌, ◌-◌, ◌≤◌, Bool, ◌&&◌, nat_le, Option, Some, None, if◌then◌else◌}
+
+-- a namespace as it lies on the disk: block 0 is disk block `base`, and it has `blocks` blocks (profile: one namespace of a guest is one range of the disk)
+pub record Extent : Type 0 where
+  pub base : ℕ
+  pub blocks : ℕ
+
+-- `count` blocks from block `slba` lie in a namespace of `blocks` blocks; otherwise the command is refused (NVM Command Set 1.0, LBA Out of Range)
+abbrev pub InNamespace : ℕ → ℕ → ℕ → Type 0
+InNamespace slba count blocks = (count ≤ blocks) × (slba ≤ blocks - count)
+
+-- the same, as a test that computes
+abbrev pub in_namespace : ℕ → ℕ → ℕ → Bool
+in_namespace slba count blocks = nat_le count blocks && nat_le slba (blocks - count)
+
+-- the disk block of block `slba`, or none where the range is not in the namespace
+abbrev pub translated : Extent → ℕ → ℕ → Option ℕ
+translated ns slba count = if in_namespace slba count ns.blocks then Some (ns.base + slba) else None

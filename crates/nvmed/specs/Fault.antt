@@ -1,0 +1,29 @@
+-- The faults of the program: what each prints, and the exit status that it ends with
+use Rattle.std.specs.Prelude.{ℕ, List, codes}
+use Rattle.nvmed.specs.declared.exit_status.ExitStatus.{ExitStatus}
+use Rattle.nvmed.specs.declared.exit_status.ExitStatus.TheVariants as status
+use Rattle.nvmed.specs.declared.refusal.Refusal.{Refusal}
+use Rattle.nvmed.specs.declared.refusal.Refusal.TheVariants as refusal
+use Rattle.nvmed.specs.declared.fault.Fault.{Fault}
+use Rattle.nvmed.specs.declared.fault.Fault.TheVariants.{BadBytes, Usage, NoMemory, CannotRead, CannotWrite}
+
+-- the exit status of a fault
+abbrev pub status_of : Fault → ExitStatus
+status_of BadBytes = status.ScriptFault
+status_of Usage = status.Usage
+status_of NoMemory = status.NoMemory
+status_of CannotRead = status.InputOutput
+status_of CannotWrite = status.InputOutput
+
+-- the text of a fault
+abbrev pub text_of : Fault → List ℕ
+text_of BadBytes = codes "line 1: bad bytes"
+text_of Usage = codes "usage: nvmed once | replay | run | decode KIND HEX"
+text_of NoMemory = codes "no memory"
+text_of CannotRead = codes "cannot read"
+text_of CannotWrite = codes "cannot write"
+
+-- the fault of words that are no command
+abbrev pub fault_of : Refusal → Fault
+fault_of refusal.Usage = Usage
+fault_of refusal.NoMemory = NoMemory

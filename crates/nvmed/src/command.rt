@@ -1,0 +1,75 @@
+//! The words of the program, as a command.
+ghost use Rattle.std.specs.Prelude.{◌≡◌, ◌↔◌, IsTrue, Any, slice_get};
+
+use crate::entry_kind::EntryKind;
+use crate::refusal::Refusal;
+use clap::error::ErrorKind;
+use clap::{Arg, ArgMatches};
+use std::alloc::{AllocError, Global};
+use std::convert::AsStr;
+
+/// What the program is to do.
+#[derive(Clone, Copy, Debug, PartialEq, Eq)]
+pub enum Command<'a> {
+    /// print the fields of the entry that these digits spell
+    Decode { kind: EntryKind, digits: &'a str },
+}
+
+/// The command that these words are. A word that begins with `-` is in no command, and no help is built in.
+pub fn parse<'a, S: AsStr>(alloc: Global, words: &'a [S]) -> Result<Command<'a>, Refusal>
+    ensures dash { Any (λ word. slice_get (S.text word) 0 ≡ Some 45) words.entry.now → result ≡ Err Refusal.Usage }
+{
+    if words.iter().any(|word| begins_with_dash(word.as_str())) {
+        return Err(Refusal::Usage);
+    }
+    let found = match grammar(alloc)?.try_get_matches_from(words) {
+        Ok(found) => found,
+        Err(error) if error.kind() == ErrorKind::OutOfMemory => return Err(Refusal::NoMemory),
+        Err(_) => return Err(Refusal::Usage),
+    };
+    match found.subcommand() {
+        Some((DECODE, found)) => decode_command(found).ok_or(Refusal::Usage),
+        _ => Err(Refusal::Usage),
+    }
+}
+
+const DECODE: &str = "decode";
+
+const KIND: &str = "KIND";
+
+const HEX: &str = "HEX";
+
+fn begins_with_dash(word: &str) -> bool
+    ensures { IsTrue result ↔ (slice_get word.now 0 ≡ Some 45) }
+{
+    word.as_bytes().first() == Some(&b'-')
+}
+
+/// The subcommands and their arguments.
+fn grammar<'a>(alloc: Global) -> Result<clap::Command<'a>, AllocError> {
+    plain(alloc, "nvmed")
+        .no_binary_name(true)
+        .disable_help_subcommand(true)
+        .subcommand_required(true)
+        .subcommand(decode_grammar(alloc)?)
+}
+
+fn decode_grammar<'a>(alloc: Global) -> Result<clap::Command<'a>, AllocError> {
+    plain(alloc, DECODE)
+        .arg(Arg::new(alloc, KIND).required(true))?
+        .arg(Arg::new(alloc, HEX).required(true))
+}
+
+/// A command of this name with no flags of its own.
+fn plain<'a>(alloc: Global, name: &'a str) -> clap::Command<'a> {
+    clap::Command::new(alloc, name)
+        .disable_help_flag(true)
+        .disable_version_flag(true)
+}
+
+/// The command of what stands behind `decode`, or `None` where its KIND is none.
+fn decode_command<'a>(found: &ArgMatches<'a>) -> Option<Command<'a>> {
+    let kind = EntryKind::named(found.get_str(KIND)?)?;
+    let digits = found.get_str(HEX)?;
+    Some(Command::Decode { kind, digits })
+}
