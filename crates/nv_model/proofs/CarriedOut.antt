@@ -1,13 +1,13 @@
 -- Lemmas on carrying one command out.
-use Rattle.std.proofs.Common.{◌≡◌, ℕ, zero, suc, ◌+◌, Bool, true, false, ◌||◌, ◌&&◌, ◌==◌, List, [], ◌∷◌, length, replicate, Option, Some, None, refl, sym, ap, ◌∙◌, subst, eq-eqb}
+use Rattle.std.proofs.Common.{◌≡◌, ℕ, zero, suc, true, ◌==◌, List, [], ◌∷◌, ◌++◌, length, replicate, Some, refl, sym, ap, ◌∙◌, subst, eq-eqb}
 use Rattle.std.specs.List.{list_all}
 use Rattle.nv_entry.specs.Status.{StatusField}
-use Rattle.nv_model.specs.Judge.{WorkUnit, Work, Verdict, Go, Refuse}
-use Rattle.nv_model.specs.Private.{AtWork, Ended, Progress, Unjudged, JudgeStep, MoveStep, Moved, Private, Progress, Run, Shape, Step, Taken, ending, named, run_of, step, silently, unit_moved, verdict_in, progress_of}
+use Rattle.nv_model.specs.Judge.{WorkUnit, Work, Go, Refuse}
+use Rattle.nv_model.specs.Private.{AtWork, Ended, Progress, Unjudged, JudgeStep, MoveStep, Moved, Private, Progress, Shape, Taken, ending, named, run_of, step, silently, verdict_in, progress_of}
 use Rattle.nv_model.specs.Carried.{IsCarriedOut, all_moved, alone_at_work, alone_with, ending_of, is_own_step, judged_then_moved, moved_on, moved_status, unmoved, units_moved}
 
 -- a unit of the command that is alone in the bag moves
-step-move_alone : (shape : Shape) (t : Taken) (work : Work) (unit : WorkUnit) (units : List WorkUnit) (m : Moved) (p : Private)
+pub step-move_alone : (shape : Shape) (t : Taken) (work : Work) (unit : WorkUnit) (units : List WorkUnit) (m : Moved) (p : Private)
     → step shape (MoveStep t.name 0) (alone_at_work t work (unit ∷ units) m p) ≡ silently (alone_at_work t work units (moved_on unit work m) p)
 unfolding step
 step-move_alone shape t work unit units m p =
@@ -15,15 +15,21 @@ step-move_alone shape t work unit units m p =
     rw (same, same) refl
 
 -- the command that is alone in the bag is judged
-step-judge_alone : (shape : Shape) (t : Taken) (p : Private)
+pub step-judge_alone : (shape : Shape) (t : Taken) (p : Private)
     → step shape (JudgeStep t.name) (alone_with t Unjudged p) ≡ silently (alone_with t (progress_of (verdict_in shape p.memory t.entry)) p)
 unfolding step
 step-judge_alone shape t p =
     let same : (t.name == t.name) ≡ true = eq-eqb t.name t.name refl in
     rw (same, same) refl
 
+-- units in two parts
+pub units_moved-append : (first rest : List WorkUnit) (work : Work) (m : Moved) → units_moved (first ++ rest) work m ≡ units_moved rest work (units_moved first work m)
+unfolding units_moved
+units_moved-append [] rest work m = refl
+units_moved-append (unit ∷ first) rest work m = units_moved-append first rest work (moved_on unit work m)
+
 -- moves of the first unit, as many as there are units
-run_of-moves_alone : (shape : Shape) (t : Taken) (work : Work) (units : List WorkUnit) (m : Moved) (p : Private)
+pub run_of-moves_alone : (shape : Shape) (t : Taken) (work : Work) (units : List WorkUnit) (m : Moved) (p : Private)
     → run_of shape (replicate (length units) (MoveStep t.name 0)) (alone_at_work t work units m p)
     ≡ Some (record { state = alone_at_work t work [] (units_moved units work m) p; replies = [] })
 unfolding run_of units_moved
@@ -93,6 +99,8 @@ pub IsCarriedOut-moved : (shape : Shape) (p : Private) (t : Taken) (work : Work)
     → IsCarriedOut shape p t (moved_status (units_moved work.units work (unmoved p)).differed) (all_moved t work p)
 IsCarriedOut-moved shape p t work alone unjudged goes =
     record {
+      alone = alone;
+      unjudged = unjudged;
       steps = judged_then_moved t.name (length work.units);
       own = own-steps t.name (length work.units);
       runs = units_in_order shape p t work alone unjudged goes;
@@ -104,6 +112,8 @@ pub IsCarriedOut-refused : (shape : Shape) (p : Private) (t : Taken) (st : Statu
     → IsCarriedOut shape p t st (alone_with t (Ended st) p)
 IsCarriedOut-refused shape p t st alone unjudged refused =
     record {
+      alone = alone;
+      unjudged = unjudged;
       steps = judged_then_moved t.name 0;
       own = own-steps t.name 0;
       runs = refusal_alone shape p t st alone unjudged refused;

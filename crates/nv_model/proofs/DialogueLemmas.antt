@@ -1,5 +1,5 @@
 -- Dialogues one behind the other
-use Rattle.std.proofs.Common.{◌≡◌, ℕ, List, refl}
+use Rattle.std.proofs.Common.{◌≡◌, ℕ, refl}
 use Rattle.nv_model.specs.Memory.{bytes_from}
 use Rattle.nv_model.specs.Dialogue.{Dialogue, End, Ask, and_then, in_memory}
 

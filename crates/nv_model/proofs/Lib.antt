@@ -1,3 +1,15 @@
+pub mod AdminKept
+pub mod Agreeing
+pub mod Asking
 pub mod CarriedOut
 pub mod DialogueLemmas
+pub mod Endings
+pub mod InPlace
+pub mod Judged
+pub mod MemoryAlike
 pub mod MemoryLemmas
+pub mod QueueOrder
+pub mod QueuesKept
+pub mod Spelled
+pub mod StepsAlike
+pub mod StepsKept

@@ -1,10 +1,8 @@
 -- Memory as a function: what bytes read, gathered, stored and scattered are to each other, and to a memory that is a list of bytes
-use Rattle.std.proofs.Common.{◌≡◌, ℕ, zero, suc, ◌+◌, ◌-◌, ◌*◌, ◌<◌, ◌≤◌, Bool, true, false, ◌&&◌, cond, List, [], ◌∷◌, ◌++◌, length, slice_index, get_or, take, drop, replicate, map, refl, sym, ap, ◌∙◌, arith, nat_le, nat_lt, drop-cons, inl, inr}
+use Rattle.std.proofs.Common.{◌≡◌, ℕ, zero, suc, ◌+◌, ◌-◌, ◌<◌, ◌≤◌, List, [], ◌∷◌, ◌++◌, length, slice_index, get_or, take, drop, replicate, refl, sym, ap, ◌∙◌, arith, drop-cons, inl, inr}
 use Rattle.std.proofs.lemmas.Bool.{cases_lt}
 use mathlib.Core.Path.{fun_ext}
 use Rattle.std.proofs.lemmas.Bool.Decides.{nat_tests}
-use Rattle.std.proofs.lemmas.List.{get_or-drop, get_or-take}
-use Rattle.std.specs.List.{range_with_len}
 use Rattle.nv_mem.specs.Bytes.{InMemory, after_store}
 use Rattle.nv_mem.proofs.Memory.{get_or-after_store, get_or-after_store_other}
 use Rattle.nv_mem.specs.Places.{Place, At, Bucket, addresses}

@@ -1,6 +1,6 @@
 -- The admin queue: Base Specification 2.0, "Admin Command Set". Which commands, features and data structures there are, the order of
 -- the checks and the status that each fault gets are the project's own (profile).
-use Rattle.std.specs.Prelude.{ℕ, ◌+◌, ◌*◌, ◌^◌, ◌%◌, Bool, true, false, not, ◌&&◌, ◌||◌, ◌==◌, nat_lt, if◌then◌else◌, List, [], ◌∷◌, ◌++◌, drop, slice_index, replicate, Option, Some, None, is_some, is_none}
+use Rattle.std.specs.Prelude.{ℕ, ◌+◌, ◌*◌, ◌%◌, Bool, true, false, not, ◌||◌, ◌==◌, nat_lt, if◌then◌else◌, List, [], ◌∷◌, ◌++◌, drop, slice_index, replicate, Option, Some, None, is_some, is_none}
 use Rattle.std.specs.List.{list_any}
 use Rattle.nv_entry.specs.Layout.{bits, number_bytes}
 use Rattle.nv_entry.specs.Submission.{opcode_of, fuse_of, psdt_of, cid_of, nsid_of, prp1_of, prp2_of, cdw_of}
@@ -14,13 +14,12 @@ use Rattle.nv_entry.specs.declared.status_code.StatusCode.TheVariants as code
 use Rattle.nv_mem.specs.Bytes.{after_store}
 use Rattle.nv_mem.specs.GuestMap.{everywhere}
 use Rattle.nv_mem.specs.Places.{places_of}
-use Rattle.nv_mem.specs.declared.piece.Piece.{Piece}
 use Rattle.nv_model.specs.Memory.{bytes_from, scattered, stored}
 use Rattle.nv_model.specs.Dialogue.{in_memory}
 use Rattle.nv_model.specs.Reading.{Reading, Faulty, TooLong, Spells, first_failing}
 use Rattle.nv_model.specs.Prp.{read_prp}
 use Rattle.nv_model.specs.Queue.{SubmissionQueue, CompletionQueue, cqe_size, is_full, new_completion, new_submission, sqe_size}
-use Rattle.nv_model.specs.Controller.{Controller, Deletion, Posted, completion_queue, front, is_ready, most_slots, post, queue_count, submission_queue, took, with_completion, with_submission}
+use Rattle.nv_model.specs.Controller.{Controller, Deletion, Posted, completion_queue, front, is_ready, most_slots, post, submission_queue, took, with_completion, with_submission}
 
 -- what a command did: the controller and the guest's memory behind it, and the answer that is posted now, if one is: DW0 and status
 pub record Done : Type 0 where

@@ -5,7 +5,7 @@ use Rattle.nv_entry.specs.Status.{StatusField}
 use Rattle.nv_entry.specs.StatusCode.{done_with}
 use Rattle.nv_entry.specs.declared.status_code.StatusCode.TheVariants.{Success, CompareFailure}
 use Rattle.nv_model.specs.Judge.{WorkUnit, Work}
-use Rattle.nv_model.specs.Private.{AtWork, JudgeStep, MoveStep, ActStep, TakeStep, GiveUpStep, PostStep, RunOutStep, AdminQueueStep, KeepStep, Moved, Private, Progress, Shape, Step, Taken, ending, named, run_of, unit_moved}
+use Rattle.nv_model.specs.Private.{AtWork, JudgeStep, MoveStep, ActStep, TakeStep, GiveUpStep, PostStep, RunOutStep, AdminQueueStep, KeepStep, Moved, Private, Progress, Shape, Step, Taken, Unjudged, ending, named, run_of, unit_moved}
 
 -- ---- units in order
 
@@ -69,8 +69,11 @@ abbrev pub ending_of : Option Taken → Option StatusField
 ending_of None = None
 ending_of (Some t) = ending t.progress
 
--- some run of steps that judge the command t or move its units leads from p to q, where it has ended with this status
+-- some run of steps that judge the command t or move its units leads from p, whose bag holds t alone, not judged, to q, where it has
+-- ended with this status
 pub record IsCarriedOut (shape : Shape) (p : Private) (t : Taken) (st : StatusField) (q : Private) : Type 0 where
+  pub alone : p.bag ≡ t ∷ []
+  pub unjudged : t.progress ≡ Unjudged
   pub steps : List Step
   pub own : list_all (is_own_step t.name) steps ≡ true
   pub runs : run_of shape steps p ≡ Some (record { state = q; replies = [] })

@@ -1,6 +1,6 @@
 -- Reading lists in guest memory. What is read next depends on what was read before, so a reading is a dialogue: it asks for
 -- bytes, goes on with what it is given, and ends in a value. A memory answers every question.
-use Rattle.std.specs.Prelude.{ℕ, ◌+◌, List, [], ◌∷◌}
+use Rattle.std.specs.Prelude.{ℕ, List, [], ◌∷◌}
 use Rattle.nv_model.specs.Memory.{bytes_from}
 
 -- `Ask addr unit left next`: the next `unit` bytes stand at `addr`; with them, `left` bytes are still wanted of their array or

@@ -9,12 +9,12 @@ use Rattle.nv_entry.specs.declared.opcode.AdminOpcode.TheVariants.{Identify}
 use Rattle.nv_mem.specs.declared.piece.Piece.{Piece}
 use Rattle.nv_mem.specs.declared.piece.Piece.TheVariants.{Run, Bucket}
 use Rattle.nv_model.specs.Memory.{bytes_from}
-use Rattle.nv_model.specs.Dialogue.{asked, in_memory}
+use Rattle.nv_model.specs.Dialogue.{asked}
 use Rattle.nv_model.specs.Reading.{Reading, Faulty, TooLong, Spells}
 use Rattle.nv_model.specs.Judge.{Verdict, Refuse, Go, is_read, judge}
 use Rattle.nv_model.specs.Queue.{SubmissionQueue, sqe_size, submitted}
 use Rattle.nv_model.specs.Admin.{Shown, Hidden, Structure, identify_reading, shown}
-use Rattle.nv_model.specs.Private.{Private, Shape, Taken, verdict_in}
+use Rattle.nv_model.specs.Private.{Private, Shape, verdict_in}
 
 -- what the bytes are to the command
 pub data Use : Type 0 where

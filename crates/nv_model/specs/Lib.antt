@@ -11,5 +11,6 @@ pub mod Admin
 pub mod Private
 pub mod Carried
 pub mod Footprint
+pub mod Laws
 pub mod Rows
 pub mod RowsRuns

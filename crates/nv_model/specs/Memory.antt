@@ -1,5 +1,5 @@
 -- A guest's memory: which of its addresses are there, and the byte at each. What lies at the others has no meaning.
-use Rattle.std.specs.Prelude.{ℕ, zero, suc, ◌+◌, ◌-◌, Bool, ◌&&◌, nat_le, nat_lt, if◌then◌else◌, List, [], ◌∷◌, length, map, slice_index}
+use Rattle.std.specs.Prelude.{ℕ, zero, suc, ◌+◌, ◌-◌, ◌&&◌, nat_le, nat_lt, if◌then◌else◌, List, [], ◌∷◌, length, map, slice_index}
 use Rattle.nv_mem.specs.Places.{Place, At, Bucket}
 
 -- the `len` bytes from an address on

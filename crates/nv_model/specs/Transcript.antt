@@ -1,7 +1,7 @@
 -- What a mediator has read of a command's lists: reads in the order in which they were made, each with its address and bytes. A
 -- command's wants follow from it: each array of descriptors in parts of 4,096 bytes from its start, the needed slots of each list
 -- page, and each run of the ranges of Dataset Management (profile).
-use Rattle.std.specs.Prelude.{ℕ, ◌+◌, min, Bool, ◌&&◌, ◌==◌, if◌then◌else◌, List, [], ◌∷◌, length, take, drop, Option, Some, None}
+use Rattle.std.specs.Prelude.{ℕ, min, ◌&&◌, ◌==◌, if◌then◌else◌, List, [], ◌∷◌, length, take, drop, Option, Some, None}
 use Rattle.nv_model.specs.Dialogue.{Dialogue, End, Ask}
 
 -- one read

@@ -1,7 +1,5 @@
-ghost use Rattle.std.specs.Prelude.{◌≡◌, IfOk};
+ghost use Rattle.std.specs.Prelude.{◌≡◌};
 
-use nv_mem::NoMemory;
-use std::alloc::Global;
 use std::marker::Model;
 
 /// Bytes that an act or a reply carries.
@@ -31,13 +29,5 @@ impl Bytes {
         ensures { result.now ≡ self.now }
     {
         self.bytes.as_slice()
-    }
-
-    /// The same bytes again, or `NoMemory` where there is no room for them.
-    pub fn try_clone(&self, alloc: Global) -> Result<Self, NoMemory>
-        ensures { IfOk result (λ copy. copy ≡ self.now) }
-    {
-        let bytes = Vec::from_slice(alloc, self.bytes.as_slice())?;
-        Ok(Bytes { bytes })
     }
 }

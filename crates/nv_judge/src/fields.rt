@@ -1,0 +1,159 @@
+ghost use Rattle.std.specs.Prelude.{◌≡◌, ◌≤◌};
+ghost use Rattle.nv_judge.specs.Need.{field_verdict, need_of};
+ghost use Rattle.nv_model.specs.Judge.{command_checks, count_of, has_blocks, has_buffer, is_read, transfer_len};
+ghost use Rattle.nv_model.specs.Reading.{first_failing};
+
+use crate::need::Need;
+use nv_entry::{IoOpcode, Sqe, Status, StatusCode};
+use nv_ns::VirtualNs;
+
+/// The most blocks of one transfer: 128 KiB, as MDTS 5 says.
+const MOST_BLOCKS: u32 = 256;
+
+/// The checks of a command's fields in their order: fused operation, opcode, namespace, data pointer, size of the transfer and
+/// block range. `Ok` says what the command needs; `Err` is the refusal by the first check that fails, with DNR set.
+pub fn judge_fields(sqe: &Sqe, ns: &VirtualNs) -> Result<Need, Status>
+    ensures { result ≡ field_verdict ns.now.blocks sqe.now }
+{
+    if sqe.fuse() != 0 {
+        return Err(StatusCode::InvalidField.refused());
+    }
+    let Some(opcode) = sqe.io_opcode() else {
+        return Err(StatusCode::InvalidOpcode.refused());
+    };
+    match refusal(opcode, sqe, ns) {
+        Some(code) => Err(code.refused()),
+        None => Ok(need(opcode, sqe)),
+    }
+}
+
+/// The first check that a command fails once its opcode is known.
+fn refusal(opcode: IoOpcode, sqe: &Sqe, ns: &VirtualNs) -> Option<StatusCode>
+    ensures { result ≡ first_failing (command_checks ns.now.blocks sqe.now opcode) }
+{
+    let count = block_count(sqe);
+    if sqe.nsid() != 1 {
+        Some(StatusCode::InvalidNamespace)
+    } else if has_buffer(opcode) && sqe.psdt() == 3 {
+        Some(StatusCode::InvalidField)
+    } else if has_buffer(opcode) && has_blocks(opcode) && count > MOST_BLOCKS {
+        Some(StatusCode::InvalidField)
+    } else if has_blocks(opcode) && ns.translate(sqe.slba(), u64::from(count)).is_none() {
+        Some(StatusCode::LbaOutOfRange)
+    } else {
+        None
+    }
+}
+
+/// What a command needs that its fields do not refuse.
+fn need(opcode: IoOpcode, sqe: &Sqe) -> Need
+    ensures { result ≡ need_of sqe.now opcode }
+{
+    let ranged = has_blocks(opcode);
+    Need {
+        dest: matches!(opcode, IoOpcode::Read),
+        bytes: transfer_len(opcode, sqe),
+        blocks: if ranged { block_count(sqe) } else { 0 },
+        fua: ranged && sqe.fua(),
+    }
+}
+
+/// The blocks of a command's LBA range.
+fn block_count(sqe: &Sqe) -> u32
+    ensures value { result ≡ count_of sqe.now }
+    ensures fits { result ≤ 65536 }
+{
+    u32::from(sqe.nlb()) + 1
+}
+
+/// Whether a command reads or writes a buffer.
+fn has_buffer(opcode: IoOpcode) -> bool
+    ensures { result ≡ has_buffer opcode }
+{
+    !matches!(opcode, IoOpcode::Flush | IoOpcode::WriteZeroes)
+}
+
+/// Whether a command names a range of blocks by SLBA and NLB.
+fn has_blocks(opcode: IoOpcode) -> bool
+    ensures { result ≡ has_blocks opcode }
+{
+    !matches!(opcode, IoOpcode::Flush | IoOpcode::DatasetManagement)
+}
+
+/// The length of a command's buffer in bytes.
+fn transfer_len(opcode: IoOpcode, sqe: &Sqe) -> u32
+    ensures { result ≡ transfer_len opcode sqe.now }
+{
+    match opcode {
+        IoOpcode::Read | IoOpcode::Write | IoOpcode::Compare => 512 * block_count(sqe),
+        IoOpcode::DatasetManagement => 16 * (u32::from(sqe.nr()) + 1),
+        IoOpcode::Flush | IoOpcode::WriteZeroes => 0,
+    }
+}
+
+#[cfg(test)]
+mod tests {
+    use super::*;
+
+    /// The dwords of a Read of one block from LBA 5 by one Data Block of 512 bytes at 3000h, CID 7.
+    const READ: [u32; 16] = [
+        0x0007_4002,
+        1,
+        0,
+        0,
+        0,
+        0,
+        0x3000,
+        0,
+        0x200,
+        0,
+        5,
+        0,
+        0,
+        0,
+        0,
+        0,
+    ];
+
+    fn entry(dwords: [u32; 16]) -> Sqe {
+        let mut bytes = [0; 64];
+        for (dword, out) in dwords.iter().zip(bytes.chunks_exact_mut(4)) {
+            out.copy_from_slice(&dword.to_le_bytes());
+        }
+        Sqe::of(&bytes)
+    }
+
+    #[test]
+    fn judges_fields_in_their_order(rt: HostRuntime) {
+        let refused = |code: StatusCode| -> Result<u32, Status> { Err(code.refused()) };
+        let table = [
+            // dword, its value, the bytes of the transfer or the refusal
+            (12, 0, Ok(512)),
+            (12, 255, Ok(131_072)),
+            (12, 256, refused(StatusCode::InvalidField)),
+            (0, 0x0007_4102, refused(StatusCode::InvalidField)),
+            (0, 0x0007_4004, refused(StatusCode::InvalidOpcode)),
+            (0, 0x0007_4104, refused(StatusCode::InvalidField)),
+            (0, 0x0007_c002, refused(StatusCode::InvalidField)),
+            (0, 0x0007_c000, Ok(0)),
+            (0, 0x0007_c008, Ok(0)),
+            (0, 0x0007_4009, Ok(96)),
+            (1, 2, refused(StatusCode::InvalidNamespace)),
+            (10, 1023, Ok(512)),
+            (10, 1024, refused(StatusCode::LbaOutOfRange)),
+            (11, 0xffff_ffff, refused(StatusCode::LbaOutOfRange)),
+        ];
+        let ns = VirtualNs::new(7, 1024);
+        for (dword, value, want) in table {
+            let mut dwords = READ;
+            assert!(rt; dword < 16);
+            dwords[dword] = value;
+            let got = judge_fields(&entry(dwords), &ns);
+            assert_eq!(rt;
+                got.map(|need| need.bytes),
+                want,
+                "dword {dword} is {value:#x}"
+            );
+        }
+    }
+}

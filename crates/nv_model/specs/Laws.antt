@@ -1,0 +1,116 @@
+-- Words of the laws about the definitions
+use Rattle.std.specs.Prelude.{◌≡◌, ℕ, ◌+◌, ◌<◌, ◌≤◌, ◌*◌, Bool, true, List, All, IfSome, Option, Some, None}
+use Rattle.std.specs.Bool.{⊤}
+use Rattle.nv_mem.specs.GuestMap.{everywhere}
+use Rattle.nv_mem.specs.Places.{Place, At, Bucket}
+use Rattle.nv_mem.specs.declared.piece.Piece.{Piece}
+use Rattle.nv_mem.specs.declared.piece.Piece.TheVariants as piece
+use Rattle.nv_model.specs.Judge.{WorkUnit, OneBlock, AllBlocks, block}
+use Rattle.nv_model.specs.Queue.{SubmissionQueue, CompletionQueue, ahead, cqe_size, sqe_size}
+use Rattle.nv_model.specs.Controller.{Controller, most_slots}
+use Rattle.nv_model.specs.Private.{After, AtWork, Ended, Private, Progress, Run, Shape, Unjudged}
+
+-- ---- memories
+
+-- two memories have the same bytes, from the first number on as many as the second says
+abbrev pub AgreeAt : (memory other : ℕ → ℕ) → ℕ × ℕ → Type 0
+AgreeAt memory other span = (i : ℕ) → i < span.1 → memory (span.0 + i) ≡ other (span.0 + i)
+
+-- and so for each of these
+abbrev pub AgreeOn : (memory other : ℕ → ℕ) → List (ℕ × ℕ) → Type 0
+AgreeOn memory other spans = All (AgreeAt memory other) spans
+
+-- each of these addresses is mapped, from the first number on as many as the second says
+abbrev pub IsMappedSpan : (ℕ → Bool) → ℕ × ℕ → Type 0
+IsMappedSpan mapped span = (i : ℕ) → i < span.1 → mapped (span.0 + i) ≡ true
+
+-- ---- verdicts
+
+-- a run of bytes is mapped; a bucket names none
+abbrev pub IsMappedPiece : (ℕ → Bool) → Piece → Type 0
+IsMappedPiece mapped (piece.Run addr len) = everywhere mapped addr len ≡ true
+IsMappedPiece mapped (piece.Bucket len) = ⊤
+
+-- a place is a mapped address or a bucket
+abbrev pub IsMappedPlace : (ℕ → Bool) → Place → Type 0
+IsMappedPlace mapped (At addr) = mapped addr ≡ true
+IsMappedPlace mapped Bucket = ⊤
+
+-- a unit is that of a block of the namespace, or of all its blocks
+abbrev pub IsUnitWithin : (blocks : ℕ) → WorkUnit → Type 0
+IsUnitWithin blocks (OneBlock index lba) = lba < blocks
+IsUnitWithin blocks (AllBlocks all) = all ≡ blocks
+
+-- ---- queues
+
+-- a queue of this size may be, and its head and tail are slots
+pub record IsInOrder (size head tail : ℕ) : Type 0 where
+  pub at_least : 2 ≤ size
+  pub at_most : size ≤ most_slots
+  pub head_is_slot : head < size
+  pub tail_is_slot : tail < size
+
+abbrev pub IsSubmissionInOrder : SubmissionQueue → Type 0
+IsSubmissionInOrder q = IsInOrder q.size q.head q.tail
+
+abbrev pub IsCompletionInOrder : CompletionQueue → Type 0
+IsCompletionInOrder q = IsInOrder q.size q.head q.tail
+
+-- each submission queue of a controller has the one, and each completion queue the other
+pub record QueuesHave (P : SubmissionQueue → Type 0) (Q : CompletionQueue → Type 0) (c : Controller) : Type 0 where
+  pub submission_queues : All (λ o. IfSome o P) c.submission
+  pub completion_queues : All (λ o. IfSome o Q) c.completion_queues
+
+-- each queue of a controller is in order
+abbrev pub QueuesInOrder : Controller → Type 0
+QueuesInOrder c = QueuesHave IsSubmissionInOrder IsCompletionInOrder c
+
+-- a queue is in order, and its slots are mapped
+abbrev pub IsSubmissionInPlace : (ℕ → Bool) → SubmissionQueue → Type 0
+IsSubmissionInPlace mapped q = IsInOrder q.size q.head q.tail × (everywhere mapped q.base (sqe_size * q.size) ≡ true)
+
+abbrev pub IsCompletionInPlace : (ℕ → Bool) → CompletionQueue → Type 0
+IsCompletionInPlace mapped q = IsInOrder q.size q.head q.tail × (everywhere mapped q.base (cqe_size * q.size) ≡ true)
+
+-- each queue of a controller is in order, and its slots are mapped
+abbrev pub QueuesInPlace : (ℕ → Bool) → Controller → Type 0
+QueuesInPlace mapped c = QueuesHave (IsSubmissionInPlace mapped) (IsCompletionInPlace mapped) c
+
+-- how many completions lie between head and tail
+abbrev pub posted_of : CompletionQueue → ℕ
+posted_of q = ahead q.size q.head q.tail
+
+-- ---- states that look alike
+
+-- a command at work: the runs of its buffer are mapped, and its units that have not moved lie in the namespace
+abbrev pub IsProgressInPlace : Shape → Progress → Type 0
+IsProgressInPlace shape Unjudged = ⊤
+IsProgressInPlace shape (Ended st) = ⊤
+IsProgressInPlace shape (AtWork work units differed) = All (IsMappedPiece shape.mapped) work.pieces × All (IsUnitWithin shape.blocks) units
+
+-- the queues lie in mapped memory, and the taken commands work in mapped memory and in the namespace
+pub record IsInPlace (shape : Shape) (p : Private) : Type 0 where
+  pub queues : QueuesInPlace shape.mapped p.controller
+  pub taken : All (λ t. IsProgressInPlace shape t.progress) p.bag
+
+-- two states differ at most in what lies at unmapped addresses, in blocks past the namespace, and past the end of a block
+pub record LookAlike (shape : Shape) (p q : Private) : Type 0 where
+  pub controller : p.controller ≡ q.controller
+  pub bag : p.bag ≡ q.bag
+  pub memory : (addr : ℕ) → shape.mapped addr ≡ true → p.memory addr ≡ q.memory addr
+  pub disk : (lba offset : ℕ) → lba < shape.blocks → offset < block → p.disk lba offset ≡ q.disk lba offset
+  pub kept : (lba : ℕ) → lba < shape.blocks → p.kept lba ≡ q.kept lba
+
+-- both steps can't be made, or both can: with equal replies, to states that look alike
+abbrev pub StepsAlike : Shape → Option After → Option After → Type 0
+StepsAlike shape None None = ⊤
+StepsAlike shape None (Some b) = ⊥
+StepsAlike shape (Some a) None = ⊥
+StepsAlike shape (Some a) (Some b) = (a.reply ≡ b.reply) × LookAlike shape a.state b.state
+
+-- both runs can't be made, or both can: with equal replies, to states that look alike
+abbrev pub RunsAlike : Shape → Option Run → Option Run → Type 0
+RunsAlike shape None None = ⊤
+RunsAlike shape None (Some s) = ⊥
+RunsAlike shape (Some r) None = ⊥
+RunsAlike shape (Some r) (Some s) = (r.replies ≡ s.replies) × LookAlike shape r.state s.state

@@ -1,0 +1,31 @@
+//! Carrying one command out on the private controller.
+ghost use Rattle.std.specs.Prelude.{◌≡◌, [], ◌∷◌, length, Some};
+ghost use Rattle.nv_entry.specs.Status.{StatusField};
+ghost use Rattle.nv_model.specs.Judge.{Work, Go, Refuse};
+ghost use Rattle.nv_model.specs.Private.{Private, Shape, Taken, Ended, Unjudged, run_of, verdict_in};
+ghost use Rattle.nv_model.specs.Carried.{IsCarriedOut, all_moved, alone_with, judged_then_moved, moved_status, unmoved, units_moved};
+
+/// Judging a command that goes, and moving its units in order, is a run; behind it stand the memory, the disk and the marks
+/// that its units leave in order.
+pub fn units_move_in_order()
+    ensures { (shape : Shape) (p : Private) (t : Taken) (work : Work) →
+        p.bag ≡ t ∷ [] → t.progress ≡ Unjudged → verdict_in shape p.memory t.entry ≡ Go work →
+        run_of shape (judged_then_moved t.name (length work.units)) p ≡ Some (record { state = all_moved t work p; replies = [] }) }
+{}
+
+/// Judging a command that is refused is a run, behind which it has ended and nothing else has changed.
+pub fn refusal_ends_it()
+    ensures { (shape : Shape) (p : Private) (t : Taken) (st : StatusField) →
+        p.bag ≡ t ∷ [] → t.progress ≡ Unjudged → verdict_in shape p.memory t.entry ≡ Refuse st →
+        run_of shape (judged_then_moved t.name 0) p ≡ Some (record { state = alone_with t (Ended st) p; replies = [] }) }
+{}
+
+/// A command that goes is carried out by judging it and moving its units in order; one that is refused, by judging it.
+pub fn carries_out()
+    ensures moved { (shape : Shape) (p : Private) (t : Taken) (work : Work) →
+        p.bag ≡ t ∷ [] → t.progress ≡ Unjudged → verdict_in shape p.memory t.entry ≡ Go work →
+        IsCarriedOut shape p t (moved_status (units_moved work.units work (unmoved p)).differed) (all_moved t work p) }
+    ensures refused { (shape : Shape) (p : Private) (t : Taken) (st : StatusField) →
+        p.bag ≡ t ∷ [] → t.progress ≡ Unjudged → verdict_in shape p.memory t.entry ≡ Refuse st →
+        IsCarriedOut shape p t st (alone_with t (Ended st) p) }
+{}
