@@ -1,0 +1,188 @@
+-- The verdict on a command whose list is its own descriptor
+use Rattle.std.proofs.Common.{◌≡◌, ℕ, zero, suc, ◌+◌, ◌-◌, ◌*◌, ◌<◌, ◌≤◌, Bool, true, false, not, ◌&&◌, ◌||◌, ◌==◌, nat_lt, cond, Option, Some, None, Result, Ok, Err, List, [], ◌∷◌, ◌++◌, ◌⊎◌, inl, inr, length, refl, sym, ap, subst, ◌∙◌, arith}
+use Rattle.std.proofs.lemmas.Bool.Decides.{nat_tests}
+use Rattle.nv_entry.specs.Descriptor.{address_of, descriptor_type, length_of, subtype_of, type_of}
+use Rattle.nv_entry.specs.declared.descriptor_type.DescriptorType.{DescriptorType}
+use Rattle.nv_entry.specs.declared.descriptor_type.DescriptorType.TheVariants.{DataBlock}
+use Rattle.nv_entry.specs.Opcode.{io_opcode, data_pointer}
+use Rattle.nv_entry.specs.Submission.{opcode_of, psdt_of, sgl_of, fuse_of, slba_of, nsid_of}
+use Rattle.nv_entry.specs.Status.{StatusField}
+use Rattle.nv_entry.specs.StatusCode.{refused_with}
+use Rattle.nv_entry.specs.declared.data_pointer.DataPointer.{DataPointer}
+use Rattle.nv_entry.specs.declared.data_pointer.DataPointer.TheVariants.{Prp, Reserved, Sgl}
+use Rattle.nv_entry.specs.declared.opcode.IoOpcode.{IoOpcode}
+use Rattle.nv_entry.specs.declared.status_code.StatusCode.{StatusCode}
+use Rattle.nv_entry.specs.declared.status_code.StatusCode.TheVariants.{DataTransferError, InvalidField, InvalidNamespace, InvalidOpcode, LbaOutOfRange, SglTypeInvalid}
+use Rattle.nv_judge.specs.declared.need.Need.{Need}
+use Rattle.nv_judge.specs.Need.{field_verdict, need_of, verdict_by}
+use Rattle.nv_mem.specs.GuestMap.{everywhere}
+use Rattle.nv_mem.specs.declared.piece.Piece.{Piece}
+use Rattle.nv_ns.specs.BlockRange.{in_namespace}
+use Rattle.nv_model.specs.Dialogue.{Dialogue, End, and_then, in_memory}
+use Rattle.nv_model.proofs.DialogueLemmas.{in_memory-and_then}
+use Rattle.nv_model.specs.Reading.{Reading, Faulty, Spells, first_failing, run, unless_faulty}
+use Rattle.nv_model.specs.Sgl.{array_by, behind_own, fault_by, pieces_by, read_array, read_sgl}
+use Rattle.nv_model.specs.Judge.{Verdict, Refuse, Go, command_checks, count_of, field_refusal, has_blocks, has_buffer, is_read, judge, judge_by, judge_fields, judge_reading, most_blocks, read_buffer, read_by, refusal_by_opcode, sized, transfer_len, units_of, work_of}
+use Rattle.nv_model.specs.Private.{Shape, verdict_in}
+
+-- ---- the fields
+
+-- an opcode that is unknown is refused
+unknown-refused : (fused : Bool) (blocks : ℕ) (entry : List ℕ) → cond fused (Some InvalidField) (refusal_by_opcode blocks entry None) ≡ None → ⊥
+unknown-refused true blocks entry e = (cc)
+unknown-refused false blocks entry e = (cc)
+
+-- where the fields do not refuse, the opcode is known
+known-unless-refused : (blocks : ℕ) (entry : List ℕ) → field_refusal blocks entry ≡ None → io_opcode (opcode_of entry) ≡ None → ⊥
+known-unless-refused blocks entry none unknown =
+    let P : Option IoOpcode → Type 0 = λ o. cond (not (fuse_of entry == 0)) (Some InvalidField) (refusal_by_opcode blocks entry o) ≡ None in
+    unknown-refused (not (fuse_of entry == 0)) blocks entry (subst P unknown none)
+
+-- a refusal by the fields is the first failing check's
+verdict_by-err : (refusal : Option StatusCode) (opcode : Option IoOpcode) (entry : List ℕ) (st : StatusField)
+    → (refusal ≡ None → opcode ≡ None → ⊥)
+    → verdict_by refusal opcode entry ≡ Err st → (code : StatusCode) × (refusal ≡ Some code) × (st ≡ refused_with code)
+verdict_by-err (Some code) opcode entry st known e = (code, refl, (cc))
+verdict_by-err None None entry st known e = absurd (known refl refl)
+verdict_by-err None (Some opcode) entry st known e = (cc)
+
+pub field_verdict-err : (blocks : ℕ) (entry : List ℕ) (st : StatusField)
+    → field_verdict blocks entry ≡ Err st → (code : StatusCode) × (field_refusal blocks entry ≡ Some code) × (st ≡ refused_with code)
+field_verdict-err blocks entry st e =
+    verdict_by-err (field_refusal blocks entry) (io_opcode (opcode_of entry)) entry st (known-unless-refused blocks entry) e
+
+-- a command that the fields do not refuse
+verdict_by-ok : (refusal : Option StatusCode) (opcode : Option IoOpcode) (entry : List ℕ) (need : Need)
+    → verdict_by refusal opcode entry ≡ Ok need → (refusal ≡ None) × ((known : IoOpcode) × (opcode ≡ Some known) × (need ≡ need_of entry known))
+verdict_by-ok (Some code) opcode entry need e = (cc)
+verdict_by-ok None None entry need e = (cc)
+verdict_by-ok None (Some known) entry need e = (refl, (known, refl, (cc)))
+
+pub field_verdict-ok : (blocks : ℕ) (entry : List ℕ) (need : Need)
+    → field_verdict blocks entry ≡ Ok need
+    → (field_refusal blocks entry ≡ None) × ((known : IoOpcode) × (io_opcode (opcode_of entry) ≡ Some known) × (need ≡ need_of entry known))
+field_verdict-ok blocks entry need e = verdict_by-ok (field_refusal blocks entry) (io_opcode (opcode_of entry)) entry need e
+
+-- ---- the verdict
+
+-- a command that its fields refuse is refused
+pub verdict-refused : (shape : Shape) (memory : ℕ → ℕ) (entry : List ℕ) (code : StatusCode)
+    → field_refusal shape.blocks entry ≡ Some code → verdict_in shape memory entry ≡ Refuse (refused_with code)
+unfolding judge in_memory
+verdict-refused shape memory entry code refused =
+    let P : Option StatusCode → Type 0 = λ o. in_memory memory (judge_fields o shape.mapped shape.limit shape.blocks entry) ≡ Refuse (refused_with code) in
+    subst P (sym refused) refl
+
+-- a command with a buffer, whose fields are in order and whose list is an SGL
+pub verdict-listed : (shape : Shape) (memory : ℕ → ℕ) (entry : List ℕ) (opcode : IoOpcode) (reading : Reading)
+    → field_refusal shape.blocks entry ≡ None → io_opcode (opcode_of entry) ≡ Some opcode → has_buffer opcode ≡ true → data_pointer (psdt_of entry) ≡ Sgl
+    → in_memory memory (and_then (read_sgl shape.mapped (is_read opcode) shape.limit (sgl_of entry)) (λ r. End (sized (transfer_len opcode entry) r))) ≡ reading
+    → verdict_in shape memory entry ≡ in_memory memory (judge_reading shape.blocks entry opcode reading)
+unfolding judge
+verdict-listed shape memory entry opcode reading none known buffer pointer read =
+    let target : Verdict = in_memory memory (judge_reading shape.blocks entry opcode reading) in
+    let listed : Dialogue Verdict = and_then (read_buffer shape.mapped shape.limit opcode entry) (judge_reading shape.blocks entry opcode) in
+    let unlisted : Dialogue Verdict = End (Go (work_of opcode entry [] (units_of shape.blocks opcode entry))) in
+    let ByFields : Option StatusCode → Type 0 = λ o. in_memory memory (judge_fields o shape.mapped shape.limit shape.blocks entry) ≡ target in
+    let ByOpcode : Option IoOpcode → Type 0 = λ o. in_memory memory (judge_by o shape.mapped shape.limit shape.blocks entry) ≡ target in
+    let ByBuffer : Bool → Type 0 = λ b. in_memory memory (cond b listed unlisted) ≡ target in
+    let ByPointer : DataPointer → Type 0 =
+    λ d. in_memory memory (and_then (read_by d shape.mapped shape.limit (is_read opcode) (transfer_len opcode entry) entry) (λ r. End (sized (transfer_len opcode entry) r))) ≡ reading in
+    let read_it : in_memory memory (read_buffer shape.mapped shape.limit opcode entry) ≡ reading = subst ByPointer (sym pointer) read in
+    let whole : in_memory memory listed ≡ target =
+    in_memory-and_then memory (read_buffer shape.mapped shape.limit opcode entry) (judge_reading shape.blocks entry opcode)
+    ∙ ap (λ (r : Reading). in_memory memory (judge_reading shape.blocks entry opcode r)) read_it in
+    subst ByFields (sym none) (subst ByOpcode (sym known) (subst ByBuffer (sym buffer) whole))
+
+-- ---- a list that is its own descriptor
+
+-- what a list is whose own descriptor is of this kind: a fault, or its run
+OwnBlock : (ℕ → Bool) → Bool → (budget : ℕ) → List ℕ → Option DescriptorType → Type 0
+OwnBlock mapped dest budget own kind =
+    ((code : StatusCode) × (own_reading ≡ End (Faulty code)))
+    ⊎ ((everywhere mapped (address_of own) (length_of own) ≡ true) × (own_reading ≡ End (Spells (run (address_of own) (length_of own)))))
+  where
+    own_reading : Dialogue Reading
+    own_reading =
+        unless_faulty (fault_by kind mapped behind_own own)
+        (read_array mapped dest budget (array_by kind behind_own own).left (array_by kind behind_own own).from (array_by kind behind_own own).by_last
+        ([] ++ pieces_by kind dest own))
+
+-- a Data Block that is mapped, or isn't
+own-mapped : (mapped : ℕ → Bool) (dest : Bool) (budget : ℕ) (own : List ℕ) (inside : Bool)
+    → everywhere mapped (address_of own) (length_of own) ≡ inside → OwnBlock mapped dest budget own (Some DataBlock)
+unfolding OwnBlock read_array
+own-mapped mapped dest budget own true e =
+    inr (e, ap (λ (b : Bool). unless_faulty (first_failing ((not b, DataTransferError) ∷ [])) (read_array mapped dest budget 0 0 false (run (address_of own) (length_of own)))) e)
+own-mapped mapped dest budget own false e =
+    inl (DataTransferError, ap (λ (b : Bool). unless_faulty (first_failing ((not b, DataTransferError) ∷ [])) (read_array mapped dest budget 0 0 false (run (address_of own) (length_of own)))) e)
+
+-- a descriptor of the type of a Data Block, whose subtype is Address or another
+own-kind : (mapped : ℕ → Bool) (dest : Bool) (budget : ℕ) (own : List ℕ) (addressed : Bool) → OwnBlock mapped dest budget own (cond addressed (Some DataBlock) None)
+unfolding OwnBlock
+own-kind mapped dest budget own true = own-mapped mapped dest budget own (everywhere mapped (address_of own) (length_of own)) refl
+own-kind mapped dest budget own false = inl (SglTypeInvalid, refl)
+
+-- the reading of a descriptor whose type is that of a Data Block: a fault, or its run
+pub own-block : (mapped : ℕ → Bool) (dest : Bool) (limit : ℕ) (own : List ℕ) → 0 < limit → type_of own ≡ 0
+    → ((code : StatusCode) × (read_sgl mapped dest limit own ≡ End (Faulty code)))
+    ⊎ ((everywhere mapped (address_of own) (length_of own) ≡ true) × (read_sgl mapped dest limit own ≡ End (Spells (run (address_of own) (length_of own)))))
+unfolding OwnBlock read_sgl
+own-block mapped dest zero own some block = absurd (omega arith)
+own-block mapped dest (suc budget) own some block =
+    let P : ℕ → Type 0 = λ t. OwnBlock mapped dest budget own (cond (subtype_of own == 0) (descriptor_type t) None) in
+    subst P (sym block) (own-kind mapped dest budget own (subtype_of own == 0))
+
+-- ---- the blocks
+
+-- the checks of a command whose range is not in the namespace fail
+range-checked : (namespace buffer both inside : Bool)
+    → first_failing ((namespace, InvalidNamespace) ∷ (buffer, InvalidField) ∷ (both, InvalidField) ∷ (not inside, LbaOutOfRange) ∷ []) ≡ None → inside ≡ true
+range-checked true buffer both inside e = (cc)
+range-checked false true both inside e = (cc)
+range-checked false false true inside e = (cc)
+range-checked false false false true e = refl
+range-checked false false false false e = (cc)
+
+-- the fields of a command that is not fused
+not-fused : (fused : Bool) (rest : Option StatusCode) → cond fused (Some InvalidField) rest ≡ None → rest ≡ None
+not-fused true rest e = (cc)
+not-fused false rest e = e
+
+-- a command over blocks that its fields do not refuse names blocks of the namespace
+pub in-namespace : (blocks : ℕ) (entry : List ℕ) (opcode : IoOpcode) → field_refusal blocks entry ≡ None
+    → io_opcode (opcode_of entry) ≡ Some opcode → has_blocks opcode ≡ true → in_namespace (slba_of entry) (count_of entry) blocks ≡ true
+in-namespace blocks entry opcode none known ranged =
+    let checked = not-fused (not (fuse_of entry == 0)) (refusal_by_opcode blocks entry (io_opcode (opcode_of entry))) none in
+    let P : Option IoOpcode → Type 0 = λ o. refusal_by_opcode blocks entry o ≡ None in
+    let Q : Bool → Type 0 =
+    λ b. first_failing ((not (nsid_of entry == 1), InvalidNamespace) ∷ (has_buffer opcode && psdt_of entry == 3, InvalidField)
+    ∷ (has_buffer opcode && b && nat_lt most_blocks (count_of entry), InvalidField) ∷ (b && not (in_namespace (slba_of entry) (count_of entry) blocks), LbaOutOfRange) ∷ []) ≡ None in
+    range-checked (not (nsid_of entry == 1)) (has_buffer opcode && psdt_of entry == 3) (has_buffer opcode && true && nat_lt most_blocks (count_of entry))
+    (in_namespace (slba_of entry) (count_of entry) blocks) (subst Q ranged (subst P known checked))
+
+-- the checks of a command whose data pointer is reserved fail
+pointer-checked : (namespace reserved both inside : Bool)
+    → first_failing ((namespace, InvalidNamespace) ∷ (reserved, InvalidField) ∷ (both, InvalidField) ∷ (inside, LbaOutOfRange) ∷ []) ≡ None → reserved ≡ false
+pointer-checked true reserved both inside e = (cc)
+pointer-checked false true both inside e = (cc)
+pointer-checked false false both inside e = refl
+
+-- what PSDT announces where it is neither that of PRPs nor reserved
+pointer-other : (prp reserved : Bool) → not prp ≡ true → reserved ≡ false → cond prp Prp (cond reserved Reserved Sgl) ≡ Sgl
+pointer-other true reserved other free = (cc)
+pointer-other false true other free = (cc)
+pointer-other false false other free = refl
+
+-- a command with a buffer that its fields do not refuse, and that does not use PRPs, uses an SGL
+pub uses-sgl : (blocks : ℕ) (entry : List ℕ) (opcode : IoOpcode) → field_refusal blocks entry ≡ None
+    → io_opcode (opcode_of entry) ≡ Some opcode → has_buffer opcode ≡ true → not (psdt_of entry == 0) ≡ true → data_pointer (psdt_of entry) ≡ Sgl
+uses-sgl blocks entry opcode none known buffer other =
+    let checked = not-fused (not (fuse_of entry == 0)) (refusal_by_opcode blocks entry (io_opcode (opcode_of entry))) none in
+    let P : Option IoOpcode → Type 0 = λ o. refusal_by_opcode blocks entry o ≡ None in
+    let Q : Bool → Type 0 =
+    λ b. first_failing ((not (nsid_of entry == 1), InvalidNamespace) ∷ (b && psdt_of entry == 3, InvalidField)
+    ∷ (b && has_blocks opcode && nat_lt most_blocks (count_of entry), InvalidField) ∷ (has_blocks opcode && not (in_namespace (slba_of entry) (count_of entry) blocks), LbaOutOfRange) ∷ []) ≡ None in
+    pointer-other (psdt_of entry == 0) (psdt_of entry == 3) other
+    (pointer-checked (not (nsid_of entry == 1)) (psdt_of entry == 3) (true && has_blocks opcode && nat_lt most_blocks (count_of entry))
+    (has_blocks opcode && not (in_namespace (slba_of entry) (count_of entry) blocks)) (subst Q buffer (subst P known checked)))

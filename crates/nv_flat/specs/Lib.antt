@@ -1,0 +1,4 @@
+pub mod Flat
+pub mod Buffer
+pub mod One
+pub mod Listed

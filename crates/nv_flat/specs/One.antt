@@ -1,0 +1,67 @@
+-- One command on the flat controller
+use Rattle.std.specs.Prelude.{◌≡◌, ℕ, Bool, true, false, not, ◌&&◌, ◌||◌, ◌==◌, if◌then◌else◌, List, [], ◌∷◌, length, Option, Some, None, is_none}
+use Rattle.std.specs.List.{slice_index_or}
+use Rattle.nv_entry.specs.Descriptor.{type_of}
+use Rattle.nv_entry.specs.Opcode.{io_opcode}
+use Rattle.nv_entry.specs.Status.{StatusField}
+use Rattle.nv_entry.specs.StatusCode.{done_with, refused_with}
+use Rattle.nv_entry.specs.Submission.{opcode_of, psdt_of, sgl_of}
+use Rattle.nv_entry.specs.declared.opcode.IoOpcode.{IoOpcode}
+use Rattle.nv_entry.specs.declared.opcode.IoOpcode.TheVariants.{Flush, Write, Read, Compare, WriteZeroes, DatasetManagement}
+use Rattle.nv_entry.specs.declared.status_code.StatusCode.TheVariants.{InternalError}
+use Rattle.nv_mem.specs.GuestMap.{mapped}
+use Rattle.nv_model.specs.Controller.{opening}
+use Rattle.nv_model.specs.Judge.{field_refusal}
+use Rattle.nv_model.specs.Private.{Private, Shape, Taken, Unjudged}
+use Rattle.nv_model.specs.Carried.{IsCarriedOut}
+use Rattle.nv_flat.specs.Flat.{Flat, byte_in, byte_of_block, identity_map}
+
+-- the flat controller as a private controller with these commands taken
+abbrev pub private_of : Flat → List Taken → Private
+private_of f bag =
+    record {
+      memory = byte_in f.memory;
+      disk = byte_of_block f.disk;
+      kept = (λ lba. slice_index_or f.kept lba false);
+      controller = opening;
+      bag = bag;
+    }
+
+-- what doesn't change: all of its memory is the guest's, and its blocks are the namespace
+abbrev pub shape_of : Flat → Shape
+shape_of f = record { mapped = mapped (identity_map (length f.memory)).regions; blocks = length f.disk; limit = 1024 }
+
+-- the command of 64 bytes, taken from queue 1 and not judged
+abbrev pub newly_taken : List ℕ → Taken
+newly_taken entry = record { name = 0; queue = 1; entry = entry; progress = Unjudged }
+
+-- some run of the private controller that judges the command and moves it to its end leads from the one to the other, and ends with
+-- this status
+pub record IsRun (old : Flat) (entry : List ℕ) (st : StatusField) (new : Flat) : Type 0 where
+  pub after : Taken
+  pub carried : IsCarriedOut (shape_of old) (private_of old (newly_taken entry ∷ [])) (newly_taken entry) st (private_of new (after ∷ []))
+
+-- whether the opcode is that of a command that is built
+abbrev pub is_transfer : Option IoOpcode → Bool
+is_transfer (Some Read) = true
+is_transfer (Some Write) = true
+is_transfer (Some Compare) = false
+is_transfer (Some WriteZeroes) = false
+is_transfer (Some Flush) = false
+is_transfer (Some DatasetManagement) = false
+is_transfer None = false
+
+-- whether a command is built: a Read or Write by an SGL whose own descriptor is of the type of a Data Block
+abbrev pub is_built : List ℕ → Bool
+is_built entry = is_transfer (io_opcode (opcode_of entry)) && not (psdt_of entry == 0) && type_of (sgl_of entry) == 0
+
+-- a command whose fields are in order, but which is not built yet, is answered Internal Error and changes nothing; any other ends as
+-- a run of the private controller says
+abbrev pub IsOutcome : (built refused : Bool) → Flat → List ℕ → StatusField → Flat → Type 0
+IsOutcome false false old entry st new = (st ≡ done_with InternalError) × (new ≡ old)
+IsOutcome false true old entry st new = IsRun old entry st new
+IsOutcome true false old entry st new = IsRun old entry st new
+IsOutcome true true old entry st new = IsRun old entry st new
+
+abbrev pub IsDone : Flat → List ℕ → StatusField → Flat → Type 0
+IsDone old entry st new = IsOutcome (is_built entry) (not (is_none (field_refusal (length old.disk) entry))) old entry st new

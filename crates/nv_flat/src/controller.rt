@@ -1,0 +1,144 @@
+ghost use Rattle.std.specs.Prelude.{◌≡◌, ◌+◌, ◌%◌, ◌<◌, ◌≤◌, ◌↔◌, length, replicate, false, IfOk, slice_set};
+ghost use Rattle.std.specs.List.{slice_index_or};
+ghost use Rattle.nv_mem.specs.Bytes.{InMemory, after_store, bytes_at};
+ghost use Rattle.nv_flat.specs.Flat.{flat, identity_map};
+
+use crate::moves::BLOCK;
+use nv_mem::{GuestMap, Host, NoMemory, Region};
+use std::alloc::Global;
+use std::marker::Model;
+
+/// A private controller of one guest: flat memory from address 0 on, and blocks of 512 bytes with a mark `kept` each.
+#[derive(Debug, Drop)]
+pub struct FlatController {
+    pub(crate) memory: Host,
+    pub(crate) map: GuestMap,
+    pub(crate) disk: Vec<[u8; BLOCK]>,
+    pub(crate) kept: Vec<bool>,
+}
+
+impl Model for FlatController {
+    ghost use Rattle.nv_flat.specs.Flat.{Flat, IsWhole, flat};
+
+    ghost Value = { Flat };
+
+    ghost view = { λ c. flat c.memory c.disk.items c.kept.items };
+
+    ghost invariant = { λ c. IsWhole c.memory c.map c.disk.items c.kept.items };
+}
+
+impl FlatController {
+    /// A controller with `memory_len` bytes of memory and `blocks` blocks, all zero, and no mark set.
+    pub fn new(alloc: Global, memory_len: u64, blocks: u64) -> Result<Self, NoMemory>
+        requires pages { memory_len % 4096 ≡ 0 }
+        requires some_memory { 0 < memory_len }
+        requires most_memory { memory_len ≤ 16777216 }
+        requires some_blocks { 0 < blocks }
+        requires most_blocks { blocks ≤ 65536 }
+        ensures { IfOk result (λ c. c ≡ flat (replicate memory_len 0) (replicate blocks (replicate 512 0)) (replicate blocks false)) }
+    {
+        let memory = Host::new(alloc, memory_len)?;
+        let map = identity(alloc, memory_len)?;
+        let disk = zero_blocks(alloc, blocks as usize)?;
+        let kept = clear_marks(alloc, blocks as usize)?;
+        Ok(FlatController {
+            memory,
+            map,
+            disk,
+            kept,
+        })
+    }
+
+    /// Stores bytes from an address on.
+    pub fn store(&mut self, addr: u64, bytes: &[u8])
+        requires { InMemory (length self.old.memory) addr (length bytes.now) }
+        ensures bytes { self.new ≡ flat (after_store self.old.memory addr bytes.now) self.old.disk self.old.kept }
+        ensures memory_size { length self.new.memory ≡ length self.old.memory }
+    {
+        self.memory.store(addr, bytes);
+    }
+
+    /// Loads the bytes from an address on, as many as `out` has.
+    pub fn load(&self, addr: u64, out: &mut [u8])
+        requires { InMemory (length self.now.memory) addr (length out.old) }
+        ensures { out.new ≡ bytes_at self.now.memory addr (length out.old) }
+    {
+        self.memory.load(addr, out);
+    }
+
+    /// Fills a block with a byte. Its mark stays.
+    pub fn paint(&mut self, block: u64, byte: u8)
+        requires { block < length self.old.disk }
+        ensures block { self.new ≡ flat self.old.memory (slice_set self.old.disk block (replicate 512 byte)) self.old.kept }
+        ensures disk_size { length self.new.disk ≡ length self.old.disk }
+    {
+        self.disk[block as usize] = [byte; BLOCK];
+    }
+
+    /// The bytes of a block.
+    pub fn block(&self, block: u64) -> &[u8; BLOCK]
+        requires { block < length self.now.disk }
+        ensures { result.now ≡ slice_index_or self.now.disk block result.now }
+    {
+        &self.disk[block as usize]
+    }
+
+    /// Whether a block is kept when power is lost.
+    pub fn kept(&self, block: u64) -> bool
+        requires { block < length self.now.disk }
+        ensures { result ≡ slice_index_or self.now.kept block false }
+    {
+        self.kept[block as usize]
+    }
+
+    /// How many bytes of memory there are.
+    pub fn memory_len(&self) -> u64
+        ensures { result ≡ length self.now.memory }
+    {
+        self.memory.len()
+    }
+
+    /// How many blocks there are.
+    pub fn blocks(&self) -> u64
+        ensures value { result ≡ length self.now.disk }
+        ensures marked { length self.now.kept ≡ length self.now.disk }
+    {
+        let _marks = &self.kept;
+        self.disk.len() as u64
+    }
+}
+
+/// The map of a guest whose addresses are the memory's own.
+fn identity(alloc: Global, len: u64) -> Result<GuestMap, NoMemory>
+    requires pages { len % 4096 ≡ 0 }
+    requires some { 0 < len }
+    ensures { IfOk result (λ map. map ≡ identity_map len) }
+{
+    let region = Region {
+        guest: 0,
+        host: 0,
+        len,
+    };
+    match GuestMap::new(len, vec![in alloc; region]?) {
+        Ok(map) => Ok(map),
+        Err(_) => unreachable!(),
+    }
+}
+
+/// Blocks of zeros.
+fn zero_blocks(alloc: Global, blocks: usize) -> Result<Vec<[u8; BLOCK]>, NoMemory>
+    ensures { IfOk result (λ disk. disk.items ≡ replicate blocks (replicate 512 0)) }
+{
+    let mut disk = Vec::with_capacity(alloc, blocks)?;
+    for _block in 0..blocks {
+        disk.push([0; BLOCK])?;
+    }
+    Ok(disk)
+}
+
+/// Marks that are clear.
+fn clear_marks(alloc: Global, blocks: usize) -> Result<Vec<bool>, NoMemory>
+    ensures { IfOk result (λ kept. kept.items ≡ replicate blocks false) }
+{
+    Ok(vec![in alloc; false; blocks]?)
+}

@@ -1,0 +1,9 @@
+//! A slow private controller over flat memory.
+#![tactic(auto)]
+
+mod buffer;
+mod controller;
+mod moves;
+mod one;
+
+pub use controller::FlatController;

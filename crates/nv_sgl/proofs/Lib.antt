@@ -1,0 +1,6 @@
+pub mod Maps
+pub mod Feedings
+pub mod Parts
+pub mod Chains
+pub mod Parses
+pub mod Shown

@@ -1,0 +1,19 @@
+use Rattle.std.proofs.Common.{length, ◌∙◌, ap}
+use Rattle.nv_sgl.specs.Chain.{grown}
+use Rattle.nv_sgl.specs.Feeding.{fed, taken}
+use Rattle.nv_sgl.specs.Parse.{Parse, dialogue_of}
+use Rattle.nv_sgl.proofs.Parses.{dialogue_of-fed, grown-fed, want_of-whole}
+use Rattle.nv_sgl.proofs.parse.SglParse.feed.Goals as goal
+
+pub read-requires-clause-whole : goal.read-requires-clause-whole
+read-requires-clause-whole g c = want_of-whole c.args.self.now c.requires.0 (length c.args.bytes.now) c.requires.1
+
+pub returns-clause-dialogue : goal.returns-clause-dialogue
+returns-clause-dialogue g c =
+    dialogue_of-fed _ _ _ c.self.inside.cursor _ c.args.bytes.now c.self.inside.chain _ c.in_ok-self-inside.ensures.ok
+    ∙ ap (λ (p : Parse). fed (dialogue_of p) c.args.bytes.now) c.self.view_is
+
+pub returns-clause-chain : goal.returns-clause-chain
+returns-clause-chain g c =
+    grown-fed _ _ c.self.inside.need c.self.inside.cursor _ c.args.bytes.now c.self.inside.chain _ c.in_ok-self-inside.ensures.ok
+    ∙ ap (λ (p : Parse). grown p.chain (taken (dialogue_of p) c.args.bytes.now)) c.self.view_is

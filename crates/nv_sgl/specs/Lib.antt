@@ -1,0 +1,5 @@
+pub mod Chain
+pub mod Cursor
+pub mod Feeding
+pub mod Parse
+pub mod Want

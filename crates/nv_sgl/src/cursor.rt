@@ -1,0 +1,213 @@
+ghost use Rattle.std.specs.Prelude.{◌≡◌, false, None, ◌+◌, ◌-◌, ◌*◌, ◌<◌, ◌≤◌, ◌^◌, ◌%◌, IsTrue, IfOk, OnErr, true, length, option_to_list};
+ghost use Rattle.nv_entry.specs.Descriptor.{address_of, kind_of, length_of};
+ghost use Rattle.nv_mem.specs.GuestMap.{mapped, all_mapped};
+ghost use Rattle.nv_mem.specs.Places.{total_len};
+ghost use Rattle.nv_model.specs.Sgl.{array_by, fault_by, pieces_by, segment_fault};
+ghost use Rattle.nv_sgl.specs.Chain.{names_array};
+ghost use Rattle.nv_sgl.specs.Cursor.{array_at, is_asking, IsInRange, ReadsPart, StandsBehind};
+
+use nv_entry::{Descriptor, DescriptorType, StatusCode};
+use nv_mem::{GuestMap, NoMemory, Piece};
+use std::alloc::Allocator;
+
+/// Where a parse stands between two descriptors.
+#[derive(Clone, Copy)]
+pub struct Cursor {
+    /// The guest address of the next descriptor of the array. Behind the last one it may be 2 to the 64.
+    pub from: u128,
+    /// How many descriptors of the array are left.
+    pub left: u32,
+    /// Whether a Last Segment named the array.
+    pub by_last: bool,
+    /// How many more descriptors may be read.
+    pub budget: u32,
+    /// How many bytes the descriptors name that were read.
+    pub total: u64,
+    /// What is wrong with the descriptor that was read last, where it is faulty.
+    pub fault: Option<StatusCode>,
+}
+
+impl Cursor {
+    /// Behind the command's own descriptor, before it was looked at: it is the first of the list and last in an array of one.
+    pub fn at_own(limit: u32) -> Self
+        requires { 0 < limit }
+        ensures { result ≡ record { from = 0; left = 0; by_last = false; budget = limit - 1; total = 0; fault = None } }
+    {
+        Cursor {
+            from: 0,
+            left: 0,
+            by_last: false,
+            budget: limit - 1,
+            total: 0,
+            fault: None,
+        }
+    }
+
+    /// Whether the next descriptor is asked for.
+    pub fn is_asking(&self) -> bool
+        ensures { result ≡ is_asking self.now }
+    {
+        self.fault.is_none() && self.left > 0 && self.budget > 0
+    }
+
+    /// Behind the next descriptor, before it was looked at.
+    pub fn past_one(self) -> Self
+        requires left { 0 < self.left }
+        requires budget { 0 < self.budget }
+        requires in_range { self.from + 16 * self.left ≤ 2 ^ 64 }
+        ensures { result ≡ record self { from = self.from + 16; left = self.left - 1; budget = self.budget - 1 } }
+    {
+        Cursor {
+            from: self.from + 16,
+            left: self.left - 1,
+            budget: self.budget - 1,
+            ..self
+        }
+    }
+
+    /// Behind `d`, where `self` is behind it before it was looked at.
+    pub fn behind(self, map: &GuestMap, dest: bool, d: &Descriptor) -> Self
+        requires array { self.from + 16 * self.left ≤ 2 ^ 64 }
+        requires total { self.total + (2 ^ 32 - 1) * (self.budget + 1) < 2 ^ 64 }
+        ensures behind { StandsBehind (mapped map.now.regions) dest self d.now result }
+        ensures in_range { IsInRange result }
+    {
+        let total = self.total + u64::from(bytes_named(d, dest));
+        let fault = self.fault_of(map, d);
+        let next = if fault.is_none() {
+            self.array_behind(d)
+        } else {
+            self
+        };
+        Cursor {
+            total,
+            fault,
+            ..next
+        }
+    }
+
+    // The array that is read behind `d`.
+    fn array_behind(self, d: &Descriptor) -> Self
+        ensures array { array_at result ≡ array_by (kind_of d.now) (array_at self) d.now }
+        ensures budget { result.budget ≡ self.budget }
+    {
+        match d.kind() {
+            Some(kind) if kind == DescriptorType::Segment || kind == DescriptorType::LastSegment =>
+                Cursor {
+                    from: u128::from(d.address()),
+                    left: d.length() / 16,
+                    by_last: kind == DescriptorType::LastSegment,
+                    ..self
+                },
+            _ => self,
+        }
+    }
+
+    // The first check that `d` fails, where `self` is behind it.
+    fn fault_of(&self, map: &GuestMap, d: &Descriptor) -> Option<StatusCode>
+        ensures value { result ≡ fault_by (kind_of d.now) (mapped map.now.regions) (array_at self.now) d.now }
+        ensures inside { result ≡ None → names_array (kind_of d.now) ≡ true → address_of d.now + length_of d.now ≤ 2 ^ 64 }
+    {
+        match d.kind() {
+            None => Some(StatusCode::SglTypeInvalid),
+            Some(DescriptorType::BitBucket) => None,
+            Some(DescriptorType::DataBlock) => {
+                if map.holds(d.address(), u64::from(d.length())) {
+                    None
+                } else {
+                    Some(StatusCode::DataTransferError)
+                }
+            }
+            Some(DescriptorType::Segment | DescriptorType::LastSegment) => self.segment_fault(
+                map, d,
+            ),
+        }
+    }
+
+    // The first check that a Segment or Last Segment fails.
+    fn segment_fault(&self, map: &GuestMap, d: &Descriptor) -> Option<StatusCode>
+        ensures value { result ≡ segment_fault (mapped map.now.regions) (array_at self.now) d.now }
+        ensures inside { result ≡ None → address_of d.now + length_of d.now ≤ 2 ^ 64 }
+    {
+        let len = d.length();
+        if self.by_last {
+            Some(StatusCode::InvalidSglSegment)
+        } else if self.left != 0 {
+            Some(StatusCode::InvalidSglCount)
+        } else if len == 0 || len % 16 != 0 {
+            Some(StatusCode::InvalidSglSegment)
+        } else if d.address() % 8 != 0 {
+            Some(StatusCode::InvalidSglSegment)
+        } else if !holds_some(map, d.address(), len) {
+            Some(StatusCode::DataTransferError)
+        } else {
+            None
+        }
+    }
+}
+
+// Whether each of these addresses, at least one, is mapped. They then end at 2 to the 64 at the latest.
+fn holds_some(map: &GuestMap, addr: u64, len: u32) -> bool
+    requires { 0 < len }
+    ensures value { result ≡ all_mapped map.now.regions addr len }
+    ensures inside { IsTrue result → addr + len ≤ 2 ^ 64 }
+{
+    // With the length of the host comes what is known of every map.
+    let _host_len = map.host_len();
+    map.holds(addr, u64::from(len))
+}
+
+// How many bytes of the transfer a descriptor names.
+fn bytes_named(d: &Descriptor, dest: bool) -> u32
+    ensures { result ≡ total_len (pieces_by (kind_of d.now) dest d.now) }
+{
+    match d.kind() {
+        Some(DescriptorType::DataBlock) => d.length(),
+        Some(DescriptorType::BitBucket) if dest => d.length(),
+        _ => 0,
+    }
+}
+
+/// The piece that a descriptor names, where it names bytes of the transfer.
+pub fn piece_of(d: &Descriptor, dest: bool) -> Option<Piece>
+    ensures { option_to_list result ≡ pieces_by (kind_of d.now) dest d.now }
+{
+    let len = u64::from(d.length());
+    match d.kind() {
+        Some(DescriptorType::DataBlock) if len > 0 => Some(Piece::Run {
+            addr: d.address(),
+            len,
+        }),
+        Some(DescriptorType::BitBucket) if dest && len > 0 => Some(Piece::Bucket { len }),
+        _ => None,
+    }
+}
+
+/// Reads the descriptors in these bytes, from the cursor on, behind `blocks`, and gives the cursor behind them. Where no memory is
+/// left, the blocks are as they were.
+pub fn read_part<A: Allocator>(
+    map: &GuestMap,
+    dest: bool,
+    cursor: Cursor,
+    bytes: &[u8],
+    blocks: &mut Vec<Descriptor, A>,
+) -> Result<Cursor, NoMemory>
+    requires whole { length bytes.now % 16 ≡ 0 }
+    requires in_range { IsInRange cursor }
+    ensures ok { IfOk result (λ c. ReadsPart (mapped map.now.regions) dest cursor bytes.now blocks.old.items c blocks.new.items) }
+    ensures err { OnErr result (blocks.new.items ≡ blocks.old.items) }
+{
+    blocks.try_reserve(bytes.len() / 16)?;
+    let mut cursor = cursor;
+    let mut rest = bytes;
+    while cursor.is_asking() {
+        let Some((own, more)) = rest.split_first_chunk::<16>() else {
+            break;
+        };
+        let d = Descriptor::of(own);
+        cursor = cursor.past_one().behind(map, dest, &d);
+        blocks.push_reserved(d);
+        rest = more;
+    }
+    Ok(cursor)
+}

@@ -1,0 +1,147 @@
+ghost use Rattle.std.specs.Prelude.{◌≡◌, [], ◌∷◌, ℕ, ◌<◌, length, IfOk, OnErr, OnOk};
+ghost use Rattle.nv_mem.specs.GuestMap.{mapped};
+ghost use Rattle.nv_model.specs.Dialogue.{End, and_then};
+ghost use Rattle.nv_model.specs.Judge.{sized};
+ghost use Rattle.nv_model.specs.Reading.{Spells};
+ghost use Rattle.nv_model.specs.Sgl.{read_sgl};
+
+use crate::chain::Chain;
+use crate::cursor::Cursor;
+use crate::want::Want;
+use nv_entry::{Descriptor, StatusCode};
+use nv_mem::{GuestMap, NoMemory, Places};
+use std::alloc::{Allocator, Global};
+use std::marker::Model;
+
+/// How many descriptors of a list may be read, the command's own among them.
+const LIMIT: u32 = 1024;
+
+/// How many descriptors of an array are wanted at once, at most: 4,096 bytes.
+const PART: u32 = 256;
+
+/// The reading of a list, part by part. It never looks at the guest's memory itself: it says which bytes it wants, and is fed them.
+#[derive(Drop)]
+pub struct SglParse<'a, A: Allocator + Clone> {
+    map: &'a GuestMap,
+    dest: bool,
+    need: u64,
+    cursor: Cursor,
+    chain: Chain<A>,
+}
+
+impl<'a, A: Allocator + Clone> Model for SglParse<'a, A> {
+    ghost use Rattle.nv_sgl.specs.Parse.{Parse};
+
+    ghost Value = { Parse };
+
+    ghost use Rattle.nv_sgl.specs.Cursor.{IsParse, parse_at};
+
+    ghost view = { λ p. parse_at p.map.now.regions p.dest p.need p.cursor p.chain };
+
+    ghost invariant = { λ p. IsParse p.dest p.cursor p.chain };
+}
+
+impl<'a, A: Allocator + Clone> SglParse<'a, A> {
+    ghost use Rattle.nv_sgl.specs.Parse.{dialogue_of};
+    ghost use Rattle.nv_sgl.specs.Chain.{grown};
+    ghost use Rattle.nv_sgl.specs.Feeding.{fed, taken};
+    ghost use Rattle.nv_sgl.specs.Want.{want_of};
+
+    /// A parse of the list of a command's own descriptor `first`, for a transfer of `need` bytes. `dest` says whether the buffer
+    /// is a destination, as that of a Read. What is read of the list is kept in `heap`.
+    pub fn new(
+        heap: A,
+        map: &'a GuestMap,
+        first: Descriptor,
+        dest: bool,
+        need: u64,
+    ) -> Result<Self, NoMemory>
+        ensures dialogue { IfOk result (λ parse. dialogue_of parse ≡
+            and_then (read_sgl (mapped map.now.regions) dest 1024 first) (λ reading. End (sized need reading))) }
+        ensures chain { IfOk result (λ parse. parse.chain ≡ (first ∷ []) ∷ []) }
+    {
+        Self::with_limit(heap, map, first, dest, need, LIMIT)
+    }
+
+    // The same with another limit on descriptors.
+    fn with_limit(
+        heap: A,
+        map: &'a GuestMap,
+        first: Descriptor,
+        dest: bool,
+        need: u64,
+        limit: u32,
+    ) -> Result<Self, NoMemory>
+        requires { 0 < limit }
+        ensures dialogue { IfOk result (λ parse. dialogue_of parse ≡
+            and_then (read_sgl (mapped map.now.regions) dest limit first) (λ reading. End (sized need reading))) }
+        ensures chain { IfOk result (λ parse. parse.chain ≡ (first ∷ []) ∷ []) }
+    {
+        let cursor = Cursor::at_own(limit).behind(map, dest, &first);
+        Ok(SglParse {
+            map,
+            dest,
+            need,
+            cursor,
+            chain: Chain::own(heap, first)?,
+        })
+    }
+
+    /// What the parse wants to be fed, or how it ended. The bytes of an array are wanted from its start on, 4,096 at a time, the
+    /// last what is left.
+    pub fn wants(&self) -> Want
+        ensures { result ≡ want_of (dialogue_of self.now) }
+    {
+        let Cursor {
+            from,
+            left,
+            budget,
+            total,
+            fault,
+            ..
+        } = self.cursor;
+        match fault {
+            Some(code) => Want::Fault(code.refused()),
+            None if left == 0 => {
+                if total == self.need {
+                    Want::Done
+                } else {
+                    Want::Fault(StatusCode::SglLengthInvalid.refused())
+                }
+            }
+            None if budget == 0 => Want::TooLong,
+            None => Want::Read {
+                addr: from as u64,
+                len: 16 * left.min(PART),
+            },
+        }
+    }
+
+    /// Reads on with the bytes that were wanted. Where no memory is left, the parse is as it was.
+    pub fn feed(&mut self, bytes: &[u8]) -> Result<(), NoMemory>
+        requires { (addr : ℕ) × (want_of (dialogue_of self.old) ≡ Want.Read addr (length bytes.now)) }
+        ensures dialogue { OnOk result (dialogue_of self.new ≡ fed (dialogue_of self.old) bytes.now) }
+        ensures chain { OnOk result (self.new.chain ≡ grown self.old.chain (taken (dialogue_of self.old) bytes.now)) }
+        ensures err { OnErr result (self.new ≡ self.old) }
+    {
+        self.cursor = self.chain.read(self.map, self.dest, self.cursor, bytes)?;
+        Ok(())
+    }
+
+    /// The descriptors that were read.
+    pub fn chain(&self) -> &Chain<A>
+        ensures { result.now ≡ self.now.chain }
+    {
+        &self.chain
+    }
+
+    /// Where the bytes of the transfer lie, once the parse is done.
+    pub fn places(&self, alloc: Global) -> Result<Places, NoMemory>
+        requires { want_of (dialogue_of self.now) ≡ Want.Done }
+        ensures { IfOk result (λ places. dialogue_of self.now ≡ End (Spells places)) }
+    {
+        let mut places = Places::new(alloc);
+        self.chain.push_pieces(self.dest, &mut places)?;
+        Ok(places)
+    }
+}
