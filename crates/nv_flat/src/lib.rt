@@ -5,5 +5,7 @@ mod buffer;
 mod controller;
 mod moves;
 mod one;
+#[cfg(test)]
+mod tests;
 
 pub use controller::FlatController;

@@ -1,0 +1,7 @@
+pub mod OnceFault
+pub mod OnceWords
+pub mod OnceNumber
+pub mod OnceVocabulary
+pub mod OnceSizes
+pub mod OnceLine
+pub mod OnceScript

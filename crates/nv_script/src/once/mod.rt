@@ -1,0 +1,20 @@
+//! The script of `nvmed once`: a text is read whole, before anything of it runs.
+//!
+//! What a text says is `specs/OnceScript`, by `specs/OnceLine`, `specs/OnceWords`, `specs/OnceNumber` and
+//! `specs/OnceLines`; [`parse`] gives exactly that, or that memory was refused. Only the space separates words, `#` begins a
+//! comment wherever it stands, and every other byte is part of its word.
+
+mod fault;
+mod line;
+mod number;
+mod reading;
+mod script;
+mod sizes;
+#[cfg(test)]
+mod tests;
+mod vocabulary;
+mod words;
+
+pub use fault::{FaultKind, ScriptFault};
+pub use line::Line;
+pub use script::{Script, parse};

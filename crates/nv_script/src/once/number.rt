@@ -1,0 +1,87 @@
+//! Numbers and bytes as words write them.
+ghost use Rattle.std.specs.Prelude.{◌≡◌, ◌≤◌, ◌↔◌, IsTrue, MatchResult};
+ghost use Rattle.nv_script.specs.OnceFault.{Refuses};
+ghost use Rattle.nv_script.specs.OnceNumber.{bytes_of, entry_of, number_of, number_up_to, spelled, written};
+
+use crate::once::fault::{FaultKind, LineFault};
+use hex::{FromHex, FromHexError};
+use nv_entry::Sqe;
+use std::alloc::Global;
+
+/// The number that these digits spell, or `None` where they are none, are not all digits, or spell one beyond 64 bits.
+fn spelled_number(digits: &[u8], base: u32) -> Option<u64>
+    requires least { 2 ≤ base }
+    requires most { base ≤ 36 }
+    ensures { result ≡ spelled base digits.now }
+{
+    if digits.is_empty() {
+        return None;
+    }
+    let mut value: u64 = 0;
+    for digit in digits {
+        let digit = char::from(*digit).to_digit(base)?;
+        value = value
+            .checked_mul(u64::from(base))?
+            .checked_add(u64::from(digit))?;
+    }
+    Some(value)
+}
+
+/// The number that a word writes: decimal, or `0x` and hexadecimal digits.
+pub fn number(word: &[u8]) -> Result<u64, FaultKind>
+    ensures { result ≡ number_of word.now }
+{
+    written_number(word).ok_or(FaultKind::BadNumber)
+}
+
+fn written_number(word: &[u8]) -> Option<u64>
+    ensures { result ≡ written word.now }
+{
+    match word.strip_prefix(b"0x") {
+        Some(digits) => spelled_number(digits, 16),
+        None => spelled_number(word, 10),
+    }
+}
+
+/// The number that a word writes, where it is at most `most`.
+pub fn up_to(word: &[u8], most: u64) -> Result<u64, FaultKind>
+    ensures { result ≡ number_up_to most word.now }
+{
+    let value = number(word)?;
+    if value > most {
+        return Err(FaultKind::BadNumber);
+    }
+    Ok(value)
+}
+
+/// The byte that a word writes as a number.
+pub fn byte(word: &[u8]) -> Result<u8, FaultKind>
+    ensures { result ≡ number_up_to 255 word.now }
+{
+    let value = up_to(word, u64::from(u8::MAX))?;
+    Ok(value as u8)
+}
+
+/// The bytes that a word spells: two hexadecimal digits each, or `-` for none.
+pub fn bytes(alloc: Global, word: &[u8]) -> Result<Vec<u8>, LineFault>
+    ensures { MatchResult result (λ bytes. bytes_of word.now ≡ Ok bytes.items) (Refuses (bytes_of word.now)) }
+{
+    if word == b"-".as_slice() {
+        return Ok(Vec::new(alloc));
+    }
+    match hex::decode(alloc, word) {
+        Ok(bytes) => Ok(bytes),
+        Err(FromHexError::OutOfMemory) => Err(LineFault::NoMemory),
+        Err(_) => Err(LineFault::Faulty(FaultKind::BadBytes)),
+    }
+}
+
+/// The submission queue entry whose 64 bytes a word spells.
+pub fn entry(word: &[u8]) -> Result<Sqe, FaultKind>
+    ensures { result ≡ entry_of word.now }
+{
+    match <[u8; 64]>::from_hex(word) {
+        Ok(bytes) => Ok(Sqe::of(&bytes)),
+        Err(_) => Err(FaultKind::BadBytes),
+    }
+}

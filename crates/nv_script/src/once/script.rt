@@ -1,0 +1,46 @@
+//! The parse of a whole script.
+ghost use Rattle.std.specs.Prelude.{◌≡◌, ◌⊎◌, MatchResult};
+ghost use Rattle.nv_script.specs.OnceScript.{script_of, script_value};
+ghost use Rattle.nv_script.specs.OnceWords.{without_last_feed};
+
+use crate::once::fault::ScriptFault;
+use crate::once::line::Line;
+use crate::once::reading::Reading;
+use std::alloc::Global;
+
+/// A whole script.
+#[derive(Debug, PartialEq, Eq, Drop)]
+pub struct Script {
+    /// how many bytes the memory has
+    pub memory: u64,
+    /// how many blocks the namespace has
+    pub blocks: u64,
+    /// the lines behind the set-up, but for empty ones
+    pub lines: Vec<Line>,
+}
+
+/// The script that a text is, or its first fault.
+pub fn parse(alloc: Global, text: &[u8]) -> Result<Script, ScriptFault>
+    ensures { MatchResult result (λ script. script_of text.now ≡ Ok (script_value script))
+        (λ fault. (fault ≡ ScriptFault.NoMemory) ⊎ (script_of text.now ≡ Err fault)) }
+{
+    let mut reading = Reading::new(alloc);
+    let mut number = 0;
+    for line in before_last_feed(text).split(|byte| *byte == b'\n') {
+        number += 1;
+        if let Err(fault) = reading.read(alloc, line) {
+            return Err(fault.on(number));
+        }
+    }
+    reading.finish(number)
+}
+
+/// A text without the line feed that ends its last line.
+fn before_last_feed(text: &[u8]) -> &[u8]
+    ensures { result.now ≡ without_last_feed text.now }
+{
+    match text.split_last() {
+        Some((last, front)) if *last == b'\n' => front,
+        _ => text,
+    }
+}

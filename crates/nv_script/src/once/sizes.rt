@@ -1,0 +1,43 @@
+//! The set-up of a script.
+ghost use Rattle.std.specs.Prelude.{◌≡◌};
+ghost use Rattle.nv_script.specs.OnceSizes.{block_count, memory_size};
+
+use crate::once::fault::FaultKind;
+use crate::once::number::number;
+
+/// The sizes that the set-up names.
+#[derive(Clone, Copy, Debug, PartialEq, Eq)]
+pub struct Sizes {
+    /// how many bytes the memory has
+    pub memory: u64,
+    /// how many blocks the namespace has
+    pub blocks: u64,
+}
+
+const PAGE: u64 = 4_096;
+
+const MEMORY_MAX: u64 = 16_777_216;
+
+const BLOCKS_MAX: u64 = 65_536;
+
+/// The size of the memory that a word writes: 1 to 4,096 pages.
+pub fn memory(word: &[u8]) -> Result<u64, FaultKind>
+    ensures { result ≡ memory_size word.now }
+{
+    let size = number(word)?;
+    if size < PAGE || size > MEMORY_MAX || size % PAGE != 0 {
+        return Err(FaultKind::BadNumber);
+    }
+    Ok(size)
+}
+
+/// The number of blocks that a word writes.
+pub fn blocks(word: &[u8]) -> Result<u64, FaultKind>
+    ensures { result ≡ block_count word.now }
+{
+    let count = number(word)?;
+    if count < 1 || count > BLOCKS_MAX {
+        return Err(FaultKind::BadNumber);
+    }
+    Ok(count)
+}

@@ -1,0 +1,98 @@
+//! The words of a line.
+ghost use Rattle.std.specs.Prelude.{◌≡◌, ◌==◌, ◌<◌, ◌∷◌, [], length, not, MatchOption};
+ghost use Rattle.std.specs.List.{position_or_len};
+ghost use Rattle.std.specs.Iterator.{YieldsFirstRef, item_count};
+ghost use Rattle.nv_script.specs.OnceVocabulary.{count_check};
+ghost use Rattle.nv_script.specs.OnceWords.{words_in, words_of};
+
+use crate::once::fault::FaultKind;
+use std::marker::Model;
+
+/// The words that are left of a line. A contract sees them as a list of words.
+#[derive(Drop)]
+pub struct Words<'a> {
+    text: &'a [u8],
+}
+
+impl<'a> Model for Words<'a> {
+    ghost use Rattle.std.specs.Prelude.{List, ℕ};
+    ghost use Rattle.nv_script.specs.OnceWords.{words_in};
+
+    ghost Value = { List (List ℕ) };
+
+    ghost view = { λ words. words_in words.text.now };
+}
+
+/// The place of the first such byte, or the length where there is none.
+fn place_of(text: &[u8], byte: u8) -> usize
+    ensures { result ≡ position_or_len (λ b. b == byte) text.now }
+{
+    text.iter().position(|b| *b == byte).unwrap_or(text.len())
+}
+
+/// The place of the first byte that is no space, or the length where there is none.
+fn leading_spaces(text: &[u8]) -> usize
+    ensures { result ≡ position_or_len (λ b. not (b == 32)) text.now }
+{
+    text.iter().position(|b| *b != b' ').unwrap_or(text.len())
+}
+
+/// The first word of a text, and what stands behind it.
+fn split_word(text: &[u8]) -> Option<(&[u8], &[u8])>
+    ensures { MatchOption result (words_in text.now ≡ [])
+        (λ parts. words_in text.now ≡ parts.0.now ∷ words_in parts.1.now) }
+{
+    let (_, text) = text.split_at(leading_spaces(text));
+    if text.is_empty() {
+        return None;
+    }
+    Some(text.split_at(place_of(text, b' ')))
+}
+
+impl<'a> Words<'a> {
+    /// The words of a line: what stands between its spaces, up to a comment.
+    pub fn of(line: &'a [u8]) -> Self
+        ensures { result ≡ words_of line.now }
+    {
+        let (text, _) = line.split_at(place_of(line, b'#'));
+        Words { text }
+    }
+
+    /// Whether so many words are left.
+    pub fn check_count(&self, wanted: usize) -> Result<(), FaultKind>
+        ensures { result ≡ count_check (length self.now) wanted }
+    {
+        let mut words = Words { text: self.text };
+        for _found in 0..wanted {
+            let Some(_) = words.next() else {
+                return Err(FaultKind::MissingWord);
+            };
+        }
+        match words.next() {
+            None => Ok(()),
+            Some(_) => Err(FaultKind::TooManyWords),
+        }
+    }
+
+    /// Takes the next word, which is there.
+    pub fn next_word(&mut self) -> &'a [u8]
+        requires { 0 < length self.old }
+        ensures { self.old ≡ result.now ∷ self.new }
+    {
+        self.next().unwrap()
+    }
+}
+
+impl<'a> Iterator for Words<'a> {
+    type Item = &'a [u8];
+
+    ghost next_gives = { YieldsFirstRef (λ words. words) };
+
+    ghost remaining = { item_count (λ words. words) };
+
+    fn next(&mut self) -> Option<&'a [u8]> {
+        let (word, rest) = split_word(self.text)?;
+        self.text = rest;
+        Some(word)
+    }
+}
