@@ -1,5 +1,5 @@
 -- The flat controller as it stands: its memory, the bytes of its blocks, and their marks
-use Rattle.std.specs.Prelude.{◌≡◌, ℕ, zero, suc, ◌+◌, Bool, false, List, [], ◌∷◌, slice_index, length, get_or}
+use Rattle.std.specs.Prelude.{◌≡◌, ℕ, zero, suc, ◌+◌, ◌%◌, ◌<◌, ◌≤◌, Bool, false, List, [], ◌∷◌, slice_index, length, get_or}
 use Rattle.std.specs.List.{slice_index_or}
 use Rattle.nv_entry.specs.declared.opcode.IoOpcode.{IoOpcode}
 use Rattle.nv_mem.specs.GuestMap.{Mapping}
@@ -53,3 +53,11 @@ identity_map size = record { host_len = size; regions = record { guest = 0; host
 pub record IsWhole (memory : List ℕ) (map : Mapping) (disk : List (List ℕ)) (kept : List Bool) : Type 0 where
   pub mapped : map ≡ identity_map (length memory)
   pub marked : length kept ≡ length disk
+
+-- a flat controller may have this much memory and so many blocks (profile)
+pub record FitsLimits (memory_len blocks : ℕ) : Type 0 where
+  pub pages : memory_len % 4096 ≡ 0
+  pub some_memory : 0 < memory_len
+  pub most_memory : memory_len ≤ 16777216
+  pub some_blocks : 0 < blocks
+  pub most_blocks : blocks ≤ 65536

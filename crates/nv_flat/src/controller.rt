@@ -1,7 +1,7 @@
-ghost use Rattle.std.specs.Prelude.{◌≡◌, ◌+◌, ◌%◌, ◌<◌, ◌≤◌, ◌↔◌, length, replicate, false, IfOk, slice_set};
+ghost use Rattle.std.specs.Prelude.{◌≡◌, ◌+◌, ◌%◌, ◌<◌, ◌≤◌, ◌↔◌, length, replicate, false, IfOk, IsTrue, slice_set};
 ghost use Rattle.std.specs.List.{slice_index_or};
 ghost use Rattle.nv_mem.specs.Bytes.{InMemory, after_store, bytes_at};
-ghost use Rattle.nv_flat.specs.Flat.{flat, identity_map};
+ghost use Rattle.nv_flat.specs.Flat.{FitsLimits, flat, identity_map};
 
 use crate::moves::BLOCK;
 use nv_mem::{GuestMap, Host, NoMemory, Region};
@@ -17,6 +17,12 @@ pub struct FlatController {
     pub(crate) kept: Vec<bool>,
 }
 
+/// The most memory of a flat controller: 16 MiB.
+const MOST_MEMORY: u64 = 16_777_216;
+
+/// The most blocks of a flat controller.
+const MOST_BLOCKS: u64 = 65_536;
+
 impl Model for FlatController {
     ghost use Rattle.nv_flat.specs.Flat.{Flat, IsWhole, flat};
 
@@ -28,13 +34,21 @@ impl Model for FlatController {
 }
 
 impl FlatController {
+    /// Whether a controller may have this much memory and so many blocks: whole pages of 4,096 bytes up to 16 MiB, at least one,
+    /// and 1 to 65,536 blocks. It is what [`FlatController::new`] requires.
+    pub fn fits(memory_len: u64, blocks: u64) -> bool
+        ensures { IsTrue result ↔ FitsLimits memory_len blocks }
+    {
+        memory_len % 4096 == 0
+            && 0 < memory_len
+            && memory_len <= MOST_MEMORY
+            && 0 < blocks
+            && blocks <= MOST_BLOCKS
+    }
+
     /// A controller with `memory_len` bytes of memory and `blocks` blocks, all zero, and no mark set.
     pub fn new(alloc: Global, memory_len: u64, blocks: u64) -> Result<Self, NoMemory>
-        requires pages { memory_len % 4096 ≡ 0 }
-        requires some_memory { 0 < memory_len }
-        requires most_memory { memory_len ≤ 16777216 }
-        requires some_blocks { 0 < blocks }
-        requires most_blocks { blocks ≤ 65536 }
+        requires { FitsLimits memory_len blocks }
         ensures { IfOk result (λ c. c ≡ flat (replicate memory_len 0) (replicate blocks (replicate 512 0)) (replicate blocks false)) }
     {
         let memory = Host::new(alloc, memory_len)?;
@@ -47,6 +61,14 @@ impl FlatController {
             disk,
             kept,
         })
+    }
+
+    /// Whether `len` bytes from an address on lie in the memory. No bytes always do. It is what [`FlatController::store`] and
+    /// [`FlatController::load`] require.
+    pub fn holds(&self, addr: u64, len: u64) -> bool
+        ensures { IsTrue result ↔ InMemory (length self.now.memory) addr len }
+    {
+        self.memory.holds(addr, len)
     }
 
     /// Stores bytes from an address on.

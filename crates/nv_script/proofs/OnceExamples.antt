@@ -1,13 +1,12 @@
 -- Worked examples of the definitions, computed
-use Rattle.std.proofs.Common.{◌≡◌, ℕ, List, [], ◌∷◌, ◌++◌, Option, Some, None, Result, Ok, Err, refl}
+use Rattle.std.proofs.Common.{◌≡◌, ℕ, List, [], ◌∷◌, ◌++◌, Ok, Err, refl}
 use Rattle.std.specs.Prelude.{codes}
 use Rattle.hex.specs.Hex.{decode_pairs}
-use Rattle.nv_script.specs.declared.once.fault.FaultKind.TheVariants.{UnknownWord, MissingWord, TooManyWords, BadNumber, BadBytes, OutOfPlace, OutOfRange}
-use Rattle.nv_script.specs.declared.once.fault.ScriptFault.{ScriptFault}
+use Rattle.nv_script.specs.declared.once.fault.FaultKind.TheVariants.{UnknownWord, MissingWord, BadNumber, BadBytes, OutOfPlace, OutOfRange}
 use Rattle.nv_script.specs.declared.once.fault.ScriptFault.TheVariants as fault
-use Rattle.nv_script.specs.OnceLine.{LineValue, Store, Fill, Paint, Dump, Block, line_of}
+use Rattle.nv_script.specs.OnceLine.{Store, Block}
 use Rattle.nv_script.specs.OnceNumber.{number_of, spelled, written}
-use Rattle.nv_script.specs.OnceScript.{ScriptValue, after_keyword, after_line, after_lines, script_of}
+use Rattle.nv_script.specs.OnceScript.{after_keyword, after_line, after_lines, script_of}
 use Rattle.nv_script.specs.OnceVocabulary.{keyword_of, vocabulary}
 use Rattle.nv_script.specs.OnceWords.{lines_of, without_last_feed, words_in, words_of}
 

@@ -118,6 +118,10 @@ fn run(addr: u64, len: u64) -> Piece {
     Piece::Run { addr, len }
 }
 
+fn wanted(addr: u64, len: u32) -> Want {
+    Want::Read { addr, len }
+}
+
 fn refused(code: StatusCode) -> Want {
     Want::Fault(code.refused())
 }
@@ -149,24 +153,8 @@ fn one_descriptor(rt: HostRuntime) -> Result<(), Fail> {
         (LAST, 0x6004, 32, refused(StatusCode::InvalidSglSegment)),
         (LAST, 0x1_fff0, 32, refused(StatusCode::DataTransferError)),
         (LAST, 0x1_fff0, 24, refused(StatusCode::InvalidSglSegment)),
-        (
-            LAST,
-            0x6000,
-            32,
-            Want::Read {
-                addr: 0x6000,
-                len: 32,
-            },
-        ),
-        (
-            SEGMENT,
-            0x6000,
-            8192,
-            Want::Read {
-                addr: 0x6000,
-                len: 4096,
-            },
-        ),
+        (LAST, 0x6000, 32, wanted(0x6000, 32)),
+        (SEGMENT, 0x6000, 8192, wanted(0x6000, 4096)),
     ] {
         let map = map(rt.alloc())?;
         let parse = SglParse::new(rt.alloc(), &map, descriptor(kind, addr, len), true, 512)?;
@@ -243,13 +231,7 @@ fn a_segment_that_names_itself(rt: HostRuntime) -> Result<(), Fail> {
     let map = map(rt.alloc())?;
     let mut parse = SglParse::new(rt.alloc(), &map, descriptor(SEGMENT, 0x6000, 32), true, 512)?;
     for _ in 0..511 {
-        assert_eq!(rt;
-            parse.wants(),
-            Want::Read {
-                addr: 0x6000,
-                len: 32
-            }
-        );
+        assert_eq!(rt; parse.wants(), wanted(0x6000, 32));
         assert_eq!(rt; step(&mut parse, &memory)?, None);
     }
     // the 512th reading stops behind descriptor 1,024, the array's first

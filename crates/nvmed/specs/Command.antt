@@ -1,17 +1,18 @@
 -- Commands of the program
-use Rattle.std.specs.Prelude.{ℕ, Bool}
+use Rattle.std.specs.Prelude.{ℕ, Bool, true}
 use Rattle.std.specs.Result.{is_ok}
 use Rattle.hex.specs.Hex.{decode_sized}
 use Rattle.nvmed.specs.declared.entry_kind.EntryKind.{EntryKind}
 use Rattle.nvmed.specs.declared.entry_kind.EntryKind.TheVariants.{Submission, Completion}
 use Rattle.nvmed.specs.declared.command.Command.{Command}
-use Rattle.nvmed.specs.declared.command.Command.TheVariants.{Decode}
+use Rattle.nvmed.specs.declared.command.Command.TheVariants.{Decode, Once}
 
 -- how many bytes an entry has
 abbrev pub size_of : EntryKind → ℕ
 size_of Submission = 64
 size_of Completion = 16
 
--- whether the digits of a command spell an entry of its kind
+-- whether the digits of a command, if it has any, spell an entry of its kind
 abbrev pub is_spelled : Command → Bool
 is_spelled (Decode kind digits) = is_ok (decode_sized digits.now (size_of kind))
+is_spelled Once = true

@@ -13,6 +13,8 @@ use std::convert::AsStr;
 pub enum Command<'a> {
     /// print the fields of the entry that these digits spell
     Decode { kind: EntryKind, digits: &'a str },
+    /// run a script of commands on a private controller over flat memory
+    Once,
 }
 
 /// The command that these words are. A word that begins with `-` is in no command, and no help is built in.
@@ -29,11 +31,14 @@ pub fn parse<'a, S: AsStr>(alloc: Global, words: &'a [S]) -> Result<Command<'a>,
     };
     match found.subcommand() {
         Some((DECODE, found)) => decode_command(found).ok_or(Refusal::Usage),
+        Some((ONCE, _)) => Ok(Command::Once),
         _ => Err(Refusal::Usage),
     }
 }
 
 const DECODE: &str = "decode";
+
+const ONCE: &str = "once";
 
 const KIND: &str = "KIND";
 
@@ -51,7 +56,8 @@ fn grammar<'a>(alloc: Global) -> Result<clap::Command<'a>, AllocError> {
         .no_binary_name(true)
         .disable_help_subcommand(true)
         .subcommand_required(true)
-        .subcommand(decode_grammar(alloc)?)
+        .subcommand(decode_grammar(alloc)?)?
+        .subcommand(plain(alloc, ONCE))
 }
 
 fn decode_grammar<'a>(alloc: Global) -> Result<clap::Command<'a>, AllocError> {

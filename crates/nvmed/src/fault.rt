@@ -1,8 +1,10 @@
-ghost use Rattle.std.specs.Prelude.{◌≡◌, Some};
-ghost use Rattle.nvmed.specs.Fault.{fault_of, status_of, text_of};
+ghost use Rattle.std.specs.Prelude.{◌≡◌, ◌≢◌};
+ghost use Rattle.nvmed.specs.Fault.{fault_of, of_script, status_of, text_of};
 
 use crate::exit_status::ExitStatus;
 use crate::refusal::Refusal;
+use nv_mem::NoMemory;
+use nv_script::{FaultKind, ScriptFault};
 use std::alloc::AllocError;
 use std::{fmt, io};
 
@@ -15,6 +17,8 @@ pub enum Fault {
     Usage,
     /// memory was refused
     NoMemory,
+    /// a line of the script is faulty
+    Script { line: u64, kind: FaultKind },
     /// the input failed
     CannotRead,
     /// the output failed
@@ -29,12 +33,23 @@ impl Fault {
         Fault::CannotWrite
     }
 
+    /// The fault of an input that failed: want of memory is told as such.
+    pub fn of_input(error: io::Error) -> Self
+        ensures { result ≢ Fault.BadBytes }
+    {
+        if error.kind() == io::ErrorKind::OutOfMemory {
+            Fault::NoMemory
+        } else {
+            Fault::CannotRead
+        }
+    }
+
     /// The exit status of a program that ends with this fault.
     pub fn status(self) -> ExitStatus
         ensures { result ≡ status_of self }
     {
         match self {
-            Fault::BadBytes => ExitStatus::ScriptFault,
+            Fault::BadBytes | Fault::Script { .. } => ExitStatus::ScriptFault,
             Fault::Usage => ExitStatus::Usage,
             Fault::NoMemory => ExitStatus::NoMemory,
             Fault::CannotRead | Fault::CannotWrite => ExitStatus::InputOutput,
@@ -43,16 +58,17 @@ impl Fault {
 }
 
 impl fmt::Display for Fault {
-    ghost output = { λ fault. Some (text_of fault) };
+    ghost output = { text_of };
 
     fn fmt<W: fmt::Write>(&self, f: &mut fmt::Formatter<W>) -> fmt::Result {
-        f.write_str(match self {
-            Fault::BadBytes => "line 1: bad bytes",
-            Fault::Usage => "usage: nvmed once | replay | run | decode KIND HEX",
-            Fault::NoMemory => "no memory",
-            Fault::CannotRead => "cannot read",
-            Fault::CannotWrite => "cannot write",
-        })
+        match self {
+            Fault::BadBytes => f.write_str("line 1: bad bytes"),
+            Fault::Usage => f.write_str("usage: nvmed once | replay | run | decode KIND HEX"),
+            Fault::NoMemory => f.write_str("no memory"),
+            Fault::Script { line, kind } => write!(f, "line {line}: {kind}"),
+            Fault::CannotRead => f.write_str("cannot read"),
+            Fault::CannotWrite => f.write_str("cannot write"),
+        }
     }
 }
 
@@ -74,5 +90,26 @@ impl From<AllocError> for Fault {
 
     fn from(_error: AllocError) -> Self {
         Fault::NoMemory
+    }
+}
+
+impl From<NoMemory> for Fault {
+    ghost use Rattle.nvmed.specs.declared.fault.Fault.TheVariants as fault;
+
+    ghost from_gives = { λ _ made. made ≡ fault.NoMemory };
+
+    fn from(_error: NoMemory) -> Self {
+        Fault::NoMemory
+    }
+}
+
+impl From<ScriptFault> for Fault {
+    ghost from_gives = { λ script made. made ≡ of_script script };
+
+    fn from(fault: ScriptFault) -> Self {
+        match fault {
+            ScriptFault::Line { line, kind } => Fault::Script { line, kind },
+            ScriptFault::NoMemory => Fault::NoMemory,
+        }
     }
 }

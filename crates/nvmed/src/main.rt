@@ -1,7 +1,7 @@
 //! The program `nvmed`: entries of NVM Express in plain words.
 //!
-//! `nvmed decode sqe HEX` and `nvmed decode cqe HEX` print the fields of one entry on one line; any other list of words is a
-//! usage fault. A fault is one line on standard error, and the exit status tells its kind.
+//! `nvmed decode sqe HEX` and `nvmed decode cqe HEX` print the fields of one entry on one line; `nvmed once` runs a script of
+//! commands on a private controller over flat memory; any other list of words is a usage fault. A fault is one line on standard error, and the exit status tells its kind.
 //!
 //! [`program::run`] is the whole program over words, a reader and two writers; `main` hands it the process's own and gives
 //! the exit status to the system. Proved are safety and return on every input, the exit status and the text of each fault,
@@ -15,6 +15,7 @@ mod entry_kind;
 mod exit_status;
 mod fault;
 mod lines;
+mod once;
 mod program;
 mod refusal;
 #[cfg(test)]

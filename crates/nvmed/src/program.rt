@@ -7,7 +7,7 @@ use crate::command::{self, Command};
 use crate::entry_kind::EntryKind;
 use crate::exit_status::ExitStatus;
 use crate::fault::Fault;
-use crate::{decode, lines};
+use crate::{decode, lines, once};
 use std::alloc::Global;
 use std::convert::AsStr;
 use std::io::{BufWriter, Read, Write};
@@ -41,7 +41,7 @@ pub fn report<E: Write + Drop>(fault: Fault, mut faults: E) -> ExitStatus
 fn answer<S: AsStr, R: Read + Drop, W: Write + Drop>(
     alloc: Global,
     words: &[S],
-    _input: R,
+    input: R,
     output: W,
 ) -> Result<(), Fault>
     ensures dash { Any (λ word. slice_get (S.text word) 0 ≡ Some 45) words.now → result ≡ Err Fault.Usage }
@@ -50,12 +50,17 @@ fn answer<S: AsStr, R: Read + Drop, W: Write + Drop>(
     let Ok(mut output) = BufWriter::new(alloc, output) else {
         return Err(Fault::NoMemory);
     };
-    execute(alloc, command, &mut output)?;
+    execute(alloc, command, input, &mut output)?;
     output.flush().map_err(Fault::of_output)
 }
 
 /// Does the command. Digits that spell no entry are bad bytes, and nothing else is.
-fn execute<W: Write>(alloc: Global, command: Command<'_>, output: &mut W) -> Result<(), Fault>
+fn execute<R: Read + Drop, W: Write>(
+    alloc: Global,
+    command: Command<'_>,
+    input: R,
+    output: &mut W,
+) -> Result<(), Fault>
     ensures bad_bytes { (result ≡ Err Fault.BadBytes) ↔ (is_spelled command.entry ≡ false) }
 {
     match command {
@@ -73,5 +78,6 @@ fn execute<W: Write>(alloc: Global, command: Command<'_>, output: &mut W) -> Res
             let entry = decode::completion(digits).ok_or(Fault::BadBytes)?;
             lines::write_completion(&entry, output)
         }
+        Command::Once => once::run(alloc, input, output),
     }
 }
