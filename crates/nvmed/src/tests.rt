@@ -221,9 +221,11 @@ fn run_once(alloc: Global, script: &[u8]) -> Outcome {
     }
 }
 
-const FIRST_RUN: &str = "memory 0x10000\nblocks 64\npaint 5 0xab\ncmd 02400700010000000000000000000000000000000000000000300000000000000002000000000000050000000000000000000000000000000000000000000000\ndump 0x3000 4\n";
+const FIRST_RUN: &str =
+    "memory 0x10000\nblocks 64\npaint 5 0xab\ncmd 02400700010000000000000000000000000000000000000000300000000000000002000000000000050000000000000000000000000000000000000000000000\ndump 0x3000 4\n";
 
-const WRITE_RUN: &str = "memory 0x10000\nblocks 64\nfill 0x3000 512 0x11\ncmd 01400700010000000000000000000000000000000000000000300000000000000002000000000000050000000000000000000000000000000000000000000000\ndump 0x3000 0\ndump 0x31fe 4";
+const WRITE_RUN: &str =
+    "memory 0x10000\nblocks 64\nfill 0x3000 512 0x11\ncmd 01400700010000000000000000000000000000000000000000300000000000000002000000000000050000000000000000000000000000000000000000000000\ndump 0x3000 0\ndump 0x31fe 4";
 
 #[test]
 fn runs_scripts(rt: HostRuntime) {
@@ -231,26 +233,44 @@ fn runs_scripts(rt: HostRuntime) {
         (FIRST_RUN, "00000000000000000100010007000100\nabababab\n"),
         (WRITE_RUN, "00000000000000000100010007000100\n-\n11110000\n"),
         ("memory 4096\nblocks 1", ""),
-        ("blocks 1\nmemory 4096\nstore 0xffe a1B2\ndump 0xffd 3\n", "00a1b2\n"),
+        (
+            "blocks 1\nmemory 4096\nstore 0xffe a1B2\ndump 0xffd 3\n",
+            "00a1b2\n",
+        ),
     ] {
         let run = run_once(rt.alloc(), script.as_bytes());
         assert_eq!(rt; run.output.as_slice(), printed.as_bytes(), "{script}");
         assert_eq!(rt; run.status, ExitStatus::Success, "{script}");
         assert!(rt; run.faults.is_empty(), "{script}");
     }
-    let run = run_once(rt.alloc(), b"memory 4096\nblocks 2\npaint 1 0x22\nblock 1\nblock 0");
+    let run = run_once(
+        rt.alloc(),
+        b"memory 4096\nblocks 2\npaint 1 0x22\nblock 1\nblock 0",
+    );
     assert_eq!(rt; run.output.len(), 2050);
     assert!(rt; run.output.iter().take(1024).all(|digit| *digit == b'2'));
-    assert!(rt; run.output.iter().skip(1025).take(1024).all(|digit| *digit == b'0'));
+    assert!(rt;
+        run.output
+            .iter()
+            .skip(1025)
+            .take(1024)
+            .all(|digit| *digit == b'0')
+    );
 }
 
 #[test]
 fn tells_the_first_faulty_line(rt: HostRuntime) {
     for (script, fault) in [
         ("", "line 1: out of place\n"),
-        ("memory 0x10000\nblocks 64\ndump 0xfffe 4", "line 3: out of range\n"),
+        (
+            "memory 0x10000\nblocks 64\ndump 0xfffe 4",
+            "line 3: out of range\n",
+        ),
         ("memory 0x10000\nblocks 64\ncmd 00", "line 3: bad bytes\n"),
-        ("memory 0x10000\nblocks 64\ndump 0 1\nhullo", "line 4: unknown word\n"),
+        (
+            "memory 0x10000\nblocks 64\ndump 0 1\nhullo",
+            "line 4: unknown word\n",
+        ),
         ("memory 0x10001\nblocks 64", "line 1: bad number\n"),
     ] {
         let run = run_once(rt.alloc(), script.as_bytes());
