@@ -1,7 +1,12 @@
+pub mod AskingLemmas
 pub mod BufferLemmas
+pub mod DatasetLemmas
 pub mod DoneLemmas
 pub mod FlatLemmas
+pub mod ListLemmas
 pub mod MoveLemmas
 pub mod OneLemmas
-pub mod RunLemmas
+pub mod PieceLemmas
+pub mod TransferLemmas
 pub mod VerdictLemmas
+pub mod WorkLemmas

@@ -1,38 +1,45 @@
 -- A block that moves, over a memory, blocks and marks that are lists
-use Rattle.std.proofs.Common.{◌≡◌, ℕ, zero, suc, ◌+◌, ◌-◌, ◌*◌, ◌<◌, ◌≤◌, Bool, true, false, ◌||◌, List, [], ◌∷◌, ◌++◌, length, slice_index, get_or, set, map, take, drop, refl, sym, ap, ◌∙◌, arith, append-nil, cond, ◌==◌, inl, inr}
+use Rattle.std.proofs.Common.{◌≡◌, ℕ, zero, suc, ◌+◌, ◌-◌, ◌*◌, ◌<◌, ◌≤◌, Bool, true, false, not, ◌&&◌, ◌||◌, nat_eq, List, [], ◌∷◌, ◌++◌, length, slice_index, get_or, set, map, take, drop, refl, sym, ap, ◌∙◌, arith, cond, ◌==◌, inl, inr, replicate}
 use Rattle.std.proofs.lemmas.Bool.{cases_eq}
 use Rattle.std.proofs.lemmas.Grind.{get_or-set_at}
 use Rattle.std.proofs.lemmas.List.{get_or-set_other, get_or_past}
 use Rattle.std.proofs.Math.Seq.{take-length}
+use lib.Pointwise.{pointwise}
 use mathlib.Core.Path.{fun_ext}
 use Rattle.std.specs.List.{slice_index_or, enumerate_from, range_with_len}
 use Rattle.std.proofs.lemmas.Bool.Decides.{nat_tests}
-use Rattle.nv_entry.specs.declared.opcode.IoOpcode.TheVariants.{Read, Write}
-use Rattle.nv_mem.specs.Places.{Place, places_of, places_of_piece}
+use Rattle.nv_entry.specs.declared.opcode.IoOpcode.TheVariants.{Compare, Read, Write}
+use Rattle.nv_mem.specs.Places.{Place, places_of}
 use Rattle.nv_mem.specs.declared.piece.Piece.{Piece}
-use Rattle.nv_model.specs.Memory.{bytes_from, gathered, scattered, stored}
+use Rattle.nv_model.specs.Memory.{gathered, scattered, stored}
 use Rattle.nv_model.proofs.MemoryLemmas.{bytes_from-list}
 use Rattle.nv_model.specs.Judge.{Work, WorkUnit, OneBlock, block_units}
-use Rattle.nv_model.specs.Private.{Moved, block_bytes, block_written, marked}
+use Rattle.nv_model.specs.Private.{Moved, block_bytes, block_written, differs, marked}
 use Rattle.nv_model.specs.Carried.{moved_on, units_moved}
-use Rattle.nv_flat.specs.Flat.{block_work, byte_in, byte_of_block, flat, moved_of, units_from}
+use Rattle.nv_flat.specs.Flat.{block_work, byte_in, byte_of_block, clear, cleared, flat, moved_of, units_from}
+use Rattle.nv_flat.proofs.BufferLemmas.{scattered-take}
 
 -- equal in each part
-moved : (m n : ℕ → ℕ) (d e : ℕ → ℕ → ℕ) (k l : ℕ → Bool) (differed : Bool) → m ≡ n → d ≡ e → k ≡ l
-    → ◌≡◌ {A = Moved} (record { memory = m; disk = d; kept = k; differed = differed }) (record { memory = n; disk = e; kept = l; differed = differed })
-moved m n d e k l differed same_memory same_disk same_marks =
-    ap (λ (x : ℕ → ℕ). let r : Moved = record { memory = x; disk = d; kept = k; differed = differed } in r) same_memory
-    ∙ ap (λ (x : ℕ → ℕ → ℕ). let r : Moved = record { memory = n; disk = x; kept = k; differed = differed } in r) same_disk
-    ∙ ap (λ (x : ℕ → Bool). let r : Moved = record { memory = n; disk = e; kept = x; differed = differed } in r) same_marks
+moved : (m n : ℕ → ℕ) (d e : ℕ → ℕ → ℕ) (k l : ℕ → Bool) (x y : Bool) → m ≡ n → d ≡ e → k ≡ l → x ≡ y
+    → ◌≡◌ {A = Moved} (record { memory = m; disk = d; kept = k; differed = x }) (record { memory = n; disk = e; kept = l; differed = y })
+moved m n d e k l x y same_memory same_disk same_marks same_differed =
+    ap (λ (z : ℕ → ℕ). let r : Moved = record { memory = z; disk = d; kept = k; differed = x } in r) same_memory
+    ∙ ap (λ (z : ℕ → ℕ → ℕ). let r : Moved = record { memory = n; disk = z; kept = k; differed = x } in r) same_disk
+    ∙ ap (λ (z : ℕ → Bool). let r : Moved = record { memory = n; disk = e; kept = z; differed = x } in r) same_marks
+    ∙ ap (λ (z : Bool). let r : Moved = record { memory = n; disk = e; kept = l; differed = z } in r) same_differed
+
+pub or-false : (b : Bool) → b || false ≡ b
+or-false true = refl
+or-false false = refl
+
+pub or-true : (b : Bool) → b || true ≡ true
+or-true true = refl
+or-true false = refl
 
 -- the bytes of a block of 512
 pub block_bytes-list : (disk : List (List ℕ)) (lba : ℕ) → length (slice_index_or disk lba []) ≡ 512 → block_bytes (byte_of_block disk) lba ≡ slice_index_or disk lba []
 block_bytes-list disk lba sized =
     bytes_from-list (slice_index_or disk lba []) 0 512 (omega arith) ∙ (rw (← sized) (take-length (slice_index_or disk lba [])))
-
--- the places of one piece
-places_of-one : (piece : Piece) → places_of (piece ∷ []) ≡ places_of_piece piece
-places_of-one piece = append-nil (places_of_piece piece)
 
 -- an element of a list with one set
 get_or-set_here : {A : Type 0} (xs : List A) (at : ℕ) (x : A) (i : ℕ) (d : A) → at < length xs → i ≡ at → get_or (set xs at x) i d ≡ cond (i == at) x (get_or xs i d)
@@ -66,52 +73,76 @@ written-set disk lba bytes below = fun_ext (λ at. fun_ext (λ offset.
     ])))
 
 -- a block that was read into the buffer is one moved unit
-pub read-moved : (memory new : List ℕ) (disk : List (List ℕ)) (kept marks : List Bool) (piece : Piece) (index lba : ℕ) (fua : Bool)
+pub read-moved : (memory new : List ℕ) (disk : List (List ℕ)) (kept marks : List Bool) (places : List Place) (index lba : ℕ) (fua : Bool)
     → length (slice_index_or disk lba []) ≡ 512
-    → byte_in new ≡ scattered (byte_in memory) (take 512 (drop (512 * index) (places_of_piece piece))) (slice_index_or disk lba [])
+    → byte_in new ≡ scattered (byte_in memory) places (slice_index_or disk lba [])
     → (λ b. slice_index_or marks b false) ≡ marked (λ b. slice_index_or kept b false) lba (slice_index_or kept lba false || fua)
-    → moved_of (flat new disk marks) false
-    ≡ moved_on (OneBlock index lba) (block_work Read (piece ∷ []) fua) (moved_of (flat memory disk kept) false)
+    → (pieces : List Piece) (differed : Bool) → places ≡ drop (512 * index) (places_of pieces)
+    → moved_of (flat new disk marks) differed
+    ≡ moved_on (OneBlock index lba) (block_work Read pieces fua) (moved_of (flat memory disk kept) differed)
 unfolding moved_of
-read-moved memory new disk kept marks piece index lba fua sized scatter mark =
-    moved (byte_in new) _ (byte_of_block disk) (byte_of_block disk) _ _ false
+read-moved memory new disk kept marks places index lba fua sized scatter mark pieces differed at =
+    moved (byte_in new) _ (byte_of_block disk) (byte_of_block disk) _ _ differed (differed || false)
     (scatter
-    ∙ ap (λ (ps : List Place). scattered (byte_in memory) (take 512 (drop (512 * index) ps)) (slice_index_or disk lba [])) (sym (places_of-one piece))
-    ∙ ap (scattered (byte_in memory) (take 512 (drop (512 * index) (places_of (piece ∷ []))))) (sym (block_bytes-list disk lba sized)))
-    refl mark
+    ∙ ap (λ (ps : List Place). scattered (byte_in memory) ps (slice_index_or disk lba [])) at
+    ∙ sym (scattered-take (byte_in memory) 512 (drop (512 * index) (places_of pieces)) (slice_index_or disk lba []) sized)
+    ∙ ap (scattered (byte_in memory) (take 512 (drop (512 * index) (places_of pieces)))) (sym (block_bytes-list disk lba sized)))
+    refl mark (sym (or-false differed))
 
 -- a block that was written from the buffer is one moved unit
-pub write-moved : (memory : List ℕ) (disk : List (List ℕ)) (kept : List Bool) (piece : Piece) (index lba : ℕ) (bytes : List ℕ) (fua : Bool)
+pub write-moved : (memory : List ℕ) (disk : List (List ℕ)) (kept : List Bool) (places : List Place) (index lba : ℕ) (bytes : List ℕ) (fua : Bool)
     → lba < length disk → lba < length kept
-    → bytes ≡ gathered (byte_in memory) (take 512 (drop (512 * index) (places_of_piece piece)))
-    → moved_of (flat memory (set disk lba bytes) (set kept lba fua)) false
-    ≡ moved_on (OneBlock index lba) (block_work Write (piece ∷ []) fua) (moved_of (flat memory disk kept) false)
+    → bytes ≡ gathered (byte_in memory) (take 512 places)
+    → (pieces : List Piece) (differed : Bool) → places ≡ drop (512 * index) (places_of pieces)
+    → moved_of (flat memory (set disk lba bytes) (set kept lba fua)) differed
+    ≡ moved_on (OneBlock index lba) (block_work Write pieces fua) (moved_of (flat memory disk kept) differed)
 unfolding moved_of
-write-moved memory disk kept piece index lba bytes fua block mark gather =
-    moved (byte_in memory) _ (byte_of_block (set disk lba bytes)) _ _ _ false
+write-moved memory disk kept places index lba bytes fua block mark gather pieces differed at =
+    moved (byte_in memory) _ (byte_of_block (set disk lba bytes)) _ _ _ differed (differed || false)
     refl
     (written-set disk lba bytes block
-    ∙ ap (block_written (byte_of_block disk) lba)
-    (gather ∙ ap (λ (ps : List Place). gathered (byte_in memory) (take 512 (drop (512 * index) ps))) (sym (places_of-one piece))))
-    (marked-set kept lba fua mark)
+    ∙ ap (block_written (byte_of_block disk) lba) (gather ∙ ap (λ (ps : List Place). gathered (byte_in memory) (take 512 ps)) at))
+    (marked-set kept lba fua mark) (sym (or-false differed))
+
+-- two lists of bytes differ where they are not equal byte by byte
+pub differs-pointwise : (xs ys : List ℕ) → differs xs ys ≡ not (pointwise nat_eq xs ys)
+unfolding differs
+differs-pointwise [] [] = refl
+differs-pointwise [] (y ∷ ys) = refl
+differs-pointwise (x ∷ xs) [] = refl
+differs-pointwise (x ∷ xs) (y ∷ ys) = ap (λ (b : Bool). not (x == y) || b) (differs-pointwise xs ys) ∙ not-and (x == y) (pointwise nat_eq xs ys)
+  where
+    not-and : (a b : Bool) → not a || not b ≡ not (a && b)
+    not-and true b = refl
+    not-and false b = refl
+
+-- a block that was compared with the buffer is one moved unit
+pub compare-moved : (memory : List ℕ) (disk : List (List ℕ)) (kept marks : List Bool) (places : List Place) (index lba : ℕ) (bytes : List ℕ) (fua unlike : Bool)
+    → length (slice_index_or disk lba []) ≡ 512
+    → bytes ≡ gathered (byte_in memory) (take 512 places)
+    → differs bytes (slice_index_or disk lba []) ≡ unlike
+    → (λ b. slice_index_or marks b false) ≡ marked (λ b. slice_index_or kept b false) lba (slice_index_or kept lba false || fua)
+    → (pieces : List Piece) (differed : Bool) → places ≡ drop (512 * index) (places_of pieces)
+    → moved_of (flat memory disk marks) (differed || unlike)
+    ≡ moved_on (OneBlock index lba) (block_work Compare pieces fua) (moved_of (flat memory disk kept) differed)
+unfolding moved_of
+compare-moved memory disk kept marks places index lba bytes fua unlike sized gather differ mark pieces differed at =
+    moved (byte_in memory) _ (byte_of_block disk) _ _ _ (differed || unlike) _
+    refl refl mark
+    (ap (λ (b : Bool). differed || b)
+    (sym differ
+    ∙ ap (λ (xs : List ℕ). differs xs (slice_index_or disk lba [])) (gather ∙ ap (λ (ps : List Place). gathered (byte_in memory) (take 512 ps)) at)
+    ∙ ap (differs (gathered (byte_in memory) (take 512 (drop (512 * index) (places_of pieces))))) (sym (block_bytes-list disk lba sized))))
 
 -- marks that stay, or rise, as a set FUA bit says
 pub marks-raised : (kept : List Bool) (lba : ℕ) → lba < length kept
     → (λ b. slice_index_or (set kept lba true) b false) ≡ marked (λ b. slice_index_or kept b false) lba (slice_index_or kept lba false || true)
 marks-raised kept lba below = marked-set kept lba true below ∙ ap (marked (λ b. slice_index_or kept b false) lba) (sym (or-true (slice_index_or kept lba false)))
-  where
-    or-true : (b : Bool) → b || true ≡ true
-    or-true true = refl
-    or-true false = refl
 
 pub marks-same : (kept : List Bool) (lba : ℕ)
     → (λ b. slice_index_or kept b false) ≡ marked (λ b. slice_index_or kept b false) lba (slice_index_or kept lba false || false)
 marks-same kept lba = fun_ext (λ b. elim (cases_eq b lba) [ inl same ↦ here b same | inr other ↦ there b other ])
   where
-    or-false : (b : Bool) → b || false ≡ b
-    or-false true = refl
-    or-false false = refl
-
     here : (b : ℕ) → b ≡ lba → slice_index_or kept b false ≡ marked (λ b. slice_index_or kept b false) lba (slice_index_or kept lba false || false) b
     here b same =
         elim (b == lba) as (λ test. slice_index_or kept b false ≡ cond test (slice_index_or kept lba false || false) (slice_index_or kept b false)) [
@@ -142,6 +173,32 @@ units_from-enumerated index lba (suc n) = ap (λ (units : List WorkUnit). OneBlo
 pub block_units-range : (lba n : ℕ) → block_units (range_with_len lba n) ≡ units_from 0 lba n
 unfolding block_units
 block_units-range lba n = units_from-enumerated 0 lba n
+
+-- ---- blocks that become zeros
+
+-- one block is cleared
+pub clear-set : (memory : List ℕ) (disk : List (List ℕ)) (kept : List Bool) (lba : ℕ) (mark differed : Bool) → lba < length disk → lba < length kept
+    → moved_of (flat memory (set disk lba (replicate 512 0)) (set kept lba mark)) differed ≡ clear lba mark (moved_of (flat memory disk kept) differed)
+unfolding moved_of
+clear-set memory disk kept lba mark differed block below =
+    moved (byte_in memory) (byte_in memory) _ _ _ _ differed differed refl (written-set disk lba (replicate 512 0) block) (marked-set kept lba mark below) refl
+
+-- one more block, and then those behind it
+pub cleared-more : (mark : Bool) (m : Moved) (start left n : ℕ) → left ≡ suc n
+    → cleared (range_with_len start left) mark m ≡ cleared (range_with_len (start + 1) n) mark (clear start mark m)
+unfolding cleared
+cleared-more mark m start left n e = rw e refl
+
+-- the end of a loop over blocks
+pub cleared-none : (mark : Bool) (m : Moved) (start left : ℕ) → left ≡ 0 → cleared (range_with_len start left) mark m ≡ m
+unfolding cleared
+cleared-none mark m start left e = rw e refl
+
+-- blocks in two parts
+pub cleared-append : (first rest : List ℕ) (mark : Bool) (m : Moved) → cleared (first ++ rest) mark m ≡ cleared rest mark (cleared first mark m)
+unfolding cleared
+cleared-append [] rest mark m = refl
+cleared-append (lba ∷ first) rest mark m = cleared-append first rest mark (clear lba mark m)
 
 -- one more block of a loop over them
 pub blocks-step : (work : Work) (done m n : Moved) (index slba count : ℕ) → index < count

@@ -1,9 +1,5 @@
--- The verdict on a command whose list is its own descriptor
-use Rattle.std.proofs.Common.{◌≡◌, ℕ, zero, suc, ◌+◌, ◌-◌, ◌*◌, ◌<◌, ◌≤◌, Bool, true, false, not, ◌&&◌, ◌||◌, ◌==◌, nat_lt, cond, Option, Some, None, Result, Ok, Err, List, [], ◌∷◌, ◌++◌, ◌⊎◌, inl, inr, length, refl, sym, ap, subst, ◌∙◌, arith}
-use Rattle.std.proofs.lemmas.Bool.Decides.{nat_tests}
-use Rattle.nv_entry.specs.Descriptor.{address_of, descriptor_type, length_of, subtype_of, type_of}
-use Rattle.nv_entry.specs.declared.descriptor_type.DescriptorType.{DescriptorType}
-use Rattle.nv_entry.specs.declared.descriptor_type.DescriptorType.TheVariants.{DataBlock}
+-- The verdict on a command
+use Rattle.std.proofs.Common.{◌≡◌, ℕ, Bool, true, false, not, ◌&&◌, ◌==◌, nat_lt, cond, Option, Some, None, Ok, Err, List, [], ◌∷◌, refl, sym, ap, subst, ◌∙◌}
 use Rattle.nv_entry.specs.Opcode.{io_opcode, data_pointer}
 use Rattle.nv_entry.specs.Submission.{opcode_of, psdt_of, sgl_of, fuse_of, slba_of, nsid_of}
 use Rattle.nv_entry.specs.Status.{StatusField}
@@ -12,17 +8,15 @@ use Rattle.nv_entry.specs.declared.data_pointer.DataPointer.{DataPointer}
 use Rattle.nv_entry.specs.declared.data_pointer.DataPointer.TheVariants.{Prp, Reserved, Sgl}
 use Rattle.nv_entry.specs.declared.opcode.IoOpcode.{IoOpcode}
 use Rattle.nv_entry.specs.declared.status_code.StatusCode.{StatusCode}
-use Rattle.nv_entry.specs.declared.status_code.StatusCode.TheVariants.{DataTransferError, InvalidField, InvalidNamespace, InvalidOpcode, LbaOutOfRange, SglTypeInvalid}
+use Rattle.nv_entry.specs.declared.status_code.StatusCode.TheVariants.{InvalidField, InvalidNamespace, LbaOutOfRange}
 use Rattle.nv_judge.specs.declared.need.Need.{Need}
 use Rattle.nv_judge.specs.Need.{field_verdict, need_of, verdict_by}
-use Rattle.nv_mem.specs.GuestMap.{everywhere}
-use Rattle.nv_mem.specs.declared.piece.Piece.{Piece}
 use Rattle.nv_ns.specs.BlockRange.{in_namespace}
 use Rattle.nv_model.specs.Dialogue.{Dialogue, End, and_then, in_memory}
 use Rattle.nv_model.proofs.DialogueLemmas.{in_memory-and_then}
-use Rattle.nv_model.specs.Reading.{Reading, Faulty, Spells, first_failing, run, unless_faulty}
-use Rattle.nv_model.specs.Sgl.{array_by, behind_own, fault_by, pieces_by, read_array, read_sgl}
-use Rattle.nv_model.specs.Judge.{Verdict, Refuse, Go, command_checks, count_of, field_refusal, has_blocks, has_buffer, is_read, judge, judge_by, judge_fields, judge_reading, most_blocks, read_buffer, read_by, refusal_by_opcode, sized, transfer_len, units_of, work_of}
+use Rattle.nv_model.specs.Reading.{Reading, first_failing}
+use Rattle.nv_model.specs.Sgl.{read_sgl}
+use Rattle.nv_model.specs.Judge.{Verdict, Refuse, Go, count_of, field_refusal, has_blocks, has_buffer, is_read, judge, judge_by, judge_fields, judge_reading, most_blocks, read_buffer, read_by, refusal_by_opcode, sized, transfer_len, units_of, work_of}
 use Rattle.nv_model.specs.Private.{Shape, verdict_in}
 
 -- ---- the fields
@@ -94,44 +88,18 @@ verdict-listed shape memory entry opcode reading none known buffer pointer read 
     ∙ ap (λ (r : Reading). in_memory memory (judge_reading shape.blocks entry opcode r)) read_it in
     subst ByFields (sym none) (subst ByOpcode (sym known) (subst ByBuffer (sym buffer) whole))
 
--- ---- a list that is its own descriptor
-
--- what a list is whose own descriptor is of this kind: a fault, or its run
-OwnBlock : (ℕ → Bool) → Bool → (budget : ℕ) → List ℕ → Option DescriptorType → Type 0
-OwnBlock mapped dest budget own kind =
-    ((code : StatusCode) × (own_reading ≡ End (Faulty code)))
-    ⊎ ((everywhere mapped (address_of own) (length_of own) ≡ true) × (own_reading ≡ End (Spells (run (address_of own) (length_of own)))))
-  where
-    own_reading : Dialogue Reading
-    own_reading =
-        unless_faulty (fault_by kind mapped behind_own own)
-        (read_array mapped dest budget (array_by kind behind_own own).left (array_by kind behind_own own).from (array_by kind behind_own own).by_last
-        ([] ++ pieces_by kind dest own))
-
--- a Data Block that is mapped, or isn't
-own-mapped : (mapped : ℕ → Bool) (dest : Bool) (budget : ℕ) (own : List ℕ) (inside : Bool)
-    → everywhere mapped (address_of own) (length_of own) ≡ inside → OwnBlock mapped dest budget own (Some DataBlock)
-unfolding OwnBlock read_array
-own-mapped mapped dest budget own true e =
-    inr (e, ap (λ (b : Bool). unless_faulty (first_failing ((not b, DataTransferError) ∷ [])) (read_array mapped dest budget 0 0 false (run (address_of own) (length_of own)))) e)
-own-mapped mapped dest budget own false e =
-    inl (DataTransferError, ap (λ (b : Bool). unless_faulty (first_failing ((not b, DataTransferError) ∷ [])) (read_array mapped dest budget 0 0 false (run (address_of own) (length_of own)))) e)
-
--- a descriptor of the type of a Data Block, whose subtype is Address or another
-own-kind : (mapped : ℕ → Bool) (dest : Bool) (budget : ℕ) (own : List ℕ) (addressed : Bool) → OwnBlock mapped dest budget own (cond addressed (Some DataBlock) None)
-unfolding OwnBlock
-own-kind mapped dest budget own true = own-mapped mapped dest budget own (everywhere mapped (address_of own) (length_of own)) refl
-own-kind mapped dest budget own false = inl (SglTypeInvalid, refl)
-
--- the reading of a descriptor whose type is that of a Data Block: a fault, or its run
-pub own-block : (mapped : ℕ → Bool) (dest : Bool) (limit : ℕ) (own : List ℕ) → 0 < limit → type_of own ≡ 0
-    → ((code : StatusCode) × (read_sgl mapped dest limit own ≡ End (Faulty code)))
-    ⊎ ((everywhere mapped (address_of own) (length_of own) ≡ true) × (read_sgl mapped dest limit own ≡ End (Spells (run (address_of own) (length_of own)))))
-unfolding OwnBlock read_sgl
-own-block mapped dest zero own some block = absurd (omega arith)
-own-block mapped dest (suc budget) own some block =
-    let P : ℕ → Type 0 = λ t. OwnBlock mapped dest budget own (cond (subtype_of own == 0) (descriptor_type t) None) in
-    subst P (sym block) (own-kind mapped dest budget own (subtype_of own == 0))
+-- a command without a buffer, whose fields are in order
+pub verdict-unlisted : (shape : Shape) (memory : ℕ → ℕ) (entry : List ℕ) (opcode : IoOpcode)
+    → field_refusal shape.blocks entry ≡ None → io_opcode (opcode_of entry) ≡ Some opcode → has_buffer opcode ≡ false
+    → verdict_in shape memory entry ≡ Go (work_of opcode entry [] (units_of shape.blocks opcode entry))
+unfolding judge in_memory
+verdict-unlisted shape memory entry opcode none known buffer =
+    let target : Verdict = Go (work_of opcode entry [] (units_of shape.blocks opcode entry)) in
+    let listed : Dialogue Verdict = and_then (read_buffer shape.mapped shape.limit opcode entry) (judge_reading shape.blocks entry opcode) in
+    let ByFields : Option StatusCode → Type 0 = λ o. in_memory memory (judge_fields o shape.mapped shape.limit shape.blocks entry) ≡ target in
+    let ByOpcode : Option IoOpcode → Type 0 = λ o. in_memory memory (judge_by o shape.mapped shape.limit shape.blocks entry) ≡ target in
+    let ByBuffer : Bool → Type 0 = λ b. in_memory memory (cond b listed (End target)) ≡ target in
+    subst ByFields (sym none) (subst ByOpcode (sym known) (subst ByBuffer (sym buffer) refl))
 
 -- ---- the blocks
 

@@ -1,4 +1,5 @@
 pub mod Flat
 pub mod Buffer
-pub mod One
 pub mod Listed
+pub mod One
+pub mod Transfer

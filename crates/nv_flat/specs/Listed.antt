@@ -1,13 +1,41 @@
--- What the code makes of a list that is its own descriptor
-use Rattle.std.specs.Prelude.{◌≡◌, ℕ, [], ◌∷◌}
-use Rattle.nv_entry.specs.StatusCode.{refused_with}
-use Rattle.nv_entry.specs.declared.status_code.StatusCode.{StatusCode}
-use Rattle.nv_mem.specs.declared.piece.Piece.TheVariants as piece
-use Rattle.nv_model.specs.Reading.{Reading, Faulty, Spells}
-use Rattle.nv_flat.specs.declared.one.Listed.{Listed}
-use Rattle.nv_flat.specs.declared.one.Listed.TheVariants.{Refused, Run}
+-- What a command's list says
+use Rattle.std.specs.Prelude.{◌≡◌, ℕ, ◌+◌, ◌<◌, ◌≤◌, List, length, Option, Some, None}
+use Rattle.nv_entry.specs.Status.{StatusField}
+use Rattle.nv_entry.specs.StatusCode.{done_with, refused_with}
+use Rattle.nv_entry.specs.Submission.{sgl_of}
+use Rattle.nv_entry.specs.declared.status_code.StatusCode.TheVariants.{InternalError}
+use Rattle.nv_judge.specs.declared.need.Need.{Need}
+use Rattle.nv_mem.specs.GuestMap.{mapped}
+use Rattle.nv_model.specs.Dialogue.{Dialogue, End, and_then, in_memory}
+use Rattle.nv_model.specs.Judge.{sized}
+use Rattle.nv_model.specs.Reading.{Reading, Faulty, TooLong, Spells}
+use Rattle.nv_model.specs.Sgl.{read_sgl}
+use Rattle.nv_flat.specs.Flat.{Flat, byte_in, identity_map}
+use Rattle.nv_flat.specs.declared.lists.Listed.{Listed}
+use Rattle.nv_flat.specs.declared.lists.Listed.TheVariants.{Refused, Named}
 
--- refused with the code of the fault, or the one run that the list spells
+-- the reading of a command's own descriptor and what it leads to, in a memory of that size, for the transfer that the command needs
+abbrev pub sgl_dialogue : (size : ℕ) → List ℕ → Need → Dialogue Reading
+sgl_dialogue size entry need =
+    and_then (read_sgl (mapped (identity_map size).regions) need.dest 1024 (sgl_of entry)) (λ reading. End (sized need.bytes reading))
+
+-- the same, as it ends in the memory
+abbrev pub sgl_reading : Flat → List ℕ → Need → Reading
+sgl_reading f entry need = in_memory (byte_in f.memory) (sgl_dialogue (length f.memory) entry need)
+
+-- the status with which a reading refuses
+abbrev pub refusal_of_reading : Reading → Option StatusField
+refusal_of_reading (Faulty code) = Some (refused_with code)
+refusal_of_reading TooLong = Some (done_with InternalError)
+refusal_of_reading (Spells pieces) = None
+
+-- refused as the reading says, or the places that it spells
 abbrev pub IsListed : Listed → Reading → Type 0
-IsListed (Refused st) reading = (code : StatusCode) × ((reading ≡ Faulty code) × (st ≡ refused_with code))
-IsListed (Run addr len) reading = reading ≡ Spells (piece.Run addr len ∷ [])
+IsListed (Refused st) reading = refusal_of_reading reading ≡ Some st
+IsListed (Named places) reading = reading ≡ Spells places
+
+-- some bytes of a list lie in the memory, 4,096 at most
+pub record IsThere (memory : List ℕ) (addr len : ℕ) : Type 0 where
+  pub some : 0 < len
+  pub at_most : len ≤ 4096
+  pub inside : addr + len ≤ length memory

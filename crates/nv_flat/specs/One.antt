@@ -1,19 +1,19 @@
 -- One command on the flat controller
-use Rattle.std.specs.Prelude.{◌≡◌, ℕ, Bool, true, false, not, ◌&&◌, ◌||◌, ◌==◌, if◌then◌else◌, List, [], ◌∷◌, length, Option, Some, None, is_none}
+use Rattle.std.specs.Prelude.{◌≡◌, ℕ, Bool, true, false, not, ◌&&◌, ◌==◌, List, [], ◌∷◌, length, Option, Some, None, is_none}
 use Rattle.std.specs.List.{slice_index_or}
-use Rattle.nv_entry.specs.Descriptor.{type_of}
 use Rattle.nv_entry.specs.Opcode.{io_opcode}
 use Rattle.nv_entry.specs.Status.{StatusField}
-use Rattle.nv_entry.specs.StatusCode.{done_with, refused_with}
-use Rattle.nv_entry.specs.Submission.{opcode_of, psdt_of, sgl_of}
+use Rattle.nv_entry.specs.StatusCode.{done_with}
+use Rattle.nv_entry.specs.Submission.{opcode_of, psdt_of}
 use Rattle.nv_entry.specs.declared.opcode.IoOpcode.{IoOpcode}
-use Rattle.nv_entry.specs.declared.opcode.IoOpcode.TheVariants.{Flush, Write, Read, Compare, WriteZeroes, DatasetManagement}
 use Rattle.nv_entry.specs.declared.status_code.StatusCode.TheVariants.{InternalError}
 use Rattle.nv_mem.specs.GuestMap.{mapped}
 use Rattle.nv_model.specs.Controller.{opening}
-use Rattle.nv_model.specs.Judge.{field_refusal}
+use Rattle.nv_model.specs.Judge.{field_refusal, has_buffer}
 use Rattle.nv_model.specs.Private.{Private, Shape, Taken, Unjudged}
 use Rattle.nv_model.specs.Carried.{IsCarriedOut}
+use Rattle.nv_judge.specs.declared.need.Need.{Need}
+use Rattle.nv_judge.specs.Need.{need_of}
 use Rattle.nv_flat.specs.Flat.{Flat, byte_in, byte_of_block, identity_map}
 
 -- the flat controller as a private controller with these commands taken
@@ -41,19 +41,14 @@ pub record IsRun (old : Flat) (entry : List ℕ) (st : StatusField) (new : Flat)
   pub after : Taken
   pub carried : IsCarriedOut (shape_of old) (private_of old (newly_taken entry ∷ [])) (newly_taken entry) st (private_of new (after ∷ []))
 
--- whether the opcode is that of a command that is built
-abbrev pub is_transfer : Option IoOpcode → Bool
-is_transfer (Some Read) = true
-is_transfer (Some Write) = true
-is_transfer (Some Compare) = false
-is_transfer (Some WriteZeroes) = false
-is_transfer (Some Flush) = false
-is_transfer (Some DatasetManagement) = false
-is_transfer None = false
+-- whether a command has a buffer, whose list is read
+abbrev pub needs_list : Option IoOpcode → Bool
+needs_list (Some opcode) = has_buffer opcode
+needs_list None = false
 
--- whether a command is built: a Read or Write by an SGL whose own descriptor is of the type of a Data Block
+-- whether a command is built: any but one whose buffer is named by PRPs
 abbrev pub is_built : List ℕ → Bool
-is_built entry = is_transfer (io_opcode (opcode_of entry)) && not (psdt_of entry == 0) && type_of (sgl_of entry) == 0
+is_built entry = not (needs_list (io_opcode (opcode_of entry)) && psdt_of entry == 0)
 
 -- a command whose fields are in order, but which is not built yet, is answered Internal Error and changes nothing; any other ends as
 -- a run of the private controller says
@@ -63,5 +58,12 @@ IsOutcome false true old entry st new = IsRun old entry st new
 IsOutcome true false old entry st new = IsRun old entry st new
 IsOutcome true true old entry st new = IsRun old entry st new
 
-abbrev pub IsDone : Flat → List ℕ → StatusField → Flat → Type 0
-IsDone old entry st new = IsOutcome (is_built entry) (not (is_none (field_refusal (length old.disk) entry))) old entry st new
+-- the outcome of a command, where this says which commands are built
+abbrev pub IsDone : (built : List ℕ → Bool) → Flat → List ℕ → StatusField → Flat → Type 0
+IsDone built old entry st new = IsOutcome (built entry) (not (is_none (field_refusal (length old.disk) entry))) old entry st new
+
+-- a command whose fields are in order in a namespace of `blocks` blocks: its opcode, and what it needs
+pub record IsInOrder (blocks : ℕ) (entry : List ℕ) (opcode : IoOpcode) (need : Need) : Type 0 where
+  pub unrefused : field_refusal blocks entry ≡ None
+  pub known : io_opcode (opcode_of entry) ≡ Some opcode
+  pub needs : need ≡ need_of entry opcode

@@ -1,33 +1,159 @@
-//! The bytes of a command's buffer, piece by piece.
+//! The buffer of a command, whose bytes go to or come from its places in order.
 
-ghost use Rattle.std.specs.Prelude.{◌≡◌, ◌+◌, ◌≤◌, ℕ, length, take, drop};
+ghost use Rattle.std.specs.Prelude.{◌≡◌, ◌++◌, ◌+◌, ◌<◌, ◌≤◌, ◌^◌, [], ℕ, length, take, drop, min, MatchOption};
 ghost use Rattle.nv_model.specs.Memory.{gathered, scattered};
-ghost use Rattle.nv_mem.specs.Places.{piece_len, places_of_piece};
-ghost use Rattle.nv_flat.specs.Buffer.{InSize};
+ghost use Rattle.nv_mem.specs.Places.{piece_len, places_of, places_of_piece};
+ghost use Rattle.nv_flat.specs.Buffer.{AreBelow, IsFront};
 ghost use Rattle.nv_flat.specs.Flat.{byte_in};
 
-use nv_mem::{Host, Piece};
+use nv_mem::{Host, Piece, Places};
+use std::marker::Model;
 
-/// Gives bytes to the places of one piece, from its byte `at` on.
-pub(crate) fn put(memory: &mut Host, piece: &Piece, at: u64, bytes: &[u8])
-    requires in_memory { InSize (length memory.old) piece.now }
-    requires in_piece { at + length bytes.now ≤ piece_len piece.now }
-    ensures memory { byte_in memory.new ≡ scattered (byte_in memory.old) (take (length bytes.now) (drop at (places_of_piece piece.now))) bytes.now }
+/// What is left of a command's buffer. A contract sees it as the places that are left, in order.
+#[derive(Drop)]
+pub(crate) struct Buffer<'a> {
+    /// What is left of the piece that is under way.
+    under_way: Piece,
+    /// The pieces behind it.
+    behind: &'a [Piece],
+}
+
+impl<'a> Model for Buffer<'a> {
+    ghost use Rattle.std.specs.Prelude.{List, ◌++◌};
+    ghost use Rattle.nv_mem.specs.Places.{Place, places_of, places_of_piece};
+
+    ghost Value = { List Place };
+
+    ghost view = { λ b. places_of_piece b.under_way ++ places_of b.behind.now };
+}
+
+impl<'a> Buffer<'a> {
+    /// The whole buffer.
+    pub(crate) fn new(places: &'a Places) -> Self
+        ensures { result ≡ places_of places.now }
+    {
+        Buffer {
+            under_way: Piece::Bucket { len: 0 },
+            behind: places.pieces(),
+        }
+    }
+
+    /// Takes the front of what is left: a piece of at least one byte, and of `most` bytes at most. None where nothing is left.
+    fn take_front(&mut self, most: u64) -> Option<Piece>
+        requires some { 0 < most }
+        requires in_range { AreBelow (2 ^ 64) self.old }
+        ensures { MatchOption result ((self.old ≡ []) × (self.new ≡ [])) (λ piece. IsFront self.old most piece self.new) }
+    {
+        let mut piece = self.under_way;
+        let mut behind = self.behind;
+        while len_of(&piece) == 0 {
+            let (first, rest) = behind.split_first()?;
+            piece = *first;
+            behind = rest;
+        }
+        let (front, rest) = cut(piece, most);
+        self.under_way = rest;
+        self.behind = behind;
+        Some(front)
+    }
+
+    /// Gives the bytes to the first of the places that are left, and goes on behind these.
+    pub(crate) fn put(&mut self, memory: &mut Host, bytes: &[u8])
+        requires in_memory { AreBelow (length memory.old) self.old }
+        ensures memory { byte_in memory.new ≡ scattered (byte_in memory.old) self.old bytes.now }
+        ensures size { length memory.new ≡ length memory.old }
+        ensures rest { self.new ≡ drop (length bytes.now) self.old }
+    {
+        // An address of the memory fits in 64 bits, and so does the end of a run.
+        let _size = memory.len();
+        let mut rest = bytes;
+        while !rest.is_empty() {
+            let Some(piece) = self.take_front(rest.len() as u64) else {
+                return;
+            };
+            let (bytes, behind) = rest.split_at(len_of(&piece) as usize);
+            store(memory, &piece, bytes);
+            rest = behind;
+        }
+    }
+
+    /// Takes the bytes from the first of the places that are left, and goes on behind these.
+    pub(crate) fn fetch(&mut self, memory: &Host, out: &mut [u8])
+        requires in_memory { AreBelow (length memory.now) self.old }
+        requires enough { length out.old ≤ length self.old }
+        ensures bytes { out.new ≡ gathered (byte_in memory.now) (take (length out.old) self.old) }
+        ensures rest { self.new ≡ drop (length out.old) self.old }
+    {
+        // An address of the memory fits in 64 bits, and so does the end of a run.
+        let _size = memory.len();
+        let mut done = 0;
+        while done < out.len() {
+            let Some(piece) = self.take_front((out.len() - done) as u64) else {
+                unreachable!()
+            };
+            let end = done + len_of(&piece) as usize;
+            load(memory, &piece, &mut out[done..end]);
+            done = end;
+        }
+    }
+}
+
+/// How many bytes a piece names.
+fn len_of(piece: &Piece) -> u64
+    ensures { result ≡ piece_len piece.now }
+{
+    match *piece {
+        Piece::Run { len, .. } | Piece::Bucket { len } => len,
+    }
+}
+
+/// The front of a piece, `most` bytes at most, and what is left of it.
+fn cut(piece: Piece, most: u64) -> (Piece, Piece)
+    requires in_range { AreBelow (2 ^ 64) (places_of_piece piece) }
+    ensures places { places_of_piece piece ≡ places_of_piece result.0 ++ places_of_piece result.1 }
+    ensures front { piece_len result.0 ≡ min most (piece_len piece) }
+{
+    if len_of(&piece) <= most {
+        return (piece, Piece::Bucket { len: 0 });
+    }
+    match piece {
+        Piece::Run { addr, len } => (
+            Piece::Run { addr, len: most },
+            Piece::Run {
+                addr: addr + most,
+                len: len - most,
+            },
+        ),
+        Piece::Bucket { len } => (
+            Piece::Bucket { len: most },
+            Piece::Bucket { len: len - most },
+        ),
+    }
+}
+
+/// Gives bytes to the places of a piece, as many as it has.
+fn store(memory: &mut Host, piece: &Piece, bytes: &[u8])
+    requires in_memory { AreBelow (length memory.old) (places_of_piece piece.now) }
+    requires whole { length bytes.now ≡ piece_len piece.now }
+    requires some { 0 < piece_len piece.now }
+    ensures memory { byte_in memory.new ≡ scattered (byte_in memory.old) (places_of_piece piece.now) bytes.now }
     ensures size { length memory.new ≡ length memory.old }
 {
-    let _size = memory.len();
     match *piece {
-        Piece::Run { addr, .. } => memory.store(addr + at, bytes),
+        Piece::Run { addr, .. } => memory.store(addr, bytes),
         Piece::Bucket { .. } => {}
     }
 }
 
-/// Reads the bytes at the places of one piece, from its byte `at` on. A bucket has none to read.
-pub(crate) fn fetch(memory: &Host, addr: u64, len: u64, at: u64, out: &mut [u8])
-    requires in_memory { addr + len ≤ length memory.now }
-    requires in_run { at + length out.old ≤ len }
-    ensures { out.new ≡ gathered (byte_in memory.now) (take (length out.old) (drop at (places_of_piece (Piece.Run addr len)))) }
+/// Takes the bytes from the places of a piece. A bucket has none to take: a source names no buckets.
+fn load(memory: &Host, piece: &Piece, out: &mut [u8])
+    requires in_memory { AreBelow (length memory.now) (places_of_piece piece.now) }
+    requires whole { length out.old ≡ piece_len piece.now }
+    requires some { 0 < piece_len piece.now }
+    ensures { out.new ≡ gathered (byte_in memory.now) (places_of_piece piece.now) }
 {
-    let _size = memory.len();
-    memory.load(addr + at, out);
+    match *piece {
+        Piece::Run { addr, .. } => memory.load(addr, out),
+        Piece::Bucket { .. } => out.fill(0),
+    }
 }

@@ -3,9 +3,12 @@
 
 mod buffer;
 mod controller;
+mod dataset;
+mod lists;
 mod moves;
 mod one;
 #[cfg(test)]
 mod tests;
+mod transfer;
 
 pub use controller::FlatController;

@@ -1,119 +1,132 @@
-//! Blocks that move between the disk and a buffer.
+//! Blocks that move between the disk and a buffer, and blocks that become zeros.
 
-ghost use Rattle.std.specs.Prelude.{◌≡◌, ◌+◌, ◌*◌, ◌<◌, ◌≤◌, [], ◌∷◌, false, length};
-ghost use Rattle.nv_mem.specs.Places.{piece_len};
-ghost use Rattle.nv_model.specs.Judge.{OneBlock};
-ghost use Rattle.nv_model.specs.Carried.{moved_on, units_moved};
-ghost use Rattle.nv_flat.specs.Buffer.{InSize};
-ghost use Rattle.nv_flat.specs.Flat.{block_work, flat, moved_of, units_from};
+ghost use Rattle.std.specs.Prelude.{◌≡◌, ◌+◌, ◌*◌, ◌<◌, ◌≤◌, ℕ, Bool, List, false, length, drop};
+ghost use Rattle.std.specs.List.{range_with_len};
+ghost use Rattle.nv_mem.specs.Places.{places_of};
+ghost use Rattle.nv_mem.specs.declared.piece.Piece.{Piece};
+ghost use Rattle.nv_model.specs.Judge.{AllBlocks, OneBlock, Work};
+ghost use Rattle.nv_model.specs.Carried.{moved_on};
+ghost use Rattle.nv_flat.specs.Buffer.{AreBelow};
+ghost use Rattle.nv_flat.specs.Flat.{block_work, clear, cleared, flat, moved_of};
 
-use crate::buffer;
+use crate::buffer::Buffer;
 use nv_entry::IoOpcode;
-use nv_mem::{Host, Piece};
+use nv_mem::Host;
 
 /// The size of a logical block in bytes.
 pub(crate) const BLOCK: usize = 512;
 
-/// Moves a block to the buffer, where it is the block of this index of the transfer. A set FUA bit makes it kept.
+/// Moves a block to the next places of the buffer. A set FUA bit makes it kept.
 pub(crate) fn read_block(
     memory: &mut Host,
     disk: &[[u8; BLOCK]],
     kept: &mut [bool],
-    piece: &Piece,
-    index: u64,
+    buffer: &mut Buffer,
     lba: u64,
     fua: bool,
 )
-    requires in_memory { InSize (length memory.old) piece.now }
-    requires in_piece { 512 * index + 512 ≤ piece_len piece.now }
+    requires in_memory { AreBelow (length memory.old) buffer.old }
     requires block { lba < length disk.now }
     requires marks { length kept.old ≡ length disk.now }
-    ensures moved { moved_of (flat memory.new disk.now kept.new) false ≡
-        moved_on (OneBlock index lba) (block_work IoOpcode.Read (piece.now ∷ []) fua) (moved_of (flat memory.old disk.now kept.old) false) }
+    ensures moved { (index : ℕ) (pieces : List Piece) (differed : Bool) → buffer.old ≡ drop (512 * index) (places_of pieces) →
+        moved_of (flat memory.new disk.now kept.new) differed
+        ≡ moved_on (OneBlock index lba) (block_work IoOpcode.Read pieces fua) (moved_of (flat memory.old disk.now kept.old) differed) }
     ensures size { length memory.new ≡ length memory.old }
+    ensures rest { buffer.new ≡ drop 512 buffer.old }
 {
-    let _len = piece_len(piece);
-    buffer::put(memory, piece, 512 * index, &disk[lba as usize]);
+    buffer.put(memory, &disk[lba as usize]);
     if fua {
         kept[lba as usize] = true;
     }
 }
 
-/// Moves a block from the buffer, where it is the block of this index of the transfer. It is kept where the FUA bit is set.
+/// Moves a block from the next places of the buffer. It is kept where the FUA bit is set.
 pub(crate) fn write_block(
     memory: &Host,
     disk: &mut [[u8; BLOCK]],
     kept: &mut [bool],
-    addr: u64,
-    len: u64,
-    index: u64,
+    buffer: &mut Buffer,
     lba: u64,
     fua: bool,
 )
-    requires in_memory { addr + len ≤ length memory.now }
-    requires in_piece { 512 * index + 512 ≤ len }
+    requires in_memory { AreBelow (length memory.now) buffer.old }
+    requires enough { 512 ≤ length buffer.old }
     requires block { lba < length disk.old }
     requires marks { length kept.old ≡ length disk.old }
-    ensures moved { moved_of (flat memory.now disk.new kept.new) false ≡
-        moved_on (OneBlock index lba) (block_work IoOpcode.Write (Piece.Run addr len ∷ []) fua) (moved_of (flat memory.now disk.old kept.old) false) }
+    ensures moved { (index : ℕ) (pieces : List Piece) (differed : Bool) → buffer.old ≡ drop (512 * index) (places_of pieces) →
+        moved_of (flat memory.now disk.new kept.new) differed
+        ≡ moved_on (OneBlock index lba) (block_work IoOpcode.Write pieces fua) (moved_of (flat memory.now disk.old kept.old) differed) }
+    ensures rest { buffer.new ≡ drop 512 buffer.old }
 {
-    buffer::fetch(memory, addr, len, 512 * index, &mut disk[lba as usize]);
+    buffer.fetch(memory, &mut disk[lba as usize]);
     kept[lba as usize] = fua;
 }
 
-/// How many bytes a piece names.
-fn piece_len(piece: &Piece) -> u64
-    ensures { result ≡ piece_len piece.now }
-{
-    match *piece {
-        Piece::Run { len, .. } | Piece::Bucket { len } => len,
-    }
-}
-
-/// Moves the `count` blocks from `slba` on to a buffer of one run, in order.
-pub(crate) fn read_blocks(
-    memory: &mut Host,
+/// Compares a block with the bytes from the next places of the buffer. A set FUA bit makes it kept. It says whether the command
+/// differs, as it did before or does here.
+pub(crate) fn compare_block(
+    memory: &Host,
     disk: &[[u8; BLOCK]],
     kept: &mut [bool],
-    addr: u64,
-    len: u64,
-    slba: u64,
-    count: u64,
+    buffer: &mut Buffer,
+    lba: u64,
     fua: bool,
-)
-    requires in_memory { addr + len ≤ length memory.old }
-    requires in_run { 512 * count ≤ len }
-    requires blocks { slba + count ≤ length disk.now }
+    differed: bool,
+) -> bool
+    requires in_memory { AreBelow (length memory.now) buffer.old }
+    requires enough { 512 ≤ length buffer.old }
+    requires block { lba < length disk.now }
     requires marks { length kept.old ≡ length disk.now }
-    ensures moved { moved_of (flat memory.new disk.now kept.new) false ≡
-        units_moved (units_from 0 slba count) (block_work IoOpcode.Read (Piece.Run addr len ∷ []) fua) (moved_of (flat memory.old disk.now kept.old) false) }
-    ensures size { length memory.new ≡ length memory.old }
+    ensures moved { (index : ℕ) (pieces : List Piece) → buffer.old ≡ drop (512 * index) (places_of pieces) →
+        moved_of (flat memory.now disk.now kept.new) result
+        ≡ moved_on (OneBlock index lba) (block_work IoOpcode.Compare pieces fua) (moved_of (flat memory.now disk.now kept.old) differed) }
+    ensures rest { buffer.new ≡ drop 512 buffer.old }
 {
-    let piece = Piece::Run { addr, len };
-    for index in 0..count {
-        read_block(memory, disk, kept, &piece, index, slba + index, fua);
+    let mut bytes = [0; BLOCK];
+    buffer.fetch(memory, &mut bytes);
+    let differs = bytes != disk[lba as usize];
+    if fua {
+        kept[lba as usize] = true;
+    }
+    differed || differs
+}
+
+/// Makes the `count` blocks from `start` on zeros, and gives their marks this value.
+pub(crate) fn clear_blocks(
+    disk: &mut [[u8; BLOCK]],
+    kept: &mut [bool],
+    start: u64,
+    count: u64,
+    mark: bool,
+)
+    requires blocks { start + count ≤ length disk.old }
+    requires marks { length kept.old ≡ length disk.old }
+    ensures moved { (memory : List ℕ) (differed : Bool) → moved_of (flat memory disk.new kept.new) differed
+        ≡ cleared (range_with_len start count) mark (moved_of (flat memory disk.old kept.old) differed) }
+{
+    for lba in start..start + count {
+        clear_block(disk, kept, lba, mark);
     }
 }
 
-/// Moves the `count` blocks from `slba` on from a buffer of one run, in order.
-pub(crate) fn write_blocks(
-    memory: &Host,
-    disk: &mut [[u8; BLOCK]],
-    kept: &mut [bool],
-    addr: u64,
-    len: u64,
-    slba: u64,
-    count: u64,
-    fua: bool,
-)
-    requires in_memory { addr + len ≤ length memory.now }
-    requires in_run { 512 * count ≤ len }
-    requires blocks { slba + count ≤ length disk.old }
+/// Makes a block zeros, and gives its mark this value.
+fn clear_block(disk: &mut [[u8; BLOCK]], kept: &mut [bool], lba: u64, mark: bool)
+    requires block { lba < length disk.old }
     requires marks { length kept.old ≡ length disk.old }
-    ensures moved { moved_of (flat memory.now disk.new kept.new) false ≡
-        units_moved (units_from 0 slba count) (block_work IoOpcode.Write (Piece.Run addr len ∷ []) fua) (moved_of (flat memory.now disk.old kept.old) false) }
+    ensures moved { (memory : List ℕ) (differed : Bool) → moved_of (flat memory disk.new kept.new) differed
+        ≡ clear lba mark (moved_of (flat memory disk.old kept.old) differed) }
+    ensures disk_size { length disk.new ≡ length disk.old }
+    ensures marks_size { length kept.new ≡ length kept.old }
 {
-    for index in 0..count {
-        write_block(memory, disk, kept, addr, len, index, slba + index, fua);
-    }
+    disk[lba as usize] = [0; BLOCK];
+    kept[lba as usize] = mark;
+}
+
+/// Makes every block kept.
+pub(crate) fn keep_all(kept: &mut [bool])
+    ensures moved { (work : Work) (memory : List ℕ) (disk : List (List ℕ)) → length kept.old ≡ length disk →
+        moved_of (flat memory disk kept.new) false ≡ moved_on (AllBlocks (length disk)) work (moved_of (flat memory disk kept.old) false) }
+    ensures size { length kept.new ≡ length kept.old }
+{
+    kept.fill(true);
 }

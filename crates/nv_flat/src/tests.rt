@@ -2,6 +2,7 @@
 
 use crate::FlatController;
 use nv_entry::Sqe;
+use std::alloc::Global;
 use std::process::Abort;
 use std::test::Fail;
 
@@ -147,7 +148,7 @@ fn keeps_what_force_unit_access_says(rt: HostRuntime) -> Result<(), Fail> {
 #[test]
 fn refuses_without_a_move(rt: HostRuntime) -> Result<(), Fail> {
     // dword 3 of the completion, and what is changed of the Read
-    let table: [(u32, &[(usize, u32)]); 16] = [
+    let table: [(u32, &[(usize, u32)]); 13] = [
         (0x0001_0007, &[(10, 63)]),
         (0x8101_0007, &[(10, 63), (12, 1), (8, 0x400)]),
         (
@@ -163,11 +164,8 @@ fn refuses_without_a_move(rt: HostRuntime) -> Result<(), Fail> {
         (0x8009_0007, &[(6, 0xffc0)]),
         (0x801f_0007, &[(8, 0x400)]),
         (0x8023_0007, &[(9, 0x0100_0000)]),
-        // until lists and the other commands come
+        // until PRP lists come
         (0x000d_0007, &[(0, 0x0007_0002)]),
-        (0x000d_0007, &[(9, 0x3000_0000)]),
-        (0x000d_0007, &[(9, 0x1000_0000)]),
-        (0x000d_0007, &[(0, 0x0007_4005)]),
     ];
     for (want, changes) in table {
         let mut controller = FlatController::new(rt.alloc(), 0x1_0000, 64)?;
@@ -186,4 +184,245 @@ fn refuses_without_a_move(rt: HostRuntime) -> Result<(), Fail> {
         assert!(rt; block_is(&rt, &controller, 5, 0xab) && block_is(&rt, &controller, 63, 0xcd));
     }
     Ok(())
+}
+
+/// A descriptor of this kind, with subtype 0.
+fn descriptor(kind: u8, addr: u64, len: u32) -> [u8; 16] {
+    let mut bytes = [0; 16];
+    bytes[..8].copy_from_slice(&addr.to_le_bytes());
+    bytes[8..12].copy_from_slice(&len.to_le_bytes());
+    bytes[15] = kind << 4;
+    bytes
+}
+
+const DATA_BLOCK: u8 = 0;
+const BIT_BUCKET: u8 = 1;
+const SEGMENT: u8 = 2;
+const LAST_SEGMENT: u8 = 3;
+
+/// A controller with 20000h bytes of memory and 64 blocks, of which block 5 is filled with 55h and block 6 with 66h.
+fn prepared(rt: &impl Abort, alloc: Global) -> Result<FlatController, Fail> {
+    let mut controller = FlatController::new(alloc, 0x2_0000, 64)?;
+    assert!(rt; controller.blocks() == 64);
+    controller.paint(5, 0x55);
+    controller.paint(6, 0x66);
+    Ok(controller)
+}
+
+fn put(rt: &impl Abort, controller: &mut FlatController, addr: u64, bytes: &[u8]) {
+    assert!(rt; controller.holds(addr, bytes.len() as u64));
+    controller.store(addr, bytes);
+}
+
+/// Whether each of the 512 bytes from an address on is this one.
+fn filled(rt: &impl Abort, controller: &FlatController, addr: u64, byte: u8) -> bool {
+    let mut bytes = [0; 512];
+    assert!(rt; controller.holds(addr, 512));
+    controller.load(addr, &mut bytes);
+    bytes.iter().all(|b| *b == byte)
+}
+
+/// Runs a command and gives the last dword of its completion.
+fn last_dword(controller: &mut FlatController, alloc: Global, sqe: &Sqe) -> Result<u32, Fail> {
+    let bytes = controller.one(alloc, sqe)?.bytes();
+    Ok(u32::from_le_bytes([bytes[12], bytes[13], bytes[14], bytes[15]]))
+}
+
+/// A Read of two blocks through an array of `count` descriptors at 6000h, that a Last Segment names.
+fn through_last_segment(rt: &impl Abort, opcode: u32, count: u32) -> Sqe {
+    changed(
+        rt,
+        READ,
+        &[
+            (0, 0x0007_4000 + opcode),
+            (6, 0x6000),
+            (8, 16 * count),
+            (9, 0x3000_0000),
+            (12, 1),
+        ],
+    )
+}
+
+#[test]
+fn delivers_through_a_chain(rt: HostRuntime) -> Result<(), Fail> {
+    for second in [0x5000, 0x5200, 0x3ff0] {
+        let mut controller = prepared(&rt, rt.alloc())?;
+        put(&rt, &mut controller, 0x6000, &descriptor(DATA_BLOCK, 0x3e00, 512));
+        put(&rt, &mut controller, 0x6010, &descriptor(DATA_BLOCK, second, 512));
+        let sqe = through_last_segment(&rt, 2, 2);
+        assert_eq!(rt; last_dword(&mut controller, rt.alloc(), &sqe)?, 0x0001_0007);
+        assert!(rt; second == 0x3ff0 || filled(&rt, &controller, 0x3e00, 0x55));
+        assert!(rt; filled(&rt, &controller, second, 0x66));
+    }
+    Ok(())
+}
+
+#[test]
+fn discards_into_a_bit_bucket(rt: HostRuntime) -> Result<(), Fail> {
+    let mut controller = prepared(&rt, rt.alloc())?;
+    put(&rt, &mut controller, 0x6000, &descriptor(BIT_BUCKET, 0, 512));
+    put(&rt, &mut controller, 0x6010, &descriptor(DATA_BLOCK, 0x3000, 512));
+    let sqe = through_last_segment(&rt, 2, 2);
+    assert_eq!(rt; last_dword(&mut controller, rt.alloc(), &sqe)?, 0x0001_0007);
+    assert!(rt; filled(&rt, &controller, 0x3000, 0x66) && filled(&rt, &controller, 0x3200, 0));
+
+    // first block delivered, second discarded
+    let mut controller = prepared(&rt, rt.alloc())?;
+    put(&rt, &mut controller, 0x6000, &descriptor(DATA_BLOCK, 0x3000, 512));
+    put(&rt, &mut controller, 0x6010, &descriptor(BIT_BUCKET, 0, 512));
+    assert_eq!(rt; last_dword(&mut controller, rt.alloc(), &sqe)?, 0x0001_0007);
+    assert!(rt; filled(&rt, &controller, 0x3000, 0x55) && filled(&rt, &controller, 0x3200, 0));
+
+    // a bucket is nothing for a source: the list names half the bytes
+    let write = through_last_segment(&rt, 1, 2);
+    assert_eq!(rt; last_dword(&mut controller, rt.alloc(), &write)?, 0x801f_0007);
+    assert!(rt; block_is(&rt, &controller, 5, 0x55) && block_is(&rt, &controller, 6, 0x66));
+    Ok(())
+}
+
+#[test]
+fn answers_faulty_lists(rt: HostRuntime) -> Result<(), Fail> {
+    let block = descriptor(DATA_BLOCK, 0x3000, 512);
+    let unknown = descriptor(4, 0x3000, 512);
+    // the type of the command's own descriptor, its length, the two descriptors at 6000h, and the last dword
+    let table = [
+        (SEGMENT, 24, block, block, 0x801b_0007),
+        (SEGMENT, 32, descriptor(SEGMENT, 0x7000, 16), block, 0x801d_0007),
+        (LAST_SEGMENT, 32, descriptor(SEGMENT, 0x7000, 16), block, 0x801b_0007),
+        (4, 32, block, block, 0x8023_0007),
+        (LAST_SEGMENT, 32, descriptor(DATA_BLOCK, 0x2_0000, 512), unknown, 0x8009_0007),
+        (
+            SEGMENT,
+            32,
+            descriptor(DATA_BLOCK, 0, 0),
+            descriptor(SEGMENT, 0x6000, 32),
+            0x000d_0007,
+        ),
+    ];
+    for (kind, len, first, second, want) in table {
+        let mut controller = prepared(&rt, rt.alloc())?;
+        put(&rt, &mut controller, 0x6000, &first);
+        put(&rt, &mut controller, 0x6010, &second);
+        let own = u32::from(kind) << 28;
+        let sqe = changed(&rt, READ, &[(6, 0x6000), (8, len), (9, own)]);
+        assert_eq!(rt; last_dword(&mut controller, rt.alloc(), &sqe)?, want, "{kind} {len}");
+        assert!(rt; filled(&rt, &controller, 0x3000, 0));
+    }
+    Ok(())
+}
+
+#[test]
+fn reads_a_thousand_descriptors(rt: HostRuntime) -> Result<(), Fail> {
+    // how many descriptors the array has, the number of one of type 4h (from 1 on, 0 for none), and the last dword
+    for (count, unknown, want) in [
+        (1023, 0, 0x0001_0007),
+        (1024, 0, 0x000d_0007),
+        (1024, 1023, 0x8023_0007),
+        (1024, 1024, 0x000d_0007),
+    ] {
+        let mut controller = prepared(&rt, rt.alloc())?;
+        for number in 1..count + 1 {
+            let kind = if number == unknown { 4 } else { DATA_BLOCK };
+            let len = if number == count { 512 } else { 0 };
+            let addr = 0x8000 + 16 * (u64::from(number) - 1);
+            put(&rt, &mut controller, addr, &descriptor(kind, 0x3000, len));
+        }
+        let changes = [(6, 0x8000), (8, 16 * count), (9, 0x3000_0000)];
+        let sqe = changed(&rt, READ, &changes);
+        assert_eq!(rt; last_dword(&mut controller, rt.alloc(), &sqe)?, want);
+        let moved = want == 0x0001_0007;
+        assert!(rt; filled(&rt, &controller, 0x3000, if moved { 0x55 } else { 0 }));
+    }
+    Ok(())
+}
+
+#[test]
+fn compares(rt: HostRuntime) -> Result<(), Fail> {
+    let mut controller = prepared(&rt, rt.alloc())?;
+    put(&rt, &mut controller, 0x3000, &[0x55; 512]);
+    put(&rt, &mut controller, 0x3200, &[0x66; 511]);
+    let sqe = changed(&rt, READ, &[(0, 0x0007_4005), (8, 0x400), (12, 0x4000_0001)]);
+    assert_eq!(rt; last_dword(&mut controller, rt.alloc(), &sqe)?, 0x050b_0007);
+    // a set FUA bit makes the blocks kept, also where they differ
+    assert!(rt; is_kept(&rt, &controller, 5) && is_kept(&rt, &controller, 6));
+    assert!(rt; !is_kept(&rt, &controller, 7));
+    put(&rt, &mut controller, 0x33ff, &[0x66]);
+    assert_eq!(rt; last_dword(&mut controller, rt.alloc(), &sqe)?, 0x0001_0007);
+    put(&rt, &mut controller, 0x3000, &[0x54]);
+    assert_eq!(rt; last_dword(&mut controller, rt.alloc(), &sqe)?, 0x050b_0007);
+    assert!(rt; block_is(&rt, &controller, 5, 0x55) && block_is(&rt, &controller, 6, 0x66));
+    Ok(())
+}
+
+#[test]
+fn flushes_and_writes_zeroes(rt: HostRuntime) -> Result<(), Fail> {
+    let mut controller = prepared(&rt, rt.alloc())?;
+    // neither looks at PSDT
+    let flush = changed(&rt, READ, &[(0, 0x0007_c000)]);
+    assert_eq!(rt; last_dword(&mut controller, rt.alloc(), &flush)?, 0x0001_0007);
+    for block in 0..64 {
+        assert!(rt; is_kept(&rt, &controller, block));
+    }
+    let zeroes = changed(&rt, READ, &[(0, 0x0007_c008)]);
+    assert_eq!(rt; last_dword(&mut controller, rt.alloc(), &zeroes)?, 0x0001_0007);
+    assert!(rt; block_is(&rt, &controller, 5, 0) && block_is(&rt, &controller, 6, 0x66));
+    assert!(rt; !is_kept(&rt, &controller, 5) && is_kept(&rt, &controller, 6));
+    let kept = changed(&rt, READ, &[(0, 0x0007_c008), (12, 0x4000_0000)]);
+    assert_eq!(rt; last_dword(&mut controller, rt.alloc(), &kept)?, 0x0001_0007);
+    assert!(rt; is_kept(&rt, &controller, 5));
+    Ok(())
+}
+
+/// The 16 bytes of a range of Dataset Management.
+fn range(start: u64, blocks: u32) -> [u8; 16] {
+    let mut bytes = [0; 16];
+    bytes[4..8].copy_from_slice(&blocks.to_le_bytes());
+    bytes[8..].copy_from_slice(&start.to_le_bytes());
+    bytes
+}
+
+#[test]
+fn manages_datasets(rt: HostRuntime) -> Result<(), Fail> {
+    let mut controller = prepared(&rt, rt.alloc())?;
+    controller.paint(0, 0x11);
+    controller.paint(63, 0x77);
+    for place in 0..256u64 {
+        put(&rt, &mut controller, 0x3000 + 16 * place, &range(0, 1));
+    }
+    let whole = [(0, 0x0007_4009), (8, 4096), (10, 0xff)];
+    let deallocate = changed(&rt, READ, &whole);
+    let deallocate = changed_further(&rt, deallocate, 11, 4);
+    let keep = changed(&rt, READ, &whole);
+
+    // the last range is behind the end: no block changes
+    put(&rt, &mut controller, 0x3ff0, &range(64, 1));
+    assert_eq!(rt; last_dword(&mut controller, rt.alloc(), &deallocate)?, 0x8101_0007);
+    assert!(rt; block_is(&rt, &controller, 0, 0x11) && block_is(&rt, &controller, 63, 0x77));
+    // nothing is asked for: no block changes
+    put(&rt, &mut controller, 0x3ff0, &range(63, 1));
+    assert_eq!(rt; last_dword(&mut controller, rt.alloc(), &keep)?, 0x0001_0007);
+    assert!(rt; block_is(&rt, &controller, 0, 0x11) && block_is(&rt, &controller, 63, 0x77));
+    // no blocks at the end pass
+    put(&rt, &mut controller, 0x3ff0, &range(64, 0));
+    let flush = changed(&rt, READ, &[(0, 0x0007_4000)]);
+    assert_eq!(rt; last_dword(&mut controller, rt.alloc(), &flush)?, 0x0001_0007);
+    assert_eq!(rt; last_dword(&mut controller, rt.alloc(), &deallocate)?, 0x0001_0007);
+    assert!(rt; block_is(&rt, &controller, 0, 0) && !is_kept(&rt, &controller, 0));
+    assert!(rt; block_is(&rt, &controller, 5, 0x55) && is_kept(&rt, &controller, 5));
+    // a range of several blocks
+    put(&rt, &mut controller, 0x3ff0, &range(5, 59));
+    assert_eq!(rt; last_dword(&mut controller, rt.alloc(), &deallocate)?, 0x0001_0007);
+    for block in 5..64 {
+        assert!(rt; block_is(&rt, &controller, block, 0) && !is_kept(&rt, &controller, block));
+    }
+    assert!(rt; is_kept(&rt, &controller, 4));
+    Ok(())
+}
+
+/// The same command with one more dword changed.
+fn changed_further(rt: &impl Abort, sqe: Sqe, place: usize, dword: u32) -> Sqe {
+    let mut bytes = sqe.bytes();
+    assert!(rt; place < 16);
+    bytes[4 * place..4 * place + 4].copy_from_slice(&dword.to_le_bytes());
+    Sqe::of(&bytes)
 }

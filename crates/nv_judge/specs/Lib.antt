@@ -1,1 +1,2 @@
 pub mod Need
+pub mod Ranges

@@ -1,5 +1,5 @@
 -- What a command that its fields do not refuse needs, and the verdict of the fields
-use Rattle.std.specs.Prelude.{ℕ, Bool, ◌&&◌, ◌==◌, if◌then◌else◌, List, Option, Some, None, Result, Ok, Err}
+use Rattle.std.specs.Prelude.{ℕ, ◌&&◌, ◌==◌, if◌then◌else◌, List, Option, Some, None, Result, Ok, Err}
 use Rattle.nv_entry.specs.Opcode.{io_opcode}
 use Rattle.nv_entry.specs.Submission.{opcode_of, fua_of}
 use Rattle.nv_entry.specs.Status.{StatusField}

@@ -3,6 +3,8 @@
 
 mod fields;
 mod need;
+mod ranges;
 
 pub use fields::judge_fields;
 pub use need::Need;
+pub use ranges::judge_ranges;

@@ -38,7 +38,7 @@ AsksIn mapped (End value) = ⊤
 AsksIn mapped (Ask addr unit left next) = IsMappedFrom mapped addr unit × ((bytes : List ℕ) → AsksIn mapped (next bytes))
 
 -- a part of what is mapped
-IsMappedFrom-part : (mapped : ℕ → Bool) (addr len at n : ℕ) → IsMappedFrom mapped addr len → addr ≤ at → at + n ≤ addr + len → IsMappedFrom mapped at n
+pub IsMappedFrom-part : (mapped : ℕ → Bool) (addr len at n : ℕ) → IsMappedFrom mapped addr len → addr ≤ at → at + n ≤ addr + len → IsMappedFrom mapped at n
 IsMappedFrom-part mapped addr len at n each low high = λ i below.
     let same : addr + (at - addr + i) ≡ at + i = omega arith in
     subst (λ (a : ℕ). mapped a ≡ true) same (each (at - addr + i) (omega arith))
@@ -84,7 +84,7 @@ segment_fault-none mapped rest d fine =
     let there = not-false _ (first_failing-none (not (everywhere mapped (address_of d) (length_of d))) DataTransferError [] behind_four).0 in
     λ i below. everywhere-at mapped (address_of d) (length_of d) i there (omega arith)
 
-array_by-mapped : (mapped : ℕ → Bool) (kind : Option DescriptorType) (rest : Array) (d : List ℕ) → fault_by kind mapped rest d ≡ None → IsMappedArray mapped rest → IsMappedArray mapped (array_by kind rest d)
+pub array_by-mapped : (mapped : ℕ → Bool) (kind : Option DescriptorType) (rest : Array) (d : List ℕ) → fault_by kind mapped rest d ≡ None → IsMappedArray mapped rest → IsMappedArray mapped (array_by kind rest d)
 array_by-mapped mapped None rest d fine each = each
 array_by-mapped mapped (Some DataBlock) rest d fine each = each
 array_by-mapped mapped (Some BitBucket) rest d fine each = each

@@ -1,4 +1,4 @@
-use Rattle.std.proofs.Common.{◌≡◌, ◌∙◌, ap, ◌++◌, ◌∷◌, [], List, ℕ, replicate}
+use Rattle.std.proofs.Common.{◌∙◌, ap, ◌++◌, ◌∷◌, [], List, ℕ, replicate}
 use Rattle.std.proofs.lemmas.List.{replicate_more}
 use Rattle.nv_flat.proofs.controller.zero_blocks.Goals as goal
 

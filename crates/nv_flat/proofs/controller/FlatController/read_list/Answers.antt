@@ -1,45 +1,38 @@
-use Rattle.std.proofs.Common.{◌≡◌, ℕ, List, [], ◌∷◌, length, sym, ap, ◌∙◌}
-use Rattle.nv_entry.specs.Submission.{sgl_of}
-use Rattle.nv_entry.specs.Descriptor.{address_of, length_of}
-use Rattle.nv_mem.specs.GuestMap.{Mapping}
-use Rattle.nv_mem.specs.declared.piece.Piece.TheVariants as piece
-use Rattle.nv_model.specs.Reading.{Reading, Spells}
+use Rattle.std.proofs.Common.{◌≡◌, Some, length, sym, ap, subst, ◌∙◌}
+use Rattle.nv_model.specs.Memory.{bytes_from}
+use Rattle.nv_sgl.specs.Feeding.{fed}
 use Rattle.nv_sgl.specs.Parse.{dialogue_of}
-use Rattle.nv_sgl.specs.Want.{want_of}
 use Rattle.nv_flat.specs.Flat.{Flat, byte_in, identity_map}
-use Rattle.nv_flat.proofs.RunLemmas.{ends-done, ends-fault, ends-otherwise, own-ends, own_dialogue, same-dialogue}
+use Rattle.nv_flat.specs.Listed.{IsThere, refusal_of_reading}
+use Rattle.nv_flat.proofs.ListLemmas.{IsReading-more, IsReading-start, IsReading-there, reading-done, reading-fault, reading-too_long}
 use Rattle.nv_flat.proofs.controller.FlatController.read_list.Goals as goal
+
+pub loop-part-init : goal.loop-part-init
+loop-part-init c =
+    let map : c.self.inside.map ≡ identity_map (length c.args.self.now.memory) =
+    c.self.invariant.mapped ∙ ap (λ (f : Flat). identity_map (length f.memory)) c.self.view_is in
+    IsReading-start c.args.self.now c.args.sqe.now c.args.need c.in_ok-parse.parse c.self.inside.map c.sgl.result c.from.result
+    c.in_ok-parse.ensures.dialogue map c.sgl.ensures c.from.ensures
+
+pub returns-in-Done : goal.returns-in-Done
+returns-in-Done c = sym c.loop-part.invariant.ends ∙ reading-done (byte_in c.args.self.now.memory) _ _ c.in_ok-places-in-Done.ensures
 
 pub returns-in-Fault : goal.returns-in-Fault
 returns-in-Fault c =
-    let map : c.self.inside.map ≡ identity_map (length c.args.self.now.memory) =
-    c.self.invariant.mapped ∙ ap (λ (f : Flat). identity_map (length f.memory)) c.self.view_is in
-    let dialogue : dialogue_of c.in_ok-parse.parse ≡ own_dialogue c.args.need.dest (identity_map (length c.args.self.now.memory)) (sgl_of c.args.sqe.now) c.args.need.bytes =
-    c.in_ok-parse.ensures.dialogue ∙ same-dialogue c.args.need.dest _ _ _ _ _ _ map c.sgl-own.ensures c.from.ensures in
-    ends-fault (byte_in c.args.self.now.memory) _ (sgl_of c.args.sqe.now) c.in-Fault.status
-    (own-ends _ c.args.need.dest (sgl_of c.args.sqe.now) c.args.need.bytes c.requires.own c.requires.some)
-    (sym (c.in-Fault.ensures ∙ ap want_of dialogue))
+    ap refusal_of_reading (sym c.loop-part.invariant.ends) ∙ reading-fault (byte_in c.args.self.now.memory) _ c.in-Fault.status (sym c.in-Fault.ensures)
 
-pub returns-in-Done : goal.returns-in-Done
-returns-in-Done c =
-    let map : c.self.inside.map ≡ identity_map (length c.args.self.now.memory) =
-    c.self.invariant.mapped ∙ ap (λ (f : Flat). identity_map (length f.memory)) c.self.view_is in
-    let dialogue : dialogue_of c.in_ok-parse.parse ≡ own_dialogue c.args.need.dest (identity_map (length c.args.self.now.memory)) (sgl_of c.args.sqe.now) c.args.need.bytes =
-    c.in_ok-parse.ensures.dialogue ∙ same-dialogue c.args.need.dest _ _ _ _ _ _ map c.sgl-own.ensures c.from.ensures in
-    let addr : c.address.result ≡ address_of (sgl_of c.args.sqe.now) = c.address.ensures ∙ ap address_of c.sgl-own.ensures in
-    let len : c.from-in-Done.result ≡ length_of (sgl_of c.args.sqe.now) = c.from-in-Done.ensures ∙ c.length.ensures ∙ ap length_of c.sgl-own.ensures in
-    ends-done (byte_in c.args.self.now.memory) _ (sgl_of c.args.sqe.now)
-    (own-ends _ c.args.need.dest (sgl_of c.args.sqe.now) c.args.need.bytes c.requires.own c.requires.some)
-    (sym (c.in-Done.ensures ∙ ap want_of dialogue))
-    ∙ ap (λ (a : ℕ). Spells (piece.Run a (length_of (sgl_of c.args.sqe.now)) ∷ [])) (sym addr)
-    ∙ ap (λ (l : ℕ). Spells (piece.Run c.address.result l ∷ [])) (sym len)
+pub returns-in-TooLong : goal.returns-in-TooLong
+returns-in-TooLong c =
+    ap refusal_of_reading (sym c.loop-part.invariant.ends) ∙ reading-too_long (byte_in c.args.self.now.memory) _ (sym c.in-TooLong.ensures) ∙ ap Some (sym c.status.ensures)
 
-pub unreachable-requires : goal.unreachable-requires
-unreachable-requires c =
-    let map : c.self.inside.map ≡ identity_map (length c.args.self.now.memory) =
-    c.self.invariant.mapped ∙ ap (λ (f : Flat). identity_map (length f.memory)) c.self.view_is in
-    let dialogue : dialogue_of c.in_ok-parse.parse ≡ own_dialogue c.args.need.dest (identity_map (length c.args.self.now.memory)) (sgl_of c.args.sqe.now) c.args.need.bytes =
-    c.in_ok-parse.ensures.dialogue ∙ same-dialogue c.args.need.dest _ _ _ _ _ _ map c.sgl-own.ensures c.from.ensures in
-    ends-otherwise _ (sgl_of c.args.sqe.now) c.wants.result
-    (own-ends _ c.args.need.dest (sgl_of c.args.sqe.now) c.args.need.bytes c.requires.own c.requires.some)
-    (c.wants.ensures ∙ ap want_of dialogue) c.in-TooLong.is
+pub loop-part-preserved : goal.loop-part-preserved
+loop-part-preserved c =
+    IsReading-more c.args.self.now c.args.sqe.now c.args.need c.loop-part._part c.loop-part.parse c.feed.new.parse c.in-Read.addr c.in-Read.len
+    c.loop-part.invariant (sym c.in-Read.ensures)
+    (c.in_ok-feed-in-Read.ensures
+    ∙ ap (λ (f : Flat). fed (dialogue_of c.loop-part.parse) (bytes_from (byte_in f.memory) c.in-Read.addr c.in-Read.len)) c.self.view_is)
+
+pub feed-requires-clause-there : goal.feed-requires-clause-there
+feed-requires-clause-there c =
+    let M : Flat → Type 0 = λ f. IsThere f.memory c.in-Read.addr c.in-Read.len in
+    subst M (sym c.self.view_is) (IsReading-there c.args.self.now c.args.sqe.now c.args.need c.loop-part._part c.loop-part.parse c.in-Read.addr c.in-Read.len c.loop-part.invariant (sym c.in-Read.ensures))

@@ -1,0 +1,194 @@
+-- Dataset Management, once its list is read
+use Rattle.std.proofs.Common.{◌≡◌, ℕ, ◌+◌, ◌*◌, ◌/◌, ◌≤◌, ◌<◌, Bool, true, false, ◌&&◌, ◌==◌, cond, Result, Ok, Err, List, [], ◌∷◌, ◌++◌, length, take, drop, refl, sym, ap, ◌∙◌, arith, eq-eqb, inl, inr}
+use Rattle.std.specs.Prelude.{IsTrue, ◌↔◌}
+use Rattle.std.specs.List.{list_all, range_with_len}
+use Rattle.std.proofs.lemmas.Bool.{cases_eq}
+use Rattle.std.proofs.lemmas.Bool.Decides.{nat_tests}
+use Rattle.nv_entry.specs.Opcode.{data_pointer}
+use Rattle.nv_entry.specs.Range.{blocks_of, start_of}
+use Rattle.nv_entry.specs.Submission.{psdt_of, deallocate_of}
+use Rattle.nv_entry.specs.Status.{StatusField}
+use Rattle.nv_entry.specs.StatusCode.{done_with, refused_with}
+use Rattle.nv_entry.specs.declared.data_pointer.DataPointer.TheVariants.{Sgl}
+use Rattle.nv_entry.specs.declared.opcode.IoOpcode.TheVariants.{DatasetManagement}
+use Rattle.nv_entry.specs.declared.status_code.StatusCode.TheVariants.{LbaOutOfRange, Success}
+use Rattle.nv_judge.specs.Need.{need_of}
+use Rattle.nv_judge.specs.Ranges.{ranges_verdict}
+use Rattle.nv_judge.proofs.RangeLemmas.{ranges_in-more, ranges_in-none}
+use Rattle.std.proofs.Math.Seq.{take-length}
+use Rattle.nv_mem.specs.Places.{Place, places_of}
+use Rattle.nv_mem.specs.declared.piece.Piece.{Piece}
+use Rattle.nv_model.specs.Dialogue.{End, in_memory}
+use Rattle.nv_model.specs.Memory.{gathered}
+use Rattle.nv_model.specs.Reading.{Spells}
+use Rattle.nv_model.specs.Judge.{Work, Refuse, Go, block_units, blocks_of_ranges, judge_ranges, range_count_of, range_fits, ranges_in, read_source, work_of}
+use Rattle.nv_model.specs.Private.{verdict_in}
+use Rattle.nv_model.proofs.DialogueLemmas.{in_memory-and_then}
+use Rattle.nv_model.proofs.MemoryLemmas.{length-gathered}
+use Rattle.nv_flat.specs.Flat.{Flat, byte_in, cleared, moved_of}
+use Rattle.nv_flat.specs.Listed.{sgl_reading}
+use Rattle.nv_flat.specs.One.{IsInOrder, IsRun, shape_of}
+use Rattle.nv_flat.proofs.DoneLemmas.{list-verdict, range-within}
+use Rattle.nv_flat.proofs.MoveLemmas.{cleared-append}
+use Rattle.nv_flat.proofs.OneLemmas.{moved-run, refused-run}
+use Rattle.nv_flat.proofs.PieceLemmas.{read_source-gathered, spelled-usable}
+use Rattle.nv_flat.proofs.WorkLemmas.{units_moved-deallocated, units_moved-kept}
+
+-- what is known of a Dataset Management whose list is read, and these are the bytes that it names
+pub record IsManaged (f : Flat) (entry : List ℕ) (pieces : List Piece) (bytes : List ℕ) : Type 0 where
+  pub in_order : IsInOrder (length f.disk) entry DatasetManagement (need_of entry DatasetManagement)
+  pub by_sgl : data_pointer (psdt_of entry) ≡ Sgl
+  pub spelled : sgl_reading f entry (need_of entry DatasetManagement) ≡ Spells pieces
+  pub taken : bytes ≡ gathered (byte_in f.memory) (places_of pieces)
+  pub whole : length bytes ≡ 16 * range_count_of entry
+
+pub managed : (f : Flat) (entry : List ℕ) (pieces : List Piece) (bytes memory : List ℕ) (places : List Place) (n : ℕ)
+    → IsInOrder (length f.disk) entry DatasetManagement (need_of entry DatasetManagement) → data_pointer (psdt_of entry) ≡ Sgl
+    → sgl_reading f entry (need_of entry DatasetManagement) ≡ Spells pieces
+    → memory ≡ f.memory → places ≡ places_of pieces → n ≡ 16 * range_count_of entry → bytes ≡ gathered (byte_in memory) (take n places)
+    → IsManaged f entry pieces bytes
+managed f entry pieces bytes memory places n o pointer read same_memory same_places whole taken =
+    let total : length (places_of pieces) ≡ 16 * range_count_of entry = (spelled-usable f entry (need_of entry DatasetManagement) pieces read).total in
+    let all : n ≡ length (places_of pieces) = omega arith in
+    let at_places : bytes ≡ gathered (byte_in f.memory) (places_of pieces) =
+    taken
+    ∙ ap (λ (m : List ℕ). gathered (byte_in m) (take n places)) same_memory
+    ∙ ap (λ (ps : List Place). gathered (byte_in f.memory) (take n ps)) same_places
+    ∙ ap (λ (k : ℕ). gathered (byte_in f.memory) (take k (places_of pieces))) all
+    ∙ ap (gathered (byte_in f.memory)) (take-length (places_of pieces)) in
+    record {
+      in_order = o;
+      by_sgl = pointer;
+      spelled = read;
+      taken = at_places;
+      whole = ap length at_places ∙ length-gathered (byte_in f.memory) (places_of pieces) ∙ total;
+    }
+
+-- the verdict on it
+managed-verdict : (f : Flat) (entry : List ℕ) (pieces : List Piece) (bytes : List ℕ) → IsManaged f entry pieces bytes
+    → verdict_in (shape_of f) (byte_in f.memory) entry ≡ judge_ranges (length f.disk) entry pieces (ranges_in (length bytes / 16) bytes)
+unfolding in_memory
+managed-verdict f entry pieces bytes m =
+    let usable = spelled-usable f entry (need_of entry DatasetManagement) pieces m.spelled in
+    let count : range_count_of entry ≡ length bytes / 16 = (let whole = m.whole in omega arith) in
+    list-verdict f entry DatasetManagement (need_of entry DatasetManagement) (Spells pieces) m.in_order refl m.by_sgl m.spelled
+    ∙ in_memory-and_then (byte_in f.memory) (read_source pieces []) (λ source. End (judge_ranges (length f.disk) entry pieces (ranges_in (range_count_of entry) source)))
+    ∙ ap (λ (source : List ℕ). judge_ranges (length f.disk) entry pieces (ranges_in (range_count_of entry) source))
+    (read_source-gathered (byte_in f.memory) pieces [] (usable.runs refl) ∙ sym m.taken)
+    ∙ ap (λ (n : ℕ). judge_ranges (length f.disk) entry pieces (ranges_in n bytes)) count
+
+-- the ranges fit, or they don't
+verdict-by_ranges : (all : Bool) (work : Work) (st : StatusField) → ◌≡◌ {A = Result (Unit {0}) StatusField} (cond all (Ok tt) (Err (refused_with LbaOutOfRange))) (Err st)
+    → cond all (Go work) (Refuse (refused_with LbaOutOfRange)) ≡ Refuse st
+verdict-by_ranges true work st e = (cc)
+verdict-by_ranges false work st e = (cc)
+
+pub ranges-fit : (blocks : ℕ) (bytes : List ℕ) → ranges_verdict blocks bytes ≡ Ok tt → list_all (range_fits blocks) (ranges_in (length bytes / 16) bytes) ≡ true
+ranges-fit blocks bytes e = by_test (list_all (range_fits blocks) (ranges_in (length bytes / 16) bytes)) e
+  where
+    by_test : (all : Bool) → ◌≡◌ {A = Result (Unit {0}) StatusField} (cond all (Ok tt) (Err (refused_with LbaOutOfRange))) (Ok tt) → all ≡ true
+    by_test true e = refl
+    by_test false e = (cc)
+
+-- refused by its ranges
+pub managed-refused : (f : Flat) (entry : List ℕ) (pieces : List Piece) (bytes : List ℕ) (st : StatusField) → IsManaged f entry pieces bytes
+    → ranges_verdict (length f.disk) bytes ≡ Err st → IsRun f entry st f
+managed-refused f entry pieces bytes st m refused =
+    refused-run f entry st
+    (managed-verdict f entry pieces bytes m
+    ∙ verdict-by_ranges (list_all (range_fits (length f.disk)) (ranges_in (length bytes / 16) bytes))
+    (work_of DatasetManagement entry pieces (block_units (blocks_of_ranges (ranges_in (length bytes / 16) bytes)))) st refused)
+
+-- the work of one whose ranges fit
+managed-goes : (f : Flat) (entry : List ℕ) (pieces : List Piece) (bytes : List ℕ) → IsManaged f entry pieces bytes
+    → list_all (range_fits (length f.disk)) (ranges_in (length bytes / 16) bytes) ≡ true
+    → verdict_in (shape_of f) (byte_in f.memory) entry ≡ Go (work_of DatasetManagement entry pieces (block_units (blocks_of_ranges (ranges_in (length bytes / 16) bytes))))
+managed-goes f entry pieces bytes m fit =
+    managed-verdict f entry pieces bytes m
+    ∙ ap (λ (b : Bool). cond b (Go (work_of DatasetManagement entry pieces (block_units (blocks_of_ranges (ranges_in (length bytes / 16) bytes))))) (Refuse (refused_with LbaOutOfRange))) fit
+
+-- deallocated
+pub managed-deallocated : (f g : Flat) (entry : List ℕ) (pieces : List Piece) (bytes : List ℕ) → IsManaged f entry pieces bytes
+    → list_all (range_fits (length f.disk)) (ranges_in (length bytes / 16) bytes) ≡ true → (deallocate_of entry == 1) ≡ true
+    → moved_of g false ≡ cleared (blocks_of_ranges (ranges_in (length bytes / 16) bytes)) false (moved_of f false) → IsRun f entry (done_with Success) g
+managed-deallocated f g entry pieces bytes m fit asked moved =
+    let lbas : List ℕ = blocks_of_ranges (ranges_in (length bytes / 16) bytes) in
+    let work : Work = work_of DatasetManagement entry pieces (block_units lbas) in
+    moved-run f g entry work false (managed-goes f entry pieces bytes m fit)
+    (moved ∙ sym (units_moved-deallocated work lbas (moved_of f false) refl asked))
+
+-- or left as they are
+pub managed-kept : (f : Flat) (entry : List ℕ) (pieces : List Piece) (bytes : List ℕ) → IsManaged f entry pieces bytes
+    → list_all (range_fits (length f.disk)) (ranges_in (length bytes / 16) bytes) ≡ true → (deallocate_of entry == 1) ≡ false
+    → IsRun f entry (done_with Success) f
+managed-kept f entry pieces bytes m fit unasked =
+    let lbas : List ℕ = blocks_of_ranges (ranges_in (length bytes / 16) bytes) in
+    let work : Work = work_of DatasetManagement entry pieces (block_units lbas) in
+    moved-run f f entry work false (managed-goes f entry pieces bytes m fit)
+    (sym (units_moved-kept work lbas (moved_of f false) refl unasked))
+
+-- a flag that is set exactly where a bit is 1
+pub is-asked : (b : Bool) (n : ℕ) → (IsTrue b ↔ (n ≡ 1)) → (n == 1) ≡ b
+is-asked true n same = eq-eqb n 1 (same.0 refl)
+is-asked false n same = elim (cases_eq n 1) [ inl one ↦ let bad = same.1 one in (cc) | inr other ↦ unlike-eqb n 1 other ]
+  where
+    unlike-eqb : (x y : ℕ) → (x ≡ y → ⊥) → (x == y) ≡ false
+    unlike-eqb x y unlike = grind (arith, nat_tests)
+
+-- ---- a loop over the ranges
+
+-- what it keeps
+pub record IsDeallocating (old : Flat) (all : List ℕ) (f : Flat) (rest : List ℕ) : Type 0 where
+  pub fit : list_all (range_fits (length old.disk)) (ranges_in (length rest / 16) rest) ≡ true
+  pub moved : cleared (blocks_of_ranges (ranges_in (length rest / 16) rest)) false (moved_of f false) ≡ cleared (blocks_of_ranges (ranges_in (length all / 16) all)) false (moved_of old false)
+  pub memory_size : length f.memory ≡ length old.memory
+  pub disk_size : length f.disk ≡ length old.disk
+
+-- the blocks of one more range
+one-more : (range : List ℕ) (ranges : List (List ℕ)) → blocks_of_ranges (range ∷ ranges) ≡ range_with_len (start_of range) (blocks_of range) ++ blocks_of_ranges ranges
+unfolding blocks_of_ranges
+one-more range ranges = refl
+
+-- the first range fits, and the others do
+both-fit : (blocks : ℕ) (rest range more : List ℕ) → range ≡ take 16 rest → more ≡ drop 16 rest → length more + 16 ≡ length rest
+    → list_all (range_fits blocks) (ranges_in (length rest / 16) rest) ≡ true
+    → (range_fits blocks range ≡ true) × (list_all (range_fits blocks) (ranges_in (length more / 16) more) ≡ true)
+both-fit blocks rest range more first others sized fit =
+    both (range_fits blocks range) (list_all (range_fits blocks) (ranges_in (length more / 16) more))
+    (sym (ap (list_all (range_fits blocks)) (ranges_in-more rest range more first others sized)) ∙ fit)
+  where
+    both : (a b : Bool) → a && b ≡ true → (a ≡ true) × (b ≡ true)
+    both true b e = (refl, e)
+    both false b e = (cc)
+
+pub IsDeallocating-fits : (old : Flat) (all : List ℕ) (f : Flat) (rest range more : List ℕ) → IsDeallocating old all f rest
+    → range ≡ take 16 rest → more ≡ drop 16 rest → length more + 16 ≡ length rest → start_of range + blocks_of range ≤ length f.disk
+IsDeallocating-fits old all f rest range more so_far first others sized =
+    let fits = (both-fit (length old.disk) rest range more first others sized so_far.fit).0 in
+    let within = range-within (start_of range) (blocks_of range) (length old.disk) fits in
+    let size = so_far.disk_size in
+    omega arith
+
+pub IsDeallocating-more : (old : Flat) (all : List ℕ) (f g : Flat) (rest range more : List ℕ) → IsDeallocating old all f rest
+    → range ≡ take 16 rest → more ≡ drop 16 rest → length more + 16 ≡ length rest
+    → moved_of g false ≡ cleared (range_with_len (start_of range) (blocks_of range)) false (moved_of f false)
+    → length g.memory ≡ length f.memory → length g.disk ≡ length f.disk → IsDeallocating old all g more
+IsDeallocating-more old all f g rest range more so_far first others sized moved memory_size disk_size =
+    let later : List ℕ = blocks_of_ranges (ranges_in (length more / 16) more) in
+    record {
+      fit = (both-fit (length old.disk) rest range more first others sized so_far.fit).1;
+      moved =
+          ap (cleared later false) moved
+          ∙ sym (cleared-append (range_with_len (start_of range) (blocks_of range)) later false (moved_of f false))
+          ∙ ap (λ (lbas : List ℕ). cleared lbas false (moved_of f false)) (sym (one-more range (ranges_in (length more / 16) more)))
+          ∙ ap (λ (ranges : List (List ℕ)). cleared (blocks_of_ranges ranges) false (moved_of f false)) (sym (ranges_in-more rest range more first others sized))
+          ∙ so_far.moved;
+      memory_size = memory_size ∙ so_far.memory_size;
+      disk_size = disk_size ∙ so_far.disk_size;
+    }
+
+pub IsDeallocating-end : (old : Flat) (all : List ℕ) (f : Flat) (rest : List ℕ) → IsDeallocating old all f rest → length rest < 16
+    → moved_of f false ≡ cleared (blocks_of_ranges (ranges_in (length all / 16) all)) false (moved_of old false)
+unfolding cleared blocks_of_ranges
+IsDeallocating-end old all f rest so_far few =
+    sym (ap (λ (ranges : List (List ℕ)). cleared (blocks_of_ranges ranges) false (moved_of f false)) (ranges_in-none rest few)) ∙ so_far.moved

@@ -1,0 +1,35 @@
+use Rattle.std.proofs.Common.{◌≡◌, ◌||◌, Bool, List, arith, ap, sym, subst, ◌∙◌, false}
+use Rattle.std.specs.List.{slice_index_or}
+use Rattle.nv_model.specs.Private.{marked}
+use Rattle.nv_flat.specs.Flat.{flat, moved_of}
+use Rattle.nv_flat.proofs.MoveLemmas.{compare-moved, differs-pointwise, marks-raised, marks-same}
+use Rattle.nv_flat.proofs.moves.compare_block.Goals as goal
+use Rattle.nv_flat.proofs.moves.compare_block.Goals.{then-fua, else-fua}
+
+pub returns-then-differed-clause-moved : goal.returns-then-differed-clause-moved
+returns-then-differed-clause-moved c = λ index pieces at.
+    let sized = c.told-disk c.args.lba c.requires.block in
+    let P : List Bool → Type 0 = λ marks. (λ b. slice_index_or marks b false) ≡ marked (λ b. slice_index_or c.args.kept.now b false) c.args.lba (slice_index_or c.args.kept.now c.args.lba false || c.args.fua) in
+    ap (moved_of (flat c.args.memory.now c.args.disk.now c.if-fua.kept)) (c.if-differed.true ∙ sym (ap (λ (d : Bool). d || c.ne-differs.result) c.if-differed.true))
+    ∙ compare-moved c.args.memory.now c.args.disk.now c.args.kept.now c.if-fua.kept c.args.buffer.now index c.args.lba c.fetch.new.out c.args.fua c.ne-differs.result
+    sized c.fetch.ensures.bytes
+    (differs-pointwise c.fetch.new.out _ ∙ sym c.ne-differs.ensures)
+    (elim c.if-fua.branch [
+      | then-fua w ↦ subst P (sym w.kept-is) (rw w.if-fua.true (marks-raised c.args.kept.now c.args.lba (omega arith)))
+      | else-fua w ↦ subst P (sym w.kept-is) (rw w.if-fua.false (marks-same c.args.kept.now c.args.lba))
+    ])
+    pieces c.args.differed at
+
+pub returns-else-differed-clause-moved : goal.returns-else-differed-clause-moved
+returns-else-differed-clause-moved c = λ index pieces at.
+    let sized = c.told-disk c.args.lba c.requires.block in
+    let P : List Bool → Type 0 = λ marks. (λ b. slice_index_or marks b false) ≡ marked (λ b. slice_index_or c.args.kept.now b false) c.args.lba (slice_index_or c.args.kept.now c.args.lba false || c.args.fua) in
+    ap (moved_of (flat c.args.memory.now c.args.disk.now c.if-fua.kept)) (sym (ap (λ (d : Bool). d || c.ne-differs.result) c.if-differed.false))
+    ∙ compare-moved c.args.memory.now c.args.disk.now c.args.kept.now c.if-fua.kept c.args.buffer.now index c.args.lba c.fetch.new.out c.args.fua c.ne-differs.result
+    sized c.fetch.ensures.bytes
+    (differs-pointwise c.fetch.new.out _ ∙ sym c.ne-differs.ensures)
+    (elim c.if-fua.branch [
+      | then-fua w ↦ subst P (sym w.kept-is) (rw w.if-fua.true (marks-raised c.args.kept.now c.args.lba (omega arith)))
+      | else-fua w ↦ subst P (sym w.kept-is) (rw w.if-fua.false (marks-same c.args.kept.now c.args.lba))
+    ])
+    pieces c.args.differed at

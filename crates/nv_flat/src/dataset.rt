@@ -1,0 +1,88 @@
+//! Dataset Management.
+
+ghost use Rattle.std.specs.Prelude.{◌≡◌, ◌/◌, ◌*◌, IfOk, OnErr, List, ℕ, true, false, length};
+ghost use Rattle.std.specs.List.{list_all};
+ghost use Rattle.nv_entry.specs.Opcode.{data_pointer};
+ghost use Rattle.nv_entry.specs.Submission.{psdt_of};
+ghost use Rattle.nv_entry.specs.declared.data_pointer.DataPointer.TheVariants as pointer;
+ghost use Rattle.nv_entry.specs.declared.opcode.IoOpcode.TheVariants as opcode;
+ghost use Rattle.nv_model.specs.Judge.{blocks_of_ranges, range_count_of, range_fits, ranges_in};
+ghost use Rattle.nv_judge.specs.Need.{need_of};
+ghost use Rattle.nv_model.specs.Reading.{Spells};
+ghost use Rattle.nv_flat.specs.Flat.{cleared, moved_of};
+ghost use Rattle.nv_flat.specs.Listed.{sgl_reading};
+ghost use Rattle.nv_flat.specs.One.{IsInOrder, IsRun};
+
+use crate::buffer::Buffer;
+use crate::controller::FlatController;
+use crate::lists::Listed;
+use nv_entry::{Range, Sqe, Status, StatusCode};
+use nv_judge::{Need, judge_ranges};
+use nv_mem::{NoMemory, Places};
+use nv_ns::VirtualNs;
+use std::alloc::Global;
+
+/// The most bytes of the ranges: 256 of 16 bytes each.
+const MOST_BYTES: usize = 4096;
+
+impl FlatController {
+    /// Runs a Dataset Management: where each of its ranges lies in the namespace, their blocks are deallocated if it asks for that.
+    pub(crate) fn manage_dataset(
+        &mut self,
+        alloc: Global,
+        sqe: &Sqe,
+        need: Need,
+    ) -> Result<Status, NoMemory>
+        requires in_order { IsInOrder (length self.old.disk) sqe.now opcode.DatasetManagement need }
+        requires by_sgl { data_pointer (psdt_of sqe.now) ≡ pointer.Sgl }
+        ensures ok { IfOk result (λ status. IsRun self.old sqe.now status self.new) }
+        ensures memory_size { length self.new.memory ≡ length self.old.memory }
+        ensures disk_size { length self.new.disk ≡ length self.old.disk }
+        ensures err { OnErr result (self.new ≡ self.old) }
+    {
+        match self.read_list(alloc, sqe, need)? {
+            Listed::Refused(status) => Ok(status),
+            Listed::Named(places) => {
+                let len = 16 * (usize::from(sqe.nr()) + 1);
+                let mut ranges = [0; MOST_BYTES];
+                Ok(self.manage_ranges(sqe, &places, &mut ranges[..len]))
+            }
+        }
+    }
+
+    /// The same once its list is read, through a buffer of the length of the ranges.
+    fn manage_ranges(&mut self, sqe: &Sqe, places: &Places, ranges: &mut [u8]) -> Status
+        requires in_order { IsInOrder (length self.old.disk) sqe.now opcode.DatasetManagement (need_of sqe.now opcode.DatasetManagement) }
+        requires by_sgl { data_pointer (psdt_of sqe.now) ≡ pointer.Sgl }
+        requires spelled { sgl_reading self.old sqe.now (need_of sqe.now opcode.DatasetManagement) ≡ Spells places.now }
+        requires whole { length ranges.old ≡ 16 * range_count_of sqe.now }
+        ensures run { IsRun self.old sqe.now result self.new }
+        ensures memory_size { length self.new.memory ≡ length self.old.memory }
+        ensures disk_size { length self.new.disk ≡ length self.old.disk }
+    {
+        Buffer::new(places).fetch(&self.memory, ranges);
+        let ns = VirtualNs::new(0, self.blocks());
+        if let Err(status) = judge_ranges(ranges, &ns) {
+            return status;
+        }
+        if sqe.deallocate() {
+            self.deallocate(ranges);
+        }
+        StatusCode::Success.status()
+    }
+
+    /// Makes the blocks of the ranges zeros that are not kept.
+    fn deallocate(&mut self, ranges: &[u8])
+        requires fit { list_all (range_fits (length self.old.disk)) (ranges_in (length ranges.now / 16) ranges.now) ≡ true }
+        ensures moved { moved_of self.new false ≡ cleared (blocks_of_ranges (ranges_in (length ranges.now / 16) ranges.now)) false (moved_of self.old false) }
+        ensures memory_size { length self.new.memory ≡ length self.old.memory }
+        ensures disk_size { length self.new.disk ≡ length self.old.disk }
+    {
+        let mut rest = ranges;
+        while let Some((range, more)) = rest.split_first_chunk::<16>() {
+            let range = Range::of(range);
+            self.clear(range.start(), u64::from(range.blocks()), false);
+            rest = more;
+        }
+    }
+}

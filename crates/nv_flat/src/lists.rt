@@ -1,0 +1,80 @@
+//! Lists of commands, read in the controller's own memory.
+
+ghost use Rattle.std.specs.Prelude.{◌≡◌, IfOk, OnOk, length};
+ghost use Rattle.nv_model.specs.Memory.{bytes_from};
+ghost use Rattle.nv_sgl.specs.Feeding.{fed};
+ghost use Rattle.nv_sgl.specs.Parse.{dialogue_of};
+ghost use Rattle.nv_sgl.specs.Want.{want_of};
+ghost use Rattle.nv_flat.specs.Flat.{byte_in};
+ghost use Rattle.nv_flat.specs.Listed.{IsListed, IsThere, sgl_reading};
+
+use crate::controller::FlatController;
+use nv_entry::{Sqe, Status, StatusCode};
+use nv_judge::Need;
+use nv_mem::{Host, NoMemory, Places};
+use nv_sgl::{SglParse, Want};
+use std::alloc::Global;
+
+/// What a command's list says: it is refused, or where the bytes of the transfer lie.
+#[derive(Debug, Drop)]
+pub(crate) enum Listed {
+    Refused(Status),
+    Named(Places),
+}
+
+/// The most descriptors of a list, and so the most parts in which it is read.
+const MOST_PARTS: u32 = 1024;
+
+/// The most bytes of a list that are wanted at once.
+const PART: usize = 4096;
+
+impl FlatController {
+    /// Reads the list of a command that uses an SGL, for the transfer that it needs.
+    pub(crate) fn read_list(&self, alloc: Global, sqe: &Sqe, need: Need) -> Result<Listed, NoMemory>
+        ensures { IfOk result (λ listed. IsListed listed (sgl_reading self.now sqe.now need)) }
+    {
+        let mut parse = SglParse::new(
+            alloc,
+            &self.map,
+            sqe.sgl(),
+            need.dest,
+            u64::from(need.bytes),
+        )?;
+        for _part in 0..MOST_PARTS {
+            match parse.wants() {
+                Want::Read { addr, len } => feed(&self.memory, &mut parse, addr, len)?,
+                Want::Done => return Ok(Listed::Named(parse.places(alloc)?)),
+                Want::Fault(status) => return Ok(Listed::Refused(status)),
+                Want::TooLong => return Ok(Listed::Refused(StatusCode::InternalError.status())),
+            }
+        }
+        unreachable!()
+    }
+}
+
+/// Feeds a parse the bytes that it wants.
+fn feed(memory: &Host, parse: &mut SglParse<Global>, addr: u64, len: u32) -> Result<(), NoMemory>
+    requires wanted { want_of (dialogue_of parse.old) ≡ Want.Read addr len }
+    requires there { IsThere memory.now addr len }
+    ensures { OnOk result (dialogue_of parse.new ≡ fed (dialogue_of parse.old) (bytes_from (byte_in memory.now) addr len)) }
+{
+    let mut part = [0; PART];
+    feed_through(memory, parse, addr, len, &mut part[..len as usize])
+}
+
+/// The same through a buffer of that length.
+fn feed_through(
+    memory: &Host,
+    parse: &mut SglParse<Global>,
+    addr: u64,
+    len: u32,
+    part: &mut [u8],
+) -> Result<(), NoMemory>
+    requires wanted { want_of (dialogue_of parse.old) ≡ Want.Read addr len }
+    requires there { IsThere memory.now addr len }
+    requires whole { length part.old ≡ len }
+    ensures { OnOk result (dialogue_of parse.new ≡ fed (dialogue_of parse.old) (bytes_from (byte_in memory.now) addr len)) }
+{
+    memory.load(addr, part);
+    parse.feed(part)
+}

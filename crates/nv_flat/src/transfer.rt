@@ -1,0 +1,100 @@
+//! Commands that move blocks between the disk and a buffer: Read, Write and Compare.
+
+ghost use Rattle.std.specs.Prelude.{◌≡◌, ◌+◌, ◌*◌, ◌<◌, ◌≤◌, ℕ, List, true, false, length, drop};
+ghost use Rattle.nv_mem.specs.Places.{places_of};
+ghost use Rattle.nv_mem.specs.declared.piece.Piece.{Piece};
+ghost use Rattle.nv_model.specs.Judge.{OneBlock};
+ghost use Rattle.nv_model.specs.Carried.{moved_on, units_moved};
+ghost use Rattle.nv_flat.specs.Buffer.{AreBelow};
+ghost use Rattle.nv_flat.specs.Flat.{block_work, moved_of, units_from};
+ghost use Rattle.nv_flat.specs.Transfer.{is_transfer};
+
+use crate::buffer::Buffer;
+use crate::controller::FlatController;
+use crate::moves;
+use nv_entry::IoOpcode;
+use nv_mem::Places;
+
+impl FlatController {
+    /// Moves the `count` blocks from `slba` on to or from a buffer, in order. It says whether a Compare differs.
+    pub(crate) fn move_blocks(
+        &mut self,
+        opcode: IoOpcode,
+        places: &Places,
+        slba: u64,
+        count: u64,
+        fua: bool,
+    ) -> bool
+        requires transfer { is_transfer opcode ≡ true }
+        requires in_memory { AreBelow (length self.old.memory) (places_of places.now) }
+        requires enough { 512 * count ≤ length (places_of places.now) }
+        requires blocks { slba + count ≤ length self.old.disk }
+        ensures moved { moved_of self.new result ≡ units_moved (units_from 0 slba count) (block_work opcode places.now fua) (moved_of self.old false) }
+        ensures memory_size { length self.new.memory ≡ length self.old.memory }
+        ensures disk_size { length self.new.disk ≡ length self.old.disk }
+    {
+        // The end of the range fits in 64 bits, as the number of blocks does.
+        let _blocks = self.blocks();
+        let mut buffer = Buffer::new(places);
+        let mut differed = false;
+        for index in 0..count {
+            differed = self.move_block(opcode, &mut buffer, slba + index, fua, differed);
+        }
+        differed
+    }
+
+    /// Moves one block to or from the next places of the buffer. It says whether a Compare differs, as it did before or does here.
+    fn move_block(
+        &mut self,
+        opcode: IoOpcode,
+        buffer: &mut Buffer,
+        lba: u64,
+        fua: bool,
+        differed: bool,
+    ) -> bool
+        requires transfer { is_transfer opcode ≡ true }
+        requires in_memory { AreBelow (length self.old.memory) buffer.old }
+        requires enough { 512 ≤ length buffer.old }
+        requires block { lba < length self.old.disk }
+        ensures moved { (index : ℕ) (pieces : List Piece) → buffer.old ≡ drop (512 * index) (places_of pieces) →
+            moved_of self.new result ≡ moved_on (OneBlock index lba) (block_work opcode pieces fua) (moved_of self.old differed) }
+        ensures memory_size { length self.new.memory ≡ length self.old.memory }
+        ensures disk_size { length self.new.disk ≡ length self.old.disk }
+        ensures rest { buffer.new ≡ drop 512 buffer.old }
+    {
+        match opcode {
+            IoOpcode::Read => {
+                moves::read_block(
+                    &mut self.memory,
+                    &self.disk,
+                    &mut self.kept,
+                    buffer,
+                    lba,
+                    fua,
+                );
+                differed
+            }
+            IoOpcode::Write => {
+                moves::write_block(
+                    &self.memory,
+                    &mut self.disk,
+                    &mut self.kept,
+                    buffer,
+                    lba,
+                    fua,
+                );
+                differed
+            }
+            IoOpcode::Compare => moves::compare_block(
+                &self.memory,
+                &self.disk,
+                &mut self.kept,
+                buffer,
+                lba,
+                fua,
+                differed,
+            ),
+            _ => unreachable!(),
+        }
+    }
+}

@@ -1,0 +1,57 @@
+-- Lemmas on the ranges of Dataset Management.
+use Rattle.std.proofs.Common.{◌≡◌, ℕ, zero, suc, ◌+◌, ◌/◌, ◌<◌, Bool, true, false, ◌&&◌, cond, List, [], ◌∷◌, length, take, drop, Some, None, Result, Ok, Err, sym, ap, ◌∙◌, arith}
+use Rattle.std.specs.List.{list_all}
+use Rattle.std.specs.Option.{is_some}
+use Rattle.nv_entry.specs.Status.{StatusField}
+use Rattle.nv_entry.specs.StatusCode.{refused_with}
+use Rattle.nv_entry.specs.declared.status_code.StatusCode.TheVariants.{LbaOutOfRange}
+use Rattle.nv_ns.specs.BlockRange.{Extent, in_namespace, translated}
+use Rattle.nv_model.specs.Judge.{range_fits, ranges_in}
+use Rattle.nv_judge.specs.Ranges.{ranges_verdict}
+
+-- one more range in front
+pub ranges_in-more : (bytes range more : List ℕ) → range ≡ take 16 bytes → more ≡ drop 16 bytes → length more + 16 ≡ length bytes
+    → ranges_in (length bytes / 16) bytes ≡ range ∷ ranges_in (length more / 16) more
+unfolding ranges_in
+ranges_in-more bytes range more first rest sized =
+    let e : length bytes / 16 ≡ suc (length more / 16) = omega arith in
+    ap (λ (n : ℕ). ranges_in n bytes) e
+    ∙ ap (λ (r : List ℕ). r ∷ ranges_in (length more / 16) (drop 16 bytes)) (sym first)
+    ∙ ap (λ (m : List ℕ). range ∷ ranges_in (length more / 16) m) (sym rest)
+
+-- no more ranges
+pub ranges_in-none : (bytes : List ℕ) → length bytes < 16 → ranges_in (length bytes / 16) bytes ≡ []
+unfolding ranges_in
+ranges_in-none bytes few =
+    let e : length bytes / 16 ≡ zero = omega arith in
+    ap (λ (n : ℕ). ranges_in n bytes) e
+
+-- the verdict on some ranges
+verdict_on : (blocks : ℕ) → List (List ℕ) → Result (Unit {0}) StatusField
+verdict_on blocks ranges = cond (list_all (range_fits blocks) ranges) (Ok tt) (Err (refused_with LbaOutOfRange))
+
+pub ranges_verdict-none : (blocks : ℕ) (bytes : List ℕ) → length bytes < 16 → Ok tt ≡ ranges_verdict blocks bytes
+unfolding verdict_on
+ranges_verdict-none blocks bytes few = sym (ap (verdict_on blocks) (ranges_in-none bytes few))
+
+pub ranges_verdict-fits : (blocks : ℕ) (bytes range more : List ℕ) → range ≡ take 16 bytes → more ≡ drop 16 bytes → length more + 16 ≡ length bytes
+    → range_fits blocks range ≡ true → ranges_verdict blocks more ≡ ranges_verdict blocks bytes
+unfolding verdict_on
+ranges_verdict-fits blocks bytes range more first rest sized fits =
+    sym (ap (verdict_on blocks) (ranges_in-more bytes range more first rest sized)
+    ∙ ap (λ (b : Bool). cond (b && list_all (range_fits blocks) (ranges_in (length more / 16) more)) (Ok tt) (Err (refused_with LbaOutOfRange))) fits)
+
+pub ranges_verdict-leaves : (blocks : ℕ) (bytes range more : List ℕ) → range ≡ take 16 bytes → more ≡ drop 16 bytes → length more + 16 ≡ length bytes
+    → range_fits blocks range ≡ false → Err (refused_with LbaOutOfRange) ≡ ranges_verdict blocks bytes
+unfolding verdict_on
+ranges_verdict-leaves blocks bytes range more first rest sized leaves =
+    sym (ap (verdict_on blocks) (ranges_in-more bytes range more first rest sized)
+    ∙ ap (λ (b : Bool). cond (b && list_all (range_fits blocks) (ranges_in (length more / 16) more)) (Ok tt) (Err (refused_with LbaOutOfRange))) leaves)
+
+-- a range is in the namespace exactly where it has a disk block
+pub translated-is_some : (ns : Extent) (slba count : ℕ) (some : Bool) → is_some (translated ns slba count) ≡ some → in_namespace slba count ns.blocks ≡ some
+translated-is_some ns slba count some e = is_some-if (in_namespace slba count ns.blocks) some e
+  where
+    is_some-if : (inside some : Bool) → is_some (cond inside (Some (ns.base + slba)) None) ≡ some → inside ≡ some
+    is_some-if true some e = e
+    is_some-if false some e = e

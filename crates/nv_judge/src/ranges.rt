@@ -1,0 +1,25 @@
+ghost use Rattle.std.specs.Prelude.{◌≡◌, ◌%◌, length};
+ghost use Rattle.nv_judge.specs.Ranges.{ranges_verdict};
+
+use nv_entry::{Range, Status, StatusCode};
+use nv_ns::VirtualNs;
+
+/// The check of the ranges of Dataset Management, 16 bytes each, in their order: each must lie in the namespace. `Err` is the
+/// refusal, with DNR set.
+pub fn judge_ranges(ranges: &[u8], ns: &VirtualNs) -> Result<(), Status>
+    requires { length ranges.now % 16 ≡ 0 }
+    ensures { result ≡ ranges_verdict ns.now.blocks ranges.now }
+{
+    let mut rest = ranges;
+    while let Some((range, more)) = rest.split_first_chunk::<16>() {
+        let range = Range::of(range);
+        if ns
+            .translate(range.start(), u64::from(range.blocks()))
+            .is_none()
+        {
+            return Err(StatusCode::LbaOutOfRange.refused());
+        }
+        rest = more;
+    }
+    Ok(())
+}
