@@ -18,9 +18,9 @@ use Rattle.nv_model.specs.Dialogue.{Dialogue, End, and_then, in_memory}
 use Rattle.nv_model.specs.Reading.{Reading, Faulty, Spells, run}
 use Rattle.nv_model.specs.Sgl.{read_sgl}
 use Rattle.nv_model.specs.Judge.{count_of, sized, transfer_len}
-use Rattle.nv_sgl.specs.declared.want.Want.{Want}
-use Rattle.nv_sgl.specs.declared.want.Want.TheVariants as want
-use Rattle.nv_sgl.specs.Want.{want_of}
+use Rattle.nv_model.specs.declared.want.Want.{Want}
+use Rattle.nv_model.specs.declared.want.Want.TheVariants as want
+use Rattle.nv_model.specs.Want.{want_of}
 use Rattle.nv_entry.specs.Status.{StatusField}
 use Rattle.nv_entry.specs.StatusCode.{refused_with}
 use Rattle.nv_flat.specs.Flat.{Flat, byte_in, identity_map}

@@ -5,7 +5,7 @@ use Rattle.nv_mem.specs.GuestMap.{Mapping}
 use Rattle.nv_mem.specs.declared.piece.Piece.TheVariants as piece
 use Rattle.nv_model.specs.Reading.{Reading, Spells}
 use Rattle.nv_sgl.specs.Parse.{dialogue_of}
-use Rattle.nv_sgl.specs.Want.{want_of}
+use Rattle.nv_model.specs.Want.{want_of}
 use Rattle.nv_flat.specs.Flat.{Flat, byte_in, identity_map}
 use Rattle.nv_flat.proofs.RunLemmas.{ends-done, ends-fault, ends-otherwise, own-ends, own_dialogue, same-dialogue}
 use Rattle.nv_flat.proofs.controller.FlatController.read_list.Goals as goal
