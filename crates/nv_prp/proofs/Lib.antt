@@ -1,0 +1,3 @@
+pub mod Cursors
+pub mod Parses
+pub mod Shown

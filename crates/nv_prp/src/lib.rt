@@ -1,0 +1,27 @@
+//! Physical region pages (Base Specification 2.0, "Physical Region Page Entry and List"), read and built.
+//!
+//! - [`PrpParse`] reads PRP1, PRP2 and the list that PRP2 may point to. It looks at no memory itself: [`PrpParse::wants`] says which
+//!   bytes it wants next, and [`PrpParse::feed`] gives them to it, each of them once. In the end it is `Done` and tells the places of
+//!   the transfer, or has a `Fault`.
+//! - [`laws`] states that feeding a parse what a memory shows where it asks leaves unchanged what it ends in there.
+//!
+//! A parse is seen as what it has still to read: a dialogue that asks for slots, goes on with what it is given, and ends in the
+//! reading. So `feed` promises that the dialogue is the old one with the bytes given to it, and `wants` tells what that asks for or
+//! how it ended. The needed slots of a list page are wanted at once, those that are page entries and, where more pages remain than
+//! slots, the pointer to the next list page. Each slot is checked for its offset and then for the bytes that it stands for, in the
+//! order in which the transfer meets them, and the first fault decides. That order and the status of bytes outside the guest's memory
+//! are this project's own choice (profile).
+//!
+//! A transfer has at most 131,072 bytes, so at most 33 pages. The runs that were read stand in an array of that size, so only
+//! [`PrpParse::places`] takes memory.
+#![tactic(auto)]
+
+mod cursor;
+pub mod laws;
+mod parse;
+mod runs;
+
+pub use parse::PrpParse;
+
+#[cfg(test)]
+mod tests;

@@ -1,0 +1,196 @@
+//! Transfers over a flat memory of 40000h bytes, by a driver that feeds what is wanted. 8,192 bytes are two pages, 12,288 three.
+ghost use Rattle.std.specs.Prelude.{◌≡◌, ◌<◌, ◌≤◌, IfSome, length};
+
+use crate::PrpParse;
+use nv_entry::StatusCode;
+use nv_mem::{GuestMap, NoMemory, Piece, Region};
+use nv_model::Want;
+use std::alloc::Global;
+use std::test::Fail;
+
+// A memory of zeros in which these numbers stand, each in 8 bytes.
+fn holding(alloc: Global, numbers: &[(usize, u64)]) -> Result<Vec<u8>, NoMemory> {
+    let mut memory = vec![in alloc; 0u8; 0x40000]?;
+    for (at, number) in numbers {
+        store(&mut memory, *at, *number);
+    }
+    Ok(memory)
+}
+
+fn store(memory: &mut [u8], at: usize, number: u64) {
+    let bytes = number.to_le_bytes();
+    for (place, byte) in memory.iter_mut().skip(at).zip(bytes.iter()) {
+        *place = *byte;
+    }
+}
+
+// The guest's memory is mapped to its end, and no further.
+fn map(alloc: Global) -> Result<GuestMap, Fail> {
+    let regions = vec![in alloc;
+        Region {
+            guest: 0,
+            host: 0x10_0000,
+            len: 0x4_0000
+        },
+    ]?;
+    Ok(GuestMap::new(0x100_0000, regions)?)
+}
+
+fn part(memory: &[u8], addr: u64, len: u32) -> Option<&[u8]>
+    ensures { IfSome result (λ bytes. length bytes.now ≡ len) }
+{
+    let from = addr as usize;
+    let len = len as usize;
+    if from <= memory.len() && len <= memory.len() - from {
+        Some(&memory[from..from + len])
+    } else {
+        None
+    }
+}
+
+// Feeds the parse the next part that it wants, and says which that was; or nothing where it has ended.
+fn step(parse: &mut PrpParse<'_>, memory: &[u8]) -> Option<(u64, u32)> {
+    match parse.wants() {
+        Want::Read { addr, len } => match part(memory, addr, len) {
+            Some(bytes) => {
+                parse.feed(bytes);
+                Some((addr, len))
+            }
+            None => None,
+        },
+        _ => None,
+    }
+}
+
+// What a transfer wants, how it ends, and the pieces that it names where it is done.
+fn read(
+    alloc: Global,
+    memory: &[u8],
+    prp1: u64,
+    prp2: u64,
+    need: u64,
+) -> Result<(Vec<(u64, u32)>, Want, Vec<Piece>), Fail>
+    requires some { 0 < need }
+    requires most { need ≤ 131072 }
+{
+    let map = map(alloc)?;
+    let mut parse = PrpParse::new(&map, prp1, prp2, need);
+    let mut wants = Vec::new(alloc);
+    for _ in 0..70 {
+        let Some(want) = step(&mut parse, memory) else {
+            break;
+        };
+        wants.push(want)?;
+    }
+    let mut pieces = Vec::new(alloc);
+    if let Want::Done = parse.wants() {
+        pieces.extend_from_slice(parse.places(alloc)?.pieces())?;
+    }
+    Ok((wants, parse.wants(), pieces))
+}
+
+fn run(addr: u64, len: u64) -> Piece {
+    Piece::Run { addr, len }
+}
+
+fn refused(code: StatusCode) -> Want {
+    Want::Fault(code.refused())
+}
+
+#[test]
+fn one_page_and_two(rt: HostRuntime) -> Result<(), Fail> {
+    let memory = holding(rt.alloc(), &[])?;
+    let (wants, end, pieces) = read(rt.alloc(), &memory, 0x3e00, u64::MAX, 512)?;
+    assert!(rt; wants.is_empty());
+    assert_eq!(rt; end, Want::Done);
+    assert_eq!(rt; pieces.as_slice(), [run(0x3e00, 512)].as_slice());
+    let (wants, end, pieces) = read(rt.alloc(), &memory, 0x3e00, 0x5000, 1024)?;
+    assert!(rt; wants.is_empty());
+    assert_eq!(rt; end, Want::Done);
+    assert_eq!(rt;
+        pieces.as_slice(),
+        [run(0x3e00, 512), run(0x5000, 512)].as_slice()
+    );
+    Ok(())
+}
+
+#[test]
+fn a_list_at_the_end_of_a_page(rt: HostRuntime) -> Result<(), Fail> {
+    let pages = [run(0x3000, 4096), run(0x8000, 4096), run(0x9000, 4096)];
+    // it goes on in the next list page, by the pointer in the last slot
+    let chained = [(0x6ff8, 0x7000), (0x7000, 0x8000), (0x7008, 0x9000)];
+    let memory = holding(rt.alloc(), &chained)?;
+    let (wants, end, pieces) = read(rt.alloc(), &memory, 0x3000, 0x6ff8, 12288)?;
+    assert_eq!(rt; wants.as_slice(), [(0x6ff8, 8), (0x7000, 16)].as_slice());
+    assert_eq!(rt; end, Want::Done);
+    assert_eq!(rt; pieces.as_slice(), pages.as_slice());
+    // its last slot is an entry
+    let memory = holding(rt.alloc(), &[(0x6ff0, 0x8000), (0x6ff8, 0x9000)])?;
+    let (wants, end, pieces) = read(rt.alloc(), &memory, 0x3000, 0x6ff0, 12288)?;
+    assert_eq!(rt; wants.as_slice(), [(0x6ff0, 16)].as_slice());
+    assert_eq!(rt; end, Want::Done);
+    assert_eq!(rt; pieces.as_slice(), pages.as_slice());
+    Ok(())
+}
+
+#[test]
+fn the_largest_transfer(rt: HostRuntime) -> Result<(), Fail> {
+    // 33 pages from an offset of 4: 32 entries of a list, the last of which stands for 4 bytes
+    let mut memory = holding(rt.alloc(), &[])?;
+    for i in 0..32 {
+        store(&mut memory, 0x2000 + 8 * i, 0x8000 + 0x1000 * i as u64);
+    }
+    let (wants, end, pieces) = read(rt.alloc(), &memory, 0x3004, 0x2000, 131072)?;
+    assert_eq!(rt; wants.as_slice(), [(0x2000, 256)].as_slice());
+    assert_eq!(rt; end, Want::Done);
+    assert_eq!(rt; pieces.len(), 33);
+    assert_eq!(rt; pieces.first().copied(), Some(run(0x3004, 4092)));
+    assert_eq!(rt; pieces.get(31).copied(), Some(run(0x2_6000, 4096)));
+    assert_eq!(rt; pieces.get(32).copied(), Some(run(0x2_7000, 4)));
+    Ok(())
+}
+
+#[test]
+fn refused_before_a_list_is_read(rt: HostRuntime) -> Result<(), Fail> {
+    let memory = holding(rt.alloc(), &[])?;
+    let offset = StatusCode::PrpOffsetInvalid;
+    let unmapped = StatusCode::DataTransferError;
+    for (prp1, prp2, need, code) in [
+        (0x3002, 0, 512, offset),
+        (0x4_0002, 0, 512, offset),
+        (0x4_0000, 0, 512, unmapped),
+        (0x3000, 0x5004, 8192, offset),
+        (0x3000, 0x4_0000, 8192, unmapped),
+        (0x4_0000, 0x5004, 8192, unmapped),
+        (0x3000, 0x6ffc, 12288, offset),
+        (0x3000, 0x4_0000, 12288, unmapped),
+    ] {
+        let (wants, end, pieces) = read(rt.alloc(), &memory, prp1, prp2, need)?;
+        assert!(rt; wants.is_empty());
+        assert_eq!(rt; end, refused(code));
+        assert!(rt; pieces.is_empty());
+    }
+    Ok(())
+}
+
+#[test]
+fn refused_in_a_list(rt: HostRuntime) -> Result<(), Fail> {
+    let offset = StatusCode::PrpOffsetInvalid;
+    let unmapped = StatusCode::DataTransferError;
+    for (prp2, slots, code) in [
+        // a later list pointer, be it at a multiple of 8
+        (0x6ff8, [(0x6ff8, 0x7008), (0x7008, 0x8000)], offset),
+        (0x6ff8, [(0x6ff8, 0x4_0000), (0x7000, 0x8000)], unmapped),
+        // entries, the first faulty one of which decides
+        (0x6000, [(0x6000, 0x4_0000), (0x6008, 0x8004)], unmapped),
+        (0x6000, [(0x6000, 0x8004), (0x6008, 0x4_0000)], offset),
+        (0x6000, [(0x6000, 0x8000), (0x6008, 0x9004)], offset),
+    ] {
+        let memory = holding(rt.alloc(), &slots)?;
+        let (wants, end, pieces) = read(rt.alloc(), &memory, 0x3000, prp2, 12288)?;
+        assert_eq!(rt; wants.len(), 1);
+        assert_eq!(rt; end, refused(code));
+        assert!(rt; pieces.is_empty());
+    }
+    Ok(())
+}
