@@ -1,3 +1,4 @@
 pub mod Cursors
+pub mod HostRuns
 pub mod Parses
 pub mod Shown

@@ -3,6 +3,7 @@
 //! - [`PrpParse`] reads PRP1, PRP2 and the list that PRP2 may point to. It looks at no memory itself: [`PrpParse::wants`] says which
 //!   bytes it wants next, and [`PrpParse::feed`] gives them to it, each of them once. In the end it is `Done` and tells the places of
 //!   the transfer, or has a `Fault`.
+//! - [`fits`] says whether a transfer can name places by PRP, by their host addresses.
 //! - [`laws`] states that feeding a parse what a memory shows where it asks leaves unchanged what it ends in there.
 //!
 //! A parse is seen as what it has still to read: a dialogue that asks for slots, goes on with what it is given, and ends in the
@@ -17,10 +18,12 @@
 #![tactic(auto)]
 
 mod cursor;
+mod fitting;
 pub mod laws;
 mod parse;
 mod runs;
 
+pub use fitting::fits;
 pub use parse::PrpParse;
 
 #[cfg(test)]

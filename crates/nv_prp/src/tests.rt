@@ -1,9 +1,11 @@
 //! Transfers over a flat memory of 40000h bytes, by a driver that feeds what is wanted. 8,192 bytes are two pages, 12,288 three.
-ghost use Rattle.std.specs.Prelude.{◌≡◌, ◌<◌, ◌≤◌, IfSome, length};
+ghost use Rattle.std.specs.Prelude.{◌≡◌, ◌<◌, ◌≤◌, true, IfOk, IfSome, All, length};
+ghost use Rattle.nv_mem.specs.GuestMap.{mapped};
+ghost use Rattle.nv_model.specs.Laws.{IsMappedPiece};
 
-use crate::PrpParse;
+use crate::{PrpParse, fits};
 use nv_entry::StatusCode;
-use nv_mem::{GuestMap, NoMemory, Piece, Region};
+use nv_mem::{GuestMap, NoMemory, Piece, Places, Region};
 use nv_model::Want;
 use std::alloc::Global;
 use std::test::Fail;
@@ -191,6 +193,86 @@ fn refused_in_a_list(rt: HostRuntime) -> Result<(), Fail> {
         assert_eq!(rt; wants.len(), 1);
         assert_eq!(rt; end, refused(code));
         assert!(rt; pieces.is_empty());
+    }
+    Ok(())
+}
+
+// Two halves of a guest's 128 KiB that are apart in the host.
+fn split_map(alloc: Global) -> Result<GuestMap, Fail> {
+    let regions = vec![in alloc;
+        Region {
+            guest: 0,
+            host: 0x10_0000,
+            len: 0x1_0000
+        },
+        Region {
+            guest: 0x1_0000,
+            host: 0x15_0000,
+            len: 0x1_0000
+        },
+    ]?;
+    Ok(GuestMap::new(0x100_0000, regions)?)
+}
+
+fn places_of(alloc: Global, pieces: &[Piece]) -> Result<Places, NoMemory> {
+    let mut places = Places::new(alloc);
+    for piece in pieces {
+        places.push(*piece)?;
+    }
+    Ok(places)
+}
+
+// Whether these places fit, or nothing where one of them is not mapped.
+fn fit(map: &GuestMap, places: &Places) -> Option<bool> {
+    if are_mapped(map, places) {
+        Some(fits(map, places))
+    } else {
+        None
+    }
+}
+
+fn are_mapped(map: &GuestMap, places: &Places) -> bool
+    ensures { result ≡ true → All (IsMappedPiece (mapped map.now.regions)) places.now }
+{
+    for piece in places.pieces() {
+        if !is_mapped(map, *piece) {
+            return false;
+        }
+    }
+    true
+}
+
+fn is_mapped(map: &GuestMap, piece: Piece) -> bool
+    ensures { result ≡ true → IsMappedPiece (mapped map.now.regions) piece }
+{
+    match piece {
+        Piece::Run { addr, len } => map.holds(addr, len),
+        Piece::Bucket { len: _ } => true,
+    }
+}
+
+#[test]
+fn which_places_fit(rt: HostRuntime) -> Result<(), Fail> {
+    let map = split_map(rt.alloc())?;
+    let bucket = Piece::Bucket { len: 512 };
+    for (first, second, expected) in [
+        (run(0x3000, 512), run(0x3200, 512), true),
+        (run(0x3004, 512), run(0x3204, 508), true),
+        (run(0x3002, 512), run(0x3202, 512), false),
+        // the second half of a transfer begins a page, or does not; the first ends one, or does not
+        (run(0x3e00, 512), run(0x5000, 512), true),
+        (run(0x3e00, 512), run(0x5200, 512), false),
+        (run(0x3c00, 512), run(0x5000, 512), false),
+        // over the end of the first half of the memory
+        (run(0xff00, 256), run(0x1_0000, 256), true),
+        (run(0xff00, 512), run(0x1_0100, 512), true),
+        (run(0xff02, 254), run(0x1_0000, 258), false),
+        (run(0xfe00, 256), run(0xff00, 256), true),
+        (run(0x3000, 512), bucket, false),
+        (bucket, run(0x3000, 512), false),
+    ] {
+        let places = places_of(rt.alloc(), &[first, second])?;
+        assert_eq!(rt; fit(&map, &places), Some(expected));
     }
     Ok(())
 }
