@@ -1,15 +1,17 @@
 -- Lemmas on host addresses that fit PRP.
-use Rattle.std.proofs.Common.{◌≡◌, ℕ, zero, suc, ◌+◌, ◌-◌, ◌%◌, ◌<◌, ◌≤◌, ◌^◌, Bool, true, false, ◌&&◌, ◌||◌, ◌==◌, List, [], ◌∷◌, ◌++◌, length, drop, get_or, Option, Some, None, is_some, option_to_list, arith, refl, sym, ap, ◌∙◌, append_assoc, eq-eqb, inl, inr}
+use Rattle.std.proofs.Common.{◌≡◌, ℕ, zero, suc, ◌+◌, ◌-◌, ◌%◌, ◌<◌, ◌≤◌, ◌^◌, Bool, true, false, ◌&&◌, ◌||◌, ◌==◌, List, [], ◌∷◌, ◌++◌, length, drop, get_or, replicate, Option, Some, None, is_some, option_to_list, arith, refl, sym, ap, ◌∙◌, append_assoc, length-append, eq-eqb, inl, inr}
 use Rattle.std.specs.List.{range_with_len, list_all}
 use Rattle.std.proofs.Math.Seq.{drop-cons}
 use Rattle.std.proofs.lemmas.Bool.{cases_lt}
 use Rattle.std.proofs.lemmas.Grind.{flat_map-append}
+use Rattle.std.proofs.lemmas.List.Sums.{sum_by-cons}
 use Rattle.nv_mem.specs.GuestMap.{Mapping, IsSound, IsLongestRun, everywhere, host_of, mapped}
-use Rattle.nv_mem.specs.Places.{Place, addresses, places_of}
+use Rattle.nv_mem.specs.Places.{Place, At, Bucket, addresses, piece_len, places_of, places_of_piece, total_len}
 use Rattle.nv_mem.specs.declared.piece.Piece.{Piece}
 use Rattle.nv_mem.specs.declared.piece.Piece.TheVariants as piece
 use Rattle.nv_mem.specs.declared.region.Region.{Region}
 use Rattle.nv_mem.proofs.Counts.{AllMapped-tested}
+use Rattle.nv_mem.proofs.PlaceLists.{length-places_of}
 use Rattle.nv_mem.proofs.Images.{host_of-high, IsRun-inside}
 use Rattle.nv_prp.specs.Fits.{fit_behind, host_address, host_addresses, hosts_of, is_run, may_follow, places_fit_behind}
 
@@ -79,7 +81,7 @@ may_follow-next : (addr : ℕ) → may_follow (Some addr) addr ≡ true
 may_follow-next addr = ap (λ (b : Bool). b || (addr % 4096 == 0 && addr % 4096 == 0)) (eq-eqb addr addr refl)
 
 -- bytes in a row fit where the first may follow
-fit_behind-row : (end : Option ℕ) (host n : ℕ) (rest : List ℕ)
+pub fit_behind-row : (end : Option ℕ) (host n : ℕ) (rest : List ℕ)
     → fit_behind end (range_with_len host (suc n) ++ rest) ≡ (may_follow end host && fit_behind (Some (host + suc n)) rest)
 unfolding fit_behind
 fit_behind-row end host zero rest = refl
@@ -90,20 +92,26 @@ fit_behind-row end host (suc n) rest =
     ∙ ap (λ (b : Bool). b && fit_behind (Some (host + 1 + suc n)) rest) (may_follow-next (host + 1))
     ∙ ap (λ (a : ℕ). fit_behind (Some a) rest) at)
 
--- the next row of a run
+-- the next row of a run, and what is behind it
+pub hosts_of-run : (regions : List Region) (addr len done host n : ℕ) → done < len → IsLongestRun regions (addr + done) (len - done) host n
+    → hosts_of regions (addresses (addr + done) (len - done)) ≡ range_with_len host n ++ hosts_of regions (addresses (addr + (done + n)) (len - (done + n)))
+hosts_of-run regions addr len done host n below longest =
+    let within = longest.within in
+    let split : len - done ≡ n + (len - (done + n)) = omega arith in
+    let at : addr + done + n ≡ addr + (done + n) = omega arith in
+    ap (λ (k : ℕ). hosts_of regions (addresses (addr + done) k)) split
+    ∙ hosts_of-row regions (addr + done) host n (len - (done + n)) longest.run.contiguous
+    ∙ ap (λ (a : ℕ). range_with_len host n ++ hosts_of regions (addresses a (len - (done + n)))) at
+
+-- whether it fits, and then what is behind it
 pub fit_behind-run : (regions : List Region) (end : Option ℕ) (addr len done host n : ℕ) (rest : List ℕ) → done < len → IsLongestRun regions (addr + done) (len - done) host n
     → fit_behind end (hosts_of regions (addresses (addr + done) (len - done)) ++ rest)
     ≡ (may_follow end host && fit_behind (Some (host + n)) (hosts_of regions (addresses (addr + (done + n)) (len - (done + n))) ++ rest))
 fit_behind-run regions end addr len done host n rest below longest =
     let some = longest.run.nonempty in
-    let within = longest.within in
-    let split : len - done ≡ n + (len - (done + n)) = omega arith in
     let one : n ≡ suc (n - 1) = omega arith in
-    let at : addr + done + n ≡ addr + (done + n) = omega arith in
     let more : List ℕ = hosts_of regions (addresses (addr + (done + n)) (len - (done + n))) ++ rest in
-    ap (λ (k : ℕ). fit_behind end (hosts_of regions (addresses (addr + done) k) ++ rest)) split
-    ∙ ap (λ (hs : List ℕ). fit_behind end (hs ++ rest)) (hosts_of-row regions (addr + done) host n (len - (done + n)) longest.run.contiguous)
-    ∙ ap (λ (a : ℕ). fit_behind end ((range_with_len host n ++ hosts_of regions (addresses a (len - (done + n)))) ++ rest)) at
+    ap (λ (hs : List ℕ). fit_behind end (hs ++ rest)) (hosts_of-run regions addr len done host n below longest)
     ∙ ap (fit_behind end) (append_assoc (range_with_len host n) (hosts_of regions (addresses (addr + (done + n)) (len - (done + n)))) rest)
     ∙ ap (λ (k : ℕ). fit_behind end (range_with_len host k ++ more)) one
     ∙ fit_behind-row end host (n - 1) more
@@ -130,6 +138,56 @@ places_fit-run regions old new pieces i d addr len fit below is fits =
     ap (places_fit_behind regions old) (at_index pieces i d below ∙ ap (λ (p : Piece). p ∷ rest) is)
     ∙ ap (λ (hs : List ℕ). list_all is_run rest && fit_behind old hs) (hosts_of-append regions (addresses addr len) (places_of rest))
     ∙ ap (λ (b : Bool). list_all is_run rest && b) (fits (host_addresses regions rest))
+
+-- the host addresses of a piece, and of those behind it
+pub host_addresses-at : (regions : List Region) (pieces : List Piece) (i : ℕ) (d p : Piece) → i < length pieces → get_or pieces i d ≡ p
+    → host_addresses regions (drop i pieces) ≡ hosts_of regions (places_of_piece p) ++ host_addresses regions (drop (i + 1) pieces)
+host_addresses-at regions pieces i d p below is =
+    ap (host_addresses regions) (at_index pieces i d below ∙ ap (λ (q : Piece). q ∷ drop (i + 1) pieces) is)
+    ∙ hosts_of-append regions (places_of_piece p) (places_of (drop (i + 1) pieces))
+
+-- its bytes, and those behind it
+pub total_len-at : (pieces : List Piece) (i : ℕ) (d p : Piece) → i < length pieces → get_or pieces i d ≡ p
+    → total_len (drop i pieces) ≡ piece_len p + total_len (drop (i + 1) pieces)
+total_len-at pieces i d p below is =
+    ap total_len (at_index pieces i d below ∙ ap (λ (q : Piece). q ∷ drop (i + 1) pieces) is)
+    ∙ sum_by-cons piece_len p (drop (i + 1) pieces)
+
+-- there are no more host addresses than places
+host_address-one : (o : Option ℕ) → length (option_to_list o) ≤ 1
+host_address-one None = omega arith
+host_address-one (Some host) = omega arith
+
+place-one : (regions : List Region) (p : Place) → length (host_address regions p) ≤ 1
+place-one regions (At addr) = host_address-one (host_of regions addr)
+place-one regions Bucket = omega arith
+
+length-hosts_of : (regions : List Region) (ps : List Place) → length (hosts_of regions ps) ≤ length ps
+unfolding hosts_of
+length-hosts_of regions [] = omega arith
+length-hosts_of regions (p ∷ ps) =
+    let count = length-append (host_address regions p) (hosts_of regions ps) in
+    let one = place-one regions p in
+    let rest = length-hosts_of regions ps in
+    omega arith
+
+-- nor than bytes
+pub length-host_addresses : (regions : List Region) (pieces : List Piece) → length (host_addresses regions pieces) ≤ total_len pieces
+length-host_addresses regions pieces =
+    let hosts = length-hosts_of regions (places_of pieces) in
+    let places = length-places_of pieces in
+    omega arith
+
+-- buckets have no host addresses
+pub hosts_of-buckets : (regions : List Region) (len : ℕ) → hosts_of regions (replicate len Bucket) ≡ []
+unfolding hosts_of
+hosts_of-buckets regions zero = refl
+hosts_of-buckets regions (suc len) = hosts_of-buckets regions len
+
+-- no pieces have none
+pub host_addresses-none : (regions : List Region) (pieces : List Piece) (i : ℕ) → length pieces ≤ i → host_addresses regions (drop i pieces) ≡ []
+unfolding hosts_of
+host_addresses-none regions pieces i past = ap (host_addresses regions) (drop-past pieces i past)
 
 -- a bucket does not fit
 pub places_fit-bucket : (regions : List Region) (old : Option ℕ) (pieces : List Piece) (i : ℕ) (d : Piece) (len : ℕ)

@@ -27,7 +27,7 @@ unfolding in_memory
 in_memory-if m true from left other f g = refl
 in_memory-if m false from left other f g = refl
 
-in_memory-entries : (m : ℕ → ℕ) (mapped : ℕ → Bool) (pages slots from bytes : ℕ) (runs : List Piece)
+pub in_memory-entries : (m : ℕ → ℕ) (mapped : ℕ → Bool) (pages slots from bytes : ℕ) (runs : List Piece)
     → in_memory m (read_entries mapped (suc pages) slots from bytes runs)
     ≡ in_memory m (behind_slot mapped pages slots from bytes runs (number_at (bytes_from m from 8) 0 8))
 unfolding read_entries

@@ -1,9 +1,10 @@
 //! Transfers over a flat memory of 40000h bytes, by a driver that feeds what is wanted. 8,192 bytes are two pages, 12,288 three.
 ghost use Rattle.std.specs.Prelude.{◌≡◌, ◌<◌, ◌≤◌, true, IfOk, IfSome, All, length};
 ghost use Rattle.nv_mem.specs.GuestMap.{mapped};
+ghost use Rattle.nv_mem.specs.Places.{piece_len, total_len};
 ghost use Rattle.nv_model.specs.Laws.{IsMappedPiece};
 
-use crate::{PrpParse, fits};
+use crate::{PrpParse, Prps, build, build_run, fits};
 use nv_entry::StatusCode;
 use nv_mem::{GuestMap, NoMemory, Piece, Places, Region};
 use nv_model::Want;
@@ -274,5 +275,136 @@ fn which_places_fit(rt: HostRuntime) -> Result<(), Fail> {
         let places = places_of(rt.alloc(), &[first, second])?;
         assert_eq!(rt; fit(&map, &places), Some(expected));
     }
+    Ok(())
+}
+
+// Whether these places are 131,072 bytes at most.
+fn are_few(places: &Places) -> bool
+    ensures { result ≡ true → total_len places.now ≤ 131072 }
+{
+    let mut left = 131072;
+    for piece in places.pieces() {
+        let len = len_of(*piece);
+        if len > left {
+            return false;
+        }
+        left -= len;
+    }
+    true
+}
+
+fn len_of(piece: Piece) -> u64
+    ensures { result ≡ piece_len piece }
+{
+    match piece {
+        Piece::Run { addr: _, len } => len,
+        Piece::Bucket { len } => len,
+    }
+}
+
+// What names these places, or nothing where the conditions of `build` don't hold.
+fn built(map: &GuestMap, places: &Places, list_page: u64) -> Option<Prps> {
+    if !are_mapped(map, places) || !are_few(places) || list_page % 4096 != 0 {
+        return None;
+    }
+    if fits(map, places) {
+        Some(build(map, places, list_page))
+    } else {
+        None
+    }
+}
+
+// A list of these entries.
+fn list_of(entries: &[u64]) -> [u64; 32] {
+    let mut list = [0; 32];
+    for (place, entry) in list.iter_mut().zip(entries.iter()) {
+        *place = *entry;
+    }
+    list
+}
+
+#[test]
+fn what_is_built(rt: HostRuntime) -> Result<(), Fail> {
+    let map = split_map(rt.alloc())?;
+    let none = list_of(&[]);
+    for (pieces, prp1, prp2, list, used) in [
+        ([run(0x3000, 256), run(0x3100, 256)], 0x10_3000, 0, none, 0),
+        (
+            [run(0x3e00, 512), run(0x5000, 512)],
+            0x10_3e00,
+            0x10_5000,
+            none,
+            0,
+        ),
+        // over the end of the first half of the memory, and up to it
+        (
+            [run(0xff00, 256), run(0x1_0000, 256)],
+            0x10_ff00,
+            0x15_0000,
+            none,
+            0,
+        ),
+        ([run(0xfe00, 256), run(0xff00, 256)], 0x10_fe00, 0, none, 0),
+        // three pages
+        (
+            [run(0x3000, 4096), run(0x8000, 8192)],
+            0x10_3000,
+            0x40_3000,
+            list_of(&[0x10_8000, 0x10_9000]),
+            2,
+        ),
+    ] {
+        let expected = Prps {
+            prp1,
+            prp2,
+            list,
+            used,
+        };
+        let places = places_of(rt.alloc(), &pieces)?;
+        assert_eq!(rt; built(&map, &places, 0x40_3000), Some(expected));
+    }
+    Ok(())
+}
+
+#[test]
+fn all_entries_of_a_list(rt: HostRuntime) -> Result<(), Fail> {
+    // 33 pages from an offset of 4: the first entry of the list, and the last
+    let map = map(rt.alloc())?;
+    let places = places_of(rt.alloc(), &[run(0x3004, 131072)])?;
+    let prps = built(&map, &places, 0x40_3000);
+    assert_eq!(rt; prps.map(|p| p.prp1), Some(0x10_3004));
+    assert_eq!(rt; prps.map(|p| p.prp2), Some(0x40_3000));
+    assert_eq!(rt; prps.map(|p| p.used), Some(32));
+    assert_eq!(rt; prps.map(|p| p.list[0]), Some(0x10_4000));
+    assert_eq!(rt; prps.map(|p| p.list[31]), Some(0x12_3000));
+    Ok(())
+}
+
+#[test]
+fn what_names_a_run(rt: HostRuntime) -> Result<(), Fail> {
+    let one = Prps {
+        prp1: 0x40_4000,
+        prp2: 0,
+        list: list_of(&[]),
+        used: 0,
+    };
+    assert_eq!(rt; build_run(0x40_4000, 512, 0x40_3000), one);
+    assert_eq!(rt; build_run(0x40_4000, 4096, 0x40_3000), one);
+    let two = Prps {
+        prp2: 0x40_5000,
+        ..one
+    };
+    assert_eq!(rt; build_run(0x40_4000, 4097, 0x40_3000), two);
+    let three = Prps {
+        prp2: 0x40_3000,
+        list: list_of(&[0x40_5000, 0x40_6000]),
+        used: 2,
+        ..one
+    };
+    assert_eq!(rt; build_run(0x40_4000, 12288, 0x40_3000), three);
+    let whole = build_run(0x40_4000, 131072, 0x40_3000);
+    assert_eq!(rt; whole.used, 31);
+    assert_eq!(rt; whole.list[30], 0x42_3000);
+    assert_eq!(rt; whole.list[31], 0);
     Ok(())
 }
