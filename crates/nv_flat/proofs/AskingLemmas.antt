@@ -10,9 +10,9 @@ use Rattle.nv_model.specs.Reading.{Reading, Faulty, TooLong, Spells, unless_faul
 use Rattle.nv_model.specs.Sgl.{Array, array_by, behind_own, fault_by, pieces_by, read_array, read_descriptor, read_sgl}
 use Rattle.nv_model.specs.Transcript.{part}
 use Rattle.nv_model.proofs.Asking.{IsMappedFrom, IsMappedFrom-part, array_by-mapped}
-use Rattle.nv_sgl.specs.Feeding.{fed}
-use Rattle.nv_sgl.specs.Want.{want_of}
-use Rattle.nv_sgl.specs.declared.want.Want.TheVariants as want
+use Rattle.nv_model.specs.Transcript.{fed}
+use Rattle.nv_model.specs.Want.{want_of}
+use Rattle.nv_model.specs.declared.want.Want.TheVariants as want
 use Rattle.nv_flat.specs.Flat.{identity_map}
 
 -- a dialogue asks so often at most, whatever the bytes are, and each time for some bytes that are mapped, with those behind them that

@@ -12,10 +12,10 @@ use Rattle.nv_model.specs.Judge.{sized}
 use Rattle.nv_model.specs.Memory.{bytes_from}
 use Rattle.nv_model.specs.Reading.{Reading, Faulty, TooLong, Spells}
 use Rattle.nv_model.specs.Sgl.{read_sgl}
-use Rattle.nv_sgl.specs.Feeding.{fed}
+use Rattle.nv_model.specs.Transcript.{fed}
 use Rattle.nv_sgl.specs.Parse.{Parse, dialogue_of}
-use Rattle.nv_sgl.specs.Want.{want_of}
-use Rattle.nv_sgl.specs.declared.want.Want.TheVariants as want
+use Rattle.nv_model.specs.Want.{want_of}
+use Rattle.nv_model.specs.declared.want.Want.TheVariants as want
 use Rattle.nv_sgl.proofs.Shown.{in_memory-fed}
 use Rattle.nv_flat.specs.Flat.{Flat, byte_in, identity_map}
 use Rattle.nv_flat.specs.Listed.{IsThere, refusal_of_reading, sgl_dialogue, sgl_reading}

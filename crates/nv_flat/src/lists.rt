@@ -2,9 +2,9 @@
 
 ghost use Rattle.std.specs.Prelude.{◌≡◌, IfOk, OnOk, length};
 ghost use Rattle.nv_model.specs.Memory.{bytes_from};
-ghost use Rattle.nv_sgl.specs.Feeding.{fed};
+ghost use Rattle.nv_model.specs.Transcript.{fed};
 ghost use Rattle.nv_sgl.specs.Parse.{dialogue_of};
-ghost use Rattle.nv_sgl.specs.Want.{want_of};
+ghost use Rattle.nv_model.specs.Want.{want_of};
 ghost use Rattle.nv_flat.specs.Flat.{byte_in};
 ghost use Rattle.nv_flat.specs.Listed.{IsListed, IsThere, sgl_reading};
 

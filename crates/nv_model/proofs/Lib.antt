@@ -4,6 +4,7 @@ pub mod Asking
 pub mod CarriedOut
 pub mod DialogueLemmas
 pub mod Endings
+pub mod Feedings
 pub mod InPlace
 pub mod Judged
 pub mod MemoryAlike

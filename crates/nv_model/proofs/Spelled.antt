@@ -1,18 +1,19 @@
 -- What the pieces that a list spells have in common: each run is mapped, and those of a PRP list are as long as the transfer.
-use Rattle.std.proofs.Common.{◌≡◌, ℕ, zero, suc, ◌+◌, ◌-◌, ◌*◌, ◌/◌, ◌%◌, ◌≤◌, min, Bool, true, false, cond, not, ◌&&◌, ◌==◌, nat_lt, List, [], ◌∷◌, ◌++◌, All, Option, Some, None, arith, refl, sym, ap, ◌∙◌, eqb-true, zero-add}
+use Rattle.std.proofs.Common.{◌≡◌, ℕ, zero, suc, ◌+◌, ◌-◌, ◌*◌, ◌/◌, ◌%◌, ◌≤◌, min, Bool, true, false, cond, not, ◌&&◌, ◌==◌, nat_lt, List, [], ◌∷◌, ◌++◌, All, Option, Some, None, arith, refl, sym, ap, ◌∙◌, eq-eqb, eqb-true, zero-add}
 use Rattle.std.proofs.lemmas.List.Elements.{All-nil, All-cons, All-append}
 use Rattle.std.proofs.lemmas.List.Sums.{sum_by-append}
 use Rattle.nv_entry.specs.Layout.{number_at}
 use Rattle.nv_entry.specs.Descriptor.{address_of, length_of, kind_of}
 use Rattle.nv_entry.specs.declared.descriptor_type.DescriptorType.{DescriptorType}
 use Rattle.nv_entry.specs.declared.descriptor_type.DescriptorType.TheVariants.{DataBlock, BitBucket, Segment, LastSegment}
-use Rattle.nv_entry.specs.declared.status_code.StatusCode.TheVariants.{DataTransferError, PrpOffsetInvalid}
+use Rattle.nv_entry.specs.declared.status_code.StatusCode.TheVariants.{DataTransferError, PrpOffsetInvalid, SglLengthInvalid}
 use Rattle.nv_mem.specs.GuestMap.{everywhere}
 use Rattle.nv_mem.specs.Places.{total_len, piece_len}
 use Rattle.nv_mem.specs.declared.piece.Piece.{Piece}
 use Rattle.nv_mem.specs.declared.piece.Piece.TheVariants.{Run, Bucket}
-use Rattle.nv_model.specs.Dialogue.{Dialogue, End}
-use Rattle.nv_model.specs.Reading.{Reading, Spells, run}
+use Rattle.nv_model.specs.Dialogue.{Dialogue, End, Ask, and_then}
+use Rattle.nv_model.specs.Reading.{Reading, Faulty, TooLong, Spells, run}
+use Rattle.nv_model.specs.Judge.{sized}
 use Rattle.nv_model.specs.Sgl.{Array, array_by, behind_own, fault_by, pieces_by, read_array, read_descriptor, read_sgl}
 use Rattle.nv_model.specs.Prp.{entry_fault, first_len, page, pages_of, read_entries, read_page, read_prp, read_prp2, slots_of}
 use Rattle.nv_model.specs.Laws.{IsMappedPiece}
@@ -162,3 +163,36 @@ read_prp-of_len mapped prp1 prp2 len =
     (λ fine. read_prp2-of_len mapped len (pages_of (len - first_len prp1 len)) prp2 (len - first_len prp1 len) (run prp1 (first_len prp1 len)) (0 + first_len prp1 len)
     (AreOfLen-run mapped 0 [] prp1 (first_len prp1 len) none (entry_fault-none mapped 4 prp1 (first_len prp1 len) fine))
     (omega arith) (pages_of-fit (len - first_len prp1 len)))
+
+-- ---- another length than the transfer's
+
+-- functions that agree at each argument
+functions-agree : {A B : Type 0} (f g : A → B) → ((a : A) → f a ≡ g a) → f ≡ g
+functions-agree f g same = λ i. λ a. same a i
+
+-- where each end has the transfer's length, none is faulty for its length
+sized-kept : (len : ℕ) (d : Dialogue Reading) → EndsIn (OfPieces (λ pieces. total_len pieces ≡ len)) d → and_then d (λ reading. End (sized len reading)) ≡ d
+unfolding and_then
+sized-kept len (End (Faulty code)) ends = refl
+sized-kept len (End TooLong) ends = refl
+sized-kept len (End (Spells pieces)) ends =
+    ap (λ (b : Bool). End (cond b (Spells pieces) (Faulty SglLengthInvalid))) (eq-eqb (total_len pieces) len ends)
+sized-kept len (Ask addr unit left next) ends =
+    ap (λ (f : List ℕ → Dialogue Reading). Ask addr unit left f)
+    (functions-agree (λ bytes. and_then (next bytes) (λ reading. End (sized len reading))) next (λ bytes. sized-kept len (next bytes) (ends bytes)))
+
+-- what holds of the ends holds of them in other words
+EndsIn-weaker : {A : Type 0} (P Q : A → Type 0) (d : Dialogue A) → ((value : A) → P value → Q value) → EndsIn P d → EndsIn Q d
+EndsIn-weaker P Q (End value) so ends = so value ends
+EndsIn-weaker P Q (Ask addr unit left next) so ends = λ bytes. EndsIn-weaker P Q (next bytes) so (ends bytes)
+
+OfPieces-total : (mapped : ℕ → Bool) (len : ℕ) (reading : Reading) → OfPieces (AreOfLen mapped len) reading → OfPieces (λ pieces. total_len pieces ≡ len) reading
+OfPieces-total mapped len (Faulty code) of_len = tt
+OfPieces-total mapped len TooLong of_len = tt
+OfPieces-total mapped len (Spells pieces) of_len = of_len.total
+
+-- so it is with PRP1 and PRP2
+pub read_prp-sized : (mapped : ℕ → Bool) (prp1 prp2 len : ℕ) → and_then (read_prp mapped prp1 prp2 len) (λ reading. End (sized len reading)) ≡ read_prp mapped prp1 prp2 len
+read_prp-sized mapped prp1 prp2 len =
+    sized-kept len (read_prp mapped prp1 prp2 len)
+    (EndsIn-weaker (OfPieces (AreOfLen mapped len)) (OfPieces (λ pieces. total_len pieces ≡ len)) (read_prp mapped prp1 prp2 len) (OfPieces-total mapped len) (read_prp-of_len mapped prp1 prp2 len))

@@ -5,6 +5,7 @@ pub mod Sgl
 pub mod Prp
 pub mod Judge
 pub mod Transcript
+pub mod Want
 pub mod Queue
 pub mod Controller
 pub mod Admin

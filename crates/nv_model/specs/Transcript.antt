@@ -37,3 +37,18 @@ in_transcript (Ask addr unit left next) (byte ∷ buffer) reads =
 in_transcript (Ask addr unit left next) [] reads =
     met_by addr (part left) (first_read addr (part left) reads)
     (λ bytes rest. in_transcript (next (take unit bytes)) (drop unit bytes) rest)
+
+-- ---- a dialogue that is fed: bytes that were read where it asks are given to it unit by unit
+
+-- the dialogue with the bytes given to it, until they are used up or it ends
+unfoldable pub fed : {A : Type 0} → Dialogue A → List ℕ → Dialogue A
+fed (End value) bytes = End value
+fed (Ask addr unit left next) [] = Ask addr unit left next
+fed (Ask addr unit left next) (byte ∷ bytes) = fed (next (take unit (byte ∷ bytes))) (drop unit (byte ∷ bytes))
+
+-- the units that it takes of them
+unfoldable pub taken : {A : Type 0} → Dialogue A → List ℕ → List (List ℕ)
+taken (End value) bytes = []
+taken (Ask addr unit left next) [] = []
+taken (Ask addr unit left next) (byte ∷ bytes) =
+    take unit (byte ∷ bytes) ∷ taken (next (take unit (byte ∷ bytes))) (drop unit (byte ∷ bytes))

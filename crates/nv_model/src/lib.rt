@@ -6,7 +6,9 @@ mod bytes;
 pub mod laws;
 mod reply;
 pub mod rows;
+mod want;
 
 pub use act::Act;
 pub use bytes::Bytes;
 pub use reply::Reply;
+pub use want::Want;

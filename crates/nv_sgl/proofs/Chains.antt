@@ -8,7 +8,7 @@ use Rattle.nv_mem.specs.declared.piece.Piece.{Piece}
 use Rattle.nv_model.specs.Sgl.{pieces_by}
 use Rattle.nv_sgl.specs.Chain.{begins_array, grown_by, pieces_in, pieces_of}
 use Rattle.nv_sgl.specs.Cursor.{reading_from, ExtendsChain, ReadsPart}
-use Rattle.nv_sgl.specs.Feeding.{fed, taken}
+use Rattle.nv_model.specs.Transcript.{fed, taken}
 use Rattle.nv_sgl.specs.declared.cursor.Cursor.{Cursor}
 
 -- the newest array's pieces come last

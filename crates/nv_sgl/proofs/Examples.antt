@@ -9,10 +9,10 @@ use Rattle.nv_model.specs.Dialogue.{Dialogue, End, Ask, and_then}
 use Rattle.nv_model.specs.Reading.{Faulty, TooLong, Spells}
 use Rattle.nv_model.specs.Sgl.{read_array}
 use Rattle.nv_sgl.specs.Chain.{begins_array, grown, pieces_in, pieces_of}
-use Rattle.nv_sgl.specs.Feeding.{fed, taken}
+use Rattle.nv_model.specs.Transcript.{fed, taken}
 use Rattle.nv_sgl.specs.Parse.{Parse, dialogue_of, list_ahead}
-use Rattle.nv_sgl.specs.Want.{want_of}
-use Rattle.nv_sgl.specs.declared.want.Want.TheVariants as want
+use Rattle.nv_model.specs.Want.{want_of}
+use Rattle.nv_model.specs.declared.want.Want.TheVariants as want
 
 -- a descriptor of this kind, at 256 times `page`, of `len` bytes below 256
 abbrev descriptor : ℕ → ℕ → ℕ → List ℕ

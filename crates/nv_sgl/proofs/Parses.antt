@@ -16,12 +16,12 @@ use Rattle.nv_model.specs.Sgl.{behind_own, pieces_by, read_array, read_descripto
 use Rattle.nv_model.specs.Transcript.{part}
 use Rattle.nv_sgl.specs.Chain.{grown, pieces_in, pieces_of}
 use Rattle.nv_sgl.specs.Cursor.{reading_from, ExtendsChain, parse_at, IsParse, StandsBehind}
-use Rattle.nv_sgl.specs.Feeding.{fed, taken}
+use Rattle.nv_model.specs.Transcript.{fed, taken}
 use Rattle.nv_sgl.specs.Parse.{Parse, dialogue_of, list_ahead}
-use Rattle.nv_sgl.specs.Want.{want_of}
+use Rattle.nv_model.specs.Want.{want_of}
 use Rattle.nv_sgl.specs.declared.cursor.Cursor.{Cursor}
-use Rattle.nv_sgl.specs.declared.want.Want.TheVariants as want
-use Rattle.nv_sgl.proofs.Feedings.{fed-and_then, taken-and_then}
+use Rattle.nv_model.specs.declared.want.Want.TheVariants as want
+use Rattle.nv_model.proofs.Feedings.{fed-and_then, taken-and_then}
 use Rattle.nv_sgl.proofs.Parts.{reading_from-behind}
 
 -- ---- what is wanted

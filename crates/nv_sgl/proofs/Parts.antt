@@ -12,9 +12,9 @@ use Rattle.nv_model.specs.Reading.{Reading, unless_faulty}
 use Rattle.nv_model.specs.Sgl.{Array, array_by, fault_by, pieces_by, read_array, read_descriptor}
 use Rattle.nv_sgl.specs.Chain.{pieces_of}
 use Rattle.nv_sgl.specs.Cursor.{array_at, is_asking, reading_from, IsInRange, ReadsPart, StandsBehind}
-use Rattle.nv_sgl.specs.Feeding.{fed, taken}
+use Rattle.nv_model.specs.Transcript.{fed, taken}
 use Rattle.nv_sgl.specs.declared.cursor.Cursor.{Cursor}
-use Rattle.nv_sgl.proofs.Feedings.{fed-nil, taken-nil}
+use Rattle.nv_model.proofs.Feedings.{fed-nil, taken-nil}
 
 -- the cursor behind the next descriptor, before it was looked at
 abbrev pub past : Cursor → Cursor

@@ -1,5 +1,5 @@
 -- Lemmas on a dialogue that is fed what a memory shows where it asks.
-use Rattle.std.proofs.Common.{◌≡◌, ℕ, zero, suc, ◌+◌, ◌*◌, ◌<◌, ◌≤◌, Bool, true, false, not, ◌==◌, List, [], ◌∷◌, ◌++◌, take, drop, Option, Some, None, arith, refl, sym, ◌∙◌, ap, subst, if◌then◌else◌}
+use Rattle.std.proofs.Common.{◌≡◌, ℕ, zero, suc, ◌+◌, ◌*◌, ◌<◌, ◌≤◌, Bool, true, false, not, ◌==◌, List, ◌++◌, drop, Option, Some, None, arith, refl, sym, ◌∙◌, ap, subst, if◌then◌else◌}
 use Rattle.std.proofs.lemmas.Bool.Decides.{nat_tests}
 use Rattle.nv_entry.specs.Descriptor.{kind_of}
 use Rattle.nv_entry.specs.declared.descriptor_type.DescriptorType.{DescriptorType}
@@ -7,73 +7,22 @@ use Rattle.nv_entry.specs.declared.descriptor_type.DescriptorType.TheVariants.{D
 use Rattle.nv_entry.specs.declared.status_code.StatusCode.{StatusCode}
 use Rattle.nv_mem.specs.GuestMap.{mapped}
 use Rattle.nv_mem.specs.declared.piece.Piece.{Piece}
-use Rattle.nv_model.specs.Dialogue.{Dialogue, End, Ask, and_then, in_memory}
+use Rattle.nv_model.specs.Dialogue.{Dialogue, in_memory}
 use Rattle.nv_model.specs.Judge.{sized}
 use Rattle.nv_model.specs.Memory.{bytes_from}
 use Rattle.nv_model.specs.Reading.{Reading, unless_faulty}
 use Rattle.nv_model.specs.Sgl.{Array, array_by, fault_by, pieces_by, read_array, read_descriptor, segment_fault}
-use Rattle.nv_model.specs.Transcript.{ReadDone, in_transcript}
 use Rattle.nv_sgl.specs.Chain.{pieces_in}
-use Rattle.nv_sgl.specs.Feeding.{fed}
+use Rattle.nv_model.specs.Transcript.{fed}
 use Rattle.nv_sgl.specs.Parse.{Parse, dialogue_of, list_ahead}
-use Rattle.nv_sgl.specs.Want.{want_of}
-use Rattle.nv_sgl.specs.declared.want.Want.TheVariants as want
-use Rattle.nv_sgl.proofs.Feedings.{fed-and_then, fed-nil}
+use Rattle.nv_model.specs.Want.{want_of}
+use Rattle.nv_model.specs.declared.want.Want.TheVariants as want
+use Rattle.nv_model.proofs.Feedings.{drop-bytes_from, fed-and_then, fed-some, in_memory-end, take-bytes_from, KeepsEnd, KeepsEnd-fault, KeepsEnd-nil}
 use Rattle.nv_sgl.proofs.Parses.{want_of-part_of, IsPart}
-
--- ---- bytes of a memory
-
--- the first of them
-take-bytes_from : (m : ℕ → ℕ) (addr n k : ℕ) → take n (bytes_from m addr (n + k)) ≡ bytes_from m addr n
-unfolding bytes_from
-take-bytes_from m addr zero k = refl
-take-bytes_from m addr (suc n) k =
-    let more : suc n + k ≡ suc (n + k) = omega arith in
-    rw more (ap (λ (bytes : List ℕ). m addr ∷ bytes) (take-bytes_from m (suc addr) n k))
-
--- and those behind
-drop-bytes_from : (m : ℕ → ℕ) (addr n k : ℕ) → drop n (bytes_from m addr (n + k)) ≡ bytes_from m (addr + n) k
-unfolding bytes_from
-drop-bytes_from m addr zero k =
-    let none : zero + k ≡ k = omega arith in
-    let at : addr ≡ addr + zero = omega arith in
-    ap (bytes_from m addr) none ∙ ap (λ (a : ℕ). bytes_from m a k) at
-drop-bytes_from m addr (suc n) k =
-    let more : suc n + k ≡ suc (n + k) = omega arith in
-    let at : suc addr + n ≡ addr + suc n = omega arith in
-    rw more (drop-bytes_from m (suc addr) n k ∙ ap (λ (a : ℕ). bytes_from m a k) at)
-
--- ---- a dialogue that is fed
-
--- one that asks takes a unit of bytes, if there are any
-fed-some : {A : Type 0} (m : ℕ → ℕ) (from : ℕ) (addr unit left : ℕ) (next : List ℕ → Dialogue A) (n : ℕ) → 0 < n → fed (Ask addr unit left next) (bytes_from m from n) ≡ fed (next (take unit (bytes_from m from n))) (drop unit (bytes_from m from n))
-unfolding fed bytes_from
-fed-some m from addr unit left next zero some = absurd (omega arith)
-fed-some m from addr unit left next (suc n) some = refl
-
--- the end of a dialogue that goes on to its end at once
-in_memory-and_then : {A B : Type 0} (m : ℕ → ℕ) (d : Dialogue A) (f : A → B) → in_memory m (and_then d (λ v. End (f v))) ≡ f (in_memory m d)
-unfolding in_memory and_then
-in_memory-and_then m (End value) f = refl
-in_memory-and_then m (Ask addr unit left next) f = in_memory-and_then m (next (bytes_from m addr unit)) f
-
--- feeding these bytes leaves its end in this memory as it is
-pub record KeepsEnd (m : ℕ → ℕ) (d : Dialogue Reading) (bytes : List ℕ) : Type 0 where
-  pub same : in_memory m (fed d bytes) ≡ in_memory m d
-
--- no bytes do
-KeepsEnd-nil : (m : ℕ → ℕ) (d : Dialogue Reading) → KeepsEnd m d []
-KeepsEnd-nil m d = record { same = ap (in_memory m) (fed-nil d) }
 
 KeepsEnd-last : (m : ℕ → ℕ) (d : Dialogue Reading) (from n : ℕ) → n ≡ 0 → KeepsEnd m d (bytes_from m from (16 * n))
 unfolding bytes_from
 KeepsEnd-last m d from n none = rw none (KeepsEnd-nil m d)
-
--- what a fault ends does
-KeepsEnd-fault : (m : ℕ → ℕ) (fault : Option StatusCode) (d : Dialogue Reading) (bytes : List ℕ) → (fault ≡ None → KeepsEnd m d bytes) → KeepsEnd m (unless_faulty fault d) bytes
-unfolding fed
-KeepsEnd-fault m (Some code) d bytes keeps = record { same = refl }
-KeepsEnd-fault m None d bytes keeps = keeps refl
 
 -- a Segment with no fault is last in its array
 none_behind : (b c : Bool) (x y : StatusCode) (o : Option StatusCode) → (if b then Some x else if not c then Some y else o) ≡ None → c ≡ true
@@ -143,13 +92,6 @@ pub in_memory-fed : (m : ℕ → ℕ) (p : Parse) (addr len : ℕ) → want_of (
 unfolding dialogue_of
 in_memory-fed m p addr len wanted =
     ap (in_memory m) (fed-and_then (list_ahead p) (sized p.need) (bytes_from m addr len))
-    ∙ in_memory-and_then m (fed (list_ahead p) (bytes_from m addr len)) (sized p.need)
+    ∙ in_memory-end m (fed (list_ahead p) (bytes_from m addr len)) (sized p.need)
     ∙ ap (sized p.need) (KeepsEnd-list m p addr len (want_of-part_of p addr len wanted)).same
-    ∙ sym (in_memory-and_then m (list_ahead p) (sized p.need))
-
--- what is left of a part that a transcript met is fed
-pub in_transcript-fed : {A : Type 0} (d : Dialogue A) (bytes : List ℕ) (reads : List ReadDone) → in_transcript d bytes reads ≡ in_transcript (fed d bytes) [] reads
-unfolding in_transcript fed
-in_transcript-fed (End value) bytes reads = refl
-in_transcript-fed (Ask addr unit left next) [] reads = refl
-in_transcript-fed (Ask addr unit left next) (byte ∷ bytes) reads = in_transcript-fed (next (take unit (byte ∷ bytes))) (drop unit (byte ∷ bytes)) reads
+    ∙ sym (in_memory-end m (list_ahead p) (sized p.need))

@@ -8,7 +8,7 @@ use Rattle.nv_model.specs.Dialogue.{Dialogue}
 use Rattle.nv_model.specs.Reading.{Reading, unless_faulty}
 use Rattle.nv_model.specs.Sgl.{Array, array_by, fault_by, pieces_by, read_array}
 use Rattle.nv_sgl.specs.Chain.{grown, pieces_in, pieces_of}
-use Rattle.nv_sgl.specs.Feeding.{fed, taken}
+use Rattle.nv_model.specs.Transcript.{fed, taken}
 use Rattle.nv_sgl.specs.Parse.{Parse}
 use Rattle.nv_sgl.specs.declared.cursor.Cursor.{Cursor}
 

@@ -1,5 +1,3 @@
 pub mod Chain
 pub mod Cursor
-pub mod Feeding
 pub mod Parse
-pub mod Want

@@ -22,11 +22,10 @@ mod chain;
 mod cursor;
 pub mod laws;
 mod parse;
-mod want;
 
 pub use chain::Chain;
+pub use nv_model::Want;
 pub use parse::SglParse;
-pub use want::Want;
 
 #[cfg(test)]
 mod tests;

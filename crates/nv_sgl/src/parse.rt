@@ -7,9 +7,9 @@ ghost use Rattle.nv_model.specs.Sgl.{read_sgl};
 
 use crate::chain::Chain;
 use crate::cursor::Cursor;
-use crate::want::Want;
 use nv_entry::{Descriptor, StatusCode};
 use nv_mem::{GuestMap, NoMemory, Places};
+use nv_model::Want;
 use std::alloc::{Allocator, Global};
 use std::marker::Model;
 
@@ -44,8 +44,8 @@ impl<'a, A: Allocator + Clone> Model for SglParse<'a, A> {
 impl<'a, A: Allocator + Clone> SglParse<'a, A> {
     ghost use Rattle.nv_sgl.specs.Parse.{dialogue_of};
     ghost use Rattle.nv_sgl.specs.Chain.{grown};
-    ghost use Rattle.nv_sgl.specs.Feeding.{fed, taken};
-    ghost use Rattle.nv_sgl.specs.Want.{want_of};
+    ghost use Rattle.nv_model.specs.Transcript.{fed, taken};
+    ghost use Rattle.nv_model.specs.Want.{want_of};
 
     /// A parse of the list of a command's own descriptor `first`, for a transfer of `need` bytes. `dest` says whether the buffer
     /// is a destination, as that of a Read. What is read of the list is kept in `heap`.

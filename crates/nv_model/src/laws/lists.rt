@@ -3,7 +3,8 @@ ghost use Rattle.std.specs.Prelude.{◌≡◌, ℕ, Bool, List, [], All};
 ghost use Rattle.nv_entry.specs.Submission.{prp1_of, prp2_of};
 ghost use Rattle.nv_mem.specs.Places.{total_len};
 ghost use Rattle.nv_mem.specs.declared.piece.Piece.{Piece};
-ghost use Rattle.nv_model.specs.Dialogue.{asked, in_memory};
+ghost use Rattle.nv_model.specs.Dialogue.{End, and_then, asked, in_memory};
+ghost use Rattle.nv_model.specs.Judge.{sized};
 ghost use Rattle.nv_model.specs.Reading.{Spells};
 ghost use Rattle.nv_model.specs.Sgl.{read_sgl};
 ghost use Rattle.nv_model.specs.Prp.{read_prp};
@@ -22,6 +23,12 @@ pub fn lists_spell_mapped_runs()
 pub fn region_pages_have_the_transfers_length()
     ensures { (mapped : ℕ → Bool) (prp1 prp2 len : ℕ) (memory : ℕ → ℕ) (pieces : List Piece) →
         in_memory memory (read_prp mapped prp1 prp2 len) ≡ Spells pieces → total_len pieces ≡ len }
+{}
+
+/// So none is refused for its length, and its reading is the same with that check behind it.
+pub fn region_pages_are_sized()
+    ensures { (mapped : ℕ → Bool) (prp1 prp2 len : ℕ) →
+        and_then (read_prp mapped prp1 prp2 len) (λ reading. End (sized len reading)) ≡ read_prp mapped prp1 prp2 len }
 {}
 
 /// The 4,096 bytes of Identify need no list: nothing is read in memory, and so their reading is the same in every memory.

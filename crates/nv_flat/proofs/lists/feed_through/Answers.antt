@@ -1,6 +1,6 @@
 use Rattle.std.proofs.Common.{◌≡◌, ℕ, List, OnOk, ap, subst, ◌∙◌}
 use Rattle.nv_mem.specs.Bytes.{bytes_at}
-use Rattle.nv_sgl.specs.Feeding.{fed}
+use Rattle.nv_model.specs.Transcript.{fed}
 use Rattle.nv_sgl.specs.Parse.{dialogue_of}
 use Rattle.nv_flat.proofs.BufferLemmas.{bytes_at-from}
 use Rattle.nv_flat.proofs.lists.feed_through.Goals as goal

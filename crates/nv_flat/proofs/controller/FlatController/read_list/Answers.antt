@@ -1,6 +1,6 @@
 use Rattle.std.proofs.Common.{◌≡◌, Some, length, sym, ap, subst, ◌∙◌}
 use Rattle.nv_model.specs.Memory.{bytes_from}
-use Rattle.nv_sgl.specs.Feeding.{fed}
+use Rattle.nv_model.specs.Transcript.{fed}
 use Rattle.nv_sgl.specs.Parse.{dialogue_of}
 use Rattle.nv_flat.specs.Flat.{Flat, byte_in, identity_map}
 use Rattle.nv_flat.specs.Listed.{IsThere, refusal_of_reading}

@@ -1,6 +1,6 @@
 use Rattle.std.proofs.Common.{length, ◌∙◌, ap}
 use Rattle.nv_sgl.specs.Chain.{grown}
-use Rattle.nv_sgl.specs.Feeding.{fed, taken}
+use Rattle.nv_model.specs.Transcript.{fed, taken}
 use Rattle.nv_sgl.specs.Parse.{Parse, dialogue_of}
 use Rattle.nv_sgl.proofs.Parses.{dialogue_of-fed, grown-fed, want_of-whole}
 use Rattle.nv_sgl.proofs.parse.SglParse.feed.Goals as goal

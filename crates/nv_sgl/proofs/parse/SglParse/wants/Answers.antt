@@ -1,8 +1,8 @@
 use Rattle.std.proofs.Common.{◌≡◌, ◌*◌, subst, sym, ◌∙◌, ap, arith}
 use Rattle.nv_model.specs.Transcript.{part}
 use Rattle.nv_sgl.specs.Parse.{Parse, dialogue_of}
-use Rattle.nv_sgl.specs.Want.{want_of}
-use Rattle.nv_sgl.specs.declared.want.Want.TheVariants as want
+use Rattle.nv_model.specs.Want.{want_of}
+use Rattle.nv_model.specs.declared.want.Want.TheVariants as want
 use Rattle.nv_sgl.proofs.Parses.{dialogue_of-done, dialogue_of-sized, want_of-fault, want_of-part, want_of-too_long}
 use Rattle.nv_sgl.proofs.parse.SglParse.wants.Goals as goal
 

@@ -1,0 +1,5 @@
+pub mod Built
+pub mod Cursor
+pub mod Fits
+pub mod Met
+pub mod Parse

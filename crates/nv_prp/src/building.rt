@@ -1,0 +1,64 @@
+ghost use Rattle.std.specs.Prelude.{◌≡◌, ◌+◌, ◌%◌, ◌<◌, ◌≤◌, ◌^◌, All, true, length};
+ghost use Rattle.std.specs.List.{range_with_len};
+ghost use Rattle.nv_mem.specs.GuestMap.{everywhere, mapped};
+ghost use Rattle.nv_mem.specs.Places.{addresses, total_len};
+ghost use Rattle.nv_model.specs.Laws.{IsMappedPiece};
+ghost use Rattle.nv_prp.specs.Built.{built};
+ghost use Rattle.nv_prp.specs.Fits.{host_addresses, hosts_of, places_fit};
+ghost use Rattle.nv_prp.specs.Met.{met_more};
+
+use crate::met::Met;
+use crate::prps::Prps;
+use nv_mem::{GuestMap, Piece, Places};
+
+/// What names the host addresses of these places, which fit PRP and are 131,072 at most. Where there are more than two pages, the
+/// list of the page entries stands at `list_page`, which is a page's start.
+pub fn build(map: &GuestMap, places: &Places, list_page: u64) -> Prps
+    requires mapped { All (IsMappedPiece (mapped map.now.regions)) places.now }
+    requires fit { places_fit map.now.regions places.now ≡ true }
+    requires most { total_len places.now ≤ 131072 }
+    requires list { list_page % 4096 ≡ 0 }
+    ensures { result ≡ built list_page (host_addresses map.now.regions places.now) }
+{
+    let mut met = Met::nothing();
+    for piece in places.pieces() {
+        match *piece {
+            Piece::Run { addr, len } => add_run(map, addr, len, &mut met),
+            Piece::Bucket { len: _ } => {}
+        }
+    }
+    met.prps(list_page)
+}
+
+/// What names `len` bytes of the host, 1 to 131,072, in a row from `addr`, which is a page's start.
+pub fn build_run(addr: u64, len: u64, list_page: u64) -> Prps
+    requires some { 0 < len }
+    requires most { len ≤ 131072 }
+    requires start { addr % 4096 ≡ 0 }
+    requires inside { addr + len < 2 ^ 64 }
+    requires list { list_page % 4096 ≡ 0 }
+    ensures { result ≡ built list_page (range_with_len addr len) }
+{
+    let mut met = Met::nothing();
+    met.add_row(addr, len);
+    met.prps(list_page)
+}
+
+// Adds the host addresses of a run.
+fn add_run(map: &GuestMap, addr: u64, len: u64, met: &mut Met)
+    requires mapped { everywhere (mapped map.now.regions) addr len ≡ true }
+    requires most { len ≤ 131072 }
+    requires room { length (met_more met.old (hosts_of map.now.regions (addresses addr len))).entries ≤ 32 }
+    ensures { met.new ≡ met_more met.old (hosts_of map.now.regions (addresses addr len)) }
+{
+    // With the length of the host comes what is known of every map.
+    let _host_len = map.host_len();
+    let mut done = 0;
+    while done < len {
+        let Some((host, n)) = map.run(addr + done, len - done) else {
+            return;
+        };
+        met.add_row(host, n);
+        done += n;
+    }
+}

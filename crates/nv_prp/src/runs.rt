@@ -1,0 +1,65 @@
+ghost use Rattle.std.specs.Prelude.{◌≡◌, ◌<◌, ◌≤◌, ◌++◌, [], ◌∷◌, length, OnOk};
+
+use nv_mem::{NoMemory, Piece, Places};
+use std::marker::Model;
+
+/// How many pages a transfer lies in at most.
+const MOST: usize = 33;
+
+/// The runs of a transfer that were read, in order.
+///
+/// A contract sees it as their list.
+#[derive(Drop)]
+pub struct Runs {
+    runs: [Piece; MOST],
+    count: usize,
+}
+
+impl Model for Runs {
+    ghost use Rattle.std.specs.Prelude.{List, take, ◌≤◌};
+    ghost use Rattle.nv_mem.specs.declared.piece.Piece.{Piece};
+
+    ghost Value = { List Piece };
+
+    ghost view = { λ r. take r.count r.runs };
+
+    ghost invariant = { λ r. r.count ≤ 33 };
+}
+
+impl Runs {
+    /// No runs.
+    pub fn new() -> Self
+        ensures { result ≡ [] }
+    {
+        Runs {
+            runs: [Piece::Bucket { len: 0 }; MOST],
+            count: 0,
+        }
+    }
+
+    /// Adds a run behind the others.
+    pub fn push(&mut self, run: Piece)
+        requires { length self.old < 33 }
+        ensures { self.new ≡ self.old ++ run ∷ [] }
+    {
+        self.runs[self.count] = run;
+        self.count += 1;
+    }
+
+    /// The runs, in order.
+    pub fn as_slice(&self) -> &[Piece]
+        ensures { result.now ≡ self.now }
+    {
+        &self.runs[..self.count]
+    }
+}
+
+/// Adds the runs behind the pieces that are there.
+pub fn push_all(runs: &[Piece], places: &mut Places) -> Result<(), NoMemory>
+    ensures { OnOk result (places.new ≡ places.old ++ runs.now) }
+{
+    for run in runs {
+        places.push(*run)?;
+    }
+    Ok(())
+}
