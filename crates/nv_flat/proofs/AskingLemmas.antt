@@ -1,15 +1,17 @@
 -- How often a list asks, and where
-use Rattle.std.proofs.Common.{◌≡◌, ℕ, zero, suc, ◌+◌, ◌-◌, ◌*◌, ◌<◌, ◌≤◌, Bool, true, List, [], ◌∷◌, ◌++◌, length, take, drop, Option, Some, None, arith, refl, sym, subst}
+use Rattle.std.proofs.Common.{◌≡◌, ℕ, zero, suc, ◌+◌, ◌-◌, ◌*◌, ◌/◌, ◌%◌, ◌<◌, ◌≤◌, min, Bool, true, false, cond, ◌&&◌, ◌==◌, nat_lt, List, [], ◌∷◌, ◌++◌, length, take, drop, Option, Some, None, arith, refl, sym, ap, subst, ◌∙◌}
 use Rattle.std.proofs.lemmas.Bool.Decides.{nat_tests}
 use Rattle.nv_entry.specs.Descriptor.{kind_of}
 use Rattle.nv_entry.specs.declared.status_code.StatusCode.{StatusCode}
 use Rattle.nv_mem.specs.GuestMap.{mapped}
 use Rattle.nv_mem.specs.declared.piece.Piece.{Piece}
 use Rattle.nv_model.specs.Dialogue.{Dialogue, End, Ask, and_then}
-use Rattle.nv_model.specs.Reading.{Reading, Faulty, TooLong, Spells, unless_faulty}
+use Rattle.nv_model.specs.Reading.{Reading, Faulty, TooLong, Spells, run, unless_faulty}
 use Rattle.nv_model.specs.Sgl.{Array, array_by, behind_own, fault_by, pieces_by, read_array, read_descriptor, read_sgl}
 use Rattle.nv_model.specs.Transcript.{part}
-use Rattle.nv_model.proofs.Asking.{IsMappedFrom, IsMappedFrom-part, array_by-mapped}
+use Rattle.nv_entry.specs.Layout.{number_at}
+use Rattle.nv_model.specs.Prp.{entry_fault, first_len, page, pages_of, read_entries, read_page, read_prp, read_prp2, slots_of}
+use Rattle.nv_model.proofs.Asking.{IsMappedFrom, IsMappedFrom-part, array_by-mapped, entry_fault-mapped, others-left}
 use Rattle.nv_model.specs.Transcript.{fed}
 use Rattle.nv_model.specs.Want.{want_of}
 use Rattle.nv_model.specs.declared.want.Want.TheVariants as want
@@ -138,3 +140,85 @@ read_sgl-often mapped dest (suc budget) own =
     subst P (sym e)
     (read_descriptor-often mapped budget dest behind_own [] (λ a ps. read_array mapped dest budget a.left a.from a.by_last ps) own
     (λ i below. absurd (omega arith)) (λ a ps there. read_array-often mapped dest budget a.left a.from a.by_last ps there))
+
+-- ---- physical region pages
+
+-- as often as that is no more often than this
+AsksAtMost-weaken : {A : Type 0} (mapped : ℕ → Bool) (more n : ℕ) (d : Dialogue A) → AsksAtMost mapped n d → AsksAtMost mapped (more + n) d
+AsksAtMost-weaken mapped zero n d asks =
+    let e : n ≡ zero + n = omega arith in
+    let P : ℕ → Type 0 = λ k. AsksAtMost mapped k d in
+    subst P e asks
+AsksAtMost-weaken mapped (suc more) n d asks =
+    let e : suc (more + n) ≡ suc more + n = omega arith in
+    let P : ℕ → Type 0 = λ k. AsksAtMost mapped k d in
+    subst P e (AsksAtMost-more mapped (more + n) d (AsksAtMost-weaken mapped more n d asks))
+
+AsksAtMost-if : {A : Type 0} (mapped : ℕ → Bool) (n : ℕ) (b : Bool) (x y : Dialogue A) → (b ≡ true → AsksAtMost mapped n x) → (b ≡ false → AsksAtMost mapped n y) → AsksAtMost mapped n (cond b x y)
+AsksAtMost-if mapped n true x y so not_so = so refl
+AsksAtMost-if mapped n false x y so not_so = not_so refl
+
+read_page-often : (mapped : ℕ → Bool) (n bytes : ℕ) (pieces : List Piece) (follow : List Piece → Dialogue Reading) (addr : ℕ)
+    → ((ps : List Piece) → AsksAtMost mapped n (follow ps)) → AsksAtMost mapped n (read_page mapped bytes pieces follow addr)
+read_page-often mapped n bytes pieces follow addr goes =
+    AsksAtMost-unless_faulty mapped n (entry_fault mapped page addr (min bytes page)) _ (λ fine. goes (pieces ++ run addr (min bytes page)))
+
+-- each page asks for its entry, and for a pointer before it at most
+read_entries-often : (mapped : ℕ → Bool) (pages slots from bytes : ℕ) (pieces : List Piece)
+    → (0 < pages → 0 < slots) → IsMappedFrom mapped from (8 * min slots pages) → AsksAtMost mapped (pages + pages) (read_entries mapped pages slots from bytes pieces)
+unfolding read_entries
+read_entries-often mapped zero slots from bytes pieces some each = tt
+read_entries-often mapped (suc pages) slots from bytes pieces some each =
+    let here = some (omega arith) in
+    let twice : suc (suc (pages + pages)) ≡ suc pages + suc pages = omega arith in
+    let P : ℕ → Type 0 = λ k. AsksAtMost mapped k (read_entries mapped (suc pages) slots from bytes pieces) in
+    subst P twice
+    (AsksAtMost-if mapped (suc (suc (pages + pages))) (slots == 1 && nat_lt 0 pages) _ _
+    (λ _. (
+      omega arith,
+      (
+        IsMappedFrom-part mapped from (8 * min slots (suc pages)) from 8 each (omega arith) (omega arith),
+        λ slot.
+            AsksAtMost-unless_faulty mapped (suc (pages + pages)) (entry_fault mapped page (number_at slot 0 8) (8 * min (page / 8) (suc pages))) _ (λ fine.
+            let there = (entry_fault-mapped mapped page (number_at slot 0 8) (8 * min (page / 8) (suc pages)) fine).1 in (
+              omega arith,
+              (
+                there,
+                λ entry. read_page-often mapped (pages + pages) bytes pieces _ (number_at entry 0 8) (λ ps.
+                    read_entries-often mapped pages (page / 8 - 1) (number_at slot 0 8 + 8) (bytes - page) ps (λ _. omega arith)
+                    (IsMappedFrom-part mapped (number_at slot 0 8) (8 * min (page / 8) (suc pages)) (number_at slot 0 8 + 8) (8 * min (page / 8 - 1) pages) there (omega arith) (omega arith))),
+              ),
+            )),
+      ),
+    ))
+    (λ more. (
+      omega arith,
+      (
+        each,
+        λ entry. AsksAtMost-more mapped (pages + pages) _
+            (read_page-often mapped (pages + pages) bytes pieces _ (number_at entry 0 8) (λ ps.
+            read_entries-often mapped pages (slots - 1) (from + 8) (bytes - page) ps
+            (λ left. let not_one = others-left slots pages more left in omega arith)
+            (IsMappedFrom-part mapped from (8 * min slots (suc pages)) (from + 8) (8 * min (slots - 1) pages) each (omega arith) (omega arith)))),
+      ),
+    )))
+
+read_prp2-often : (mapped : ℕ → Bool) (pages prp2 bytes : ℕ) (pieces : List Piece) → AsksAtMost mapped (pages + pages) (read_prp2 mapped pages prp2 bytes pieces)
+read_prp2-often mapped zero prp2 bytes pieces = tt
+read_prp2-often mapped (suc zero) prp2 bytes pieces = read_page-often mapped (1 + 1) bytes pieces (λ ps. End (Spells ps)) prp2 (λ ps. tt)
+read_prp2-often mapped (suc (suc pages)) prp2 bytes pieces =
+    AsksAtMost-unless_faulty mapped (suc (suc pages) + suc (suc pages)) (entry_fault mapped 8 prp2 (8 * min (slots_of prp2) (suc (suc pages)))) _ (λ fine.
+    let there = entry_fault-mapped mapped 8 prp2 (8 * min (slots_of prp2) (suc (suc pages))) fine in
+    let aligned : prp2 % 8 ≡ 0 = there.0 in
+    read_entries-often mapped (suc (suc pages)) (slots_of prp2) prp2 bytes pieces (λ _. omega arith) there.1)
+
+-- a list of PRPs for 128 KiB asks less often than an SGL may
+pub read_prp-often : (mapped : ℕ → Bool) (prp1 prp2 len : ℕ) → len ≤ 131072 → AsksAtMost mapped 1023 (read_prp mapped prp1 prp2 len)
+read_prp-often mapped prp1 prp2 len most =
+    AsksAtMost-unless_faulty mapped 1023 (entry_fault mapped 4 prp1 (first_len prp1 len)) _
+    (λ fine.
+    let pages : ℕ = pages_of (len - first_len prp1 len) in
+    let few : pages ≤ 33 = omega arith in
+    let e : 1023 - (pages + pages) + (pages + pages) ≡ 1023 = omega arith in
+    let P : ℕ → Type 0 = λ k. AsksAtMost mapped k (read_prp2 mapped pages prp2 (len - first_len prp1 len) (run prp1 (first_len prp1 len))) in
+    subst P e (AsksAtMost-weaken mapped (1023 - (pages + pages)) (pages + pages) _ (read_prp2-often mapped pages prp2 (len - first_len prp1 len) (run prp1 (first_len prp1 len)))))

@@ -26,7 +26,7 @@ use Rattle.nv_model.specs.Private.{verdict_in}
 use Rattle.nv_model.proofs.DialogueLemmas.{in_memory-and_then}
 use Rattle.nv_model.proofs.MemoryLemmas.{length-gathered}
 use Rattle.nv_flat.specs.Flat.{Flat, byte_in, cleared, moved_of}
-use Rattle.nv_flat.specs.Listed.{sgl_reading}
+use Rattle.nv_flat.specs.Listed.{list_reading}
 use Rattle.nv_flat.specs.One.{IsInOrder, IsRun, shape_of}
 use Rattle.nv_flat.proofs.DoneLemmas.{list-verdict, range-within}
 use Rattle.nv_flat.proofs.MoveLemmas.{cleared-append}
@@ -37,17 +37,16 @@ use Rattle.nv_flat.proofs.WorkLemmas.{units_moved-deallocated, units_moved-kept}
 -- what is known of a Dataset Management whose list is read, and these are the bytes that it names
 pub record IsManaged (f : Flat) (entry : List ℕ) (pieces : List Piece) (bytes : List ℕ) : Type 0 where
   pub in_order : IsInOrder (length f.disk) entry DatasetManagement (need_of entry DatasetManagement)
-  pub by_sgl : data_pointer (psdt_of entry) ≡ Sgl
-  pub spelled : sgl_reading f entry (need_of entry DatasetManagement) ≡ Spells pieces
+  pub spelled : list_reading f entry (need_of entry DatasetManagement) ≡ Spells pieces
   pub taken : bytes ≡ gathered (byte_in f.memory) (places_of pieces)
   pub whole : length bytes ≡ 16 * range_count_of entry
 
 pub managed : (f : Flat) (entry : List ℕ) (pieces : List Piece) (bytes memory : List ℕ) (places : List Place) (n : ℕ)
-    → IsInOrder (length f.disk) entry DatasetManagement (need_of entry DatasetManagement) → data_pointer (psdt_of entry) ≡ Sgl
-    → sgl_reading f entry (need_of entry DatasetManagement) ≡ Spells pieces
+    → IsInOrder (length f.disk) entry DatasetManagement (need_of entry DatasetManagement) 
+    → list_reading f entry (need_of entry DatasetManagement) ≡ Spells pieces
     → memory ≡ f.memory → places ≡ places_of pieces → n ≡ 16 * range_count_of entry → bytes ≡ gathered (byte_in memory) (take n places)
     → IsManaged f entry pieces bytes
-managed f entry pieces bytes memory places n o pointer read same_memory same_places whole taken =
+managed f entry pieces bytes memory places n o read same_memory same_places whole taken =
     let total : length (places_of pieces) ≡ 16 * range_count_of entry = (spelled-usable f entry (need_of entry DatasetManagement) pieces read).total in
     let all : n ≡ length (places_of pieces) = omega arith in
     let at_places : bytes ≡ gathered (byte_in f.memory) (places_of pieces) =
@@ -58,7 +57,6 @@ managed f entry pieces bytes memory places n o pointer read same_memory same_pla
     ∙ ap (gathered (byte_in f.memory)) (take-length (places_of pieces)) in
     record {
       in_order = o;
-      by_sgl = pointer;
       spelled = read;
       taken = at_places;
       whole = ap length at_places ∙ length-gathered (byte_in f.memory) (places_of pieces) ∙ total;
@@ -71,7 +69,7 @@ unfolding in_memory
 managed-verdict f entry pieces bytes m =
     let usable = spelled-usable f entry (need_of entry DatasetManagement) pieces m.spelled in
     let count : range_count_of entry ≡ length bytes / 16 = (let whole = m.whole in omega arith) in
-    list-verdict f entry DatasetManagement (need_of entry DatasetManagement) (Spells pieces) m.in_order refl m.by_sgl m.spelled
+    list-verdict f entry DatasetManagement (need_of entry DatasetManagement) (Spells pieces) m.in_order refl m.spelled
     ∙ in_memory-and_then (byte_in f.memory) (read_source pieces []) (λ source. End (judge_ranges (length f.disk) entry pieces (ranges_in (range_count_of entry) source)))
     ∙ ap (λ (source : List ℕ). judge_ranges (length f.disk) entry pieces (ranges_in (range_count_of entry) source))
     (read_source-gathered (byte_in f.memory) pieces [] (usable.runs refl) ∙ sym m.taken)

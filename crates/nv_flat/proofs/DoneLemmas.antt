@@ -1,5 +1,5 @@
 -- What carrying a command out has to show
-use Rattle.std.proofs.Common.{◌≡◌, ℕ, ◌+◌, ◌*◌, ◌≤◌, Bool, true, false, not, ◌&&◌, ◌==◌, Option, Some, None, Ok, Err, is_none, List, [], ◌∷◌, length, refl, sym, ap, subst, ◌∙◌, arith}
+use Rattle.std.proofs.Common.{◌≡◌, ℕ, ◌+◌, ◌*◌, ◌≤◌, Bool, true, false, not, ◌&&◌, ◌==◌, Option, Some, None, Ok, Err, is_none, List, [], ◌∷◌, length, refl, sym, ap, subst, ◌∙◌, arith, ◌<◌}
 use Rattle.std.specs.List.{range_with_len}
 use Rattle.std.proofs.lemmas.Bool.Decides.{nat_tests}
 use Rattle.nv_entry.specs.Opcode.{io_opcode, data_pointer}
@@ -21,23 +21,21 @@ use Rattle.nv_model.specs.Judge.{Verdict, Work, WorkUnit, AllBlocks, Refuse, Go,
 use Rattle.nv_model.specs.Private.{verdict_in}
 use Rattle.nv_model.specs.Carried.{moved_on, moved_status, units_moved}
 use Rattle.nv_flat.specs.Flat.{Flat, block_work, byte_in, cleared, moved_of, units_from}
-use Rattle.nv_flat.specs.Listed.{refusal_of_reading, sgl_reading}
-use Rattle.nv_flat.specs.One.{IsDone, IsInOrder, IsOutcome, IsRun, is_built, needs_list, shape_of}
+use Rattle.nv_flat.specs.Listed.{refusal_of_reading, list_reading}
+use Rattle.nv_flat.specs.One.{IsInOrder, IsRun, shape_of}
 use Rattle.nv_flat.specs.Transfer.{is_transfer}
 use Rattle.nv_flat.proofs.MoveLemmas.{block_units-range}
-use Rattle.nv_flat.proofs.OneLemmas.{moved-run, outcome-built, outcome-refused, refused-run}
-use Rattle.nv_flat.proofs.VerdictLemmas.{field_verdict-err, field_verdict-ok, in-namespace, uses-sgl, verdict-listed, verdict-refused, verdict-unlisted}
+use Rattle.nv_flat.proofs.OneLemmas.{moved-run, refused-run}
+use Rattle.nv_flat.proofs.VerdictLemmas.{field_verdict-err, field_verdict-ok, count-at_most, in-namespace, verdict-listed, verdict-refused, verdict-unlisted}
 use Rattle.nv_flat.proofs.WorkLemmas.{units_moved-transfer, units_moved-zeroes}
 
 -- ---- the fields
 
 -- a command that its fields refuse
-pub done-refused : (built : List ℕ → Bool) (f : Flat) (entry : List ℕ) (st : StatusField) → field_verdict (length f.disk) entry ≡ Err st → IsDone built f entry st f
-done-refused built f entry st e =
+pub fields-refused : (f : Flat) (entry : List ℕ) (st : StatusField) → field_verdict (length f.disk) entry ≡ Err st → IsRun f entry st f
+fields-refused f entry st e =
     let r = field_verdict-err (length f.disk) entry st e in
-    let verdict = verdict-refused (shape_of f) (byte_in f.memory) entry r.0 r.1 ∙ ap Refuse (sym r.2) in
-    let P : Option StatusCode → Type 0 = λ o. IsOutcome (built entry) (not (is_none o)) f entry st f in
-    subst P (sym r.1) (outcome-refused (built entry) f f entry st (refused-run f entry st verdict))
+    refused-run f entry st (verdict-refused (shape_of f) (byte_in f.memory) entry r.0 r.1 ∙ ap Refuse (sym r.2))
 
 -- a command whose fields are in order
 pub in-order : (f : Flat) (entry : List ℕ) (need : Need) (opcode : IoOpcode) → field_verdict (length f.disk) entry ≡ Ok need → io_opcode (opcode_of entry) ≡ Some opcode
@@ -57,38 +55,15 @@ known-opcode f entry need verdict unknown =
     let bad = sym ok.1.1 ∙ unknown in
     (cc)
 
--- a command that is built
-pub done-built : (f g : Flat) (entry : List ℕ) (st : StatusField) → is_built entry ≡ true → IsRun f entry st g → IsDone is_built f entry st g
-done-built f g entry st built run =
-    let P : Bool → Type 0 = λ b. IsOutcome b (not (is_none (field_refusal (length f.disk) entry))) f entry st g in
-    subst P (sym built) (outcome-built (not (is_none (field_refusal (length f.disk) entry))) f g entry st run)
-
--- a command that is not
-pub done-not_built : (f : Flat) (entry : List ℕ) (need : Need) (st : StatusField) → is_built entry ≡ false → field_verdict (length f.disk) entry ≡ Ok need
-    → st ≡ done_with InternalError → IsDone is_built f entry st f
-done-not_built f entry need st not_built verdict status =
-    let ok = field_verdict-ok (length f.disk) entry need verdict in
-    let P : Bool → Type 0 = λ b. IsOutcome b (not (is_none (field_refusal (length f.disk) entry))) f entry st f in
-    let Q : Option StatusCode → Type 0 = λ o. IsOutcome false (not (is_none o)) f entry st f in
-    subst P (sym not_built) (subst Q (sym ok.0) (status, refl))
-
--- a command that is built, and has a buffer, uses an SGL
-pub built-by_sgl : (blocks : ℕ) (entry : List ℕ) (opcode : IoOpcode) (need : Need) → IsInOrder blocks entry opcode need → is_built entry ≡ true → has_buffer opcode ≡ true
-    → data_pointer (psdt_of entry) ≡ Sgl
-built-by_sgl blocks entry opcode need o built buffer =
-    let P : Option IoOpcode → Type 0 = λ k. not (needs_list k && psdt_of entry == 0) ≡ true in
-    let Q : Bool → Type 0 = λ b. not (b && psdt_of entry == 0) ≡ true in
-    uses-sgl blocks entry opcode o.unrefused o.known buffer (subst Q buffer (subst P o.known built))
-
 -- ---- the list
 
 -- the verdict on a command, once its list is read
 pub list-verdict : (f : Flat) (entry : List ℕ) (opcode : IoOpcode) (need : Need) (reading : Reading) → IsInOrder (length f.disk) entry opcode need
-    → has_buffer opcode ≡ true → data_pointer (psdt_of entry) ≡ Sgl → sgl_reading f entry need ≡ reading
+    → has_buffer opcode ≡ true → list_reading f entry need ≡ reading
     → verdict_in (shape_of f) (byte_in f.memory) entry ≡ in_memory (byte_in f.memory) (judge_reading (length f.disk) entry opcode reading)
-list-verdict f entry opcode need reading o buffer pointer read =
-    let P : Need → Type 0 = λ n. sgl_reading f entry n ≡ reading in
-    verdict-listed (shape_of f) (byte_in f.memory) entry opcode reading o.unrefused o.known buffer pointer (subst P o.needs read)
+list-verdict f entry opcode need reading o buffer read =
+    let P : Need → Type 0 = λ n. list_reading f entry n ≡ reading in
+    verdict-listed (shape_of f) (byte_in f.memory) entry opcode reading o.unrefused o.known buffer (subst P o.needs read)
 
 -- a dialogue that has ended
 ended : (m : ℕ → ℕ) (v : Verdict) → in_memory m (End v) ≡ v
@@ -97,11 +72,11 @@ ended m v = refl
 
 -- a command that its list refuses
 pub list-refused : (f : Flat) (entry : List ℕ) (opcode : IoOpcode) (need : Need) (st : StatusField) → IsInOrder (length f.disk) entry opcode need
-    → has_buffer opcode ≡ true → data_pointer (psdt_of entry) ≡ Sgl → refusal_of_reading (sgl_reading f entry need) ≡ Some st → IsRun f entry st f
-list-refused f entry opcode need st o buffer pointer refused =
+    → has_buffer opcode ≡ true → refusal_of_reading (list_reading f entry need) ≡ Some st → IsRun f entry st f
+list-refused f entry opcode need st o buffer refused =
     refused-run f entry st
-    (list-verdict f entry opcode need (sgl_reading f entry need) o buffer pointer refl
-    ∙ judged (length f.disk) (byte_in f.memory) entry opcode (sgl_reading f entry need) st refused)
+    (list-verdict f entry opcode need (list_reading f entry need) o buffer refl
+    ∙ judged (length f.disk) (byte_in f.memory) entry opcode (list_reading f entry need) st refused)
   where
     judged : (blocks : ℕ) (m : ℕ → ℕ) (entry : List ℕ) (opcode : IoOpcode) (reading : Reading) (st : StatusField)
         → refusal_of_reading reading ≡ Some st → in_memory m (judge_reading blocks entry opcode reading) ≡ Refuse st
@@ -143,13 +118,13 @@ goes-with f entry DatasetManagement pieces ranged = (cc)
 
 -- a Read, Write or Compare whose blocks have moved
 pub transfer-run : (f g : Flat) (entry : List ℕ) (opcode : IoOpcode) (need : Need) (pieces : List Piece) (differed : Bool) → IsInOrder (length f.disk) entry opcode need
-    → is_transfer opcode ≡ true → data_pointer (psdt_of entry) ≡ Sgl → sgl_reading f entry need ≡ Spells pieces
+    → is_transfer opcode ≡ true → list_reading f entry need ≡ Spells pieces
     → moved_of g differed ≡ units_moved (units_from 0 (slba_of entry) need.blocks) (block_work opcode pieces need.fua) (moved_of f false)
     → IsRun f entry (moved_status differed) g
-transfer-run f g entry opcode need pieces differed o t pointer read moved =
+transfer-run f g entry opcode need pieces differed o t read moved =
     let b = buffered opcode t in
     let units : List WorkUnit = block_units (range_with_len (slba_of entry) (count_of entry)) in
-    let goes = list-verdict f entry opcode need (Spells pieces) o b.0 pointer read ∙ goes-with f entry opcode pieces b.1 in
+    let goes = list-verdict f entry opcode need (Spells pieces) o b.0 read ∙ goes-with f entry opcode pieces b.1 in
     let Q : Need → Type 0 =
     λ n. moved_of g differed ≡ units_moved (units_from 0 (slba_of entry) n.blocks) (block_work opcode pieces n.fua) (moved_of f false) in
     let N : ℕ → Type 0 =
@@ -161,16 +136,16 @@ transfer-run f g entry opcode need pieces differed o t pointer read moved =
 
 -- the same, with the numbers that the code has
 pub transfer-done : (f g : Flat) (entry : List ℕ) (opcode : IoOpcode) (need : Need) (pieces : List Piece) (slba count : ℕ) (result differed : Bool) (st : StatusField)
-    → IsInOrder (length f.disk) entry opcode need → is_transfer opcode ≡ true → data_pointer (psdt_of entry) ≡ Sgl → sgl_reading f entry need ≡ Spells pieces
+    → IsInOrder (length f.disk) entry opcode need → is_transfer opcode ≡ true → list_reading f entry need ≡ Spells pieces
     → slba ≡ slba_of entry → count ≡ need.blocks → result ≡ differed → st ≡ moved_status differed
     → moved_of g result ≡ units_moved (units_from 0 slba count) (block_work opcode pieces need.fua) (moved_of f false)
     → IsRun f entry st g
-transfer-done f g entry opcode need pieces slba count result differed st o t pointer read at many is status moved =
+transfer-done f g entry opcode need pieces slba count result differed st o t read at many is status moved =
     let S : ℕ → Type 0 = λ n. moved_of g result ≡ units_moved (units_from 0 n count) (block_work opcode pieces need.fua) (moved_of f false) in
     let C : ℕ → Type 0 = λ n. moved_of g result ≡ units_moved (units_from 0 (slba_of entry) n) (block_work opcode pieces need.fua) (moved_of f false) in
     let D : Bool → Type 0 = λ d. moved_of g d ≡ units_moved (units_from 0 (slba_of entry) need.blocks) (block_work opcode pieces need.fua) (moved_of f false) in
     let T : StatusField → Type 0 = λ s. IsRun f entry s g in
-    subst T (sym status) (transfer-run f g entry opcode need pieces differed o t pointer read (subst D is (subst C many (subst S at moved))))
+    subst T (sym status) (transfer-run f g entry opcode need pieces differed o t read (subst D is (subst C many (subst S at moved))))
 
 -- ---- Write Zeroes and Flush
 
@@ -200,3 +175,17 @@ range-within slba count blocks inside = grind (arith, nat_tests)
 -- the blocks of a command are there
 pub blocks-within : (blocks : ℕ) (entry : List ℕ) (opcode : IoOpcode) (need : Need) → IsInOrder blocks entry opcode need → has_blocks opcode ≡ true → slba_of entry + count_of entry ≤ blocks
 blocks-within blocks entry opcode need o ranged = range-within (slba_of entry) (count_of entry) blocks (in-namespace blocks entry opcode o.unrefused o.known ranged)
+
+-- ---- the transfer
+
+-- no transfer is longer than 128 KiB, and each is some bytes
+pub transfer-at_most : (blocks : ℕ) (entry : List ℕ) (opcode : IoOpcode) (need : Need) → IsInOrder blocks entry opcode need → is_transfer opcode ≡ true → need.bytes ≤ 131072
+transfer-at_most blocks entry opcode need o t =
+    let bytes : need.bytes ≡ 512 * count_of entry = ap (λ (n : Need). n.bytes) o.needs ∙ (transfer-needs entry opcode t).1 in
+    let few = count-at_most blocks entry opcode o.unrefused o.known (buffered opcode t).0 (buffered opcode t).1 in
+    omega arith
+
+pub transfer-some : (blocks : ℕ) (entry : List ℕ) (opcode : IoOpcode) (need : Need) → IsInOrder blocks entry opcode need → is_transfer opcode ≡ true → 0 < need.bytes
+transfer-some blocks entry opcode need o t =
+    let bytes : need.bytes ≡ 512 * count_of entry = ap (λ (n : Need). n.bytes) o.needs ∙ (transfer-needs entry opcode t).1 in
+    omega arith

@@ -1,5 +1,6 @@
 -- The verdict on a command
-use Rattle.std.proofs.Common.{◌≡◌, ℕ, Bool, true, false, not, ◌&&◌, ◌==◌, nat_lt, cond, Option, Some, None, Ok, Err, List, [], ◌∷◌, refl, sym, ap, subst, ◌∙◌}
+use Rattle.std.proofs.Common.{arith, ◌≡◌, ℕ, Bool, true, false, not, ◌&&◌, ◌==◌, nat_lt, cond, Option, Some, None, Ok, Err, List, [], ◌∷◌, refl, sym, ap, subst, ◌∙◌, ◌≤◌}
+use Rattle.std.proofs.lemmas.Bool.Decides.{nat_tests}
 use Rattle.nv_entry.specs.Opcode.{io_opcode, data_pointer}
 use Rattle.nv_entry.specs.Submission.{opcode_of, psdt_of, sgl_of, fuse_of, slba_of, nsid_of}
 use Rattle.nv_entry.specs.Status.{StatusField}
@@ -67,25 +68,22 @@ verdict-refused shape memory entry code refused =
     let P : Option StatusCode → Type 0 = λ o. in_memory memory (judge_fields o shape.mapped shape.limit shape.blocks entry) ≡ Refuse (refused_with code) in
     subst P (sym refused) refl
 
--- a command with a buffer, whose fields are in order and whose list is an SGL
+-- a command with a buffer, whose fields are in order
 pub verdict-listed : (shape : Shape) (memory : ℕ → ℕ) (entry : List ℕ) (opcode : IoOpcode) (reading : Reading)
-    → field_refusal shape.blocks entry ≡ None → io_opcode (opcode_of entry) ≡ Some opcode → has_buffer opcode ≡ true → data_pointer (psdt_of entry) ≡ Sgl
-    → in_memory memory (and_then (read_sgl shape.mapped (is_read opcode) shape.limit (sgl_of entry)) (λ r. End (sized (transfer_len opcode entry) r))) ≡ reading
+    → field_refusal shape.blocks entry ≡ None → io_opcode (opcode_of entry) ≡ Some opcode → has_buffer opcode ≡ true
+    → in_memory memory (read_buffer shape.mapped shape.limit opcode entry) ≡ reading
     → verdict_in shape memory entry ≡ in_memory memory (judge_reading shape.blocks entry opcode reading)
 unfolding judge
-verdict-listed shape memory entry opcode reading none known buffer pointer read =
+verdict-listed shape memory entry opcode reading none known buffer read =
     let target : Verdict = in_memory memory (judge_reading shape.blocks entry opcode reading) in
     let listed : Dialogue Verdict = and_then (read_buffer shape.mapped shape.limit opcode entry) (judge_reading shape.blocks entry opcode) in
     let unlisted : Dialogue Verdict = End (Go (work_of opcode entry [] (units_of shape.blocks opcode entry))) in
     let ByFields : Option StatusCode → Type 0 = λ o. in_memory memory (judge_fields o shape.mapped shape.limit shape.blocks entry) ≡ target in
     let ByOpcode : Option IoOpcode → Type 0 = λ o. in_memory memory (judge_by o shape.mapped shape.limit shape.blocks entry) ≡ target in
     let ByBuffer : Bool → Type 0 = λ b. in_memory memory (cond b listed unlisted) ≡ target in
-    let ByPointer : DataPointer → Type 0 =
-    λ d. in_memory memory (and_then (read_by d shape.mapped shape.limit (is_read opcode) (transfer_len opcode entry) entry) (λ r. End (sized (transfer_len opcode entry) r))) ≡ reading in
-    let read_it : in_memory memory (read_buffer shape.mapped shape.limit opcode entry) ≡ reading = subst ByPointer (sym pointer) read in
     let whole : in_memory memory listed ≡ target =
     in_memory-and_then memory (read_buffer shape.mapped shape.limit opcode entry) (judge_reading shape.blocks entry opcode)
-    ∙ ap (λ (r : Reading). in_memory memory (judge_reading shape.blocks entry opcode r)) read_it in
+    ∙ ap (λ (r : Reading). in_memory memory (judge_reading shape.blocks entry opcode r)) read in
     subst ByFields (sym none) (subst ByOpcode (sym known) (subst ByBuffer (sym buffer) whole))
 
 -- a command without a buffer, whose fields are in order
@@ -129,28 +127,23 @@ in-namespace blocks entry opcode none known ranged =
     range-checked (not (nsid_of entry == 1)) (has_buffer opcode && psdt_of entry == 3) (has_buffer opcode && true && nat_lt most_blocks (count_of entry))
     (in_namespace (slba_of entry) (count_of entry) blocks) (subst Q ranged (subst P known checked))
 
--- the checks of a command whose data pointer is reserved fail
-pointer-checked : (namespace reserved both inside : Bool)
-    → first_failing ((namespace, InvalidNamespace) ∷ (reserved, InvalidField) ∷ (both, InvalidField) ∷ (inside, LbaOutOfRange) ∷ []) ≡ None → reserved ≡ false
-pointer-checked true reserved both inside e = (cc)
-pointer-checked false true both inside e = (cc)
-pointer-checked false false both inside e = refl
+-- a transfer has at most 256 blocks
+few-checked : (namespace buffer many inside : Bool)
+    → first_failing ((namespace, InvalidNamespace) ∷ (buffer, InvalidField) ∷ (many, InvalidField) ∷ (inside, LbaOutOfRange) ∷ []) ≡ None → many ≡ false
+few-checked true buffer many inside e = (cc)
+few-checked false true many inside e = (cc)
+few-checked false false true inside e = (cc)
+few-checked false false false inside e = refl
 
--- what PSDT announces where it is neither that of PRPs nor reserved
-pointer-other : (prp reserved : Bool) → not prp ≡ true → reserved ≡ false → cond prp Prp (cond reserved Reserved Sgl) ≡ Sgl
-pointer-other true reserved other free = (cc)
-pointer-other false true other free = (cc)
-pointer-other false false other free = refl
-
--- a command with a buffer that its fields do not refuse, and that does not use PRPs, uses an SGL
-pub uses-sgl : (blocks : ℕ) (entry : List ℕ) (opcode : IoOpcode) → field_refusal blocks entry ≡ None
-    → io_opcode (opcode_of entry) ≡ Some opcode → has_buffer opcode ≡ true → not (psdt_of entry == 0) ≡ true → data_pointer (psdt_of entry) ≡ Sgl
-uses-sgl blocks entry opcode none known buffer other =
+pub count-at_most : (blocks : ℕ) (entry : List ℕ) (opcode : IoOpcode) → field_refusal blocks entry ≡ None
+    → io_opcode (opcode_of entry) ≡ Some opcode → has_buffer opcode ≡ true → has_blocks opcode ≡ true → count_of entry ≤ 256
+count-at_most blocks entry opcode none known buffer ranged =
     let checked = not-fused (not (fuse_of entry == 0)) (refusal_by_opcode blocks entry (io_opcode (opcode_of entry))) none in
     let P : Option IoOpcode → Type 0 = λ o. refusal_by_opcode blocks entry o ≡ None in
-    let Q : Bool → Type 0 =
-    λ b. first_failing ((not (nsid_of entry == 1), InvalidNamespace) ∷ (b && psdt_of entry == 3, InvalidField)
-    ∷ (b && has_blocks opcode && nat_lt most_blocks (count_of entry), InvalidField) ∷ (has_blocks opcode && not (in_namespace (slba_of entry) (count_of entry) blocks), LbaOutOfRange) ∷ []) ≡ None in
-    pointer-other (psdt_of entry == 0) (psdt_of entry == 3) other
-    (pointer-checked (not (nsid_of entry == 1)) (psdt_of entry == 3) (true && has_blocks opcode && nat_lt most_blocks (count_of entry))
-    (has_blocks opcode && not (in_namespace (slba_of entry) (count_of entry) blocks)) (subst Q buffer (subst P known checked)))
+    let many : has_buffer opcode && has_blocks opcode && nat_lt most_blocks (count_of entry) ≡ false =
+    few-checked (not (nsid_of entry == 1)) (has_buffer opcode && psdt_of entry == 3) (has_buffer opcode && has_blocks opcode && nat_lt most_blocks (count_of entry))
+    (has_blocks opcode && not (in_namespace (slba_of entry) (count_of entry) blocks)) (subst P known checked) in
+    let B : Bool → Type 0 = λ b. b && has_blocks opcode && nat_lt most_blocks (count_of entry) ≡ false in
+    let R : Bool → Type 0 = λ b. true && b && nat_lt most_blocks (count_of entry) ≡ false in
+    let few : nat_lt most_blocks (count_of entry) ≡ false = subst R ranged (subst B buffer many) in
+    grind (arith, nat_tests)

@@ -2,15 +2,12 @@
 
 ghost use Rattle.std.specs.Prelude.{◌≡◌, ◌/◌, ◌*◌, IfOk, OnErr, List, ℕ, true, false, length};
 ghost use Rattle.std.specs.List.{list_all};
-ghost use Rattle.nv_entry.specs.Opcode.{data_pointer};
-ghost use Rattle.nv_entry.specs.Submission.{psdt_of};
-ghost use Rattle.nv_entry.specs.declared.data_pointer.DataPointer.TheVariants as pointer;
 ghost use Rattle.nv_entry.specs.declared.opcode.IoOpcode.TheVariants as opcode;
 ghost use Rattle.nv_model.specs.Judge.{blocks_of_ranges, range_count_of, range_fits, ranges_in};
 ghost use Rattle.nv_judge.specs.Need.{need_of};
 ghost use Rattle.nv_model.specs.Reading.{Spells};
 ghost use Rattle.nv_flat.specs.Flat.{cleared, moved_of};
-ghost use Rattle.nv_flat.specs.Listed.{sgl_reading};
+ghost use Rattle.nv_flat.specs.Listed.{list_reading};
 ghost use Rattle.nv_flat.specs.One.{IsInOrder, IsRun};
 
 use crate::buffer::Buffer;
@@ -34,16 +31,15 @@ impl FlatController {
         need: Need,
     ) -> Result<Status, NoMemory>
         requires in_order { IsInOrder (length self.old.disk) sqe.now opcode.DatasetManagement need }
-        requires by_sgl { data_pointer (psdt_of sqe.now) ≡ pointer.Sgl }
         ensures ok { IfOk result (λ status. IsRun self.old sqe.now status self.new) }
         ensures memory_size { length self.new.memory ≡ length self.old.memory }
         ensures disk_size { length self.new.disk ≡ length self.old.disk }
         ensures err { OnErr result (self.new ≡ self.old) }
     {
+        let len = 16 * (usize::from(sqe.nr()) + 1);
         match self.read_list(alloc, sqe, need)? {
             Listed::Refused(status) => Ok(status),
             Listed::Named(places) => {
-                let len = 16 * (usize::from(sqe.nr()) + 1);
                 let mut ranges = [0; MOST_BYTES];
                 Ok(self.manage_ranges(sqe, &places, &mut ranges[..len]))
             }
@@ -53,8 +49,7 @@ impl FlatController {
     /// The same once its list is read, through a buffer of the length of the ranges.
     fn manage_ranges(&mut self, sqe: &Sqe, places: &Places, ranges: &mut [u8]) -> Status
         requires in_order { IsInOrder (length self.old.disk) sqe.now opcode.DatasetManagement (need_of sqe.now opcode.DatasetManagement) }
-        requires by_sgl { data_pointer (psdt_of sqe.now) ≡ pointer.Sgl }
-        requires spelled { sgl_reading self.old sqe.now (need_of sqe.now opcode.DatasetManagement) ≡ Spells places.now }
+        requires spelled { list_reading self.old sqe.now (need_of sqe.now opcode.DatasetManagement) ≡ Spells places.now }
         requires whole { length ranges.old ≡ 16 * range_count_of sqe.now }
         ensures run { IsRun self.old sqe.now result self.new }
         ensures memory_size { length self.new.memory ≡ length self.old.memory }

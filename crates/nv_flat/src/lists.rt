@@ -1,18 +1,22 @@
 //! Lists of commands, read in the controller's own memory.
 
-ghost use Rattle.std.specs.Prelude.{◌≡◌, IfOk, OnOk, length};
+ghost use Rattle.std.specs.Prelude.{◌≡◌, ◌<◌, ◌≤◌, IfOk, OnOk, length};
 ghost use Rattle.nv_model.specs.Memory.{bytes_from};
 ghost use Rattle.nv_model.specs.Transcript.{fed};
 ghost use Rattle.nv_sgl.specs.Parse.{dialogue_of};
 ghost use Rattle.nv_model.specs.Want.{want_of};
 ghost use Rattle.nv_flat.specs.Flat.{byte_in};
-ghost use Rattle.nv_flat.specs.Listed.{IsListed, IsThere, sgl_reading};
+ghost use Rattle.nv_entry.specs.declared.data_pointer.DataPointer.TheVariants as pointer;
+ghost use Rattle.nv_prp.specs.Parse.{dialogue_of as prp_dialogue_of};
+ghost use Rattle.nv_flat.specs.Listed.{IsListed, IsThere, list_reading, reading_by};
 
 use crate::controller::FlatController;
-use nv_entry::{Sqe, Status, StatusCode};
+use nv_entry::{DataPointer, Sqe, Status, StatusCode};
 use nv_judge::Need;
 use nv_mem::{Host, NoMemory, Places};
-use nv_sgl::{SglParse, Want};
+use nv_model::Want;
+use nv_prp::PrpParse;
+use nv_sgl::SglParse;
 use std::alloc::Global;
 
 /// What a command's list says: it is refused, or where the bytes of the transfer lie.
@@ -22,16 +26,47 @@ pub(crate) enum Listed {
     Named(Places),
 }
 
-/// The most descriptors of a list, and so the most parts in which it is read.
+/// The most descriptors of an SGL, and so the most parts in which a list is read: those of PRPs have fewer slots.
 const MOST_PARTS: u32 = 1024;
 
 /// The most bytes of a list that are wanted at once.
 const PART: usize = 4096;
 
 impl FlatController {
-    /// Reads the list of a command that uses an SGL, for the transfer that it needs.
+    /// Reads the list of a command, for the transfer that it needs.
     pub(crate) fn read_list(&self, alloc: Global, sqe: &Sqe, need: Need) -> Result<Listed, NoMemory>
-        ensures { IfOk result (λ listed. IsListed listed (sgl_reading self.now sqe.now need)) }
+        requires some { 0 < need.bytes }
+        requires most { need.bytes ≤ 131072 }
+        ensures { IfOk result (λ listed. IsListed listed (list_reading self.now sqe.now need)) }
+    {
+        match sqe.data_pointer() {
+            DataPointer::Prp => self.read_prp(alloc, sqe, need),
+            DataPointer::Sgl => self.read_sgl(alloc, sqe, need),
+            DataPointer::Reserved => Ok(Listed::Refused(StatusCode::InvalidField.refused())),
+        }
+    }
+
+    /// Reads the pages that PRP1 and PRP2 name.
+    fn read_prp(&self, alloc: Global, sqe: &Sqe, need: Need) -> Result<Listed, NoMemory>
+        requires some { 0 < need.bytes }
+        requires most { need.bytes ≤ 131072 }
+        ensures { IfOk result (λ listed. IsListed listed (reading_by pointer.Prp self.now sqe.now need)) }
+    {
+        let mut parse = PrpParse::new(&self.map, sqe.prp1(), sqe.prp2(), u64::from(need.bytes));
+        for _part in 0..MOST_PARTS {
+            match parse.wants() {
+                Want::Read { addr, len } => feed_prp(&self.memory, &mut parse, addr, len),
+                Want::Done => return Ok(Listed::Named(parse.places(alloc)?)),
+                Want::Fault(status) => return Ok(Listed::Refused(status)),
+                Want::TooLong => return Ok(Listed::Refused(StatusCode::InternalError.status())),
+            }
+        }
+        unreachable!()
+    }
+
+    /// Reads the descriptors of an SGL.
+    fn read_sgl(&self, alloc: Global, sqe: &Sqe, need: Need) -> Result<Listed, NoMemory>
+        ensures { IfOk result (λ listed. IsListed listed (reading_by pointer.Sgl self.now sqe.now need)) }
     {
         let mut parse = SglParse::new(
             alloc,
@@ -42,7 +77,7 @@ impl FlatController {
         )?;
         for _part in 0..MOST_PARTS {
             match parse.wants() {
-                Want::Read { addr, len } => feed(&self.memory, &mut parse, addr, len)?,
+                Want::Read { addr, len } => feed_sgl(&self.memory, &mut parse, addr, len)?,
                 Want::Done => return Ok(Listed::Named(parse.places(alloc)?)),
                 Want::Fault(status) => return Ok(Listed::Refused(status)),
                 Want::TooLong => return Ok(Listed::Refused(StatusCode::InternalError.status())),
@@ -52,18 +87,18 @@ impl FlatController {
     }
 }
 
-/// Feeds a parse the bytes that it wants.
-fn feed(memory: &Host, parse: &mut SglParse<Global>, addr: u64, len: u32) -> Result<(), NoMemory>
+/// Feeds a parse of an SGL the bytes that it wants.
+fn feed_sgl(memory: &Host, parse: &mut SglParse<Global>, addr: u64, len: u32) -> Result<(), NoMemory>
     requires wanted { want_of (dialogue_of parse.old) ≡ Want.Read addr len }
     requires there { IsThere memory.now addr len }
     ensures { OnOk result (dialogue_of parse.new ≡ fed (dialogue_of parse.old) (bytes_from (byte_in memory.now) addr len)) }
 {
     let mut part = [0; PART];
-    feed_through(memory, parse, addr, len, &mut part[..len as usize])
+    feed_sgl_through(memory, parse, addr, len, &mut part[..len as usize])
 }
 
 /// The same through a buffer of that length.
-fn feed_through(
+fn feed_sgl_through(
     memory: &Host,
     parse: &mut SglParse<Global>,
     addr: u64,
@@ -77,4 +112,31 @@ fn feed_through(
 {
     memory.load(addr, part);
     parse.feed(part)
+}
+
+/// Feeds a parse of PRPs the bytes that it wants.
+fn feed_prp(memory: &Host, parse: &mut PrpParse, addr: u64, len: u32)
+    requires wanted { want_of (prp_dialogue_of parse.old) ≡ Want.Read addr len }
+    requires there { IsThere memory.now addr len }
+    ensures { prp_dialogue_of parse.new ≡ fed (prp_dialogue_of parse.old) (bytes_from (byte_in memory.now) addr len) }
+{
+    let mut part = [0; PART];
+    feed_prp_through(memory, parse, addr, len, &mut part[..len as usize]);
+}
+
+/// The same through a buffer of that length.
+fn feed_prp_through(
+    memory: &Host,
+    parse: &mut PrpParse,
+    addr: u64,
+    len: u32,
+    part: &mut [u8],
+)
+    requires wanted { want_of (prp_dialogue_of parse.old) ≡ Want.Read addr len }
+    requires there { IsThere memory.now addr len }
+    requires whole { length part.old ≡ len }
+    ensures { prp_dialogue_of parse.new ≡ fed (prp_dialogue_of parse.old) (bytes_from (byte_in memory.now) addr len) }
+{
+    memory.load(addr, part);
+    parse.feed(part);
 }

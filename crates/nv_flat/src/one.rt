@@ -3,14 +3,12 @@
 ghost use Rattle.std.specs.Prelude.{◌≡◌, [], ◌∷◌, ◌+◌, ◌≤◌, ◌%◌, ℕ, IfOk, OnErr, length, true, false};
 ghost use Rattle.std.specs.List.{range_with_len};
 ghost use Rattle.nv_entry.specs.Completion.{completion};
-ghost use Rattle.nv_entry.specs.Submission.{cid_of, psdt_of};
-ghost use Rattle.nv_entry.specs.Opcode.{data_pointer};
+ghost use Rattle.nv_entry.specs.Submission.{cid_of};
 ghost use Rattle.nv_entry.specs.Status.{StatusField};
-ghost use Rattle.nv_entry.specs.declared.data_pointer.DataPointer.TheVariants as pointer;
 ghost use Rattle.nv_model.specs.Judge.{AllBlocks, Work};
 ghost use Rattle.nv_model.specs.Carried.{moved_on};
 ghost use Rattle.nv_flat.specs.Flat.{cleared, moved_of};
-ghost use Rattle.nv_flat.specs.One.{IsDone, IsInOrder, IsRun, is_built};
+ghost use Rattle.nv_flat.specs.One.{IsInOrder, IsRun};
 ghost use Rattle.nv_flat.specs.Transfer.{is_transfer};
 
 use crate::controller::FlatController;
@@ -26,10 +24,9 @@ impl FlatController {
     /// Runs one command to its end, as the first command of a fresh queue 1: its completion has head 1 and phase 1.
     ///
     /// The completion, the memory, the blocks and the marks behind it are those of some run of the private controller that judges the
-    /// command and moves it to its end. Until PRP lists come, a command whose buffer is named by PRPs ends with Internal Error where
-    /// its fields are in order, and changes nothing. Where no memory is left, nothing has changed.
+    /// command and moves it to its end. Where no memory is left, nothing has changed.
     pub fn one(&mut self, alloc: Global, sqe: &Sqe) -> Result<Cqe, NoMemory>
-        ensures ok { IfOk result (λ cqe. (st : StatusField) × (IsDone is_built self.old sqe.now st self.new × (cqe ≡ completion 0 1 1 (cid_of sqe.now) true st))) }
+        ensures ok { IfOk result (λ cqe. (st : StatusField) × (IsRun self.old sqe.now st self.new × (cqe ≡ completion 0 1 1 (cid_of sqe.now) true st))) }
         ensures memory_size { length self.new.memory ≡ length self.old.memory }
         ensures disk_size { length self.new.disk ≡ length self.old.disk }
         ensures err { OnErr result (self.new ≡ self.old) }
@@ -40,7 +37,7 @@ impl FlatController {
 
     /// Judges a command and moves its units, and gives its status.
     fn carry_out(&mut self, alloc: Global, sqe: &Sqe) -> Result<Status, NoMemory>
-        ensures ok { IfOk result (λ status. IsDone is_built self.old sqe.now status self.new) }
+        ensures ok { IfOk result (λ status. IsRun self.old sqe.now status self.new) }
         ensures memory_size { length self.new.memory ≡ length self.old.memory }
         ensures disk_size { length self.new.disk ≡ length self.old.disk }
         ensures err { OnErr result (self.new ≡ self.old) }
@@ -53,14 +50,10 @@ impl FlatController {
         let Some(opcode) = sqe.io_opcode() else {
             unreachable!()
         };
-        if is_built(sqe) {
-            self.run(alloc, opcode, sqe, need)
-        } else {
-            Ok(StatusCode::InternalError.status())
-        }
+        self.run(alloc, opcode, sqe, need)
     }
 
-    /// Runs a command whose fields are in order, and whose list, if it has one, is an SGL.
+    /// Runs a command whose fields are in order.
     fn run(
         &mut self,
         alloc: Global,
@@ -69,7 +62,6 @@ impl FlatController {
         need: Need,
     ) -> Result<Status, NoMemory>
         requires in_order { IsInOrder (length self.old.disk) sqe.now opcode need }
-        requires built { is_built sqe.now ≡ true }
         ensures ok { IfOk result (λ status. IsRun self.old sqe.now status self.new) }
         ensures memory_size { length self.new.memory ≡ length self.old.memory }
         ensures disk_size { length self.new.disk ≡ length self.old.disk }
@@ -101,7 +93,6 @@ impl FlatController {
     ) -> Result<Status, NoMemory>
         requires in_order { IsInOrder (length self.old.disk) sqe.now opcode need }
         requires transfer { is_transfer opcode ≡ true }
-        requires by_sgl { data_pointer (psdt_of sqe.now) ≡ pointer.Sgl }
         ensures ok { IfOk result (λ status. IsRun self.old sqe.now status self.new) }
         ensures memory_size { length self.new.memory ≡ length self.old.memory }
         ensures disk_size { length self.new.disk ≡ length self.old.disk }
@@ -137,15 +128,5 @@ impl FlatController {
         ensures disk_size { length self.new.disk ≡ length self.old.disk }
     {
         moves::keep_all(&mut self.kept);
-    }
-}
-
-/// Whether a command is built: any but one whose buffer is named by PRPs.
-fn is_built(sqe: &Sqe) -> bool
-    ensures { result ≡ is_built sqe.now }
-{
-    match sqe.io_opcode() {
-        Some(IoOpcode::Flush | IoOpcode::WriteZeroes) | None => true,
-        Some(_) => sqe.psdt() != 0,
     }
 }

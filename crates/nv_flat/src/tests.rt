@@ -164,8 +164,7 @@ fn refuses_without_a_move(rt: HostRuntime) -> Result<(), Fail> {
         (0x8009_0007, &[(6, 0xffc0)]),
         (0x801f_0007, &[(8, 0x400)]),
         (0x8023_0007, &[(9, 0x0100_0000)]),
-        // until PRP lists come
-        (0x000d_0007, &[(0, 0x0007_0002)]),
+        (0x8027_0007, &[(0, 0x0007_0002), (6, 0x3002)]),
     ];
     for (want, changes) in table {
         let mut controller = FlatController::new(rt.alloc(), 0x1_0000, 64)?;
@@ -425,4 +424,73 @@ fn changed_further(rt: &impl Abort, sqe: Sqe, place: usize, dword: u32) -> Sqe {
     assert!(rt; place < 16);
     bytes[4 * place..4 * place + 4].copy_from_slice(&dword.to_le_bytes());
     Sqe::of(&bytes)
+}
+
+/// A Read by PRPs of that many blocks from LBA 0, NLB counted from 0.
+fn by_prp(rt: &impl Abort, nlb: u32, prp1: u32, prp2: u32) -> Sqe {
+    let changes = [(0, 0x0007_0002), (6, prp1), (8, prp2), (10, 0), (12, nlb)];
+    changed(rt, READ, &changes)
+}
+
+/// A controller with 40000h bytes of memory and 256 blocks, of which each is filled with its number.
+fn numbered(rt: &impl Abort, alloc: Global) -> Result<FlatController, Fail> {
+    let mut controller = FlatController::new(alloc, 0x4_0000, 256)?;
+    for block in 0..=255 {
+        assert!(rt; controller.blocks() == 256);
+        controller.paint(u64::from(block), block);
+    }
+    Ok(controller)
+}
+
+#[test]
+fn reads_by_region_pages(rt: HostRuntime) -> Result<(), Fail> {
+    // a list that chains at its page's end, and one that stands in the page
+    for (prp2, first) in [(0x6ff8u32, 0x7000u64), (0x6ff0, 0x6ff0)] {
+        let mut controller = numbered(&rt, rt.alloc())?;
+        put(&rt, &mut controller, 0x6ff8, &0x7000u64.to_le_bytes());
+        put(&rt, &mut controller, first, &0x8000u64.to_le_bytes());
+        put(&rt, &mut controller, first + 8, &0x9000u64.to_le_bytes());
+        let sqe = by_prp(&rt, 23, 0x3000, prp2);
+        assert_eq!(rt; last_dword(&mut controller, rt.alloc(), &sqe)?, 0x0001_0007);
+        for block in 0..8u8 {
+            let at = 512 * u64::from(block);
+            assert!(rt; filled(&rt, &controller, 0x3000 + at, block));
+            assert!(rt; filled(&rt, &controller, 0x8000 + at, block + 8));
+            assert!(rt; filled(&rt, &controller, 0x9000 + at, block + 16));
+        }
+    }
+    // 33 pages, of which the last gets 4 bytes: 32 entries at 2000h
+    let mut controller = numbered(&rt, rt.alloc())?;
+    for entry in 0..32u64 {
+        let page = 0x1_0000 + 0x1000 * entry;
+        put(&rt, &mut controller, 0x2000 + 8 * entry, &page.to_le_bytes());
+    }
+    let sqe = by_prp(&rt, 255, 0x3004, 0x2000);
+    assert_eq!(rt; last_dword(&mut controller, rt.alloc(), &sqe)?, 0x0001_0007);
+    assert!(rt; filled(&rt, &controller, 0x3004, 0) && filled(&rt, &controller, 0x1_0004, 8));
+    let mut last = [0; 8];
+    assert!(rt; controller.holds(0x2_f000, 8));
+    controller.load(0x2_f000, &mut last);
+    assert_eq!(rt; last, [255, 255, 255, 255, 0, 0, 0, 0]);
+    Ok(())
+}
+
+#[test]
+fn refuses_region_pages(rt: HostRuntime) -> Result<(), Fail> {
+    // NLB, PRP2, the entry at 6FF8h, and the last dword; PRP1 is 3000h
+    for (nlb, prp2, pointer, want) in [
+        (15, 0x5004, 0x7000u64, 0x8027_0007),
+        (23, 0x6ffc, 0x7000, 0x8027_0007),
+        (23, 0x6ff8, 0x7008, 0x8027_0007),
+        (15, 0x4_0000, 0x7000, 0x8009_0007),
+    ] {
+        let mut controller = numbered(&rt, rt.alloc())?;
+        put(&rt, &mut controller, 0x6ff8, &pointer.to_le_bytes());
+        put(&rt, &mut controller, 0x7000, &0x8000u64.to_le_bytes());
+        put(&rt, &mut controller, 0x7008, &0x9000u64.to_le_bytes());
+        let sqe = by_prp(&rt, nlb, 0x3000, prp2);
+        assert_eq!(rt; last_dword(&mut controller, rt.alloc(), &sqe)?, want, "{prp2:#x}");
+        assert!(rt; filled(&rt, &controller, 0x3200, 0) && filled(&rt, &controller, 0x8000, 0));
+    }
+    Ok(())
 }

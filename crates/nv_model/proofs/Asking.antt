@@ -118,7 +118,7 @@ read_sgl-asks mapped dest (suc budget) own =
 
 -- ---- physical region pages
 
-entry_fault-mapped : (mapped : ℕ → Bool) (alignment addr len : ℕ) → entry_fault mapped alignment addr len ≡ None → (addr % alignment ≡ 0) × IsMappedFrom mapped addr len
+pub entry_fault-mapped : (mapped : ℕ → Bool) (alignment addr len : ℕ) → entry_fault mapped alignment addr len ≡ None → (addr % alignment ≡ 0) × IsMappedFrom mapped addr len
 entry_fault-mapped mapped alignment addr len fine =
     let last : List (Bool × StatusCode) = (not (everywhere mapped addr len), DataTransferError) ∷ [] in
     let both = first_failing-none (not (addr % alignment == 0)) PrpOffsetInvalid last fine in
@@ -131,7 +131,7 @@ read_page-asks mapped bytes pieces follow addr goes =
     AsksIn-unless_faulty mapped (entry_fault mapped page addr (min bytes page)) _ (λ fine. goes (pieces ++ run addr (min bytes page)))
 
 -- not one slot, where others are to come
-others-left : (slots pages : ℕ) → (slots == 1 && nat_lt 0 pages) ≡ false → 0 < pages → slots ≡ 1 → ⊥
+pub others-left : (slots pages : ℕ) → (slots == 1 && nat_lt 0 pages) ≡ false → 0 < pages → slots ≡ 1 → ⊥
 others-left slots pages is some one =
     let first : (slots == 1) ≡ true = rw one refl in
     let second : nat_lt 0 pages ≡ false = and-false (slots == 1) (nat_lt 0 pages) is first in

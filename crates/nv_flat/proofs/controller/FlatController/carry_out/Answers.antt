@@ -1,12 +1,11 @@
-use Rattle.std.proofs.Common.{◌≡◌, ℕ, Err, length, sym, ap, subst, ◌∙◌}
+use Rattle.std.proofs.Common.{◌≡◌, ℕ, Ok, Err, length, sym, ap, subst, ◌∙◌}
 use Rattle.nv_judge.specs.Need.{field_verdict}
 use Rattle.nv_ns.specs.BlockRange.{Extent}
-use Rattle.nv_flat.specs.One.{is_built}
-use Rattle.nv_flat.proofs.DoneLemmas.{done-refused}
+use Rattle.nv_flat.proofs.DoneLemmas.{fields-refused}
 use Rattle.nv_flat.proofs.controller.FlatController.carry_out.Goals as goal
 
 pub returns-in-Err-clause-ok : goal.returns-in-Err-clause-ok
 returns-in-Err-clause-ok c =
     let blocks : c.new-ns.result.blocks ≡ length c.args.self.now.disk = ap (λ (n : Extent). n.blocks) c.new-ns.ensures ∙ c.blocks-2.ensures.value in
     let P : ℕ → Type 0 = λ n. Err c.in-Err.status ≡ field_verdict n c.args.sqe.now in
-    done-refused is_built c.args.self.now c.args.sqe.now c.in-Err.status (sym (subst P blocks c.in-Err.ensures))
+    fields-refused c.args.self.now c.args.sqe.now c.in-Err.status (sym (subst P blocks c.in-Err.ensures))

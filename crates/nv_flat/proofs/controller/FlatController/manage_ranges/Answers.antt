@@ -36,7 +36,7 @@ pub returns-in-Err-clause-run : goal.returns-in-Err-clause-run
 returns-in-Err-clause-run c =
     let m : IsManaged c.args.self.now c.args.sqe.now c.args.places.now c.fetch.new.out =
     managed c.args.self.now c.args.sqe.now c.args.places.now c.fetch.new.out c.self.inside.memory c.new.result (length c.args.ranges.now)
-    c.requires.in_order c.requires.by_sgl c.requires.spelled (ap (λ (f : Flat). f.memory) c.self.view_is) c.new.ensures c.requires.whole c.fetch.ensures.bytes in
+    c.requires.in_order c.requires.spelled (ap (λ (f : Flat). f.memory) c.self.view_is) c.new.ensures c.requires.whole c.fetch.ensures.bytes in
     let blocks : c.new-ns.result.blocks ≡ length c.args.self.now.disk = ap (λ (n : Extent). n.blocks) c.new-ns.ensures ∙ c.blocks-2.ensures.value in
     let P : ℕ → Type 0 = λ n. Err c.in-Err.status ≡ ranges_verdict n c.fetch.new.out in
     managed-refused c.args.self.now c.args.sqe.now c.args.places.now c.fetch.new.out c.in-Err.status m (sym (subst P blocks c.in-Err.ensures))
@@ -45,7 +45,7 @@ pub returns-clause-run : goal.returns-clause-run
 returns-clause-run c =
     let m : IsManaged c.args.self.now c.args.sqe.now c.args.places.now c.fetch.new.out =
     managed c.args.self.now c.args.sqe.now c.args.places.now c.fetch.new.out c.self.inside.memory c.new.result (length c.args.ranges.now)
-    c.requires.in_order c.requires.by_sgl c.requires.spelled (ap (λ (f : Flat). f.memory) c.self.view_is) c.new.ensures c.requires.whole c.fetch.ensures.bytes in
+    c.requires.in_order c.requires.spelled (ap (λ (f : Flat). f.memory) c.self.view_is) c.new.ensures c.requires.whole c.fetch.ensures.bytes in
     let blocks : c.new-ns.result.blocks ≡ length c.args.self.now.disk = ap (λ (n : Extent). n.blocks) c.new-ns.ensures ∙ c.blocks-2.ensures.value in
     let P : ℕ → Type 0 = λ n. Ok c.in_default.field-0 ≡ ranges_verdict n c.fetch.new.out in
     let fit = ranges-fit (length c.args.self.now.disk) c.fetch.new.out (sym (subst P blocks c.in_default.ensures)) in
