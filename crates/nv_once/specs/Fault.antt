@@ -1,11 +1,11 @@
 -- The faults of the program: what each prints, and the exit status that it ends with
 use Rattle.std.specs.Prelude.{ℕ, List, Option, Some, None, codes}
-use Rattle.nvmed.specs.declared.exit_status.ExitStatus.{ExitStatus}
-use Rattle.nvmed.specs.declared.exit_status.ExitStatus.TheVariants as status
-use Rattle.nvmed.specs.declared.refusal.Refusal.{Refusal}
-use Rattle.nvmed.specs.declared.refusal.Refusal.TheVariants as refusal
-use Rattle.nvmed.specs.declared.fault.Fault.{Fault}
-use Rattle.nvmed.specs.declared.fault.Fault.TheVariants.{BadBytes, Usage, NoMemory, Script, CannotRead, CannotWrite}
+use Rattle.nv_once.specs.declared.exit_status.ExitStatus.{ExitStatus}
+use Rattle.nv_once.specs.declared.exit_status.ExitStatus.TheVariants as status
+use Rattle.nv_once.specs.declared.refusal.Refusal.{Refusal}
+use Rattle.nv_once.specs.declared.refusal.Refusal.TheVariants as refusal
+use Rattle.nv_once.specs.declared.fault.Fault.{Fault}
+use Rattle.nv_once.specs.declared.fault.Fault.TheVariants.{BadBytes, Usage, NoMemory, Script, CannotRead, CannotWrite}
 use Rattle.nv_script.specs.declared.once.fault.ScriptFault.{ScriptFault}
 use Rattle.nv_script.specs.declared.once.fault.ScriptFault.TheVariants as script
 

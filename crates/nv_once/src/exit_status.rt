@@ -18,7 +18,7 @@ pub enum ExitStatus {
 }
 
 impl ExitStatus {
-    ghost use Rattle.nvmed.specs.ExitStatus.{exit_code};
+    ghost use Rattle.nv_once.specs.ExitStatus.{exit_code};
 
     /// The number that the process ends with.
     pub fn code(self) -> u8

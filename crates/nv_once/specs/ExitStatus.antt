@@ -1,7 +1,7 @@
 -- The exit statuses of the program
 use Rattle.std.specs.Prelude.{ℕ}
-use Rattle.nvmed.specs.declared.exit_status.ExitStatus.{ExitStatus}
-use Rattle.nvmed.specs.declared.exit_status.ExitStatus.TheVariants.{Success, ScriptFault, Usage, NoMemory, Mismatch, InputOutput}
+use Rattle.nv_once.specs.declared.exit_status.ExitStatus.{ExitStatus}
+use Rattle.nv_once.specs.declared.exit_status.ExitStatus.TheVariants.{Success, ScriptFault, Usage, NoMemory, Mismatch, InputOutput}
 
 -- the number that the process ends with
 abbrev pub exit_code : ExitStatus → ℕ

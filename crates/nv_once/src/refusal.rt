@@ -12,7 +12,7 @@ pub enum Refusal {
 }
 
 impl From<AllocError> for Refusal {
-    ghost use Rattle.nvmed.specs.declared.refusal.Refusal.TheVariants.{NoMemory};
+    ghost use Rattle.nv_once.specs.declared.refusal.Refusal.TheVariants.{NoMemory};
 
     ghost from_gives = { λ _ refusal. refusal ≡ NoMemory };
 
@@ -22,7 +22,7 @@ impl From<AllocError> for Refusal {
 }
 
 impl<T: Drop> From<AllocFailed<T>> for Refusal {
-    ghost use Rattle.nvmed.specs.declared.refusal.Refusal.TheVariants.{NoMemory};
+    ghost use Rattle.nv_once.specs.declared.refusal.Refusal.TheVariants.{NoMemory};
 
     ghost from_gives = { λ _ refusal. refusal ≡ NoMemory };
 

@@ -1,12 +1,14 @@
-ghost use Rattle.std.specs.Prelude.{◌≡◌, ◌≢◌};
-ghost use Rattle.nvmed.specs.Fault.{fault_of, of_script, status_of, text_of};
+ghost use Rattle.std.specs.Prelude.{◌≡◌, ◌≢◌, ◌⊎◌};
+ghost use Rattle.std.specs.IoError.{error_kind};
+ghost use Rattle.nv_once.specs.Fault.{fault_of, of_script, status_of, text_of};
 
 use crate::exit_status::ExitStatus;
 use crate::refusal::Refusal;
 use nv_mem::NoMemory;
 use nv_script::{FaultKind, ScriptFault};
 use std::alloc::AllocError;
-use std::{fmt, io};
+use std::fmt;
+use std::io::{self, ErrorKind, Write};
 
 /// Why the program ends with no success. Its text is one line of the fault writer.
 #[derive(Clone, Copy, Debug, PartialEq, Eq)]
@@ -33,14 +35,14 @@ impl Fault {
         Fault::CannotWrite
     }
 
-    /// The fault of an input that failed: want of memory is told as such.
+    /// The fault of an input that failed: want of memory is told as such, and nothing else is.
     pub fn of_input(error: io::Error) -> Self
-        ensures { result ≢ Fault.BadBytes }
+        ensures { (error_kind error ≡ ErrorKind.OutOfMemory) × (result ≡ Fault.NoMemory)
+            ⊎ (error_kind error ≢ ErrorKind.OutOfMemory) × (result ≡ Fault.CannotRead) }
     {
-        if error.kind() == io::ErrorKind::OutOfMemory {
-            Fault::NoMemory
-        } else {
-            Fault::CannotRead
+        match error.kind() {
+            ErrorKind::OutOfMemory => Fault::NoMemory,
+            _ => Fault::CannotRead,
         }
     }
 
@@ -55,6 +57,15 @@ impl Fault {
             Fault::CannotRead | Fault::CannotWrite => ExitStatus::InputOutput,
         }
     }
+}
+
+/// Writes the fault's line, and gives its exit status, also where the line cannot be written.
+pub fn report<E: Write + Drop>(fault: Fault, mut faults: E) -> ExitStatus
+    ensures { result ≡ status_of fault }
+{
+    let _ = writeln!(faults, "{fault}");
+    let _ = faults.flush();
+    fault.status()
 }
 
 impl fmt::Display for Fault {
@@ -84,7 +95,7 @@ impl From<Refusal> for Fault {
 }
 
 impl From<AllocError> for Fault {
-    ghost use Rattle.nvmed.specs.declared.fault.Fault.TheVariants.{NoMemory};
+    ghost use Rattle.nv_once.specs.declared.fault.Fault.TheVariants.{NoMemory};
 
     ghost from_gives = { λ _ fault. fault ≡ NoMemory };
 
@@ -94,7 +105,7 @@ impl From<AllocError> for Fault {
 }
 
 impl From<NoMemory> for Fault {
-    ghost use Rattle.nvmed.specs.declared.fault.Fault.TheVariants as fault;
+    ghost use Rattle.nv_once.specs.declared.fault.Fault.TheVariants as fault;
 
     ghost from_gives = { λ _ made. made ≡ fault.NoMemory };
 
