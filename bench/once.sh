@@ -39,10 +39,10 @@ dump() {
     printf 'memory 16777216\nblocks 1\nfill 0 131072 0xa5\ndump 0 %d\n' "$(($1 * 1048576))"
 }
 
-# Runs a script, and prints how long it took: the least of three runs, in seconds.
+# Runs a script, and prints how long it took: the least of five runs, in seconds.
 seconds() {
     local least="" took start end
-    for _ in 1 2 3; do
+    for _ in 1 2 3 4 5; do
         start=$(date +%s%N)
         "$program" once <"$1" >"$room/output"
         end=$(date +%s%N)
@@ -55,7 +55,7 @@ seconds() {
 }
 
 rate() {
-    awk -v amount="$1" -v took="$2" 'BEGIN { printf "%.1f", took > 0 ? amount / took : 0 }'
+    awk -v amount="$1" -v took="$2" 'BEGIN { printf "%.0f", amount / took }'
 }
 
 for n in $((lines / 2)) "$lines"; do
