@@ -2,4 +2,5 @@ pub mod OnceWordsLemmas
 pub mod OnceNumberLemmas
 pub mod OnceVocabularyLemmas
 pub mod OnceScriptLemmas
+pub mod OnceRangeLemmas
 pub mod OnceExamples

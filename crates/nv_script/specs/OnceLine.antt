@@ -1,5 +1,5 @@
 -- One line of a script, behind its set-up
-use Rattle.std.specs.Prelude.{ℕ, ◌+◌, ◌==◌, ◌||◌, nat_le, nat_lt, Bool, List, [], ◌∷◌, length, Result, Ok, Err, if◌then◌else◌}
+use Rattle.std.specs.Prelude.{ℕ, ◌+◌, ◌==◌, ◌||◌, nat_le, nat_lt, Bool, true, List, [], ◌∷◌, length, Result, Ok, Err, if◌then◌else◌}
 use Rattle.nv_script.specs.declared.once.fault.FaultKind.{FaultKind}
 use Rattle.nv_script.specs.declared.once.fault.FaultKind.TheVariants.{OutOfPlace, OutOfRange}
 use Rattle.nv_script.specs.declared.once.sizes.Sizes.{Sizes}
@@ -32,33 +32,42 @@ value_of (line.Block block) = Block block
 abbrev pub lies_in : (memory addr len : ℕ) → Bool
 lies_in memory addr len = len == 0 || nat_le (addr + len) memory
 
+-- whether the bytes and the block that a line names are there
+abbrev pub is_there : Sizes → LineValue → Bool
+is_there sizes (Store addr bytes) = lies_in sizes.memory addr (length bytes)
+is_there sizes (Fill addr len byte) = lies_in sizes.memory addr len
+is_there sizes (Paint block byte) = nat_lt block sizes.blocks
+is_there sizes (Command entry) = true
+is_there sizes (Dump addr len) = lies_in sizes.memory addr len
+is_there sizes (Block block) = nat_lt block sizes.blocks
+
 -- the line, where what it names is there
-abbrev pub if_there : Bool → LineValue → Result LineValue FaultKind
-if_there there value = if there then Ok value else Err OutOfRange
+abbrev pub if_there : Sizes → LineValue → Result LineValue FaultKind
+if_there sizes line = if is_there sizes line then Ok line else Err OutOfRange
 
 -- the line that a keyword and the words behind it make
 abbrev pub line_of : Sizes → Keyword → List (List ℕ) → Result LineValue FaultKind
 line_of sizes keyword.Store (addr ∷ digits ∷ []) = do
   a ← number_of addr
   bytes ← bytes_of digits
-  if_there (lies_in sizes.memory a (length bytes)) (Store a bytes)
+  if_there sizes (Store a bytes)
 line_of sizes keyword.Fill (addr ∷ len ∷ byte ∷ []) = do
   a ← number_of addr
   n ← number_up_to 131072 len
   b ← number_up_to 255 byte
-  if_there (lies_in sizes.memory a n) (Fill a n b)
+  if_there sizes (Fill a n b)
 line_of sizes keyword.Paint (block ∷ byte ∷ []) = do
   n ← number_of block
   b ← number_up_to 255 byte
-  if_there (nat_lt n sizes.blocks) (Paint n b)
+  if_there sizes (Paint n b)
 line_of sizes keyword.Cmd (digits ∷ []) = do
   entry ← entry_of digits
   Ok (Command entry)
 line_of sizes keyword.Dump (addr ∷ len ∷ []) = do
   a ← number_of addr
   n ← number_of len
-  if_there (lies_in sizes.memory a n) (Dump a n)
+  if_there sizes (Dump a n)
 line_of sizes keyword.Block (block ∷ []) = do
   n ← number_of block
-  if_there (nat_lt n sizes.blocks) (Block n)
+  if_there sizes (Block n)
 line_of sizes keyword words = Err OutOfPlace

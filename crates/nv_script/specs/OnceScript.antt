@@ -1,5 +1,6 @@
 -- A whole script: the set-up first, then its lines; the first faulty line decides
-use Rattle.std.specs.Prelude.{ℕ, ◌+◌, List, [], ◌∷◌, ◌++◌, map, length, Option, Some, None, Result, Ok, Err}
+use Rattle.std.specs.Prelude.{◌≡◌, ℕ, ◌+◌, true, List, [], ◌∷◌, ◌++◌, map, length, Option, Some, None, Result, Ok, Err}
+use Rattle.std.specs.List.{AllPass}
 use Rattle.std.specs.Option.{ok_or}
 use Rattle.nv_script.specs.declared.once.fault.FaultKind.{FaultKind}
 use Rattle.nv_script.specs.declared.once.fault.FaultKind.TheVariants.{OutOfPlace, UnknownWord}
@@ -11,8 +12,8 @@ use Rattle.nv_script.specs.declared.once.reading.Reading.{Reading}
 use Rattle.nv_script.specs.declared.once.vocabulary.Keyword.{Keyword}
 use Rattle.nv_script.specs.declared.once.vocabulary.Keyword.TheVariants as keyword
 use Rattle.nv_script.specs.OnceFault.{◌>>=◌}
-use Rattle.nv_script.specs.OnceLine.{LineValue, line_of, value_of}
-use Rattle.nv_script.specs.OnceSizes.{block_count, memory_size}
+use Rattle.nv_script.specs.OnceLine.{LineValue, is_there, line_of, value_of}
+use Rattle.nv_script.specs.OnceSizes.{block_count, is_block_count, is_memory_size, memory_size}
 use Rattle.nv_script.specs.OnceVocabulary.{arguments_of, count_check, keyword_of}
 use Rattle.nv_script.specs.OnceWords.{lines_of, words_of}
 
@@ -99,3 +100,9 @@ unfoldable pub script_of : List ℕ → Result ScriptValue ScriptFault
 script_of text = do
   so_far ← after_lines 1 nothing (lines_of text)
   finished (length (lines_of text)) so_far
+
+-- the sizes of a script are such as a set-up may name, and the bytes and blocks that its lines name are there
+pub record IsInRange (script : ScriptValue) : Type 0 where
+  pub memory : is_memory_size script.sizes.memory ≡ true
+  pub blocks : is_block_count script.sizes.blocks ≡ true
+  pub lines : AllPass (is_there script.sizes) script.lines

@@ -72,6 +72,23 @@ impl<A: Allocator> Chain<A> {
         Ok(Chain { blocks, next: None })
     }
 
+    /// A copy, in the same heap. It calls itself once for each array.
+    pub fn try_clone(&self) -> Result<Self, NoMemory>
+    where
+        A: Clone,
+        ensures { IfOk result (λ copy. copy ≡ self.now) }
+    {
+        let next = match &self.next {
+            None => None,
+            Some(older) => {
+                let copy = older.try_clone()?;
+                Some(Box::new(self.blocks.allocator().clone()?, copy)?)
+            }
+        };
+        let blocks = Vec::from_slice(self.blocks.allocator().clone()?, &self.blocks)?;
+        Ok(Chain { blocks, next })
+    }
+
     // Whether what is read next begins an array.
     fn begins_array(&self) -> bool
         ensures { result ≡ begins_array self.now }

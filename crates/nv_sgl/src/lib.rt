@@ -12,10 +12,10 @@
 //! behind the limit of 1,024, is looked at. That limit, the order of the checks, the alignment of arrays and the parts of 4,096
 //! bytes are this project's own choice (profile).
 //!
-//! `new`, `feed` and `places` take memory, and nothing else does. Where it is refused, `feed` leaves the parse as it was, so it
-//! may be fed again. The tests refuse each allocation in turn, by a heap that others have filled. The arrays of a chain are at
-//! most as many as descriptors may be read, and `places` calls itself once for each: no more than 1,024 times. Time is linear in
-//! the descriptors of the parts that were fed.
+//! `new`, `feed`, `places` and `try_clone` take memory, and nothing else does. Where it is refused, `feed` leaves the parse as it
+//! was, so it may be fed again. The tests refuse each allocation in turn, by an allocator of their own and by a heap that others
+//! have filled. The arrays of a chain are at most as many as descriptors may be read, and `places` and `try_clone` call themselves
+//! once for each: no more than 1,024 times. Time is linear in the descriptors of the parts that were fed.
 #![tactic(auto)]
 
 mod chain;
@@ -27,5 +27,9 @@ pub use chain::Chain;
 pub use nv_model::Want;
 pub use parse::SglParse;
 
+#[cfg(test)]
+mod refusals;
+#[cfg(test)]
+mod refusing;
 #[cfg(test)]
 mod tests;

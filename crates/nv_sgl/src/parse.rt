@@ -87,6 +87,19 @@ impl<'a, A: Allocator + Clone> SglParse<'a, A> {
         })
     }
 
+    /// A copy, that keeps what it reads in the same heap. Each of the two is fed by itself.
+    pub fn try_clone(&self) -> Result<Self, NoMemory>
+        ensures { IfOk result (λ copy. copy ≡ self.now) }
+    {
+        Ok(SglParse {
+            map: self.map,
+            dest: self.dest,
+            need: self.need,
+            cursor: self.cursor,
+            chain: self.chain.try_clone()?,
+        })
+    }
+
     /// What the parse wants to be fed, or how it ended. The bytes of an array are wanted from its start on, 4,096 at a time, the
     /// last what is left.
     pub fn wants(&self) -> Want

@@ -9,13 +9,13 @@ use std::alloc::{Allocator, Global};
 use std::process::Abort;
 use std::test::Fail;
 
-const DATA: u8 = 0x00;
+pub(crate) const DATA: u8 = 0x00;
 
 const BUCKET: u8 = 0x10;
 
-const SEGMENT: u8 = 0x20;
+pub(crate) const SEGMENT: u8 = 0x20;
 
-const LAST: u8 = 0x30;
+pub(crate) const LAST: u8 = 0x30;
 
 // The bytes of a descriptor: its last byte is the type and the subtype.
 fn bytes_of(kind: u8, addr: u64, len: u32) -> [u8; 16] {
@@ -26,16 +26,16 @@ fn bytes_of(kind: u8, addr: u64, len: u32) -> [u8; 16] {
     bytes
 }
 
-fn descriptor(kind: u8, addr: u64, len: u32) -> Descriptor {
+pub(crate) fn descriptor(kind: u8, addr: u64, len: u32) -> Descriptor {
     Descriptor::of(&bytes_of(kind, addr, len))
 }
 
 // A memory of zeros, which are Data Blocks of length 0.
-fn zeros(alloc: Global) -> Result<Vec<u8>, NoMemory> {
+pub(crate) fn zeros(alloc: Global) -> Result<Vec<u8>, NoMemory> {
     Ok(vec![in alloc; 0u8; 0x20000]?)
 }
 
-fn store(memory: &mut [u8], at: usize, kind: u8, addr: u64, len: u32) {
+pub(crate) fn store(memory: &mut [u8], at: usize, kind: u8, addr: u64, len: u32) {
     let bytes = bytes_of(kind, addr, len);
     for (place, byte) in memory.iter_mut().skip(at).zip(bytes.iter()) {
         *place = *byte;
@@ -43,7 +43,7 @@ fn store(memory: &mut [u8], at: usize, kind: u8, addr: u64, len: u32) {
 }
 
 // The guest's memory is mapped to its end, and no further.
-fn map(alloc: Global) -> Result<GuestMap, Fail> {
+pub(crate) fn map(alloc: Global) -> Result<GuestMap, Fail> {
     let regions = vec![in alloc;
         Region {
             guest: 0,
@@ -67,7 +67,7 @@ fn part(memory: &[u8], addr: u64, len: u32) -> Option<&[u8]>
 }
 
 // Feeds the parse the next part that it wants, or says how it ended.
-fn step<A: Allocator + Clone>(
+pub(crate) fn step<A: Allocator + Clone>(
     parse: &mut SglParse<'_, A>,
     memory: &[u8],
 ) -> Result<Option<Want>, NoMemory> {
@@ -97,7 +97,7 @@ fn drive<A: Allocator + Clone>(
 }
 
 // How a list ends, and the pieces that it names where it is done.
-fn read(
+pub(crate) fn read(
     alloc: Global,
     memory: &[u8],
     first: Descriptor,
@@ -114,7 +114,7 @@ fn read(
     Ok((end, pieces))
 }
 
-fn run(addr: u64, len: u64) -> Piece {
+pub(crate) fn run(addr: u64, len: u64) -> Piece {
     Piece::Run { addr, len }
 }
 
@@ -316,7 +316,7 @@ fn arrays<A: Allocator>(chain: &Chain<A>) -> u32 {
 }
 
 // A list of 512 arrays: each names a block and the next array. It has 1,023 descriptors.
-fn long_list(memory: &mut [u8]) {
+pub(crate) fn long_list(memory: &mut [u8]) {
     for i in 0u32..511 {
         let at = 0x4000 + 32 * i as usize;
         store(memory, at, DATA, 0x1000 + 16 * u64::from(i), 16);

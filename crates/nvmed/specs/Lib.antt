@@ -1,3 +1,0 @@
-pub mod Command
-pub mod ExitStatus
-pub mod Fault

@@ -1,21 +1,11 @@
 //! The words of the program, as a command.
 ghost use Rattle.std.specs.Prelude.{◌≡◌, ◌↔◌, IsTrue, Any, slice_get};
 
-use crate::entry_kind::EntryKind;
-use crate::refusal::Refusal;
 use clap::error::ErrorKind;
 use clap::{Arg, ArgMatches};
+use nv_once::{Command, EntryKind, Refusal};
 use std::alloc::{AllocError, Global};
 use std::convert::AsStr;
-
-/// What the program is to do.
-#[derive(Clone, Copy, Debug, PartialEq, Eq)]
-pub enum Command<'a> {
-    /// print the fields of the entry that these digits spell
-    Decode { kind: EntryKind, digits: &'a str },
-    /// run a script of commands on a private controller over flat memory
-    Once,
-}
 
 /// The command that these words are. A word that begins with `-` is in no command, and no help is built in.
 pub fn parse<'a, S: AsStr>(alloc: Global, words: &'a [S]) -> Result<Command<'a>, Refusal>

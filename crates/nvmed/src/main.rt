@@ -1,28 +1,20 @@
-//! The program `nvmed`: entries of NVM Express in plain words.
+//! The program `nvmed`: entries of NVM Express in plain words, and scripts of commands on a controller.
 //!
-//! `nvmed decode sqe HEX` and `nvmed decode cqe HEX` print the fields of one entry on one line; `nvmed once` runs a script of
-//! commands on a private controller over flat memory; any other list of words is a usage fault. A fault is one line on standard error, and the exit status tells its kind.
+//! `nvmed decode sqe HEX` and `nvmed decode cqe HEX` print the fields of one entry on one line. `nvmed once` runs a script of
+//! commands on a private controller over flat memory. Any other list of words is a usage fault. A fault is one line on standard
+//! error, and the exit status tells its kind.
 //!
-//! [`program::run`] is the whole program over words, a reader and two writers; `main` hands it the process's own and gives
-//! the exit status to the system. Proved are safety and return on every input, the exit status and the text of each fault,
-//! that a word which begins with `-` is a usage fault, which digits spell an entry and which entry, and the digits of the data
-//! pointer. The printed lines are tested and not proved, and so is which words the parse takes.
+//! [`program::run`] is the whole program over words, a reader and two writers; `main` hands it the process's own and gives the exit
+//! status to the system. Here it is proved that a word which begins with `-` is a usage fault; what a command prints and how it ends
+//! is the matter of the crate `nv_once`. Which other words are a command is tested and not proved.
 #![tactic(auto)]
 
 mod command;
-mod decode;
-mod entry_kind;
-mod exit_status;
-mod fault;
-mod lines;
-mod once;
 mod program;
-mod refusal;
 #[cfg(test)]
 mod tests;
 
-use crate::fault::Fault;
-use crate::refusal::Refusal;
+use nv_once::{Fault, Refusal, report};
 use std::env;
 use std::io::ErrorKind;
 use std::process::ExitCode;
@@ -46,7 +38,7 @@ fn main(rt: HostRuntime) -> ExitCode {
             rt.stdout(),
             rt.stderr(),
         ),
-        Err(refusal) => program::report(Fault::from(refusal), rt.stderr()),
+        Err(refusal) => report(Fault::from(refusal), rt.stderr()),
     };
     ExitCode::from(status.code())
 }

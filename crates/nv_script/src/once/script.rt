@@ -1,6 +1,6 @@
 //! The parse of a whole script.
-ghost use Rattle.std.specs.Prelude.{◌≡◌, ◌⊎◌, MatchResult};
-ghost use Rattle.nv_script.specs.OnceScript.{script_of, script_value};
+ghost use Rattle.std.specs.Prelude.{◌≡◌, ◌⊎◌, IfOk, MatchResult};
+ghost use Rattle.nv_script.specs.OnceScript.{IsInRange, script_of, script_value};
 ghost use Rattle.nv_script.specs.OnceWords.{without_last_feed};
 
 use crate::once::fault::ScriptFault;
@@ -19,10 +19,11 @@ pub struct Script {
     pub lines: Vec<Line>,
 }
 
-/// The script that a text is, or its first fault.
+/// The script that a text is, or its first fault. Of a script that it gives, the sizes and all lines are in range.
 pub fn parse(alloc: Global, text: &[u8]) -> Result<Script, ScriptFault>
-    ensures { MatchResult result (λ script. script_of text.now ≡ Ok (script_value script))
+    ensures value { MatchResult result (λ script. script_of text.now ≡ Ok (script_value script))
         (λ fault. (fault ≡ ScriptFault.NoMemory) ⊎ (script_of text.now ≡ Err fault)) }
+    ensures in_range { IfOk result (λ script. IsInRange (script_value script)) }
 {
     let mut reading = Reading::new(alloc);
     let mut number = 0;

@@ -4,12 +4,13 @@ use Rattle.std.proofs.lemmas.Iterator.Consumers.{YieldsList-at, YieldsList-turn,
 use Rattle.std.proofs.lemmas.Iterator.Splits.{YieldsList-from_slice_split}
 use Rattle.nv_script.specs.OnceScript.{progress}
 use Rattle.nv_script.specs.OnceWords.{lines_of, without_last_feed}
+use Rattle.nv_script.proofs.OnceRangeLemmas.{IsInRange-parsed}
 use Rattle.nv_script.proofs.OnceScriptLemmas.{after_lines-read, script_of-refused, script_of-finished}
 use Rattle.nv_script.proofs.once.script.parse.Goals as goal
 
-pub returns-in-Err : goal.returns-in-Err
+pub returns-in-Err-clause-value : goal.returns-in-Err-clause-value
 unfolding lines_of
-returns-in-Err c =
+returns-in-Err-clause-value c =
     let turn = rw (← c.loop-line.invariant.0) at (YieldsList-turn (YieldsList-at c.into_iter-line-iterator.ensures.into_iter_gives (YieldsList-from_slice_split _ (λ b. eqb b 10) (without_last_feed c.args.text.now) (c.split-line-items.ensures.rest ∙ c.before_last_feed.ensures) c.split-line-items.ensures.done c.split-line-items.ensures.closure (λ x b q k. search (rules, tests)))) c.loop-line.yielded _ c.loop-line.yielded_by _ _ c.in-Some.line c.in-Some.is c.next.ensures.steps) in
     rw c.on.ensures
     (script_of-refused (c.loop-line.number + 1) c.loop-line.number (progress c.loop-line.reading) c.args.text.now c.in-Some.line.now c.in-Err.fault turn c.loop-line.invariant.1 c.in-Err.ensures)
@@ -25,8 +26,14 @@ loop-line-preserved c =
       search rules,
     )
 
-pub returns : goal.returns
+pub returns-clause-value : goal.returns-clause-value
 unfolding lines_of
-returns c =
+returns-clause-value c =
     let all = YieldsList-end (YieldsList-at c.into_iter-line-iterator.ensures.into_iter_gives (YieldsList-from_slice_split _ (λ b. eqb b 10) (without_last_feed c.args.text.now) (c.split-line-items.ensures.rest ∙ c.before_last_feed.ensures) c.split-line-items.ensures.done c.split-line-items.ensures.closure (λ x b q k. search (rules, tests)))) c.loop-line.yielded _ c.loop-line.yielded_by _ _ c.in-None.is c.next.ensures.steps in
     script_of-finished c.loop-line.number (progress c.loop-line.reading) c.args.text.now c.finish.result (c.loop-line.invariant.0 ∙ all.1) c.loop-line.invariant.1 c.finish.ensures
+
+pub returns-clause-in_range : goal.returns-clause-in_range
+unfolding lines_of
+returns-clause-in_range c =
+    let all = YieldsList-end (YieldsList-at c.into_iter-line-iterator.ensures.into_iter_gives (YieldsList-from_slice_split _ (λ b. eqb b 10) (without_last_feed c.args.text.now) (c.split-line-items.ensures.rest ∙ c.before_last_feed.ensures) c.split-line-items.ensures.done c.split-line-items.ensures.closure (λ x b q k. search (rules, tests)))) c.loop-line.yielded _ c.loop-line.yielded_by _ _ c.in-None.is c.next.ensures.steps in
+    IsInRange-parsed c.args.text.now c.finish.result (script_of-finished c.loop-line.number (progress c.loop-line.reading) c.args.text.now c.finish.result (c.loop-line.invariant.0 ∙ all.1) c.loop-line.invariant.1 c.finish.ensures)

@@ -1,0 +1,38 @@
+-- The faults of the program: what each prints, and the exit status that it ends with
+use Rattle.std.specs.Prelude.{ℕ, List, Option, Some, None, codes}
+use Rattle.nv_once.specs.declared.exit_status.ExitStatus.{ExitStatus}
+use Rattle.nv_once.specs.declared.exit_status.ExitStatus.TheVariants as status
+use Rattle.nv_once.specs.declared.refusal.Refusal.{Refusal}
+use Rattle.nv_once.specs.declared.refusal.Refusal.TheVariants as refusal
+use Rattle.nv_once.specs.declared.fault.Fault.{Fault}
+use Rattle.nv_once.specs.declared.fault.Fault.TheVariants.{BadBytes, Usage, NoMemory, Script, CannotRead, CannotWrite}
+use Rattle.nv_script.specs.declared.once.fault.ScriptFault.{ScriptFault}
+use Rattle.nv_script.specs.declared.once.fault.ScriptFault.TheVariants as script
+
+-- the exit status of a fault
+abbrev pub status_of : Fault → ExitStatus
+status_of BadBytes = status.ScriptFault
+status_of Usage = status.Usage
+status_of NoMemory = status.NoMemory
+status_of (Script line kind) = status.ScriptFault
+status_of CannotRead = status.InputOutput
+status_of CannotWrite = status.InputOutput
+
+-- the text of a fault; that of a script's line is tested alone
+abbrev pub text_of : Fault → Option (List ℕ)
+text_of BadBytes = Some (codes "line 1: bad bytes")
+text_of Usage = Some (codes "usage: nvmed once | replay | run | decode KIND HEX")
+text_of NoMemory = Some (codes "no memory")
+text_of (Script line kind) = None
+text_of CannotRead = Some (codes "cannot read")
+text_of CannotWrite = Some (codes "cannot write")
+
+-- the fault of a script
+abbrev pub of_script : ScriptFault → Fault
+of_script (script.Line line kind) = Script line kind
+of_script script.NoMemory = NoMemory
+
+-- the fault of words that are no command
+abbrev pub fault_of : Refusal → Fault
+fault_of refusal.Usage = Usage
+fault_of refusal.NoMemory = NoMemory

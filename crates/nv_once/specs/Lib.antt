@@ -1,0 +1,4 @@
+pub mod Command
+pub mod ExitStatus
+pub mod Fault
+pub mod Once

@@ -1,0 +1,126 @@
+ghost use Rattle.std.specs.Prelude.{◌≡◌, ◌≢◌, ◌⊎◌};
+ghost use Rattle.std.specs.IoError.{error_kind};
+ghost use Rattle.nv_once.specs.Fault.{fault_of, of_script, status_of, text_of};
+
+use crate::exit_status::ExitStatus;
+use crate::refusal::Refusal;
+use nv_mem::NoMemory;
+use nv_script::{FaultKind, ScriptFault};
+use std::alloc::AllocError;
+use std::fmt;
+use std::io::{self, ErrorKind, Write};
+
+/// Why the program ends with no success. Its text is one line of the fault writer.
+#[derive(Clone, Copy, Debug, PartialEq, Eq)]
+pub enum Fault {
+    /// the word that `decode` reads, its only line, is not the digits of an entry
+    BadBytes,
+    /// words that the program does not know
+    Usage,
+    /// memory was refused
+    NoMemory,
+    /// a line of the script is faulty
+    Script { line: u64, kind: FaultKind },
+    /// the input failed
+    CannotRead,
+    /// the output failed
+    CannotWrite,
+}
+
+impl Fault {
+    /// The fault of an output that failed, whatever it says.
+    pub fn of_output(_error: io::Error) -> Self
+        ensures { result ≡ Fault.CannotWrite }
+    {
+        Fault::CannotWrite
+    }
+
+    /// The fault of an input that failed: want of memory is told as such, and nothing else is.
+    pub fn of_input(error: io::Error) -> Self
+        ensures { (error_kind error ≡ ErrorKind.OutOfMemory) × (result ≡ Fault.NoMemory)
+            ⊎ (error_kind error ≢ ErrorKind.OutOfMemory) × (result ≡ Fault.CannotRead) }
+    {
+        match error.kind() {
+            ErrorKind::OutOfMemory => Fault::NoMemory,
+            _ => Fault::CannotRead,
+        }
+    }
+
+    /// The exit status of a program that ends with this fault.
+    pub fn status(self) -> ExitStatus
+        ensures { result ≡ status_of self }
+    {
+        match self {
+            Fault::BadBytes | Fault::Script { .. } => ExitStatus::ScriptFault,
+            Fault::Usage => ExitStatus::Usage,
+            Fault::NoMemory => ExitStatus::NoMemory,
+            Fault::CannotRead | Fault::CannotWrite => ExitStatus::InputOutput,
+        }
+    }
+}
+
+/// Writes the fault's line, and gives its exit status, also where the line cannot be written.
+pub fn report<E: Write + Drop>(fault: Fault, mut faults: E) -> ExitStatus
+    ensures { result ≡ status_of fault }
+{
+    let _ = writeln!(faults, "{fault}");
+    let _ = faults.flush();
+    fault.status()
+}
+
+impl fmt::Display for Fault {
+    ghost output = { text_of };
+
+    fn fmt<W: fmt::Write>(&self, f: &mut fmt::Formatter<W>) -> fmt::Result {
+        match self {
+            Fault::BadBytes => f.write_str("line 1: bad bytes"),
+            Fault::Usage => f.write_str("usage: nvmed once | replay | run | decode KIND HEX"),
+            Fault::NoMemory => f.write_str("no memory"),
+            Fault::Script { line, kind } => write!(f, "line {line}: {kind}"),
+            Fault::CannotRead => f.write_str("cannot read"),
+            Fault::CannotWrite => f.write_str("cannot write"),
+        }
+    }
+}
+
+impl From<Refusal> for Fault {
+    ghost from_gives = { λ refusal fault. fault ≡ fault_of refusal };
+
+    fn from(refusal: Refusal) -> Self {
+        match refusal {
+            Refusal::Usage => Fault::Usage,
+            Refusal::NoMemory => Fault::NoMemory,
+        }
+    }
+}
+
+impl From<AllocError> for Fault {
+    ghost use Rattle.nv_once.specs.declared.fault.Fault.TheVariants.{NoMemory};
+
+    ghost from_gives = { λ _ fault. fault ≡ NoMemory };
+
+    fn from(_error: AllocError) -> Self {
+        Fault::NoMemory
+    }
+}
+
+impl From<NoMemory> for Fault {
+    ghost use Rattle.nv_once.specs.declared.fault.Fault.TheVariants as fault;
+
+    ghost from_gives = { λ _ made. made ≡ fault.NoMemory };
+
+    fn from(_error: NoMemory) -> Self {
+        Fault::NoMemory
+    }
+}
+
+impl From<ScriptFault> for Fault {
+    ghost from_gives = { λ script made. made ≡ of_script script };
+
+    fn from(fault: ScriptFault) -> Self {
+        match fault {
+            ScriptFault::Line { line, kind } => Fault::Script { line, kind },
+            ScriptFault::NoMemory => Fault::NoMemory,
+        }
+    }
+}

@@ -1,0 +1,388 @@
+//! Commands over readers and writers. Expected lines are read off the layouts by hand.
+
+use crate::{Command, EntryKind, ExitStatus, Fault, perform, report};
+use std::alloc::Global;
+use std::io::{self, ErrorKind, Read, Write};
+use std::process::Abort;
+
+const READ: &str =
+    "02400700010000000000000000000000000000000000000000300000000000000002000000000000050000000000000000000000000000000000000000000000";
+
+const READ_LINE: &str =
+    "opc=02 fuse=0 psdt=1 cid=0007 nsid=00000001 dptr=00300000000000000002000000000000 cdw10=00000005 cdw11=00000000 cdw12=00000000 cdw13=00000000 cdw14=00000000 cdw15=00000000\n";
+
+/// Every field another value, reserved bits set.
+const MIXED: &str =
+    "A1BFefbe04030201ffffffffffffffffffffffffffffffff00112233445566778899AABBCCDDEEFF1032547698BADCFE0100000000000080FFFFFFFF0f1e2d3c";
+
+const MIXED_LINE: &str =
+    "opc=a1 fuse=3 psdt=2 cid=beef nsid=01020304 dptr=00112233445566778899aabbccddeeff cdw10=76543210 cdw11=fedcba98 cdw12=00000001 cdw13=80000000 cdw14=ffffffff cdw15=3c2d1e0f\n";
+
+const DONE: &str = "00000000000000000100010007000100";
+
+const DONE_LINE: &str =
+    "dw0=00000000 sqhd=0001 sqid=0001 cid=0007 p=1 sct=0 sc=00 crd=0 m=0 dnr=0\n";
+
+const FAILED: &str = "EFCDAB890000000034127856bc9A0BF5";
+
+const FAILED_LINE: &str =
+    "dw0=89abcdef sqhd=1234 sqid=5678 cid=9abc p=1 sct=2 sc=85 crd=3 m=1 dnr=1\n";
+
+/// What a command printed, and how it ended.
+#[derive(Drop)]
+struct Outcome {
+    status: ExitStatus,
+    output: Vec<u8>,
+    faults: Vec<u8>,
+}
+
+fn run<R: Read + Drop>(alloc: Global, command: Command<'_>, input: R) -> Outcome {
+    let mut output = Vec::new(alloc);
+    let mut faults = Vec::new(alloc);
+    let status = match perform(alloc, command, input, &mut output) {
+        Ok(()) => ExitStatus::Success,
+        Err(fault) => report(fault, &mut faults),
+    };
+    Outcome {
+        status,
+        output,
+        faults,
+    }
+}
+
+fn decode<'a>(name: &str, digits: &'a str) -> Option<Command<'a>> {
+    let kind = EntryKind::named(name)?;
+    Some(Command::Decode { kind, digits })
+}
+
+fn expect(
+    rt: &(impl Abort + AllocGlobal),
+    command: Option<Command<'_>>,
+    text: &str,
+    status: ExitStatus,
+    output: &str,
+    faults: &str,
+) {
+    let Some(command) = command else {
+        assert!(rt; false, "no such entry");
+        return;
+    };
+    let run = run(rt.alloc(), command, text.as_bytes());
+    assert_eq!(rt;
+        run.output.as_slice(),
+        output.as_bytes(),
+        "{command:?} {text}"
+    );
+    assert_eq!(rt;
+        run.faults.as_slice(),
+        faults.as_bytes(),
+        "{command:?} {text}"
+    );
+    assert_eq!(rt; run.status, status, "{command:?} {text}");
+}
+
+#[test]
+fn decodes(rt: HostRuntime) {
+    for (kind, digits, line) in [
+        ("sqe", READ, READ_LINE),
+        ("sqe", MIXED, MIXED_LINE),
+        ("cqe", DONE, DONE_LINE),
+        ("cqe", FAILED, FAILED_LINE),
+    ] {
+        let command = decode(kind, digits);
+        expect(&rt, command, "", ExitStatus::Success, line, "");
+    }
+}
+
+#[test]
+fn refuses_bad_bytes(rt: HostRuntime) {
+    for (kind, digits) in [
+        ("sqe", ""),
+        ("cqe", ""),
+        ("cqe", " "),
+        ("sqe", "0"),
+        ("sqe", DONE),
+        ("cqe", READ),
+        ("cqe", "0000000000000000010001000700010"),
+        ("cqe", "000000000000000001000100070001000"),
+        ("cqe", "000000000000000001000100070001"),
+        ("cqe", "0000000000000000010001000700010000"),
+        ("cqe", "0x000000000000000100010007000100"),
+        ("cqe", "+0000000000000000100010007000100"),
+        ("cqe", "0000000000000000010001000700010g"),
+        ("cqe", "00000000 00000000100010007000100"),
+        ("cqe", "000000000000000001000100070001é"),
+    ] {
+        let command = decode(kind, digits);
+        let fault = "line 1: bad bytes\n";
+        expect(&rt, command, "", ExitStatus::ScriptFault, "", fault);
+    }
+}
+
+const FIRST_RUN: &str =
+    "memory 0x10000\nblocks 64\npaint 5 0xab\ncmd 02400700010000000000000000000000000000000000000000300000000000000002000000000000050000000000000000000000000000000000000000000000\ndump 0x3000 4\n";
+
+const WRITE_RUN: &str =
+    "memory 0x10000\nblocks 64\nfill 0x3000 512 0x11\ncmd 01400700010000000000000000000000000000000000000000300000000000000002000000000000050000000000000000000000000000000000000000000000\ndump 0x3000 0\ndump 0x31fe 4";
+
+#[test]
+fn runs_scripts(rt: HostRuntime) {
+    for (script, printed) in [
+        (FIRST_RUN, "00000000000000000100010007000100\nabababab\n"),
+        (WRITE_RUN, "00000000000000000100010007000100\n-\n11110000\n"),
+        ("memory 4096\nblocks 1", ""),
+        (
+            "blocks 1\nmemory 4096\nstore 0xffe a1B2\ndump 0xffd 3\n",
+            "00a1b2\n",
+        ),
+    ] {
+        expect(
+            &rt,
+            Some(Command::Once),
+            script,
+            ExitStatus::Success,
+            printed,
+            "",
+        );
+    }
+    let script = b"memory 4096\nblocks 2\npaint 1 0x22\nblock 1\nblock 0";
+    let run = run(rt.alloc(), Command::Once, script.as_slice());
+    assert_eq!(rt; run.output.len(), 2050);
+    assert!(rt; run.output.iter().take(1024).all(|digit| *digit == b'2'));
+    assert!(rt;
+        run.output
+            .iter()
+            .skip(1025)
+            .take(1024)
+            .all(|digit| *digit == b'0')
+    );
+}
+
+#[test]
+fn tells_the_first_faulty_line(rt: HostRuntime) {
+    for (script, fault) in [
+        ("", "line 1: out of place\n"),
+        (
+            "memory 0x10000\nblocks 64\ndump 0xfffe 4",
+            "line 3: out of range\n",
+        ),
+        ("memory 0x10000\nblocks 64\ncmd 00", "line 3: bad bytes\n"),
+        (
+            "memory 0x10000\nblocks 64\ndump 0 1\nhullo",
+            "line 4: unknown word\n",
+        ),
+        ("memory 0x10001\nblocks 64", "line 1: bad number\n"),
+    ] {
+        expect(
+            &rt,
+            Some(Command::Once),
+            script,
+            ExitStatus::ScriptFault,
+            "",
+            fault,
+        );
+    }
+}
+
+/// A reader that gives these bytes, and then fails.
+#[derive(Drop)]
+struct FailingReader<'a> {
+    text: &'a [u8],
+    kind: ErrorKind,
+}
+
+impl Read for FailingReader<'_> {
+    fn read(&mut self, buf: &mut [u8]) -> io::Result<usize> {
+        if self.text.is_empty() {
+            return Err(io::Error::from(self.kind));
+        }
+        let count = buf.len().min(self.text.len());
+        let (front, rest) = self.text.split_at(count);
+        buf[..count].copy_from_slice(front);
+        self.text = rest;
+        Ok(count)
+    }
+}
+
+#[test]
+fn tells_of_a_reader_that_fails(rt: HostRuntime) {
+    for (read, kind, status, told) in [
+        (
+            0,
+            ErrorKind::PermissionDenied,
+            ExitStatus::InputOutput,
+            "cannot read\n",
+        ),
+        (
+            1,
+            ErrorKind::IsADirectory,
+            ExitStatus::InputOutput,
+            "cannot read\n",
+        ),
+        (
+            60,
+            ErrorKind::UnexpectedEof,
+            ExitStatus::InputOutput,
+            "cannot read\n",
+        ),
+        (
+            1000,
+            ErrorKind::BrokenPipe,
+            ExitStatus::InputOutput,
+            "cannot read\n",
+        ),
+        (
+            60,
+            ErrorKind::OutOfMemory,
+            ExitStatus::NoMemory,
+            "no memory\n",
+        ),
+    ] {
+        let (text, _) = FIRST_RUN.as_bytes().split_at(FIRST_RUN.len().min(read));
+        let run = run(rt.alloc(), Command::Once, FailingReader { text, kind });
+        assert_eq!(rt; run.status, status, "{read}");
+        assert_eq!(rt; run.faults.as_slice(), told.as_bytes(), "{read}");
+        assert!(rt; run.output.is_empty(), "{read}");
+    }
+}
+
+/// A writer that keeps what it takes. Once it is full it fails; or it takes all and fails to flush.
+#[derive(Drop)]
+struct FailingWriter {
+    room: usize,
+    flushes: bool,
+    taken: Vec<u8>,
+}
+
+impl Write for FailingWriter {
+    fn write(&mut self, buf: &[u8]) -> io::Result<usize> {
+        if self.room == 0 {
+            return Err(io::Error::from(ErrorKind::StorageFull));
+        }
+        let count = buf.len().min(self.room);
+        self.taken.extend_from_slice(&buf[..count])?;
+        self.room -= count;
+        Ok(count)
+    }
+
+    fn flush(&mut self) -> io::Result<()> {
+        if self.flushes {
+            Ok(())
+        } else {
+            Err(io::Error::from(ErrorKind::StorageFull))
+        }
+    }
+}
+
+fn writer(alloc: Global, room: usize, flushes: bool) -> FailingWriter {
+    FailingWriter {
+        room,
+        flushes,
+        taken: Vec::new(alloc),
+    }
+}
+
+#[test]
+fn tells_of_a_writer_that_fails(rt: HostRuntime) {
+    let Some(command) = decode("cqe", DONE) else {
+        return;
+    };
+    for (room, flushes) in [(0, true), (1, true), (73, true), (1000, false)] {
+        let mut output = writer(rt.alloc(), room, flushes);
+        let ended = perform(rt.alloc(), command, b"".as_slice(), &mut output);
+        assert_eq!(rt; ended, Err(Fault::CannotWrite), "{room}");
+        assert!(rt; DONE_LINE.as_bytes().starts_with(&output.taken), "{room}");
+        let mut faults = Vec::new(rt.alloc());
+        let status = report(Fault::CannotWrite, &mut faults);
+        assert_eq!(rt; status, ExitStatus::InputOutput);
+        assert_eq!(rt; faults.as_slice(), b"cannot write\n".as_slice());
+    }
+    let mut output = writer(rt.alloc(), 74, true);
+    let ended = perform(rt.alloc(), command, b"".as_slice(), &mut output);
+    assert_eq!(rt; ended, Ok(()));
+    assert_eq!(rt; output.taken.as_slice(), DONE_LINE.as_bytes());
+}
+
+#[test]
+fn a_script_whose_writer_fails(rt: HostRuntime) {
+    // 65,536 digits and a line feed
+    let script = b"memory 0x10000\nblocks 1\nfill 0 0x8000 0xab\ndump 0 0x8000";
+    for room in [0, 1, 8191, 8192, 8193, 40_001, 65_536] {
+        let mut output = writer(rt.alloc(), room, true);
+        let ended = perform(rt.alloc(), Command::Once, script.as_slice(), &mut output);
+        assert_eq!(rt; ended, Err(Fault::CannotWrite), "{room}");
+        assert_eq!(rt; output.taken.len(), room);
+        for (i, digit) in output.taken.iter().enumerate() {
+            assert_eq!(rt; *digit, if i % 2 == 0 { b'a' } else { b'b' }, "{i}");
+        }
+    }
+    let mut output = writer(rt.alloc(), 65_537, true);
+    let ended = perform(rt.alloc(), Command::Once, script.as_slice(), &mut output);
+    assert_eq!(rt; ended, Ok(()));
+    assert_eq!(rt; output.taken.last().copied(), Some(b'\n'));
+}
+
+#[test]
+fn ends_as_ever_where_the_fault_writer_fails(rt: HostRuntime) {
+    for (fault, status) in [
+        (Fault::CannotWrite, ExitStatus::InputOutput),
+        (Fault::BadBytes, ExitStatus::ScriptFault),
+        (Fault::Usage, ExitStatus::Usage),
+        (Fault::NoMemory, ExitStatus::NoMemory),
+    ] {
+        let faults = writer(rt.alloc(), 3, false);
+        assert_eq!(rt; report(fault, faults), status);
+    }
+}
+
+/// A writer that needs no memory.
+#[derive(Drop)]
+struct Page {
+    taken: [u8; 64],
+    len: usize,
+}
+
+impl Page {
+    fn new() -> Self {
+        Page {
+            taken: [0; 64],
+            len: 0,
+        }
+    }
+
+    fn text(&self) -> &[u8] {
+        &self.taken[..self.len.min(64)]
+    }
+}
+
+impl Write for Page {
+    fn write(&mut self, buf: &[u8]) -> io::Result<usize> {
+        let from = self.len.min(64);
+        let count = buf.len().min(64 - from);
+        self.taken[from..from + count].copy_from_slice(&buf[..count]);
+        self.len = from + count;
+        Ok(count)
+    }
+
+    fn flush(&mut self) -> io::Result<()> {
+        Ok(())
+    }
+}
+
+/// It passes whichever allocation of the process is refused: the run ends well, or for want of memory, and what it printed is a
+/// beginning of its output.
+#[test]
+fn a_script_where_memory_is_refused(rt: HostRuntime) {
+    let mut output = Page::new();
+    let mut faults = Page::new();
+    let whole = b"00000000000000000100010007000100\nabababab\n".as_slice();
+    match perform(rt.alloc(), Command::Once, FIRST_RUN.as_bytes(), &mut output) {
+        Ok(()) => assert_eq!(rt; output.text(), whole),
+        Err(fault) => {
+            assert_eq!(rt; fault, Fault::NoMemory);
+            assert!(rt; whole.starts_with(output.text()));
+            assert_eq!(rt; report(fault, &mut faults), ExitStatus::NoMemory);
+            assert_eq!(rt; faults.text(), b"no memory\n".as_slice());
+        }
+    }
+}
