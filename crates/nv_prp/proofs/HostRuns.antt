@@ -1,9 +1,10 @@
 -- Lemmas on host addresses that fit PRP.
-use Rattle.std.proofs.Common.{◌≡◌, ℕ, zero, suc, ◌+◌, ◌-◌, ◌%◌, ◌<◌, ◌≤◌, ◌^◌, Bool, true, false, ◌&&◌, ◌||◌, ◌==◌, List, [], ◌∷◌, ◌++◌, length, drop, get_or, replicate, Option, Some, None, is_some, option_to_list, arith, refl, sym, ap, ◌∙◌, append_assoc, length-append, eq-eqb, inl, inr}
+use Rattle.std.proofs.Common.{◌≡◌, ℕ, zero, suc, ◌+◌, ◌-◌, ◌%◌, ◌<◌, ◌≤◌, ◌^◌, Bool, true, false, ◌&&◌, ◌||◌, ◌==◌, List, [], ◌∷◌, ◌++◌, All, length, drop, get_or, replicate, Option, Some, None, is_some, option_to_list, arith, refl, sym, ap, ◌∙◌, append_assoc, length-append, eq-eqb, inl, inr}
 use Rattle.std.specs.List.{range_with_len, list_all}
 use Rattle.std.proofs.Math.Seq.{drop-cons}
 use Rattle.std.proofs.lemmas.Bool.{cases_lt}
 use Rattle.std.proofs.lemmas.Grind.{flat_map-append}
+use Rattle.std.proofs.lemmas.List.Elements.{All-head, All-tail}
 use Rattle.std.proofs.lemmas.List.Sums.{sum_by-cons}
 use Rattle.nv_mem.specs.GuestMap.{Mapping, IsSound, IsLongestRun, everywhere, host_of, mapped}
 use Rattle.nv_mem.specs.Places.{Place, At, Bucket, addresses, piece_len, places_of, places_of_piece, total_len}
@@ -13,6 +14,7 @@ use Rattle.nv_mem.specs.declared.region.Region.{Region}
 use Rattle.nv_mem.proofs.Counts.{AllMapped-tested}
 use Rattle.nv_mem.proofs.PlaceLists.{length-places_of}
 use Rattle.nv_mem.proofs.Images.{host_of-high, IsRun-inside}
+use Rattle.nv_model.specs.Laws.{IsMappedPiece}
 use Rattle.nv_prp.specs.Fits.{fit_behind, host_address, host_addresses, hosts_of, is_run, may_follow, places_fit_behind}
 
 -- ---- host addresses of a run
@@ -176,6 +178,39 @@ pub length-host_addresses : (regions : List Region) (pieces : List Piece) → le
 length-host_addresses regions pieces =
     let hosts = length-hosts_of regions (places_of pieces) in
     let places = length-places_of pieces in
+    omega arith
+
+-- and as many, where all are mapped
+some-one : (o : Option ℕ) → is_some o ≡ true → length (option_to_list o) ≡ 1
+some-one (Some host) is = refl
+some-one None is = absurd (cc)
+
+length-mapped : (regions : List Region) (addr len : ℕ) → ((i : ℕ) → i < len → is_some (host_of regions (addr + i)) ≡ true)
+    → length (hosts_of regions (addresses addr len)) ≡ len
+unfolding hosts_of addresses
+length-mapped regions addr zero all = refl
+length-mapped regions addr (suc len) all =
+    let at : addr + 0 ≡ addr = omega arith in
+    let here : is_some (host_of regions addr) ≡ true = ap (λ (a : ℕ). is_some (host_of regions a)) (sym at) ∙ all 0 (omega arith) in
+    let one = some-one (host_of regions addr) here in
+    let rest = length-mapped regions (addr + 1) len (λ i below.
+    let from : addr + 1 + i ≡ addr + suc i = omega arith in
+    ap (λ (a : ℕ). is_some (host_of regions a)) from ∙ all (suc i) (omega arith)) in
+    let count = length-append (option_to_list (host_of regions addr)) (hosts_of regions (addresses (addr + 1) len)) in
+    omega arith
+
+pub length-mapped_runs : (regions : List Region) (pieces : List Piece) → All (IsMappedPiece (mapped regions)) pieces → list_all is_run pieces ≡ true
+    → length (host_addresses regions pieces) ≡ total_len pieces
+unfolding hosts_of
+length-mapped_runs regions [] all runs = refl
+length-mapped_runs regions (piece.Bucket len ∷ pieces) all runs = absurd (cc)
+length-mapped_runs regions (piece.Run addr len ∷ pieces) all runs =
+    let here : everywhere (mapped regions) addr len ≡ true = All-head (IsMappedPiece (mapped regions)) (piece.Run addr len) pieces all in
+    let first = length-mapped regions addr len (λ i below. AllMapped-tested regions addr len here i below) in
+    let rest = length-mapped_runs regions pieces (All-tail (IsMappedPiece (mapped regions)) (piece.Run addr len) pieces all) runs in
+    let split = ap (λ (hs : List ℕ). length hs) (hosts_of-append regions (addresses addr len) (places_of pieces)) in
+    let count = length-append (hosts_of regions (addresses addr len)) (hosts_of regions (places_of pieces)) in
+    let total = sum_by-cons piece_len (piece.Run addr len) pieces in
     omega arith
 
 -- buckets have no host addresses

@@ -1,6 +1,7 @@
 pub mod Builds
 pub mod Cursors
 pub mod Entries
+pub mod Examples
 pub mod HostRuns
 pub mod Pages
 pub mod Parses

@@ -1,5 +1,5 @@
 -- Lemmas on what built PRPs spell.
-use Rattle.std.proofs.Common.{◌≡◌, ℕ, zero, suc, ◌+◌, ◌-◌, ◌*◌, ◌%◌, ◌≤◌, min, Bool, true, false, cond, not, ◌&&◌, ◌==◌, nat_lt, List, [], ◌∷◌, ◌++◌, length, map, replicate, Option, Some, None, arith, refl, sym, ap, subst, ◌∙◌, append_assoc, append-nil, eq-eqb}
+use Rattle.std.proofs.Common.{◌≡◌, ℕ, zero, suc, ◌+◌, ◌-◌, ◌*◌, ◌%◌, ◌≤◌, min, Bool, true, false, cond, not, ◌&&◌, ◌==◌, nat_lt, List, [], ◌∷◌, ◌++◌, length, map, take, replicate, Option, Some, None, arith, refl, sym, ap, subst, ◌∙◌, append_assoc, append-nil, eq-eqb}
 use Rattle.std.specs.List.{filter, range_with_len}
 use Rattle.std.proofs.Math.Seq.{take-append_seam}
 use Rattle.std.proofs.lemmas.Bool.Decides.{nat_tests}
@@ -13,7 +13,7 @@ use Rattle.nv_mem.specs.declared.piece.Piece.{Piece}
 use Rattle.nv_model.specs.Dialogue.{Dialogue, End, in_memory}
 use Rattle.nv_model.specs.Prp.{entry_fault, first_len, page, pages_of, read_entries, read_page, read_prp, read_prp2, slots_of}
 use Rattle.nv_model.specs.Reading.{Reading, Spells, unless_faulty, run}
-use Rattle.nv_prp.specs.Built.{built, listed, prp2_by, reading_of, starts_page, HoldsList, HoldsNumbers, SpellsAddresses}
+use Rattle.nv_prp.specs.Built.{built, entries_of, listed, padded, prp2_by, reading_of, starts_page, HoldsList, HoldsNumbers, SpellsAddresses}
 use Rattle.nv_prp.specs.Fits.{fit_behind, fit_prp, may_follow}
 use Rattle.nv_prp.proofs.Cursors.{behind_slot, read_prp2-list, run-some}
 use Rattle.nv_prp.proofs.Pages.{ArePages, page_more, paged, room_from, Paged-fit, both}
@@ -150,3 +150,12 @@ built-spells m list_page [] fit most starts holds = refl
 built-spells m list_page (addr ∷ addresses) fit most starts holds =
     built-spells-some m list_page addr addresses fit most starts
     (subst (HoldsNumbers m list_page) (take-append_seam (listed (filter starts_page addresses)) (replicate (32 - length (listed (filter starts_page addresses))) 0)) holds)
+
+-- behind the list stand zeros
+zeros_by : (numbers : List ℕ) → padded numbers ≡ take (length numbers) (padded numbers) ++ replicate (32 - length numbers) 0
+zeros_by numbers = ap (λ (ns : List ℕ). ns ++ replicate (32 - length numbers) 0) (sym (take-append_seam numbers (replicate (32 - length numbers) 0)))
+
+pub built-zeros : (list_page : ℕ) (addresses : List ℕ)
+    → (built list_page addresses).list ≡ take (built list_page addresses).used (built list_page addresses).list ++ replicate (32 - (built list_page addresses).used) 0
+unfolding built
+built-zeros list_page addresses = zeros_by (listed (entries_of addresses))

@@ -1,12 +1,18 @@
 //! What the definitions of this crate come to, as functions that do nothing: each contract is a law.
-ghost use Rattle.std.specs.Prelude.{◌≡◌, ℕ, ◌%◌, ◌≤◌, true, List, length};
+ghost use Rattle.std.specs.Prelude.{◌≡◌, ℕ, ◌-◌, ◌%◌, ◌≤◌, true, List, ◌++◌, All, length, replicate, take};
+ghost use Rattle.std.specs.List.{list_all};
+ghost use Rattle.nv_mem.specs.GuestMap.{mapped};
+ghost use Rattle.nv_mem.specs.Places.{total_len};
+ghost use Rattle.nv_mem.specs.declared.piece.Piece.{Piece};
+ghost use Rattle.nv_mem.specs.declared.region.Region.{Region};
 ghost use Rattle.nv_model.specs.Dialogue.{in_memory};
+ghost use Rattle.nv_model.specs.Laws.{IsMappedPiece};
 ghost use Rattle.nv_model.specs.Memory.{bytes_from};
 ghost use Rattle.nv_model.specs.Transcript.{fed};
 ghost use Rattle.nv_model.specs.Want.{want_of};
 ghost use Rattle.nv_model.specs.declared.want.Want.TheVariants as want;
 ghost use Rattle.nv_prp.specs.Built.{HoldsList, SpellsAddresses, built, reading_of};
-ghost use Rattle.nv_prp.specs.Fits.{fit_prp};
+ghost use Rattle.nv_prp.specs.Fits.{fit_prp, host_addresses, is_run};
 ghost use Rattle.nv_prp.specs.Parse.{Parse, dialogue_of};
 
 /// A parse that is fed the bytes that a memory shows at what it wants ends in this memory as it would have without them.
@@ -16,10 +22,19 @@ pub fn feeding_what_a_memory_shows_keeps_the_end()
 {}
 
 /// What is built for host addresses that fit PRP spells exactly these addresses, in any memory in which its list stands: so the PRP
-/// definition reads it.
+/// definition reads it. The numbers behind the list are zeros.
 pub fn built_prps_spell_the_addresses()
-    ensures { (memory : ℕ → ℕ) (list_page : ℕ) (addresses : List ℕ) →
+    ensures zeros { (list_page : ℕ) (addresses : List ℕ) → let p = built list_page addresses in
+        p.list ≡ take p.used p.list ++ replicate (32 - p.used) 0 }
+    ensures spells { (memory : ℕ → ℕ) (list_page : ℕ) (addresses : List ℕ) →
         fit_prp addresses ≡ true → length addresses ≤ 131072 → list_page % 4096 ≡ 0 →
         HoldsList memory list_page (built list_page addresses) →
         SpellsAddresses addresses (reading_of memory (built list_page addresses) (length addresses)) }
+{}
+
+/// Runs of mapped bytes have as many host addresses as bytes.
+pub fn mapped_runs_have_an_address_for_each_byte()
+    ensures { (regions : List Region) (pieces : List Piece) →
+        All (IsMappedPiece (mapped regions)) pieces → list_all is_run pieces ≡ true →
+        length (host_addresses regions pieces) ≡ total_len pieces }
 {}

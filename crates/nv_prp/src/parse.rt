@@ -1,6 +1,7 @@
-ghost use Rattle.std.specs.Prelude.{◌≡◌, ◌<◌, ◌≤◌, ℕ, length, IfOk};
+ghost use Rattle.std.specs.Prelude.{◌≡◌, ◌≢◌, ◌<◌, ◌≤◌, ℕ, length, IfOk};
 ghost use Rattle.nv_mem.specs.GuestMap.{mapped};
-ghost use Rattle.nv_model.specs.Dialogue.{End};
+ghost use Rattle.nv_model.specs.Dialogue.{End, and_then};
+ghost use Rattle.nv_model.specs.Judge.{sized};
 ghost use Rattle.nv_model.specs.Prp.{read_prp};
 ghost use Rattle.nv_model.specs.Reading.{Spells};
 
@@ -37,11 +38,14 @@ impl<'a> PrpParse<'a> {
     ghost use Rattle.nv_model.specs.Want.{want_of};
     ghost use Rattle.nv_prp.specs.Parse.{dialogue_of, slots_ahead};
 
-    /// A parse of a command's PRP1 and PRP2, for a transfer of `need` bytes.
+    /// A parse of a command's PRP1 and PRP2, for a transfer of `need` bytes. What they name has that length, so a check of it changes
+    /// nothing.
     pub fn new(map: &'a GuestMap, prp1: u64, prp2: u64, need: u64) -> Self
         requires some { 0 < need }
         requires most { need ≤ 131072 }
-        ensures { dialogue_of result ≡ read_prp (mapped map.now.regions) prp1 prp2 need }
+        ensures dialogue { dialogue_of result ≡ read_prp (mapped map.now.regions) prp1 prp2 need }
+        ensures sized { dialogue_of result ≡
+            and_then (read_prp (mapped map.now.regions) prp1 prp2 need) (λ reading. End (sized need reading)) }
     {
         let mut runs = Runs::new();
         let cursor = Cursor::start(map, prp1, prp2, need, &mut runs);
@@ -50,7 +54,8 @@ impl<'a> PrpParse<'a> {
 
     /// What the parse wants to be fed, or how it ended. It is never too long.
     pub fn wants(&self) -> Want
-        ensures { result ≡ want_of (dialogue_of self.now) }
+        ensures value { result ≡ want_of (dialogue_of self.now) }
+        ensures never_too_long { result ≢ Want.TooLong }
     {
         let Cursor {
             from,
