@@ -58,7 +58,8 @@ impl FlatController {
                 Want::Read { addr, len } => feed_prp(&self.memory, &mut parse, addr, len),
                 Want::Done => return Ok(Listed::Named(parse.places(alloc)?)),
                 Want::Fault(status) => return Ok(Listed::Refused(status)),
-                Want::TooLong => return Ok(Listed::Refused(StatusCode::InternalError.status())),
+                // a list of region pages is never too long
+                Want::TooLong => unreachable!(),
             }
         }
         unreachable!()
