@@ -11,7 +11,7 @@ use Rattle.nv_script.specs.declared.once.fault.ScriptFault.TheVariants as fault
 use Rattle.nv_script.specs.declared.once.script.Script.{Script}
 use Rattle.nv_script.specs.declared.once.sizes.Sizes.{Sizes}
 use Rattle.nv_script.specs.declared.once.vocabulary.Keyword.{Keyword}
-use Rattle.nv_script.specs.declared.once.vocabulary.Keyword.TheVariants.{Memory, Blocks, Store, Fill, Paint, Cmd, Dump, Block, Foreign}
+use Rattle.nv_script.specs.declared.once.vocabulary.Keyword.TheVariants.{Memory, Blocks, Store, Fill, Paint, Cmd, Dump, Block}
 use Rattle.nv_script.specs.OnceFault.{◌>>=◌}
 use Rattle.nv_script.specs.OnceLine.{LineValue, if_there, is_there, line_of}
 use Rattle.nv_script.specs.OnceLine as value
