@@ -1,15 +1,15 @@
 -- One command on the flat controller
-use Rattle.std.specs.Prelude.{◌≡◌, ℕ, Bool, true, false, not, ◌&&◌, ◌==◌, List, [], ◌∷◌, length, Option, Some, None, is_none}
+use Rattle.std.specs.Prelude.{◌≡◌, ℕ, Bool, true, false, not, List, [], ◌∷◌, length, Option, Some, None, is_none}
 use Rattle.std.specs.List.{slice_index_or}
 use Rattle.nv_entry.specs.Opcode.{io_opcode}
 use Rattle.nv_entry.specs.Status.{StatusField}
 use Rattle.nv_entry.specs.StatusCode.{done_with}
-use Rattle.nv_entry.specs.Submission.{opcode_of, psdt_of}
+use Rattle.nv_entry.specs.Submission.{opcode_of}
 use Rattle.nv_entry.specs.declared.opcode.IoOpcode.{IoOpcode}
 use Rattle.nv_entry.specs.declared.status_code.StatusCode.TheVariants.{InternalError}
 use Rattle.nv_mem.specs.GuestMap.{mapped}
 use Rattle.nv_model.specs.Controller.{opening}
-use Rattle.nv_model.specs.Judge.{field_refusal, has_buffer}
+use Rattle.nv_model.specs.Judge.{field_refusal}
 use Rattle.nv_model.specs.Private.{Private, Shape, Taken, Unjudged}
 use Rattle.nv_model.specs.Carried.{IsCarriedOut}
 use Rattle.nv_judge.specs.declared.need.Need.{Need}
@@ -41,24 +41,19 @@ pub record IsRun (old : Flat) (entry : List ℕ) (st : StatusField) (new : Flat)
   pub after : Taken
   pub carried : IsCarriedOut (shape_of old) (private_of old (newly_taken entry ∷ [])) (newly_taken entry) st (private_of new (after ∷ []))
 
--- whether a command has a buffer, whose list is read
-abbrev pub needs_list : Option IoOpcode → Bool
-needs_list (Some opcode) = has_buffer opcode
-needs_list None = false
+-- every command is carried out
+abbrev pub every_command : List ℕ → Bool
+every_command entry = true
 
--- whether a command is built: any but one whose buffer is named by PRPs
-abbrev pub is_built : List ℕ → Bool
-is_built entry = not (needs_list (io_opcode (opcode_of entry)) && psdt_of entry == 0)
-
--- a command whose fields are in order, but which is not built yet, is answered Internal Error and changes nothing; any other ends as
--- a run of the private controller says
+-- a command whose fields are in order, but which the controller doesn't carry out, is answered Internal Error and changes nothing;
+-- any other ends as a run of the private controller says
 abbrev pub IsOutcome : (built refused : Bool) → Flat → List ℕ → StatusField → Flat → Type 0
 IsOutcome false false old entry st new = (st ≡ done_with InternalError) × (new ≡ old)
 IsOutcome false true old entry st new = IsRun old entry st new
 IsOutcome true false old entry st new = IsRun old entry st new
 IsOutcome true true old entry st new = IsRun old entry st new
 
--- the outcome of a command, where this says which commands are built
+-- the outcome of a command on a controller that carries these out
 abbrev pub IsDone : (built : List ℕ → Bool) → Flat → List ℕ → StatusField → Flat → Type 0
 IsDone built old entry st new = IsOutcome (built entry) (not (is_none (field_refusal (length old.disk) entry))) old entry st new
 

@@ -7,8 +7,10 @@ mod dataset;
 mod lists;
 mod moves;
 mod one;
+mod one_command;
 #[cfg(test)]
 mod tests;
 mod transfer;
 
 pub use controller::FlatController;
+pub use one_command::One;
