@@ -1,0 +1,93 @@
+-- What lies behind the mediator's own, as lists
+use Rattle.std.proofs.Common.{◌≡◌, ℕ, zero, suc, ◌+◌, ◌-◌, ◌%◌, ◌^◌, ◌<◌, ◌≤◌, Bool, false, ◌==◌, None, List, [], ◌∷◌, length, take, drop, set, replicate, refl, sym, ap, ◌∙◌, arith}
+use Rattle.std.proofs.lemmas.Bool.Decides.{nat_tests}
+use Rattle.std.proofs.lemmas.List.{drop-replicate, drop-set-add, length-drop}
+use Rattle.std.proofs.Math.Seq.{drop-nil}
+use Rattle.nv_mem.specs.Bytes.{after_store, bytes_at}
+use Rattle.nv_mem.specs.GuestMap.{Mapping, refusal_of}
+use Rattle.nv_flat.specs.Flat.{Flat, flat}
+use Rattle.nv_thin.specs.Thin.{IsBehind, first_block, guest_start, guests_view}
+
+-- the sizes of what the guest sees
+pub record Sizes (host : List ℕ) (disk : List (List ℕ)) (kept : List Bool) (v : Flat) : Type 0 where
+  pub memory : length v.memory + 135168 ≡ length host
+  pub blocks : length v.disk + 1000 ≡ length disk
+  pub marks : length v.kept + 1000 ≡ length kept
+  pub marked : length kept ≡ length disk
+
+pub sizes : (host : List ℕ) (map : Mapping) (disk : List (List ℕ)) (kept : List Bool) (v : Flat)
+    → guests_view host disk kept ≡ v → IsBehind host map disk kept → Sizes host disk kept v
+sizes host map disk kept v seen b =
+    let memory : length v.memory ≡ length host - 135168 = ap (λ (f : Flat). length f.memory) (sym seen) ∙ length-drop 135168 host in
+    let blocks : length v.disk ≡ length disk - 1000 = ap (λ (f : Flat). length f.disk) (sym seen) ∙ length-drop 1000 disk in
+    let marks : length v.kept ≡ length kept - 1000 = ap (λ (f : Flat). length f.kept) (sym seen) ∙ length-drop 1000 kept in
+    let room : 135168 ≤ length host = b.room in
+    let range : 1000 ≤ length disk = b.range in
+    let marked : length kept ≡ length disk = b.marked in
+    record {
+      memory = omega arith;
+      blocks = omega arith;
+      marks = omega arith;
+      marked = marked;
+    }
+
+-- bytes stored behind an offset
+pub drop-after_store : (k addr : ℕ) (m bytes : List ℕ) → k + addr + length bytes ≤ length m
+    → drop k (after_store m (k + addr) bytes) ≡ after_store (drop k m) addr bytes
+drop-after_store zero addr m bytes inside =
+    let e : 0 + addr ≡ addr = omega arith in
+    rw e refl
+drop-after_store (suc k) addr [] bytes inside = absurd (omega arith)
+drop-after_store (suc k) addr (x ∷ m) bytes inside =
+    let e : suc k + addr ≡ suc (k + addr) = omega arith in
+    let f : suc (k + addr) + length bytes ≡ suc (k + addr + length bytes) = omega arith in
+    rw (e, f) (drop-after_store k addr m bytes (omega arith))
+
+-- bytes read behind an offset
+pub bytes_at-drop : (k addr n : ℕ) (m : List ℕ) → bytes_at m (k + addr) n ≡ bytes_at (drop k m) addr n
+bytes_at-drop zero addr n m =
+    let e : 0 + addr ≡ addr = omega arith in
+    rw e refl
+bytes_at-drop (suc k) addr n [] = ap (take n) (drop-nil {A = ℕ} (suc k + addr) ∙ sym (drop-nil {A = ℕ} addr))
+bytes_at-drop (suc k) addr n (x ∷ m) =
+    let e : suc k + addr ≡ suc (k + addr) = omega arith in
+    rw e (bytes_at-drop k addr n m)
+
+-- what the guest sees of a store, and of a new block
+pub guests_view-store : (host : List ℕ) (disk : List (List ℕ)) (kept : List Bool) (v : Flat) (addr : ℕ) (bytes : List ℕ)
+    → guests_view host disk kept ≡ v → guest_start + addr + length bytes ≤ length host
+    → guests_view (after_store host (guest_start + addr) bytes) disk kept ≡ flat (after_store v.memory addr bytes) v.disk v.kept
+guests_view-store host disk kept v addr bytes seen inside =
+    ap (λ (m : List ℕ). flat m (drop first_block disk) (drop first_block kept)) (drop-after_store guest_start addr host bytes inside)
+    ∙ ap (λ (f : Flat). flat (after_store f.memory addr bytes) f.disk f.kept) seen
+
+pub guests_view-set : (host : List ℕ) (disk : List (List ℕ)) (kept : List Bool) (v : Flat) (block : ℕ) (bytes : List ℕ)
+    → guests_view host disk kept ≡ v
+    → guests_view host (set disk (first_block + block) bytes) kept ≡ flat v.memory (set v.disk block bytes) v.kept
+guests_view-set host disk kept v block bytes seen =
+    ap (λ (d : List (List ℕ)). flat (drop guest_start host) d (drop first_block kept)) (drop-set-add first_block disk block bytes)
+    ∙ ap (λ (f : Flat). flat f.memory (set f.disk block bytes) f.kept) seen
+
+-- what the guest sees of zeros
+pub guests_view-new : (memory_len blocks : ℕ)
+    → guests_view (replicate (guest_start + memory_len) 0) (replicate (first_block + blocks) (replicate 512 0)) (replicate (first_block + blocks) false)
+    ≡ flat (replicate memory_len 0) (replicate blocks (replicate 512 0)) (replicate blocks false)
+guests_view-new memory_len blocks =
+    let bytes : guest_start + memory_len - guest_start ≡ memory_len = omega arith in
+    let count : first_block + blocks - first_block ≡ blocks = omega arith in
+    ap (λ (m : List ℕ). flat m (drop first_block (replicate (first_block + blocks) (replicate 512 0))) (drop first_block (replicate (first_block + blocks) false)))
+    (drop-replicate guest_start (guest_start + memory_len) 0 ∙ ap (λ (n : ℕ). replicate n 0) bytes)
+    ∙ ap (λ (d : List (List ℕ)). flat (replicate memory_len 0) d (drop first_block (replicate (first_block + blocks) false)))
+    (drop-replicate first_block (first_block + blocks) (replicate 512 0) ∙ ap (λ (n : ℕ). replicate n (replicate 512 0)) count)
+    ∙ ap (λ (k : List Bool). flat (replicate memory_len 0) (replicate blocks (replicate 512 0)) k)
+    (drop-replicate first_block (first_block + blocks) false ∙ ap (λ (n : ℕ). replicate n false) count)
+
+-- the map is not refused
+pub refusal_of-behind : (len : ℕ) → len % 4096 ≡ 0 → 0 < len → len < 2 ^ 63
+    → refusal_of (135168 + len) (record { guest = 0; host = 135168; len = len } ∷ []) ≡ None
+unfolding refusal_of
+refusal_of-behind len pages some fits = grind (arith, nat_tests)
+
+-- a length that is not 0
+pub some-length : (n : ℕ) → false ≡ (n == 0) → 0 < n
+some-length n e = grind (arith, nat_tests)

@@ -1,0 +1,5 @@
+pub mod BehindLemmas
+pub mod EntryLemmas
+pub mod OneRunLemmas
+pub mod ThroughMoves
+pub mod ThroughVerdict

@@ -1,0 +1,18 @@
+use Rattle.std.proofs.Common.{◌∙◌, ◌+◌, ◌*◌, ℕ, List, sym, ap, subst, false, arith}
+use Rattle.nv_entry.specs.declared.opcode.IoOpcode.TheVariants.{Read}
+use Rattle.nv_flat.specs.Flat.{flat, moved_of}
+use Rattle.nv_thin.specs.Thin.{IsPhysical, copied}
+use Rattle.nv_thin.proofs.ThroughMoves.{carried-read, moved_of-copied}
+use Rattle.nv_thin.proofs.thin.path.read_through.Goals as goal
+
+pub returns-clause-moved : goal.returns-clause-moved
+returns-clause-moved c =
+    let P : List ℕ → Type 0 = λ e. IsPhysical Read c.args.slba (c.args.nlb + 1) c.args.fua e in
+    let fields = subst P (sym c.of-entry.ensures) c.entry-bytes.ensures.fields in
+    let size = c.carry_out.ensures.size in
+    let count = c.from.ensures in
+    ap (λ (h : List ℕ). moved_of (flat h c.carry_out.new.disk c.carry_out.new.kept) false) c.copy.ensures.bytes
+    ∙ moved_of-copied c.carry_out.new.host c.carry_out.new.disk c.carry_out.new.kept false 4096 c.args.memory (512 * (c.from.result + 1)) (omega arith) (omega arith)
+    ∙ ap (λ (n : ℕ). copied 4096 c.args.memory (512 * (n + 1)) (moved_of (flat c.carry_out.new.host c.carry_out.new.disk c.carry_out.new.kept) false)) count
+    ∙ ap (copied 4096 c.args.memory (512 * (c.args.nlb + 1)))
+    (c.carry_out.ensures.moved ∙ carried-read c.of-entry.result c.args.slba (c.args.nlb + 1) c.args.fua _ fields)

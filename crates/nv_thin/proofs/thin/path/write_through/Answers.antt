@@ -1,0 +1,19 @@
+use Rattle.std.proofs.Common.{◌∙◌, ◌+◌, ◌*◌, ℕ, List, sym, ap, subst, false, arith}
+use Rattle.nv_entry.specs.declared.opcode.IoOpcode.TheVariants.{Write}
+use Rattle.nv_model.specs.Carried.{units_moved}
+use Rattle.nv_flat.specs.Flat.{flat, moved_of, units_from}
+use Rattle.nv_thin.specs.Thin.{IsPhysical, copied}
+use Rattle.nv_thin.proofs.ThroughMoves.{carried-write, moved_of-copied, run_work}
+use Rattle.nv_thin.proofs.thin.path.write_through.Goals as goal
+
+pub returns-clause-moved : goal.returns-clause-moved
+returns-clause-moved c =
+    let P : List ℕ → Type 0 = λ e. IsPhysical Write c.args.slba (c.args.nlb + 1) c.args.fua e in
+    let fields = subst P (sym c.of-entry.ensures) c.entry-bytes.ensures.fields in
+    let count = c.from.ensures in
+    let copy = ap (λ (h : List ℕ). moved_of (flat h c.args.disk.now c.args.kept.now) false) c.copy.ensures.bytes
+    ∙ moved_of-copied c.args.host.now c.args.disk.now c.args.kept.now false c.args.memory 4096 (512 * (c.from.result + 1)) (omega arith) (omega arith)
+    ∙ ap (λ (n : ℕ). copied c.args.memory 4096 (512 * (n + 1)) (moved_of (flat c.args.host.now c.args.disk.now c.args.kept.now) false)) count in
+    c.carry_out.ensures.moved
+    ∙ carried-write c.of-entry.result c.args.slba (c.args.nlb + 1) c.args.fua _ fields
+    ∙ ap (units_moved (units_from 0 c.args.slba (c.args.nlb + 1)) (run_work Write 4096 4096 c.args.fua)) copy

@@ -1,0 +1,102 @@
+-- The thin mediated path: where a guest's memory and blocks lie behind the mediator's own, which commands go, and the physical entry
+use Rattle.std.specs.Prelude.{◌≡◌, ℕ, ◌+◌, ◌-◌, ◌/◌, ◌%◌, ◌^◌, ◌≤◌, Bool, true, false, not, ◌&&◌, ◌==◌, nat_le, if◌then◌else◌, List, [], ◌∷◌, length, drop, Option, Some, None}
+use Rattle.nv_entry.specs.Descriptor.{type_of}
+use Rattle.nv_entry.specs.Layout.{bytes_of_dwords}
+use Rattle.nv_entry.specs.Opcode.{io_opcode}
+use Rattle.nv_entry.specs.Submission.{opcode_of, fuse_of, psdt_of, cid_of, nsid_of, prp1_of, prp2_of, sgl_of, slba_of, fua_of}
+use Rattle.nv_entry.specs.declared.opcode.IoOpcode.{IoOpcode}
+use Rattle.nv_entry.specs.declared.opcode.IoOpcode.TheVariants.{Flush, Write, Read, Compare, WriteZeroes, DatasetManagement}
+use Rattle.nv_mem.specs.GuestMap.{Mapping}
+use Rattle.nv_mem.specs.declared.piece.Piece.TheVariants.{Run}
+use Rattle.nv_model.specs.Carried.{units_moved}
+use Rattle.nv_model.specs.Judge.{count_of}
+use Rattle.nv_model.specs.Memory.{bytes_from, stored}
+use Rattle.nv_model.specs.Private.{Moved}
+use Rattle.nv_flat.specs.Flat.{Flat, block_work, flat, units_from}
+
+-- ---- where things lie (profile)
+
+-- the guest's memory lies behind one list page and 32 bounce pages of the mediator
+abbrev pub guest_start : ℕ
+guest_start = 135168
+
+-- the first bounce page, behind the list page
+abbrev pub bounce_page : ℕ
+bounce_page = 4096
+
+-- the disk's block that is the guest's block 0
+abbrev pub first_block : ℕ
+first_block = 1000
+
+-- what the guest sees of the host's memory, the disk and its marks: all behind the mediator's own
+abbrev pub guests_view : List ℕ → List (List ℕ) → List Bool → Flat
+guests_view host disk kept = flat (drop guest_start host) (drop first_block disk) (drop first_block kept)
+
+-- the map of the guest in a host of that size
+abbrev pub map_behind : (size : ℕ) → Mapping
+map_behind size = record { host_len = size; regions = record { guest = 0; host = guest_start; len = size - guest_start } ∷ [] }
+
+-- the parts fit: there is room for the mediator's own, the map is the guest's, and each block has a mark
+pub record IsBehind (host : List ℕ) (map : Mapping) (disk : List (List ℕ)) (kept : List Bool) : Type 0 where
+  pub room : guest_start ≤ length host
+  pub mapped : map ≡ map_behind (length host)
+  pub range : first_block ≤ length disk
+  pub marked : length kept ≡ length disk
+
+-- `count` bytes copied from one address of a memory to another
+abbrev pub copied : (from to count : ℕ) → Moved → Moved
+copied from to count m = record m { memory = stored m.memory to (bytes_from m.memory from count) }
+
+-- ---- which commands go
+
+-- whether the opcode is that of a Read or a Write
+abbrev pub is_transfer : Option IoOpcode → Bool
+is_transfer (Some Read) = true
+is_transfer (Some Write) = true
+is_transfer (Some Compare) = false
+is_transfer (Some WriteZeroes) = false
+is_transfer (Some Flush) = false
+is_transfer (Some DatasetManagement) = false
+is_transfer None = false
+
+-- the most blocks of a transfer: they fill one bounce page
+abbrev pub most_bounced : ℕ
+most_bounced = 8
+
+-- whether a command goes: a Read or Write by an SGL whose own descriptor is of the type of a Data Block, of at most one page
+abbrev pub goes_through : List ℕ → Bool
+goes_through entry =
+    is_transfer (io_opcode (opcode_of entry)) && not (psdt_of entry == 0) && type_of (sgl_of entry) == 0 && nat_le (count_of entry) most_bounced
+
+-- ---- the physical entry
+
+-- its 64 bytes: opcode, FUSE and PSDT 0, tag 0, namespace 1, PRP1 the first bounce page, the disk's block, NLB and FUA, all else 0
+unfoldable pub physical_entry : (opcode slba nlb : ℕ) → (fua : Bool) → List ℕ
+physical_entry opcode slba nlb fua =
+    bytes_of_dwords (opcode ∷ 1 ∷ 0 ∷ 0 ∷ 0 ∷ 0 ∷ bounce_page ∷ 0 ∷ 0 ∷ 0 ∷ (slba % 2 ^ 32) ∷ (slba / 2 ^ 32)
+    ∷ (nlb + (if fua then 2 ^ 30 else 0)) ∷ 0 ∷ 0 ∷ 0 ∷ [])
+
+-- what is read back of such an entry
+pub record IsPhysical (opcode : IoOpcode) (slba count : ℕ) (fua : Bool) (entry : List ℕ) : Type 0 where
+  pub command : io_opcode (opcode_of entry) ≡ Some opcode
+  pub not_fused : fuse_of entry ≡ 0
+  pub by_prp : psdt_of entry ≡ 0
+  pub tag : cid_of entry ≡ 0
+  pub namespace : nsid_of entry ≡ 1
+  pub page : prp1_of entry ≡ bounce_page
+  pub no_more_pages : prp2_of entry ≡ 0
+  pub start : slba_of entry ≡ slba
+  pub blocks : count_of entry ≡ count
+  pub mark : (fua_of entry == 1) ≡ fua
+
+-- what the disk does of an entry whose page is at PRP1: the blocks that it names move between the disk and the page, in order
+abbrev pub carried : Option IoOpcode → List ℕ → Moved → Moved
+carried (Some Read) entry m =
+    units_moved (units_from 0 (slba_of entry) (count_of entry)) (block_work Read (Run (prp1_of entry) 4096 ∷ []) (fua_of entry == 1)) m
+carried (Some Write) entry m =
+    units_moved (units_from 0 (slba_of entry) (count_of entry)) (block_work Write (Run (prp1_of entry) 4096 ∷ []) (fua_of entry == 1)) m
+carried (Some Compare) entry m = m
+carried (Some WriteZeroes) entry m = m
+carried (Some Flush) entry m = m
+carried (Some DatasetManagement) entry m = m
+carried None entry m = m
