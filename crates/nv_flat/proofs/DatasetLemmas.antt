@@ -42,7 +42,7 @@ pub record IsManaged (f : Flat) (entry : List ℕ) (pieces : List Piece) (bytes 
   pub whole : length bytes ≡ 16 * range_count_of entry
 
 pub managed : (f : Flat) (entry : List ℕ) (pieces : List Piece) (bytes memory : List ℕ) (places : List Place) (n : ℕ)
-    → IsInOrder (length f.disk) entry DatasetManagement (need_of entry DatasetManagement) 
+    → IsInOrder (length f.disk) entry DatasetManagement (need_of entry DatasetManagement)
     → list_reading f entry (need_of entry DatasetManagement) ≡ Spells pieces
     → memory ≡ f.memory → places ≡ places_of pieces → n ≡ 16 * range_count_of entry → bytes ≡ gathered (byte_in memory) (take n places)
     → IsManaged f entry pieces bytes

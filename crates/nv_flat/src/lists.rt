@@ -89,7 +89,12 @@ impl FlatController {
 }
 
 /// Feeds a parse of an SGL the bytes that it wants.
-fn feed_sgl(memory: &Host, parse: &mut SglParse<Global>, addr: u64, len: u32) -> Result<(), NoMemory>
+fn feed_sgl(
+    memory: &Host,
+    parse: &mut SglParse<Global>,
+    addr: u64,
+    len: u32,
+) -> Result<(), NoMemory>
     requires wanted { want_of (dialogue_of parse.old) ≡ Want.Read addr len }
     requires there { IsThere memory.now addr len }
     ensures { OnOk result (dialogue_of parse.new ≡ fed (dialogue_of parse.old) (bytes_from (byte_in memory.now) addr len)) }
@@ -126,13 +131,7 @@ fn feed_prp(memory: &Host, parse: &mut PrpParse, addr: u64, len: u32)
 }
 
 /// The same through a buffer of that length.
-fn feed_prp_through(
-    memory: &Host,
-    parse: &mut PrpParse,
-    addr: u64,
-    len: u32,
-    part: &mut [u8],
-)
+fn feed_prp_through(memory: &Host, parse: &mut PrpParse, addr: u64, len: u32, part: &mut [u8])
     requires wanted { want_of (prp_dialogue_of parse.old) ≡ Want.Read addr len }
     requires there { IsThere memory.now addr len }
     requires whole { length part.old ≡ len }

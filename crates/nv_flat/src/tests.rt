@@ -185,19 +185,34 @@ fn refuses_without_a_move(rt: HostRuntime) -> Result<(), Fail> {
     Ok(())
 }
 
-/// A descriptor of this kind, with subtype 0.
-fn descriptor(kind: u8, addr: u64, len: u32) -> [u8; 16] {
+/// Four dwords as 16 bytes.
+fn sixteen(dwords: [u32; 4]) -> [u8; 16] {
     let mut bytes = [0; 16];
-    bytes[..8].copy_from_slice(&addr.to_le_bytes());
-    bytes[8..12].copy_from_slice(&len.to_le_bytes());
-    bytes[15] = kind << 4;
+    for (dword, out) in dwords.iter().zip(bytes.chunks_exact_mut(4)) {
+        out.copy_from_slice(&dword.to_le_bytes());
+    }
     bytes
 }
 
-const DATA_BLOCK: u8 = 0;
-const BIT_BUCKET: u8 = 1;
-const SEGMENT: u8 = 2;
-const LAST_SEGMENT: u8 = 3;
+/// A descriptor of this kind, as it stands in the upper bits of dword 3, with subtype 0.
+fn descriptor(kind: u32, addr: u32, len: u32) -> [u8; 16] {
+    sixteen([addr, 0, len, kind])
+}
+
+const DATA_BLOCK: u32 = 0;
+
+const BIT_BUCKET: u32 = 0x1000_0000;
+
+const SEGMENT: u32 = 0x2000_0000;
+
+const LAST_SEGMENT: u32 = 0x3000_0000;
+
+const UNKNOWN: u32 = 0x4000_0000;
+
+/// Dword 0 of a Write, a Read and a Compare by an SGL, CID 7.
+const WRITE_BY_SGL: u32 = 0x0007_4001;
+
+const READ_BY_SGL: u32 = 0x0007_4002;
 
 /// A controller with 20000h bytes of memory and 64 blocks, of which block 5 is filled with 55h and block 6 with 66h.
 fn prepared(rt: &impl Abort, alloc: Global) -> Result<FlatController, Fail> {
@@ -227,31 +242,38 @@ fn last_dword(controller: &mut FlatController, alloc: Global, sqe: &Sqe) -> Resu
     Ok(u32::from_le_bytes([bytes[12], bytes[13], bytes[14], bytes[15]]))
 }
 
-/// A Read of two blocks through an array of `count` descriptors at 6000h, that a Last Segment names.
-fn through_last_segment(rt: &impl Abort, opcode: u32, count: u32) -> Sqe {
-    changed(
-        rt,
-        READ,
-        &[
-            (0, 0x0007_4000 + opcode),
-            (6, 0x6000),
-            (8, 16 * count),
-            (9, 0x3000_0000),
-            (12, 1),
-        ],
-    )
+/// A command of two blocks from LBA 5 through the two descriptors at 6000h, that a Last Segment names.
+fn through_last_segment(rt: &impl Abort, first_dword: u32) -> Sqe {
+    let changes = [
+        (0, first_dword),
+        (6, 0x6000),
+        (8, 32),
+        (9, LAST_SEGMENT),
+        (12, 1),
+    ];
+    changed(rt, READ, &changes)
 }
 
 #[test]
 fn delivers_through_a_chain(rt: HostRuntime) -> Result<(), Fail> {
     for second in [0x5000, 0x5200, 0x3ff0] {
         let mut controller = prepared(&rt, rt.alloc())?;
-        put(&rt, &mut controller, 0x6000, &descriptor(DATA_BLOCK, 0x3e00, 512));
-        put(&rt, &mut controller, 0x6010, &descriptor(DATA_BLOCK, second, 512));
-        let sqe = through_last_segment(&rt, 2, 2);
+        put(
+            &rt,
+            &mut controller,
+            0x6000,
+            &descriptor(DATA_BLOCK, 0x3e00, 512),
+        );
+        put(
+            &rt,
+            &mut controller,
+            0x6010,
+            &descriptor(DATA_BLOCK, second, 512),
+        );
+        let sqe = through_last_segment(&rt, READ_BY_SGL);
         assert_eq!(rt; last_dword(&mut controller, rt.alloc(), &sqe)?, 0x0001_0007);
         assert!(rt; second == 0x3ff0 || filled(&rt, &controller, 0x3e00, 0x55));
-        assert!(rt; filled(&rt, &controller, second, 0x66));
+        assert!(rt; filled(&rt, &controller, u64::from(second), 0x66));
     }
     Ok(())
 }
@@ -259,22 +281,45 @@ fn delivers_through_a_chain(rt: HostRuntime) -> Result<(), Fail> {
 #[test]
 fn discards_into_a_bit_bucket(rt: HostRuntime) -> Result<(), Fail> {
     let mut controller = prepared(&rt, rt.alloc())?;
-    put(&rt, &mut controller, 0x6000, &descriptor(BIT_BUCKET, 0, 512));
-    put(&rt, &mut controller, 0x6010, &descriptor(DATA_BLOCK, 0x3000, 512));
-    let sqe = through_last_segment(&rt, 2, 2);
+    put(
+        &rt,
+        &mut controller,
+        0x6000,
+        &descriptor(BIT_BUCKET, 0, 512),
+    );
+    put(
+        &rt,
+        &mut controller,
+        0x6010,
+        &descriptor(DATA_BLOCK, 0x3000, 512),
+    );
+    let sqe = through_last_segment(&rt, READ_BY_SGL);
     assert_eq!(rt; last_dword(&mut controller, rt.alloc(), &sqe)?, 0x0001_0007);
     assert!(rt; filled(&rt, &controller, 0x3000, 0x66) && filled(&rt, &controller, 0x3200, 0));
 
     // first block delivered, second discarded
     let mut controller = prepared(&rt, rt.alloc())?;
-    put(&rt, &mut controller, 0x6000, &descriptor(DATA_BLOCK, 0x3000, 512));
-    put(&rt, &mut controller, 0x6010, &descriptor(BIT_BUCKET, 0, 512));
+    put(
+        &rt,
+        &mut controller,
+        0x6000,
+        &descriptor(DATA_BLOCK, 0x3000, 512),
+    );
+    put(
+        &rt,
+        &mut controller,
+        0x6010,
+        &descriptor(BIT_BUCKET, 0, 512),
+    );
     assert_eq!(rt; last_dword(&mut controller, rt.alloc(), &sqe)?, 0x0001_0007);
     assert!(rt; filled(&rt, &controller, 0x3000, 0x55) && filled(&rt, &controller, 0x3200, 0));
 
     // a bucket is nothing for a source: the list names half the bytes
-    let write = through_last_segment(&rt, 1, 2);
-    assert_eq!(rt; last_dword(&mut controller, rt.alloc(), &write)?, 0x801f_0007);
+    let write = through_last_segment(&rt, WRITE_BY_SGL);
+    assert_eq!(rt;
+        last_dword(&mut controller, rt.alloc(), &write)?,
+        0x801f_0007
+    );
     assert!(rt; block_is(&rt, &controller, 5, 0x55) && block_is(&rt, &controller, 6, 0x66));
     Ok(())
 }
@@ -282,14 +327,32 @@ fn discards_into_a_bit_bucket(rt: HostRuntime) -> Result<(), Fail> {
 #[test]
 fn answers_faulty_lists(rt: HostRuntime) -> Result<(), Fail> {
     let block = descriptor(DATA_BLOCK, 0x3000, 512);
-    let unknown = descriptor(4, 0x3000, 512);
+    let unknown = descriptor(UNKNOWN, 0x3000, 512);
     // the type of the command's own descriptor, its length, the two descriptors at 6000h, and the last dword
     let table = [
         (SEGMENT, 24, block, block, 0x801b_0007),
-        (SEGMENT, 32, descriptor(SEGMENT, 0x7000, 16), block, 0x801d_0007),
-        (LAST_SEGMENT, 32, descriptor(SEGMENT, 0x7000, 16), block, 0x801b_0007),
-        (4, 32, block, block, 0x8023_0007),
-        (LAST_SEGMENT, 32, descriptor(DATA_BLOCK, 0x2_0000, 512), unknown, 0x8009_0007),
+        (
+            SEGMENT,
+            32,
+            descriptor(SEGMENT, 0x7000, 16),
+            block,
+            0x801d_0007,
+        ),
+        (
+            LAST_SEGMENT,
+            32,
+            descriptor(SEGMENT, 0x7000, 16),
+            block,
+            0x801b_0007,
+        ),
+        (UNKNOWN, 32, block, block, 0x8023_0007),
+        (
+            LAST_SEGMENT,
+            32,
+            descriptor(DATA_BLOCK, 0x2_0000, 512),
+            unknown,
+            0x8009_0007,
+        ),
         (
             SEGMENT,
             32,
@@ -302,9 +365,12 @@ fn answers_faulty_lists(rt: HostRuntime) -> Result<(), Fail> {
         let mut controller = prepared(&rt, rt.alloc())?;
         put(&rt, &mut controller, 0x6000, &first);
         put(&rt, &mut controller, 0x6010, &second);
-        let own = u32::from(kind) << 28;
-        let sqe = changed(&rt, READ, &[(6, 0x6000), (8, len), (9, own)]);
-        assert_eq!(rt; last_dword(&mut controller, rt.alloc(), &sqe)?, want, "{kind} {len}");
+        let sqe = changed(&rt, READ, &[(6, 0x6000), (8, len), (9, kind)]);
+        assert_eq!(rt;
+            last_dword(&mut controller, rt.alloc(), &sqe)?,
+            want,
+            "{kind} {len}"
+        );
         assert!(rt; filled(&rt, &controller, 0x3000, 0));
     }
     Ok(())
@@ -314,19 +380,25 @@ fn answers_faulty_lists(rt: HostRuntime) -> Result<(), Fail> {
 fn reads_a_thousand_descriptors(rt: HostRuntime) -> Result<(), Fail> {
     // how many descriptors the array has, the number of one of type 4h (from 1 on, 0 for none), and the last dword
     for (count, unknown, want) in [
-        (1023, 0, 0x0001_0007),
+        (1023u32, 0, 0x0001_0007),
         (1024, 0, 0x000d_0007),
         (1024, 1023, 0x8023_0007),
         (1024, 1024, 0x000d_0007),
     ] {
         let mut controller = prepared(&rt, rt.alloc())?;
-        for number in 1..count + 1 {
-            let kind = if number == unknown { 4 } else { DATA_BLOCK };
+        for place in 0..1024u16 {
+            let number = u32::from(place) + 1;
+            let kind = if number == unknown {
+                UNKNOWN
+            } else {
+                DATA_BLOCK
+            };
             let len = if number == count { 512 } else { 0 };
-            let addr = 0x8000 + 16 * (u64::from(number) - 1);
+            let addr = 0x8000 + 16 * u64::from(place);
             put(&rt, &mut controller, addr, &descriptor(kind, 0x3000, len));
         }
-        let changes = [(6, 0x8000), (8, 16 * count), (9, 0x3000_0000)];
+        let len = if count == 1024 { 0x4000 } else { 0x3ff0 };
+        let changes = [(6, 0x8000), (8, len), (9, LAST_SEGMENT)];
         let sqe = changed(&rt, READ, &changes);
         assert_eq!(rt; last_dword(&mut controller, rt.alloc(), &sqe)?, want);
         let moved = want == 0x0001_0007;
@@ -340,7 +412,11 @@ fn compares(rt: HostRuntime) -> Result<(), Fail> {
     let mut controller = prepared(&rt, rt.alloc())?;
     put(&rt, &mut controller, 0x3000, &[0x55; 512]);
     put(&rt, &mut controller, 0x3200, &[0x66; 511]);
-    let sqe = changed(&rt, READ, &[(0, 0x0007_4005), (8, 0x400), (12, 0x4000_0001)]);
+    let sqe = changed(
+        &rt,
+        READ,
+        &[(0, 0x0007_4005), (8, 0x400), (12, 0x4000_0001)],
+    );
     assert_eq!(rt; last_dword(&mut controller, rt.alloc(), &sqe)?, 0x050b_0007);
     // a set FUA bit makes the blocks kept, also where they differ
     assert!(rt; is_kept(&rt, &controller, 5) && is_kept(&rt, &controller, 6));
@@ -358,72 +434,93 @@ fn flushes_and_writes_zeroes(rt: HostRuntime) -> Result<(), Fail> {
     let mut controller = prepared(&rt, rt.alloc())?;
     // neither looks at PSDT
     let flush = changed(&rt, READ, &[(0, 0x0007_c000)]);
-    assert_eq!(rt; last_dword(&mut controller, rt.alloc(), &flush)?, 0x0001_0007);
+    assert_eq!(rt;
+        last_dword(&mut controller, rt.alloc(), &flush)?,
+        0x0001_0007
+    );
     for block in 0..64 {
         assert!(rt; is_kept(&rt, &controller, block));
     }
     let zeroes = changed(&rt, READ, &[(0, 0x0007_c008)]);
-    assert_eq!(rt; last_dword(&mut controller, rt.alloc(), &zeroes)?, 0x0001_0007);
+    assert_eq!(rt;
+        last_dword(&mut controller, rt.alloc(), &zeroes)?,
+        0x0001_0007
+    );
     assert!(rt; block_is(&rt, &controller, 5, 0) && block_is(&rt, &controller, 6, 0x66));
     assert!(rt; !is_kept(&rt, &controller, 5) && is_kept(&rt, &controller, 6));
     let kept = changed(&rt, READ, &[(0, 0x0007_c008), (12, 0x4000_0000)]);
-    assert_eq!(rt; last_dword(&mut controller, rt.alloc(), &kept)?, 0x0001_0007);
+    assert_eq!(rt;
+        last_dword(&mut controller, rt.alloc(), &kept)?,
+        0x0001_0007
+    );
     assert!(rt; is_kept(&rt, &controller, 5));
     Ok(())
 }
 
 /// The 16 bytes of a range of Dataset Management.
-fn range(start: u64, blocks: u32) -> [u8; 16] {
-    let mut bytes = [0; 16];
-    bytes[4..8].copy_from_slice(&blocks.to_le_bytes());
-    bytes[8..].copy_from_slice(&start.to_le_bytes());
-    bytes
+fn range(start: u32, blocks: u32) -> [u8; 16] {
+    sixteen([0, blocks, start, 0])
 }
 
 #[test]
 fn manages_datasets(rt: HostRuntime) -> Result<(), Fail> {
     let mut controller = prepared(&rt, rt.alloc())?;
+    assert!(rt; controller.blocks() == 64);
     controller.paint(0, 0x11);
     controller.paint(63, 0x77);
-    for place in 0..256u64 {
-        put(&rt, &mut controller, 0x3000 + 16 * place, &range(0, 1));
+    for place in 0..=255u8 {
+        put(
+            &rt,
+            &mut controller,
+            0x3000 + 16 * u64::from(place),
+            &range(0, 1),
+        );
     }
-    let whole = [(0, 0x0007_4009), (8, 4096), (10, 0xff)];
-    let deallocate = changed(&rt, READ, &whole);
-    let deallocate = changed_further(&rt, deallocate, 11, 4);
-    let keep = changed(&rt, READ, &whole);
+    let deallocate = changed(
+        &rt,
+        READ,
+        &[(0, 0x0007_4009), (8, 4096), (10, 0xff), (11, 4)],
+    );
+    let keep = changed(&rt, READ, &[(0, 0x0007_4009), (8, 4096), (10, 0xff)]);
 
     // the last range is behind the end: no block changes
     put(&rt, &mut controller, 0x3ff0, &range(64, 1));
-    assert_eq!(rt; last_dword(&mut controller, rt.alloc(), &deallocate)?, 0x8101_0007);
+    assert_eq!(rt;
+        last_dword(&mut controller, rt.alloc(), &deallocate)?,
+        0x8101_0007
+    );
     assert!(rt; block_is(&rt, &controller, 0, 0x11) && block_is(&rt, &controller, 63, 0x77));
     // nothing is asked for: no block changes
     put(&rt, &mut controller, 0x3ff0, &range(63, 1));
-    assert_eq!(rt; last_dword(&mut controller, rt.alloc(), &keep)?, 0x0001_0007);
+    assert_eq!(rt;
+        last_dword(&mut controller, rt.alloc(), &keep)?,
+        0x0001_0007
+    );
     assert!(rt; block_is(&rt, &controller, 0, 0x11) && block_is(&rt, &controller, 63, 0x77));
     // no blocks at the end pass
     put(&rt, &mut controller, 0x3ff0, &range(64, 0));
     let flush = changed(&rt, READ, &[(0, 0x0007_4000)]);
-    assert_eq!(rt; last_dword(&mut controller, rt.alloc(), &flush)?, 0x0001_0007);
-    assert_eq!(rt; last_dword(&mut controller, rt.alloc(), &deallocate)?, 0x0001_0007);
+    assert_eq!(rt;
+        last_dword(&mut controller, rt.alloc(), &flush)?,
+        0x0001_0007
+    );
+    assert_eq!(rt;
+        last_dword(&mut controller, rt.alloc(), &deallocate)?,
+        0x0001_0007
+    );
     assert!(rt; block_is(&rt, &controller, 0, 0) && !is_kept(&rt, &controller, 0));
     assert!(rt; block_is(&rt, &controller, 5, 0x55) && is_kept(&rt, &controller, 5));
     // a range of several blocks
     put(&rt, &mut controller, 0x3ff0, &range(5, 59));
-    assert_eq!(rt; last_dword(&mut controller, rt.alloc(), &deallocate)?, 0x0001_0007);
+    assert_eq!(rt;
+        last_dword(&mut controller, rt.alloc(), &deallocate)?,
+        0x0001_0007
+    );
     for block in 5..64 {
         assert!(rt; block_is(&rt, &controller, block, 0) && !is_kept(&rt, &controller, block));
     }
     assert!(rt; is_kept(&rt, &controller, 4));
     Ok(())
-}
-
-/// The same command with one more dword changed.
-fn changed_further(rt: &impl Abort, sqe: Sqe, place: usize, dword: u32) -> Sqe {
-    let mut bytes = sqe.bytes();
-    assert!(rt; place < 16);
-    bytes[4 * place..4 * place + 4].copy_from_slice(&dword.to_le_bytes());
-    Sqe::of(&bytes)
 }
 
 /// A Read by PRPs of that many blocks from LBA 0, NLB counted from 0.
@@ -461,9 +558,14 @@ fn reads_by_region_pages(rt: HostRuntime) -> Result<(), Fail> {
     }
     // 33 pages, of which the last gets 4 bytes: 32 entries at 2000h
     let mut controller = numbered(&rt, rt.alloc())?;
-    for entry in 0..32u64 {
-        let page = 0x1_0000 + 0x1000 * entry;
-        put(&rt, &mut controller, 0x2000 + 8 * entry, &page.to_le_bytes());
+    for entry in 0..32u8 {
+        let page = 0x1_0000 + 0x1000 * u64::from(entry);
+        put(
+            &rt,
+            &mut controller,
+            0x2000 + 8 * u64::from(entry),
+            &page.to_le_bytes(),
+        );
     }
     let sqe = by_prp(&rt, 255, 0x3004, 0x2000);
     assert_eq!(rt; last_dword(&mut controller, rt.alloc(), &sqe)?, 0x0001_0007);
@@ -489,7 +591,11 @@ fn refuses_region_pages(rt: HostRuntime) -> Result<(), Fail> {
         put(&rt, &mut controller, 0x7000, &0x8000u64.to_le_bytes());
         put(&rt, &mut controller, 0x7008, &0x9000u64.to_le_bytes());
         let sqe = by_prp(&rt, nlb, 0x3000, prp2);
-        assert_eq!(rt; last_dword(&mut controller, rt.alloc(), &sqe)?, want, "{prp2:#x}");
+        assert_eq!(rt;
+            last_dword(&mut controller, rt.alloc(), &sqe)?,
+            want,
+            "{prp2:#x}"
+        );
         assert!(rt; filled(&rt, &controller, 0x3200, 0) && filled(&rt, &controller, 0x8000, 0));
     }
     Ok(())
