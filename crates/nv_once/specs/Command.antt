@@ -1,9 +1,13 @@
 -- Commands of the program
-use Rattle.std.specs.Prelude.{ℕ, Bool, true, List, Option, Result, MatchResult, ⊤}
+use Rattle.std.specs.Prelude.{◌≡◌, ℕ, Bool, true, false, List, Option, Ok, ⊤}
+use Rattle.std.specs.Io.KnownBytes.{Appends}
 use Rattle.std.specs.Result.{is_ok}
 use Rattle.hex.specs.Hex.{decode_sized}
-use Rattle.nv_once.specs.Once.{IsOnceFault, IsScript}
+use Rattle.nv_once.specs.Once.{IsOnceFault}
+use Rattle.nv_once.specs.Printed.{completion_line, submission_line}
+use Rattle.nv_once.specs.Shown.{PrintsText}
 use Rattle.nv_once.specs.declared.fault.Fault.{Fault}
+use Rattle.nv_once.specs.declared.fault.Fault.TheVariants.{BadBytes, Usage, NoMemory, Script, CannotRead, CannotWrite}
 use Rattle.nv_once.specs.declared.entry_kind.EntryKind.{EntryKind}
 use Rattle.nv_once.specs.declared.entry_kind.EntryKind.TheVariants.{Submission, Completion}
 use Rattle.nv_once.specs.declared.command.Command.{Command}
@@ -14,12 +18,27 @@ abbrev pub size_of : EntryKind → ℕ
 size_of Submission = 64
 size_of Completion = 16
 
--- whether the digits of a command, if it has any, spell an entry of its kind
-abbrev pub is_spelled : Command → Bool
-is_spelled (Decode kind digits) = is_ok (decode_sized digits.now (size_of kind))
-is_spelled Once = true
+-- the line of an entry
+abbrev pub line_of : EntryKind → List ℕ → List ℕ
+line_of Submission entry = submission_line entry
+line_of Completion entry = completion_line entry
 
--- how a command ends that runs a script, where its text is known
-abbrev pub EndsAsRun : Command → Option (List ℕ) → Result (Unit {0}) Fault → Type 0
-EndsAsRun (Decode kind digits) text result = ⊤
-EndsAsRun Once text result = MatchResult result (λ _. IsScript text) (IsOnceFault text)
+-- an output has grown by what a command prints: the line of the entry that its digits spell, or what the script prints that the text is
+abbrev pub Prints : (built : List ℕ → Bool) → Command → (text before after : Option (List ℕ)) → Type 0
+Prints built (Decode kind digits) text before after =
+    (entry : List ℕ) × (decode_sized digits.now (size_of kind) ≡ Ok entry) × Appends before after (line_of kind entry)
+Prints built Once text before after = PrintsText built text before after
+
+-- the faults with which `decode` can end: its digits spell no entry, or they do and the output failed, or memory was refused
+abbrev pub IsDecodeFault : (spelled : Bool) → Fault → Type 0
+IsDecodeFault spelled BadBytes = spelled ≡ false
+IsDecodeFault spelled Usage = ⊥
+IsDecodeFault spelled NoMemory = ⊤
+IsDecodeFault spelled (Script line kind) = ⊥
+IsDecodeFault spelled CannotRead = ⊥
+IsDecodeFault spelled CannotWrite = spelled ≡ true
+
+-- how a command can end that ends not well
+abbrev pub IsFaultOf : Command → (text : Option (List ℕ)) → Fault → Type 0
+IsFaultOf (Decode kind digits) text fault = IsDecodeFault (is_ok (decode_sized digits.now (size_of kind))) fault
+IsFaultOf Once text fault = IsOnceFault text fault

@@ -2,3 +2,5 @@ pub mod Command
 pub mod ExitStatus
 pub mod Fault
 pub mod Once
+pub mod Printed
+pub mod Shown

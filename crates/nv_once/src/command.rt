@@ -1,10 +1,11 @@
 //! The commands of the program.
-ghost use Rattle.std.specs.Prelude.{◌≡◌, ◌⊎◌, ◌↔◌, false};
-ghost use Rattle.nv_once.specs.Command.{EndsAsRun, is_spelled};
+ghost use Rattle.std.specs.Prelude.{IfErr, IfOk, OnOk};
+ghost use Rattle.nv_once.specs.Command.{IsFaultOf, Prints};
 
 use crate::entry_kind::EntryKind;
 use crate::fault::Fault;
 use crate::{decode, lines, once};
+use nv_flat::One;
 use std::alloc::Global;
 use std::io::{BufWriter, Read, Write};
 
@@ -18,34 +19,40 @@ pub enum Command<'a> {
     Once,
 }
 
-/// Does a command. What it prints goes to `output`, through a buffer that is empty at the end. Digits that spell no entry are bad
-/// bytes where memory is left for the buffer, and nothing else is.
-pub fn perform<R: Read + Drop, W: Write + Drop>(
+/// Does a command; a script runs on a controller of the kind `C`. What it prints goes to `output`, through a buffer that is empty at
+/// the end, and the output is given back.
+///
+/// Where all goes well the output has grown by exactly the line of the entry, or by what the script prints. Digits that spell no entry
+/// are bad bytes where memory is left for the buffer, and nothing else is.
+pub fn perform<C: One, R: Read + Drop, W: Write + Drop>(
     alloc: Global,
     command: Command<'_>,
     input: R,
     output: W,
-) -> Result<(), Fault>
-    ensures bad_bytes { result ≡ Err Fault.BadBytes → is_spelled command.entry ≡ false }
-    ensures misspelled { is_spelled command.entry ≡ false → (result ≡ Err Fault.BadBytes) ⊎ (result ≡ Err Fault.NoMemory) }
-    ensures once { EndsAsRun command.entry (R.remaining input) result }
+) -> Result<W, Fault>
+    ensures ok { IfOk result (λ written. Prints C.built command.entry (R.remaining input) (W.contents output) (W.contents written)) }
+    ensures err { IfErr result (IsFaultOf command.entry (R.remaining input)) }
 {
     let Ok(mut output) = BufWriter::new(alloc, output) else {
         return Err(Fault::NoMemory);
     };
-    execute(alloc, command, input, &mut output)?;
-    output.flush().map_err(Fault::of_output)
+    execute::<C, R, BufWriter<W>>(alloc, command, input, &mut output)?;
+    let Ok(mut written) = output.into_inner() else {
+        return Err(Fault::CannotWrite);
+    };
+    written.flush().map_err(Fault::of_output)?;
+    Ok(written)
 }
 
-/// Does the command. Digits that spell no entry are bad bytes, and nothing else is.
-fn execute<R: Read + Drop, W: Write>(
+/// Does the command.
+fn execute<C: One, R: Read + Drop, W: Write>(
     alloc: Global,
     command: Command<'_>,
     input: R,
     output: &mut W,
 ) -> Result<(), Fault>
-    ensures bad_bytes { (result ≡ Err Fault.BadBytes) ↔ (is_spelled command.entry ≡ false) }
-    ensures once { EndsAsRun command.entry (R.remaining input) result }
+    ensures ok { OnOk result (Prints C.built command.entry (R.remaining input) (W.contents output.old) (W.contents output.new)) }
+    ensures err { IfErr result (IsFaultOf command.entry (R.remaining input)) }
 {
     match command {
         Command::Decode {
@@ -53,7 +60,7 @@ fn execute<R: Read + Drop, W: Write>(
             digits,
         } => {
             let entry = decode::submission(digits).ok_or(Fault::BadBytes)?;
-            lines::write_submission(alloc, &entry, output)
+            lines::write_submission(&entry, output)
         }
         Command::Decode {
             kind: EntryKind::Completion,
@@ -62,6 +69,6 @@ fn execute<R: Read + Drop, W: Write>(
             let entry = decode::completion(digits).ok_or(Fault::BadBytes)?;
             lines::write_completion(&entry, output)
         }
-        Command::Once => once::run(alloc, input, output),
+        Command::Once => once::run::<C, R, W>(alloc, input, output),
     }
 }

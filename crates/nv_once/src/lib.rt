@@ -13,6 +13,7 @@ mod exit_status;
 mod fault;
 mod lines;
 mod once;
+mod print;
 mod refusal;
 #[cfg(test)]
 mod tests;

@@ -1,52 +1,47 @@
 //! The lines that `decode` prints.
-ghost use Rattle.std.specs.Prelude.{◌≡◌, ◌⊎◌, IfErr};
+ghost use Rattle.std.specs.Prelude.{◌≡◌, IfErr, OnOk};
+ghost use Rattle.std.specs.Io.KnownBytes.{Appends};
+ghost use Rattle.nv_once.specs.Printed.{completion_line, submission_line};
 
-use crate::decode;
 use crate::fault::Fault;
+use crate::print::{end_line, print_flag, print_hex, print_number};
 use nv_entry::{Cqe, Sqe};
-use std::alloc::Global;
 use std::io::Write;
 
 /// Writes the fields of a submission queue entry on one line.
-pub fn write_submission<W: Write>(alloc: Global, entry: &Sqe, output: &mut W) -> Result<(), Fault>
-    ensures { IfErr result (λ fault. (fault ≡ Fault.NoMemory) ⊎ (fault ≡ Fault.CannotWrite)) }
+pub fn write_submission<W: Write>(entry: &Sqe, output: &mut W) -> Result<(), Fault>
+    ensures ok { OnOk result (Appends (W.contents output.old) (W.contents output.new) (submission_line entry.now)) }
+    ensures err { IfErr result (λ fault. fault ≡ Fault.CannotWrite) }
 {
-    let dptr = decode::data_pointer(alloc, entry)?;
-    let written = writeln!(
-        output,
-        "opc={:02x} fuse={} psdt={} cid={:04x} nsid={:08x} dptr={dptr} cdw10={:08x} cdw11={:08x} cdw12={:08x} cdw13={:08x} cdw14={:08x} cdw15={:08x}",
-        entry.opcode(),
-        entry.fuse(),
-        entry.psdt(),
-        entry.cid(),
-        entry.nsid(),
-        entry.cdw10(),
-        entry.cdw11(),
-        entry.cdw12(),
-        entry.cdw13(),
-        entry.cdw14(),
-        entry.cdw15()
-    );
-    written.map_err(Fault::of_output)
+    print_hex(b"opc=", &entry.opcode().to_be_bytes(), output)?;
+    print_number(b" fuse=", entry.fuse(), output)?;
+    print_number(b" psdt=", entry.psdt(), output)?;
+    print_hex(b" cid=", &entry.cid().to_be_bytes(), output)?;
+    print_hex(b" nsid=", &entry.nsid().to_be_bytes(), output)?;
+    print_hex(b" dptr=", &entry.sgl().bytes(), output)?;
+    print_hex(b" cdw10=", &entry.cdw10().to_be_bytes(), output)?;
+    print_hex(b" cdw11=", &entry.cdw11().to_be_bytes(), output)?;
+    print_hex(b" cdw12=", &entry.cdw12().to_be_bytes(), output)?;
+    print_hex(b" cdw13=", &entry.cdw13().to_be_bytes(), output)?;
+    print_hex(b" cdw14=", &entry.cdw14().to_be_bytes(), output)?;
+    print_hex(b" cdw15=", &entry.cdw15().to_be_bytes(), output)?;
+    end_line(output)
 }
 
 /// Writes the fields of a completion queue entry on one line.
 pub fn write_completion<W: Write>(entry: &Cqe, output: &mut W) -> Result<(), Fault>
-    ensures { IfErr result (λ fault. fault ≡ Fault.CannotWrite) }
+    ensures ok { OnOk result (Appends (W.contents output.old) (W.contents output.new) (completion_line entry.now)) }
+    ensures err { IfErr result (λ fault. fault ≡ Fault.CannotWrite) }
 {
-    let written = writeln!(
-        output,
-        "dw0={:08x} sqhd={:04x} sqid={:04x} cid={:04x} p={} sct={} sc={:02x} crd={} m={} dnr={}",
-        entry.dw0(),
-        entry.sqhd(),
-        entry.sqid(),
-        entry.cid(),
-        u8::from(entry.phase()),
-        entry.sct(),
-        entry.sc(),
-        entry.crd(),
-        u8::from(entry.more()),
-        u8::from(entry.dnr())
-    );
-    written.map_err(Fault::of_output)
+    print_hex(b"dw0=", &entry.dw0().to_be_bytes(), output)?;
+    print_hex(b" sqhd=", &entry.sqhd().to_be_bytes(), output)?;
+    print_hex(b" sqid=", &entry.sqid().to_be_bytes(), output)?;
+    print_hex(b" cid=", &entry.cid().to_be_bytes(), output)?;
+    print_flag(b" p=", entry.phase(), output)?;
+    print_number(b" sct=", entry.sct(), output)?;
+    print_hex(b" sc=", &entry.sc().to_be_bytes(), output)?;
+    print_number(b" crd=", entry.crd(), output)?;
+    print_flag(b" m=", entry.more(), output)?;
+    print_flag(b" dnr=", entry.dnr(), output)?;
+    end_line(output)
 }

@@ -1,29 +1,39 @@
 //! The subcommand `once`: a script of commands on a private controller over flat memory.
-ghost use Rattle.std.specs.Prelude.{◌≡◌, ◌≤◌, length, IfErr, IfOk, IfSome, MatchResult};
-ghost use Rattle.nv_mem.specs.Bytes.{InMemory};
+ghost use Rattle.std.specs.Prelude.{◌≡◌, ◌≤◌, length, replicate, take, IfErr, IfOk, IfSome, MatchResult, OnOk};
+ghost use Rattle.std.specs.Io.KnownBytes.{Appends};
+ghost use Rattle.hex.specs.Hex.{encode_lower};
+ghost use Rattle.nv_flat.specs.Flat.{flat};
+ghost use Rattle.nv_mem.specs.Bytes.{InMemory, after_store, bytes_at};
 ghost use Rattle.nv_script.specs.OnceLine.{value_of};
 ghost use Rattle.nv_script.specs.OnceScript.{IsInRange, script_value};
-ghost use Rattle.nv_once.specs.Once.{HasSizes, IsInput, IsOnceFault, IsScript, IsStop, IsThere};
+ghost use Rattle.nv_once.specs.Once.{HasSizes, IsInput, IsOnceFault, IsStop, IsThere};
+ghost use Rattle.nv_once.specs.Printed.{dump_line};
+ghost use Rattle.nv_once.specs.Shown.{PrintsScript, PrintsText, Shows};
 
 use crate::fault::Fault;
-use nv_flat::FlatController;
+use crate::print::{CHUNK, end_line, print_bytes, print_line};
+use nv_flat::One;
 use nv_script::{Line, Script, parse};
 use std::alloc::Global;
 use std::io::{Read, Write};
 
-/// How many bytes are read or printed at once.
-const CHUNK: usize = 512;
-
-/// Reads a script whole, and then runs it line by line. What a `cmd`, `dump` or `block` line prints goes to `output`.
+/// Reads a script whole, and then runs it line by line on a controller of the kind `C`. What a `cmd`, `dump` or `block` line prints goes
+/// to `output`.
 ///
-/// Where it is known what there is to read, it ends well or in the middle of its output only if that is a script, and a fault of
-/// the script is the one that the script's definition gives.
-pub fn run<R: Read + Drop, W: Write>(alloc: Global, input: R, output: &mut W) -> Result<(), Fault>
-    ensures { let text = R.remaining input in MatchResult result (λ _. IsScript text) (IsOnceFault text) }
+/// Where it is known what there is to read, it ends well only if that is a script, and then the output has grown by exactly what that
+/// script prints. It ends in the middle of its output only if that is a script, and a fault of the script is the one that the script's
+/// definition gives.
+pub fn run<C: One, R: Read + Drop, W: Write>(
+    alloc: Global,
+    input: R,
+    output: &mut W,
+) -> Result<(), Fault>
+    ensures { let text = R.remaining input in MatchResult result (λ _. PrintsText C.built text (W.contents output.old) (W.contents output.new)) (IsOnceFault text) }
 {
     let text = read_all(alloc, input)?;
     let script = parse(alloc, &text)?;
-    run_script(alloc, &script, output)
+    run_script::<C, W>(alloc, &script, output)?;
+    Ok(())
 }
 
 /// The whole input.
@@ -39,11 +49,12 @@ fn read_all<R: Read + Drop>(alloc: Global, mut input: R) -> Result<Vec<u8>, Faul
 }
 
 /// Runs the lines of a script on a controller of its sizes.
-fn run_script<W: Write>(alloc: Global, script: &Script, output: &mut W) -> Result<(), Fault>
+fn run_script<C: One, W: Write>(alloc: Global, script: &Script, output: &mut W) -> Result<(), Fault>
     requires { IsInRange (script_value script.now) }
-    ensures { IfErr result IsStop }
+    ensures ok { OnOk result (PrintsScript C.built (script_value script.now) (W.contents output.old) (W.contents output.new)) }
+    ensures err { IfErr result IsStop }
 {
-    let mut controller = FlatController::new(alloc, script.memory, script.blocks)?;
+    let mut controller = C::new(alloc, script.memory, script.blocks)?;
     for line in &script.lines {
         run_line(alloc, &mut controller, line, output)?;
     }
@@ -51,14 +62,15 @@ fn run_script<W: Write>(alloc: Global, script: &Script, output: &mut W) -> Resul
 }
 
 /// Runs one line.
-fn run_line<W: Write>(
+fn run_line<C: One, W: Write>(
     alloc: Global,
-    controller: &mut FlatController,
+    controller: &mut C,
     line: &Line,
     output: &mut W,
 ) -> Result<(), Fault>
-    requires { IsThere controller.old (value_of line.now) }
-    ensures sizes { HasSizes controller.new (length controller.old.memory) (length controller.old.disk) }
+    requires { IsThere (C.seen controller.old) (value_of line.now) }
+    ensures ok { OnOk result (Shows C.built (C.seen controller.old) (value_of line.now) (W.contents output.old) (W.contents output.new) (C.seen controller.new)) }
+    ensures sizes { HasSizes (C.seen controller.new) (length (C.seen controller.old).memory) (length (C.seen controller.old).disk) }
     ensures err { IfErr result IsStop }
 {
     match line {
@@ -76,36 +88,57 @@ fn run_line<W: Write>(
 }
 
 /// Stores so many equal bytes from an address on.
-fn fill(controller: &mut FlatController, addr: u64, len: u64, byte: u8)
-    requires { InMemory (length controller.old.memory) addr len }
-    ensures { HasSizes controller.new (length controller.old.memory) (length controller.old.disk) }
+fn fill<C: One>(controller: &mut C, addr: u64, len: u64, byte: u8)
+    requires { InMemory (length (C.seen controller.old).memory) addr len }
+    ensures bytes { let old = C.seen controller.old in C.seen controller.new ≡ flat (after_store old.memory addr (replicate len byte)) old.disk old.kept }
+    ensures sizes { HasSizes (C.seen controller.new) (length (C.seen controller.old).memory) (length (C.seen controller.old).disk) }
+{
+    fill_by(controller, addr, len, byte, &[byte; CHUNK]);
+}
+
+/// Stores so many equal bytes from an address on, a chunk of them at a time.
+fn fill_by<C: One>(controller: &mut C, addr: u64, len: u64, byte: u8, chunk: &[u8])
+    requires inside { InMemory (length (C.seen controller.old).memory) addr len }
+    requires equal { chunk.now ≡ replicate CHUNK byte }
+    ensures bytes { let old = C.seen controller.old in C.seen controller.new ≡ flat (after_store old.memory addr (replicate len byte)) old.disk old.kept }
+    ensures sizes { HasSizes (C.seen controller.new) (length (C.seen controller.old).memory) (length (C.seen controller.old).disk) }
 {
     // the proof learns from it that no address is beyond 64 bits
     let _size = controller.memory_len();
-    let bytes = [byte; CHUNK];
     let mut done = 0;
     while done < len {
         let count = (len - done).min(CHUNK as u64);
-        controller.store(addr + done, &bytes[..count as usize]);
+        controller.store(addr + done, &chunk[..count as usize]);
         done += count;
     }
 }
 
 /// Prints so many bytes from an address on as a line, or `-` where they are none.
-fn dump<W: Write>(
-    controller: &FlatController,
+fn dump<C: One, W: Write>(controller: &C, addr: u64, len: u64, output: &mut W) -> Result<(), Fault>
+    requires { InMemory (length (C.seen controller.now).memory) addr len }
+    ensures ok { OnOk result (Appends (W.contents output.old) (W.contents output.new) (dump_line (bytes_at (C.seen controller.now).memory addr len))) }
+    ensures err { IfErr result (λ fault. fault ≡ Fault.CannotWrite) }
+{
+    if len == 0 {
+        return output.write_all(b"-\n").map_err(Fault::of_output);
+    }
+    dump_bytes(controller, addr, len, output)?;
+    end_line(output)
+}
+
+/// Prints so many bytes from an address on as hexadecimal digits.
+fn dump_bytes<C: One, W: Write>(
+    controller: &C,
     addr: u64,
     len: u64,
     output: &mut W,
 ) -> Result<(), Fault>
-    requires { InMemory (length controller.now.memory) addr len }
-    ensures { IfErr result (λ fault. fault ≡ Fault.CannotWrite) }
+    requires { InMemory (length (C.seen controller.now).memory) addr len }
+    ensures ok { OnOk result (Appends (W.contents output.old) (W.contents output.new) (encode_lower (bytes_at (C.seen controller.now).memory addr len))) }
+    ensures err { IfErr result (λ fault. fault ≡ Fault.CannotWrite) }
 {
     // the proof learns from it that no address is beyond 64 bits
     let _size = controller.memory_len();
-    if len == 0 {
-        output.write_all(b"-").map_err(Fault::of_output)?;
-    }
     let mut bytes = [0; CHUNK];
     let mut done = 0;
     while done < len {
@@ -115,34 +148,5 @@ fn dump<W: Write>(
         print_bytes(chunk, output)?;
         done += count;
     }
-    end_line(output)
-}
-
-/// Prints bytes as a line of hexadecimal digits.
-fn print_line<W: Write>(bytes: &[u8], output: &mut W) -> Result<(), Fault>
-    requires { length bytes.now ≤ CHUNK }
-    ensures { IfErr result (λ fault. fault ≡ Fault.CannotWrite) }
-{
-    print_bytes(bytes, output)?;
-    end_line(output)
-}
-
-/// Prints bytes as hexadecimal digits.
-fn print_bytes<W: Write>(bytes: &[u8], output: &mut W) -> Result<(), Fault>
-    requires { length bytes.now ≤ CHUNK }
-    ensures { IfErr result (λ fault. fault ≡ Fault.CannotWrite) }
-{
-    let mut digits = [0; 2 * CHUNK];
-    let count = 2 * bytes.len();
-    match hex::encode_to_slice(bytes, &mut digits[..count]) {
-        Ok(()) => output.write_all(&digits[..count]).map_err(Fault::of_output),
-        Err(_) => unreachable!(),
-    }
-}
-
-/// Ends a line of the output.
-fn end_line<W: Write>(output: &mut W) -> Result<(), Fault>
-    ensures { IfErr result (λ fault. fault ≡ Fault.CannotWrite) }
-{
-    output.write_all(b"\n").map_err(Fault::of_output)
+    Ok(())
 }

@@ -1,6 +1,7 @@
 //! Commands over readers and writers. Expected lines are read off the layouts by hand.
 
 use crate::{Command, EntryKind, ExitStatus, Fault, perform, report};
+use nv_flat::FlatController;
 use std::alloc::Global;
 use std::io::{self, ErrorKind, Read, Write};
 use std::process::Abort;
@@ -36,10 +37,21 @@ struct Outcome {
     faults: Vec<u8>,
 }
 
+/// Does a command on the flat controller.
+fn perform_on_flat<R: Read + Drop, W: Write>(
+    alloc: Global,
+    command: Command<'_>,
+    input: R,
+    output: &mut W,
+) -> Result<(), Fault> {
+    perform::<FlatController, R, &mut W>(alloc, command, input, output)?;
+    Ok(())
+}
+
 fn run<R: Read + Drop>(alloc: Global, command: Command<'_>, input: R) -> Outcome {
     let mut output = Vec::new(alloc);
     let mut faults = Vec::new(alloc);
-    let status = match perform(alloc, command, input, &mut output) {
+    let status = match perform_on_flat(alloc, command, input, &mut output) {
         Ok(()) => ExitStatus::Success,
         Err(fault) => report(fault, &mut faults),
     };
@@ -289,7 +301,7 @@ fn tells_of_a_writer_that_fails(rt: HostRuntime) {
     };
     for (room, flushes) in [(0, true), (1, true), (73, true), (1000, false)] {
         let mut output = writer(rt.alloc(), room, flushes);
-        let ended = perform(rt.alloc(), command, b"".as_slice(), &mut output);
+        let ended = perform_on_flat(rt.alloc(), command, b"".as_slice(), &mut output);
         assert_eq!(rt; ended, Err(Fault::CannotWrite), "{room}");
         assert!(rt; DONE_LINE.as_bytes().starts_with(&output.taken), "{room}");
         let mut faults = Vec::new(rt.alloc());
@@ -298,7 +310,7 @@ fn tells_of_a_writer_that_fails(rt: HostRuntime) {
         assert_eq!(rt; faults.as_slice(), b"cannot write\n".as_slice());
     }
     let mut output = writer(rt.alloc(), 74, true);
-    let ended = perform(rt.alloc(), command, b"".as_slice(), &mut output);
+    let ended = perform_on_flat(rt.alloc(), command, b"".as_slice(), &mut output);
     assert_eq!(rt; ended, Ok(()));
     assert_eq!(rt; output.taken.as_slice(), DONE_LINE.as_bytes());
 }
@@ -309,7 +321,7 @@ fn a_script_whose_writer_fails(rt: HostRuntime) {
     let script = b"memory 0x10000\nblocks 1\nfill 0 0x8000 0xab\ndump 0 0x8000";
     for room in [0, 1, 8191, 8192, 8193, 40_001, 65_536] {
         let mut output = writer(rt.alloc(), room, true);
-        let ended = perform(rt.alloc(), Command::Once, script.as_slice(), &mut output);
+        let ended = perform_on_flat(rt.alloc(), Command::Once, script.as_slice(), &mut output);
         assert_eq!(rt; ended, Err(Fault::CannotWrite), "{room}");
         assert_eq!(rt; output.taken.len(), room);
         for (i, digit) in output.taken.iter().enumerate() {
@@ -317,7 +329,7 @@ fn a_script_whose_writer_fails(rt: HostRuntime) {
         }
     }
     let mut output = writer(rt.alloc(), 65_537, true);
-    let ended = perform(rt.alloc(), Command::Once, script.as_slice(), &mut output);
+    let ended = perform_on_flat(rt.alloc(), Command::Once, script.as_slice(), &mut output);
     assert_eq!(rt; ended, Ok(()));
     assert_eq!(rt; output.taken.last().copied(), Some(b'\n'));
 }
@@ -376,7 +388,7 @@ fn a_script_where_memory_is_refused(rt: HostRuntime) {
     let mut output = Page::new();
     let mut faults = Page::new();
     let whole = b"00000000000000000100010007000100\nabababab\n".as_slice();
-    match perform(rt.alloc(), Command::Once, FIRST_RUN.as_bytes(), &mut output) {
+    match perform_on_flat(rt.alloc(), Command::Once, FIRST_RUN.as_bytes(), &mut output) {
         Ok(()) => assert_eq!(rt; output.text(), whole),
         Err(fault) => {
             assert_eq!(rt; fault, Fault::NoMemory);

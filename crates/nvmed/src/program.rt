@@ -2,6 +2,7 @@
 ghost use Rattle.std.specs.Prelude.{◌≡◌, Any, slice_get};
 
 use crate::command;
+use nv_flat::FlatController;
 use nv_once::{ExitStatus, Fault, report};
 use std::alloc::Global;
 use std::convert::AsStr;
@@ -33,5 +34,6 @@ fn answer<S: AsStr, R: Read + Drop, W: Write + Drop>(
     ensures dash { Any (λ word. slice_get (S.text word) 0 ≡ Some 45) words.now → result ≡ Err Fault.Usage }
 {
     let command = command::parse(alloc, words)?;
-    nv_once::perform(alloc, command, input, output)
+    nv_once::perform::<FlatController, R, W>(alloc, command, input, output)?;
+    Ok(())
 }
