@@ -11,6 +11,8 @@ mod bounce;
 mod path;
 mod physical;
 #[cfg(test)]
+mod scripts;
+#[cfg(test)]
 mod tests;
 
 use crate::thin::physical::BLOCK;
