@@ -1,9 +1,10 @@
 //! What the program `nvmed` does, but for reading its words: `decode` prints the fields of an entry, `once` runs a script of
-//! commands on a private controller over flat memory.
+//! commands on a controller over flat memory.
 //!
-//! [`perform`] does a command over a reader and a writer, and [`report`] tells of a fault. It is proved which digits spell an entry
-//! and which entry, that a fault of a script is the one that the script's definition gives, and that the output of a run fails only
-//! behind a whole script. The printed lines are tested and not proved.
+//! [`perform`] does a command over a reader and a writer, on any kind of controller that runs one command at a time, and [`report`]
+//! tells of a fault. It is proved what is printed: the line of an entry, field by field, and of a script, where it is known what there
+//! is to read, what its lines print one after another on a run of the controller. A command ends with a fault only as its definition
+//! says. What a writer holds that failed, and the text of a script's fault, are tested and not proved.
 #![tactic(auto)]
 
 mod command;
