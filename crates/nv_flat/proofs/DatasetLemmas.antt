@@ -4,12 +4,10 @@ use Rattle.std.specs.Prelude.{IsTrue, ◌↔◌}
 use Rattle.std.specs.List.{list_all, range_with_len}
 use Rattle.std.proofs.lemmas.Bool.{cases_eq}
 use Rattle.std.proofs.lemmas.Bool.Decides.{nat_tests}
-use Rattle.nv_entry.specs.Opcode.{data_pointer}
 use Rattle.nv_entry.specs.Range.{blocks_of, start_of}
-use Rattle.nv_entry.specs.Submission.{psdt_of, deallocate_of}
+use Rattle.nv_entry.specs.Submission.{deallocate_of}
 use Rattle.nv_entry.specs.Status.{StatusField}
 use Rattle.nv_entry.specs.StatusCode.{done_with, refused_with}
-use Rattle.nv_entry.specs.declared.data_pointer.DataPointer.TheVariants.{Sgl}
 use Rattle.nv_entry.specs.declared.opcode.IoOpcode.TheVariants.{DatasetManagement}
 use Rattle.nv_entry.specs.declared.status_code.StatusCode.TheVariants.{LbaOutOfRange, Success}
 use Rattle.nv_judge.specs.Need.{need_of}

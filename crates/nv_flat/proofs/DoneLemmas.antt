@@ -1,15 +1,13 @@
 -- What carrying a command out has to show
-use Rattle.std.proofs.Common.{◌≡◌, ℕ, ◌+◌, ◌*◌, ◌≤◌, Bool, true, false, not, ◌&&◌, ◌==◌, Option, Some, None, Ok, Err, is_none, List, [], ◌∷◌, length, refl, sym, ap, subst, ◌∙◌, arith, ◌<◌}
+use Rattle.std.proofs.Common.{◌≡◌, ℕ, ◌+◌, ◌*◌, ◌≤◌, Bool, true, false, ◌&&◌, ◌==◌, Some, None, Ok, Err, List, [], ◌∷◌, length, refl, sym, ap, subst, ◌∙◌, arith, ◌<◌}
 use Rattle.std.specs.List.{range_with_len}
 use Rattle.std.proofs.lemmas.Bool.Decides.{nat_tests}
-use Rattle.nv_entry.specs.Opcode.{io_opcode, data_pointer}
-use Rattle.nv_entry.specs.Submission.{opcode_of, psdt_of, slba_of, fua_of}
+use Rattle.nv_entry.specs.Opcode.{io_opcode}
+use Rattle.nv_entry.specs.Submission.{opcode_of, slba_of, fua_of}
 use Rattle.nv_entry.specs.Status.{StatusField}
 use Rattle.nv_entry.specs.StatusCode.{done_with, refused_with}
-use Rattle.nv_entry.specs.declared.data_pointer.DataPointer.TheVariants.{Sgl}
 use Rattle.nv_entry.specs.declared.opcode.IoOpcode.{IoOpcode}
 use Rattle.nv_entry.specs.declared.opcode.IoOpcode.TheVariants.{Flush, Write, Read, Compare, WriteZeroes, DatasetManagement}
-use Rattle.nv_entry.specs.declared.status_code.StatusCode.{StatusCode}
 use Rattle.nv_entry.specs.declared.status_code.StatusCode.TheVariants.{InternalError, Success}
 use Rattle.nv_judge.specs.declared.need.Need.{Need}
 use Rattle.nv_judge.specs.Need.{field_verdict, need_of}
@@ -17,7 +15,7 @@ use Rattle.nv_mem.specs.declared.piece.Piece.{Piece}
 use Rattle.nv_ns.specs.BlockRange.{in_namespace}
 use Rattle.nv_model.specs.Dialogue.{End, in_memory}
 use Rattle.nv_model.specs.Reading.{Reading, Faulty, TooLong, Spells}
-use Rattle.nv_model.specs.Judge.{Verdict, Work, WorkUnit, AllBlocks, Refuse, Go, block_units, count_of, field_refusal, has_blocks, has_buffer, judge_reading, work_of}
+use Rattle.nv_model.specs.Judge.{Verdict, Work, WorkUnit, AllBlocks, Refuse, Go, block_units, count_of, has_blocks, has_buffer, judge_reading, work_of}
 use Rattle.nv_model.specs.Private.{verdict_in}
 use Rattle.nv_model.specs.Carried.{moved_on, moved_status, units_moved}
 use Rattle.nv_flat.specs.Flat.{Flat, block_work, byte_in, cleared, moved_of, units_from}

@@ -2,11 +2,15 @@ pub mod AskingLemmas
 pub mod BufferLemmas
 pub mod DatasetLemmas
 pub mod DoneLemmas
+pub mod ExampleLemmas
 pub mod FlatLemmas
+pub mod KeptLemmas
 pub mod ListLemmas
+pub mod MadeLemmas
 pub mod MoveLemmas
 pub mod OneLemmas
 pub mod PieceLemmas
+pub mod RunLemmas
 pub mod TransferLemmas
 pub mod VerdictLemmas
 pub mod WorkLemmas

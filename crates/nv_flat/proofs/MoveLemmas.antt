@@ -20,7 +20,7 @@ use Rattle.nv_flat.specs.Flat.{block_work, byte_in, byte_of_block, clear, cleare
 use Rattle.nv_flat.proofs.BufferLemmas.{scattered-take}
 
 -- equal in each part
-moved : (m n : ℕ → ℕ) (d e : ℕ → ℕ → ℕ) (k l : ℕ → Bool) (x y : Bool) → m ≡ n → d ≡ e → k ≡ l → x ≡ y
+pub moved : (m n : ℕ → ℕ) (d e : ℕ → ℕ → ℕ) (k l : ℕ → Bool) (x y : Bool) → m ≡ n → d ≡ e → k ≡ l → x ≡ y
     → ◌≡◌ {A = Moved} (record { memory = m; disk = d; kept = k; differed = x }) (record { memory = n; disk = e; kept = l; differed = y })
 moved m n d e k l x y same_memory same_disk same_marks same_differed =
     ap (λ (z : ℕ → ℕ). let r : Moved = record { memory = z; disk = d; kept = k; differed = x } in r) same_memory

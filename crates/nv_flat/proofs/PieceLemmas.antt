@@ -1,5 +1,5 @@
 -- What is known of the pieces that a command's list spells
-use Rattle.std.proofs.Common.{◌≡◌, ℕ, zero, suc, ◌+◌, ◌-◌, ◌*◌, ◌/◌, ◌<◌, ◌≤◌, min, Bool, true, false, not, ◌&&◌, ◌==◌, nat_lt, cond, All, List, [], ◌∷◌, ◌++◌, length, replicate, append-nil, Option, Some, None, refl, sym, ap, subst, ◌∙◌, arith, eqb-true}
+use Rattle.std.proofs.Common.{◌≡◌, ℕ, zero, suc, ◌+◌, ◌-◌, ◌*◌, ◌/◌, ◌<◌, min, Bool, true, false, ◌&&◌, ◌==◌, nat_lt, cond, All, List, [], ◌∷◌, ◌++◌, length, replicate, append-nil, Option, Some, None, refl, sym, ap, subst, ◌∙◌, arith, eqb-true}
 use Rattle.std.proofs.lemmas.Bool.Decides.{nat_tests}
 use Rattle.std.proofs.lemmas.List.Elements.{All-append, All-cons, All-head, All-nil, All-tail}
 use Rattle.nv_entry.specs.Descriptor.{address_of, length_of, kind_of}
@@ -18,7 +18,7 @@ use Rattle.nv_mem.specs.Places.{At, Bucket, addresses, places_of, places_of_piec
 use Rattle.nv_mem.specs.declared.piece.Piece.{Piece}
 use Rattle.nv_mem.specs.declared.piece.Piece.TheVariants as piece
 use Rattle.nv_mem.proofs.PlaceLists.{length-places_of}
-use Rattle.nv_model.specs.Dialogue.{Dialogue, End, Ask, and_then, in_memory}
+use Rattle.nv_model.specs.Dialogue.{Dialogue, End, Ask, in_memory}
 use Rattle.nv_model.specs.Judge.{read_by, read_source, sized}
 use Rattle.nv_model.specs.Laws.{IsMappedPiece}
 use Rattle.std.proofs.lemmas.List.{append_assoc}

@@ -1,12 +1,10 @@
 -- The verdict on a command
 use Rattle.std.proofs.Common.{arith, ◌≡◌, ℕ, Bool, true, false, not, ◌&&◌, ◌==◌, nat_lt, cond, Option, Some, None, Ok, Err, List, [], ◌∷◌, refl, sym, ap, subst, ◌∙◌, ◌≤◌}
 use Rattle.std.proofs.lemmas.Bool.Decides.{nat_tests}
-use Rattle.nv_entry.specs.Opcode.{io_opcode, data_pointer}
-use Rattle.nv_entry.specs.Submission.{opcode_of, psdt_of, sgl_of, fuse_of, slba_of, nsid_of}
+use Rattle.nv_entry.specs.Opcode.{io_opcode}
+use Rattle.nv_entry.specs.Submission.{opcode_of, psdt_of, fuse_of, slba_of, nsid_of}
 use Rattle.nv_entry.specs.Status.{StatusField}
 use Rattle.nv_entry.specs.StatusCode.{refused_with}
-use Rattle.nv_entry.specs.declared.data_pointer.DataPointer.{DataPointer}
-use Rattle.nv_entry.specs.declared.data_pointer.DataPointer.TheVariants.{Prp, Reserved, Sgl}
 use Rattle.nv_entry.specs.declared.opcode.IoOpcode.{IoOpcode}
 use Rattle.nv_entry.specs.declared.status_code.StatusCode.{StatusCode}
 use Rattle.nv_entry.specs.declared.status_code.StatusCode.TheVariants.{InvalidField, InvalidNamespace, LbaOutOfRange}
@@ -16,8 +14,7 @@ use Rattle.nv_ns.specs.BlockRange.{in_namespace}
 use Rattle.nv_model.specs.Dialogue.{Dialogue, End, and_then, in_memory}
 use Rattle.nv_model.proofs.DialogueLemmas.{in_memory-and_then}
 use Rattle.nv_model.specs.Reading.{Reading, first_failing}
-use Rattle.nv_model.specs.Sgl.{read_sgl}
-use Rattle.nv_model.specs.Judge.{Verdict, Refuse, Go, count_of, field_refusal, has_blocks, has_buffer, is_read, judge, judge_by, judge_fields, judge_reading, most_blocks, read_buffer, read_by, refusal_by_opcode, sized, transfer_len, units_of, work_of}
+use Rattle.nv_model.specs.Judge.{Verdict, Refuse, Go, count_of, field_refusal, has_blocks, has_buffer, judge, judge_by, judge_fields, judge_reading, most_blocks, read_buffer, refusal_by_opcode, units_of, work_of}
 use Rattle.nv_model.specs.Private.{Shape, verdict_in}
 
 -- ---- the fields

@@ -3,3 +3,5 @@ pub mod Buffer
 pub mod Listed
 pub mod One
 pub mod Transfer
+pub mod Laws
+pub mod Examples

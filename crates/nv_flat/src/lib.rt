@@ -4,6 +4,8 @@
 mod buffer;
 mod controller;
 mod dataset;
+pub mod examples;
+pub mod laws;
 mod lists;
 mod moves;
 mod one;

@@ -1,4 +1,4 @@
-use Rattle.std.proofs.Common.{◌≡◌, ℕ, Ok, Err, length, sym, ap, subst, ◌∙◌}
+use Rattle.std.proofs.Common.{◌≡◌, ℕ, Err, length, sym, ap, subst, ◌∙◌}
 use Rattle.nv_judge.specs.Need.{field_verdict}
 use Rattle.nv_ns.specs.BlockRange.{Extent}
 use Rattle.nv_flat.proofs.DoneLemmas.{fields-refused}

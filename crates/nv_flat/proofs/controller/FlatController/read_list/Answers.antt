@@ -1,4 +1,4 @@
-use Rattle.std.proofs.Common.{◌≡◌, Some, sym, ap, ◌∙◌}
+use Rattle.std.proofs.Common.{Some, sym, ap, ◌∙◌}
 use Rattle.nv_flat.proofs.ListLemmas.{reserved-refused}
 use Rattle.nv_flat.proofs.controller.FlatController.read_list.Goals as goal
 

@@ -1,5 +1,4 @@
-use Rattle.std.proofs.Common.{◌≡◌, ◌+◌, ◌≤◌, List, ℕ, Some, length, sym, ap, subst, arith, ◌∙◌}
-use Rattle.nv_mem.specs.GuestMap.{Mapping}
+use Rattle.std.proofs.Common.{◌≡◌, Some, length, sym, ap, subst, ◌∙◌}
 use Rattle.nv_model.specs.Memory.{bytes_from}
 use Rattle.nv_model.specs.Transcript.{fed}
 use Rattle.nv_sgl.specs.Parse.{dialogue_of}
