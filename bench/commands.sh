@@ -9,14 +9,9 @@
 set -euo pipefail
 export LC_ALL=C
 
-root=$(dirname "$(dirname "$(readlink -f "$0")")")
-commands=${1:-2000}
-room=$(mktemp -d)
-trap 'rm -rf "$room"' EXIT
+source "$(dirname "$(readlink -f "$0")")/timing.sh"
 
-# The program, built.
-printf 'memory 4096\nblocks 1\n' | "$root/nvmed" once
-program=$root/crates/nvmed/out/nvmed
+commands=${1:-2000}
 
 # Numbers as little-endian bytes in hexadecimal digits: so many bytes each.
 little() {
@@ -54,21 +49,6 @@ set_up() {
 script() {
     cat "$room/set-up"
     awk -v n="$1" -v entry="$2" 'BEGIN { for (i = 0; i < n; i++) print "cmd " entry }'
-}
-
-# Runs a script, and prints how long it took: the least of five runs, in nanoseconds.
-nanoseconds() {
-    local least="" took start end
-    for _ in 1 2 3 4 5; do
-        start=$(date +%s%N)
-        "$program" once <"$room/script" >"$room/output"
-        end=$(date +%s%N)
-        took=$((end - start))
-        if [[ -z $least || $took -lt $least ]]; then
-            least=$took
-        fi
-    done
-    printf '%s' "$least"
 }
 
 set_up >"$room/set-up"

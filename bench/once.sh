@@ -8,15 +8,10 @@
 set -euo pipefail
 export LC_ALL=C
 
-root=$(dirname "$(dirname "$(readlink -f "$0")")")
+source "$(dirname "$(readlink -f "$0")")/timing.sh"
+
 lines=${1:-100000}
 mib=${2:-16}
-room=$(mktemp -d)
-trap 'rm -rf "$room"' EXIT
-
-# The program, built.
-printf 'memory 4096\nblocks 1\n' | "$root/nvmed" once
-program=$root/crates/nvmed/out/nvmed
 
 # A Read of one block into memory through one Data Block, so many times.
 read_block=02400700010000000000000000000000000000000000000000300000000000000002000000000000050000000000000000000000000000000000000000000000
@@ -39,19 +34,9 @@ dump() {
     printf 'memory 16777216\nblocks 1\nfill 0 131072 0xa5\ndump 0 %d\n' "$(($1 * 1048576))"
 }
 
-# Runs a script, and prints how long it took: the least of five runs, in seconds.
+# How long the script takes, in seconds.
 seconds() {
-    local least="" took start end
-    for _ in 1 2 3 4 5; do
-        start=$(date +%s%N)
-        "$program" once <"$1" >"$room/output"
-        end=$(date +%s%N)
-        took=$((end - start))
-        if [[ -z $least || $took -lt $least ]]; then
-            least=$took
-        fi
-    done
-    awk -v took="$least" 'BEGIN { printf "%.3f", took / 1000000000 }'
+    awk -v took="$(nanoseconds)" 'BEGIN { printf "%.3f", took / 1000000000 }'
 }
 
 rate() {
@@ -60,11 +45,11 @@ rate() {
 
 for n in $((lines / 2)) "$lines"; do
     commands "$n" >"$room/script"
-    took=$(seconds "$room/script")
+    took=$(seconds)
     printf '%8d lines: %8s s, %12s lines a second\n' "$n" "$took" "$(rate "$n" "$took")"
 done
 for n in $((mib / 2)) "$mib"; do
     dump "$n" >"$room/script"
-    took=$(seconds "$room/script")
+    took=$(seconds)
     printf '%8d MiB dumped: %3s s, %12s MiB a second\n' "$n" "$took" "$(rate "$n" "$took")"
 done

@@ -109,7 +109,7 @@ read_array-asks mapped dest (suc budget) (suc left) from by_last pieces each = (
       (λ a ps there. read_array-asks mapped dest budget a.left a.from a.by_last ps there),
 )
 
-read_sgl-asks : (mapped : ℕ → Bool) (dest : Bool) (limit : ℕ) (own : List ℕ) → AsksIn mapped (read_sgl mapped dest limit own)
+pub read_sgl-asks : (mapped : ℕ → Bool) (dest : Bool) (limit : ℕ) (own : List ℕ) → AsksIn mapped (read_sgl mapped dest limit own)
 unfolding read_sgl
 read_sgl-asks mapped dest zero own = tt
 read_sgl-asks mapped dest (suc budget) own =
@@ -174,7 +174,7 @@ read_prp2-asks mapped (suc (suc pages)) prp2 bytes pieces =
     let aligned : prp2 % 8 ≡ 0 = there.0 in
     read_entries-asks mapped (suc (suc pages)) (slots_of prp2) prp2 bytes pieces (λ _. omega arith) there.1)
 
-read_prp-asks : (mapped : ℕ → Bool) (prp1 prp2 len : ℕ) → AsksIn mapped (read_prp mapped prp1 prp2 len)
+pub read_prp-asks : (mapped : ℕ → Bool) (prp1 prp2 len : ℕ) → AsksIn mapped (read_prp mapped prp1 prp2 len)
 read_prp-asks mapped prp1 prp2 len =
     AsksIn-unless_faulty mapped (entry_fault mapped 4 prp1 (first_len prp1 len)) _
     (λ fine. read_prp2-asks mapped (pages_of (len - first_len prp1 len)) prp2 (len - first_len prp1 len) (run prp1 (first_len prp1 len)))

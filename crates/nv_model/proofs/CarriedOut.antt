@@ -62,13 +62,13 @@ unfolding run_of
 run_of-judged shape t p st refused = rw (step-judge_alone shape t p, refused) refl
 
 -- a state with one unjudged command in its bag
-alone-is : (t : Taken) (p : Private) → p.bag ≡ t ∷ [] → t.progress ≡ Unjudged → alone_with t Unjudged p ≡ p
+pub alone-is : (t : Taken) (p : Private) → p.bag ≡ t ∷ [] → t.progress ≡ Unjudged → alone_with t Unjudged p ≡ p
 alone-is t p alone unjudged =
     let whole : record t { progress = Unjudged } ≡ t = ap (λ (g : Progress). record t { progress = g }) (sym unjudged) in
     ap (λ (u : Taken). record p { bag = u ∷ [] }) whole ∙ ap (λ (b : List Taken). record p { bag = b }) (sym alone)
 
 -- the command that is alone in the bag is found there
-ending_of-alone : (t : Taken) (progress : Progress) (p : Private) → ending_of (named t.name (alone_with t progress p).bag) ≡ ending progress
+pub ending_of-alone : (t : Taken) (progress : Progress) (p : Private) → ending_of (named t.name (alone_with t progress p).bag) ≡ ending progress
 ending_of-alone t progress p =
     let same : (t.name == t.name) ≡ true = eq-eqb t.name t.name refl in
     rw same refl

@@ -1,6 +1,7 @@
 pub mod AdminKept
 pub mod Agreeing
 pub mod Asking
+pub mod CarriedOnly
 pub mod CarriedOut
 pub mod DialogueLemmas
 pub mod Endings

@@ -1,14 +1,16 @@
 -- Words of the laws about the definitions
-use Rattle.std.specs.Prelude.{◌≡◌, ℕ, ◌+◌, ◌<◌, ◌≤◌, ◌*◌, Bool, true, List, All, IfSome, Option, Some, None}
+use Rattle.std.specs.Prelude.{◌≡◌, ℕ, ◌+◌, ◌<◌, ◌≤◌, ◌*◌, Bool, true, List, [], ◌∷◌, All, IfSome, Option, Some, None, remove, slice_get}
 use Rattle.std.specs.Bool.{⊤}
 use Rattle.nv_mem.specs.GuestMap.{everywhere}
 use Rattle.nv_mem.specs.Places.{Place, At, Bucket}
 use Rattle.nv_mem.specs.declared.piece.Piece.{Piece}
 use Rattle.nv_mem.specs.declared.piece.Piece.TheVariants as piece
-use Rattle.nv_model.specs.Judge.{WorkUnit, OneBlock, AllBlocks, block}
+use Rattle.nv_entry.specs.Status.{StatusField}
+use Rattle.nv_model.specs.Judge.{WorkUnit, OneBlock, AllBlocks, Work, block}
 use Rattle.nv_model.specs.Queue.{SubmissionQueue, CompletionQueue, ahead, cqe_size, sqe_size}
 use Rattle.nv_model.specs.Controller.{Controller, most_slots}
-use Rattle.nv_model.specs.Private.{After, AtWork, Ended, Private, Progress, Run, Shape, Unjudged}
+use Rattle.nv_model.specs.Private.{After, AtWork, Ended, Private, Progress, Run, Shape, Taken, Unjudged}
+use Rattle.nv_model.specs.Carried.{alone_at_work, moved_status, unmoved, units_moved}
 
 -- ---- memories
 
@@ -40,6 +42,20 @@ IsMappedPlace mapped Bucket = ⊤
 abbrev pub IsUnitWithin : (blocks : ℕ) → WorkUnit → Type 0
 IsUnitWithin blocks (OneBlock index lba) = lba < blocks
 IsUnitWithin blocks (AllBlocks all) = all ≡ blocks
+
+-- ---- commands that are carried out
+
+-- these are the units, each once, in some order: each is one of those that are left
+abbrev pub IsOrderOf : (order units : List WorkUnit) → Type 0
+IsOrderOf [] units = units ≡ []
+IsOrderOf (unit ∷ order) units = (place : ℕ) × ((slice_get units place ≡ Some unit) × IsOrderOf order (remove units place))
+
+-- the units of the command t, which goes with this work, have moved from p to q, each once, and it has ended with this status
+pub record HasMoved (p : Private) (t : Taken) (work : Work) (st : StatusField) (q : Private) : Type 0 where
+  pub order : List WorkUnit
+  pub each_once : IsOrderOf order work.units
+  pub status : st ≡ moved_status (units_moved order work (unmoved p)).differed
+  pub behind : q ≡ alone_at_work t work [] (units_moved order work (unmoved p)) p
 
 -- ---- queues
 

@@ -4,6 +4,7 @@ ghost use Rattle.nv_entry.specs.Status.{StatusField};
 ghost use Rattle.nv_model.specs.Judge.{Work, Go, Refuse};
 ghost use Rattle.nv_model.specs.Private.{Private, Shape, Taken, Ended, Unjudged, run_of, verdict_in};
 ghost use Rattle.nv_model.specs.Carried.{IsCarriedOut, all_moved, alone_with, judged_then_moved, moved_status, unmoved, units_moved};
+ghost use Rattle.nv_model.specs.Laws.{HasMoved};
 
 /// Judging a command that goes, and moving its units in order, is a run; behind it stand the memory, the disk and the marks
 /// that its units leave in order.
@@ -28,4 +29,13 @@ pub fn carries_out()
     ensures refused { (shape : Shape) (p : Private) (t : Taken) (st : StatusField) →
         p.bag ≡ t ∷ [] → t.progress ≡ Unjudged → verdict_in shape p.memory t.entry ≡ Refuse st →
         IsCarriedOut shape p t st (alone_with t (Ended st) p) }
+{}
+
+/// And in no other way: a command that is refused ends with that status and changes nothing else, and one that goes ends where each
+/// of its units has moved once, in some order.
+pub fn nothing_else_carries_out()
+    ensures refused { (shape : Shape) (p q : Private) (t : Taken) (st told : StatusField) →
+        IsCarriedOut shape p t st q → verdict_in shape p.memory t.entry ≡ Refuse told → (st ≡ told) × (q ≡ alone_with t (Ended told) p) }
+    ensures moved { (shape : Shape) (p q : Private) (t : Taken) (work : Work) (st : StatusField) →
+        IsCarriedOut shape p t st q → verdict_in shape p.memory t.entry ≡ Go work → HasMoved p t work st q }
 {}

@@ -9,7 +9,7 @@ ghost use Rattle.nv_model.specs.Reading.{Spells};
 ghost use Rattle.nv_model.specs.Sgl.{read_sgl};
 ghost use Rattle.nv_model.specs.Prp.{read_prp};
 ghost use Rattle.nv_model.specs.Admin.{identify_reading};
-ghost use Rattle.nv_model.specs.Laws.{IsMappedPiece};
+ghost use Rattle.nv_model.specs.Laws.{IsMappedPiece, IsMappedSpan};
 
 /// Each run that a scatter gather list spells is mapped wholly, and so is each that PRP1 and PRP2 spell.
 pub fn lists_spell_mapped_runs()
@@ -17,6 +17,14 @@ pub fn lists_spell_mapped_runs()
         in_memory memory (read_sgl mapped dest limit own) ≡ Spells pieces → All (IsMappedPiece mapped) pieces }
     ensures region_pages { (mapped : ℕ → Bool) (prp1 prp2 len : ℕ) (memory : ℕ → ℕ) (pieces : List Piece) →
         in_memory memory (read_prp mapped prp1 prp2 len) ≡ Spells pieces → All (IsMappedPiece mapped) pieces }
+{}
+
+/// What is read of a list is mapped, however long the transfer is and whatever the memory holds.
+pub fn lists_are_read_in_mapped_memory()
+    ensures scatter_gather { (mapped : ℕ → Bool) (dest : Bool) (limit : ℕ) (own : List ℕ) (memory : ℕ → ℕ) →
+        All (IsMappedSpan mapped) (asked memory (read_sgl mapped dest limit own)) }
+    ensures region_pages { (mapped : ℕ → Bool) (prp1 prp2 len : ℕ) (memory : ℕ → ℕ) →
+        All (IsMappedSpan mapped) (asked memory (read_prp mapped prp1 prp2 len)) }
 {}
 
 /// What PRP1 and PRP2 spell always has the transfer's length.

@@ -2,14 +2,22 @@
 
 ghost use Rattle.std.specs.Prelude.{◌≡◌, [], ◌∷◌, ◌++◌, map};
 ghost use Rattle.nv_mem.specs.declared.piece.Piece.TheVariants.{Run};
+ghost use Rattle.nv_model.specs.Dialogue.{in_memory};
 ghost use Rattle.nv_model.specs.Memory.{stored};
+ghost use Rattle.nv_model.specs.Prp.{read_prp};
 ghost use Rattle.nv_model.specs.Reading.{Spells};
-ghost use Rattle.nv_model.specs.Rows.{holding, pages_from, prp_entries, prp_in, zeros};
+ghost use Rattle.nv_model.specs.Rows.{below, holding, pages_from, prp_entries, prp_in, zeros};
 
 /// PRP1's page covers the transfer: PRP2 is not looked at.
 #[tactic(none)]
 pub fn one_page_by_prp1()
     ensures { prp_in zeros 0x3e00 0xffffffffffffffff 512 ≡ Spells (Run 0x3e00 512 ∷ []) }
+{}
+
+/// Where the memory ends behind its bytes, too: no others of its page are looked at.
+#[tactic(none)]
+pub fn the_rest_of_the_first_page_is_not_looked_at()
+    ensures { in_memory zeros (read_prp (below 0x3200) 0x3000 0 512) ≡ Spells (Run 0x3000 512 ∷ []) }
 {}
 
 /// PRP1 may have an offset that is a multiple of 4.
@@ -22,6 +30,12 @@ pub fn prp1_at_a_multiple_of_four()
 #[tactic(none)]
 pub fn two_pages_by_prp1_and_prp2()
     ensures { prp_in zeros 0x3e00 0x5000 1024 ≡ Spells (Run 0x3e00 512 ∷ Run 0x5000 512 ∷ []) }
+{}
+
+/// Where the memory ends behind these bytes, too: no others of that page are looked at.
+#[tactic(none)]
+pub fn the_rest_of_the_last_page_is_not_looked_at()
+    ensures { in_memory zeros (read_prp (below 0x5200) 0x3e00 0x5000 1024) ≡ Spells (Run 0x3e00 512 ∷ Run 0x5000 512 ∷ []) }
 {}
 
 /// Two whole pages.

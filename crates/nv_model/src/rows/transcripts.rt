@@ -96,6 +96,12 @@ pub fn the_needed_slots_of_a_list_are_wanted()
     ensures { outcome_in (by_prp read 0 23 0x3000 0x6ff0) [] ≡ Wanted 0x6ff0 16 }
 {}
 
+/// Of a list with more slots to the end of its page than pages remain, no slot behind those that are needed.
+#[tactic(none)]
+pub fn the_slots_behind_the_needed_ones_are_not_wanted()
+    ensures { outcome_in (by_prp read 0 23 0x3000 0x6000) [] ≡ Wanted 0x6000 16 }
+{}
+
 /// Of a list that goes on, the slots to the end of its page.
 #[tactic(none)]
 pub fn the_slots_to_the_end_of_the_page_are_wanted()

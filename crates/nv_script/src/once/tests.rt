@@ -50,6 +50,10 @@ frob 1 2 3 4 5 6 7 8|unknown word
 Block 1|unknown word
 block\t1|unknown word
 block\r|unknown word
+\r|unknown word
+\tblock 1|unknown word
+\0|unknown word
+block\x0b1|unknown word
 blocké 1|unknown word
 extent 0 1 2|unknown word
 descriptors 0 1|unknown word
@@ -132,7 +136,10 @@ block 1a|bad number
 block 0x1g|bad number
 block 1\t|bad number
 block 1\r|bad number
+block 1\x0c|bad number
+block 1\0|bad number
 block 1é|bad number
+block ４|bad number
 block 18446744073709551616|bad number
 block 99999999999999999999999999999999999999999|bad number
 block 0x10000000000000000|bad number
@@ -156,9 +163,12 @@ store 0x0 zz|bad bytes
 store 0x0 a|bad bytes
 store 70000 zz|bad bytes
 store 0x0 00\t|bad bytes
+store 0x0 00\0|bad bytes
+store 0x0 é|bad bytes
 cmd -|bad bytes
 cmd 00|bad bytes
 cmd 0240070001000000000000000000000000000000000000000030000000000000000200000000000005000000000000000000000000000000000000000000000|bad bytes
+cmd 0240070001000000000000000000000000000000000000000030000000000000000200000000000005000000000000000000000000000000000000000000000000|bad bytes
 cmd g2400700010000000000000000000000000000000000000000300000000000000002000000000000050000000000000000000000000000000000000000000000|bad bytes
 ";
 
@@ -180,6 +190,9 @@ block 0xffffffffffffffff|out of range
 
 /// Whole scripts: the set-up, and where a script ends.
 const SET_UPS: &str = "\
+memory 4096\r;blocks 1\r|line 1: bad number
+memory 4096;blocks 1;block 0\r|line 3: bad number
+await 0 0 0;memory 4096;blocks 1|line 1: out of place
 memory 4096;blocks 1|4096 1 []
 blocks 65536;memory 0x1000000|16777216 65536 []
 # a comment;;memory 8192;  ;blocks 2 # two;|8192 2 []
@@ -272,7 +285,7 @@ fn keeps_bytes_outside_ascii_in_their_words(rt: HostRuntime) -> Result<(), Fail>
     Ok(())
 }
 
-/// Where an allocation is refused, nothing else is said.
+/// A command is its entry. Where an allocation is refused, nothing else is said.
 #[test]
 fn reads_a_command(rt: HostRuntime) -> Result<(), Fail> {
     let text = format!(in rt.alloc(); "{SET_UP}cmd {READ}\nstore 0 ab")?;
@@ -303,5 +316,20 @@ fn reads_a_hundred_thousand_lines(rt: HostRuntime) -> Result<(), Fail> {
     }
     let script = parse(rt.alloc(), text.as_bytes())?;
     assert_eq!(rt; script.lines.len(), 100_000);
+    Ok(())
+}
+
+#[test]
+fn reads_a_word_of_a_mebibyte(rt: HostRuntime) -> Result<(), Fail> {
+    let mut text = String::from_str(rt.alloc(), SET_UP)?;
+    text.push_str("block ")?;
+    for _ in 0..1_048_576 {
+        text.push('0')?;
+    }
+    let found = answer(&rt, text.as_bytes())?;
+    assert_eq!(rt; found.as_str(), "65536 64 [Block { block: 0 }]");
+    text.push('z')?;
+    let found = answer(&rt, text.as_bytes())?;
+    assert_eq!(rt; found.as_str(), "line 3: bad number");
     Ok(())
 }
