@@ -28,7 +28,7 @@ value_of (line.Command entry) = Command entry
 value_of (line.Dump addr len) = Dump addr len
 value_of (line.Block block) = Block block
 
--- whether so many bytes from an address on lie in the memory: no bytes lie anywhere
+-- whether so many bytes from an address on lie in the memory; for no bytes any address will do
 abbrev pub lies_in : (memory addr len : ℕ) → Bool
 lies_in memory addr len = len == 0 || nat_le (addr + len) memory
 

@@ -33,7 +33,7 @@ pub enum Line {
 /// The most bytes that one `fill` line writes.
 const FILL_MAX: u64 = 131_072;
 
-/// Whether so many bytes from an address on lie in a memory of this size. No bytes lie anywhere.
+/// Whether so many bytes from an address on lie in a memory of this size. For no bytes any address will do.
 fn is_in(memory: u64, addr: u64, len: u64) -> bool
     ensures { result ≡ lies_in memory addr len }
 {
