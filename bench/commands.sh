@@ -9,6 +9,7 @@
 set -euo pipefail
 export LC_ALL=C
 
+# shellcheck source=bench/timing.sh
 source "$(dirname "$(readlink -f "$0")")/timing.sh"
 
 commands=${1:-2000}
@@ -66,6 +67,10 @@ measure() {
         fi
         awk -v name="$name" -v n="$n" -v took="$((took - none))" -v bytes="$bytes" 'BEGIN {
             seconds = took / 1000000000
+            if (seconds < 0.001) {
+                printf "%-34s %6d commands: too short to tell\n", name, n
+                exit
+            }
             printf "%-34s %6d commands: %7.3f s, %9.0f commands a second, %7.0f MiB a second\n",
                 name, n, seconds, n / seconds, n * bytes / seconds / 1048576
         }'

@@ -8,6 +8,7 @@
 set -euo pipefail
 export LC_ALL=C
 
+# shellcheck source=bench/timing.sh
 source "$(dirname "$(readlink -f "$0")")/timing.sh"
 
 lines=${1:-100000}

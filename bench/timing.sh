@@ -1,3 +1,4 @@
+# shellcheck shell=bash
 # What the benchmarks share, for `source`: the program, a folder for their files, and the time of a run.
 
 root=$(dirname "$(dirname "$(readlink -f "${BASH_SOURCE[0]}")")")

@@ -21,7 +21,7 @@ use Rattle.nv_model.specs.Reading.{Reading, Faulty, TooLong, Spells, run, unless
 use Rattle.nv_model.specs.Sgl.{Array, array_by, behind_own, fault_by, pieces_by, read_array, read_descriptor, read_sgl, segment_fault}
 use Rattle.nv_model.specs.Prp.{entry_fault, first_len, page, pages_of, read_entries, read_page, read_prp, read_prp2, slots_of}
 use Rattle.nv_model.specs.Judge.{field_refusal, has_blocks, has_buffer, is_read, judge, judge_by, judge_fields, judge_reading, read_buffer, read_by, read_source, transfer_len}
-use Rattle.nv_model.specs.Laws.{IsMappedPiece}
+use Rattle.nv_model.specs.Laws.{IsMappedPiece, still_wanted}
 use Rattle.nv_model.proofs.Endings.{EndsIn, EndsIn-any, OfPieces, and-false, first_failing-none, not-false}
 use Rattle.nv_model.proofs.Spelled.{AreOfLen}
 use Rattle.nv_model.proofs.Judged.{everywhere-at, read_buffer-of_len}
@@ -32,10 +32,10 @@ use Rattle.nv_model.proofs.Judged.{everywhere-at, read_buffer-of_len}
 abbrev pub IsMappedFrom : (ℕ → Bool) → (addr len : ℕ) → Type 0
 IsMappedFrom mapped addr len = (i : ℕ) → i < len → mapped (addr + i) ≡ true
 
--- what is asked for is mapped, whatever the bytes are
+-- what is asked for is mapped, and so is all that is still wanted there, whatever the bytes are
 abbrev pub AsksIn : {A : Type 0} → (ℕ → Bool) → Dialogue A → Type 0
 AsksIn mapped (End value) = ⊤
-AsksIn mapped (Ask addr unit left next) = IsMappedFrom mapped addr unit × ((bytes : List ℕ) → AsksIn mapped (next bytes))
+AsksIn mapped (Ask addr unit left next) = (IsMappedFrom mapped addr left × (unit ≤ left)) × ((bytes : List ℕ) → AsksIn mapped (next bytes))
 
 -- a part of what is mapped
 pub IsMappedFrom-part : (mapped : ℕ → Bool) (addr len at n : ℕ) → IsMappedFrom mapped addr len → addr ≤ at → at + n ≤ addr + len → IsMappedFrom mapped at n
@@ -48,7 +48,15 @@ pub asked-mapped : {A : Type 0} (mapped : ℕ → Bool) (memory : ℕ → ℕ) (
 unfolding asked
 asked-mapped mapped memory (End value) asks = All-nil (λ (s : ℕ × ℕ). IsMappedFrom mapped s.0 s.1)
 asked-mapped mapped memory (Ask addr unit left next) asks =
-    All-cons (λ (s : ℕ × ℕ). IsMappedFrom mapped s.0 s.1) (addr, unit) _ asks.0 (asked-mapped mapped memory (next _) (asks.1 _))
+    let here : IsMappedFrom mapped addr unit = λ i below. (let short = asks.0.1 in asks.0.0 i (omega arith)) in
+    All-cons (λ (s : ℕ × ℕ). IsMappedFrom mapped s.0 s.1) (addr, unit) _ here (asked-mapped mapped memory (next _) (asks.1 _))
+
+-- what is still wanted where it asks in a memory
+pub still_wanted-mapped : {A : Type 0} (mapped : ℕ → Bool) (memory : ℕ → ℕ) (d : Dialogue A) → AsksIn mapped d → All (λ (s : ℕ × ℕ). IsMappedFrom mapped s.0 s.1) (still_wanted memory d)
+unfolding still_wanted
+still_wanted-mapped mapped memory (End value) asks = All-nil (λ (s : ℕ × ℕ). IsMappedFrom mapped s.0 s.1)
+still_wanted-mapped mapped memory (Ask addr unit left next) asks =
+    All-cons (λ (s : ℕ × ℕ). IsMappedFrom mapped s.0 s.1) (addr, left) _ asks.0.0 (still_wanted-mapped mapped memory (next _) (asks.1 _))
 
 AsksIn-and_then : {A B : Type 0} (mapped : ℕ → Bool) (P : A → Type 0) (d : Dialogue A) (more : A → Dialogue B)
     → AsksIn mapped d → EndsIn P d → ((value : A) → P value → AsksIn mapped (more value)) → AsksIn mapped (and_then d more)
@@ -102,7 +110,7 @@ unfolding read_array
 read_array-asks mapped dest budget zero from by_last pieces each = tt
 read_array-asks mapped dest zero (suc left) from by_last pieces each = tt
 read_array-asks mapped dest (suc budget) (suc left) from by_last pieces each = (
-  IsMappedFrom-part mapped from (16 * suc left) from 16 each (omega arith) (omega arith),
+  (each, omega arith),
   λ d. read_descriptor-asks mapped dest (record { from = from + 16; left = left; by_last = by_last }) pieces
       (λ a ps. read_array mapped dest budget a.left a.from a.by_last ps) d
       (IsMappedFrom-part mapped from (16 * suc left) (from + 16) (16 * left) each (omega arith) (omega arith))
@@ -147,18 +155,18 @@ read_entries-asks mapped (suc pages) slots from bytes pieces some each =
     let slot_mapped = IsMappedFrom-part mapped from (8 * min slots (suc pages)) from 8 each (omega arith) (omega arith) in
     AsksIn-if mapped (slots == 1 && nat_lt 0 pages) _ _
     (λ _. (
-      slot_mapped,
+      (slot_mapped, omega arith),
       λ slot.
           AsksIn-unless_faulty mapped (entry_fault mapped page (number_at slot 0 8) (8 * min (page / 8) (suc pages))) _ (λ fine.
           let there = (entry_fault-mapped mapped page (number_at slot 0 8) (8 * min (page / 8) (suc pages)) fine).1 in (
-            IsMappedFrom-part mapped (number_at slot 0 8) (8 * min (page / 8) (suc pages)) (number_at slot 0 8) 8 there (omega arith) (omega arith),
+            (there, omega arith),
             λ entry. read_page-asks mapped bytes pieces _ (number_at entry 0 8) (λ ps.
                 read_entries-asks mapped pages (page / 8 - 1) (number_at slot 0 8 + 8) (bytes - page) ps (λ _. omega arith)
                 (IsMappedFrom-part mapped (number_at slot 0 8) (8 * min (page / 8) (suc pages)) (number_at slot 0 8 + 8) (8 * min (page / 8 - 1) pages) there (omega arith) (omega arith))),
           )),
     ))
     (λ more. (
-      slot_mapped,
+      (each, omega arith),
       λ entry. read_page-asks mapped bytes pieces _ (number_at entry 0 8) (λ ps.
           read_entries-asks mapped pages (slots - 1) (from + 8) (bytes - page) ps
           (λ left. let not_one = others-left slots pages more left in omega arith)
@@ -190,7 +198,7 @@ read_source-asks : (mapped : ℕ → Bool) (pieces : List Piece) (bytes : List �
 unfolding read_source
 read_source-asks mapped [] bytes each = tt
 read_source-asks mapped (Run addr len ∷ pieces) bytes each = (
-  λ i below. everywhere-at mapped addr len i (All-head (IsMappedPiece mapped) (Run addr len) pieces each) below,
+  (λ i below. everywhere-at mapped addr len i (All-head (IsMappedPiece mapped) (Run addr len) pieces each) below, omega arith),
   λ more. read_source-asks mapped pieces (bytes ++ more) (All-tail (IsMappedPiece mapped) (Run addr len) pieces each),
 )
 read_source-asks mapped (Bucket len ∷ pieces) bytes each = read_source-asks mapped pieces bytes (All-tail (IsMappedPiece mapped) (Bucket len) pieces each)

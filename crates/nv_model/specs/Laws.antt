@@ -6,6 +6,8 @@ use Rattle.nv_mem.specs.Places.{Place, At, Bucket}
 use Rattle.nv_mem.specs.declared.piece.Piece.{Piece}
 use Rattle.nv_mem.specs.declared.piece.Piece.TheVariants as piece
 use Rattle.nv_entry.specs.Status.{StatusField}
+use Rattle.nv_model.specs.Memory.{bytes_from}
+use Rattle.nv_model.specs.Dialogue.{Dialogue, End, Ask}
 use Rattle.nv_model.specs.Judge.{WorkUnit, OneBlock, AllBlocks, Work, block}
 use Rattle.nv_model.specs.Queue.{SubmissionQueue, CompletionQueue, ahead, cqe_size, sqe_size}
 use Rattle.nv_model.specs.Controller.{Controller, most_slots}
@@ -25,6 +27,11 @@ AgreeOn memory other spans = All (AgreeAt memory other) spans
 -- each of these addresses is mapped, from the first number on as many as the second says
 abbrev pub IsMappedSpan : (ℕ → Bool) → ℕ × ℕ → Type 0
 IsMappedSpan mapped span = (i : ℕ) → i < span.1 → mapped (span.0 + i) ≡ true
+
+-- what a dialogue with a memory still wants where it asks, in order: the address, and all that is left of the array or list page there
+unfoldable pub still_wanted : {A : Type 0} → (ℕ → ℕ) → Dialogue A → List (ℕ × ℕ)
+still_wanted memory (End value) = []
+still_wanted memory (Ask addr unit left next) = (addr, left) ∷ still_wanted memory (next (bytes_from memory addr unit))
 
 -- ---- verdicts
 

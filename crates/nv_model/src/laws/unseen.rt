@@ -3,12 +3,18 @@ ghost use Rattle.std.specs.Prelude.{◌≡◌, ℕ, List, All, Some};
 ghost use Rattle.nv_model.specs.Dialogue.{asked};
 ghost use Rattle.nv_model.specs.Judge.{judge};
 ghost use Rattle.nv_model.specs.Private.{After, Private, Run, Shape, Step, run_of, start, step};
-ghost use Rattle.nv_model.specs.Laws.{IsInPlace, IsMappedSpan, LookAlike, RunsAlike, StepsAlike};
+ghost use Rattle.nv_model.specs.Laws.{IsInPlace, IsMappedSpan, LookAlike, RunsAlike, StepsAlike, still_wanted};
 
 /// What the judging of a command reads is mapped, whatever the memory holds.
 pub fn judging_reads_mapped_memory()
     ensures { (shape : Shape) (memory : ℕ → ℕ) (entry : List ℕ) →
         All (IsMappedSpan shape.mapped) (asked memory (judge shape.mapped shape.limit shape.blocks entry)) }
+{}
+
+/// And so is all that it still wants where it reads, so that whoever reads for it may read whole parts.
+pub fn judging_wants_mapped_memory()
+    ensures { (shape : Shape) (memory : ℕ → ℕ) (entry : List ℕ) →
+        All (IsMappedSpan shape.mapped) (still_wanted memory (judge shape.mapped shape.limit shape.blocks entry)) }
 {}
 
 /// Queues lie in mapped memory, and commands work in mapped memory and in the namespace: so it is at the start, and so it stays.

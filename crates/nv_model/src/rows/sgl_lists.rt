@@ -47,3 +47,9 @@ pub fn a_bit_bucket_of_a_source_is_nothing()
 pub fn a_bit_bucket_of_a_destination_has_its_length()
     ensures { sgl_in zeros (bit_bucket 0xffffffff) ≡ Spells (Bucket 0xffffffff ∷ []) }
 {}
+
+/// One of length 0 names nothing.
+#[tactic(none)]
+pub fn a_bit_bucket_of_length_zero_is_nothing()
+    ensures { sgl_in zeros (bit_bucket 0) ≡ Spells [] }
+{}
