@@ -1,5 +1,5 @@
 -- Lemmas of a buffer that is one run, and of an SGL whose own descriptor is of the type of a Data Block
-use Rattle.std.proofs.Common.{◌≡◌, ℕ, zero, suc, ◌+◌, ◌<◌, ◌≤◌, Bool, true, false, not, ◌&&◌, ◌==◌, nat_lt, cond, Option, Some, None, List, [], ◌∷◌, ◌++◌, ◌⊎◌, inl, inr, length, take, drop, refl, sym, ap, subst, ◌∙◌, arith, append-nil}
+use Rattle.std.proofs.Common.{◌≡◌, ℕ, zero, suc, ◌+◌, ◌-◌, ◌<◌, ◌≤◌, Bool, true, false, not, ◌&&◌, ◌==◌, nat_lt, cond, Option, Some, None, List, [], ◌∷◌, ◌++◌, ◌⊎◌, inl, inr, length, take, drop, refl, sym, ap, subst, ◌∙◌, arith, append-nil}
 use Rattle.std.proofs.lemmas.Bool.Decides.{nat_tests}
 use Rattle.nv_entry.specs.Descriptor.{address_of, descriptor_type, length_of, subtype_of, type_of}
 use Rattle.nv_entry.specs.declared.descriptor_type.DescriptorType.{DescriptorType}
@@ -13,7 +13,9 @@ use Rattle.nv_entry.specs.declared.status_code.StatusCode.{StatusCode}
 use Rattle.nv_entry.specs.declared.status_code.StatusCode.TheVariants.{DataTransferError, InvalidField, InvalidNamespace, LbaOutOfRange, SglTypeInvalid}
 use Rattle.nv_mem.specs.Bytes.{after_store, bytes_at}
 use Rattle.nv_mem.specs.GuestMap.{everywhere, mapped}
-use Rattle.nv_mem.specs.Places.{Place, At, addresses, places_of}
+use Rattle.nv_mem.specs.Places.{Place, addresses, places_of}
+use Rattle.nv_mem.proofs.PlaceLists.{length-addresses}
+use Rattle.std.proofs.Math.Seq.{drop-append_seam, take-append_seam}
 use Rattle.nv_mem.specs.declared.piece.Piece.TheVariants.{Run}
 use Rattle.nv_ns.specs.BlockRange.{in_namespace}
 use Rattle.nv_model.specs.Dialogue.{Dialogue, End, and_then, in_memory}
@@ -24,57 +26,31 @@ use Rattle.nv_model.specs.Reading.{Reading, Faulty, Spells, first_failing, run, 
 use Rattle.nv_model.specs.Sgl.{array_by, behind_own, fault_by, pieces_by, read_array, read_sgl}
 use Rattle.nv_model.proofs.MemoryLemmas.{bytes_from-list, gathered-addresses, scattered-addresses, stored-list}
 use Rattle.nv_flat.specs.Flat.{byte_in, identity_map}
-use Rattle.nv_flat.proofs.BufferLemmas.{scattered-take}
+use Rattle.nv_flat.proofs.BufferLemmas.{gathered-run, run-split, scattered-run, scattered-take}
 use Rattle.nv_flat.proofs.VerdictLemmas.{verdict-listed}
 
 -- ---- its places
 
 -- part of consecutive addresses
-take-addresses : (addr len n : ℕ) → n ≤ len → take n (addresses addr len) ≡ addresses addr n
-unfolding addresses
-take-addresses addr len zero h = refl
-take-addresses addr zero (suc n) h = absurd (omega arith)
-take-addresses addr (suc len) (suc n) h =
-    ap (λ (places : List Place). At addr ∷ places) (take-addresses (addr + 1) len n (omega arith))
-
 pub take-drop-addresses : (addr len at n : ℕ) → at + n ≤ len → take n (drop at (addresses addr len)) ≡ addresses (addr + at) n
-unfolding addresses
-take-drop-addresses addr len zero n h =
-    let z : addr + 0 ≡ addr = omega arith in
-    rw z (take-addresses addr len n (omega arith))
-take-drop-addresses addr zero (suc at) n h =
-    let none : n ≡ 0 = omega arith in
-    absurd (omega arith)
-take-drop-addresses addr (suc len) (suc at) n h =
-    let rest = take-drop-addresses (addr + 1) len at n (omega arith) in
-    let e : addr + 1 + at ≡ addr + suc at = omega arith in
-    rw e at rest
+take-drop-addresses addr len at n within =
+    ap (λ (ps : List Place). take n (drop at ps)) (run-split addr len at (omega arith))
+    ∙ ap (take n) (behind (addresses addr at) (addresses (addr + at) (len - at)) at (length-addresses addr at))
+    ∙ ap (take n) (run-split (addr + at) (len - at) n (omega arith))
+    ∙ front (addresses (addr + at) n) (addresses (addr + at + n) (len - at - n)) n (length-addresses (addr + at) n)
+  where
+    behind : (xs ys : List Place) (k : ℕ) → length xs ≡ k → drop k (xs ++ ys) ≡ ys
+    behind xs ys k many = ap (λ (i : ℕ). drop i (xs ++ ys)) (sym many) ∙ drop-append_seam xs ys
 
--- bytes stored in a list are bytes scattered to their addresses
-scattered-run : (memory : List ℕ) (addr len at : ℕ) (bytes : List ℕ) → addr + len ≤ length memory → at + length bytes ≤ len
-    → byte_in (after_store memory (addr + at) bytes) ≡ scattered (byte_in memory) (take (length bytes) (drop at (addresses addr len))) bytes
-unfolding byte_in
-scattered-run memory addr len at bytes inside within =
-    let places = take-drop-addresses addr len at (length bytes) within in
-    sym (stored-list memory (addr + at) bytes (omega arith))
-    ∙ sym (scattered-addresses (byte_in memory) (addr + at) bytes)
-    ∙ ap (λ (ps : List Place). scattered (byte_in memory) ps bytes) (sym places)
-
--- bytes read from a list are the bytes gathered from their addresses
-gathered-run : (memory : List ℕ) (addr len at n : ℕ) → addr + len ≤ length memory → at + n ≤ len
-    → bytes_at memory (addr + at) n ≡ gathered (byte_in memory) (take n (drop at (addresses addr len)))
-unfolding byte_in
-gathered-run memory addr len at n inside within =
-    let places = take-drop-addresses addr len at n within in
-    sym (bytes_from-list memory (addr + at) n (omega arith))
-    ∙ sym (gathered-addresses (byte_in memory) (addr + at) n)
-    ∙ ap (gathered (byte_in memory)) (sym places)
+    front : (xs ys : List Place) (k : ℕ) → length xs ≡ k → take k (xs ++ ys) ≡ xs
+    front xs ys k many = ap (λ (i : ℕ). take i (xs ++ ys)) (sym many) ∙ take-append_seam xs ys
 
 -- bytes that a buffer of one run gets from one of its places on
 pub scattered-block : (memory : List ℕ) (addr len at : ℕ) (bytes : List ℕ) → addr + len ≤ length memory → length bytes ≡ 512 → at + 512 ≤ len
     → byte_in (after_store memory (addr + at) bytes) ≡ scattered (byte_in memory) (drop at (places_of (Run addr len ∷ []))) bytes
 scattered-block memory addr len at bytes inside sized within =
-    scattered-run memory addr len at bytes inside (omega arith)
+    scattered-run memory (addr + at) bytes (omega arith)
+    ∙ ap (λ (ps : List Place). scattered (byte_in memory) ps bytes) (sym (take-drop-addresses addr len at (length bytes) (omega arith)))
     ∙ scattered-take (byte_in memory) (length bytes) (drop at (addresses addr len)) bytes refl
     ∙ ap (λ (ps : List Place). scattered (byte_in memory) (drop at ps) bytes) (sym (append-nil (addresses addr len)))
 
@@ -82,7 +58,8 @@ scattered-block memory addr len at bytes inside sized within =
 pub gathered-block : (memory : List ℕ) (addr len at n : ℕ) → addr + len ≤ length memory → at + n ≤ len
     → bytes_at memory (addr + at) n ≡ gathered (byte_in memory) (take n (drop at (places_of (Run addr len ∷ []))))
 gathered-block memory addr len at n inside within =
-    gathered-run memory addr len at n inside within
+    gathered-run memory (addr + at) n (omega arith)
+    ∙ ap (gathered (byte_in memory)) (sym (take-drop-addresses addr len at n within))
     ∙ ap (λ (ps : List Place). gathered (byte_in memory) (take n (drop at ps))) (sym (append-nil (addresses addr len)))
 
 -- what lies wholly in the memory ends before its end
