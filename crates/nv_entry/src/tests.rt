@@ -85,6 +85,8 @@ fn reads_each_field_where_it_lies(rt: HostRuntime) {
     assert_eq!(rt; mixed.io_opcode(), None);
     assert_eq!(rt; mixed.admin_opcode(), None);
     assert_eq!(rt; (mixed.opcode(), mixed.fuse(), mixed.psdt()), (0xa1, 3, 2));
+    assert_eq!(rt; mixed.data_pointer(), DataPointer::Sgl);
+    assert_eq!(rt; DataPointer::of(3), DataPointer::Reserved);
     assert_eq!(rt; (mixed.cid(), mixed.nsid()), (0xbeef, 0x01020304));
     assert_eq!(rt; mixed.mptr(), 0x1020304050607080);
     assert_eq!(rt;
@@ -206,9 +208,19 @@ fn names_codes(rt: HostRuntime) {
             Some(IoOpcode::Flush),
             Some(AdminOpcode::DeleteIoSubmissionQueue),
         ),
+        (
+            0x01,
+            Some(IoOpcode::Write),
+            Some(AdminOpcode::CreateIoSubmissionQueue),
+        ),
         (0x02, Some(IoOpcode::Read), Some(AdminOpcode::GetLogPage)),
         (0x03, None, None),
         (0x04, None, Some(AdminOpcode::DeleteIoCompletionQueue)),
+        (
+            0x05,
+            Some(IoOpcode::Compare),
+            Some(AdminOpcode::CreateIoCompletionQueue),
+        ),
         (0x06, None, Some(AdminOpcode::Identify)),
         (0x08, Some(IoOpcode::WriteZeroes), Some(AdminOpcode::Abort)),
         (
@@ -216,6 +228,7 @@ fn names_codes(rt: HostRuntime) {
             Some(IoOpcode::DatasetManagement),
             Some(AdminOpcode::SetFeatures),
         ),
+        (0x0a, None, Some(AdminOpcode::GetFeatures)),
         (0x0b, None, None),
         (0x0c, None, Some(AdminOpcode::AsynchronousEventRequest)),
     ] {

@@ -1,4 +1,6 @@
--- What a command that its fields do not refuse needs, and the verdict of the fields
+-- What a command that its fields do not refuse needs, and the verdict of the fields: Base Specification 2.0, "Submission Queue Entry"
+-- (FUSE, OPC, NSID, PSDT), and NVM Command Set Specification 1.0, "Read command", "Write command", "Compare command", "Write Zeroes
+-- command" (SLBA, NLB, FUA) and "Dataset Management command" (NR). The order of the checks and DNR are the project's own (profile).
 use Rattle.std.specs.Prelude.{ℕ, ◌&&◌, ◌==◌, if◌then◌else◌, List, Option, Some, None, Result, Ok, Err}
 use Rattle.nv_entry.specs.Opcode.{io_opcode}
 use Rattle.nv_entry.specs.Submission.{opcode_of, fua_of}

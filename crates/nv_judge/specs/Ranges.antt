@@ -1,4 +1,6 @@
--- The verdict on the ranges of Dataset Management
+-- The verdict on the ranges of Dataset Management: NVM Command Set Specification 1.0, "Dataset Management command" (range
+-- definition) and "Status Values" (LBA Out of Range). That every range is checked, whatever is done with it, and DNR are the
+-- project's own (profile).
 use Rattle.std.specs.Prelude.{ℕ, ◌/◌, if◌then◌else◌, List, length, Result, Ok, Err}
 use Rattle.std.specs.List.{list_all}
 use Rattle.nv_entry.specs.Status.{StatusField}

@@ -1,5 +1,5 @@
--- What is built: PRP1, PRP2 and a list that name host addresses. The list stands in a page of its own, from the first slot on
--- (profile: PRP lets it begin at other slots, too).
+-- What is built: PRP1, PRP2 and a list that name host addresses: Base Specification 2.0, "Physical Region Page Entry and List". The
+-- list stands in a page of its own, from the first slot on (profile: PRP lets it begin at other slots, too).
 use Rattle.std.specs.Prelude.{◌≡◌, ℕ, ◌+◌, ◌-◌, ◌%◌, Bool, true, ◌==◌, List, [], ◌∷◌, ◌++◌, length, map, take, drop, replicate, slice_index}
 use Rattle.std.specs.Bool.{⊤}
 use Rattle.std.specs.List.{filter}

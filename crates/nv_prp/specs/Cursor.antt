@@ -1,4 +1,5 @@
--- Where a parse stands between two slots
+-- Where a parse stands between two slots of a list: Base Specification 2.0, "Physical Region Page Entry and List" (PRP list: the
+-- last slot of a list page points to the next one where more than one page is left)
 use Rattle.std.specs.Prelude.{ℕ, ◌+◌, ◌-◌, ◌*◌, ◌^◌, ◌<◌, ◌≤◌, min, Bool, ◌&&◌, ◌==◌, nat_lt, if◌then◌else◌, is_none, List, length}
 use Rattle.nv_mem.specs.declared.piece.Piece.{Piece}
 use Rattle.nv_mem.specs.declared.region.Region.{Region}

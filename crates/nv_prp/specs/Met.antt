@@ -1,4 +1,5 @@
--- What was met of a transfer, address by address, while it is built.
+-- What was met of a transfer, address by address, while it is built: Base Specification 2.0, "Physical Region Page Entry and List"
+-- (only the first entry may have an offset, so each later one is a page's start).
 use Rattle.std.specs.Prelude.{◌≡◌, ℕ, ◌-◌, ◌≤◌, List, [], ◌∷◌, ◌++◌, drop, replicate, Option, Some, None, unwrap_or}
 use Rattle.std.specs.List.{filter}
 use Rattle.nv_prp.specs.Built.{prps_of, starts_page}

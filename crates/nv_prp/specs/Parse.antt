@@ -1,4 +1,5 @@
--- What a parse of a list means: the dialogue that it has still to lead.
+-- What a parse of a list means: the dialogue that it has still to lead. The list's reading stands in nv_model: Base Specification
+-- 2.0, "Physical Region Page Entry and List".
 use Rattle.std.specs.Prelude.{ℕ, ◌+◌, ◌*◌, ◌==◌, if◌then◌else◌, List, Option, Some, None}
 use Rattle.nv_entry.specs.declared.status_code.StatusCode.{StatusCode}
 use Rattle.nv_mem.specs.declared.piece.Piece.{Piece}

@@ -1,4 +1,6 @@
 -- The descriptors that were read of a list, one list of them for each array, the newest array first. A descriptor is its 16 bytes.
+-- Which kinds of descriptor name an array, and which name bytes: Base Specification 2.0, "Scatter Gather List (SGL)" (Segment, Last
+-- Segment; Data Block, Bit Bucket). That what was read is kept, array by array, is the project's own (profile).
 use Rattle.std.specs.Prelude.{ℕ, ◌-◌, Bool, true, false, List, [], ◌∷◌, ◌++◌, length, slice_get, Option, Some, None, flat_map}
 use Rattle.std.specs.Option.{option_map_or}
 use Rattle.nv_entry.specs.Descriptor.{kind_of}

@@ -1,4 +1,5 @@
--- Where a parse stands between two descriptors
+-- Where a parse stands between two descriptors of an array: Base Specification 2.0, "Scatter Gather List (SGL)" (SGL segments). The
+-- limit on the descriptors that may still be read is the project's own (profile).
 use Rattle.std.specs.Prelude.{◌≡◌, ℕ, ◌+◌, ◌-◌, ◌*◌, ◌^◌, ◌<◌, ◌≤◌, Bool, ◌&&◌, nat_lt, List, ◌++◌, None, is_none}
 use Rattle.nv_entry.specs.Descriptor.{kind_of}
 use Rattle.nv_mem.specs.Places.{total_len}
