@@ -214,6 +214,8 @@ const WRITE_BY_SGL: u32 = 0x0007_4001;
 
 const READ_BY_SGL: u32 = 0x0007_4002;
 
+const COMPARE_BY_SGL: u32 = 0x0007_4005;
+
 /// A controller with 20000h bytes of memory and 64 blocks, of which block 5 is filled with 55h and block 6 with 66h.
 fn prepared(rt: &impl Abort, alloc: Global) -> Result<FlatController, Fail> {
     let mut controller = FlatController::new(alloc, 0x2_0000, 64)?;
@@ -234,6 +236,14 @@ fn filled(rt: &impl Abort, controller: &FlatController, addr: u64, byte: u8) -> 
     assert!(rt; controller.holds(addr, 512));
     controller.load(addr, &mut bytes);
     bytes.iter().all(|b| *b == byte)
+}
+
+/// Whether these bytes stand at an address.
+fn holds_bytes(rt: &impl Abort, controller: &FlatController, addr: u64, want: &[u8; 512]) -> bool {
+    let mut bytes = [0; 512];
+    assert!(rt; controller.holds(addr, 512));
+    controller.load(addr, &mut bytes);
+    bytes == *want
 }
 
 /// Runs a command and gives the last dword of its completion.
@@ -280,47 +290,120 @@ fn delivers_through_a_chain(rt: HostRuntime) -> Result<(), Fail> {
 
 #[test]
 fn discards_into_a_bit_bucket(rt: HostRuntime) -> Result<(), Fail> {
-    let mut controller = prepared(&rt, rt.alloc())?;
-    put(
-        &rt,
-        &mut controller,
-        0x6000,
-        &descriptor(BIT_BUCKET, 0, 512),
-    );
-    put(
-        &rt,
-        &mut controller,
-        0x6010,
-        &descriptor(DATA_BLOCK, 0x3000, 512),
-    );
-    let sqe = through_last_segment(&rt, READ_BY_SGL);
-    assert_eq!(rt; last_dword(&mut controller, rt.alloc(), &sqe)?, 0x0001_0007);
-    assert!(rt; filled(&rt, &controller, 0x3000, 0x66) && filled(&rt, &controller, 0x3200, 0));
+    let bucket = descriptor(BIT_BUCKET, 0, 512);
+    let block = descriptor(DATA_BLOCK, 0x3000, 512);
+    // a bucket is nothing for a source: then the list names half the bytes
+    for (first_dword, first, second, want, delivered) in [
+        (READ_BY_SGL, bucket, block, 0x0001_0007, 0x66),
+        (READ_BY_SGL, block, bucket, 0x0001_0007, 0x55),
+        (WRITE_BY_SGL, block, bucket, 0x801f_0007, 0),
+    ] {
+        let mut controller = prepared(&rt, rt.alloc())?;
+        put(&rt, &mut controller, 0x6000, &first);
+        put(&rt, &mut controller, 0x6010, &second);
+        let sqe = through_last_segment(&rt, first_dword);
+        assert_eq!(rt; last_dword(&mut controller, rt.alloc(), &sqe)?, want);
+        assert!(rt;
+            filled(&rt, &controller, 0x3000, delivered) && filled(&rt, &controller, 0x3200, 0)
+        );
+        assert!(rt; block_is(&rt, &controller, 5, 0x55) && block_is(&rt, &controller, 6, 0x66));
+    }
+    Ok(())
+}
 
-    // first block delivered, second discarded
-    let mut controller = prepared(&rt, rt.alloc())?;
-    put(
-        &rt,
-        &mut controller,
-        0x6000,
-        &descriptor(DATA_BLOCK, 0x3000, 512),
-    );
-    put(
-        &rt,
-        &mut controller,
-        0x6010,
-        &descriptor(BIT_BUCKET, 0, 512),
-    );
-    assert_eq!(rt; last_dword(&mut controller, rt.alloc(), &sqe)?, 0x0001_0007);
-    assert!(rt; filled(&rt, &controller, 0x3000, 0x55) && filled(&rt, &controller, 0x3200, 0));
+/// Where the pieces of one block lie, and the first byte of the block that each has: 100, 300 and 112 bytes.
+const PARTS: [(u64, u8, usize); 3] = [(0x3000, 0, 100), (0x4001, 100, 300), (0x5002, 144, 112)];
 
-    // a bucket is nothing for a source: the list names half the bytes
-    let write = through_last_segment(&rt, WRITE_BY_SGL);
-    assert_eq!(rt;
-        last_dword(&mut controller, rt.alloc(), &write)?,
-        0x801f_0007
-    );
-    assert!(rt; block_is(&rt, &controller, 5, 0x55) && block_is(&rt, &controller, 6, 0x66));
+/// `len` bytes that count up from this one, and begin again behind 255.
+fn counting(rt: &impl Abort, from: u8, len: usize, out: &mut [u8; 512]) {
+    assert!(rt; len <= 512);
+    let mut next = from;
+    for byte in &mut out[..len] {
+        *byte = next;
+        next = next.wrapping_add(1);
+    }
+}
+
+/// Puts the counting bytes of one block into its pieces.
+fn put_parts(rt: &impl Abort, controller: &mut FlatController) {
+    for (addr, from, len) in PARTS {
+        let mut bytes = [0; 512];
+        assert!(rt; len <= 512);
+        counting(rt, from, len, &mut bytes);
+        put(rt, controller, addr, &bytes[..len]);
+    }
+}
+
+/// A command on block 5 through three pieces that part inside the block, of which the middle one has this kind.
+fn through_parts(
+    rt: &impl Abort,
+    controller: &mut FlatController,
+    first_dword: u32,
+    kind: u32,
+) -> Sqe {
+    put(rt, controller, 0x6000, &descriptor(DATA_BLOCK, 0x3000, 100));
+    put(rt, controller, 0x6010, &descriptor(kind, 0x4001, 300));
+    put(rt, controller, 0x6020, &descriptor(DATA_BLOCK, 0x5002, 112));
+    let changes = [(0, first_dword), (6, 0x6000), (8, 48), (9, LAST_SEGMENT)];
+    changed(rt, READ, &changes)
+}
+
+/// A prepared controller whose block 5 was written from the three pieces.
+fn written_by_parts(rt: &impl Abort, alloc: Global) -> Result<FlatController, Fail> {
+    let mut controller = prepared(rt, alloc)?;
+    put_parts(rt, &mut controller);
+    let write = through_parts(rt, &mut controller, WRITE_BY_SGL, DATA_BLOCK);
+    assert_eq!(rt; last_dword(&mut controller, alloc, &write)?, 0x0001_0007);
+    Ok(controller)
+}
+
+#[test]
+fn writes_pieces_that_part_inside_a_block(rt: HostRuntime) -> Result<(), Fail> {
+    let controller = written_by_parts(&rt, rt.alloc())?;
+    let mut want = [0; 512];
+    counting(&rt, 0, 512, &mut want);
+    assert!(rt; controller.blocks() == 64);
+    assert_eq!(rt; *controller.block(5), want);
+    assert!(rt; block_is(&rt, &controller, 6, 0x66));
+    Ok(())
+}
+
+#[test]
+fn compares_pieces_that_part_inside_a_block(rt: HostRuntime) -> Result<(), Fail> {
+    // where a byte is changed, and the last dword: behind the first piece, the ends of the second, behind it
+    for (addr, want) in [
+        (0x3064, 0x0001_0007),
+        (0x4001, 0x050b_0007),
+        (0x412c, 0x050b_0007),
+        (0x412d, 0x0001_0007),
+    ] {
+        let mut controller = written_by_parts(&rt, rt.alloc())?;
+        put(&rt, &mut controller, addr, &[0xee]);
+        let compare = through_parts(&rt, &mut controller, COMPARE_BY_SGL, DATA_BLOCK);
+        assert_eq!(rt; last_dword(&mut controller, rt.alloc(), &compare)?, want);
+    }
+    Ok(())
+}
+
+#[test]
+fn reads_around_a_bucket_inside_a_block(rt: HostRuntime) -> Result<(), Fail> {
+    // a page, where its piece begins, the first byte that it gets, and how many: none for the bucket's
+    for (page, addr, from, len) in [
+        (0x3000, 0x3000, 0, 100),
+        (0x4000, 0x4001, 100, 0),
+        (0x5000, 0x5002, 144, 112),
+    ] {
+        let mut controller = written_by_parts(&rt, rt.alloc())?;
+        put(&rt, &mut controller, page, &[0; 1024]);
+        let read = through_parts(&rt, &mut controller, READ_BY_SGL, BIT_BUCKET);
+        assert_eq!(rt;
+            last_dword(&mut controller, rt.alloc(), &read)?,
+            0x0001_0007
+        );
+        let mut want = [0; 512];
+        counting(&rt, from, len, &mut want);
+        assert!(rt; holds_bytes(&rt, &controller, addr, &want));
+    }
     Ok(())
 }
 

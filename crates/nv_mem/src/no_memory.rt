@@ -34,8 +34,8 @@ mod tests {
 
     #[test]
     fn comes_of_the_errors_of_the_library(rt: HostRuntime) -> Result<(), Fail> {
-        assert_eq!(rt; NoMemory::from(AllocError), NoMemory);
-        let text = format!(in rt.alloc(); "{NoMemory}")?;
+        let error = NoMemory::from(AllocError);
+        let text = format!(in rt.alloc(); "{error}")?;
         assert_eq!(rt; text.as_str(), "no memory");
         Ok(())
     }

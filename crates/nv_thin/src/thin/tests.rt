@@ -96,6 +96,21 @@ fn alike<A: One, B: One>(rt: &impl Abort, one: &A, other: &B) -> bool {
     one.memory_len() == other.memory_len() && one.blocks() == other.blocks()
 }
 
+/// Whether what is not the guest's stands as it did at first: all zeros and no mark, but for the first bounce page.
+fn rest_is_untouched(rt: &impl Abort, thin: &Thin) -> bool {
+    let mut bytes = [0xff; 4096];
+    for page in 0..33u64 {
+        assert!(rt; thin.host.len() >= 135_168);
+        thin.host.load(4096 * page, &mut bytes);
+        if page != 1 && !bytes.iter().all(|byte| *byte == 0) {
+            return false;
+        }
+    }
+    thin.disk.iter().take(1000).all(|block| *block == [0; 512])
+        && thin.kept.iter().take(1000).all(|kept| !kept)
+        && thin.disk.len() == 1064
+}
+
 #[test]
 fn is_the_flat_controller_to_its_guest(rt: HostRuntime) -> Result<(), Fail> {
     let mut flat: FlatController = painted(&rt)?;
@@ -131,6 +146,7 @@ fn is_the_flat_controller_to_its_guest(rt: HostRuntime) -> Result<(), Fail> {
         assert_eq!(rt; dword_three(&rt, &mut flat, &sqe)?, want, "{changes:?}");
         assert_eq!(rt; dword_three(&rt, &mut thin, &sqe)?, want, "{changes:?}");
         assert!(rt; alike(&rt, &flat, &thin), "{changes:?}");
+        assert!(rt; rest_is_untouched(&rt, &thin), "{changes:?}");
     }
     Ok(())
 }
@@ -158,6 +174,7 @@ fn answers_internal_error_to_what_it_does_not_bounce(rt: HostRuntime) -> Result<
         let sqe = changed(&rt, changes);
         assert_eq!(rt; dword_three(&rt, &mut thin, &sqe)?, want, "{changes:?}");
         assert!(rt; alike(&rt, &untouched, &thin), "{changes:?}");
+        assert!(rt; rest_is_untouched(&rt, &thin), "{changes:?}");
     }
     Ok(())
 }
