@@ -1,12 +1,12 @@
 -- What lies behind the mediator's own, as lists
 use Rattle.std.proofs.Common.{◌≡◌, ℕ, zero, suc, ◌+◌, ◌-◌, ◌%◌, ◌^◌, ◌<◌, ◌≤◌, Bool, false, ◌==◌, None, List, [], ◌∷◌, length, take, drop, set, replicate, refl, sym, ap, ◌∙◌, arith}
 use Rattle.std.proofs.lemmas.Bool.Decides.{nat_tests}
-use Rattle.std.proofs.lemmas.List.{drop-replicate, drop-set-add, length-drop}
+use Rattle.std.proofs.lemmas.List.{drop-replicate, drop-set-add, length-drop, length-replicate, take-replicate}
 use Rattle.std.proofs.Math.Seq.{drop-nil}
 use Rattle.nv_mem.specs.Bytes.{after_store, bytes_at}
 use Rattle.nv_mem.specs.GuestMap.{Mapping, refusal_of}
 use Rattle.nv_flat.specs.Flat.{Flat, flat}
-use Rattle.nv_thin.specs.Thin.{IsBehind, first_block, guest_start, guests_view}
+use Rattle.nv_thin.specs.Thin.{IsBehind, first_block, guest_start, guests_view, map_behind}
 
 -- the sizes of what the guest sees
 pub record Sizes (host : List ℕ) (disk : List (List ℕ)) (kept : List Bool) (v : Flat) : Type 0 where
@@ -29,6 +29,39 @@ sizes host map disk kept v seen b =
       blocks = omega arith;
       marks = omega arith;
       marked = marked;
+    }
+
+-- parts as large as before fit, where the blocks before the guest's are the same
+pub behind-same : (host host' : List ℕ) (map : Mapping) (disk disk' : List (List ℕ)) (kept kept' : List Bool) → IsBehind host map disk kept
+    → length host' ≡ length host → length disk' ≡ length disk → length kept' ≡ length kept
+    → take 1000 disk' ≡ take 1000 disk → take 1000 kept' ≡ take 1000 kept → IsBehind host' map disk' kept'
+behind-same host host' map disk disk' kept kept' b hosts disks marks blocks_same marks_same =
+    let room : 135168 ≤ length host = b.room in
+    let range : 1000 ≤ length disk = b.range in
+    record {
+      room = omega (arith, room, hosts);
+      mapped = b.mapped ∙ ap map_behind (sym hosts);
+      range = omega (arith, range, disks);
+      marked = marks ∙ b.marked ∙ sym disks;
+      blocks_before = blocks_same ∙ b.blocks_before;
+      marks_before = marks_same ∙ b.marks_before;
+    }
+
+-- the parts as they are made
+pub behind-new : (host : List ℕ) (map : Mapping) (disk : List (List ℕ)) (kept : List Bool) (memory_len blocks : ℕ)
+    → host ≡ replicate (135168 + memory_len) 0 → map ≡ map_behind (135168 + memory_len)
+    → disk ≡ replicate (1000 + blocks) (replicate 512 0) → kept ≡ replicate (1000 + blocks) false → IsBehind host map disk kept
+behind-new host map disk kept memory_len blocks host_is map_is disk_is kept_is =
+    let hosts : length host ≡ 135168 + memory_len = ap length host_is ∙ length-replicate (135168 + memory_len) 0 in
+    let disks : length disk ≡ 1000 + blocks = ap length disk_is ∙ length-replicate (1000 + blocks) (replicate 512 0) in
+    let marks : length kept ≡ 1000 + blocks = ap length kept_is ∙ length-replicate (1000 + blocks) false in
+    record {
+      room = omega (arith, hosts);
+      mapped = map_is ∙ ap map_behind (sym hosts);
+      range = omega (arith, disks);
+      marked = marks ∙ sym disks;
+      blocks_before = ap (take 1000) disk_is ∙ take-replicate 1000 (1000 + blocks) (replicate 512 0) (omega arith);
+      marks_before = ap (take 1000) kept_is ∙ take-replicate 1000 (1000 + blocks) false (omega arith);
     }
 
 -- bytes stored behind an offset

@@ -1,5 +1,5 @@
 -- The thin mediated path: where a guest's memory and blocks lie behind the mediator's own, which commands go, and the physical entry
-use Rattle.std.specs.Prelude.{◌≡◌, ℕ, ◌+◌, ◌-◌, ◌/◌, ◌%◌, ◌^◌, ◌≤◌, Bool, true, false, not, ◌&&◌, ◌==◌, nat_le, if◌then◌else◌, List, [], ◌∷◌, length, drop, Option, Some, None}
+use Rattle.std.specs.Prelude.{◌≡◌, ℕ, ◌+◌, ◌-◌, ◌/◌, ◌%◌, ◌^◌, ◌≤◌, Bool, true, false, not, ◌&&◌, ◌==◌, nat_le, if◌then◌else◌, List, [], ◌∷◌, length, drop, replicate, take, Option, Some, None}
 use Rattle.nv_entry.specs.Descriptor.{type_of}
 use Rattle.nv_entry.specs.Layout.{bytes_of_dwords}
 use Rattle.nv_entry.specs.Opcode.{io_opcode}
@@ -36,12 +36,19 @@ guests_view host disk kept = flat (drop guest_start host) (drop first_block disk
 abbrev pub map_behind : (size : ℕ) → Mapping
 map_behind size = record { host_len = size; regions = record { guest = 0; host = guest_start; len = size - guest_start } ∷ [] }
 
--- the parts fit: there is room for the mediator's own, the map is the guest's, and each block has a mark
+-- the first `n` elements are the same in both lists, up to the element `end`
+abbrev pub IsSameBefore : {A : Type 0} → (end : ℕ) → (new old : List A) → Type 0
+IsSameBefore end new old = (n : ℕ) → n ≤ end → take n new ≡ take n old
+
+-- the parts fit: there is room for the mediator's own, the map is the guest's, each block has a mark, and the blocks before the guest's
+-- are as they were made: zeros, and not marked
 pub record IsBehind (host : List ℕ) (map : Mapping) (disk : List (List ℕ)) (kept : List Bool) : Type 0 where
   pub room : guest_start ≤ length host
   pub mapped : map ≡ map_behind (length host)
   pub range : first_block ≤ length disk
   pub marked : length kept ≡ length disk
+  pub blocks_before : take first_block disk ≡ replicate first_block (replicate 512 0)
+  pub marks_before : take first_block kept ≡ replicate first_block false
 
 -- `count` bytes copied from one address of a memory to another
 abbrev pub copied : (from to count : ℕ) → Moved → Moved

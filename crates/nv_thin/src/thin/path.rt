@@ -14,7 +14,7 @@ ghost use Rattle.nv_model.specs.Reading.{Faulty, Spells};
 ghost use Rattle.nv_model.specs.Sgl.{read_sgl};
 ghost use Rattle.nv_flat.specs.Flat.{block_work, byte_in, flat, identity_map, moved_of, units_from};
 ghost use Rattle.nv_flat.specs.One.{IsDone};
-ghost use Rattle.nv_thin.specs.Thin.{bounce_page, copied, first_block, goes_through};
+ghost use Rattle.nv_thin.specs.Thin.{IsSameBefore, bounce_page, copied, first_block, goes_through};
 
 use crate::thin::physical::{self, BLOCK};
 use crate::thin::{FIRST_BLOCK, GUEST_START, Thin, bounce};
@@ -143,6 +143,8 @@ fn read_through(
     requires marks { length kept.old ≡ length disk.old }
     ensures moved { moved_of (flat host.new disk.new kept.new) false ≡ copied bounce_page memory (512 * (nlb + 1))
         (units_moved (units_from 0 slba (nlb + 1)) (block_work IoOpcode.Read (piece.Run bounce_page 4096 ∷ []) fua) (moved_of (flat host.old disk.old kept.old) false)) }
+    ensures blocks_before { IsSameBefore slba disk.new disk.old }
+    ensures marks_before { IsSameBefore slba kept.new kept.old }
     ensures size { length host.new ≡ length host.old }
 {
     let bytes = physical::entry(IoOpcode::Read, slba, nlb, fua);
@@ -169,6 +171,8 @@ fn write_through(
     ensures moved { moved_of (flat host.new disk.new kept.new) false ≡
         units_moved (units_from 0 slba (nlb + 1)) (block_work IoOpcode.Write (piece.Run bounce_page 4096 ∷ []) fua)
         (copied memory bounce_page (512 * (nlb + 1)) (moved_of (flat host.old disk.old kept.old) false)) }
+    ensures blocks_before { IsSameBefore slba disk.new disk.old }
+    ensures marks_before { IsSameBefore slba kept.new kept.old }
     ensures size { length host.new ≡ length host.old }
 {
     bounce::copy(host, memory, PAGE, 512 * (u64::from(nlb) + 1));

@@ -8,7 +8,7 @@ ghost use Rattle.nv_mem.specs.declared.piece.Piece.TheVariants.{Run};
 ghost use Rattle.nv_model.specs.Carried.{moved_on, units_moved};
 ghost use Rattle.nv_model.specs.Judge.{OneBlock, count_of};
 ghost use Rattle.nv_flat.specs.Flat.{block_work, flat, moved_of, units_from};
-ghost use Rattle.nv_thin.specs.Thin.{IsPhysical, carried, physical_entry};
+ghost use Rattle.nv_thin.specs.Thin.{IsPhysical, IsSameBefore, carried, physical_entry};
 
 use byteorder::{ByteOrder, LittleEndian};
 use nv_entry::{IoOpcode, Sqe};
@@ -68,6 +68,8 @@ pub(crate) fn carry_out(entry: &Sqe, host: &mut Host, disk: &mut [[u8; BLOCK]], 
     requires marks { length kept.old ≡ length disk.old }
     ensures moved { moved_of (flat host.new disk.new kept.new) false ≡
         carried (io_opcode (opcode_of entry.now)) entry.now (moved_of (flat host.old disk.old kept.old) false) }
+    ensures blocks_before { IsSameBefore (slba_of entry.now) disk.new disk.old }
+    ensures marks_before { IsSameBefore (slba_of entry.now) kept.new kept.old }
     ensures size { length host.new ≡ length host.old }
 {
     let page = entry.prp1();
@@ -96,6 +98,7 @@ fn read_blocks(
     requires marks { length kept.old ≡ length disk.now }
     ensures moved { moved_of (flat host.new disk.now kept.new) false ≡
         units_moved (units_from 0 slba count) (block_work IoOpcode.Read (Run page 4096 ∷ []) fua) (moved_of (flat host.old disk.now kept.old) false) }
+    ensures marks_before { IsSameBefore slba kept.new kept.old }
     ensures size { length host.new ≡ length host.old }
 {
     for index in 0..count {
@@ -119,6 +122,7 @@ fn read_block(
     requires marks { length kept.old ≡ length disk.now }
     ensures moved { moved_of (flat host.new disk.now kept.new) false ≡
         moved_on (OneBlock index lba) (block_work IoOpcode.Read (Run page 4096 ∷ []) fua) (moved_of (flat host.old disk.now kept.old) false) }
+    ensures marks_before { IsSameBefore lba kept.new kept.old }
     ensures size { length host.new ≡ length host.old }
 {
     let _size = host.len();
@@ -142,8 +146,10 @@ fn write_blocks(
     requires count { count ≤ 8 }
     requires blocks { slba + count ≤ length disk.old }
     requires marks { length kept.old ≡ length disk.old }
-    ensures { moved_of (flat host.now disk.new kept.new) false ≡
+    ensures moved { moved_of (flat host.now disk.new kept.new) false ≡
         units_moved (units_from 0 slba count) (block_work IoOpcode.Write (Run page 4096 ∷ []) fua) (moved_of (flat host.now disk.old kept.old) false) }
+    ensures blocks_before { IsSameBefore slba disk.new disk.old }
+    ensures marks_before { IsSameBefore slba kept.new kept.old }
 {
     for index in 0..count {
         write_block(host, disk, kept, page, index, slba + index, fua);
@@ -164,8 +170,10 @@ fn write_block(
     requires index { index < 8 }
     requires block { lba < length disk.old }
     requires marks { length kept.old ≡ length disk.old }
-    ensures { moved_of (flat host.now disk.new kept.new) false ≡
+    ensures moved { moved_of (flat host.now disk.new kept.new) false ≡
         moved_on (OneBlock index lba) (block_work IoOpcode.Write (Run page 4096 ∷ []) fua) (moved_of (flat host.now disk.old kept.old) false) }
+    ensures blocks_before { IsSameBefore lba disk.new disk.old }
+    ensures marks_before { IsSameBefore lba kept.new kept.old }
 {
     let _size = host.len();
     host.load(page + 512 * index, &mut disk[lba as usize]);

@@ -1,11 +1,11 @@
-use Rattle.std.proofs.Common.{◌≡◌, ◌∙◌, ◌+◌, ℕ, Bool, List, sym, ap, length, false, arith}
+use Rattle.std.proofs.Common.{◌≡◌, ◌∙◌, ◌+◌, ℕ, Bool, List, ◌≤◌, sym, ap, subst, take, length, false, arith}
 use Rattle.std.specs.Vec.{with_items}
 use Rattle.std.proofs.lemmas.List.{length-drop, with_items_is}
 use Rattle.nv_entry.specs.Descriptor.{address_of}
 use Rattle.nv_entry.specs.Submission.{sgl_of, slba_of}
 use Rattle.nv_flat.specs.Flat.{moved_of}
-use Rattle.nv_thin.specs.Thin.{guests_view}
-use Rattle.nv_thin.proofs.BehindLemmas.{sizes}
+use Rattle.nv_thin.specs.Thin.{IsBehind, guests_view}
+use Rattle.nv_thin.proofs.BehindLemmas.{behind-same, sizes}
 use Rattle.nv_thin.proofs.ThroughMoves.{IsTranslated, read-seen, write-seen}
 use Rattle.nv_thin.proofs.thin.Thin.move_blocks.Goals as goal
 
@@ -104,3 +104,33 @@ returns-else-need-clause-disk_size c =
     let disk = with_items_is c.self.inside.disk c.write_through.new.disk disk_size in
     let e = length-drop 1000 (with_items c.self.inside.disk c.write_through.new.disk).items in
     omega (arith, e, ap length disk, c.write_through.auto.disk, ap length c.deref_mut-else-need.ensures.value)
+
+pub invariant_of-self : goal.invariant_of-self
+invariant_of-self c =
+    let start : 1000 ≤ c.args.slba = omega (arith, c.requires.translated) in
+    let disks : length c.read_through.new.disk ≡ length c.self.inside.disk.items = omega (arith, c.read_through.auto.disk, ap length c.deref_mut.ensures.value) in
+    let disk = with_items_is c.self.inside.disk c.read_through.new.disk (omega (arith, disks, c.self.inside.disk.ok.0)) in
+    let marks : length c.read_through.new.kept ≡ length c.self.inside.kept.items = omega (arith, c.read_through.auto.kept, ap length c.deref_mut-then-need.ensures.value) in
+    let kept = with_items_is c.self.inside.kept c.read_through.new.kept (omega (arith, marks, c.self.inside.kept.ok.0)) in
+    let whole = behind-same c.self.inside.host c.read_through.new.host c.self.inside.map c.self.inside.disk.items c.read_through.new.disk c.self.inside.kept.items c.read_through.new.kept
+    c.self.invariant c.read_through.ensures.size disks marks
+    (c.read_through.ensures.blocks_before 1000 start ∙ ap (take 1000) c.deref_mut.ensures.value)
+    (c.read_through.ensures.marks_before 1000 start ∙ ap (take 1000) c.deref_mut-then-need.ensures.value)
+    in
+    subst (λ (d : List (List ℕ)). IsBehind c.read_through.new.host c.self.inside.map d (with_items c.self.inside.kept c.read_through.new.kept).items) (sym disk)
+    (subst (λ (k : List Bool). IsBehind c.read_through.new.host c.self.inside.map c.read_through.new.disk k) (sym kept) whole)
+
+pub invariant_of-self-else-need : goal.invariant_of-self-else-need
+invariant_of-self-else-need c =
+    let start : 1000 ≤ c.args.slba = omega (arith, c.requires.translated) in
+    let disks : length c.write_through.new.disk ≡ length c.self.inside.disk.items = omega (arith, c.write_through.auto.disk, ap length c.deref_mut-else-need.ensures.value) in
+    let disk = with_items_is c.self.inside.disk c.write_through.new.disk (omega (arith, disks, c.self.inside.disk.ok.0)) in
+    let marks : length c.write_through.new.kept ≡ length c.self.inside.kept.items = omega (arith, c.write_through.auto.kept, ap length c.deref_mut-else-need-2.ensures.value) in
+    let kept = with_items_is c.self.inside.kept c.write_through.new.kept (omega (arith, marks, c.self.inside.kept.ok.0)) in
+    let whole = behind-same c.self.inside.host c.write_through.new.host c.self.inside.map c.self.inside.disk.items c.write_through.new.disk c.self.inside.kept.items c.write_through.new.kept
+    c.self.invariant c.write_through.ensures.size disks marks
+    (c.write_through.ensures.blocks_before 1000 start ∙ ap (take 1000) c.deref_mut-else-need.ensures.value)
+    (c.write_through.ensures.marks_before 1000 start ∙ ap (take 1000) c.deref_mut-else-need-2.ensures.value)
+    in
+    subst (λ (d : List (List ℕ)). IsBehind c.write_through.new.host c.self.inside.map d (with_items c.self.inside.kept c.write_through.new.kept).items) (sym disk)
+    (subst (λ (k : List Bool). IsBehind c.write_through.new.host c.self.inside.map c.write_through.new.disk k) (sym kept) whole)

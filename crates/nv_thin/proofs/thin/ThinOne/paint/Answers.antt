@@ -1,7 +1,7 @@
-use Rattle.std.proofs.Common.{replicate, arith}
+use Rattle.std.proofs.Common.{◌+◌, replicate, refl, arith}
 use Rattle.std.proofs.Math.ListN.{length-set}
-use Rattle.std.proofs.lemmas.List.{length-drop}
-use Rattle.nv_thin.proofs.BehindLemmas.{guests_view-set, sizes}
+use Rattle.std.proofs.lemmas.List.{length-drop, take-set-le}
+use Rattle.nv_thin.proofs.BehindLemmas.{behind-same, guests_view-set, sizes}
 use Rattle.nv_thin.proofs.thin.ThinOne.paint.Goals as goal
 
 pub overflow_add-block : goal.overflow_add-block
@@ -23,3 +23,9 @@ pub returns-clause-disk_size : goal.returns-clause-disk_size
 returns-clause-disk_size c =
     let s = sizes c.self.inside.host c.self.inside.map c.self.inside.disk.items c.self.inside.kept.items c.args.self.now c.self.view_is c.self.invariant in
     simp (length-drop, length-set) (omega arith)
+
+pub invariant_of-self : goal.invariant_of-self
+invariant_of-self c =
+    behind-same c.self.inside.host c.self.inside.host c.self.inside.map c.self.inside.disk.items _ c.self.inside.kept.items c.self.inside.kept.items
+    c.self.invariant refl (length-set c.self.inside.disk.items (1000 + c.args.block) _) refl
+    (take-set-le 1000 c.self.inside.disk.items (1000 + c.args.block) _ (omega arith)) refl

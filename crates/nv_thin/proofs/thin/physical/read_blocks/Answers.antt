@@ -3,11 +3,13 @@ use Rattle.nv_flat.proofs.MoveLemmas.{blocks-end, blocks-step}
 use Rattle.nv_thin.proofs.thin.physical.read_blocks.Goals as goal
 
 pub loop-index-preserved : goal.loop-index-preserved
-loop-index-preserved c = (
-  c.read_block.ensures.size ∙ c.loop-index.invariant.0,
-  blocks-step _ _ _ _ c.loop-index.index c.args.slba c.args.count (omega arith) c.read_block.ensures.moved c.loop-index.invariant.1,
-)
+loop-index-preserved c =
+    let (size, marks, moved) = c.loop-index.invariant in (
+      c.read_block.ensures.size ∙ size,
+      (λ n below. c.read_block.ensures.marks_before n (omega (arith, below)) ∙ marks n below),
+      blocks-step _ _ _ _ c.loop-index.index c.args.slba c.args.count (omega arith) c.read_block.ensures.moved moved,
+    )
 
 pub returns-clause-moved : goal.returns-clause-moved
 returns-clause-moved c =
-    blocks-end _ _ _ c.loop-index.index c.args.slba c.args.count (omega arith) c.loop-index.invariant.1
+    blocks-end _ _ _ c.loop-index.index c.args.slba c.args.count (omega arith) c.loop-index.invariant.2

@@ -5,8 +5,8 @@ use Rattle.nv_flat.proofs.MoveLemmas.{write-moved}
 use Rattle.nv_thin.proofs.OneRunLemmas.{gathered-block}
 use Rattle.nv_thin.proofs.thin.physical.write_block.Goals as goal
 
-pub returns : goal.returns
-returns c =
+pub returns-clause-moved : goal.returns-clause-moved
+returns-clause-moved c =
     let sized = c.told-disk c.args.lba c.requires.block in
     write-moved c.args.host.now c.args.disk.now c.args.kept.now (drop (512 * c.args.index) (places_of (Run c.args.page 4096 ∷ []))) c.args.index c.args.lba
     c.load.new.out c.args.fua c.requires.block (omega arith)
