@@ -1,10 +1,11 @@
 -- What lies behind the mediator's own, as lists
-use Rattle.std.proofs.Common.{◌≡◌, ℕ, zero, suc, ◌+◌, ◌-◌, ◌%◌, ◌^◌, ◌<◌, ◌≤◌, Bool, false, ◌==◌, None, List, [], ◌∷◌, length, take, drop, set, replicate, refl, sym, ap, ◌∙◌, arith}
+use Rattle.std.proofs.Common.{◌≡◌, ℕ, zero, suc, ◌+◌, ◌-◌, ◌%◌, ◌^◌, ◌<◌, ◌≤◌, ◌⊎◌, inl, inr, Bool, false, ◌==◌, None, List, [], ◌∷◌, length, take, drop, set, replicate, refl, sym, ap, ◌∙◌, arith}
 use Rattle.std.proofs.lemmas.Bool.Decides.{nat_tests}
-use Rattle.std.proofs.lemmas.List.{drop-replicate, drop-set-add, length-drop, length-replicate, take-replicate}
+use Rattle.std.proofs.lemmas.List.{drop-replicate, drop-set-add, length-drop, length-replicate, length-take, take-replicate}
 use Rattle.std.proofs.Math.Seq.{drop-nil}
 use Rattle.nv_mem.specs.Bytes.{after_store, bytes_at}
 use Rattle.nv_mem.specs.GuestMap.{Mapping, refusal_of}
+use Rattle.nv_mem.proofs.Memory.{bytes_at-after_store_other}
 use Rattle.nv_flat.specs.Flat.{Flat, flat}
 use Rattle.nv_thin.specs.Thin.{IsBehind, first_block, guest_start, guests_view, map_behind}
 
@@ -34,8 +35,9 @@ sizes host map disk kept v seen b =
 -- parts as large as before fit, where the blocks before the guest's are the same
 pub behind-same : (host host' : List ℕ) (map : Mapping) (disk disk' : List (List ℕ)) (kept kept' : List Bool) → IsBehind host map disk kept
     → length host' ≡ length host → length disk' ≡ length disk → length kept' ≡ length kept
+    → bytes_at host' 0 4096 ≡ bytes_at host 0 4096 → bytes_at host' 8192 126976 ≡ bytes_at host 8192 126976
     → take 1000 disk' ≡ take 1000 disk → take 1000 kept' ≡ take 1000 kept → IsBehind host' map disk' kept'
-behind-same host host' map disk disk' kept kept' b hosts disks marks blocks_same marks_same =
+behind-same host host' map disk disk' kept kept' b hosts disks marks list_same others_same blocks_same marks_same =
     let room : 135168 ≤ length host = b.room in
     let range : 1000 ≤ length disk = b.range in
     record {
@@ -43,9 +45,31 @@ behind-same host host' map disk disk' kept kept' b hosts disks marks blocks_same
       mapped = b.mapped ∙ ap map_behind (sym hosts);
       range = omega (arith, range, disks);
       marked = marks ∙ b.marked ∙ sym disks;
+      list_page = list_same ∙ b.list_page;
+      other_pages = others_same ∙ b.other_pages;
       blocks_before = blocks_same ∙ b.blocks_before;
       marks_before = marks_same ∙ b.marks_before;
     }
+
+-- a store leaves what lies apart from it
+pub store-apart : (new memory bytes : List ℕ) (at addr n : ℕ) → new ≡ after_store memory at bytes → at + length bytes ≤ length memory
+    → (addr + n ≤ at) ⊎ (at + length bytes ≤ addr) → bytes_at new addr n ≡ bytes_at memory addr n
+store-apart new memory bytes at addr n stored inside apart =
+    ap (λ m. bytes_at m addr n) stored ∙ bytes_at-after_store_other memory bytes at addr n (λ some. inside) apart
+
+-- and so does one inside a page
+pub page-apart : (new memory bytes : List ℕ) (at page addr n : ℕ) → new ≡ after_store memory at bytes → at + length bytes ≤ length memory
+    → page ≤ at → at + length bytes ≤ page + 4096 → (addr + n ≤ page) ⊎ (page + 4096 ≤ addr) → bytes_at new addr n ≡ bytes_at memory addr n
+page-apart new memory bytes at page addr n stored inside low high apart =
+    store-apart new memory bytes at addr n stored inside (elim apart [ inl before ↦ inl (omega (arith, low, before)) | inr behind ↦ inr (omega (arith, high, behind)) ])
+
+-- bytes of a memory are no more than was asked for
+pub length-bytes_at : (memory : List ℕ) (from len : ℕ) → length (bytes_at memory from len) ≤ len
+length-bytes_at memory from len = simp length-take (omega arith)
+
+-- zeros among zeros
+pub zeros-at : (addr n size : ℕ) → addr + n ≤ size → bytes_at (replicate size 0) addr n ≡ replicate n 0
+zeros-at addr n size inside = ap (take n) (drop-replicate addr size 0) ∙ take-replicate n (size - addr) 0 (omega arith)
 
 -- the parts as they are made
 pub behind-new : (host : List ℕ) (map : Mapping) (disk : List (List ℕ)) (kept : List Bool) (memory_len blocks : ℕ)
@@ -60,6 +84,8 @@ behind-new host map disk kept memory_len blocks host_is map_is disk_is kept_is =
       mapped = map_is ∙ ap map_behind (sym hosts);
       range = omega (arith, disks);
       marked = marks ∙ sym disks;
+      list_page = ap (λ m. bytes_at m 0 4096) host_is ∙ zeros-at 0 4096 (135168 + memory_len) (omega arith);
+      other_pages = ap (λ m. bytes_at m 8192 126976) host_is ∙ zeros-at 8192 126976 (135168 + memory_len) (omega arith);
       blocks_before = ap (take 1000) disk_is ∙ take-replicate 1000 (1000 + blocks) (replicate 512 0) (omega arith);
       marks_before = ap (take 1000) kept_is ∙ take-replicate 1000 (1000 + blocks) false (omega arith);
     }

@@ -1,11 +1,12 @@
 -- The thin mediated path: where a guest's memory and blocks lie behind the mediator's own, which commands go, and the physical entry
-use Rattle.std.specs.Prelude.{◌≡◌, ℕ, ◌+◌, ◌-◌, ◌/◌, ◌%◌, ◌^◌, ◌≤◌, Bool, true, false, not, ◌&&◌, ◌==◌, nat_le, if◌then◌else◌, List, [], ◌∷◌, length, drop, replicate, take, Option, Some, None}
+use Rattle.std.specs.Prelude.{◌≡◌, ℕ, ◌+◌, ◌-◌, ◌/◌, ◌%◌, ◌^◌, ◌≤◌, ◌⊎◌, Bool, true, false, not, ◌&&◌, ◌==◌, nat_le, if◌then◌else◌, List, [], ◌∷◌, length, drop, replicate, take, Option, Some, None}
 use Rattle.nv_entry.specs.Descriptor.{type_of}
 use Rattle.nv_entry.specs.Layout.{bytes_of_dwords}
 use Rattle.nv_entry.specs.Opcode.{io_opcode}
 use Rattle.nv_entry.specs.Submission.{opcode_of, fuse_of, psdt_of, cid_of, nsid_of, prp1_of, prp2_of, sgl_of, slba_of, fua_of}
 use Rattle.nv_entry.specs.declared.opcode.IoOpcode.{IoOpcode}
 use Rattle.nv_entry.specs.declared.opcode.IoOpcode.TheVariants.{Flush, Write, Read, Compare, WriteZeroes, DatasetManagement}
+use Rattle.nv_mem.specs.Bytes.{bytes_at}
 use Rattle.nv_mem.specs.GuestMap.{Mapping}
 use Rattle.nv_mem.specs.declared.piece.Piece.TheVariants.{Run}
 use Rattle.nv_model.specs.Carried.{units_moved}
@@ -40,13 +41,19 @@ map_behind size = record { host_len = size; regions = record { guest = 0; host =
 abbrev pub IsSameBefore : {A : Type 0} → (end : ℕ) → (new old : List A) → Type 0
 IsSameBefore end new old = (n : ℕ) → n ≤ end → take n new ≡ take n old
 
--- the parts fit: there is room for the mediator's own, the map is the guest's, each block has a mark, and the blocks before the guest's
--- are as they were made: zeros, and not marked
+-- bytes that lie apart from these `len` are the same in both memories
+abbrev pub IsSameApart : (from len : ℕ) → (new old : List ℕ) → Type 0
+IsSameApart from len new old = (addr n : ℕ) → (addr + n ≤ from) ⊎ (from + len ≤ addr) → bytes_at new addr n ≡ bytes_at old addr n
+
+-- the parts fit: there is room for the mediator's own, the map is the guest's, each block has a mark, and what is not the guest's is as it was
+-- made, but for the first bounce page: pages of zeros, and blocks of zeros that are not marked
 pub record IsBehind (host : List ℕ) (map : Mapping) (disk : List (List ℕ)) (kept : List Bool) : Type 0 where
   pub room : guest_start ≤ length host
   pub mapped : map ≡ map_behind (length host)
   pub range : first_block ≤ length disk
   pub marked : length kept ≡ length disk
+  pub list_page : bytes_at host 0 bounce_page ≡ replicate bounce_page 0
+  pub other_pages : bytes_at host (bounce_page + 4096) 126976 ≡ replicate 126976 0
   pub blocks_before : take first_block disk ≡ replicate first_block (replicate 512 0)
   pub marks_before : take first_block kept ≡ replicate first_block false
 

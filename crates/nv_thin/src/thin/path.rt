@@ -1,11 +1,12 @@
 //! One command from its entry to its completion, through a physical entry and the bounce page.
 
-ghost use Rattle.std.specs.Prelude.{◌≡◌, ◌+◌, ◌*◌, ◌<◌, ◌≤◌, [], ◌∷◌, if◌then◌else◌, IfOk, MatchOption, OnErr, length, false};
+ghost use Rattle.std.specs.Prelude.{◌≡◌, ◌+◌, ◌*◌, ◌<◌, ◌≤◌, ◌⊎◌, ℕ, [], ◌∷◌, if◌then◌else◌, IfOk, MatchOption, OnErr, length, false};
 ghost use Rattle.nv_entry.specs.Descriptor.{address_of, length_of, type_of};
 ghost use Rattle.nv_entry.specs.StatusCode.{refused_with};
 ghost use Rattle.nv_entry.specs.Submission.{sgl_of, slba_of};
 ghost use Rattle.nv_entry.specs.declared.status_code.StatusCode.{StatusCode as Code};
 ghost use Rattle.nv_mem.specs.declared.piece.Piece.TheVariants as piece;
+ghost use Rattle.nv_mem.specs.Bytes.{bytes_at};
 ghost use Rattle.nv_mem.specs.GuestMap.{mapped};
 ghost use Rattle.nv_model.specs.Carried.{units_moved};
 ghost use Rattle.nv_model.specs.Dialogue.{End, and_then, in_memory};
@@ -143,6 +144,8 @@ fn read_through(
     requires marks { length kept.old ≡ length disk.old }
     ensures moved { moved_of (flat host.new disk.new kept.new) false ≡ copied bounce_page memory (512 * (nlb + 1))
         (units_moved (units_from 0 slba (nlb + 1)) (block_work IoOpcode.Read (piece.Run bounce_page 4096 ∷ []) fua) (moved_of (flat host.old disk.old kept.old) false)) }
+    ensures others { (addr n : ℕ) → addr + n ≤ memory → (addr + n ≤ bounce_page) ⊎ (bounce_page + 4096 ≤ addr) →
+        bytes_at host.new addr n ≡ bytes_at host.old addr n }
     ensures blocks_before { IsSameBefore slba disk.new disk.old }
     ensures marks_before { IsSameBefore slba kept.new kept.old }
     ensures size { length host.new ≡ length host.old }
@@ -171,6 +174,8 @@ fn write_through(
     ensures moved { moved_of (flat host.new disk.new kept.new) false ≡
         units_moved (units_from 0 slba (nlb + 1)) (block_work IoOpcode.Write (piece.Run bounce_page 4096 ∷ []) fua)
         (copied memory bounce_page (512 * (nlb + 1)) (moved_of (flat host.old disk.old kept.old) false)) }
+    ensures others { (addr n : ℕ) → addr + n ≤ memory → (addr + n ≤ bounce_page) ⊎ (bounce_page + 4096 ≤ addr) →
+        bytes_at host.new addr n ≡ bytes_at host.old addr n }
     ensures blocks_before { IsSameBefore slba disk.new disk.old }
     ensures marks_before { IsSameBefore slba kept.new kept.old }
     ensures size { length host.new ≡ length host.old }

@@ -8,7 +8,7 @@ ghost use Rattle.nv_mem.specs.declared.piece.Piece.TheVariants.{Run};
 ghost use Rattle.nv_model.specs.Carried.{moved_on, units_moved};
 ghost use Rattle.nv_model.specs.Judge.{OneBlock, count_of};
 ghost use Rattle.nv_flat.specs.Flat.{block_work, flat, moved_of, units_from};
-ghost use Rattle.nv_thin.specs.Thin.{IsPhysical, IsSameBefore, carried, physical_entry};
+ghost use Rattle.nv_thin.specs.Thin.{IsPhysical, IsSameApart, IsSameBefore, carried, physical_entry};
 
 use byteorder::{ByteOrder, LittleEndian};
 use nv_entry::{IoOpcode, Sqe};
@@ -68,6 +68,7 @@ pub(crate) fn carry_out(entry: &Sqe, host: &mut Host, disk: &mut [[u8; BLOCK]], 
     requires marks { length kept.old ≡ length disk.old }
     ensures moved { moved_of (flat host.new disk.new kept.new) false ≡
         carried (io_opcode (opcode_of entry.now)) entry.now (moved_of (flat host.old disk.old kept.old) false) }
+    ensures others { IsSameApart (prp1_of entry.now) 4096 host.new host.old }
     ensures blocks_before { IsSameBefore (slba_of entry.now) disk.new disk.old }
     ensures marks_before { IsSameBefore (slba_of entry.now) kept.new kept.old }
     ensures size { length host.new ≡ length host.old }
@@ -98,6 +99,7 @@ fn read_blocks(
     requires marks { length kept.old ≡ length disk.now }
     ensures moved { moved_of (flat host.new disk.now kept.new) false ≡
         units_moved (units_from 0 slba count) (block_work IoOpcode.Read (Run page 4096 ∷ []) fua) (moved_of (flat host.old disk.now kept.old) false) }
+    ensures others { IsSameApart page 4096 host.new host.old }
     ensures marks_before { IsSameBefore slba kept.new kept.old }
     ensures size { length host.new ≡ length host.old }
 {
@@ -122,6 +124,7 @@ fn read_block(
     requires marks { length kept.old ≡ length disk.now }
     ensures moved { moved_of (flat host.new disk.now kept.new) false ≡
         moved_on (OneBlock index lba) (block_work IoOpcode.Read (Run page 4096 ∷ []) fua) (moved_of (flat host.old disk.now kept.old) false) }
+    ensures others { IsSameApart page 4096 host.new host.old }
     ensures marks_before { IsSameBefore lba kept.new kept.old }
     ensures size { length host.new ≡ length host.old }
 {

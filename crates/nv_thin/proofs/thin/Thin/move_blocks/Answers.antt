@@ -1,4 +1,4 @@
-use Rattle.std.proofs.Common.{◌≡◌, ◌∙◌, ◌+◌, ℕ, Bool, List, ◌≤◌, sym, ap, subst, take, length, false, arith}
+use Rattle.std.proofs.Common.{◌≡◌, ◌∙◌, ◌+◌, ℕ, Bool, List, ◌≤◌, inl, inr, sym, ap, subst, take, length, false, arith}
 use Rattle.std.specs.Vec.{with_items}
 use Rattle.std.proofs.lemmas.List.{length-drop, with_items_is}
 use Rattle.nv_entry.specs.Descriptor.{address_of}
@@ -114,6 +114,7 @@ invariant_of-self c =
     let kept = with_items_is c.self.inside.kept c.read_through.new.kept (omega (arith, marks, c.self.inside.kept.ok.0)) in
     let whole = behind-same c.self.inside.host c.read_through.new.host c.self.inside.map c.self.inside.disk.items c.read_through.new.disk c.self.inside.kept.items c.read_through.new.kept
     c.self.invariant c.read_through.ensures.size disks marks
+    (c.read_through.ensures.others 0 4096 (omega arith) (inl (omega arith))) (c.read_through.ensures.others 8192 126976 (omega arith) (inr (omega arith)))
     (c.read_through.ensures.blocks_before 1000 start ∙ ap (take 1000) c.deref_mut.ensures.value)
     (c.read_through.ensures.marks_before 1000 start ∙ ap (take 1000) c.deref_mut-then-need.ensures.value)
     in
@@ -129,6 +130,7 @@ invariant_of-self-else-need c =
     let kept = with_items_is c.self.inside.kept c.write_through.new.kept (omega (arith, marks, c.self.inside.kept.ok.0)) in
     let whole = behind-same c.self.inside.host c.write_through.new.host c.self.inside.map c.self.inside.disk.items c.write_through.new.disk c.self.inside.kept.items c.write_through.new.kept
     c.self.invariant c.write_through.ensures.size disks marks
+    (c.write_through.ensures.others 0 4096 (omega arith) (inl (omega arith))) (c.write_through.ensures.others 8192 126976 (omega arith) (inr (omega arith)))
     (c.write_through.ensures.blocks_before 1000 start ∙ ap (take 1000) c.deref_mut-else-need.ensures.value)
     (c.write_through.ensures.marks_before 1000 start ∙ ap (take 1000) c.deref_mut-else-need-2.ensures.value)
     in

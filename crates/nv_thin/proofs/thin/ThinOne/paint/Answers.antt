@@ -27,5 +27,5 @@ returns-clause-disk_size c =
 pub invariant_of-self : goal.invariant_of-self
 invariant_of-self c =
     behind-same c.self.inside.host c.self.inside.host c.self.inside.map c.self.inside.disk.items _ c.self.inside.kept.items c.self.inside.kept.items
-    c.self.invariant refl (length-set c.self.inside.disk.items (1000 + c.args.block) _) refl
+    c.self.invariant refl (length-set c.self.inside.disk.items (1000 + c.args.block) _) refl refl refl
     (take-set-le 1000 c.self.inside.disk.items (1000 + c.args.block) _ (omega arith)) refl

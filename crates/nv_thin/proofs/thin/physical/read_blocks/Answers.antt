@@ -4,12 +4,13 @@ use Rattle.nv_thin.proofs.thin.physical.read_blocks.Goals as goal
 
 pub loop-index-preserved : goal.loop-index-preserved
 loop-index-preserved c =
-    let (size, marks, moved) = c.loop-index.invariant in (
+    let (size, others, marks, moved) = c.loop-index.invariant in (
       c.read_block.ensures.size ∙ size,
+      (λ addr n apart. c.read_block.ensures.others addr n apart ∙ others addr n apart),
       (λ n below. c.read_block.ensures.marks_before n (omega (arith, below)) ∙ marks n below),
       blocks-step _ _ _ _ c.loop-index.index c.args.slba c.args.count (omega arith) c.read_block.ensures.moved moved,
     )
 
 pub returns-clause-moved : goal.returns-clause-moved
 returns-clause-moved c =
-    blocks-end _ _ _ c.loop-index.index c.args.slba c.args.count (omega arith) c.loop-index.invariant.2
+    blocks-end _ _ _ c.loop-index.index c.args.slba c.args.count (omega arith) c.loop-index.invariant.3

@@ -3,11 +3,11 @@ use Rattle.nv_entry.specs.declared.opcode.IoOpcode.TheVariants.{Read}
 use Rattle.nv_mem.specs.declared.piece.Piece.TheVariants.{Run}
 use Rattle.nv_model.specs.Carried.{units_moved}
 use Rattle.nv_flat.specs.Flat.{block_work, flat, moved_of, units_from}
-use Rattle.nv_thin.specs.Thin.{IsSameBefore}
+use Rattle.nv_thin.specs.Thin.{IsSameApart, IsSameBefore}
 use Rattle.nv_thin.proofs.thin.physical.read_blocks.Given as goal
 
 abbrev pub invariant-loop-index : goal.invariant-loop-index
 invariant-loop-index l =
-    (length l.host ≡ length l.fn.host) × IsSameBefore l.slba l.kept l.fn.kept ×
+    (length l.host ≡ length l.fn.host) × IsSameApart l.page 4096 l.host l.fn.host × IsSameBefore l.slba l.kept l.fn.kept ×
     (units_moved (units_from l.index (l.slba + l.index) (l.count - l.index)) (block_work Read (Run l.page 4096 ∷ []) l.fua) (moved_of (flat l.host l.disk l.kept) false)
     ≡ units_moved (units_from 0 l.slba l.count) (block_work Read (Run l.page 4096 ∷ []) l.fua) (moved_of (flat l.fn.host l.disk l.fn.kept) false))
