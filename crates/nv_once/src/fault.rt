@@ -32,7 +32,7 @@ impl Fault {
     pub fn of_output(_error: io::Error) -> Self
         ensures { result ≡ Fault.CannotWrite }
     {
-        Fault::CannotWrite
+        Self::CannotWrite
     }
 
     /// The fault of an input that failed: want of memory is told as such, and nothing else is.
