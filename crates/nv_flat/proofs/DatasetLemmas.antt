@@ -1,5 +1,5 @@
 -- Dataset Management, once its list is read
-use Rattle.std.proofs.Common.{◌≡◌, ℕ, ◌+◌, ◌*◌, ◌/◌, ◌≤◌, ◌<◌, Bool, true, false, ◌&&◌, ◌==◌, cond, Result, Ok, Err, List, [], ◌∷◌, ◌++◌, length, take, drop, refl, sym, ap, ◌∙◌, arith, eq-eqb, inl, inr}
+use Rattle.std.proofs.Common.{◌≡◌, ℕ, ◌+◌, ◌*◌, ◌/◌, ◌≤◌, ◌<◌, Bool, true, false, ◌&&◌, ◌==◌, cond, Result, Ok, Err, List, [], ◌∷◌, length, take, drop, refl, sym, ap, ◌∙◌, arith, eq-eqb, inl, inr}
 use Rattle.std.specs.Prelude.{IsTrue, ◌↔◌}
 use Rattle.std.specs.List.{list_all, range_with_len}
 use Rattle.std.proofs.lemmas.Bool.{cases_eq}
@@ -19,18 +19,18 @@ use Rattle.nv_mem.specs.declared.piece.Piece.{Piece}
 use Rattle.nv_model.specs.Dialogue.{End, in_memory}
 use Rattle.nv_model.specs.Memory.{gathered}
 use Rattle.nv_model.specs.Reading.{Spells}
-use Rattle.nv_model.specs.Judge.{Work, Refuse, Go, block_units, blocks_of_ranges, judge_ranges, range_count_of, range_fits, ranges_in, read_source, work_of}
-use Rattle.nv_model.specs.Private.{verdict_in}
+use Rattle.nv_model.specs.Judge.{OneRange, Work, Refuse, Go, judge_ranges, range_count_of, range_fits, range_units, ranges_in, read_source, work_of}
+use Rattle.nv_model.specs.Carried.{moved_on, units_moved}
+use Rattle.nv_model.specs.Private.{Moved, verdict_in}
 use Rattle.nv_model.proofs.DialogueLemmas.{in_memory-and_then}
 use Rattle.nv_model.proofs.MemoryLemmas.{length-gathered}
 use Rattle.nv_flat.specs.Flat.{Flat, byte_in, cleared, moved_of}
 use Rattle.nv_flat.specs.Listed.{list_reading}
 use Rattle.nv_flat.specs.One.{IsInOrder, IsRun, shape_of}
 use Rattle.nv_flat.proofs.DoneLemmas.{list-verdict, range-within}
-use Rattle.nv_flat.proofs.MoveLemmas.{cleared-append}
 use Rattle.nv_flat.proofs.OneLemmas.{moved-run, refused-run}
 use Rattle.nv_flat.proofs.PieceLemmas.{read_source-gathered, spelled-usable}
-use Rattle.nv_flat.proofs.WorkLemmas.{units_moved-deallocated, units_moved-kept}
+use Rattle.nv_flat.proofs.WorkLemmas.{range-cleared, ranges-kept}
 
 -- what is known of a Dataset Management whose list is read, and these are the bytes that it names
 pub record IsManaged (f : Flat) (entry : List ℕ) (pieces : List Piece) (bytes : List ℕ) : Type 0 where
@@ -93,35 +93,33 @@ managed-refused f entry pieces bytes st m refused =
     refused-run f entry st
     (managed-verdict f entry pieces bytes m
     ∙ verdict-by_ranges (list_all (range_fits (length f.disk)) (ranges_in (length bytes / 16) bytes))
-    (work_of DatasetManagement entry pieces (block_units (blocks_of_ranges (ranges_in (length bytes / 16) bytes)))) st refused)
+    (work_of DatasetManagement entry pieces (range_units (ranges_in (length bytes / 16) bytes))) st refused)
 
 -- the work of one whose ranges fit
 managed-goes : (f : Flat) (entry : List ℕ) (pieces : List Piece) (bytes : List ℕ) → IsManaged f entry pieces bytes
     → list_all (range_fits (length f.disk)) (ranges_in (length bytes / 16) bytes) ≡ true
-    → verdict_in (shape_of f) (byte_in f.memory) entry ≡ Go (work_of DatasetManagement entry pieces (block_units (blocks_of_ranges (ranges_in (length bytes / 16) bytes))))
+    → verdict_in (shape_of f) (byte_in f.memory) entry ≡ Go (work_of DatasetManagement entry pieces (range_units (ranges_in (length bytes / 16) bytes)))
 managed-goes f entry pieces bytes m fit =
     managed-verdict f entry pieces bytes m
-    ∙ ap (λ (b : Bool). cond b (Go (work_of DatasetManagement entry pieces (block_units (blocks_of_ranges (ranges_in (length bytes / 16) bytes))))) (Refuse (refused_with LbaOutOfRange))) fit
+    ∙ ap (λ (b : Bool). cond b (Go (work_of DatasetManagement entry pieces (range_units (ranges_in (length bytes / 16) bytes)))) (Refuse (refused_with LbaOutOfRange))) fit
 
 -- deallocated
 pub managed-deallocated : (f g : Flat) (entry : List ℕ) (pieces : List Piece) (bytes : List ℕ) → IsManaged f entry pieces bytes
     → list_all (range_fits (length f.disk)) (ranges_in (length bytes / 16) bytes) ≡ true → (deallocate_of entry == 1) ≡ true
-    → moved_of g false ≡ cleared (blocks_of_ranges (ranges_in (length bytes / 16) bytes)) false (moved_of f false) → IsRun f entry (done_with Success) g
+    → ((work : Work) → work.deallocate ≡ true → moved_of g false ≡ units_moved (range_units (ranges_in (length bytes / 16) bytes)) work (moved_of f false))
+    → IsRun f entry (done_with Success) g
 managed-deallocated f g entry pieces bytes m fit asked moved =
-    let lbas : List ℕ = blocks_of_ranges (ranges_in (length bytes / 16) bytes) in
-    let work : Work = work_of DatasetManagement entry pieces (block_units lbas) in
-    moved-run f g entry work false (managed-goes f entry pieces bytes m fit)
-    (moved ∙ sym (units_moved-deallocated work lbas (moved_of f false) refl asked))
+    let work : Work = work_of DatasetManagement entry pieces (range_units (ranges_in (length bytes / 16) bytes)) in
+    moved-run f g entry work false (managed-goes f entry pieces bytes m fit) (moved work asked)
 
 -- or left as they are
 pub managed-kept : (f : Flat) (entry : List ℕ) (pieces : List Piece) (bytes : List ℕ) → IsManaged f entry pieces bytes
     → list_all (range_fits (length f.disk)) (ranges_in (length bytes / 16) bytes) ≡ true → (deallocate_of entry == 1) ≡ false
     → IsRun f entry (done_with Success) f
 managed-kept f entry pieces bytes m fit unasked =
-    let lbas : List ℕ = blocks_of_ranges (ranges_in (length bytes / 16) bytes) in
-    let work : Work = work_of DatasetManagement entry pieces (block_units lbas) in
-    moved-run f f entry work false (managed-goes f entry pieces bytes m fit)
-    (sym (units_moved-kept work lbas (moved_of f false) refl unasked))
+    let ranges : List (List ℕ) = ranges_in (length bytes / 16) bytes in
+    let work : Work = work_of DatasetManagement entry pieces (range_units ranges) in
+    moved-run f f entry work false (managed-goes f entry pieces bytes m fit) (sym (ranges-kept work ranges (moved_of f false) unasked))
 
 -- a flag that is set exactly where a bit is 1
 pub is-asked : (b : Bool) (n : ℕ) → (IsTrue b ↔ (n ≡ 1)) → (n == 1) ≡ b
@@ -136,14 +134,16 @@ is-asked false n same = elim (cases_eq n 1) [ inl one ↦ let bad = same.1 one i
 -- what it keeps
 pub record IsDeallocating (old : Flat) (all : List ℕ) (f : Flat) (rest : List ℕ) : Type 0 where
   pub fit : list_all (range_fits (length old.disk)) (ranges_in (length rest / 16) rest) ≡ true
-  pub moved : cleared (blocks_of_ranges (ranges_in (length rest / 16) rest)) false (moved_of f false) ≡ cleared (blocks_of_ranges (ranges_in (length all / 16) all)) false (moved_of old false)
+  pub moved : (work : Work) → work.deallocate ≡ true
+      → units_moved (range_units (ranges_in (length rest / 16) rest)) work (moved_of f false) ≡ units_moved (range_units (ranges_in (length all / 16) all)) work (moved_of old false)
   pub memory_size : length f.memory ≡ length old.memory
   pub disk_size : length f.disk ≡ length old.disk
 
--- the blocks of one more range
-one-more : (range : List ℕ) (ranges : List (List ℕ)) → blocks_of_ranges (range ∷ ranges) ≡ range_with_len (start_of range) (blocks_of range) ++ blocks_of_ranges ranges
-unfolding blocks_of_ranges
-one-more range ranges = refl
+-- the unit of one more range
+one-more : (range : List ℕ) (ranges : List (List ℕ)) (work : Work) (m : Moved)
+    → units_moved (range_units (range ∷ ranges)) work m ≡ units_moved (range_units ranges) work (moved_on (OneRange (start_of range) (blocks_of range)) work m)
+unfolding range_units units_moved
+one-more range ranges work m = refl
 
 -- the first range fits, and the others do
 both-fit : (blocks : ℕ) (rest range more : List ℕ) → range ≡ take 16 rest → more ≡ drop 16 rest → length more + 16 ≡ length rest
@@ -170,21 +170,20 @@ pub IsDeallocating-more : (old : Flat) (all : List ℕ) (f g : Flat) (rest range
     → moved_of g false ≡ cleared (range_with_len (start_of range) (blocks_of range)) false (moved_of f false)
     → length g.memory ≡ length f.memory → length g.disk ≡ length f.disk → IsDeallocating old all g more
 IsDeallocating-more old all f g rest range more so_far first others sized moved memory_size disk_size =
-    let later : List ℕ = blocks_of_ranges (ranges_in (length more / 16) more) in
+    let later : List (List ℕ) = ranges_in (length more / 16) more in
     record {
       fit = (both-fit (length old.disk) rest range more first others sized so_far.fit).1;
-      moved =
-          ap (cleared later false) moved
-          ∙ sym (cleared-append (range_with_len (start_of range) (blocks_of range)) later false (moved_of f false))
-          ∙ ap (λ (lbas : List ℕ). cleared lbas false (moved_of f false)) (sym (one-more range (ranges_in (length more / 16) more)))
-          ∙ ap (λ (ranges : List (List ℕ)). cleared (blocks_of_ranges ranges) false (moved_of f false)) (sym (ranges_in-more rest range more first others sized))
-          ∙ so_far.moved;
+      moved = λ work asked.
+          ap (units_moved (range_units later) work) (moved ∙ sym (range-cleared work (start_of range) (blocks_of range) (moved_of f false) asked))
+          ∙ sym (one-more range later work (moved_of f false))
+          ∙ ap (λ (ranges : List (List ℕ)). units_moved (range_units ranges) work (moved_of f false)) (sym (ranges_in-more rest range more first others sized))
+          ∙ so_far.moved work asked;
       memory_size = memory_size ∙ so_far.memory_size;
       disk_size = disk_size ∙ so_far.disk_size;
     }
 
 pub IsDeallocating-end : (old : Flat) (all : List ℕ) (f : Flat) (rest : List ℕ) → IsDeallocating old all f rest → length rest < 16
-    → moved_of f false ≡ cleared (blocks_of_ranges (ranges_in (length all / 16) all)) false (moved_of old false)
-unfolding cleared blocks_of_ranges
-IsDeallocating-end old all f rest so_far few =
-    sym (ap (λ (ranges : List (List ℕ)). cleared (blocks_of_ranges ranges) false (moved_of f false)) (ranges_in-none rest few)) ∙ so_far.moved
+    → (work : Work) → work.deallocate ≡ true → moved_of f false ≡ units_moved (range_units (ranges_in (length all / 16) all)) work (moved_of old false)
+unfolding units_moved range_units
+IsDeallocating-end old all f rest so_far few work asked =
+    sym (ap (λ (ranges : List (List ℕ)). units_moved (range_units ranges) work (moved_of f false)) (ranges_in-none rest few)) ∙ so_far.moved work asked

@@ -8,8 +8,8 @@ use Rattle.nv_entry.specs.declared.opcode.IoOpcode.{IoOpcode}
 use Rattle.nv_entry.specs.declared.opcode.IoOpcode.TheVariants.{Flush, Write, Read, Compare, WriteZeroes, DatasetManagement}
 use Rattle.nv_mem.specs.Places.{Place, At, Bucket, places_of}
 use Rattle.nv_model.specs.Memory.{scattered, stored}
-use Rattle.nv_model.specs.Judge.{WorkUnit, OneBlock, AllBlocks, Work, block, is_read}
-use Rattle.nv_model.specs.Private.{Moved, block_bytes, block_moved, places_of_block}
+use Rattle.nv_model.specs.Judge.{WorkUnit, OneBlock, OneRange, AllBlocks, Work, block, is_read}
+use Rattle.nv_model.specs.Private.{Moved, block_bytes, block_moved, places_of_block, range_moved}
 use Rattle.nv_model.specs.Carried.{moved_on, units_moved}
 use Rattle.nv_flat.specs.Flat.{Flat, byte_in, flat, moved_of}
 use Rattle.nv_flat.specs.Laws.{IsAnother, IsAsLarge, IsElsewhere}
@@ -32,14 +32,6 @@ scattered-elsewhere m (At at ∷ places) (byte ∷ bytes) addr each =
 scattered-elsewhere m (Bucket ∷ places) (byte ∷ bytes) addr each =
     scattered-elsewhere m places bytes addr (All-tail (IsAnother (At addr)) Bucket places each)
 
--- a Dataset Management changes no byte of memory, and never differs
-dataset-memory : (work : Work) (index lba : ℕ) (m : Moved) → (block_moved DatasetManagement work index lba m.memory m.disk m.kept).memory ≡ m.memory
-dataset-memory work index lba m = by_flag work.deallocate work refl
-  where
-    by_flag : (flag : Bool) (work : Work) → work.deallocate ≡ flag → (block_moved DatasetManagement work index lba m.memory m.disk m.kept).memory ≡ m.memory
-    by_flag true work is = rw is refl
-    by_flag false work is = rw is refl
-
 block-memory_at : (opcode : IoOpcode) (work : Work) (index lba addr : ℕ) (m : Moved) → All (IsAnother (At addr)) (places_of work.pieces)
     → (block_moved opcode work index lba m.memory m.disk m.kept).memory addr ≡ m.memory addr
 block-memory_at Read work index lba addr m each =
@@ -48,7 +40,7 @@ block-memory_at Read work index lba addr m each =
 block-memory_at Write work index lba addr m each = refl
 block-memory_at Compare work index lba addr m each = refl
 block-memory_at WriteZeroes work index lba addr m each = refl
-block-memory_at DatasetManagement work index lba addr m each = ap (λ (n : ℕ → ℕ). n addr) (dataset-memory work index lba m)
+block-memory_at DatasetManagement work index lba addr m each = refl
 block-memory_at Flush work index lba addr m each = refl
 
 block-memory : (opcode : IoOpcode) (work : Work) (index lba : ℕ) (m : Moved) → is_read opcode ≡ false
@@ -57,8 +49,23 @@ block-memory Read work index lba m other = (cc)
 block-memory Write work index lba m other = refl
 block-memory Compare work index lba m other = refl
 block-memory WriteZeroes work index lba m other = refl
-block-memory DatasetManagement work index lba m other = dataset-memory work index lba m
+block-memory DatasetManagement work index lba m other = refl
 block-memory Flush work index lba m other = refl
+
+-- a range changes no byte of memory, and never differs
+range-memory : (work : Work) (start count : ℕ) (m : Moved) → (range_moved work start count m.memory m.disk m.kept).memory ≡ m.memory
+range-memory work start count m = by_flag work.deallocate work refl
+  where
+    by_flag : (flag : Bool) (work : Work) → work.deallocate ≡ flag → (range_moved work start count m.memory m.disk m.kept).memory ≡ m.memory
+    by_flag true work is = rw is refl
+    by_flag false work is = rw is refl
+
+range-differs : (work : Work) (start count : ℕ) (m : Moved) → (range_moved work start count m.memory m.disk m.kept).differed ≡ false
+range-differs work start count m = by_flag work.deallocate work refl
+  where
+    by_flag : (flag : Bool) (work : Work) → work.deallocate ≡ flag → (range_moved work start count m.memory m.disk m.kept).differed ≡ false
+    by_flag true work is = rw is refl
+    by_flag false work is = rw is refl
 
 pub units-memory_at : (units : List WorkUnit) (work : Work) (addr : ℕ) (m : Moved) → All (IsAnother (At addr)) (places_of work.pieces)
     → (units_moved units work m).memory addr ≡ m.memory addr
@@ -66,6 +73,8 @@ unfolding units_moved
 units-memory_at [] work addr m each = refl
 units-memory_at (OneBlock index lba ∷ units) work addr m each =
     units-memory_at units work addr (moved_on (OneBlock index lba) work m) each ∙ block-memory_at work.opcode work index lba addr m each
+units-memory_at (OneRange start count ∷ units) work addr m each =
+    units-memory_at units work addr (moved_on (OneRange start count) work m) each ∙ ap (λ (n : ℕ → ℕ). n addr) (range-memory work start count m)
 units-memory_at (AllBlocks blocks ∷ units) work addr m each = units-memory_at units work addr (moved_on (AllBlocks blocks) work m) each
 
 pub units-memory : (units : List WorkUnit) (work : Work) (m : Moved) → is_read work.opcode ≡ false → (units_moved units work m).memory ≡ m.memory
@@ -73,6 +82,8 @@ unfolding units_moved
 units-memory [] work m other = refl
 units-memory (OneBlock index lba ∷ units) work m other =
     units-memory units work (moved_on (OneBlock index lba) work m) other ∙ block-memory work.opcode work index lba m other
+units-memory (OneRange start count ∷ units) work m other =
+    units-memory units work (moved_on (OneRange start count) work m) other ∙ range-memory work start count m
 units-memory (AllBlocks blocks ∷ units) work m other = units-memory units work (moved_on (AllBlocks blocks) work m) other
 
 -- ---- a Compare
@@ -83,11 +94,7 @@ block-differs Read work index lba m other = refl
 block-differs Write work index lba m other = refl
 block-differs Compare work index lba m other = absurd (other refl)
 block-differs WriteZeroes work index lba m other = refl
-block-differs DatasetManagement work index lba m other = by_flag work.deallocate work refl
-  where
-    by_flag : (flag : Bool) (work : Work) → work.deallocate ≡ flag → (block_moved DatasetManagement work index lba m.memory m.disk m.kept).differed ≡ false
-    by_flag true work is = rw is refl
-    by_flag false work is = rw is refl
+block-differs DatasetManagement work index lba m other = refl
 block-differs Flush work index lba m other = refl
 
 pub units-differ : (units : List WorkUnit) (work : Work) (m : Moved) → (work.opcode ≡ Compare → ⊥) → (units_moved units work m).differed ≡ m.differed
@@ -96,6 +103,9 @@ units-differ [] work m other = refl
 units-differ (OneBlock index lba ∷ units) work m other =
     units-differ units work (moved_on (OneBlock index lba) work m) other
     ∙ ap (λ (b : Bool). m.differed || b) (block-differs work.opcode work index lba m other) ∙ or-false m.differed
+units-differ (OneRange start count ∷ units) work m other =
+    units-differ units work (moved_on (OneRange start count) work m) other
+    ∙ ap (λ (b : Bool). m.differed || b) (range-differs work start count m) ∙ or-false m.differed
 units-differ (AllBlocks blocks ∷ units) work m other = units-differ units work (moved_on (AllBlocks blocks) work m) other ∙ or-false m.differed
 
 -- ---- the disk
@@ -119,18 +129,20 @@ block-elsewhere Write work index at lba m other =
 block-elsewhere Compare work index at lba m other = record { bytes = refl; mark = not-here lba at _ (m.kept lba) other }
 block-elsewhere WriteZeroes work index at lba m other =
     record { bytes = fun_ext (λ offset. not-here lba at _ (m.disk lba offset) other); mark = not-here lba at _ (m.kept lba) other }
-block-elsewhere DatasetManagement work index at lba m other = by_flag work.deallocate work refl
-  where
-    by_flag : (flag : Bool) (work : Work) → work.deallocate ≡ flag → IsSame lba m (block_moved DatasetManagement work index at m.memory m.disk m.kept)
-    by_flag true work is =
-        rw is (record { bytes = fun_ext (λ offset. not-here lba at _ (m.disk lba offset) other); mark = not-here lba at _ (m.kept lba) other })
-    by_flag false work is = rw is (record { bytes = refl; mark = refl })
+block-elsewhere DatasetManagement work index at lba m other = record { bytes = refl; mark = refl }
 block-elsewhere Flush work index at lba m other = record { bytes = refl; mark = refl }
 
 unit-elsewhere : (unit : WorkUnit) (work : Work) (lba : ℕ) (m : Moved) → IsElsewhere lba unit → IsSame lba m (moved_on unit work m)
 unit-elsewhere (OneBlock index at) work lba m other =
     let same = block-elsewhere work.opcode work index at lba m other in
     record { bytes = same.bytes; mark = same.mark }
+unit-elsewhere (OneRange start count) work lba m out = by_flag work.deallocate work refl
+  where
+    by_flag : (flag : Bool) (work : Work) → work.deallocate ≡ flag → IsSame lba m (moved_on (OneRange start count) work m)
+    by_flag true work is =
+        let zeros : ℕ → ℕ = λ _. 0 in
+        rw is (record { bytes = ap (λ (b : Bool). cond b zeros (m.disk lba)) out; mark = ap (λ (b : Bool). cond b false (m.kept lba)) out })
+    by_flag false work is = rw is (record { bytes = refl; mark = refl })
 unit-elsewhere (AllBlocks blocks) work lba m past = record { bytes = refl; mark = ap (λ (b : Bool). b || m.kept lba) (not-below lba blocks past) }
   where
     not-below : (lba blocks : ℕ) → blocks ≤ lba → nat_lt lba blocks ≡ false

@@ -1,5 +1,5 @@
 -- A block that moves, over a memory, blocks and marks that are lists
-use Rattle.std.proofs.Common.{◌≡◌, ℕ, zero, suc, ◌+◌, ◌-◌, ◌*◌, ◌<◌, ◌≤◌, Bool, true, false, not, ◌&&◌, ◌||◌, nat_eq, List, [], ◌∷◌, ◌++◌, length, slice_index, get_or, set, map, take, drop, refl, sym, ap, ◌∙◌, arith, cond, ◌==◌, inl, inr, replicate}
+use Rattle.std.proofs.Common.{◌≡◌, ℕ, zero, suc, ◌+◌, ◌-◌, ◌*◌, ◌<◌, ◌≤◌, Bool, true, false, not, ◌&&◌, ◌||◌, nat_eq, List, [], ◌∷◌, length, slice_index, get_or, set, map, take, drop, refl, sym, ap, ◌∙◌, arith, cond, ◌==◌, inl, inr, replicate}
 use Rattle.std.proofs.lemmas.Bool.{cases_eq}
 use Rattle.std.proofs.lemmas.Grind.{get_or-set_at}
 use Rattle.std.proofs.lemmas.List.{get_or-set_other, get_or_past}
@@ -193,12 +193,6 @@ cleared-more mark m start left n e = rw e refl
 pub cleared-none : (mark : Bool) (m : Moved) (start left : ℕ) → left ≡ 0 → cleared (range_with_len start left) mark m ≡ m
 unfolding cleared
 cleared-none mark m start left e = rw e refl
-
--- blocks in two parts
-pub cleared-append : (first rest : List ℕ) (mark : Bool) (m : Moved) → cleared (first ++ rest) mark m ≡ cleared rest mark (cleared first mark m)
-unfolding cleared
-cleared-append [] rest mark m = refl
-cleared-append (lba ∷ first) rest mark m = cleared-append first rest mark (clear lba mark m)
 
 -- one more block of a loop over them
 pub blocks-step : (work : Work) (done m n : Moved) (index slba count : ℕ) → index < count

@@ -58,7 +58,7 @@ cleared (lba ∷ lbas) mark m = cleared lbas mark (clear lba mark m)
 abbrev pub identity_map : (size : ℕ) → Mapping
 identity_map size = record { host_len = size; regions = record { guest = 0; host = 0; len = size } ∷ [] }
 
--- the parts of a flat controller fit: the map is the memory's own, each block has 512 bytes and a mark
+-- the parts of a flat controller fit: the map is the memory's own, and each block has a mark
 pub record IsWhole (memory : List ℕ) (map : Mapping) (disk : List (List ℕ)) (kept : List Bool) : Type 0 where
   pub mapped : map ≡ identity_map (length memory)
   pub marked : length kept ≡ length disk

@@ -1,17 +1,18 @@
 -- Words of the laws on one command
 use Rattle.std.specs.Prelude.{◌≡◌, ◌≢◌, ◌≤◌, ℕ, Bool, false, All, List, length}
-use Rattle.std.specs.List.Sorted.{IsPermutation}
 use Rattle.nv_entry.specs.Status.{StatusField}
 use Rattle.nv_mem.specs.Places.{Place}
-use Rattle.nv_model.specs.Judge.{AllBlocks, OneBlock, Work, WorkUnit, block}
+use Rattle.nv_model.specs.Judge.{AllBlocks, OneBlock, OneRange, Work, WorkUnit, block}
 use Rattle.nv_model.specs.Carried.{moved_status, units_moved}
+use Rattle.nv_model.specs.Laws.{IsOrderOf}
+use Rattle.nv_model.specs.Private.{in_range}
 use Rattle.nv_flat.specs.Flat.{Flat, moved_of}
 use Rattle.nv_flat.specs.One.{IsRun}
 
 -- each unit of a work has moved once, in some order, and the status says whether a Compare differed
 pub record IsMovedInSomeOrder (old : Flat) (work : Work) (st : StatusField) (new : Flat) : Type 0 where
   pub order : List WorkUnit
-  pub each : IsPermutation work.units order
+  pub each_once : IsOrderOf order work.units
   pub differed : Bool
   pub moved : moved_of new differed ≡ units_moved order work (moved_of old false)
   pub status : st ≡ moved_status differed
@@ -29,9 +30,11 @@ pub record HasRun (old : Flat) (entry : List ℕ) : Type 0 where
 abbrev pub IsAnother : Place → Place → Type 0
 IsAnother place other = other ≢ place
 
--- a unit changes neither this block nor its mark: it is that of another block, or of all blocks of a namespace that ends before it
+-- a unit changes neither this block nor its mark: it is that of another block, of a range that it is not in, or of all blocks of a
+-- namespace that ends before it
 abbrev pub IsElsewhere : (lba : ℕ) → WorkUnit → Type 0
 IsElsewhere lba (OneBlock index at) = at ≢ lba
+IsElsewhere lba (OneRange start count) = in_range start count lba ≡ false
 IsElsewhere lba (AllBlocks blocks) = blocks ≤ lba
 
 -- two controllers have as much memory, as many blocks, of 512 bytes each, and as many marks

@@ -3,10 +3,11 @@
 ghost use Rattle.std.specs.Prelude.{◌≡◌, ◌/◌, ◌*◌, IfOk, OnErr, List, ℕ, true, false, length};
 ghost use Rattle.std.specs.List.{list_all};
 ghost use Rattle.nv_entry.specs.declared.opcode.IoOpcode.TheVariants as opcode;
-ghost use Rattle.nv_model.specs.Judge.{blocks_of_ranges, range_count_of, range_fits, ranges_in};
+ghost use Rattle.nv_model.specs.Judge.{Work, range_count_of, range_fits, range_units, ranges_in};
+ghost use Rattle.nv_model.specs.Carried.{units_moved};
 ghost use Rattle.nv_judge.specs.Need.{need_of};
 ghost use Rattle.nv_model.specs.Reading.{Spells};
-ghost use Rattle.nv_flat.specs.Flat.{cleared, moved_of};
+ghost use Rattle.nv_flat.specs.Flat.{moved_of};
 ghost use Rattle.nv_flat.specs.Listed.{list_reading};
 ghost use Rattle.nv_flat.specs.One.{IsInOrder, IsRun};
 
@@ -69,7 +70,8 @@ impl FlatController {
     /// Makes the blocks of the ranges zeros that are not kept.
     fn deallocate(&mut self, ranges: &[u8])
         requires fit { list_all (range_fits (length self.old.disk)) (ranges_in (length ranges.now / 16) ranges.now) ≡ true }
-        ensures moved { moved_of self.new false ≡ cleared (blocks_of_ranges (ranges_in (length ranges.now / 16) ranges.now)) false (moved_of self.old false) }
+        ensures moved { (work : Work) → work.deallocate ≡ true →
+            moved_of self.new false ≡ units_moved (range_units (ranges_in (length ranges.now / 16) ranges.now)) work (moved_of self.old false) }
         ensures memory_size { length self.new.memory ≡ length self.old.memory }
         ensures disk_size { length self.new.disk ≡ length self.old.disk }
     {

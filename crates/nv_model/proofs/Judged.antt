@@ -1,5 +1,5 @@
 -- What each verdict that goes says.
-use Rattle.std.proofs.Common.{◌-◌, ◌++◌, min, sym, ◌≡◌, ℕ, zero, suc, ◌+◌, ◌<◌, ◌≤◌, Bool, true, false, cond, not, ◌&&◌, ◌==◌, nat_lt, List, [], ◌∷◌, map, length, slice_get, All, Option, Some, None, arith, refl, ap, ◌∙◌, subst, eqb-true, eq-or-lt_of_le, inl, inr}
+use Rattle.std.proofs.Common.{◌-◌, ◌++◌, min, sym, ◌≡◌, ℕ, zero, suc, ◌+◌, ◌<◌, ◌≤◌, Bool, true, false, cond, not, ◌&&◌, ◌==◌, nat_lt, List, [], ◌∷◌, map, length, drop, slice_get, All, Option, Some, None, arith, refl, ap, ◌∙◌, subst, eqb-true, eq-or-lt_of_le, inl, inr}
 use Rattle.std.specs.Bool.{⊤}
 use Rattle.std.specs.List.{list_all, range_with_len, enumerate_from}
 use Rattle.std.proofs.lemmas.List.Elements.{All-nil, All-cons, All-append, All-head, All-tail, All-map, All-replicate}
@@ -24,7 +24,7 @@ use Rattle.nv_ns.proofs.Ranges.{InNamespace-tested}
 use Rattle.nv_model.specs.Dialogue.{Dialogue, End, and_then, asked, in_memory}
 use Rattle.nv_model.specs.Reading.{Reading, Faulty, TooLong, Spells, run, unless_faulty}
 use Rattle.nv_model.specs.Prp.{entry_fault, first_len, page, pages_of, read_prp, read_prp2}
-use Rattle.nv_model.specs.Judge.{OneBlock, AllBlocks, Work, Verdict, Go, Refuse, block_units, blocks_of_ranges, count_of, field_refusal, has_blocks, has_buffer, is_read, judge, judge_by, judge_fields, judge_ranges, judge_reading, most_blocks, range_count_of, range_fits, ranges_in, read_buffer, read_by, read_source, refusal_by_opcode, sized, transfer_len, units_of, work_of}
+use Rattle.nv_model.specs.Judge.{OneBlock, OneRange, AllBlocks, Work, Verdict, Go, Refuse, block_units, count_of, field_refusal, has_blocks, has_buffer, is_read, judge, judge_by, judge_fields, judge_ranges, judge_reading, most_blocks, range_count_of, range_fits, range_units, ranges_in, read_buffer, read_by, read_source, refusal_by_opcode, sized, transfer_len, units_of, work_of}
 use Rattle.nv_model.proofs.Agreeing.{in_memory-agree}
 use Rattle.nv_model.specs.Laws.{AgreeAt, AgreeOn, IsMappedPiece, IsMappedPlace, IsUnitWithin}
 use Rattle.nv_model.proofs.Endings.{EndsIn, EndsIn-and_then, EndsIn-any, EndsIn-if, OfPieces, and-true, first_failing-none, in_memory-ends, not-false}
@@ -38,6 +38,7 @@ pub record IsSoundWork (mapped : ℕ → Bool) (blocks : ℕ) (entry : List ℕ)
   pub mapped_each : All (IsMappedPiece mapped) work.pieces
   pub total : total_len work.pieces ≡ transfer_len work.opcode entry
   pub within : All (IsUnitWithin blocks) work.units
+  pub counted : has_buffer work.opcode ≡ true → has_blocks work.opcode ≡ false → length work.units ≡ range_count_of entry
   pub in_order : has_blocks work.opcode ≡ true → work.units ≡ block_units (range_with_len (slba_of entry) (count_of entry))
 
 -- this of the work, where it goes
@@ -70,14 +71,25 @@ in_namespace-below blocks start n is =
     let inside = InNamespace-tested start n blocks is in
     range-below blocks start n (omega arith)
 
--- the blocks of ranges in the namespace
-ranges-below : (blocks : ℕ) (ranges : List (List ℕ)) → list_all (range_fits blocks) ranges ≡ true → All (λ lba. lba < blocks) (blocks_of_ranges ranges)
-unfolding blocks_of_ranges
-ranges-below blocks [] fit = All-nil (λ lba. lba < blocks)
-ranges-below blocks (range ∷ ranges) fit =
+-- the units of ranges in the namespace
+range_units-within : (blocks : ℕ) (ranges : List (List ℕ)) → list_all (range_fits blocks) ranges ≡ true → All (IsUnitWithin blocks) (range_units ranges)
+unfolding range_units
+range_units-within blocks [] fit = All-nil (IsUnitWithin blocks)
+range_units-within blocks (range ∷ ranges) fit =
     let both = and-true (range_fits blocks range) (list_all (range_fits blocks) ranges) fit in
-    All-append (λ lba. lba < blocks) (range_with_len (start_of range) (blocks_of range)) (blocks_of_ranges ranges)
-    (in_namespace-below blocks (start_of range) (blocks_of range) both.0) (ranges-below blocks ranges both.1)
+    let inside = InNamespace-tested (start_of range) (blocks_of range) blocks both.0 in
+    let ends : start_of range + blocks_of range ≤ blocks = omega arith in
+    All-cons (IsUnitWithin blocks) (OneRange (start_of range) (blocks_of range)) (range_units ranges) ends (range_units-within blocks ranges both.1)
+
+-- there is one for each range
+length-range_units : (ranges : List (List ℕ)) → length (range_units ranges) ≡ length ranges
+unfolding range_units
+length-range_units ranges = length-map ranges (λ (range : List ℕ). OneRange (start_of range) (blocks_of range))
+
+length-ranges_in : (n : ℕ) (bytes : List ℕ) → length (ranges_in n bytes) ≡ n
+unfolding ranges_in
+length-ranges_in zero bytes = refl
+length-ranges_in (suc n) bytes = ap (λ (k : ℕ). suc k) (length-ranges_in n (drop 16 bytes))
 
 -- the units of a command, where its range is in the namespace
 units_of-within : (blocks : ℕ) (opcode : IoOpcode) (entry : List ℕ) → (has_blocks opcode && not (in_namespace (slba_of entry) (count_of entry) blocks)) ≡ false
@@ -146,15 +158,16 @@ unbuffered_len DatasetManagement entry none = cc
 -- Dataset Management, with its ranges read
 judge_ranges-sound : (mapped : ℕ → Bool) (blocks : ℕ) (entry : List ℕ) (pieces : List Piece) (ranges : List (List ℕ))
     → io_opcode (opcode_of entry) ≡ Some DatasetManagement → AreOfLen mapped (transfer_len DatasetManagement entry) pieces
-    → IfGo (IsSoundWork mapped blocks entry) (judge_ranges blocks entry pieces ranges)
-judge_ranges-sound mapped blocks entry pieces ranges is there =
+    → length ranges ≡ range_count_of entry → IfGo (IsSoundWork mapped blocks entry) (judge_ranges blocks entry pieces ranges)
+judge_ranges-sound mapped blocks entry pieces ranges is there many =
     (elim (list_all (range_fits blocks) ranges) as (λ b. list_all (range_fits blocks) ranges ≡ b →
-    IfGo (IsSoundWork mapped blocks entry) (cond b (Go (work_of DatasetManagement entry pieces (block_units (blocks_of_ranges ranges)))) (Refuse (refused_with LbaOutOfRange)))) [
+    IfGo (IsSoundWork mapped blocks entry) (cond b (Go (work_of DatasetManagement entry pieces (range_units ranges))) (Refuse (refused_with LbaOutOfRange)))) [
       | true ↦ λ fit. record {
         opcode = is;
         mapped_each = there.mapped_each;
         total = there.total;
-        within = block_units-within blocks (blocks_of_ranges ranges) (ranges-below blocks ranges fit);
+        within = range_units-within blocks ranges fit;
+        counted = λ buffered not_has. length-range_units ranges ∙ many;
         in_order = λ has. cc;
       }
       | false ↦ λ fit. tt
@@ -175,13 +188,15 @@ judge_reading-sound mapped blocks entry opcode (Spells pieces) is buffer fine th
       mapped_each = there.mapped_each;
       total = there.total;
       within = units_of-within blocks opcode entry fine;
+      counted = λ buffered not_has. cc;
       in_order = units_of-in_order blocks opcode entry;
     })
     (λ not_has.
     let ranged = ranged-is opcode buffer not_has in
     EndsIn-and_then (λ _. ⊤) (IfGo (IsSoundWork mapped blocks entry)) (read_source pieces []) _ (EndsIn-any (read_source pieces []))
     (λ bytes _. judge_ranges-sound mapped blocks entry pieces (ranges_in (range_count_of entry) bytes) (is ∙ ap (λ (o : IoOpcode). Some o) ranged)
-    (subst (λ (o : IoOpcode). AreOfLen mapped (transfer_len o entry) pieces) ranged there)))
+    (subst (λ (o : IoOpcode). AreOfLen mapped (transfer_len o entry) pieces) ranged there)
+    (length-ranges_in (range_count_of entry) bytes)))
 
 -- the checks of the fields leave the range of blocks in the namespace
 refusal_by_opcode-none : (blocks : ℕ) (entry : List ℕ) (opcode : IoOpcode) → refusal_by_opcode blocks entry (Some opcode) ≡ None
@@ -212,6 +227,7 @@ judge_by-sound mapped limit blocks entry (Some opcode) is none =
       mapped_each = All-nil (IsMappedPiece mapped);
       total = unbuffered_len opcode entry none_there;
       within = units_of-within blocks opcode entry fine;
+      counted = λ buffered not_has. cc;
       in_order = units_of-in_order blocks opcode entry;
     })
 

@@ -12,11 +12,11 @@ use Rattle.nv_model.specs.declared.act.Act.TheVariants as act
 use Rattle.nv_model.specs.declared.reply.Reply.{Reply}
 use Rattle.nv_model.specs.declared.reply.Reply.TheVariants as reply
 use Rattle.nv_model.specs.Memory.{gathered, scattered, stored}
-use Rattle.nv_model.specs.Judge.{AllBlocks, OneBlock, Verdict, Work, WorkUnit, block}
+use Rattle.nv_model.specs.Judge.{AllBlocks, OneBlock, OneRange, Verdict, Work, WorkUnit, block}
 use Rattle.nv_model.specs.Queue.{sqe_size}
 use Rattle.nv_model.specs.Controller.{Controller, Posted, doorbell, front, is_enabled, post, reg_read, reg_write}
 use Rattle.nv_model.specs.Admin.{AdminStep, NothingToDo, QueueFull, Stepped, admin}
-use Rattle.nv_model.specs.Private.{ActStep, AdminQueueStep, After, AtWork, Ended, GiveUpStep, JudgeStep, KeepStep, MoveStep, Moved, PostStep, Private, Progress, Run, RunOutStep, Shape, Step, TakeStep, Taken, Unjudged, acted, administered, block_bytes, block_moved, block_written, completed_at, controlled, differs, ending, further, given_up_at, judged_at, marked, may_take, moved_at, named, places_of_block, posted_at, progress_of, register_replied, run_of, run_out_at, step, taken_at, unit_done, unit_moved, with_named, with_progress, with_reply}
+use Rattle.nv_model.specs.Private.{ActStep, AdminQueueStep, After, AtWork, Ended, GiveUpStep, JudgeStep, KeepStep, MoveStep, Moved, PostStep, Private, Progress, Run, RunOutStep, Shape, Step, TakeStep, Taken, Unjudged, acted, administered, block_bytes, block_moved, block_written, completed_at, controlled, differs, ending, further, given_up_at, in_range, judged_at, marked, may_take, moved_at, named, places_of_block, posted_at, progress_of, register_replied, run_of, run_out_at, step, taken_at, unit_done, unit_moved, with_named, with_progress, with_reply}
 use Rattle.nv_model.specs.Laws.{IsInPlace, IsMappedPiece, IsMappedPlace, IsProgressInPlace, IsUnitWithin, LookAlike, RunsAlike, StepsAlike}
 use Rattle.nv_model.proofs.Agreeing.{bytes_from-agree}
 use Rattle.nv_model.proofs.Asking.{IsMappedFrom}
@@ -35,8 +35,8 @@ record MovedAlike (shape : Shape) (m n : Moved) : Type 0 where
   pub kept : (lba : ℕ) → lba < shape.blocks → m.kept lba ≡ n.kept lba
   pub differed : m.differed ≡ n.differed
 
--- a unit that is found among those within the namespace is within it
-slice_get-has : {X : Type 0} (P : X → Type 0) (xs : List X) (i : ℕ) → All P xs → IfSome (slice_get xs i) P
+-- an element that is found among those that have something has it
+pub slice_get-has : {X : Type 0} (P : X → Type 0) (xs : List X) (i : ℕ) → All P xs → IfSome (slice_get xs i) P
 slice_get-has P [] i each = tt
 slice_get-has P (x ∷ xs) zero each = All-head P x xs each
 slice_get-has P (x ∷ xs) (suc i) each = slice_get-has P xs i (All-tail P x xs each)
@@ -98,19 +98,25 @@ module _ (shape : Shape) (p : Private) (memory : ℕ → ℕ) (disk : ℕ → �
         differed = refl;
       }
   block_moved-alike DatasetManagement work index lba within pieces =
-      by_test_both (MovedAlike shape) work.deallocate _ _ _ _
-      (λ _. record {
-        memory = alike.memory;
-        disk = λ at offset below inside. block_written-at p.disk disk lba (replicate block 0) (replicate block 0) at offset refl (alike.disk at offset below inside);
-        kept = λ at below. marked-at p.kept kept lba false false at refl (alike.kept at below);
-        differed = refl;
-      })
-      (λ _. record { memory = alike.memory; disk = alike.disk; kept = alike.kept; differed = refl })
+      record { memory = alike.memory; disk = alike.disk; kept = alike.kept; differed = refl }
   block_moved-alike Flush work index lba within pieces = record { memory = alike.memory; disk = alike.disk; kept = alike.kept; differed = refl }
 
   unit_moved-alike : (unit : WorkUnit) (work : Work) → IsUnitWithin shape.blocks unit → All (IsMappedPiece shape.mapped) work.pieces
       → MovedAlike shape (unit_moved unit work p.memory p.disk p.kept) (unit_moved unit work memory disk kept)
   unit_moved-alike (OneBlock index lba) work within pieces = block_moved-alike work.opcode work index lba within pieces
+  unit_moved-alike (OneRange start count) work within pieces =
+      by_test_both (MovedAlike shape) work.deallocate _ _ _ _
+      (λ _. record {
+        memory = alike.memory;
+        disk = λ at offset below inside. cleared-at (in_range start count at) offset (p.disk at) (disk at) (alike.disk at offset below inside);
+        kept = λ at below. ap (λ (mark : Bool). cond (in_range start count at) false mark) (alike.kept at below);
+        differed = refl;
+      })
+      (λ _. record { memory = alike.memory; disk = alike.disk; kept = alike.kept; differed = refl })
+    where
+      cleared-at : (b : Bool) (offset : ℕ) (bytes other : ℕ → ℕ) → bytes offset ≡ other offset → cond b (λ _. 0) bytes offset ≡ cond b (λ _. 0) other offset
+      cleared-at true offset bytes other same = refl
+      cleared-at false offset bytes other same = same
   unit_moved-alike (AllBlocks all) work within pieces =
       record {
         memory = alike.memory;

@@ -1,7 +1,7 @@
 -- The verdict on an I/O command: the checks in their order, and what a command that passes them does. The order of the checks,
 -- the limit on a transfer (MDTS) and DNR are the project's own (profile).
 use Rattle.std.specs.Prelude.{ℕ, zero, suc, ◌+◌, ◌*◌, Bool, true, false, not, ◌&&◌, ◌==◌, nat_lt, if◌then◌else◌, List, [], ◌∷◌, ◌++◌, map, take, drop, Option, Some, None}
-use Rattle.std.specs.List.{list_all, range_with_len, flat_map, enumerate_from}
+use Rattle.std.specs.List.{list_all, range_with_len, enumerate_from}
 use Rattle.nv_entry.specs.Submission.{opcode_of, fuse_of, psdt_of, nsid_of, prp1_of, prp2_of, sgl_of, slba_of, nlb_of, fua_of, nr_of, deallocate_of}
 use Rattle.nv_entry.specs.Opcode.{io_opcode, data_pointer}
 use Rattle.nv_entry.specs.Range.{blocks_of, start_of}
@@ -22,10 +22,11 @@ use Rattle.nv_model.specs.Reading.{Reading, Faulty, TooLong, Spells, first_faili
 use Rattle.nv_model.specs.Sgl.{read_sgl}
 use Rattle.nv_model.specs.Prp.{read_prp}
 
--- one step of a command's work: a block of its LBA range (which one of the transfer, and its LBA), or a block of a range of Dataset
--- Management (likewise), or all blocks of a namespace of that many
+-- one step of a command's work: a block of its LBA range (which one of the transfer, and its LBA), or a range of Dataset Management
+-- (its first LBA, and of how many blocks), or all blocks of a namespace of that many
 pub data WorkUnit : Type 0 where
   OneBlock : (index lba : ℕ) → WorkUnit
+  OneRange : (start blocks : ℕ) → WorkUnit
   AllBlocks : (blocks : ℕ) → WorkUnit
 
 -- what a command that is carried out does: where its buffer lies, its units, and its flags
@@ -156,9 +157,9 @@ range_fits blocks range = in_namespace (start_of range) (blocks_of range) blocks
 unfoldable pub block_units : List ℕ → List WorkUnit
 block_units lbas = map (λ p. OneBlock p.0 p.1) (enumerate_from 0 lbas)
 
--- the blocks of the ranges, range by range
-unfoldable pub blocks_of_ranges : List (List ℕ) → List ℕ
-blocks_of_ranges ranges = flat_map (λ range. range_with_len (start_of range) (blocks_of range)) ranges
+-- a unit for each range, in their order
+unfoldable pub range_units : List (List ℕ) → List WorkUnit
+range_units ranges = map (λ range. OneRange (start_of range) (blocks_of range)) ranges
 
 -- the units of a command but for Dataset Management, in a namespace of `blocks` blocks
 abbrev pub units_of : (blocks : ℕ) → IoOpcode → List ℕ → List WorkUnit
@@ -182,7 +183,7 @@ work_of opcode entry pieces units =
 abbrev pub judge_ranges : ℕ → List ℕ → List Piece → List (List ℕ) → Verdict
 judge_ranges blocks entry pieces ranges =
     if list_all (range_fits blocks) ranges
-    then Go (work_of DatasetManagement entry pieces (block_units (blocks_of_ranges ranges)))
+    then Go (work_of DatasetManagement entry pieces (range_units ranges))
     else Refuse (refused_with LbaOutOfRange)
 
 -- a command whose list was read

@@ -8,7 +8,7 @@ use Rattle.nv_mem.specs.declared.piece.Piece.TheVariants as piece
 use Rattle.nv_entry.specs.Status.{StatusField}
 use Rattle.nv_model.specs.Memory.{bytes_from}
 use Rattle.nv_model.specs.Dialogue.{Dialogue, End, Ask}
-use Rattle.nv_model.specs.Judge.{WorkUnit, OneBlock, AllBlocks, Work, block}
+use Rattle.nv_model.specs.Judge.{WorkUnit, OneBlock, OneRange, AllBlocks, Work, block}
 use Rattle.nv_model.specs.Queue.{SubmissionQueue, CompletionQueue, ahead, cqe_size, sqe_size}
 use Rattle.nv_model.specs.Controller.{Controller, most_slots}
 use Rattle.nv_model.specs.Private.{After, AtWork, Ended, Private, Progress, Run, Shape, Taken, Unjudged}
@@ -45,9 +45,10 @@ abbrev pub IsMappedPlace : (ℕ → Bool) → Place → Type 0
 IsMappedPlace mapped (At addr) = mapped addr ≡ true
 IsMappedPlace mapped Bucket = ⊤
 
--- a unit is that of a block of the namespace, or of all its blocks
+-- a unit is that of a block of the namespace, of a range in it, or of all its blocks
 abbrev pub IsUnitWithin : (blocks : ℕ) → WorkUnit → Type 0
 IsUnitWithin blocks (OneBlock index lba) = lba < blocks
+IsUnitWithin blocks (OneRange start count) = start + count ≤ blocks
 IsUnitWithin blocks (AllBlocks all) = all ≡ blocks
 
 -- ---- commands that are carried out

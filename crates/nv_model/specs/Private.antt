@@ -1,7 +1,7 @@
 -- The private controller: what a guest would have if a controller, its memory and its namespace were its own. It has no tags, lanes,
 -- shared rings, bounce pages, transcripts or translated addresses. Each step is one atomic change; commands go on in any order (Base
 -- Specification 2.0, "Command Ordering Requirements"; NVM Command Set Specification 1.0, "NVM Command Set Commands", for what each does).
-use Rattle.std.specs.Prelude.{ℕ, ◌*◌, Bool, true, false, not, ◌&&◌, ◌||◌, ◌==◌, nat_lt, if◌then◌else◌, List, [], ◌∷◌, length, take, drop, filter, replicate, remove, slice_get, Option, Some, None, is_none}
+use Rattle.std.specs.Prelude.{ℕ, ◌+◌, ◌*◌, Bool, true, false, not, ◌&&◌, ◌||◌, ◌==◌, nat_le, nat_lt, if◌then◌else◌, List, [], ◌∷◌, length, take, drop, filter, replicate, remove, slice_get, Option, Some, None, is_none}
 use Rattle.std.specs.List.{find}
 use Rattle.nv_entry.specs.Layout.{number_bytes}
 use Rattle.nv_entry.specs.Submission.{cid_of}
@@ -18,7 +18,7 @@ use Rattle.nv_model.specs.declared.reply.Reply.{Reply}
 use Rattle.nv_model.specs.declared.reply.Reply.TheVariants as reply
 use Rattle.nv_model.specs.Memory.{bytes_from, stored, gathered, scattered}
 use Rattle.nv_model.specs.Dialogue.{in_memory}
-use Rattle.nv_model.specs.Judge.{WorkUnit, OneBlock, AllBlocks, Work, Verdict, Refuse, Go, judge, block}
+use Rattle.nv_model.specs.Judge.{WorkUnit, OneBlock, OneRange, AllBlocks, Work, Verdict, Refuse, Go, judge, block}
 use Rattle.nv_model.specs.Controller.{Controller, Posted, doorbell, front, is_enabled, opening, post, ran_out, reg_read, reg_write, took}
 use Rattle.nv_model.specs.Queue.{sqe_size}
 use Rattle.nv_model.specs.Admin.{AdminStep, NothingToDo, QueueFull, Stepped, admin}
@@ -67,6 +67,10 @@ block_written disk lba bytes at offset = if at == lba then stored (λ _. 0) 0 by
 -- the marks with that of a block as given
 abbrev pub marked : (ℕ → Bool) → (lba : ℕ) → Bool → ℕ → Bool
 marked kept lba mark at = if at == lba then mark else kept at
+
+-- whether a block is one of so many from the first on
+abbrev pub in_range : (start blocks lba : ℕ) → Bool
+in_range start blocks lba = nat_le start lba && nat_lt lba (start + blocks)
 
 -- where the block of this index of a transfer lies in the buffer
 abbrev pub places_of_block : Work → (index : ℕ) → List Place
@@ -123,22 +127,28 @@ block_moved WriteZeroes work index lba memory disk kept =
       kept = marked kept lba work.fua;
       differed = false;
     }
--- a block of a range is zeros and not kept once it is deallocated; the other attributes have no effect
+-- the units of the other two are no blocks
 block_moved DatasetManagement work index lba memory disk kept =
+    record { memory = memory; disk = disk; kept = kept; differed = false }
+block_moved Flush work index lba memory disk kept =
+    record { memory = memory; disk = disk; kept = kept; differed = false }
+
+-- a range of Dataset Management: all its blocks are zeros at once and not kept where it deallocates; the other attributes have no effect
+abbrev pub range_moved : Work → (start blocks : ℕ) → (ℕ → ℕ) → (ℕ → ℕ → ℕ) → (ℕ → Bool) → Moved
+range_moved work start blocks memory disk kept =
     if work.deallocate then
     record {
       memory = memory;
-      disk = block_written disk lba (replicate block 0);
-      kept = marked kept lba false;
+      disk = (λ lba. if in_range start blocks lba then (λ _. 0) else disk lba);
+      kept = (λ lba. if in_range start blocks lba then false else kept lba);
       differed = false;
     }
     else record { memory = memory; disk = disk; kept = kept; differed = false }
-block_moved Flush work index lba memory disk kept =
-    record { memory = memory; disk = disk; kept = kept; differed = false }
 
 -- a unit of a command; Flush makes every block of the namespace kept
 abbrev pub unit_moved : WorkUnit → Work → (ℕ → ℕ) → (ℕ → ℕ → ℕ) → (ℕ → Bool) → Moved
 unit_moved (OneBlock index lba) work memory disk kept = block_moved work.opcode work index lba memory disk kept
+unit_moved (OneRange start blocks) work memory disk kept = range_moved work start blocks memory disk kept
 unit_moved (AllBlocks blocks) work memory disk kept =
     record { memory = memory; disk = disk; kept = (λ lba. nat_lt lba blocks || kept lba); differed = false }
 

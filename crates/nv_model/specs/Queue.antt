@@ -1,4 +1,4 @@
--- Queues: Base Specification 2.0, "Submission Queue and Completion Queue Definition" (empty and full queues), "Phase Tag"
+-- Queues: Base Specification 2.0, "Memory-based Transport Queue Model" (usage, empty and full queues), "Phase Tag"
 use Rattle.std.specs.Prelude.{ℕ, ◌+◌, ◌-◌, ◌%◌, Bool, true, false, not, ◌==◌, if◌then◌else◌}
 
 -- a submission queue: where its slots lie and how many, its head and tail, the completion queue that it uses, and whether it is

@@ -1,5 +1,5 @@
 -- The fields of a line, one behind another
-use Rattle.std.proofs.Common.{◌≡◌, ℕ, ◌==◌, Bool, true, false, List, ◌++◌, Option, Result, Ok, Err, IsTrue, OnOk, ◌↔◌, ap, ◌∙◌, subst, rules}
+use Rattle.std.proofs.Common.{◌≡◌, ℕ, ◌==◌, Bool, List, ◌++◌, Option, Result, Ok, Err, IsTrue, OnOk, ◌↔◌, ap, ◌∙◌, subst, rules}
 use Rattle.std.specs.Int.{bytes_high_first}
 use Rattle.std.specs.Io.KnownBytes.{Appends}
 use Rattle.std.specs.Fmt.{decimal}

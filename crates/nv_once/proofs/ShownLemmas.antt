@@ -1,6 +1,6 @@
 -- Bytes moved and printed in chunks, and lines shown one after another
-use Rattle.std.proofs.Common.{◌≡◌, ℕ, zero, suc, ◌+◌, ◌<◌, ◌≤◌, Bool, List, [], ◌∷◌, ◌++◌, length, take, drop, get_or, Option, Some, None, IfSome, Ok, refl, sym, ap, ◌∙◌, arith, append_assoc, subst}
-use Rattle.std.proofs.lemmas.List.{length-append, length-take, length-drop, drop-drop, append-nil}
+use Rattle.std.proofs.Common.{◌≡◌, ℕ, zero, suc, ◌+◌, ◌≤◌, Bool, List, [], ◌∷◌, ◌++◌, length, take, drop, Option, Some, None, IfSome, Ok, refl, sym, ap, ◌∙◌, arith, append_assoc, subst}
+use Rattle.std.proofs.lemmas.List.{length-append, length-take, drop-drop, append-nil}
 use Rattle.std.proofs.Math.Seq.{take-nil, drop-nil, take-append_seam, drop-append-add}
 use Rattle.std.specs.Io.KnownBytes.{Appends, Keeps}
 use Rattle.hex.specs.Hex.{encode_with}

@@ -1,9 +1,9 @@
 //! What each verdict that goes says, whatever the memory holds.
-ghost use Rattle.std.specs.Prelude.{◌≡◌, ℕ, ◌+◌, ◌<◌, Bool, true, List, length, All, Some, slice_get};
+ghost use Rattle.std.specs.Prelude.{◌≡◌, ℕ, ◌+◌, ◌<◌, Bool, true, false, List, length, All, Some, slice_get};
 ghost use Rattle.nv_entry.specs.Opcode.{io_opcode};
 ghost use Rattle.nv_entry.specs.Submission.{opcode_of, slba_of};
 ghost use Rattle.nv_mem.specs.Places.{places_of, total_len};
-ghost use Rattle.nv_model.specs.Judge.{Work, OneBlock, Go, count_of, has_blocks, transfer_len};
+ghost use Rattle.nv_model.specs.Judge.{Work, OneBlock, Go, count_of, has_blocks, has_buffer, range_count_of, transfer_len};
 ghost use Rattle.nv_model.specs.Private.{Shape, verdict_in};
 ghost use Rattle.nv_model.specs.Laws.{IsMappedPiece, IsMappedPlace, IsUnitWithin};
 
@@ -40,4 +40,11 @@ pub fn units_are_the_blocks_in_order()
     ensures each { (shape : Shape) (memory : ℕ → ℕ) (entry : List ℕ) (work : Work) (i : ℕ) →
         verdict_in shape memory entry ≡ Go work → has_blocks work.opcode ≡ true → i < count_of entry →
         slice_get work.units i ≡ Some (OneBlock i (slba_of entry + i)) }
+{}
+
+/// A Dataset Management has one unit for each of its ranges.
+pub fn units_are_as_many_as_the_ranges()
+    ensures { (shape : Shape) (memory : ℕ → ℕ) (entry : List ℕ) (work : Work) →
+        verdict_in shape memory entry ≡ Go work → has_buffer work.opcode ≡ true → has_blocks work.opcode ≡ false →
+        length work.units ≡ range_count_of entry }
 {}

@@ -156,26 +156,49 @@ pub fn write_zeroes_zeroes_its_blocks()
 /// Dataset Management with deallocate set zeroes the blocks of its ranges, which are no longer kept.
 #[tactic(none)]
 pub fn deallocate_zeroes_its_blocks()
-    ensures { after (carried 3)
+    ensures { after (carried 2)
         (with_command (holding 0x3000 (block_range 5 2 ++ block_range 1 1)) numbered_blocks (all_marks true) (manage true 1 (data_block 0x3000 32)))
-        (λ p. block_byte 1 0 p ∷ block_byte 4 0 p ∷ block_byte 5 0 p ∷ block_byte 6 511 p ∷ [])
-        ≡ Some ((0, false) ∷ (4, true) ∷ (0, false) ∷ (0, false) ∷ []) }
+        (λ p. block_byte 1 0 p ∷ block_byte 2 0 p ∷ block_byte 4 0 p ∷ block_byte 5 0 p ∷ block_byte 6 511 p ∷ block_byte 7 0 p ∷ [])
+        ≡ Some ((0, false) ∷ (2, true) ∷ (4, true) ∷ (0, false) ∷ (0, false) ∷ (7, true) ∷ []) }
+{}
+
+/// All blocks of a range become zeros at once, before those of the next range.
+#[tactic(none)]
+pub fn a_range_is_deallocated_at_once()
+    ensures { after (carried 1)
+        (with_command (holding 0x3000 (block_range 5 2 ++ block_range 1 1)) numbered_blocks (all_marks true) (manage true 1 (data_block 0x3000 32)))
+        (λ p. block_byte 1 0 p ∷ block_byte 5 0 p ∷ block_byte 6 511 p ∷ [])
+        ≡ Some ((1, true) ∷ (0, false) ∷ (0, false) ∷ []) }
+{}
+
+/// The second of two ranges may be deallocated first.
+#[tactic(none)]
+pub fn the_second_of_two_ranges_may_move_first()
+    ensures { after (JudgeStep 0 ∷ MoveStep 0 1 ∷ [])
+        (with_command (holding 0x3000 (block_range 5 2 ++ block_range 1 1)) numbered_blocks (all_marks true) (manage true 1 (data_block 0x3000 32)))
+        (λ p. block_byte 1 0 p ∷ block_byte 5 0 p ∷ block_byte 6 511 p ∷ [])
+        ≡ Some ((0, false) ∷ (5, true) ∷ (6, true) ∷ []) }
 {}
 
 /// With deallocate clear its units have no effect.
 #[tactic(none)]
 pub fn deallocate_clear_has_no_effect()
-    ensures { after (carried 3)
+    ensures { after (carried 2)
         (with_command (holding 0x3000 (block_range 5 2 ++ block_range 1 1)) numbered_blocks (all_marks true) (manage false 1 (data_block 0x3000 32)))
         (λ p. block_byte 1 0 p ∷ block_byte 5 0 p ∷ block_byte 6 511 p ∷ [])
         ≡ Some ((1, true) ∷ (5, true) ∷ (6, true) ∷ []) }
 {}
 
-/// A range of no blocks ends its command as it is judged, in Success.
+/// A range of no blocks is a unit that changes nothing; the command has ended, in Success, behind it and not before.
 #[tactic(none)]
-pub fn a_range_of_no_blocks_ends_at_once()
-    ensures { after (carried 0) (with_command (holding 0x3000 (block_range 64 0)) numbered_blocks (all_marks true) (manage true 0 (data_block 0x3000 16))) ended
+pub fn a_range_of_no_blocks_is_a_unit()
+    ensures before { after (carried 0) (with_command (holding 0x3000 (block_range 64 0)) numbered_blocks (all_marks true) (manage true 0 (data_block 0x3000 16))) ended
+        ≡ Some None }
+    ensures behind { after (carried 1) (with_command (holding 0x3000 (block_range 64 0)) numbered_blocks (all_marks true) (manage true 0 (data_block 0x3000 16))) ended
         ≡ Some (Some 0x00010007) }
+    ensures unchanged { after (carried 1) (with_command (holding 0x3000 (block_range 63 0)) numbered_blocks (all_marks true) (manage true 0 (data_block 0x3000 16)))
+        (λ p. block_byte 62 0 p ∷ block_byte 63 0 p ∷ [])
+        ≡ Some ((62, true) ∷ (63, true) ∷ []) }
 {}
 
 /// Flush makes every block kept.

@@ -4,7 +4,7 @@ ghost use Rattle.std.specs.Prelude.{◌≡◌, [], ◌∷◌, ◌++◌, ◌+◌,
 ghost use Rattle.nv_mem.specs.declared.piece.Piece.TheVariants.{Run};
 ghost use Rattle.nv_entry.specs.StatusCode.{done_with, refused_with};
 ghost use Rattle.nv_entry.specs.declared.status_code.StatusCode.TheVariants.{DataTransferError, InternalError, SglTypeInvalid};
-ghost use Rattle.nv_model.specs.Judge.{OneBlock, Refuse};
+ghost use Rattle.nv_model.specs.Judge.{OneBlock, OneRange, Refuse};
 ghost use Rattle.nv_model.specs.Transcript.{Settled, Wanted};
 ghost use Rattle.nv_model.specs.Rows.{block_range, by_prp, by_sgl, data_block, last_segment, manage, manages, one_block, outcome_in, outcome_within, prp_entries, read, read_of, reads, type_four};
 
@@ -136,5 +136,5 @@ pub fn the_ranges_are_wanted()
 #[tactic(none)]
 pub fn the_ranges_settle_the_verdict()
     ensures { outcome_in (manage true 1 (data_block 0x3000 32)) (read_of 0x3000 (block_range 5 2 ++ block_range 0 1) ∷ [])
-        ≡ Settled (manages true (Run 0x3000 32 ∷ []) (OneBlock 0 5 ∷ OneBlock 1 6 ∷ OneBlock 2 0 ∷ [])) }
+        ≡ Settled (manages true (Run 0x3000 32 ∷ []) (OneRange 5 2 ∷ OneRange 0 1 ∷ [])) }
 {}

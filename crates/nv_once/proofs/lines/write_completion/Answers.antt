@@ -1,7 +1,6 @@
 -- each field is printed behind those before it
 use Rattle.std.proofs.Common.{[], ◌∷◌, ◌++◌, ◌==◌, ap, ◌∙◌, codes}
 use Rattle.std.specs.Fmt.{decimal}
-use Rattle.hex.specs.Hex.{encode_lower}
 use Rattle.nv_entry.specs.Completion.{dw0_of, sqhd_of, sqid_of, cid_of, phase_of, sct_of, sc_of, crd_of, more_of, dnr_of}
 use Rattle.nv_once.specs.Printed.{hex_byte, hex_number, line_feed, flag}
 use Rattle.nv_once.proofs.LineLemmas.{Appends-last, as_test, bytes_field, flag_field, hex_field, number_field}

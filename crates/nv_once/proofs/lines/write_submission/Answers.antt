@@ -1,5 +1,5 @@
 -- each field is printed behind those before it
-use Rattle.std.proofs.Common.{[], ◌∷◌, ◌++◌, ◌==◌, ap, ◌∙◌, codes}
+use Rattle.std.proofs.Common.{[], ◌∷◌, ◌++◌, ap, ◌∙◌, codes}
 use Rattle.std.specs.Fmt.{decimal}
 use Rattle.hex.specs.Hex.{encode_lower}
 use Rattle.nv_entry.specs.Submission.{opcode_of, fuse_of, psdt_of, cid_of, nsid_of, sgl_of, cdw_of}

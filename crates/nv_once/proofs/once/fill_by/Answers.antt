@@ -1,4 +1,4 @@
-use Rattle.std.proofs.Common.{◌≡◌, ◌+◌, ◌++◌, length, replicate, take, List, ℕ, ap, sym, arith, rules, ◌∙◌}
+use Rattle.std.proofs.Common.{◌≡◌, ◌+◌, length, replicate, take, ap, sym, arith, rules, ◌∙◌}
 use Rattle.std.proofs.lemmas.List.{length-replicate, replicate-append-replicate, take-replicate}
 use Rattle.nv_mem.specs.Bytes.{after_store}
 use Rattle.nv_flat.specs.Flat.{Flat, flat}

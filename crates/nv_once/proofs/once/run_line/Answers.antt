@@ -1,4 +1,4 @@
-use Rattle.std.proofs.Common.{◌≡◌, [], refl, rules}
+use Rattle.std.proofs.Common.{[], refl}
 use Rattle.nv_once.proofs.ShownLemmas.{Appends-nothing}
 use Rattle.nv_once.proofs.once.run_line.Goals as goal
 

@@ -1,4 +1,4 @@
-use Rattle.std.proofs.Common.{◌∙◌, ◌+◌, ◌*◌, ◌≤◌, inl, ℕ, List, length, sym, ap, subst, false, arith}
+use Rattle.std.proofs.Common.{◌∙◌, ◌+◌, ◌*◌, inl, ℕ, List, sym, ap, subst, false, arith}
 use Rattle.nv_entry.specs.declared.opcode.IoOpcode.TheVariants.{Read}
 use Rattle.nv_mem.specs.Bytes.{bytes_at}
 use Rattle.nv_flat.specs.Flat.{flat, moved_of}

@@ -1,4 +1,4 @@
-use Rattle.std.proofs.Common.{◌∙◌, ◌+◌, ◌*◌, ℕ, List, length, sym, ap, subst, false, arith}
+use Rattle.std.proofs.Common.{◌∙◌, ◌+◌, ◌*◌, ℕ, List, sym, ap, subst, false, arith}
 use Rattle.nv_entry.specs.declared.opcode.IoOpcode.TheVariants.{Write}
 use Rattle.nv_mem.specs.Bytes.{bytes_at}
 use Rattle.nv_model.specs.Carried.{units_moved}
