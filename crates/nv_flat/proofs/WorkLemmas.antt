@@ -112,6 +112,7 @@ unfolding cleared
 cleared-marks start zero mark m lba = ap (λ (b : Bool). cond b mark (m.kept lba)) (sym (in_range-none start lba))
 cleared-marks start (suc n) mark m lba =
     cleared-marks (start + 1) n mark (clear start mark m) lba ∙ in_range-more start n lba mark (m.kept lba)
+
 cleared-rest : (lbas : List ℕ) (mark : Bool) (m : Moved) → ((cleared lbas mark m).memory ≡ m.memory) × ((cleared lbas mark m).differed ≡ m.differed)
 unfolding cleared
 cleared-rest [] mark m = (refl, refl)
