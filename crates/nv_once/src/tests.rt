@@ -3,8 +3,10 @@
 use crate::{Command, EntryKind, ExitStatus, Fault, perform, report};
 use nv_flat::FlatController;
 use std::alloc::Global;
+use std::fmt::Debug;
 use std::io::{self, ErrorKind, Read, Write};
 use std::process::Abort;
+use std::test::Fail;
 
 const READ: &str =
     "02400700010000000000000000000000000000000000000000300000000000000002000000000000050000000000000000000000000000000000000000000000";
@@ -67,6 +69,11 @@ fn decode<'a>(name: &str, digits: &'a str) -> Option<Command<'a>> {
     Some(Command::Decode { kind, digits })
 }
 
+/// Ends the test where a case gives something else than is wanted.
+fn same<T: PartialEq + Debug>(rt: &impl Abort, case: &impl Debug, found: &T, want: &T) {
+    assert_eq!(rt; found, want, "{case:?}");
+}
+
 fn expect(
     rt: &(impl Abort + AllocGlobal),
     command: Option<Command<'_>>,
@@ -80,55 +87,62 @@ fn expect(
         return;
     };
     let run = run(rt.alloc(), command, text.as_bytes());
-    assert_eq!(rt;
-        run.output.as_slice(),
-        output.as_bytes(),
-        "{command:?} {text}"
-    );
-    assert_eq!(rt;
-        run.faults.as_slice(),
-        faults.as_bytes(),
-        "{command:?} {text}"
-    );
-    assert_eq!(rt; run.status, status, "{command:?} {text}");
+    let case = (command, text);
+    same(rt, &case, &run.output.as_slice(), &output.as_bytes());
+    same(rt, &case, &run.faults.as_slice(), &faults.as_bytes());
+    same(rt, &case, &run.status, &status);
+}
+
+/// Kinds of entries, digits, and what they are decoded to.
+const DECODED: [(&str, &str, &str); 4] = [
+    ("sqe", READ, READ_LINE),
+    ("sqe", MIXED, MIXED_LINE),
+    ("cqe", DONE, DONE_LINE),
+    ("cqe", FAILED, FAILED_LINE),
+];
+
+fn expect_decoded(rt: &(impl Abort + AllocGlobal), rows: &[(&str, &str, &str)]) {
+    for (kind, digits, line) in rows {
+        let command = decode(kind, digits);
+        expect(rt, command, "", ExitStatus::Success, line, "");
+    }
 }
 
 #[test]
 fn decodes(rt: HostRuntime) {
-    for (kind, digits, line) in [
-        ("sqe", READ, READ_LINE),
-        ("sqe", MIXED, MIXED_LINE),
-        ("cqe", DONE, DONE_LINE),
-        ("cqe", FAILED, FAILED_LINE),
-    ] {
+    expect_decoded(&rt, &DECODED);
+}
+
+/// Kinds of entries, and what spells none of them.
+const BAD_BYTES: [(&str, &str); 15] = [
+    ("sqe", ""),
+    ("cqe", ""),
+    ("cqe", " "),
+    ("sqe", "0"),
+    ("sqe", DONE),
+    ("cqe", READ),
+    ("cqe", "0000000000000000010001000700010"),
+    ("cqe", "000000000000000001000100070001000"),
+    ("cqe", "000000000000000001000100070001"),
+    ("cqe", "0000000000000000010001000700010000"),
+    ("cqe", "0x000000000000000100010007000100"),
+    ("cqe", "+0000000000000000100010007000100"),
+    ("cqe", "0000000000000000010001000700010g"),
+    ("cqe", "00000000 00000000100010007000100"),
+    ("cqe", "000000000000000001000100070001é"),
+];
+
+fn expect_bad_bytes(rt: &(impl Abort + AllocGlobal), rows: &[(&str, &str)]) {
+    let fault = "line 1: bad bytes\n";
+    for (kind, digits) in rows {
         let command = decode(kind, digits);
-        expect(&rt, command, "", ExitStatus::Success, line, "");
+        expect(rt, command, "", ExitStatus::ScriptFault, "", fault);
     }
 }
 
 #[test]
 fn refuses_bad_bytes(rt: HostRuntime) {
-    for (kind, digits) in [
-        ("sqe", ""),
-        ("cqe", ""),
-        ("cqe", " "),
-        ("sqe", "0"),
-        ("sqe", DONE),
-        ("cqe", READ),
-        ("cqe", "0000000000000000010001000700010"),
-        ("cqe", "000000000000000001000100070001000"),
-        ("cqe", "000000000000000001000100070001"),
-        ("cqe", "0000000000000000010001000700010000"),
-        ("cqe", "0x000000000000000100010007000100"),
-        ("cqe", "+0000000000000000100010007000100"),
-        ("cqe", "0000000000000000010001000700010g"),
-        ("cqe", "00000000 00000000100010007000100"),
-        ("cqe", "000000000000000001000100070001é"),
-    ] {
-        let command = decode(kind, digits);
-        let fault = "line 1: bad bytes\n";
-        expect(&rt, command, "", ExitStatus::ScriptFault, "", fault);
-    }
+    expect_bad_bytes(&rt, &BAD_BYTES);
 }
 
 const FIRST_RUN: &str =
@@ -137,63 +151,64 @@ const FIRST_RUN: &str =
 const WRITE_RUN: &str =
     "memory 0x10000\nblocks 64\nfill 0x3000 512 0x11\ncmd 01400700010000000000000000000000000000000000000000300000000000000002000000000000050000000000000000000000000000000000000000000000\ndump 0x3000 0\ndump 0x31fe 4";
 
+/// Scripts and what they print.
+const SCRIPTS: [(&str, &str); 4] = [
+    (FIRST_RUN, "00000000000000000100010007000100\nabababab\n"),
+    (WRITE_RUN, "00000000000000000100010007000100\n-\n11110000\n"),
+    ("memory 4096\nblocks 1", ""),
+    (
+        "blocks 1\nmemory 4096\nstore 0xffe a1B2\ndump 0xffd 3\n",
+        "00a1b2\n",
+    ),
+];
+
+fn expect_printed(rt: &(impl Abort + AllocGlobal), rows: &[(&str, &str)]) {
+    for (script, printed) in rows {
+        let once = Some(Command::Once);
+        expect(rt, once, script, ExitStatus::Success, printed, "");
+    }
+}
+
 #[test]
 fn runs_scripts(rt: HostRuntime) {
-    for (script, printed) in [
-        (FIRST_RUN, "00000000000000000100010007000100\nabababab\n"),
-        (WRITE_RUN, "00000000000000000100010007000100\n-\n11110000\n"),
-        ("memory 4096\nblocks 1", ""),
-        (
-            "blocks 1\nmemory 4096\nstore 0xffe a1B2\ndump 0xffd 3\n",
-            "00a1b2\n",
-        ),
-    ] {
-        expect(
-            &rt,
-            Some(Command::Once),
-            script,
-            ExitStatus::Success,
-            printed,
-            "",
-        );
+    expect_printed(&rt, &SCRIPTS);
+}
+
+#[test]
+fn prints_blocks(rt: HostRuntime) -> Result<(), Fail> {
+    let twos = "2".repeat(rt.alloc(), 1024)?;
+    let zeros = "0".repeat(rt.alloc(), 1024)?;
+    let printed = format!(in rt.alloc(); "{twos}\n{zeros}\n")?;
+    let script = "memory 4096\nblocks 2\npaint 1 0x22\nblock 1\nblock 0";
+    expect_printed(&rt, &[(script, &printed)]);
+    Ok(())
+}
+
+/// Scripts and their faults.
+const FAULTY: [(&str, &str); 5] = [
+    ("", "line 1: out of place\n"),
+    (
+        "memory 0x10000\nblocks 64\ndump 0xfffe 4",
+        "line 3: out of range\n",
+    ),
+    ("memory 0x10000\nblocks 64\ncmd 00", "line 3: bad bytes\n"),
+    (
+        "memory 0x10000\nblocks 64\ndump 0 1\nhullo",
+        "line 4: unknown word\n",
+    ),
+    ("memory 0x10001\nblocks 64", "line 1: bad number\n"),
+];
+
+fn expect_faults(rt: &(impl Abort + AllocGlobal), rows: &[(&str, &str)]) {
+    for (script, fault) in rows {
+        let once = Some(Command::Once);
+        expect(rt, once, script, ExitStatus::ScriptFault, "", fault);
     }
-    let script = b"memory 4096\nblocks 2\npaint 1 0x22\nblock 1\nblock 0";
-    let run = run(rt.alloc(), Command::Once, script.as_slice());
-    assert_eq!(rt; run.output.len(), 2050);
-    assert!(rt; run.output.iter().take(1024).all(|digit| *digit == b'2'));
-    assert!(rt;
-        run.output
-            .iter()
-            .skip(1025)
-            .take(1024)
-            .all(|digit| *digit == b'0')
-    );
 }
 
 #[test]
 fn tells_the_first_faulty_line(rt: HostRuntime) {
-    for (script, fault) in [
-        ("", "line 1: out of place\n"),
-        (
-            "memory 0x10000\nblocks 64\ndump 0xfffe 4",
-            "line 3: out of range\n",
-        ),
-        ("memory 0x10000\nblocks 64\ncmd 00", "line 3: bad bytes\n"),
-        (
-            "memory 0x10000\nblocks 64\ndump 0 1\nhullo",
-            "line 4: unknown word\n",
-        ),
-        ("memory 0x10001\nblocks 64", "line 1: bad number\n"),
-    ] {
-        expect(
-            &rt,
-            Some(Command::Once),
-            script,
-            ExitStatus::ScriptFault,
-            "",
-            fault,
-        );
-    }
+    expect_faults(&rt, &FAULTY);
 }
 
 /// A reader that gives these bytes, and then fails.
@@ -216,46 +231,56 @@ impl Read for FailingReader<'_> {
     }
 }
 
+/// How many bytes of the first run are read before the reader fails, how it fails, and what is told.
+type FailedRead = (usize, ErrorKind, ExitStatus, &'static str);
+
+const FAILED_READS: [FailedRead; 5] = [
+    (
+        0,
+        ErrorKind::PermissionDenied,
+        ExitStatus::InputOutput,
+        "cannot read\n",
+    ),
+    (
+        1,
+        ErrorKind::IsADirectory,
+        ExitStatus::InputOutput,
+        "cannot read\n",
+    ),
+    (
+        60,
+        ErrorKind::UnexpectedEof,
+        ExitStatus::InputOutput,
+        "cannot read\n",
+    ),
+    (
+        1000,
+        ErrorKind::BrokenPipe,
+        ExitStatus::InputOutput,
+        "cannot read\n",
+    ),
+    (
+        60,
+        ErrorKind::OutOfMemory,
+        ExitStatus::NoMemory,
+        "no memory\n",
+    ),
+];
+
+fn expect_failed_reads(rt: &(impl Abort + AllocGlobal), rows: &[FailedRead]) {
+    for (read, kind, status, told) in rows {
+        let (text, _) = FIRST_RUN.as_bytes().split_at(FIRST_RUN.len().min(*read));
+        let reader = FailingReader { text, kind: *kind };
+        let run = run(rt.alloc(), Command::Once, reader);
+        same(rt, read, &run.status, status);
+        same(rt, read, &run.faults.as_slice(), &told.as_bytes());
+        same(rt, read, &run.output.is_empty(), &true);
+    }
+}
+
 #[test]
 fn tells_of_a_reader_that_fails(rt: HostRuntime) {
-    for (read, kind, status, told) in [
-        (
-            0,
-            ErrorKind::PermissionDenied,
-            ExitStatus::InputOutput,
-            "cannot read\n",
-        ),
-        (
-            1,
-            ErrorKind::IsADirectory,
-            ExitStatus::InputOutput,
-            "cannot read\n",
-        ),
-        (
-            60,
-            ErrorKind::UnexpectedEof,
-            ExitStatus::InputOutput,
-            "cannot read\n",
-        ),
-        (
-            1000,
-            ErrorKind::BrokenPipe,
-            ExitStatus::InputOutput,
-            "cannot read\n",
-        ),
-        (
-            60,
-            ErrorKind::OutOfMemory,
-            ExitStatus::NoMemory,
-            "no memory\n",
-        ),
-    ] {
-        let (text, _) = FIRST_RUN.as_bytes().split_at(FIRST_RUN.len().min(read));
-        let run = run(rt.alloc(), Command::Once, FailingReader { text, kind });
-        assert_eq!(rt; run.status, status, "{read}");
-        assert_eq!(rt; run.faults.as_slice(), told.as_bytes(), "{read}");
-        assert!(rt; run.output.is_empty(), "{read}");
-    }
+    expect_failed_reads(&rt, &FAILED_READS);
 }
 
 /// A writer that keeps what it takes. Once it is full it fails; or it takes all and fails to flush.
@@ -294,57 +319,91 @@ fn writer(alloc: Global, room: usize, flushes: bool) -> FailingWriter {
     }
 }
 
+/// How many bytes a writer has room for, whether it flushes, and how a command ends then.
+type Written = (usize, bool, Result<(), Fault>);
+
+/// Ends the test where a command ends otherwise, or where what was taken is not the front of the whole that there is room for.
+fn expect_written(
+    rt: &(impl Abort + AllocGlobal),
+    command: Command<'_>,
+    script: &str,
+    whole: &str,
+    rows: &[Written],
+) {
+    for (room, flushes, want) in rows {
+        let mut output = writer(rt.alloc(), *room, *flushes);
+        let ended = perform_on_flat(rt.alloc(), command, script.as_bytes(), &mut output);
+        same(rt, room, &ended, want);
+        let (front, _) = whole.as_bytes().split_at(whole.len().min(*room));
+        same(rt, room, &(output.taken.as_slice() == front), &true);
+    }
+}
+
+/// 74 bytes are printed.
+const DECODED_INTO: [Written; 5] = [
+    (0, true, Err(Fault::CannotWrite)),
+    (1, true, Err(Fault::CannotWrite)),
+    (73, true, Err(Fault::CannotWrite)),
+    (1000, false, Err(Fault::CannotWrite)),
+    (74, true, Ok(())),
+];
+
 #[test]
 fn tells_of_a_writer_that_fails(rt: HostRuntime) {
     let Some(command) = decode("cqe", DONE) else {
         return;
     };
-    for (room, flushes) in [(0, true), (1, true), (73, true), (1000, false)] {
-        let mut output = writer(rt.alloc(), room, flushes);
-        let ended = perform_on_flat(rt.alloc(), command, b"".as_slice(), &mut output);
-        assert_eq!(rt; ended, Err(Fault::CannotWrite), "{room}");
-        assert!(rt; DONE_LINE.as_bytes().starts_with(&output.taken), "{room}");
-        let mut faults = Vec::new(rt.alloc());
-        let status = report(Fault::CannotWrite, &mut faults);
-        assert_eq!(rt; status, ExitStatus::InputOutput);
-        assert_eq!(rt; faults.as_slice(), b"cannot write\n".as_slice());
-    }
-    let mut output = writer(rt.alloc(), 74, true);
-    let ended = perform_on_flat(rt.alloc(), command, b"".as_slice(), &mut output);
-    assert_eq!(rt; ended, Ok(()));
-    assert_eq!(rt; output.taken.as_slice(), DONE_LINE.as_bytes());
+    expect_written(&rt, command, "", DONE_LINE, &DECODED_INTO);
+    let mut faults = Vec::new(rt.alloc());
+    let status = report(Fault::CannotWrite, &mut faults);
+    same(&rt, &"status", &status, &ExitStatus::InputOutput);
+    same(
+        &rt,
+        &"told",
+        &faults.as_slice(),
+        &b"cannot write\n".as_slice(),
+    );
 }
 
+/// 65,536 digits and a line feed are printed.
+const DUMPED_INTO: [Written; 8] = [
+    (0, true, Err(Fault::CannotWrite)),
+    (1, true, Err(Fault::CannotWrite)),
+    (8191, true, Err(Fault::CannotWrite)),
+    (8192, true, Err(Fault::CannotWrite)),
+    (8193, true, Err(Fault::CannotWrite)),
+    (40_001, true, Err(Fault::CannotWrite)),
+    (65_536, true, Err(Fault::CannotWrite)),
+    (65_537, true, Ok(())),
+];
+
 #[test]
-fn a_script_whose_writer_fails(rt: HostRuntime) {
-    // 65,536 digits and a line feed
-    let script = b"memory 0x10000\nblocks 1\nfill 0 0x8000 0xab\ndump 0 0x8000";
-    for room in [0, 1, 8191, 8192, 8193, 40_001, 65_536] {
-        let mut output = writer(rt.alloc(), room, true);
-        let ended = perform_on_flat(rt.alloc(), Command::Once, script.as_slice(), &mut output);
-        assert_eq!(rt; ended, Err(Fault::CannotWrite), "{room}");
-        assert_eq!(rt; output.taken.len(), room);
-        for (i, digit) in output.taken.iter().enumerate() {
-            assert_eq!(rt; *digit, if i % 2 == 0 { b'a' } else { b'b' }, "{i}");
-        }
+fn a_script_whose_writer_fails(rt: HostRuntime) -> Result<(), Fail> {
+    let script = "memory 0x10000\nblocks 1\nfill 0 0x8000 0xab\ndump 0 0x8000";
+    let digits = "ab".repeat(rt.alloc(), 32_768)?;
+    let whole = format!(in rt.alloc(); "{digits}\n")?;
+    expect_written(&rt, Command::Once, script, &whole, &DUMPED_INTO);
+    Ok(())
+}
+
+/// Faults and their exit statuses.
+const FAULTS: [(Fault, ExitStatus); 4] = [
+    (Fault::CannotWrite, ExitStatus::InputOutput),
+    (Fault::BadBytes, ExitStatus::ScriptFault),
+    (Fault::Usage, ExitStatus::Usage),
+    (Fault::NoMemory, ExitStatus::NoMemory),
+];
+
+fn expect_statuses(rt: &(impl Abort + AllocGlobal), rows: &[(Fault, ExitStatus)]) {
+    for (fault, status) in rows {
+        let faults = writer(rt.alloc(), 3, false);
+        same(rt, fault, &report(*fault, faults), status);
     }
-    let mut output = writer(rt.alloc(), 65_537, true);
-    let ended = perform_on_flat(rt.alloc(), Command::Once, script.as_slice(), &mut output);
-    assert_eq!(rt; ended, Ok(()));
-    assert_eq!(rt; output.taken.last().copied(), Some(b'\n'));
 }
 
 #[test]
 fn ends_as_ever_where_the_fault_writer_fails(rt: HostRuntime) {
-    for (fault, status) in [
-        (Fault::CannotWrite, ExitStatus::InputOutput),
-        (Fault::BadBytes, ExitStatus::ScriptFault),
-        (Fault::Usage, ExitStatus::Usage),
-        (Fault::NoMemory, ExitStatus::NoMemory),
-    ] {
-        let faults = writer(rt.alloc(), 3, false);
-        assert_eq!(rt; report(fault, faults), status);
-    }
+    expect_statuses(&rt, &FAULTS);
 }
 
 /// A writer that needs no memory.
@@ -389,12 +448,13 @@ fn a_script_where_memory_is_refused(rt: HostRuntime) {
     let mut faults = Page::new();
     let whole = b"00000000000000000100010007000100\nabababab\n".as_slice();
     match perform_on_flat(rt.alloc(), Command::Once, FIRST_RUN.as_bytes(), &mut output) {
-        Ok(()) => assert_eq!(rt; output.text(), whole),
+        Ok(()) => same(&rt, &"all", &output.text(), &whole),
         Err(fault) => {
-            assert_eq!(rt; fault, Fault::NoMemory);
-            assert!(rt; whole.starts_with(output.text()));
-            assert_eq!(rt; report(fault, &mut faults), ExitStatus::NoMemory);
-            assert_eq!(rt; faults.text(), b"no memory\n".as_slice());
+            same(&rt, &"fault", &fault, &Fault::NoMemory);
+            same(&rt, &"front", &whole.starts_with(output.text()), &true);
+            let status = report(fault, &mut faults);
+            same(&rt, &"status", &status, &ExitStatus::NoMemory);
+            same(&rt, &"told", &faults.text(), &b"no memory\n".as_slice());
         }
     }
 }

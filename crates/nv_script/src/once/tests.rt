@@ -4,6 +4,7 @@
 //! line feed.
 
 use crate::once::{Line, ScriptFault, parse};
+use std::alloc::{AllocError, Global};
 use std::process::Abort;
 use std::test::Fail;
 
@@ -233,56 +234,106 @@ fn answer(rt: &impl AllocGlobal, text: &[u8]) -> Result<String, Fail> {
     }
 }
 
-/// What comes of the script of each row behind a beginning is what the row says behind another.
+/// One text behind another.
+fn joined(alloc: Global, front: &str, back: &str) -> Result<String, AllocError> {
+    format!(in alloc; "{front}{back}")
+}
+
+/// Ends the test where a case gives another text than is wanted.
+fn same(rt: &impl Abort, case: &str, found: &str, want: &str) {
+    assert!(rt; found == want, "{case:?} gives {found:?}, and not {want:?}");
+}
+
+/// Ends the test where something else comes of the text of a case than is wanted.
+fn expect(
+    rt: &(impl Abort + AllocGlobal),
+    case: &str,
+    text: &[u8],
+    want: &str,
+) -> Result<(), Fail> {
+    let found = answer(rt, text)?;
+    same(rt, case, &found, want);
+    Ok(())
+}
+
+/// What comes of the script of a row behind a beginning is what the row says behind another.
+fn expect_row(
+    rt: &(impl Abort + AllocGlobal),
+    beginning: &str,
+    expected: &str,
+    row: &str,
+) -> Result<(), Fail> {
+    let (script, rest) = row.split_once('|').ok_or("a row without a bar")?;
+    let script = script.replace(rt.alloc(), ';', "\n")?;
+    let text = joined(rt.alloc(), beginning, &script)?;
+    let want = joined(rt.alloc(), expected, rest)?;
+    expect(rt, row, text.as_bytes(), &want)
+}
+
+/// Each row of these tables is as `expect_row` says.
 fn expect_rows(
     rt: &(impl Abort + AllocGlobal),
     beginning: &str,
     expected: &str,
-    rows: &str,
+    tables: &[&str],
 ) -> Result<(), Fail> {
-    for row in rows.lines() {
-        let (script, rest) = row.split_once('|').ok_or("a row without a bar")?;
-        let mut text = String::from_str(rt.alloc(), beginning)?;
-        for c in script.chars() {
-            text.push(if c == ';' { '\n' } else { c })?;
+    for table in tables {
+        for row in table.lines() {
+            expect_row(rt, beginning, expected, row)?;
         }
-        let want = format!(in rt.alloc(); "{expected}{rest}")?;
-        let found = answer(rt, text.as_bytes())?;
-        assert_eq!(rt; found.as_str(), want.as_str(), "{script:?}");
     }
     Ok(())
 }
 
 #[test]
 fn reads_lines(rt: HostRuntime) -> Result<(), Fail> {
-    expect_rows(&rt, SET_UP, "65536 64 ", LINES)
+    expect_rows(&rt, SET_UP, "65536 64 ", &[LINES])
 }
+
+/// What a line can be wrong in.
+const FAULTY_LINES: [&str; 7] = [
+    UNKNOWN_WORDS,
+    COUNTS,
+    FOREIGN_LINES,
+    SECOND_SET_UP,
+    BAD_NUMBERS,
+    BAD_BYTES,
+    RANGES,
+];
 
 #[test]
 fn finds_the_faults_of_a_line(rt: HostRuntime) -> Result<(), Fail> {
-    expect_rows(&rt, SET_UP, "line 3: ", UNKNOWN_WORDS)?;
-    expect_rows(&rt, SET_UP, "line 3: ", COUNTS)?;
-    expect_rows(&rt, SET_UP, "line 3: ", FOREIGN_LINES)?;
-    expect_rows(&rt, SET_UP, "line 3: ", SECOND_SET_UP)?;
-    expect_rows(&rt, SET_UP, "line 3: ", BAD_NUMBERS)?;
-    expect_rows(&rt, SET_UP, "line 3: ", BAD_BYTES)?;
-    expect_rows(&rt, SET_UP, "line 3: ", RANGES)
+    expect_rows(&rt, SET_UP, "line 3: ", &FAULTY_LINES)
 }
 
 #[test]
 fn reads_the_set_up(rt: HostRuntime) -> Result<(), Fail> {
-    expect_rows(&rt, "", "", SET_UPS)
+    expect_rows(&rt, "", "", &[SET_UPS])
 }
 
 #[test]
 fn keeps_bytes_outside_ascii_in_their_words(rt: HostRuntime) -> Result<(), Fail> {
-    let found = answer(&rt, b"memory 4096\nblocks 1\xff\n")?;
-    assert_eq!(rt; found.as_str(), "line 2: bad number");
-    let found = answer(&rt, b"\xa0memory 4096")?;
-    assert_eq!(rt; found.as_str(), "line 1: unknown word");
-    let found = answer(&rt, b"memory\x004096")?;
-    assert_eq!(rt; found.as_str(), "line 1: unknown word");
-    Ok(())
+    expect(
+        &rt,
+        "in a number",
+        b"memory 4096\nblocks 1\xff\n",
+        "line 2: bad number",
+    )?;
+    expect(&rt, "in a word", b"\xa0memory 4096", "line 1: unknown word")?;
+    expect(
+        &rt,
+        "a zero in a word",
+        b"memory\x004096",
+        "line 1: unknown word",
+    )
+}
+
+/// The opcode, the identifier and the starting LBA of a command.
+fn command_of(line: &Line) -> Option<(u8, u16, u64)> {
+    match line {
+        Line::Command(entry) => Some((entry.opcode(), entry.cid(), entry.slba())),
+        _ => None,
+    }
 }
 
 /// A command is its entry. Where an allocation is refused, nothing else is said.
@@ -291,18 +342,13 @@ fn reads_a_command(rt: HostRuntime) -> Result<(), Fail> {
     let text = format!(in rt.alloc(); "{SET_UP}cmd {READ}\nstore 0 ab")?;
     match parse(rt.alloc(), text.as_bytes()) {
         Ok(script) => {
-            assert_eq!(rt; script.lines.len(), 2);
-            let Line::Command(entry) = &script.lines[0] else {
-                return Err(Fail::from("no command"));
-            };
-            assert_eq!(rt; entry.opcode(), 2);
-            assert_eq!(rt; entry.cid(), 7);
-            assert_eq!(rt; entry.slba(), 5);
+            assert!(rt; script.lines.len() == 2);
+            assert!(rt; command_of(&script.lines[0]) == Some((2, 7, 5)));
         }
         Err(fault) => {
-            assert_eq!(rt; fault, ScriptFault::NoMemory);
-            let text = format!(in rt.alloc(); "{fault}")?;
-            assert_eq!(rt; text.as_str(), "no memory");
+            assert!(rt; fault == ScriptFault::NoMemory);
+            let told = format!(in rt.alloc(); "{fault}")?;
+            same(&rt, "refused", &told, "no memory");
         }
     }
     Ok(())
@@ -310,26 +356,21 @@ fn reads_a_command(rt: HostRuntime) -> Result<(), Fail> {
 
 #[test]
 fn reads_a_hundred_thousand_lines(rt: HostRuntime) -> Result<(), Fail> {
-    let mut text = String::from_str(rt.alloc(), SET_UP)?;
-    for _ in 0..50_000 {
-        text.push_str("store 0x3000 000102030405060708090a0b0c0d0e0f # bytes\n dump 12288 16\n")?;
-    }
+    let two = "store 0x3000 000102030405060708090a0b0c0d0e0f # bytes\n dump 12288 16\n";
+    let lines = two.repeat(rt.alloc(), 50_000)?;
+    let text = joined(rt.alloc(), SET_UP, &lines)?;
     let script = parse(rt.alloc(), text.as_bytes())?;
-    assert_eq!(rt; script.lines.len(), 100_000);
+    assert!(rt; script.lines.len() == 100_000);
     Ok(())
 }
 
 #[test]
 fn reads_a_word_of_a_mebibyte(rt: HostRuntime) -> Result<(), Fail> {
-    let mut text = String::from_str(rt.alloc(), SET_UP)?;
-    text.push_str("block ")?;
-    for _ in 0..1_048_576 {
-        text.push('0')?;
-    }
-    let found = answer(&rt, text.as_bytes())?;
-    assert_eq!(rt; found.as_str(), "65536 64 [Block { block: 0 }]");
-    text.push('z')?;
-    let found = answer(&rt, text.as_bytes())?;
-    assert_eq!(rt; found.as_str(), "line 3: bad number");
-    Ok(())
+    let zeros = "0".repeat(rt.alloc(), 1_048_576)?;
+    let front = joined(rt.alloc(), SET_UP, "block ")?;
+    let block = joined(rt.alloc(), &front, &zeros)?;
+    let found = "65536 64 [Block { block: 0 }]";
+    expect(&rt, "digits alone", block.as_bytes(), found)?;
+    let no_block = joined(rt.alloc(), &block, "z")?;
+    expect(&rt, "z behind", no_block.as_bytes(), "line 3: bad number")
 }

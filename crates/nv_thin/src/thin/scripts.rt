@@ -6,6 +6,7 @@ use nv_once::{Command, Fault, perform};
 use nv_script::FaultKind;
 use std::alloc::Global;
 use std::process::Abort;
+use std::test::Fail;
 
 /// A namespace of 64 blocks behind 64 KiB.
 const SIZES: &[u8] = b"memory 0x10000\nblocks 64\n";
@@ -23,7 +24,7 @@ const READ_PAST_THE_RANGE: &[u8] =
     b"cmd 024007000100000000000000000000000000000000000000003000000000000000020000000000003f0000000000000001000000000000000000000000000000\n";
 
 /// A completion with success of CID 7, and what it prints.
-const DONE: &[u8] = b"00000000000000000100010007000100\n";
+const DONE: &str = "00000000000000000100010007000100\n";
 
 /// What a script of these parts prints on a controller of the kind `C`.
 fn printed<C: One>(alloc: Global, parts: &[&[u8]]) -> Result<Vec<u8>, Fault> {
@@ -34,46 +35,58 @@ fn printed<C: One>(alloc: Global, parts: &[&[u8]]) -> Result<Vec<u8>, Fault> {
     perform::<C, &[u8], Vec<u8>>(alloc, Command::Once, &script, Vec::new(alloc))
 }
 
+/// A controller of the kind `C` prints this.
+fn expect_on<C: One>(rt: &(impl Abort + AllocGlobal), parts: &[&[u8]], text: &[u8]) {
+    let printed = printed::<C>(rt.alloc(), parts).expect(rt, "a script");
+    assert!(rt; printed.as_slice() == text);
+}
+
 /// Both kinds of controller print this.
 fn expect(rt: &(impl Abort + AllocGlobal), parts: &[&[u8]], text: &[u8]) {
-    let on_flat = printed::<FlatController>(rt.alloc(), parts);
-    let on_thin = printed::<Thin>(rt.alloc(), parts);
-    assert!(rt; on_flat.is_ok_and(|printed| printed.as_slice() == text));
-    assert!(rt; on_thin.is_ok_and(|printed| printed.as_slice() == text));
+    expect_on::<FlatController>(rt, parts, text);
+    expect_on::<Thin>(rt, parts, text);
 }
 
 #[test]
-fn prints_what_the_flat_controller_prints(rt: HostRuntime) {
-    let read_back: &[&[u8]] = &[SIZES, b"paint 5 0xab\n", READ, b"dump 0x3000 4\n"];
-    expect(
-        &rt,
-        read_back,
-        b"00000000000000000100010007000100\nabababab\n",
-    );
-    let refused: &[&[u8]] = &[SIZES, READ_PAST_THE_RANGE];
-    expect(&rt, refused, b"00000000000000000100010007000181\n");
-    let mut block = Vec::new(rt.alloc());
-    assert!(rt; block.extend_from_slice(DONE).is_ok());
-    for _digit in 0..1024 {
-        assert!(rt; block.push(b'1').is_ok());
+fn prints_what_was_read(rt: HostRuntime) {
+    let parts: &[&[u8]] = &[SIZES, b"paint 5 0xab\n", READ, b"dump 0x3000 4\n"];
+    expect(&rt, parts, b"00000000000000000100010007000100\nabababab\n");
+}
+
+#[test]
+fn prints_a_refusal(rt: HostRuntime) {
+    let parts: &[&[u8]] = &[SIZES, READ_PAST_THE_RANGE];
+    expect(&rt, parts, b"00000000000000000100010007000181\n");
+}
+
+#[test]
+fn prints_what_was_written(rt: HostRuntime) -> Result<(), Fail> {
+    let parts: &[&[u8]] = &[SIZES, b"fill 0x3000 512 0x11\n", WRITE, b"block 5\n"];
+    let ones = "1".repeat(rt.alloc(), 1024)?;
+    let text = format!(in rt.alloc(); "{DONE}{ones}\n")?;
+    expect(&rt, parts, text.as_bytes());
+    Ok(())
+}
+
+/// Texts that are no script, and their first fault.
+const FAULTY: [(u64, FaultKind, &[u8]); 2] = [
+    (1, FaultKind::OutOfPlace, b""),
+    (
+        3,
+        FaultKind::OutOfRange,
+        b"memory 0x10000\nblocks 64\ndump 0xfffe 4",
+    ),
+];
+
+fn expect_faults(rt: &(impl Abort + AllocGlobal), rows: &[(u64, FaultKind, &[u8])]) {
+    for (line, kind, text) in rows {
+        let ended = printed::<Thin>(rt.alloc(), &[text]);
+        let (line, kind) = (*line, *kind);
+        assert!(rt; ended == Err(Fault::Script { line, kind }), "line {line}");
     }
-    assert!(rt; block.push(b'\n').is_ok());
-    let written: &[&[u8]] = &[SIZES, b"fill 0x3000 512 0x11\n", WRITE, b"block 5\n"];
-    expect(&rt, written, &block);
 }
 
 #[test]
 fn refuses_what_is_no_script(rt: HostRuntime) {
-    let table: [(u64, FaultKind, &[u8]); 2] = [
-        (1, FaultKind::OutOfPlace, b""),
-        (
-            3,
-            FaultKind::OutOfRange,
-            b"memory 0x10000\nblocks 64\ndump 0xfffe 4",
-        ),
-    ];
-    for (line, kind, text) in table {
-        let ended = printed::<Thin>(rt.alloc(), &[text]);
-        assert_eq!(rt; ended, Err(Fault::Script { line, kind }));
-    }
+    expect_faults(&rt, &FAULTY);
 }
