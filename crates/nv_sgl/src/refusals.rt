@@ -27,7 +27,10 @@ fn are_equal<A: Allocator, B: Allocator>(one: &Chain<A>, other: &Chain<B>) -> bo
 }
 
 // Whether two parses want the same, and hold the same arrays.
-fn are_alike<A: Allocator + Clone>(one: &SglParse<'_, A>, other: &SglParse<'_, A>) -> bool {
+fn are_alike<A: Allocator + Clone, B: Allocator + Clone>(
+    one: &SglParse<'_, A>,
+    other: &SglParse<'_, B>,
+) -> bool {
     one.wants() == other.wants() && are_equal(one.chain(), other.chain())
 }
 
@@ -45,6 +48,22 @@ fn step_with_one_refused(
 
 // Feeds the parse its next part, with the first allocation refused, then with the second, and so on until none is. Says how
 // often it was refused, or nothing where it was fed nothing or no longer is what it was before.
+fn refusals_of_step(
+    parse: &mut SglParse<'_, &Refusing<Global>>,
+    before: &SglParse<'_, &Refusing<Global>>,
+    heap: &Refusing<Global>,
+    memory: &[u8],
+) -> Option<u64> {
+    for granted in 0..100 {
+        match step_with_one_refused(parse, heap, memory, granted) {
+            (false, Ok(None)) => return Some(granted),
+            (true, Err(NoMemory)) if are_alike(parse, before) => {}
+            _ => return None,
+        }
+    }
+    None
+}
+
 fn step_refused(
     parse: &mut SglParse<'_, &Refusing<Global>>,
     heap: &Refusing<Global>,
@@ -52,14 +71,7 @@ fn step_refused(
 ) -> Result<Option<u64>, NoMemory> {
     heap.grant_all();
     let before = parse.try_clone()?;
-    for granted in 0..100 {
-        match step_with_one_refused(parse, heap, memory, granted) {
-            (false, Ok(None)) => return Ok(Some(granted)),
-            (true, Err(NoMemory)) if are_alike(parse, &before) => {}
-            _ => return Ok(None),
-        }
-    }
-    Ok(None)
+    Ok(refusals_of_step(parse, &before, heap, memory))
 }
 
 // Whether parts of the list are refused so often at least, one after another.
@@ -94,19 +106,28 @@ fn is_chain_of_three(
     Ok(takes_parts(&mut parse, &guest.memory, 3)? && are_equal(chain, parse.chain()))
 }
 
-// Whether the list is read as it is where no allocation is refused.
+// Whether a parse that is refused each allocation in turn ends as it does where none is refused.
+fn ends_all_the_same(
+    parse: &mut SglParse<'_, &Refusing<Global>>,
+    heap: &Refusing<Global>,
+    alloc: Global,
+    guest: &Guest,
+) -> Result<bool, NoMemory> {
+    // an array's first part takes a block for its descriptors and one for its place in the chain, and a further part a larger block
+    Ok(
+        are_refused(parse, heap, &guest.memory, &[2, 2, 1])?
+            && has_read_three(alloc, parse)?
+            && is_chain_of_three(parse.chain(), alloc, guest)?,
+    )
+}
+
 fn is_read_all_the_same(
     heap: &Refusing<Global>,
     alloc: Global,
     guest: &Guest,
 ) -> Result<bool, NoMemory> {
     let mut parse = parse_of_three(heap, &guest.map)?;
-    // an array's first part takes a block for its descriptors and one for its place in the chain, and a further part a larger block
-    Ok(
-        are_refused(&mut parse, heap, &guest.memory, &[2, 2, 1])?
-            && has_read_three(alloc, &parse)?
-            && is_chain_of_three(parse.chain(), alloc, guest)?,
-    )
+    ends_all_the_same(&mut parse, heap, alloc, guest)
 }
 
 #[test]
@@ -139,25 +160,19 @@ const THIRD_PART: Want = Want::Read {
     len: 16,
 };
 
-// Whether a parse behind two parts is fed the third and has then read the list.
-fn reads_third_part(
-    parse: &mut SglParse<'_, &Refusing<Global>>,
-    alloc: Global,
-    memory: &[u8],
-) -> Result<bool, NoMemory> {
-    Ok(takes_parts(parse, memory, 1)? && has_read_three(alloc, parse)?)
-}
-
-// Whether a copy of a parse behind two parts is fed by itself.
-fn is_copy_fed_by_itself(
+// Whether the copy of a parse behind two parts is alike, and is fed by itself.
+fn is_fed_by_itself(
+    copy: &mut SglParse<'_, &Refusing<Global>>,
     parse: &SglParse<'_, &Refusing<Global>>,
     alloc: Global,
     memory: &[u8],
 ) -> Result<bool, NoMemory> {
-    let mut copy = parse.try_clone()?;
-    let was_alike = are_alike(&copy, parse);
-    let reads_on = reads_third_part(&mut copy, alloc, memory)?;
-    Ok(was_alike && reads_on && !are_equal(copy.chain(), parse.chain()))
+    Ok(
+        are_alike(copy, parse)
+            && takes_parts(copy, memory, 1)?
+            && has_read_three(alloc, copy)?
+            && !are_equal(copy.chain(), parse.chain()),
+    )
 }
 
 // Whether a parse behind two parts, and its chain, are copied.
@@ -169,26 +184,36 @@ fn is_copied(
 ) -> Result<bool, NoMemory> {
     let refusals = refusals_of_copy(heap, parse.chain());
     heap.grant_all();
+    let mut copy = parse.try_clone()?;
     // three arrays take three blocks for their descriptors and two for their places in the chain
-    Ok(refusals == Some(5) && is_copy_fed_by_itself(parse, alloc, memory)?)
+    Ok(refusals == Some(5) && is_fed_by_itself(&mut copy, parse, alloc, memory)?)
 }
 
-// Whether the parse is copied behind two parts of the list, and goes on wanting the third.
+// Whether a parse is copied behind two parts, and goes on wanting the third.
 fn is_copied_behind_two_parts(
+    parse: &mut SglParse<'_, &Refusing<Global>>,
     heap: &Refusing<Global>,
     alloc: Global,
-    guest: &Guest,
+    memory: &[u8],
 ) -> Result<bool, NoMemory> {
+    Ok(
+        takes_parts(parse, memory, 2)?
+            && parse.wants() == THIRD_PART
+            && is_copied(parse, heap, alloc, memory)?
+            && parse.wants() == THIRD_PART,
+    )
+}
+
+fn are_copied(heap: &Refusing<Global>, alloc: Global, guest: &Guest) -> Result<bool, NoMemory> {
     let mut parse = parse_of_three(heap, &guest.map)?;
-    let are_taken = takes_parts(&mut parse, &guest.memory, 2)? && parse.wants() == THIRD_PART;
-    Ok(are_taken && is_copied(&parse, heap, alloc, &guest.memory)? && parse.wants() == THIRD_PART)
+    is_copied_behind_two_parts(&mut parse, heap, alloc, &guest.memory)
 }
 
 #[test]
 fn copies(rt: HostRuntime) -> Result<(), Fail> {
     let guest = guest_with(rt.alloc(), THREE_ARRAYS)?;
     let heap = Refusing::new(rt.alloc());
-    assert!(rt; is_copied_behind_two_parts(&heap, rt.alloc(), &guest)?);
+    assert!(rt; are_copied(&heap, rt.alloc(), &guest)?);
     Ok(())
 }
 

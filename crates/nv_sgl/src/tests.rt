@@ -59,8 +59,8 @@ pub(crate) struct Guest {
     pub(crate) map: GuestMap,
 }
 
-/// A guest whose memory is mapped to its end, and no further.
-pub(crate) fn guest_of(alloc: Global, memory: Vec<u8>) -> Result<Guest, Fail> {
+/// The map of a guest whose memory is mapped to its end, and no further.
+fn map(alloc: Global) -> Result<GuestMap, Fail> {
     let regions = vec![in alloc;
         Region {
             guest: 0,
@@ -68,7 +68,11 @@ pub(crate) fn guest_of(alloc: Global, memory: Vec<u8>) -> Result<Guest, Fail> {
             len: 0x2_0000
         },
     ]?;
-    let map = GuestMap::new(0x100_0000, regions)?;
+    Ok(GuestMap::new(0x100_0000, regions)?)
+}
+
+fn guest_of(alloc: Global, memory: Vec<u8>) -> Result<Guest, Fail> {
+    let map = map(alloc)?;
     Ok(Guest { memory, map })
 }
 

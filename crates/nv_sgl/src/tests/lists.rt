@@ -99,8 +99,8 @@ fn check_first(
 
 #[test]
 fn first_answers(rt: HostRuntime) -> Result<(), Fail> {
-    let guest = guest_with(rt.alloc(), &[])?;
-    check_first(&rt, rt.alloc(), &guest.map, FIRST)?;
+    let map = map(rt.alloc())?;
+    check_first(&rt, rt.alloc(), &map, FIRST)?;
     Ok(())
 }
 
@@ -349,15 +349,15 @@ fn check(rt: &impl Abort, alloc: Global, map: &GuestMap, cases: &[Case]) -> Resu
 
 #[test]
 fn lists(rt: HostRuntime) -> Result<(), Fail> {
-    let guest = guest_with(rt.alloc(), &[])?;
-    check(&rt, rt.alloc(), &guest.map, CASES)?;
+    let map = map(rt.alloc())?;
+    check(&rt, rt.alloc(), &map, CASES)?;
     Ok(())
 }
 
 // Run it with each allocation of the process refused in turn: it ends well, or with an error for want of memory.
 #[test]
 fn a_list_from_its_descriptor_to_its_places(rt: HostRuntime) -> Result<(), Fail> {
-    let guest = guest_with(rt.alloc(), &[])?;
-    check(&rt, rt.alloc(), &guest.map, &[THREE])?;
+    let map = map(rt.alloc())?;
+    check(&rt, rt.alloc(), &map, &[THREE])?;
     Ok(())
 }
