@@ -1,28 +1,13 @@
 //! Each allocation refused in turn.
 use crate::refusing::Refusing;
 use crate::tests::{
-    DATA, LAST, SEGMENT, descriptor, long_list, map, read, run, step, store, zeros,
+    Guest, THREE_ARRAYS, guest_with, guest_with_long_list, has_read_three, parse_of_long_list,
+    parse_of_three, step, takes_parts,
 };
 use crate::{Chain, SglParse, Want};
-use nv_entry::Descriptor;
-use nv_mem::{NoMemory, Piece};
+use nv_mem::{GuestMap, NoMemory};
 use std::alloc::{Allocator, Global};
-use std::process::Abort;
 use std::test::Fail;
-
-// A list of three arrays, the last of them in two parts. It is returned by its own descriptor.
-fn list_in_three_parts(memory: &mut [u8]) -> Descriptor {
-    store(memory, 0x6000, DATA, 0x3000, 512);
-    store(memory, 0x6010, LAST, 0x8000, 16 * 257);
-    store(memory, 0x9000, DATA, 0x5000, 512);
-    descriptor(SEGMENT, 0x6000, 32)
-}
-
-const NEED: u64 = 1024;
-
-fn pieces() -> [Piece; 2] {
-    [run(0x3000, 512), run(0x5000, 512)]
-}
 
 // Whether two chains hold the same arrays.
 fn are_equal<A: Allocator, B: Allocator>(one: &Chain<A>, other: &Chain<B>) -> bool {
@@ -41,118 +26,210 @@ fn are_equal<A: Allocator, B: Allocator>(one: &Chain<A>, other: &Chain<B>) -> bo
     false
 }
 
-// Feeds the parse its next part, with the first allocation refused, then with the second, and so on until none is. Says how
-// often it was refused.
-fn step_refused(
-    rt: &(impl Abort + AllocGlobal),
+// Whether two parses want the same, and hold the same arrays.
+fn are_alike<A: Allocator + Clone, B: Allocator + Clone>(
+    one: &SglParse<'_, A>,
+    other: &SglParse<'_, B>,
+) -> bool {
+    one.wants() == other.wants() && are_equal(one.chain(), other.chain())
+}
+
+// Feeds the parse its next part with the allocation refused that follows so many granted ones. Says whether that one came, too.
+fn step_with_one_refused(
     parse: &mut SglParse<'_, &Refusing<Global>>,
     heap: &Refusing<Global>,
     memory: &[u8],
-) -> Result<u64, NoMemory> {
-    let wanted = parse.wants();
+    granted: u64,
+) -> (bool, Result<Option<Want>, NoMemory>) {
+    heap.refuse_after(granted);
+    let fed = step(parse, memory);
+    (heap.has_refused(), fed)
+}
+
+// Feeds the parse its next part, with the first allocation refused, then with the second, and so on until none is. Says how
+// often it was refused, or nothing where it was fed nothing or no longer is what it was before.
+fn refusals_of_step(
+    parse: &mut SglParse<'_, &Refusing<Global>>,
+    before: &SglParse<'_, &Refusing<Global>>,
+    heap: &Refusing<Global>,
+    memory: &[u8],
+) -> Option<u64> {
+    for granted in 0..100 {
+        match step_with_one_refused(parse, heap, memory, granted) {
+            (false, Ok(None)) => return Some(granted),
+            (true, Err(NoMemory)) if are_alike(parse, before) => {}
+            _ => return None,
+        }
+    }
+    None
+}
+
+fn step_refused(
+    parse: &mut SglParse<'_, &Refusing<Global>>,
+    heap: &Refusing<Global>,
+    memory: &[u8],
+) -> Result<Option<u64>, NoMemory> {
     heap.grant_all();
     let before = parse.try_clone()?;
-    for granted in 0..100 {
-        heap.refuse_after(granted);
-        let fed = step(parse, memory);
-        if !heap.has_refused() {
-            assert_eq!(rt; fed, Ok(None));
-            return Ok(granted);
+    Ok(refusals_of_step(parse, &before, heap, memory))
+}
+
+// Whether parts of the list are refused so often at least, one after another.
+fn are_refused(
+    parse: &mut SglParse<'_, &Refusing<Global>>,
+    heap: &Refusing<Global>,
+    memory: &[u8],
+    least: &[u64],
+) -> Result<bool, NoMemory> {
+    for least in least {
+        match step_refused(parse, heap, memory)? {
+            Some(refusals) if refusals >= *least => {}
+            _ => return Ok(false),
         }
-        assert_eq!(rt; fed, Err(NoMemory));
-        assert_eq!(rt; parse.wants(), wanted);
-        assert!(rt; are_equal(parse.chain(), before.chain()));
     }
-    Ok(0)
+    Ok(true)
+}
+
+// Whether a parse is refused with its first allocation.
+fn is_new_refused(heap: &Refusing<Global>, map: &GuestMap) -> bool {
+    heap.refuse_after(0);
+    parse_of_three(heap, map).is_err() && heap.has_refused()
+}
+
+// Whether the list has this chain where no allocation is refused.
+fn is_chain_of_three(
+    chain: &Chain<&Refusing<Global>>,
+    alloc: Global,
+    guest: &Guest,
+) -> Result<bool, NoMemory> {
+    let mut parse = parse_of_three(alloc, &guest.map)?;
+    Ok(takes_parts(&mut parse, &guest.memory, 3)? && are_equal(chain, parse.chain()))
+}
+
+// Whether a parse that is refused each allocation in turn ends as it does where none is refused.
+fn ends_all_the_same(
+    parse: &mut SglParse<'_, &Refusing<Global>>,
+    heap: &Refusing<Global>,
+    alloc: Global,
+    guest: &Guest,
+) -> Result<bool, NoMemory> {
+    // an array's first part takes a block for its descriptors and one for its place in the chain, and a further part a larger block
+    Ok(
+        are_refused(parse, heap, &guest.memory, &[2, 2, 1])?
+            && has_read_three(alloc, parse)?
+            && is_chain_of_three(parse.chain(), alloc, guest)?,
+    )
+}
+
+fn is_read_all_the_same(
+    heap: &Refusing<Global>,
+    alloc: Global,
+    guest: &Guest,
+) -> Result<bool, NoMemory> {
+    let mut parse = parse_of_three(heap, &guest.map)?;
+    ends_all_the_same(&mut parse, heap, alloc, guest)
 }
 
 #[test]
 fn each_allocation_refused(rt: HostRuntime) -> Result<(), Fail> {
-    let mut memory = zeros(rt.alloc())?;
-    let first = list_in_three_parts(&mut memory);
-    let map = map(rt.alloc())?;
+    let guest = guest_with(rt.alloc(), THREE_ARRAYS)?;
     let heap = Refusing::new(rt.alloc());
-    heap.refuse_after(0);
-    assert!(rt; SglParse::new(&heap, &map, first, true, NEED).is_err());
-    assert!(rt; heap.has_refused());
-    let mut parse = SglParse::new(&heap, &map, first, true, NEED)?;
-    // an array's first part takes a block for its descriptors and one for its place in the chain, and a further part a larger block
-    for least in [2, 2, 1] {
-        assert!(rt; step_refused(&rt, &mut parse, &heap, &memory)? >= least);
-    }
-    assert_eq!(rt; parse.wants(), Want::Done);
-    assert_eq!(rt; parse.places(rt.alloc())?.pieces(), pieces().as_slice());
-    // it ended as it does where no allocation is refused
-    let mut ample = SglParse::new(rt.alloc(), &map, first, true, NEED)?;
-    for _ in 0..3 {
-        assert_eq!(rt; step(&mut ample, &memory)?, None);
-    }
-    assert!(rt; are_equal(parse.chain(), ample.chain()));
+    assert!(rt; is_new_refused(&heap, &guest.map));
+    assert!(rt; is_read_all_the_same(&heap, rt.alloc(), &guest)?);
     Ok(())
+}
+
+// Copies a chain with the first allocation refused, then with the second, and so on until none is. Says how often it was
+// refused, or nothing where the copy isn't equal.
+fn refusals_of_copy(heap: &Refusing<Global>, chain: &Chain<&Refusing<Global>>) -> Option<u64> {
+    for granted in 0..100 {
+        heap.refuse_after(granted);
+        let copy = chain.try_clone();
+        match (heap.has_refused(), copy) {
+            (true, Err(NoMemory)) => {}
+            (false, Ok(copy)) if are_equal(&copy, chain) => return Some(granted),
+            _ => return None,
+        }
+    }
+    None
+}
+
+/// What is wanted of the list of three arrays behind two parts.
+const THIRD_PART: Want = Want::Read {
+    addr: 0x9000,
+    len: 16,
+};
+
+// Whether the copy of a parse behind two parts is alike, and is fed by itself.
+fn is_fed_by_itself(
+    copy: &mut SglParse<'_, &Refusing<Global>>,
+    parse: &SglParse<'_, &Refusing<Global>>,
+    alloc: Global,
+    memory: &[u8],
+) -> Result<bool, NoMemory> {
+    Ok(
+        are_alike(copy, parse)
+            && takes_parts(copy, memory, 1)?
+            && has_read_three(alloc, copy)?
+            && !are_equal(copy.chain(), parse.chain()),
+    )
+}
+
+// Whether a parse behind two parts, and its chain, are copied.
+fn is_copied(
+    parse: &SglParse<'_, &Refusing<Global>>,
+    heap: &Refusing<Global>,
+    alloc: Global,
+    memory: &[u8],
+) -> Result<bool, NoMemory> {
+    let refusals = refusals_of_copy(heap, parse.chain());
+    heap.grant_all();
+    let mut copy = parse.try_clone()?;
+    // three arrays take three blocks for their descriptors and two for their places in the chain
+    Ok(refusals == Some(5) && is_fed_by_itself(&mut copy, parse, alloc, memory)?)
+}
+
+// Whether a parse is copied behind two parts, and goes on wanting the third.
+fn is_copied_behind_two_parts(
+    parse: &mut SglParse<'_, &Refusing<Global>>,
+    heap: &Refusing<Global>,
+    alloc: Global,
+    memory: &[u8],
+) -> Result<bool, NoMemory> {
+    Ok(
+        takes_parts(parse, memory, 2)?
+            && parse.wants() == THIRD_PART
+            && is_copied(parse, heap, alloc, memory)?
+            && parse.wants() == THIRD_PART,
+    )
+}
+
+fn are_copied(heap: &Refusing<Global>, alloc: Global, guest: &Guest) -> Result<bool, NoMemory> {
+    let mut parse = parse_of_three(heap, &guest.map)?;
+    is_copied_behind_two_parts(&mut parse, heap, alloc, &guest.memory)
 }
 
 #[test]
 fn copies(rt: HostRuntime) -> Result<(), Fail> {
-    let mut memory = zeros(rt.alloc())?;
-    let first = list_in_three_parts(&mut memory);
-    let map = map(rt.alloc())?;
+    let guest = guest_with(rt.alloc(), THREE_ARRAYS)?;
     let heap = Refusing::new(rt.alloc());
-    let mut parse = SglParse::new(&heap, &map, first, true, NEED)?;
-    assert_eq!(rt; step(&mut parse, &memory)?, None);
-    assert_eq!(rt; step(&mut parse, &memory)?, None);
-    let wanted = Want::Read {
-        addr: 0x9000,
-        len: 16,
-    };
-    assert_eq!(rt; parse.wants(), wanted);
-    // three arrays take three blocks for their descriptors and two for their places in the chain
-    let mut refusals = 0;
-    for granted in 0..100 {
-        heap.refuse_after(granted);
-        let copy = parse.chain().try_clone();
-        if !heap.has_refused() {
-            heap.grant_all();
-            assert!(rt; are_equal(&copy?, parse.chain()));
-            break;
-        }
-        assert!(rt; copy.is_err());
-        refusals = granted;
-    }
-    assert_eq!(rt; refusals, 4);
-    // the copy is fed by itself
-    let mut copy = parse.try_clone()?;
-    assert_eq!(rt; copy.wants(), wanted);
-    assert!(rt; are_equal(copy.chain(), parse.chain()));
-    assert_eq!(rt; step(&mut copy, &memory)?, None);
-    assert_eq!(rt; copy.wants(), Want::Done);
-    assert_eq!(rt; copy.places(rt.alloc())?.pieces(), pieces().as_slice());
-    assert_eq!(rt; parse.wants(), wanted);
-    assert!(rt; !are_equal(copy.chain(), parse.chain()));
+    assert!(rt; are_copied(&heap, rt.alloc(), &guest)?);
     Ok(())
+}
+
+// Whether a chain's copy is equal.
+fn is_chain_copied(chain: &Chain<Global>) -> Result<bool, NoMemory> {
+    Ok(are_equal(&chain.try_clone()?, chain))
+}
+
+fn is_long_chain_copied(alloc: Global, guest: &Guest) -> Result<bool, NoMemory> {
+    let mut parse = parse_of_long_list(alloc, &guest.map)?;
+    Ok(takes_parts(&mut parse, &guest.memory, 511)? && is_chain_copied(parse.chain())?)
 }
 
 #[test]
 fn a_long_chain_copied(rt: HostRuntime) -> Result<(), Fail> {
-    let mut memory = zeros(rt.alloc())?;
-    long_list(&mut memory);
-    let map = map(rt.alloc())?;
-    let first = descriptor(SEGMENT, 0x4000, 32);
-    let mut parse = SglParse::new(rt.alloc(), &map, first, true, 511 * 16)?;
-    for _ in 0..511 {
-        assert_eq!(rt; step(&mut parse, &memory)?, None);
-    }
-    let copy = parse.chain().try_clone()?;
-    assert!(rt; are_equal(&copy, parse.chain()));
-    Ok(())
-}
-
-// Run it with each allocation of the process refused in turn: it ends well, or with an error for want of memory.
-#[test]
-fn a_list_from_its_descriptor_to_its_places(rt: HostRuntime) -> Result<(), Fail> {
-    let mut memory = zeros(rt.alloc())?;
-    let first = list_in_three_parts(&mut memory);
-    let (end, found) = read(rt.alloc(), &memory, first, true, NEED)?;
-    assert_eq!(rt; end, Want::Done);
-    assert_eq!(rt; found.as_slice(), pieces().as_slice());
+    let guest = guest_with_long_list(rt.alloc())?;
+    assert!(rt; is_long_chain_copied(rt.alloc(), &guest)?);
     Ok(())
 }
