@@ -2,12 +2,15 @@
 use Rattle.std.proofs.Common.{◌≡◌, ℕ, zero, suc, Bool, false, All, IfSome, Option, List, [], ◌∷◌, drop, remove, slice_get, take, sym, ap, subst, ◌∙◌}
 use Rattle.std.proofs.lemmas.List.Elements.{All-append, All-cons, All-drop, All-nil, All-take}
 use Rattle.nv_entry.specs.Status.{StatusField}
-use Rattle.nv_model.specs.Judge.{WorkUnit, Work, Go, Refuse}
+use Rattle.nv_entry.specs.Submission.{slba_of}
+use Rattle.nv_model.specs.Judge.{WorkUnit, Work, Go, Refuse, is_read}
 use Rattle.nv_model.specs.Private.{Ended, Moved, Private, Taken, verdict_in}
 use Rattle.nv_model.specs.Carried.{alone_at_work, alone_with, moved_on, moved_status, unmoved, units_moved}
 use Rattle.nv_model.specs.Laws.{IsOrderOf}
 use Rattle.nv_model.proofs.CarriedOnly.{moved-only, refused-only}
+use Rattle.nv_model.proofs.Judged.{verdict-sound}
 use Rattle.nv_model.proofs.StepsAlike.{slice_get-has}
+use Rattle.nv_model.proofs.UnitOrder.{any-order}
 use Rattle.nv_flat.specs.Flat.{Flat, byte_in, moved_of}
 use Rattle.nv_flat.specs.Laws.{IsMovedInSomeOrder}
 use Rattle.nv_flat.specs.One.{IsRun, newly_taken, private_of, shape_of}
@@ -77,5 +80,20 @@ one-outcome old new entry st work unit behind goes alone is run =
     let U : List WorkUnit → Type 0 = λ us. IsOrderOf r.order us in
     let order : r.order ≡ unit ∷ [] = one-order unit r.order (subst U alone r.each_once) in
     let moved : moved_of new r.differed ≡ behind = r.moved ∙ ap (λ (us : List WorkUnit). units_moved us work (moved_of old false)) order ∙ sym is in
+    let same : r.differed ≡ behind.differed = ap (λ (m : Moved). m.differed) moved in
+    (r.status ∙ ap moved_status same, ap (moved_of new) (sym same) ∙ moved)
+
+-- ---- a command that is no Read
+
+pub in-order-outcome : (old new : Flat) (entry : List ℕ) (st : StatusField) (work : Work) (behind : Moved)
+    → verdict_in (shape_of old) (byte_in old.memory) entry ≡ Go work → is_read work.opcode ≡ false
+    → behind ≡ units_moved work.units work (moved_of old false) → IsRun old entry st new
+    → (st ≡ moved_status behind.differed) × (moved_of new behind.differed ≡ behind)
+unfolding moved_of
+in-order-outcome old new entry st work behind goes other is run =
+    let r = units-moved old new entry st work goes run in
+    let shape = shape_of old in
+    let own = (verdict-sound shape.mapped shape.limit shape.blocks entry (byte_in old.memory) work goes).own in
+    let moved : moved_of new r.differed ≡ behind = r.moved ∙ any-order work (slba_of entry) r.order work.units (moved_of old false) other own r.each_once ∙ sym is in
     let same : r.differed ≡ behind.differed = ap (λ (m : Moved). m.differed) moved in
     (r.status ∙ ap moved_status same, ap (moved_of new) (sym same) ∙ moved)

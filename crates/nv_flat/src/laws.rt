@@ -9,7 +9,7 @@ ghost use Rattle.nv_entry.specs.declared.status_code.StatusCode.TheVariants.{Suc
 ghost use Rattle.nv_mem.specs.Places.{At, places_of};
 ghost use Rattle.nv_model.specs.Judge.{Go, Refuse, Work, WorkUnit, is_read};
 ghost use Rattle.nv_model.specs.Private.{Moved, verdict_in};
-ghost use Rattle.nv_model.specs.Carried.{moved_on, moved_status};
+ghost use Rattle.nv_model.specs.Carried.{moved_on, moved_status, units_moved};
 ghost use Rattle.nv_flat.specs.Flat.{Flat, byte_in, byte_of_block, moved_of};
 ghost use Rattle.nv_flat.specs.Laws.{HasRun, IsAnother, IsAsLarge, IsElsewhere, IsMovedInSomeOrder};
 ghost use Rattle.nv_flat.specs.One.{IsRun, shape_of};
@@ -37,6 +37,14 @@ pub fn one_unit_has_one_outcome()
     ensures { (old new : Flat) (entry : List ℕ) (st : StatusField) (work : Work) (unit : WorkUnit) (behind : Moved) →
         verdict_in (shape_of old) (byte_in old.memory) entry ≡ Go work → work.units ≡ unit ∷ [] →
         behind ≡ moved_on unit work (moved_of old false) → IsRun old entry st new →
+        (st ≡ moved_status behind.differed) × (moved_of new behind.differed ≡ behind) }
+{}
+
+/// A command that is no Read has one outcome: that of its units in order.
+pub fn all_but_a_read_have_one_outcome()
+    ensures { (old new : Flat) (entry : List ℕ) (st : StatusField) (work : Work) (behind : Moved) →
+        verdict_in (shape_of old) (byte_in old.memory) entry ≡ Go work → is_read work.opcode ≡ false →
+        behind ≡ units_moved work.units work (moved_of old false) → IsRun old entry st new →
         (st ≡ moved_status behind.differed) × (moved_of new behind.differed ≡ behind) }
 {}
 

@@ -24,7 +24,7 @@ use Rattle.nv_ns.proofs.Ranges.{InNamespace-tested}
 use Rattle.nv_model.specs.Dialogue.{Dialogue, End, and_then, asked, in_memory}
 use Rattle.nv_model.specs.Reading.{Reading, Faulty, TooLong, Spells, run, unless_faulty}
 use Rattle.nv_model.specs.Prp.{entry_fault, first_len, page, pages_of, read_prp, read_prp2}
-use Rattle.nv_model.specs.Judge.{OneBlock, OneRange, AllBlocks, Work, Verdict, Go, Refuse, block_units, count_of, field_refusal, has_blocks, has_buffer, is_read, judge, judge_by, judge_fields, judge_ranges, judge_reading, most_blocks, range_count_of, range_fits, range_units, ranges_in, read_buffer, read_by, read_source, refusal_by_opcode, sized, transfer_len, units_of, work_of}
+use Rattle.nv_model.specs.Judge.{WorkUnit, OneBlock, OneRange, AllBlocks, Work, Verdict, Go, Refuse, block_units, count_of, field_refusal, has_blocks, has_buffer, is_read, judge, judge_by, judge_fields, judge_ranges, judge_reading, most_blocks, range_count_of, range_fits, range_units, ranges_in, read_buffer, read_by, read_source, refusal_by_opcode, sized, transfer_len, units_of, work_of}
 use Rattle.nv_model.proofs.Agreeing.{in_memory-agree}
 use Rattle.nv_model.specs.Laws.{AgreeAt, AgreeOn, IsMappedPiece, IsMappedPlace, IsUnitWithin}
 use Rattle.nv_model.proofs.Endings.{EndsIn, EndsIn-and_then, EndsIn-any, EndsIn-if, OfPieces, and-true, first_failing-none, in_memory-ends, not-false}
@@ -32,12 +32,19 @@ use Rattle.nv_model.proofs.Spelled.{AreOfLen, read_prp-of_len, read_sgl-mapped}
 
 -- ---- what a work says of its command
 
+-- a unit is one of a command with this opcode: a block of its range, in its place; a range of a Dataset Management; all blocks of a Flush
+abbrev pub IsUnitOf : IoOpcode → (slba : ℕ) → WorkUnit → Type 0
+IsUnitOf opcode slba (OneBlock index lba) = (has_blocks opcode ≡ true) × (lba ≡ slba + index)
+IsUnitOf opcode slba (OneRange start count) = opcode ≡ DatasetManagement
+IsUnitOf opcode slba (AllBlocks all) = opcode ≡ Flush
+
 -- a work that goes, of this command, in a namespace of that many blocks
 pub record IsSoundWork (mapped : ℕ → Bool) (blocks : ℕ) (entry : List ℕ) (work : Work) : Type 0 where
   pub opcode : io_opcode (opcode_of entry) ≡ Some work.opcode
   pub mapped_each : All (IsMappedPiece mapped) work.pieces
   pub total : total_len work.pieces ≡ transfer_len work.opcode entry
   pub within : All (IsUnitWithin blocks) work.units
+  pub own : All (IsUnitOf work.opcode (slba_of entry)) work.units
   pub counted : has_buffer work.opcode ≡ true → has_blocks work.opcode ≡ false → length work.units ≡ range_count_of entry
   pub in_order : has_blocks work.opcode ≡ true → work.units ≡ block_units (range_with_len (slba_of entry) (count_of entry))
 
@@ -104,6 +111,30 @@ units_of-within blocks opcode entry fine =
 units_of-in_order : (blocks : ℕ) (opcode : IoOpcode) (entry : List ℕ) → has_blocks opcode ≡ true → units_of blocks opcode entry ≡ block_units (range_with_len (slba_of entry) (count_of entry))
 units_of-in_order blocks opcode entry has = rw has refl
 
+-- each of them is the command's
+blocks-own : (opcode : IoOpcode) (slba index lba n : ℕ) → has_blocks opcode ≡ true → lba ≡ slba + index
+    → All (IsUnitOf opcode slba) (map (λ (p : ℕ × ℕ). OneBlock p.0 p.1) (enumerate_from index (range_with_len lba n)))
+blocks-own opcode slba index lba zero has at = All-nil (IsUnitOf opcode slba)
+blocks-own opcode slba index lba (suc n) has at =
+    All-cons (IsUnitOf opcode slba) (OneBlock index lba) (map (λ (p : ℕ × ℕ). OneBlock p.0 p.1) (enumerate_from (index + 1) (range_with_len (lba + 1) n)))
+    (has, at) (blocks-own opcode slba (index + 1) (lba + 1) n has (omega arith))
+
+range_units-own : (slba : ℕ) (ranges : List (List ℕ)) → All (IsUnitOf DatasetManagement slba) (range_units ranges)
+unfolding range_units
+range_units-own slba [] = All-nil (IsUnitOf DatasetManagement slba)
+range_units-own slba (range ∷ ranges) =
+    All-cons (IsUnitOf DatasetManagement slba) (OneRange (start_of range) (blocks_of range)) (range_units ranges) refl (range_units-own slba ranges)
+
+units_of-own : (blocks : ℕ) (opcode : IoOpcode) (entry : List ℕ) → (has_blocks opcode ≡ false → opcode ≡ Flush)
+    → All (IsUnitOf opcode (slba_of entry)) (units_of blocks opcode entry)
+unfolding block_units
+units_of-own blocks opcode entry flush =
+    (elim (has_blocks opcode) as (λ b. has_blocks opcode ≡ b
+    → All (IsUnitOf opcode (slba_of entry)) (cond b (block_units (range_with_len (slba_of entry) (count_of entry))) (AllBlocks blocks ∷ []))) [
+      | true ↦ λ has. blocks-own opcode (slba_of entry) 0 (slba_of entry) (count_of entry) has (omega arith)
+      | false ↦ λ none. All-cons (IsUnitOf opcode (slba_of entry)) (AllBlocks blocks) [] (flush none) (All-nil (IsUnitOf opcode (slba_of entry)))
+    ]) refl
+
 -- ---- the buffer
 
 -- a list of the right length
@@ -146,6 +177,15 @@ ranged-is Write buffer blocks = cc
 ranged-is Compare buffer blocks = cc
 ranged-is DatasetManagement buffer blocks = refl
 
+-- one with neither
+unbuffered-is : (opcode : IoOpcode) → has_buffer opcode ≡ false → has_blocks opcode ≡ false → opcode ≡ Flush
+unbuffered-is Flush buffer blocks = refl
+unbuffered-is WriteZeroes buffer blocks = cc
+unbuffered-is Read buffer blocks = cc
+unbuffered-is Write buffer blocks = cc
+unbuffered-is Compare buffer blocks = cc
+unbuffered-is DatasetManagement buffer blocks = cc
+
 -- a command without a buffer has no bytes to transfer
 unbuffered_len : (opcode : IoOpcode) (entry : List ℕ) → has_buffer opcode ≡ false → 0 ≡ transfer_len opcode entry
 unbuffered_len Flush entry none = refl
@@ -167,6 +207,7 @@ judge_ranges-sound mapped blocks entry pieces ranges is there many =
         mapped_each = there.mapped_each;
         total = there.total;
         within = range_units-within blocks ranges fit;
+        own = range_units-own (slba_of entry) ranges;
         counted = λ buffered not_has. length-range_units ranges ∙ many;
         in_order = λ has. cc;
       }
@@ -188,6 +229,7 @@ judge_reading-sound mapped blocks entry opcode (Spells pieces) is buffer fine th
       mapped_each = there.mapped_each;
       total = there.total;
       within = units_of-within blocks opcode entry fine;
+      own = units_of-own blocks opcode entry (λ not_has. cc);
       counted = λ buffered not_has. cc;
       in_order = units_of-in_order blocks opcode entry;
     })
@@ -227,6 +269,7 @@ judge_by-sound mapped limit blocks entry (Some opcode) is none =
       mapped_each = All-nil (IsMappedPiece mapped);
       total = unbuffered_len opcode entry none_there;
       within = units_of-within blocks opcode entry fine;
+      own = units_of-own blocks opcode entry (unbuffered-is opcode none_there);
       counted = λ buffered not_has. cc;
       in_order = units_of-in_order blocks opcode entry;
     })

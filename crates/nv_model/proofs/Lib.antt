@@ -15,3 +15,4 @@ pub mod QueuesKept
 pub mod Spelled
 pub mod StepsAlike
 pub mod StepsKept
+pub mod UnitOrder

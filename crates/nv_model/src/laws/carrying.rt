@@ -1,10 +1,10 @@
 //! Carrying one command out on the private controller.
-ghost use Rattle.std.specs.Prelude.{◌≡◌, [], ◌∷◌, length, Some};
+ghost use Rattle.std.specs.Prelude.{◌≡◌, ℕ, [], ◌∷◌, List, false, length, Some};
 ghost use Rattle.nv_entry.specs.Status.{StatusField};
-ghost use Rattle.nv_model.specs.Judge.{Work, Go, Refuse};
-ghost use Rattle.nv_model.specs.Private.{Private, Shape, Taken, Ended, Unjudged, run_of, verdict_in};
+ghost use Rattle.nv_model.specs.Judge.{Work, WorkUnit, Go, Refuse, is_read};
+ghost use Rattle.nv_model.specs.Private.{Moved, Private, Shape, Taken, Ended, Unjudged, run_of, verdict_in};
 ghost use Rattle.nv_model.specs.Carried.{IsCarriedOut, all_moved, alone_with, judged_then_moved, moved_status, unmoved, units_moved};
-ghost use Rattle.nv_model.specs.Laws.{HasMoved};
+ghost use Rattle.nv_model.specs.Laws.{HasMoved, IsOrderOf};
 
 /// Judging a command that goes, and moving its units in order, is a run; behind it stand the memory, the disk and the marks
 /// that its units leave in order.
@@ -38,4 +38,11 @@ pub fn nothing_else_carries_out()
         IsCarriedOut shape p t st q → verdict_in shape p.memory t.entry ≡ Refuse told → (st ≡ told) × (q ≡ alone_with t (Ended told) p) }
     ensures moved { (shape : Shape) (p q : Private) (t : Taken) (work : Work) (st : StatusField) →
         IsCarriedOut shape p t st q → verdict_in shape p.memory t.entry ≡ Go work → HasMoved p t work st q }
+{}
+
+/// The order of the units makes no difference but to a Read, whose buffer may name a byte twice.
+pub fn order_matters_to_a_read_alone()
+    ensures { (shape : Shape) (memory : ℕ → ℕ) (entry : List ℕ) (work : Work) (order : List WorkUnit) (m : Moved) →
+        verdict_in shape memory entry ≡ Go work → is_read work.opcode ≡ false → IsOrderOf order work.units →
+        units_moved order work m ≡ units_moved work.units work m }
 {}
