@@ -1,4 +1,4 @@
-ghost use Rattle.std.specs.Prelude.{◌≡◌, ◌≢◌, ◌⊎◌};
+ghost use Rattle.std.specs.Prelude.{◌≡◌, ◌≢◌, ◌⊎◌, Some};
 ghost use Rattle.std.specs.IoError.{error_kind};
 ghost use Rattle.nv_once.specs.Fault.{fault_of, of_script, status_of, text_of};
 
@@ -69,7 +69,7 @@ pub fn report<E: Write + Drop>(fault: Fault, mut faults: E) -> ExitStatus
 }
 
 impl fmt::Display for Fault {
-    ghost output = { text_of };
+    ghost output = { λ fault. Some (text_of fault) };
 
     fn fmt<W: fmt::Write>(&self, f: &mut fmt::Formatter<W>) -> fmt::Result {
         match self {
