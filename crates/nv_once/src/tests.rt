@@ -258,12 +258,13 @@ fn tells_of_a_reader_that_fails(rt: HostRuntime) {
     }
 }
 
-/// A writer that keeps what it takes. Once it is full it fails; or it takes all and fails to flush.
+/// A writer that keeps what it takes, and how much of it was flushed. Once it is full it fails; or it takes all and fails to flush.
 #[derive(Drop)]
 struct FailingWriter {
     room: usize,
     flushes: bool,
     taken: Vec<u8>,
+    flushed: usize,
 }
 
 impl Write for FailingWriter {
@@ -279,6 +280,7 @@ impl Write for FailingWriter {
 
     fn flush(&mut self) -> io::Result<()> {
         if self.flushes {
+            self.flushed = self.taken.len();
             Ok(())
         } else {
             Err(io::Error::from(ErrorKind::StorageFull))
@@ -291,6 +293,7 @@ fn writer(alloc: Global, room: usize, flushes: bool) -> FailingWriter {
         room,
         flushes,
         taken: Vec::new(alloc),
+        flushed: 0,
     }
 }
 
@@ -313,6 +316,7 @@ fn tells_of_a_writer_that_fails(rt: HostRuntime) {
     let ended = perform_on_flat(rt.alloc(), command, b"".as_slice(), &mut output);
     assert_eq!(rt; ended, Ok(()));
     assert_eq!(rt; output.taken.as_slice(), DONE_LINE.as_bytes());
+    assert_eq!(rt; output.flushed, 74);
 }
 
 #[test]
@@ -345,6 +349,11 @@ fn ends_as_ever_where_the_fault_writer_fails(rt: HostRuntime) {
         let faults = writer(rt.alloc(), 3, false);
         assert_eq!(rt; report(fault, faults), status);
     }
+    let mut faults = writer(rt.alloc(), 1000, true);
+    let status = report(Fault::NoMemory, &mut faults);
+    assert_eq!(rt; status, ExitStatus::NoMemory);
+    assert_eq!(rt; faults.taken.as_slice(), b"no memory\n".as_slice());
+    assert_eq!(rt; faults.flushed, 10);
 }
 
 /// A writer that needs no memory.
