@@ -1,11 +1,12 @@
 -- The faults of the program: what each prints, and the exit status that it ends with
-use Rattle.std.specs.Prelude.{ℕ, List, Option, Some, None, codes}
+use Rattle.std.specs.Prelude.{ℕ, List, codes}
 use Rattle.nv_once.specs.declared.exit_status.ExitStatus.{ExitStatus}
 use Rattle.nv_once.specs.declared.exit_status.ExitStatus.TheVariants as status
 use Rattle.nv_once.specs.declared.refusal.Refusal.{Refusal}
 use Rattle.nv_once.specs.declared.refusal.Refusal.TheVariants as refusal
 use Rattle.nv_once.specs.declared.fault.Fault.{Fault}
 use Rattle.nv_once.specs.declared.fault.Fault.TheVariants.{BadBytes, Usage, NoMemory, Script, CannotRead, CannotWrite}
+use Rattle.nv_script.specs.OnceFault.{line_text}
 use Rattle.nv_script.specs.declared.once.fault.ScriptFault.{ScriptFault}
 use Rattle.nv_script.specs.declared.once.fault.ScriptFault.TheVariants as script
 
@@ -18,14 +19,14 @@ status_of (Script line kind) = status.ScriptFault
 status_of CannotRead = status.InputOutput
 status_of CannotWrite = status.InputOutput
 
--- the text of a fault; that of a script's line is tested alone
-abbrev pub text_of : Fault → Option (List ℕ)
-text_of BadBytes = Some (codes "line 1: bad bytes")
-text_of Usage = Some (codes "usage: nvmed once | replay | run | decode KIND HEX")
-text_of NoMemory = Some (codes "no memory")
-text_of (Script line kind) = None
-text_of CannotRead = Some (codes "cannot read")
-text_of CannotWrite = Some (codes "cannot write")
+-- the text of a fault
+abbrev pub text_of : Fault → List ℕ
+text_of BadBytes = codes "line 1: bad bytes"
+text_of Usage = codes "usage: nvmed once | replay | run | decode KIND HEX"
+text_of NoMemory = codes "no memory"
+text_of (Script line kind) = line_text line kind
+text_of CannotRead = codes "cannot read"
+text_of CannotWrite = codes "cannot write"
 
 -- the fault of a script
 abbrev pub of_script : ScriptFault → Fault

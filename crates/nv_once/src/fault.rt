@@ -1,4 +1,4 @@
-ghost use Rattle.std.specs.Prelude.{◌≡◌, ◌≢◌, ◌⊎◌};
+ghost use Rattle.std.specs.Prelude.{◌≡◌, ◌≢◌, ◌⊎◌, Some};
 ghost use Rattle.std.specs.IoError.{error_kind};
 ghost use Rattle.nv_once.specs.Fault.{fault_of, of_script, status_of, text_of};
 
@@ -7,6 +7,7 @@ use crate::refusal::Refusal;
 use nv_mem::NoMemory;
 use nv_script::{FaultKind, ScriptFault};
 use std::alloc::AllocError;
+use std::error::Error;
 use std::fmt;
 use std::io::{self, ErrorKind, Write};
 
@@ -69,7 +70,7 @@ pub fn report<E: Write + Drop>(fault: Fault, mut faults: E) -> ExitStatus
 }
 
 impl fmt::Display for Fault {
-    ghost output = { text_of };
+    ghost output = { λ fault. Some (text_of fault) };
 
     fn fmt<W: fmt::Write>(&self, f: &mut fmt::Formatter<W>) -> fmt::Result {
         match self {
@@ -82,6 +83,8 @@ impl fmt::Display for Fault {
         }
     }
 }
+
+impl Error for Fault {}
 
 impl From<Refusal> for Fault {
     ghost from_gives = { λ refusal fault. fault ≡ fault_of refusal };

@@ -4,7 +4,7 @@
 //! [`perform`] does a command over a reader and a writer, on any kind of controller that runs one command at a time, and [`report`]
 //! tells of a fault. It is proved what is printed: the line of an entry, field by field, and of a script, where it is known what there
 //! is to read, what its lines print one after another on a run of the controller. A command ends with a fault only as its definition
-//! says. What a writer holds that failed, and the text of a script's fault, are tested and not proved.
+//! says. What a writer holds that failed is tested and not proved.
 #![tactic(auto)]
 
 mod command;

@@ -283,12 +283,13 @@ fn tells_of_a_reader_that_fails(rt: HostRuntime) {
     expect_failed_reads(&rt, &FAILED_READS);
 }
 
-/// A writer that keeps what it takes. Once it is full it fails; or it takes all and fails to flush.
+/// A writer that keeps what it takes, and how much of it was flushed. Once it is full it fails; or it takes all and fails to flush.
 #[derive(Drop)]
 struct FailingWriter {
     room: usize,
     flushes: bool,
     taken: Vec<u8>,
+    flushed: usize,
 }
 
 impl Write for FailingWriter {
@@ -304,6 +305,7 @@ impl Write for FailingWriter {
 
     fn flush(&mut self) -> io::Result<()> {
         if self.flushes {
+            self.flushed = self.taken.len();
             Ok(())
         } else {
             Err(io::Error::from(ErrorKind::StorageFull))
@@ -316,13 +318,15 @@ fn writer(alloc: Global, room: usize, flushes: bool) -> FailingWriter {
         room,
         flushes,
         taken: Vec::new(alloc),
+        flushed: 0,
     }
 }
 
 /// How many bytes a writer has room for, whether it flushes, and how a command ends then.
 type Written = (usize, bool, Result<(), Fault>);
 
-/// Ends the test where a command ends otherwise, or where what was taken is not the front of the whole that there is room for.
+/// Ends the test where a command ends otherwise, where what was taken is not the front of the whole that there is room for, or where a
+/// command ends well and has not flushed it.
 fn expect_written(
     rt: &(impl Abort + AllocGlobal),
     command: Command<'_>,
@@ -336,6 +340,8 @@ fn expect_written(
         same(rt, room, &ended, want);
         let (front, _) = whole.as_bytes().split_at(whole.len().min(*room));
         same(rt, room, &(output.taken.as_slice() == front), &true);
+        let is_flushed = output.flushed == output.taken.len();
+        same(rt, room, &(is_flushed || want.is_err()), &true);
     }
 }
 
@@ -404,6 +410,16 @@ fn expect_statuses(rt: &(impl Abort + AllocGlobal), rows: &[(Fault, ExitStatus)]
 #[test]
 fn ends_as_ever_where_the_fault_writer_fails(rt: HostRuntime) {
     expect_statuses(&rt, &FAULTS);
+}
+
+#[test]
+fn flushes_the_text_of_a_fault(rt: HostRuntime) {
+    let mut faults = writer(rt.alloc(), 1000, true);
+    let status = report(Fault::NoMemory, &mut faults);
+    same(&rt, &"status", &status, &ExitStatus::NoMemory);
+    let told = faults.taken.as_slice();
+    same(&rt, &"told", &told, &b"no memory\n".as_slice());
+    same(&rt, &"flushed", &faults.flushed, &10);
 }
 
 /// A writer that needs no memory.

@@ -1,43 +1,72 @@
 //! Why a text is no script.
-ghost use Rattle.std.specs.Prelude.{◌≡◌};
+ghost use Rattle.std.specs.Prelude.{◌≡◌, Some};
 
 use std::alloc::{AllocError, AllocFailed};
-use thiserror::Error;
+use std::error::Error;
+use std::fmt;
 
 /// What is wrong with a line.
-#[derive(Clone, Copy, Debug, PartialEq, Eq, Error)]
+#[derive(Clone, Copy, Debug, PartialEq, Eq)]
 pub enum FaultKind {
     /// its first word is none of the language
-    #[error("unknown word")]
     UnknownWord,
     /// it has fewer words than its first word wants
-    #[error("missing word")]
     MissingWord,
     /// it has more words than its first word wants
-    #[error("too many words")]
     TooManyWords,
     /// a word is no number, or one that is too large or otherwise none of its place
-    #[error("bad number")]
     BadNumber,
     /// a word does not spell the bytes that its place wants
-    #[error("bad bytes")]
     BadBytes,
     /// the line may not stand here
-    #[error("out of place")]
     OutOfPlace,
     /// it names bytes or a block that are not there
-    #[error("out of range")]
     OutOfRange,
 }
 
+impl fmt::Display for FaultKind {
+    ghost use Rattle.nv_script.specs.OnceFault.{kind_text};
+
+    ghost output = { λ kind. Some (kind_text kind) };
+
+    fn fmt<W: fmt::Write>(&self, f: &mut fmt::Formatter<W>) -> fmt::Result {
+        match self {
+            FaultKind::UnknownWord => f.write_str("unknown word"),
+            FaultKind::MissingWord => f.write_str("missing word"),
+            FaultKind::TooManyWords => f.write_str("too many words"),
+            FaultKind::BadNumber => f.write_str("bad number"),
+            FaultKind::BadBytes => f.write_str("bad bytes"),
+            FaultKind::OutOfPlace => f.write_str("out of place"),
+            FaultKind::OutOfRange => f.write_str("out of range"),
+        }
+    }
+}
+
+impl Error for FaultKind {}
+
 /// Why a text is no script: its first faulty line, or that memory was refused.
-#[derive(Clone, Copy, Debug, PartialEq, Eq, Error)]
+#[derive(Clone, Copy, Debug, PartialEq, Eq)]
 pub enum ScriptFault {
-    #[error("line {line}: {kind}")]
+    /// its first faulty line
     Line { line: u64, kind: FaultKind },
-    #[error("no memory")]
+    /// memory was refused
     NoMemory,
 }
+
+impl fmt::Display for ScriptFault {
+    ghost use Rattle.nv_script.specs.OnceFault.{fault_text};
+
+    ghost output = { λ fault. Some (fault_text fault) };
+
+    fn fmt<W: fmt::Write>(&self, f: &mut fmt::Formatter<W>) -> fmt::Result {
+        match self {
+            ScriptFault::Line { line, kind } => write!(f, "line {line}: {kind}"),
+            ScriptFault::NoMemory => f.write_str("no memory"),
+        }
+    }
+}
+
+impl Error for ScriptFault {}
 
 /// Why a line was not read.
 #[derive(Clone, Copy, Debug, PartialEq, Eq)]
