@@ -1,6 +1,7 @@
 pub mod AdminKept
 pub mod Agreeing
 pub mod Asking
+pub mod Bags
 pub mod CarriedOnly
 pub mod CarriedOut
 pub mod DialogueLemmas
@@ -10,9 +11,12 @@ pub mod InPlace
 pub mod Judged
 pub mod MemoryAlike
 pub mod MemoryLemmas
+pub mod QueueCounts
 pub mod QueueOrder
 pub mod QueuesKept
 pub mod Spelled
 pub mod StepsAlike
 pub mod StepsKept
 pub mod UnitOrder
+pub mod UnitWords
+pub mod Units
