@@ -6,12 +6,14 @@ pub mod CarriedOut
 pub mod DialogueLemmas
 pub mod Endings
 pub mod Feedings
+pub mod InParts
 pub mod InPlace
 pub mod Judged
 pub mod MemoryAlike
 pub mod MemoryLemmas
 pub mod QueueOrder
 pub mod QueuesKept
+pub mod Shown
 pub mod Spelled
 pub mod StepsAlike
 pub mod StepsKept

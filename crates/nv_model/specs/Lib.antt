@@ -13,5 +13,6 @@ pub mod Private
 pub mod Carried
 pub mod Footprint
 pub mod Laws
+pub mod Parts
 pub mod Rows
 pub mod RowsRuns

@@ -3,6 +3,8 @@ pub mod agreeing;
 pub mod carrying;
 pub mod feeding;
 pub mod lists;
+pub mod parts;
 pub mod queues;
+pub mod transcripts;
 pub mod unseen;
 pub mod verdicts;
