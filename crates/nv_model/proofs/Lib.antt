@@ -1,5 +1,6 @@
 pub mod AdminKept
 pub mod Agreeing
+pub mod AnyAnswers
 pub mod Asking
 pub mod CarriedOnly
 pub mod CarriedOut

@@ -14,5 +14,6 @@ pub mod Carried
 pub mod Footprint
 pub mod Laws
 pub mod Parts
+pub mod Endings
 pub mod Rows
 pub mod RowsRuns

@@ -1,6 +1,7 @@
 //! Laws about the definitions, as functions that do nothing: each contract is a law.
 pub mod agreeing;
 pub mod carrying;
+pub mod endings;
 pub mod feeding;
 pub mod lists;
 pub mod parts;
