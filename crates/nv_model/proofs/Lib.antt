@@ -14,6 +14,7 @@ pub mod MemoryAlike
 pub mod MemoryLemmas
 pub mod QueueOrder
 pub mod QueuesKept
+pub mod SglSequenced
 pub mod Shown
 pub mod Spelled
 pub mod StepsAlike

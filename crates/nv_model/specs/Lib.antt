@@ -15,5 +15,6 @@ pub mod Footprint
 pub mod Laws
 pub mod Parts
 pub mod Endings
+pub mod SglSequence
 pub mod Rows
 pub mod RowsRuns
