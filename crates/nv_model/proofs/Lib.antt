@@ -12,6 +12,7 @@ pub mod InPlace
 pub mod Judged
 pub mod MemoryAlike
 pub mod MemoryLemmas
+pub mod PrpAddressed
 pub mod QueueOrder
 pub mod QueuesKept
 pub mod SglSequenced

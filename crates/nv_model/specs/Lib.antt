@@ -16,5 +16,6 @@ pub mod Laws
 pub mod Parts
 pub mod Endings
 pub mod SglSequence
+pub mod PrpAddresses
 pub mod Rows
 pub mod RowsRuns

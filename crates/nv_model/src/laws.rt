@@ -1,4 +1,5 @@
 //! Laws about the definitions, as functions that do nothing: each contract is a law.
+pub mod addresses;
 pub mod agreeing;
 pub mod carrying;
 pub mod endings;
