@@ -1,5 +1,6 @@
 pub mod AdminKept
 pub mod Agreeing
+pub mod AnyAnswers
 pub mod Asking
 pub mod Bags
 pub mod CarriedOnly
@@ -7,13 +8,17 @@ pub mod CarriedOut
 pub mod DialogueLemmas
 pub mod Endings
 pub mod Feedings
+pub mod InParts
 pub mod InPlace
 pub mod Judged
 pub mod MemoryAlike
 pub mod MemoryLemmas
+pub mod PrpAddressed
 pub mod QueueCounts
 pub mod QueueOrder
 pub mod QueuesKept
+pub mod SglSequenced
+pub mod Shown
 pub mod Spelled
 pub mod StepsAlike
 pub mod StepsKept

@@ -121,8 +121,11 @@ bytes_from-each memory addr [] each = refl
 bytes_from-each memory addr (byte ∷ bytes) each =
     let here : addr + 0 ≡ addr = omega arith in
     let first : memory addr ≡ byte = ap memory (sym here) ∙ each 0 (omega arith) in
-    rw (first, bytes_from-each memory (suc addr) bytes
-    (λ i below. let next : suc addr + i ≡ addr + suc i = omega arith in ap memory next ∙ each (suc i) (omega arith))) refl
+    rw (
+      first,
+      bytes_from-each memory (suc addr) bytes
+          (λ i below. let next : suc addr + i ≡ addr + suc i = omega arith in ap memory next ∙ each (suc i) (omega arith)),
+    ) refl
 
 stored-at_offset : (memory : ℕ → ℕ) (addr : ℕ) (bytes : List ℕ) (i : ℕ) → i < length bytes → stored memory addr bytes (addr + i) ≡ slice_index bytes i
 unfolding stored
