@@ -5,8 +5,8 @@ ghost use Rattle.nv_mem.specs.Places.{piece_len, total_len};
 ghost use Rattle.nv_model.specs.Laws.{IsMappedPiece};
 
 use super::map;
-use crate::{Prps, build, build_run, fits};
 use nv_mem::{GuestMap, NoMemory, Piece, Places, Region};
+use nv_prp::{Prps, build, build_run, fits};
 use std::alloc::Global;
 use std::process::Abort;
 use std::test::Fail;

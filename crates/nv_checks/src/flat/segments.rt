@@ -1,11 +1,11 @@
 //! Commands by SGL segments.
 
-use crate::FlatController;
-use crate::tests::{
+use crate::flat::{
     COMPARE_BY_SGL, DIFFERS, READ_BY_SGL, SUCCESS, WRITE_BY_SGL, blocks_are, changed, filled_are,
     prepared, put, run,
 };
 use nv_entry::Sqe;
+use nv_flat::FlatController;
 use std::alloc::Global;
 use std::process::Abort;
 use std::test::Fail;

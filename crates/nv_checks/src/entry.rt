@@ -1,6 +1,6 @@
 //! Entries written out by hand from the layouts, read and written.
 
-use crate::{
+use nv_entry::{
     AdminOpcode, Cqe, DataPointer, Descriptor, DescriptorType, IoOpcode, Range, Sqe, Status,
     StatusCode,
 };

@@ -2,10 +2,10 @@
 ghost use Rattle.std.specs.Prelude.{◌≡◌, IfSome, length};
 
 use super::map;
-use crate::PrpParse;
 use nv_entry::StatusCode;
 use nv_mem::{GuestMap, NoMemory, Piece};
 use nv_model::Want;
+use nv_prp::PrpParse;
 use std::alloc::Global;
 use std::process::Abort;
 use std::test::Fail;

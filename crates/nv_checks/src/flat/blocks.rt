@@ -1,10 +1,10 @@
 //! Commands through one Data Block, or none.
 
-use crate::FlatController;
-use crate::tests::{
+use crate::flat::{
     COMPARE_BY_SGL, DIFFERS, READ_BY_SGL, SUCCESS, WRITE_BY_SGL, block_is, blocks_are, changed,
     filled_are, is_kept, marks_are, prepared, put, run,
 };
+use nv_flat::FlatController;
 use std::alloc::Global;
 use std::process::Abort;
 use std::test::Fail;

@@ -3,11 +3,12 @@ ghost use Rattle.std.specs.Prelude.{◌≡◌, IfSome, length};
 
 mod lists;
 mod long_lists;
+mod refusals;
 mod starved;
 
-use crate::{Chain, SglParse, Want};
 use nv_entry::{Descriptor, StatusCode};
 use nv_mem::{GuestMap, NoMemory, Piece, Region};
+use nv_sgl::{Chain, SglParse, Want};
 use std::alloc::{Allocator, Global};
 use std::process::Abort;
 use std::test::Fail;

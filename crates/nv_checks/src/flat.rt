@@ -4,8 +4,8 @@ mod blocks;
 mod region_pages;
 mod segments;
 
-use crate::FlatController;
 use nv_entry::Sqe;
+use nv_flat::FlatController;
 use std::alloc::Global;
 use std::process::Abort;
 use std::test::Fail;

@@ -1,8 +1,8 @@
 //! Commands by PRP entries and lists.
 
-use crate::FlatController;
-use crate::tests::{SUCCESS, changed, filled_are, put, run};
+use crate::flat::{SUCCESS, changed, filled_are, put, run};
 use nv_entry::Sqe;
+use nv_flat::FlatController;
 use std::alloc::Global;
 use std::process::Abort;
 use std::test::Fail;
