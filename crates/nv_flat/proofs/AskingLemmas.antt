@@ -10,7 +10,8 @@ use Rattle.nv_model.specs.Reading.{Reading, Faulty, TooLong, Spells, run, unless
 use Rattle.nv_model.specs.Sgl.{Array, array_by, behind_own, fault_by, pieces_by, read_array, read_descriptor, read_sgl}
 use Rattle.nv_model.specs.Transcript.{part}
 use Rattle.nv_entry.specs.Layout.{number_at}
-use Rattle.nv_model.specs.Prp.{entry_fault, first_len, page, pages_of, read_entries, read_page, read_prp, read_prp2, slots_of}
+use Rattle.nv_model.specs.Prp.{entry_fault, first_len, pages_of, read_entries, read_page, read_prp, read_prp2, slots_of}
+use Rattle.nv_model.specs.Limits.{page}
 use Rattle.nv_model.proofs.Asking.{IsMappedFrom, IsMappedFrom-part, array_by-mapped, entry_fault-mapped, others-left}
 use Rattle.nv_model.specs.Transcript.{fed}
 use Rattle.nv_model.specs.Want.{want_of}

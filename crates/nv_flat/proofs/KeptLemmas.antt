@@ -8,7 +8,8 @@ use Rattle.nv_entry.specs.declared.opcode.IoOpcode.{IoOpcode}
 use Rattle.nv_entry.specs.declared.opcode.IoOpcode.TheVariants.{Flush, Write, Read, Compare, WriteZeroes, DatasetManagement}
 use Rattle.nv_mem.specs.Places.{Place, At, Bucket, places_of}
 use Rattle.nv_model.specs.Memory.{scattered, stored}
-use Rattle.nv_model.specs.Judge.{WorkUnit, MoveBlock, ClearBlock, LeaveBlock, KeepAll, Work, block, is_read}
+use Rattle.nv_model.specs.Judge.{WorkUnit, MoveBlock, ClearBlock, LeaveBlock, KeepAll, Work, is_read}
+use Rattle.nv_model.specs.Limits.{block}
 use Rattle.nv_model.specs.Private.{Moved, block_bytes, block_moved, places_of_block}
 use Rattle.nv_model.specs.Carried.{moved_on, units_moved}
 use Rattle.nv_flat.specs.Flat.{Flat, byte_in, flat, moved_of}

@@ -9,7 +9,8 @@ use Rattle.nv_mem.specs.Bytes.{InMemory, after_store}
 use Rattle.nv_mem.specs.Places.{Place, At, Bucket, places_of}
 use Rattle.nv_mem.proofs.Memory.{length-after_store}
 use Rattle.nv_model.specs.Memory.{gathered, scattered}
-use Rattle.nv_model.specs.Judge.{WorkUnit, MoveBlock, KeepAll, Work, Verdict, Go, Refuse, block, ClearBlock, LeaveBlock}
+use Rattle.nv_model.specs.Judge.{WorkUnit, MoveBlock, KeepAll, Work, Verdict, Go, Refuse, ClearBlock, LeaveBlock}
+use Rattle.nv_model.specs.Limits.{block}
 use Rattle.nv_model.specs.Laws.{IsUnitWithin}
 use Rattle.nv_model.specs.Private.{Moved, block_bytes, block_moved, moved_status, places_of_block, unit_moved, verdict_in, block_written, marked}
 use Rattle.nv_model.specs.Carried.{moved_on, units_moved}

@@ -8,7 +8,8 @@ use Rattle.nv_entry.specs.Opcode.{data_pointer}
 use Rattle.nv_entry.specs.Submission.{prp1_of, prp2_of, psdt_of, sgl_of}
 use Rattle.nv_entry.specs.declared.data_pointer.DataPointer.{DataPointer}
 use Rattle.nv_entry.specs.declared.data_pointer.DataPointer.TheVariants.{Prp, Reserved, Sgl}
-use Rattle.nv_model.specs.Prp.{entry_fault, first_len, page, pages_of, read_entries, read_page, read_prp, read_prp2, slots_of}
+use Rattle.nv_model.specs.Prp.{entry_fault, first_len, pages_of, read_entries, read_page, read_prp, read_prp2, slots_of}
+use Rattle.nv_model.specs.Limits.{page}
 use Rattle.nv_entry.specs.declared.descriptor_type.DescriptorType.{DescriptorType}
 use Rattle.nv_entry.specs.declared.descriptor_type.DescriptorType.TheVariants.{DataBlock, BitBucket, Segment, LastSegment}
 use Rattle.nv_entry.specs.declared.status_code.StatusCode.TheVariants.{SglLengthInvalid}

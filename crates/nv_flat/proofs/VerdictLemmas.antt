@@ -14,7 +14,8 @@ use Rattle.nv_ns.specs.BlockRange.{in_namespace}
 use Rattle.nv_model.specs.Dialogue.{Dialogue, and_then, in_memory}
 use Rattle.nv_model.proofs.DialogueLemmas.{in_memory-and_then}
 use Rattle.nv_model.specs.Reading.{Reading, first_failing}
-use Rattle.nv_model.specs.Judge.{Verdict, Refuse, Go, count_of, field_refusal, has_blocks, has_buffer, judge, judge_by, judge_fields, judge_reading, most_blocks, read_buffer, refusal_by_opcode, work_of, judge_buffer, form_of}
+use Rattle.nv_model.specs.Judge.{Verdict, Refuse, Go, count_of, field_refusal, has_blocks, has_buffer, judge, judge_by, judge_fields, judge_reading, read_buffer, refusal_by_opcode, work_of, judge_buffer, form_of}
+use Rattle.nv_model.specs.Limits.{most_blocks}
 use Rattle.nv_model.specs.Private.{Shape, verdict_in}
 use Rattle.nv_entry.specs.declared.opcode.IoOpcode.TheVariants.{Flush, Write, Read, Compare, WriteZeroes, DatasetManagement}
 

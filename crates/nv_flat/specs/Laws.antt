@@ -3,7 +3,8 @@ use Rattle.std.specs.Prelude.{◌≡◌, ◌≢◌, ◌≤◌, ℕ, Bool, false,
 use Rattle.std.specs.Bool.{⊤}
 use Rattle.nv_entry.specs.Status.{StatusField}
 use Rattle.nv_mem.specs.Places.{Place}
-use Rattle.nv_model.specs.Judge.{ClearBlock, KeepAll, LeaveBlock, MoveBlock, Work, WorkUnit, block}
+use Rattle.nv_model.specs.Judge.{ClearBlock, KeepAll, LeaveBlock, MoveBlock, Work, WorkUnit}
+use Rattle.nv_model.specs.Limits.{block}
 use Rattle.nv_model.specs.Carried.{units_moved}
 use Rattle.nv_model.specs.Laws.{IsOrderOf}
 use Rattle.nv_model.specs.Private.{moved_status}

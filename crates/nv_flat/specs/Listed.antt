@@ -9,7 +9,8 @@ use Rattle.nv_entry.specs.declared.status_code.StatusCode.TheVariants.{InternalE
 use Rattle.nv_judge.specs.declared.need.Need.{Need}
 use Rattle.nv_mem.specs.GuestMap.{mapped}
 use Rattle.nv_model.specs.Dialogue.{Dialogue, End, and_then, in_memory}
-use Rattle.nv_model.specs.Judge.{most_descriptors, read_by, sized}
+use Rattle.nv_model.specs.Judge.{read_by, sized}
+use Rattle.nv_model.specs.Limits.{most_descriptors}
 use Rattle.nv_model.specs.Reading.{Reading, Faulty, TooLong, Spells}
 use Rattle.nv_flat.specs.Flat.{Flat, byte_in, identity_map}
 use Rattle.nv_flat.specs.declared.lists.Listed.{Listed}

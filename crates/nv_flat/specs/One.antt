@@ -1,18 +1,21 @@
 -- One command on the flat controller
-use Rattle.std.specs.Prelude.{◌≡◌, ℕ, Bool, true, false, not, List, ◌∷◌, length, replicate, Option, Some, None, is_none}
+use Rattle.std.specs.Prelude.{◌≡◌, ℕ, Bool, true, false, not, ◌&&◌, ◌==◌, nat_le, List, ◌∷◌, length, replicate, Option, Some, None, is_none}
 use Rattle.std.specs.List.{slice_index_or}
 use Rattle.nv_entry.specs.Opcode.{io_opcode}
 use Rattle.nv_entry.specs.Status.{StatusField}
 use Rattle.nv_entry.specs.StatusCode.{done_with}
 use Rattle.nv_entry.specs.Completion.{completion}
-use Rattle.nv_entry.specs.Submission.{cid_of, opcode_of}
+use Rattle.nv_entry.specs.Submission.{cid_of, opcode_of, psdt_of, sgl_of}
+use Rattle.nv_entry.specs.Descriptor.{type_of}
 use Rattle.nv_entry.specs.declared.opcode.IoOpcode.{IoOpcode}
+use Rattle.nv_entry.specs.declared.opcode.IoOpcode.TheVariants.{Flush, Write, Read, Compare, WriteZeroes, DatasetManagement}
 use Rattle.nv_entry.specs.declared.status_code.StatusCode.TheVariants.{InternalError}
 use Rattle.nv_mem.specs.GuestMap.{mapped}
 use Rattle.nv_model.specs.Memory.{bytes_from}
 use Rattle.nv_model.specs.Queue.{cqe_size}
 use Rattle.nv_model.specs.Controller.{Controller}
-use Rattle.nv_model.specs.Judge.{field_refusal, most_descriptors}
+use Rattle.nv_model.specs.Judge.{count_of, field_refusal}
+use Rattle.nv_model.specs.Limits.{most_descriptors}
 use Rattle.nv_model.specs.Private.{After, PostStep, Private, Shape, Taken, Unjudged, no_commands, put, step}
 use Rattle.nv_model.specs.Carried.{IsCarriedOut}
 use Rattle.nv_judge.specs.declared.need.Need.{Need}
@@ -76,6 +79,21 @@ pub record IsRun (old : Flat) (entry : List ℕ) (st : StatusField) (new : Flat)
   pub after : Taken
   pub carried : IsCarriedOut (shape_of old) (private_of old (newly_taken entry)) 0 (newly_taken entry) st (private_of new after)
   pub posted : completion_posted (shape_of old) (private_of new after) ≡ Some (completion 0 1 1 (cid_of entry) true st)
+
+-- a Read or a Write of at most 8 blocks, by a scatter gather list whose own descriptor is of the type of a Data Block: every controller
+-- carries these out
+abbrev pub is_read_or_write : Option IoOpcode → Bool
+is_read_or_write (Some Read) = true
+is_read_or_write (Some Write) = true
+is_read_or_write (Some Compare) = false
+is_read_or_write (Some WriteZeroes) = false
+is_read_or_write (Some Flush) = false
+is_read_or_write (Some DatasetManagement) = false
+is_read_or_write None = false
+
+abbrev pub is_plain : List ℕ → Bool
+is_plain entry =
+    is_read_or_write (io_opcode (opcode_of entry)) && not (psdt_of entry == 0) && type_of (sgl_of entry) == 0 && nat_le (count_of entry) 8
 
 -- every command is carried out
 abbrev pub every_command : List ℕ → Bool

@@ -1,13 +1,13 @@
 //! What every controller promises that runs one command at a time.
 
-ghost use Rattle.std.specs.Prelude.{◌≡◌, ◌<◌, ◌↔◌, ℕ, Bool, List, true, false, length, replicate, slice_set, IfOk, IsTrue, OnErr};
+ghost use Rattle.std.specs.Prelude.{◌≡◌, ◌<◌, ◌↔◌, ℕ, Bool, List, true, false, refl, length, replicate, slice_set, IfOk, IsTrue, OnErr};
 ghost use Rattle.std.specs.List.{slice_index_or};
 ghost use Rattle.nv_entry.specs.Completion.{completion};
 ghost use Rattle.nv_entry.specs.Status.{StatusField};
 ghost use Rattle.nv_entry.specs.Submission.{cid_of};
 ghost use Rattle.nv_mem.specs.Bytes.{InMemory, after_store, bytes_at};
 ghost use Rattle.nv_flat.specs.Flat.{FitsLimits, Flat, flat};
-ghost use Rattle.nv_flat.specs.One.{IsDone, every_command};
+ghost use Rattle.nv_flat.specs.One.{IsDone, every_command, is_plain};
 
 use crate::controller::FlatController;
 use nv_entry::{Cqe, Sqe};
@@ -83,12 +83,17 @@ pub trait One: Drop {
     fn blocks(&self) -> u64
         ensures value { result ≡ length (seen self.now).disk }
         ensures marked { length (seen self.now).kept ≡ length (seen self.now).disk };
+
+    // whatever else it leaves out, an implementation carries out a Read or Write of up to 8 blocks through one Data Block
+    ghost carries: { (entry : List ℕ) → is_plain entry ≡ true → built entry ≡ true };
 }
 
 impl One for FlatController {
     ghost seen = { λ c. c };
 
     ghost built = { every_command };
+
+    ghost carries = { λ entry plain. refl };
 
     fn fits(memory_len: u64, blocks: u64) -> bool {
         FlatController::fits(memory_len, blocks)

@@ -12,8 +12,9 @@ use Rattle.nv_mem.specs.GuestMap.{everywhere}
 use Rattle.nv_model.specs.Memory.{bytes_from}
 use Rattle.nv_model.specs.Reading.{Reading, Faulty, TooLong, Spells, first_failing}
 use Rattle.nv_model.specs.Queue.{SubmissionQueue, CompletionQueue, cqe_size, new_completion, new_submission, sqe_size}
-use Rattle.nv_model.specs.Controller.{Controller, Deletion, Posted, completion_queue, front, is_ready, most_slots, post, size_fits, submission_queue, took, with_submission}
-use Rattle.nv_model.specs.Admin.{AdminStep, Done, Hidden, NothingToDo, QueueFull, Shown, Stepped, Structure, admin, admin_command, admin_ready, checked, completes_to_checks, contiguous, completion_id, create_completion, create_submission, delete_completion, delete_found, delete_submission, done_by, done_with_opcode, finish_deletion, front_command, identified, identify_by, identify_reading, is_queue_full, last_queue, most_requests, new_queue_checks, number_of_queues, place_checks, queue_id, queue_size, selector, shown, stepped, with_answer, with_completion_posted, answered}
+use Rattle.nv_model.specs.Controller.{Controller, Deletion, Posted, completion_queue, front, is_ready, post, size_fits, submission_queue, took, with_submission}
+use Rattle.nv_model.specs.Limits.{last_queue, most_requests, most_slots}
+use Rattle.nv_model.specs.Admin.{AdminStep, Done, Hidden, NothingToDo, QueueFull, Shown, Stepped, Structure, admin, admin_command, admin_ready, checked, completes_to_checks, contiguous, completion_id, create_completion, create_submission, delete_completion, delete_found, delete_submission, done_by, done_with_opcode, finish_deletion, front_command, identified, identify_by, identify_reading, is_queue_full, new_queue_checks, number_of_queues, place_checks, queue_id, queue_size, selector, shown, stepped, with_answer, with_completion_posted, answered}
 use Rattle.nv_model.specs.Laws.{QueuesHave}
 use Rattle.nv_model.proofs.Endings.{first_failing-none, not-false}
 use Rattle.nv_model.proofs.QueuesKept.{HaveBehind, IsKept, QueuesHave-same, QueuesHave-with_completion, QueuesHave-with_submission, by_test, post-kept, submission_queue-has, took-kept}

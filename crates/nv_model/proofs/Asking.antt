@@ -19,7 +19,8 @@ use Rattle.nv_mem.specs.declared.piece.Piece.TheVariants.{Run, Bucket}
 use Rattle.nv_model.specs.Dialogue.{Dialogue, End, Ask, and_then, asked}
 use Rattle.nv_model.specs.Reading.{Reading, Faulty, TooLong, Spells, run, unless_faulty}
 use Rattle.nv_model.specs.Sgl.{Array, array_by, behind_own, fault_by, pieces_by, read_array, read_descriptor, read_sgl, segment_fault}
-use Rattle.nv_model.specs.Prp.{entry_fault, first_len, page, pages_of, read_entries, read_page, read_prp, read_prp2, slots_of}
+use Rattle.nv_model.specs.Prp.{entry_fault, first_len, pages_of, read_entries, read_page, read_prp, read_prp2, slots_of}
+use Rattle.nv_model.specs.Limits.{page}
 use Rattle.nv_model.specs.Judge.{Form, Transfer, Clear, Manage, Keep, field_refusal, form_of, has_buffer, is_read, judge, judge_buffer, judge_by, judge_fields, judge_reading, read_buffer, read_by, read_source, transfer_len}
 use Rattle.nv_model.specs.Laws.{IsMappedPiece, still_wanted}
 use Rattle.nv_model.proofs.Endings.{EndsIn, EndsIn-any, OfPieces, and-false, first_failing-none, not-false}

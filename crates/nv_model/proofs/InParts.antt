@@ -20,7 +20,8 @@ use Rattle.nv_mem.specs.declared.piece.Piece.TheVariants.{Run, Bucket}
 use Rattle.nv_model.specs.Dialogue.{Dialogue, End, Ask, and_then}
 use Rattle.nv_model.specs.Reading.{Reading, Faulty, TooLong, Spells, run, unless_faulty}
 use Rattle.nv_model.specs.Sgl.{Array, array_by, behind_own, fault_by, pieces_by, read_array, read_descriptor, read_sgl, segment_fault}
-use Rattle.nv_model.specs.Prp.{entry_fault, first_len, page, pages_of, read_entries, read_page, read_prp, read_prp2, slots_of}
+use Rattle.nv_model.specs.Prp.{entry_fault, first_len, pages_of, read_entries, read_page, read_prp, read_prp2, slots_of}
+use Rattle.nv_model.specs.Limits.{page}
 use Rattle.nv_model.specs.Judge.{Form, Transfer, Clear, Manage, Keep, field_refusal, form_of, has_buffer, is_read, judge, judge_buffer, judge_by, judge_fields, judge_reading, range_count_of, read_buffer, read_by, read_source, sized, transfer_len}
 use Rattle.nv_model.specs.Parts.{AsksInParts, UsesUp, in_hand}
 use Rattle.nv_model.proofs.Endings.{EndsIn, EndsIn-any, OfPieces, and-true, first_failing-none, not-false}

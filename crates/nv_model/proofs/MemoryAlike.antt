@@ -18,7 +18,8 @@ use Rattle.nv_model.specs.Reading.{Reading, Faulty, TooLong, Spells, first_faili
 use Rattle.nv_model.specs.Judge.{judge}
 use Rattle.nv_model.specs.Queue.{SubmissionQueue, cqe_size, new_completion, new_submission, sqe_size}
 use Rattle.nv_model.specs.Controller.{Controller, Deletion, Posted, completion_queue, front, front_of, is_ready, post, submission_queue, took, with_completion, with_submission}
-use Rattle.nv_model.specs.Admin.{AdminStep, Done, Hidden, NothingToDo, QueueFull, Shown, Stepped, Structure, admin, admin_command, admin_ready, answered, checked, completes_to_checks, completion_id, create_completion, create_submission, delete_completion, delete_found, done_by, done_with_opcode, finish_deletion, front_command, has_io_queue, identified, identify_by, identify_reading, is_queue_full, most_requests, new_queue_checks, number_of_queues, place_checks, queue_id, queue_size, queues_allocated, selector, set_features, shown, stepped, uses, with_answer, with_completion_posted}
+use Rattle.nv_model.specs.Admin.{AdminStep, Done, Hidden, NothingToDo, QueueFull, Shown, Stepped, Structure, admin, admin_command, admin_ready, answered, checked, completes_to_checks, completion_id, create_completion, create_submission, delete_completion, delete_found, done_by, done_with_opcode, finish_deletion, front_command, has_io_queue, identified, identify_by, identify_reading, is_queue_full, new_queue_checks, number_of_queues, place_checks, queue_id, queue_size, queues_allocated, selector, set_features, shown, stepped, uses, with_answer, with_completion_posted}
+use Rattle.nv_model.specs.Limits.{most_requests}
 use Rattle.nv_model.specs.Laws.{AgreeAt, IsMappedPlace, IsSubmissionInPlace, IsCompletionInPlace, QueuesInPlace}
 use Rattle.nv_model.proofs.Agreeing.{bytes_from-agree, in_memory-agree}
 use Rattle.nv_model.proofs.Asking.{IsMappedFrom, asked-mapped, judge-asks}

@@ -10,7 +10,8 @@ use Rattle.nv_mem.specs.declared.piece.Piece.{Piece}
 use Rattle.nv_mem.specs.declared.piece.Piece.TheVariants.{Run}
 use Rattle.nv_model.specs.Dialogue.{Dialogue, End, Ask, in_memory}
 use Rattle.nv_model.specs.Reading.{Reading, Spells, run, unless_faulty}
-use Rattle.nv_model.specs.Prp.{entry_fault, first_len, page, pages_of, read_entries, read_page, read_prp, read_prp2, slots_of}
+use Rattle.nv_model.specs.Prp.{entry_fault, first_len, pages_of, read_entries, read_page, read_prp, read_prp2, slots_of}
+use Rattle.nv_model.specs.Limits.{page}
 use Rattle.nv_model.specs.PrpAddresses.{byte_address, entry_of, last_page, slot_at, slot_of}
 use Rattle.nv_model.proofs.Endings.{and-true}
 use Rattle.nv_model.proofs.Asking.{entry_fault-mapped}

@@ -15,7 +15,8 @@ use Rattle.nv_model.specs.Dialogue.{Dialogue, End, Ask, and_then}
 use Rattle.nv_model.specs.Reading.{Reading, Faulty, TooLong, Spells, run}
 use Rattle.nv_model.specs.Judge.{sized}
 use Rattle.nv_model.specs.Sgl.{Array, array_by, behind_own, fault_by, pieces_by, read_array, read_descriptor, read_sgl}
-use Rattle.nv_model.specs.Prp.{entry_fault, first_len, page, pages_of, read_entries, read_page, read_prp, read_prp2, slots_of}
+use Rattle.nv_model.specs.Prp.{entry_fault, first_len, pages_of, read_entries, read_page, read_prp, read_prp2, slots_of}
+use Rattle.nv_model.specs.Limits.{page}
 use Rattle.nv_model.specs.Laws.{IsMappedPiece}
 use Rattle.nv_model.proofs.Endings.{EndsIn, EndsIn-if, EndsIn-unless_faulty, OfPieces, first_failing-none, not-false}
 

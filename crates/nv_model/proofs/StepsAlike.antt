@@ -13,7 +13,8 @@ use Rattle.nv_model.specs.declared.act.Act.TheVariants as act
 use Rattle.nv_model.specs.declared.reply.Reply.{Reply}
 use Rattle.nv_model.specs.declared.reply.Reply.TheVariants as reply
 use Rattle.nv_model.specs.Memory.{gathered, scattered, stored}
-use Rattle.nv_model.specs.Judge.{ClearBlock, KeepAll, LeaveBlock, MoveBlock, Verdict, Work, WorkUnit, block}
+use Rattle.nv_model.specs.Judge.{ClearBlock, KeepAll, LeaveBlock, MoveBlock, Verdict, Work, WorkUnit}
+use Rattle.nv_model.specs.Limits.{block}
 use Rattle.nv_model.specs.Queue.{sqe_size}
 use Rattle.nv_model.specs.Controller.{Controller, Posted, doorbell, front, is_enabled, post, reg_read, reg_write}
 use Rattle.nv_model.specs.Admin.{AdminStep, NothingToDo, QueueFull, Stepped, admin}

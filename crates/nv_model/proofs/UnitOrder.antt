@@ -7,7 +7,8 @@ use Rattle.nv_entry.specs.declared.opcode.IoOpcode.{IoOpcode}
 use Rattle.nv_entry.specs.declared.opcode.IoOpcode.TheVariants.{Flush, Write, Read, Compare, WriteZeroes, DatasetManagement}
 use Rattle.nv_model.specs.Memory.{gathered, stored}
 use Rattle.nv_entry.specs.Submission.{slba_of}
-use Rattle.nv_model.specs.Judge.{Form, Transfer, Clear, Manage, Keep, WorkUnit, MoveBlock, ClearBlock, LeaveBlock, KeepAll, Work, block, form_is_read, form_of}
+use Rattle.nv_model.specs.Judge.{Form, Transfer, Clear, Manage, Keep, WorkUnit, MoveBlock, ClearBlock, LeaveBlock, KeepAll, Work, form_is_read, form_of}
+use Rattle.nv_model.specs.Limits.{block}
 use Rattle.nv_model.specs.Private.{Moved, block_bytes, block_moved, differs, marked, places_of_block, unit_moved}
 use Rattle.nv_model.specs.Carried.{moved_on, units_moved}
 use Rattle.nv_model.specs.Laws.{IsOrderOf}

@@ -19,7 +19,8 @@ use Rattle.nv_model.specs.Dialogue.{in_memory}
 use Rattle.nv_model.specs.Reading.{Reading, Faulty, TooLong, Spells, first_failing}
 use Rattle.nv_model.specs.Prp.{read_prp}
 use Rattle.nv_model.specs.Queue.{SubmissionQueue, CompletionQueue, cqe_size, is_full, new_completion, new_submission, sqe_size}
-use Rattle.nv_model.specs.Controller.{Controller, Deletion, Posted, completion_queue, front, is_ready, most_slots, post, submission_queue, took, with_completion, with_submission}
+use Rattle.nv_model.specs.Controller.{Controller, Deletion, Posted, completion_queue, front, is_ready, post, submission_queue, took, with_completion, with_submission}
+use Rattle.nv_model.specs.Limits.{last_queue, most_requests, most_slots, page}
 
 -- what a command did: the controller and the guest's memory behind it, and the answer that is posted now, if one is: DW0 and status
 pub record Done : Type 0 where
@@ -70,10 +71,6 @@ checked None c memory done = done
 
 -- ---- queues
 
--- the last queue number
-abbrev pub last_queue : ℕ
-last_queue = 8
-
 -- the checks of a new queue's number, size and contiguity
 abbrev pub new_queue_checks : (there : Bool) → List ℕ → List (Bool × StatusCode)
 new_queue_checks there entry =
@@ -84,7 +81,7 @@ new_queue_checks there entry =
 -- the checks of a new queue's place, with slots of that many bytes
 abbrev pub place_checks : (ℕ → Bool) → (slot : ℕ) → List ℕ → List (Bool × StatusCode)
 place_checks mapped slot entry =
-    (not (prp1_of entry % 4096 == 0), code.PrpOffsetInvalid)
+    (not (prp1_of entry % page == 0), code.PrpOffsetInvalid)
     ∷ (not (everywhere mapped (prp1_of entry) (slot * (queue_size entry + 1))), code.DataTransferError) ∷ []
 
 -- the checks of the completion queue that a new submission queue names
@@ -171,10 +168,6 @@ abbrev pub get_features : List ℕ → Controller → (ℕ → ℕ) → Done
 get_features entry c memory =
     if selector entry == number_of_queues then answered queues_allocated c memory else refused code.InvalidField c memory
 
--- the event requests that are held and never answered
-abbrev pub most_requests : ℕ
-most_requests = 4
-
 -- Asynchronous Event Request
 abbrev pub request_event : Controller → (ℕ → ℕ) → Done
 request_event c memory =
@@ -185,7 +178,7 @@ request_event c memory =
 
 -- 4,096 bytes with these fields at their offsets, and zeros elsewhere
 unfoldable pub structure : List (ℕ × List ℕ) → List ℕ
-structure [] = replicate 4096 0
+structure [] = replicate page 0
 structure (field ∷ fields) = after_store (structure fields) field.0 field.1
 
 -- the namespace: size, capacity and utilization in blocks; deallocated blocks read as zeros; one format, of 512 bytes without metadata
@@ -219,7 +212,7 @@ identified bytes TooLong c memory = refused code.InternalError c memory
 
 -- where the 4,096 bytes of Identify go: by PRP1 and, where it has an offset, the page entry PRP2; no list is read
 abbrev pub identify_reading : (ℕ → Bool) → List ℕ → Reading
-identify_reading mapped entry = in_memory (λ _. 0) (read_prp mapped (prp1_of entry) (prp2_of entry) 4096)
+identify_reading mapped entry = in_memory (λ _. 0) (read_prp mapped (prp1_of entry) (prp2_of entry) page)
 
 -- what Identify shows, by CNS, or why it is refused
 pub data Shown : Type 0 where

@@ -7,6 +7,7 @@ use Rattle.nv_entry.specs.Status.{StatusField, bit}
 use Rattle.nv_entry.specs.Completion.{completion}
 use Rattle.nv_mem.specs.GuestMap.{everywhere}
 use Rattle.nv_model.specs.Queue.{SubmissionQueue, CompletionQueue, ahead, cqe_size, front_taken, is_empty, is_full, new_completion, new_submission, posted, sqe_size}
+use Rattle.nv_model.specs.Limits.{last_queue, most_slots, page}
 
 -- a deletion of an I/O submission queue that waits for the queue's taken commands
 pub record Deletion : Type 0 where
@@ -32,11 +33,7 @@ pub record Controller : Type 0 where
 
 -- queue numbers: the admin queue and eight I/O queues
 abbrev pub queue_count : ℕ
-queue_count = 9
-
--- the most slots of a queue, as CAP.MQES says
-abbrev pub most_slots : ℕ
-most_slots = 1024
+queue_count = last_queue + 1
 
 -- no queue is there
 abbrev pub no_queues : {Q : Type 0} → List (Option Q)
@@ -142,7 +139,7 @@ size_fits size = nat_le 2 size && nat_le size most_slots
 
 -- a queue may lie there: from a page's start on, wholly in the guest's memory
 abbrev pub base_fits : (ℕ → Bool) → (base len : ℕ) → Bool
-base_fits mapped base len = base % 4096 == 0 && everywhere mapped base len
+base_fits mapped base len = base % page == 0 && everywhere mapped base len
 
 -- whether the admin queues that the registers name can be made
 abbrev pub can_enable : (ℕ → Bool) → Controller → Bool

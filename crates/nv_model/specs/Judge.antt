@@ -21,6 +21,7 @@ use Rattle.nv_model.specs.Dialogue.{Dialogue, End, Ask, and_then}
 use Rattle.nv_model.specs.Reading.{Reading, Faulty, TooLong, Spells, first_failing}
 use Rattle.nv_model.specs.Sgl.{read_sgl}
 use Rattle.nv_model.specs.Prp.{read_prp}
+use Rattle.nv_model.specs.Limits.{block, most_blocks, range_size}
 
 -- one step of a command's work, with its effect
 pub data WorkUnit : Type 0 where
@@ -47,14 +48,6 @@ pub data Verdict : Type 0 where
   Go : Work → Verdict
 
 -- ---- the fields of a command
-
--- the size of a logical block
-abbrev pub block : ℕ
-block = 512
-
--- the size of a range of Dataset Management
-abbrev pub range_size : ℕ
-range_size = 16
 
 -- the forms that commands have
 pub data Form : Type 0 where
@@ -123,14 +116,6 @@ form_transfer_len Keep entry = 0
 
 abbrev pub transfer_len : IoOpcode → List ℕ → ℕ
 transfer_len opcode entry = form_transfer_len (form_of opcode) entry
-
--- the most blocks of a transfer: 128 KiB, as MDTS 5 says
-abbrev pub most_blocks : ℕ
-most_blocks = 256
-
--- the most descriptors of a list, where a guest has no limit of its own (profile)
-abbrev pub most_descriptors : ℕ
-most_descriptors = 1024
 
 -- the checks of the fields of a command that is one of the six, in a namespace of `blocks` blocks
 abbrev pub command_checks : ℕ → List ℕ → IoOpcode → List (Bool × StatusCode)

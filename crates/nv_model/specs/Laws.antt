@@ -8,9 +8,10 @@ use Rattle.nv_mem.specs.declared.piece.Piece.TheVariants as piece
 use Rattle.nv_entry.specs.Status.{StatusField}
 use Rattle.nv_model.specs.Memory.{bytes_from}
 use Rattle.nv_model.specs.Dialogue.{Dialogue, End, Ask}
-use Rattle.nv_model.specs.Judge.{WorkUnit, MoveBlock, ClearBlock, LeaveBlock, KeepAll, Work, block}
+use Rattle.nv_model.specs.Judge.{WorkUnit, MoveBlock, ClearBlock, LeaveBlock, KeepAll, Work}
+use Rattle.nv_model.specs.Limits.{block, most_slots}
 use Rattle.nv_model.specs.Queue.{SubmissionQueue, CompletionQueue, cqe_size, sqe_size}
-use Rattle.nv_model.specs.Controller.{Controller, most_slots}
+use Rattle.nv_model.specs.Controller.{Controller}
 use Rattle.nv_model.specs.Private.{After, AtWork, Ended, Private, Progress, Run, Shape, Taken, Unjudged, moved_status}
 use Rattle.nv_model.specs.Carried.{at_work, unmoved, units_moved}
 

@@ -19,3 +19,4 @@ pub mod SglSequence
 pub mod PrpAddresses
 pub mod Rows
 pub mod RowsRuns
+pub mod Limits

@@ -1,5 +1,7 @@
--- A guest's memory: which of its addresses are there, and the byte at each. What lies at the others has no meaning.
-use Rattle.std.specs.Prelude.{ℕ, zero, suc, ◌+◌, ◌-◌, ◌&&◌, nat_le, nat_lt, if◌then◌else◌, List, [], ◌∷◌, length, map, slice_index}
+-- A guest's memory: the byte at each of its addresses that are there. What lies at the others has no meaning.
+use Rattle.std.specs.Prelude.{ℕ, zero, suc, ◌+◌, ◌-◌, ◌&&◌, nat_le, nat_lt, if◌then◌else◌, List, [], ◌∷◌, length, map, slice_index, Option, Some, None}
+use Rattle.nv_mem.specs.GuestMap.{host_of}
+use Rattle.nv_mem.specs.declared.region.Region.{Region}
 use Rattle.nv_mem.specs.Places.{Place, At, Bucket}
 
 -- the `len` bytes from an address on
@@ -27,3 +29,14 @@ scattered memory [] bytes = memory
 scattered memory (place ∷ places) [] = memory
 scattered memory (At addr ∷ places) (byte ∷ bytes) = scattered (stored memory addr (byte ∷ [])) places bytes
 scattered memory (Bucket ∷ places) (byte ∷ bytes) = scattered memory places bytes
+
+-- ---- a part of the host's memory
+
+-- the byte at a host address, where there is one
+abbrev pub byte_at_host : (ℕ → ℕ) → Option ℕ → ℕ
+byte_at_host host None = 0
+byte_at_host host (Some addr) = host addr
+
+-- the image of a map's regions: the host's bytes as the guest's memory
+unfoldable pub image : List Region → (host : ℕ → ℕ) → ℕ → ℕ
+image regions host addr = byte_at_host host (host_of regions addr)

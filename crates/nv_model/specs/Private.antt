@@ -18,7 +18,8 @@ use Rattle.nv_model.specs.declared.reply.Reply.{Reply}
 use Rattle.nv_model.specs.declared.reply.Reply.TheVariants as reply
 use Rattle.nv_model.specs.Memory.{bytes_from, stored, gathered, scattered}
 use Rattle.nv_model.specs.Dialogue.{in_memory}
-use Rattle.nv_model.specs.Judge.{WorkUnit, MoveBlock, ClearBlock, LeaveBlock, KeepAll, Work, Verdict, Refuse, Go, judge, block}
+use Rattle.nv_model.specs.Judge.{WorkUnit, MoveBlock, ClearBlock, LeaveBlock, KeepAll, Work, Verdict, Refuse, Go, judge}
+use Rattle.nv_model.specs.Limits.{block}
 use Rattle.nv_model.specs.Controller.{Controller, Posted, doorbell, front, is_enabled, opening, post, ran_out, reg_read, reg_write, took}
 use Rattle.nv_model.specs.Queue.{sqe_size}
 use Rattle.nv_model.specs.Admin.{AdminStep, NothingToDo, QueueFull, Stepped, admin}

@@ -9,14 +9,11 @@ use Rattle.nv_mem.specs.GuestMap.{everywhere}
 use Rattle.nv_mem.specs.declared.piece.Piece.{Piece}
 use Rattle.nv_model.specs.Dialogue.{Dialogue, End, Ask}
 use Rattle.nv_model.specs.Reading.{Reading, Spells, first_failing, unless_faulty, run}
-
--- the size of a memory page
-abbrev pub page : ℕ
-page = 4096
+use Rattle.nv_model.specs.Limits.{page}
 
 -- how many pages hold this many bytes from a page's start on
 abbrev pub pages_of : ℕ → ℕ
-pages_of bytes = (bytes + 4095) / page
+pages_of bytes = (bytes + (page - 1)) / page
 
 -- how many slots of a list lie from a pointer to the end of its page
 abbrev pub slots_of : ℕ → ℕ

@@ -4,7 +4,8 @@
 use Rattle.std.specs.Prelude.{ℕ, zero, suc, ◌+◌, ◌-◌, ◌*◌, ◌/◌, ◌%◌, ◌||◌, ◌==◌, nat_le, nat_lt, if◌then◌else◌}
 use Rattle.nv_entry.specs.Layout.{number_at}
 use Rattle.nv_model.specs.Memory.{bytes_from}
-use Rattle.nv_model.specs.Prp.{page, slots_of}
+use Rattle.nv_model.specs.Prp.{slots_of}
+use Rattle.nv_model.specs.Limits.{page}
 
 -- what stands in the slot at an address
 abbrev pub slot_at : (ℕ → ℕ) → ℕ → ℕ

@@ -1,6 +1,6 @@
 -- Worked examples: the memory, the lists and the commands that they start from
 use Rattle.std.specs.Prelude.{ℕ, zero, suc, ◌+◌, ◌*◌, ◌/◌, ◌%◌, ◌==◌, if◌then◌else◌, Bool, true, false, nat_lt, List, [], ◌∷◌, ◌++◌, replicate, flat_map, Option, Some, None}
-use Rattle.nv_entry.specs.Layout.{number_bytes, dword}
+use Rattle.nv_entry.specs.Layout.{number_at, number_bytes, dword}
 use Rattle.nv_entry.specs.Completion.{completion}
 use Rattle.nv_entry.specs.declared.opcode.IoOpcode.{IoOpcode}
 use Rattle.nv_entry.specs.declared.opcode.IoOpcode.TheVariants as opcode
@@ -10,9 +10,11 @@ use Rattle.nv_model.specs.Dialogue.{in_memory}
 use Rattle.nv_model.specs.Reading.{Reading}
 use Rattle.nv_model.specs.Sgl.{read_sgl}
 use Rattle.nv_model.specs.Prp.{read_prp}
+use Rattle.nv_model.specs.Admin.{controller_structure}
 use Rattle.nv_model.specs.Judge.{WorkUnit, Verdict, Refuse, Go, judge}
 use Rattle.nv_model.specs.Transcript.{ReadDone, Outcome, in_transcript}
 use Rattle.nv_model.specs.Private.{Shape, verdict_in}
+use Rattle.nv_model.specs.Limits.{most_descriptors}
 
 -- ---- memory
 
@@ -182,6 +184,17 @@ larger_refusal_in memory entry = refusal (verdict_in larger_guest memory entry)
 abbrev pub manages : List Piece → List WorkUnit → Verdict
 manages pieces units = Go (record { opcode = opcode.DatasetManagement; pieces = pieces; units = units; fua = false })
 
+-- ---- optional commands
+
+-- ONCS, as Identify shows it
+abbrev pub oncs : ℕ
+oncs = number_at controller_structure 520 2
+
+-- the opcode of each optional command of the NVM Command Set, and its bit of ONCS (Base Specification 2.0, "Identify Controller Data
+-- Structure", ONCS)
+abbrev pub optional_commands : List (ℕ × ℕ)
+optional_commands = (0x05, 0) ∷ (0x04, 1) ∷ (0x09, 2) ∷ (0x08, 3) ∷ (0x0d, 5) ∷ (0x0c, 7) ∷ (0x19, 8) ∷ []
+
 -- ---- transcripts
 
 -- a read of these bytes
@@ -194,4 +207,4 @@ outcome_within limit entry done = in_transcript (judge guest_memory limit 64 ent
 
 -- the same under the guest's own limit
 abbrev pub outcome_in : List ℕ → List ReadDone → Outcome Verdict
-outcome_in entry done = outcome_within 1024 entry done
+outcome_in entry done = outcome_within most_descriptors entry done

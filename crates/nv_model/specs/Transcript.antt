@@ -3,6 +3,7 @@
 -- page, and each run of the ranges of Dataset Management (profile).
 use Rattle.std.specs.Prelude.{ℕ, min, ◌&&◌, ◌==◌, if◌then◌else◌, List, [], ◌∷◌, length, take, drop, Option, Some, None}
 use Rattle.nv_model.specs.Dialogue.{Dialogue, End, Ask}
+use Rattle.nv_model.specs.Limits.{part_size}
 
 -- one read
 pub record ReadDone : Type 0 where
@@ -16,7 +17,7 @@ pub data Outcome (A : Type 0) : Type 0 where
 
 -- how many bytes are wanted at once, where this many are left
 abbrev pub part : ℕ → ℕ
-part left = min left 4096
+part left = min left part_size
 
 -- the first read of that address and length, and the reads behind it
 unfoldable pub first_read : (addr len : ℕ) → List ReadDone → Option (List ℕ × List ReadDone)

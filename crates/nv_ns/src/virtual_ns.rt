@@ -1,5 +1,5 @@
 ghost use Rattle.std.specs.Prelude.{◌≡◌, ℕ, ◌+◌, ◌^◌, ◌<◌, ◌↔◌, IsTrue, SomeIff};
-ghost use Rattle.nv_ns.specs.BlockRange.{Extent, InNamespace, translated};
+ghost use Rattle.nv_ns.specs.BlockRange.{Extent, InNamespace, block_at, block_count, translated};
 
 use std::marker::Model;
 
@@ -64,7 +64,7 @@ impl VirtualNs {
     /// A range of no blocks is in the namespace up to and with the place behind its last block.
     pub fn translate(self, slba: u64, count: u64) -> Option<u64>
         ensures value { result ≡ translated self slba count }
-        ensures none_exactly_outside { SomeIff result (InNamespace slba count self.blocks) (self.base + slba) }
+        ensures none_exactly_outside { SomeIff result (InNamespace slba count (block_count self)) (block_at self slba) }
     {
         if count <= self.blocks && slba <= self.blocks - count {
             Some(self.base + slba)

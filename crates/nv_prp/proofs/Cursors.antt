@@ -7,7 +7,8 @@ use Rattle.nv_entry.specs.declared.status_code.StatusCode.{StatusCode}
 use Rattle.nv_mem.specs.declared.piece.Piece.{Piece}
 use Rattle.nv_mem.specs.declared.piece.Piece.TheVariants.{Run}
 use Rattle.nv_model.specs.Dialogue.{Dialogue, End, Ask}
-use Rattle.nv_model.specs.Prp.{entry_fault, page, read_entries, read_page, read_prp2, slots_of}
+use Rattle.nv_model.specs.Prp.{entry_fault, read_entries, read_page, read_prp2, slots_of}
+use Rattle.nv_model.specs.Limits.{page}
 use Rattle.nv_model.specs.Reading.{Reading, Spells, unless_faulty, run}
 use Rattle.nv_model.specs.Transcript.{fed}
 use Rattle.nv_model.proofs.Feedings.{fed-nil}

@@ -5,7 +5,8 @@ use Rattle.nv_mem.specs.GuestMap.{mapped}
 use Rattle.nv_mem.specs.declared.piece.Piece.{Piece}
 use Rattle.nv_model.specs.Dialogue.{Dialogue, Ask, in_memory}
 use Rattle.nv_model.specs.Memory.{bytes_from}
-use Rattle.nv_model.specs.Prp.{entry_fault, page, read_entries}
+use Rattle.nv_model.specs.Prp.{entry_fault, read_entries}
+use Rattle.nv_model.specs.Limits.{page}
 use Rattle.nv_model.specs.Reading.{Reading, run}
 use Rattle.nv_model.specs.Transcript.{fed}
 use Rattle.nv_model.specs.Want.{want_of}

@@ -11,7 +11,8 @@ use Rattle.nv_mem.specs.GuestMap.{everywhere}
 use Rattle.nv_mem.specs.Places.{Place, At, addresses, places_of, places_of_piece}
 use Rattle.nv_mem.specs.declared.piece.Piece.{Piece}
 use Rattle.nv_model.specs.Dialogue.{Dialogue, End, in_memory}
-use Rattle.nv_model.specs.Prp.{entry_fault, first_len, page, pages_of, read_entries, read_page, read_prp, read_prp2, slots_of}
+use Rattle.nv_model.specs.Prp.{entry_fault, first_len, pages_of, read_entries, read_page, read_prp, read_prp2, slots_of}
+use Rattle.nv_model.specs.Limits.{page}
 use Rattle.nv_model.specs.Reading.{Reading, Spells, unless_faulty, run}
 use Rattle.nv_prp.specs.Built.{built, entries_of, listed, padded, prp2_by, reading_of, starts_page, HoldsList, HoldsNumbers, SpellsAddresses}
 use Rattle.nv_prp.specs.Fits.{fit_behind, fit_prp, may_follow}

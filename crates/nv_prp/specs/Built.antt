@@ -7,7 +7,8 @@ use Rattle.nv_entry.specs.Layout.{number_at}
 use Rattle.nv_mem.specs.Places.{At, places_of}
 use Rattle.nv_model.specs.Dialogue.{in_memory}
 use Rattle.nv_model.specs.Memory.{bytes_from}
-use Rattle.nv_model.specs.Prp.{page, read_prp}
+use Rattle.nv_model.specs.Prp.{read_prp}
+use Rattle.nv_model.specs.Limits.{page}
 use Rattle.nv_model.specs.Reading.{Reading, Faulty, TooLong, Spells}
 use Rattle.nv_prp.specs.declared.prps.Prps.{Prps}
 

@@ -4,7 +4,8 @@ use Rattle.std.specs.Prelude.{ℕ, ◌+◌, ◌-◌, ◌*◌, ◌^◌, ◌<◌, 
 use Rattle.nv_mem.specs.declared.piece.Piece.{Piece}
 use Rattle.nv_mem.specs.declared.region.Region.{Region}
 use Rattle.nv_model.specs.Dialogue.{Dialogue}
-use Rattle.nv_model.specs.Prp.{entry_fault, page, read_entries, read_page}
+use Rattle.nv_model.specs.Prp.{entry_fault, read_entries, read_page}
+use Rattle.nv_model.specs.Limits.{page}
 use Rattle.nv_model.specs.Reading.{Reading, unless_faulty}
 use Rattle.nv_prp.specs.Parse.{Parse, slots_left}
 use Rattle.nv_prp.specs.declared.cursor.Cursor.{Cursor}

@@ -7,7 +7,7 @@ use Rattle.nv_mem.specs.Places.{Place, At, Bucket, places_of}
 use Rattle.nv_mem.specs.declared.piece.Piece.{Piece}
 use Rattle.nv_mem.specs.declared.piece.Piece.TheVariants as piece
 use Rattle.nv_mem.specs.declared.region.Region.{Region}
-use Rattle.nv_model.specs.Prp.{page}
+use Rattle.nv_model.specs.Limits.{page}
 
 -- ---- the host addresses of places
 

@@ -19,7 +19,8 @@ use Rattle.std.proofs.Math.Seq.{drop-append_seam, take-append_seam}
 use Rattle.nv_mem.specs.declared.piece.Piece.TheVariants.{Run}
 use Rattle.nv_ns.specs.BlockRange.{in_namespace}
 use Rattle.nv_model.specs.Dialogue.{Dialogue, End, and_then, in_memory}
-use Rattle.nv_model.specs.Judge.{count_of, field_refusal, has_blocks, has_buffer, is_read, judge_reading, most_blocks, read_by, refusal_by_opcode, sized, transfer_len}
+use Rattle.nv_model.specs.Judge.{count_of, field_refusal, has_blocks, has_buffer, is_read, judge_reading, read_by, refusal_by_opcode, sized, transfer_len}
+use Rattle.nv_model.specs.Limits.{most_blocks}
 use Rattle.nv_model.specs.Memory.{scattered, gathered}
 use Rattle.nv_model.specs.Private.{Shape, verdict_in}
 use Rattle.nv_model.specs.Reading.{Reading, Faulty, Spells, first_failing, run, unless_faulty}

@@ -34,7 +34,8 @@ use Rattle.nv_flat.proofs.VerdictLemmas.{field_verdict-err, field_verdict-ok, in
 use Rattle.nv_flat.proofs.WorkLemmas.{units_moved-transfer}
 use Rattle.nv_thin.proofs.OneRunLemmas.{everywhere-identity, own-block, uses-sgl, verdict-sgl}
 use mathlib.Core.Path.{fun_ext}
-use Rattle.nv_thin.specs.Thin.{goes_through, is_transfer, map_behind}
+use Rattle.nv_thin.specs.Thin.{goes_through, map_behind}
+use Rattle.nv_flat.specs.One.{is_read_or_write}
 
 -- the reading of a command's own descriptor, sized
 abbrev pub own_reading : Flat → List ℕ → Need → Reading
@@ -57,7 +58,7 @@ pub record IsTransfer (f : Flat) (entry : List ℕ) (need : Need) (opcode : IoOp
   pub unrefused : field_refusal (length f.disk) entry ≡ None
   pub known : io_opcode (opcode_of entry) ≡ Some opcode
   pub needs : need ≡ need_of entry opcode
-  pub transfers : is_transfer (Some opcode) ≡ true
+  pub transfers : is_read_or_write (Some opcode) ≡ true
   pub by_list : not (psdt_of entry == 0) ≡ true
   pub own : type_of (sgl_of entry) ≡ 0
   pub few : count_of entry ≤ 8
@@ -73,10 +74,10 @@ pub transfer-of : (f : Flat) (entry : List ℕ) (need : Need) → field_verdict 
     → (opcode : IoOpcode) × IsTransfer f entry need opcode
 transfer-of f entry need verdict built =
     let ok = field_verdict-ok (length f.disk) entry need verdict in
-    let whole = both-true (is_transfer (io_opcode (opcode_of entry)) && not (psdt_of entry == 0) && type_of (sgl_of entry) == 0) (nat_le (count_of entry) 8) built in
-    let parts = both-true (is_transfer (io_opcode (opcode_of entry)) && not (psdt_of entry == 0)) (type_of (sgl_of entry) == 0) whole.0 in
-    let front = both-true (is_transfer (io_opcode (opcode_of entry))) (not (psdt_of entry == 0)) parts.0 in
-    let P : Option IoOpcode → Type 0 = λ o. is_transfer o ≡ true in (
+    let whole = both-true (is_read_or_write (io_opcode (opcode_of entry)) && not (psdt_of entry == 0) && type_of (sgl_of entry) == 0) (nat_le (count_of entry) 8) built in
+    let parts = both-true (is_read_or_write (io_opcode (opcode_of entry)) && not (psdt_of entry == 0)) (type_of (sgl_of entry) == 0) whole.0 in
+    let front = both-true (is_read_or_write (io_opcode (opcode_of entry))) (not (psdt_of entry == 0)) parts.0 in
+    let P : Option IoOpcode → Type 0 = λ o. is_read_or_write o ≡ true in (
       ok.1.0,
       record {
         unrefused = ok.0;
@@ -90,7 +91,7 @@ transfer-of f entry need verdict built =
     )
 
 -- a Read or Write has a buffer and blocks
-pub buffered : (opcode : IoOpcode) → is_transfer (Some opcode) ≡ true → (has_buffer opcode ≡ true) × (has_blocks opcode ≡ true)
+pub buffered : (opcode : IoOpcode) → is_read_or_write (Some opcode) ≡ true → (has_buffer opcode ≡ true) × (has_blocks opcode ≡ true)
 buffered Read e = (refl, refl)
 buffered Write e = (refl, refl)
 buffered Flush e = (cc)
@@ -120,7 +121,7 @@ done-faulty f entry need code st verdict built read status =
     subst P (sym built) (outcome-built (not (is_none (field_refusal (length f.disk) entry))) f f entry st (refused-run f entry st refused))
 
 -- the work of a Read or Write
-goes-with : (f : Flat) (entry : List ℕ) (opcode : IoOpcode) (pieces : List Piece) → is_transfer (Some opcode) ≡ true
+goes-with : (f : Flat) (entry : List ℕ) (opcode : IoOpcode) (pieces : List Piece) → is_read_or_write (Some opcode) ≡ true
     → in_memory (byte_in f.memory) (judge_reading (length f.disk) entry opcode (Spells pieces)) ≡ Go (work_of (length f.disk) opcode entry pieces [])
 unfolding in_memory
 goes-with f entry Read pieces t = refl
@@ -131,7 +132,7 @@ goes-with f entry Flush pieces t = (cc)
 goes-with f entry DatasetManagement pieces t = (cc)
 
 -- the units of a Read or Write, in order
-transferred : (blocks : ℕ) (entry : List ℕ) (opcode : IoOpcode) (pieces : List Piece) (m : Moved) → is_transfer (Some opcode) ≡ true
+transferred : (blocks : ℕ) (entry : List ℕ) (opcode : IoOpcode) (pieces : List Piece) (m : Moved) → is_read_or_write (Some opcode) ≡ true
     → units_moved (work_of blocks opcode entry pieces []).units (work_of blocks opcode entry pieces []) m
     ≡ units_moved (units_from 0 (slba_of entry) (count_of entry)) (block_work (cond (is_read opcode) Read Write) pieces (has_blocks opcode && fua_of entry == 1)) m
 transferred blocks entry Read pieces m t = units_moved-transfer blocks Read entry pieces m refl
@@ -142,7 +143,7 @@ transferred blocks entry WriteZeroes pieces m t = (cc)
 transferred blocks entry DatasetManagement pieces m t = (cc)
 
 -- the blocks that a Read or Write needs
-blocks-needed : (entry : List ℕ) (opcode : IoOpcode) → is_transfer (Some opcode) ≡ true → (need_of entry opcode).blocks ≡ count_of entry
+blocks-needed : (entry : List ℕ) (opcode : IoOpcode) → is_read_or_write (Some opcode) ≡ true → (need_of entry opcode).blocks ≡ count_of entry
 blocks-needed entry Read t = refl
 blocks-needed entry Write t = refl
 blocks-needed entry Flush t = (cc)
@@ -200,7 +201,7 @@ sized-run : (a l bytes addr len : ℕ) → sized bytes (Spells (run a l)) ≡ Sp
 sized-run a l bytes addr len e = sized-run_by (l == 0) (total_len (run a l) == bytes) a l bytes addr len refl refl e
 
 -- what a Read or Write needs
-transfer-needs : (entry : List ℕ) (opcode : IoOpcode) → is_transfer (Some opcode) ≡ true
+transfer-needs : (entry : List ℕ) (opcode : IoOpcode) → is_read_or_write (Some opcode) ≡ true
     → ((need_of entry opcode).blocks ≡ count_of entry) × ((need_of entry opcode).bytes ≡ 512 * count_of entry)
 transfer-needs entry Read t = (refl, refl)
 transfer-needs entry Write t = (refl, refl)

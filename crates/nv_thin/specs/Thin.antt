@@ -13,6 +13,7 @@ use Rattle.nv_model.specs.Carried.{block_work, units_from, units_moved}
 use Rattle.nv_model.specs.Judge.{count_of}
 use Rattle.nv_model.specs.Memory.{bytes_from, stored}
 use Rattle.nv_model.specs.Private.{Moved}
+use Rattle.nv_flat.specs.One.{is_plain}
 use Rattle.nv_flat.specs.Flat.{Flat, flat}
 
 -- ---- where things lie (profile)
@@ -63,24 +64,9 @@ copied from to count m = record m { memory = stored m.memory to (bytes_from m.me
 
 -- ---- which commands go
 
--- whether the opcode is that of a Read or a Write
-abbrev pub is_transfer : Option IoOpcode → Bool
-is_transfer (Some Read) = true
-is_transfer (Some Write) = true
-is_transfer (Some Compare) = false
-is_transfer (Some WriteZeroes) = false
-is_transfer (Some Flush) = false
-is_transfer (Some DatasetManagement) = false
-is_transfer None = false
-
--- the most blocks of a transfer: they fill one bounce page
-abbrev pub most_bounced : ℕ
-most_bounced = 8
-
--- whether a command goes: a Read or Write by an SGL whose own descriptor is of the type of a Data Block, of at most one page
+-- whether a command goes: a Read or Write of at most 8 blocks, which fill one bounce page, through one Data Block
 abbrev pub goes_through : List ℕ → Bool
-goes_through entry =
-    is_transfer (io_opcode (opcode_of entry)) && not (psdt_of entry == 0) && type_of (sgl_of entry) == 0 && nat_le (count_of entry) most_bounced
+goes_through entry = is_plain entry
 
 -- ---- the physical entry
 

@@ -53,6 +53,8 @@ impl One for Thin {
 
     ghost built = { goes_through };
 
+    ghost carries = { λ entry plain. plain };
+
     fn fits(memory_len: u64, blocks: u64) -> bool {
         FlatController::fits(memory_len, blocks)
     }

@@ -1,7 +1,10 @@
 //! Identify, as the third admin command behind the bring-up, with command identifier 3.
 
-ghost use Rattle.std.specs.Prelude.{◌≡◌, [], ◌∷◌, ◌++◌, Some, map, replicate};
+ghost use Rattle.std.specs.Prelude.{◌≡◌, [], ◌∷◌, ◌++◌, ◌==◌, Some, is_some, map, replicate, true};
+ghost use Rattle.nv_entry.specs.Layout.{bits};
+ghost use Rattle.nv_entry.specs.Opcode.{io_opcode};
 ghost use Rattle.nv_model.specs.Private.{start};
+ghost use Rattle.nv_model.specs.Rows.{oncs, optional_commands};
 ghost use Rattle.nv_model.specs.RowsRuns.{admin_entry, after, bytes_in, done_third, dword_in, third_answer};
 
 /// The controller's structure at 15000h: MDTS and VER.
@@ -93,4 +96,17 @@ pub fn a_structure_in_two_pages()
 pub fn a_structure_whose_second_page_is_not_mapped()
     ensures { after (done_third (admin_entry 0x06 3 0 0x15e00 0x20000 0x01 0)) start (λ p. dword_in 0x1102c p ∷ dword_in 0x15e4c p ∷ [])
         ≡ Some (0x80090003 ∷ 0 ∷ []) }
+{}
+
+/// ONCS names the optional commands, a bit for each, and just those of them are commands: Compare, Write Uncorrectable, Dataset
+/// Management, Write Zeroes, reservations, Verify and Copy.
+#[tactic(none)]
+pub fn the_optional_commands_are_those_that_are_known()
+    ensures { map (λ c. bits oncs c.1 c.1 == 1) optional_commands ≡ map (λ c. is_some (io_opcode c.0)) optional_commands }
+{}
+
+/// VWC says that a volatile write cache is there, so that a Flush has an effect; and it is a command, as Read and Write are.
+#[tactic(none)]
+pub fn the_commands_that_each_controller_has()
+    ensures { map (λ code. is_some (io_opcode code)) (0x00 ∷ 0x01 ∷ 0x02 ∷ []) ≡ replicate 3 true }
 {}

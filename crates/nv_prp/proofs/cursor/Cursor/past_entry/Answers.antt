@@ -1,6 +1,7 @@
 use Rattle.std.proofs.Common.{◌<◌, refl, ap, ◌∙◌, arith}
 use Rattle.nv_mem.specs.GuestMap.{mapped}
-use Rattle.nv_model.specs.Prp.{entry_fault, page}
+use Rattle.nv_model.specs.Prp.{entry_fault}
+use Rattle.nv_model.specs.Limits.{page}
 use Rattle.nv_prp.proofs.Cursors.{read_entries-behind, reading-faulty, reading-fine}
 use Rattle.nv_prp.proofs.cursor.Cursor.past_entry.Goals as goal
 

@@ -1,6 +1,7 @@
 use Rattle.std.proofs.Common.{◌≡◌, ◌*◌, min, refl, ap, ◌∙◌}
 use Rattle.nv_mem.specs.GuestMap.{mapped}
-use Rattle.nv_model.specs.Prp.{entry_fault, page, read_entries}
+use Rattle.nv_model.specs.Prp.{entry_fault, read_entries}
+use Rattle.nv_model.specs.Limits.{page}
 use Rattle.nv_prp.proofs.Cursors.{reading-faulty, reading-fine}
 use Rattle.nv_prp.proofs.cursor.Cursor.past_pointer.Goals as goal
 
