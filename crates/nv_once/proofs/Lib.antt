@@ -1,3 +1,4 @@
+pub mod JobLemmas
 pub mod LineLemmas
 pub mod OnceLemmas
 pub mod ShownLemmas

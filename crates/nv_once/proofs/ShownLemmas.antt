@@ -1,5 +1,5 @@
 -- Bytes moved and printed in chunks, and lines shown one after another
-use Rattle.std.proofs.Common.{◌≡◌, ℕ, zero, suc, ◌+◌, ◌≤◌, Bool, List, [], ◌∷◌, ◌++◌, length, take, drop, Option, Some, None, IfSome, Ok, refl, sym, ap, ◌∙◌, arith, append_assoc, subst}
+use Rattle.std.proofs.Common.{◌≡◌, ℕ, zero, suc, ◌+◌, ◌≤◌, Bool, List, [], ◌∷◌, ◌++◌, length, take, drop, Option, Some, None, refl, sym, ap, ◌∙◌, arith, append_assoc, subst}
 use Rattle.std.proofs.lemmas.List.{length-append, length-take, drop-drop, append-nil}
 use Rattle.std.proofs.Math.Seq.{take-nil, drop-nil, take-append_seam, drop-append-add}
 use Rattle.std.specs.Io.KnownBytes.{Appends, Keeps}
@@ -7,8 +7,7 @@ use Rattle.hex.specs.Hex.{encode_with}
 use Rattle.nv_mem.specs.Bytes.{after_store, bytes_at}
 use Rattle.nv_flat.specs.Flat.{Flat}
 use Rattle.nv_script.specs.OnceLine.{LineValue}
-use Rattle.nv_script.specs.OnceScript.{ScriptValue, script_of}
-use Rattle.nv_once.specs.Shown.{AreShown, IsShown, PrintsScript, PrintsText}
+use Rattle.nv_once.specs.Shown.{AreShown, IsShown}
 
 -- ---- an output that grows
 
@@ -76,11 +75,3 @@ AreShown-then built first between last [] line xs ys (none, same) one =
     (ys, [], last, subst (λ c. IsShown built c line ys last) same one, (refl, refl), ap (λ zs. zs ++ ys) none ∙ sym (append-nil ys))
 AreShown-then built first between last (l ∷ lines) line xs ys (front, back, next, here, more, whole) one =
     (front, back ++ ys, next, here, AreShown-then built next between last lines line back ys more one, ap (λ zs. zs ++ ys) whole ∙ append_assoc front back ys)
-
--- ---- a text
-
--- what the script of a text prints
-pub PrintsText-script : (built : List ℕ → Bool) (text before after : Option (List ℕ)) (items : List ℕ) (script : ScriptValue)
-    → IfSome text (λ bytes. items ≡ bytes) → script_of items ≡ Ok script → PrintsScript built script before after → PrintsText built text before after
-PrintsText-script built None before after items script known whole printed = tt
-PrintsText-script built (Some bytes) before after items script known whole printed = (script, ap script_of (sym known) ∙ whole, printed)

@@ -29,11 +29,11 @@ Prints built (Decode kind digits) text before after =
     (entry : List ℕ) × (decode_sized digits.now (size_of kind) ≡ Ok entry) × Appends before after (line_of kind entry)
 Prints built Once text before after = PrintsText built text before after
 
--- the faults with which `decode` can end: its digits spell no entry, or they do and the output failed, or memory was refused
+-- the faults with which `decode` can end: its digits spell no entry, or they do and the output failed or memory was refused
 abbrev pub IsDecodeFault : (spelled : Bool) → Fault → Type 0
 IsDecodeFault spelled BadBytes = spelled ≡ false
 IsDecodeFault spelled Usage = ⊥
-IsDecodeFault spelled NoMemory = ⊤
+IsDecodeFault spelled NoMemory = spelled ≡ true
 IsDecodeFault spelled (Script line kind) = ⊥
 IsDecodeFault spelled CannotRead = ⊥
 IsDecodeFault spelled CannotWrite = spelled ≡ true
@@ -42,3 +42,8 @@ IsDecodeFault spelled CannotWrite = spelled ≡ true
 abbrev pub IsFaultOf : Command → (text : Option (List ℕ)) → Fault → Type 0
 IsFaultOf (Decode kind digits) text fault = IsDecodeFault (is_ok (decode_sized digits.now (size_of kind))) fault
 IsFaultOf Once text fault = IsOnceFault text fault
+
+-- `decode` leaves its input as it is
+abbrev pub LeavesInput : {R : Type 0} → Command → (before after : R) → Type 0
+LeavesInput (Decode kind digits) before after = after ≡ before
+LeavesInput Once before after = ⊤

@@ -1,6 +1,7 @@
 pub mod Command
 pub mod ExitStatus
 pub mod Fault
+pub mod Job
 pub mod Once
 pub mod Printed
 pub mod Shown

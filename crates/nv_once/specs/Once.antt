@@ -1,9 +1,9 @@
 -- How a run of `once` ends
-use Rattle.std.specs.Prelude.{◌≡◌, ℕ, List, true, length, Option, Err, IfSome, ◌⊎◌, ⊤}
+use Rattle.std.specs.Prelude.{◌≡◌, ℕ, List, true, length, Option, Ok, Err, IfSome, ◌⊎◌, ⊤}
 use Rattle.std.specs.Result.{is_ok}
 use Rattle.nv_flat.specs.Flat.{Flat}
 use Rattle.nv_script.specs.OnceLine.{LineValue, is_there}
-use Rattle.nv_script.specs.OnceScript.{script_of}
+use Rattle.nv_script.specs.OnceScript.{ScriptValue, script_of}
 use Rattle.nv_script.specs.declared.once.fault.ScriptFault.TheVariants as script
 use Rattle.nv_once.specs.declared.fault.Fault.{Fault}
 use Rattle.nv_once.specs.declared.fault.Fault.TheVariants.{BadBytes, Usage, NoMemory, Script, CannotRead, CannotWrite}
@@ -11,6 +11,10 @@ use Rattle.nv_once.specs.declared.fault.Fault.TheVariants.{BadBytes, Usage, NoMe
 -- the text is a script, where it is known
 abbrev pub IsScript : Option (List ℕ) → Type 0
 IsScript text = IfSome text (λ bytes. is_ok (script_of bytes) ≡ true)
+
+-- the text is this script, where it is known
+abbrev pub IsScriptOf : Option (List ℕ) → ScriptValue → Type 0
+IsScriptOf text script = IfSome text (λ bytes. script_of bytes ≡ Ok script)
 
 -- how a run can end that ends not well: its output fails only behind a whole script, and a fault of the script is the definition's
 abbrev pub IsOnceFault : Option (List ℕ) → Fault → Type 0
@@ -25,7 +29,7 @@ IsOnceFault text CannotWrite = IsScript text
 abbrev pub IsInput : Fault → Type 0
 IsInput fault = (fault ≡ NoMemory) ⊎ (fault ≡ CannotRead)
 
--- the fault of a script that stops in its middle
+-- the fault of a command that has begun to print: only then can a fault leave the output changed
 abbrev pub IsStop : Fault → Type 0
 IsStop fault = (fault ≡ NoMemory) ⊎ (fault ≡ CannotWrite)
 

@@ -1,11 +1,15 @@
 //! The commands of the program.
-ghost use Rattle.std.specs.Prelude.{IfErr, IfOk, OnOk};
-ghost use Rattle.nv_once.specs.Command.{IsFaultOf, Prints};
+ghost use Rattle.std.specs.Prelude.{◌≡◌, IfErr, IfOk, MatchOption, OnOk};
+ghost use Rattle.nv_once.specs.Command.{IsFaultOf, LeavesInput, Prints};
+ghost use Rattle.nv_once.specs.Job.{IsJobOf, IsPrintable, PrintsJob};
+ghost use Rattle.nv_once.specs.Once.{IsStop};
 
 use crate::entry_kind::EntryKind;
 use crate::fault::Fault;
 use crate::{decode, lines, once};
+use nv_entry::{Cqe, Sqe};
 use nv_flat::One;
+use nv_script::Script;
 use std::alloc::Global;
 use std::io::{BufWriter, Read, Write};
 
@@ -19,40 +23,66 @@ pub enum Command<'a> {
     Once,
 }
 
+/// Why a command ended with no success.
+#[derive(Debug, Drop)]
+pub struct Failure<W> {
+    /// what went wrong
+    pub fault: Fault,
+    /// the output as it was, where the fault came before anything could be written
+    pub output: Option<W>,
+}
+
+/// What is left to do once nothing more is to be read.
+#[derive(Drop)]
+enum Job {
+    /// print the fields of a submission queue entry
+    Submission(Sqe),
+    /// print the fields of a completion queue entry
+    Completion(Cqe),
+    /// run a script
+    Script(Script),
+}
+
 /// Does a command; a script runs on a controller of the kind `C`. What it prints goes to `output`, through a buffer that is empty at
 /// the end, and the output is given back.
 ///
 /// Where all goes well the output has grown by exactly the line of the entry, or by what the script prints. Digits that spell no entry
-/// are bad bytes where memory is left for the buffer, and nothing else is.
-pub fn perform<C: One, R: Read + Drop, W: Write + Drop>(
+/// are bad bytes, and nothing else is. Only where the output failed or memory was refused can anything have been written behind a
+/// fault: the output of any other is given back as it was. `decode` reads nothing.
+pub fn perform<C: One, R: Read, W: Write + Drop>(
     alloc: Global,
     command: Command<'_>,
-    input: R,
+    input: &mut R,
     output: W,
-) -> Result<W, Fault>
-    ensures ok { IfOk result (λ written. Prints C.built command.entry (R.remaining input) (W.contents output) (W.contents written)) }
-    ensures err { IfErr result (IsFaultOf command.entry (R.remaining input)) }
+) -> Result<W, Failure<W>>
+    ensures ok { IfOk result (λ written. Prints C.built command.entry (R.remaining input.old) (W.contents output) (W.contents written)) }
+    ensures err { IfErr result (λ failure. IsFaultOf command.entry (R.remaining input.old) failure.fault) }
+    ensures unwritten { IfErr result (λ failure. MatchOption failure.output (IsStop failure.fault) (λ left. left ≡ output)) }
+    ensures unread { LeavesInput command.entry input.old input.new }
 {
-    let Ok(mut output) = BufWriter::new(alloc, output) else {
-        return Err(Fault::NoMemory);
+    let job = match prepare(alloc, command, input) {
+        Ok(job) => job,
+        Err(fault) => {
+            return Err(Failure {
+                fault,
+                output: Some(output),
+            });
+        }
     };
-    execute::<C, R, BufWriter<W>>(alloc, command, input, &mut output)?;
-    let Ok(mut written) = output.into_inner() else {
-        return Err(Fault::CannotWrite);
-    };
-    written.flush().map_err(Fault::of_output)?;
-    Ok(written)
+    match carry_out::<C, W>(alloc, &job, output) {
+        Ok(written) => Ok(written),
+        Err(fault) => Err(Failure {
+            fault,
+            output: None,
+        }),
+    }
 }
 
-/// Does the command.
-fn execute<C: One, R: Read + Drop, W: Write>(
-    alloc: Global,
-    command: Command<'_>,
-    input: R,
-    output: &mut W,
-) -> Result<(), Fault>
-    ensures ok { OnOk result (Prints C.built command.entry (R.remaining input) (W.contents output.old) (W.contents output.new)) }
-    ensures err { IfErr result (IsFaultOf command.entry (R.remaining input)) }
+/// Reads what a command needs.
+fn prepare<R: Read>(alloc: Global, command: Command<'_>, input: &mut R) -> Result<Job, Fault>
+    ensures ok { IfOk result (IsJobOf command.entry (R.remaining input.old)) }
+    ensures err { IfErr result (IsFaultOf command.entry (R.remaining input.old)) }
+    ensures unread { LeavesInput command.entry input.old input.new }
 {
     match command {
         Command::Decode {
@@ -60,15 +90,48 @@ fn execute<C: One, R: Read + Drop, W: Write>(
             digits,
         } => {
             let entry = decode::submission(digits).ok_or(Fault::BadBytes)?;
-            lines::write_submission(&entry, output)
+            Ok(Job::Submission(entry))
         }
         Command::Decode {
             kind: EntryKind::Completion,
             digits,
         } => {
             let entry = decode::completion(digits).ok_or(Fault::BadBytes)?;
-            lines::write_completion(&entry, output)
+            Ok(Job::Completion(entry))
         }
-        Command::Once => once::run::<C, R, W>(alloc, input, output),
+        Command::Once => {
+            let script = once::read(alloc, input)?;
+            Ok(Job::Script(script))
+        }
+    }
+}
+
+/// Does what is left to do, and gives the output back.
+fn carry_out<C: One, W: Write + Drop>(alloc: Global, job: &Job, output: W) -> Result<W, Fault>
+    requires { IsPrintable job.now }
+    ensures ok { IfOk result (λ written. PrintsJob C.built job.now (W.contents output) (W.contents written)) }
+    ensures err { IfErr result IsStop }
+{
+    let Ok(mut buffer) = BufWriter::new(alloc, output) else {
+        return Err(Fault::NoMemory);
+    };
+    print::<C, BufWriter<W>>(alloc, job, &mut buffer)?;
+    let Ok(mut written) = buffer.into_inner() else {
+        return Err(Fault::CannotWrite);
+    };
+    written.flush().map_err(Fault::of_output)?;
+    Ok(written)
+}
+
+/// Prints what is left to do.
+fn print<C: One, W: Write>(alloc: Global, job: &Job, output: &mut W) -> Result<(), Fault>
+    requires { IsPrintable job.now }
+    ensures ok { OnOk result (PrintsJob C.built job.now (W.contents output.old) (W.contents output.new)) }
+    ensures err { IfErr result IsStop }
+{
+    match job {
+        Job::Submission(entry) => lines::write_submission(entry, output),
+        Job::Completion(entry) => lines::write_completion(entry, output),
+        Job::Script(script) => once::run::<C, W>(alloc, script, output),
     }
 }

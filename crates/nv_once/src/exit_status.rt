@@ -1,4 +1,8 @@
-ghost use Rattle.std.specs.Prelude.{◌≡◌};
+ghost use Rattle.std.specs.Prelude.{◌≡◌, MatchResult};
+ghost use Rattle.nv_once.specs.Fault.{status_of};
+
+use crate::command::Failure;
+use std::process::ExitCode;
 
 /// How the program ended, as its exit status tells.
 #[derive(Clone, Copy, Debug, PartialEq, Eq)]
@@ -18,12 +22,24 @@ pub enum ExitStatus {
 }
 
 impl ExitStatus {
+    /// How the program ends where a command ended so.
+    pub fn of<W>(ended: &Result<W, Failure<W>>) -> Self
+        ensures { MatchResult ended.now (λ _. result ≡ ExitStatus.Success) (λ failure. result ≡ status_of failure.fault) }
+    {
+        match ended {
+            Ok(_) => ExitStatus::Success,
+            Err(failure) => failure.fault.status(),
+        }
+    }
+}
+
+impl From<ExitStatus> for ExitCode {
+    ghost use Rattle.std.specs.Process.{exit_status};
     ghost use Rattle.nv_once.specs.ExitStatus.{exit_code};
 
-    /// The number that the process ends with.
-    pub fn code(self) -> u8
-        ensures { result ≡ exit_code self }
-    {
-        self as u8
+    ghost from_gives = { λ status code. exit_status code ≡ exit_code status };
+
+    fn from(status: ExitStatus) -> ExitCode {
+        ExitCode::from(status as u8)
     }
 }

@@ -1,6 +1,8 @@
-ghost use Rattle.std.specs.Prelude.{◌≡◌, ◌≢◌, ◌⊎◌, Some};
+ghost use Rattle.std.specs.Prelude.{◌≡◌, ◌≢◌, ◌⊎◌, ◌++◌, OnOk, Some};
+ghost use Rattle.std.specs.Io.KnownBytes.{Appends};
 ghost use Rattle.std.specs.IoError.{error_kind};
 ghost use Rattle.nv_once.specs.Fault.{fault_of, of_script, status_of, text_of};
+ghost use Rattle.nv_once.specs.Printed.{line_feed};
 
 use crate::exit_status::ExitStatus;
 use crate::refusal::Refusal;
@@ -60,13 +62,12 @@ impl Fault {
     }
 }
 
-/// Writes the fault's line, and gives its exit status, also where the line cannot be written.
-pub fn report<E: Write + Drop>(fault: Fault, mut faults: E) -> ExitStatus
-    ensures { result ≡ status_of fault }
+/// Tells of a fault on one line, and flushes it.
+pub fn report<E: Write>(fault: Fault, faults: &mut E) -> io::Result<()>
+    ensures { OnOk result (Appends (E.contents faults.old) (E.contents faults.new) (text_of fault ++ line_feed)) }
 {
-    let _ = writeln!(faults, "{fault}");
-    let _ = faults.flush();
-    fault.status()
+    writeln!(faults, "{fault}")?;
+    faults.flush()
 }
 
 impl fmt::Display for Fault {

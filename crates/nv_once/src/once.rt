@@ -1,14 +1,14 @@
 //! The subcommand `once`: a script of commands on a private controller over flat memory.
-ghost use Rattle.std.specs.Prelude.{◌≡◌, ◌≤◌, length, replicate, IfErr, IfOk, IfSome, MatchResult, OnOk};
+ghost use Rattle.std.specs.Prelude.{◌≡◌, ◌≤◌, length, replicate, IfErr, IfOk, IfSome, OnOk};
 ghost use Rattle.std.specs.Io.KnownBytes.{Appends};
 ghost use Rattle.hex.specs.Hex.{encode_lower};
 ghost use Rattle.nv_flat.specs.Flat.{flat};
 ghost use Rattle.nv_mem.specs.Bytes.{InMemory, after_store, bytes_at};
 ghost use Rattle.nv_script.specs.OnceLine.{value_of};
 ghost use Rattle.nv_script.specs.OnceScript.{IsInRange, script_value};
-ghost use Rattle.nv_once.specs.Once.{HasSizes, IsInput, IsOnceFault, IsStop, IsThere};
+ghost use Rattle.nv_once.specs.Once.{HasSizes, IsInput, IsOnceFault, IsScriptOf, IsStop, IsThere};
 ghost use Rattle.nv_once.specs.Printed.{dump_line};
-ghost use Rattle.nv_once.specs.Shown.{PrintsScript, PrintsText, Shows};
+ghost use Rattle.nv_once.specs.Shown.{PrintsScript, Shows};
 
 use crate::fault::Fault;
 use crate::print::{CHUNK, end_line, print_bytes, print_line};
@@ -17,28 +17,21 @@ use nv_script::{Line, Script, parse};
 use std::alloc::Global;
 use std::io::{Read, Write};
 
-/// Reads a script whole, and then runs it line by line on a controller of the kind `C`. What a `cmd`, `dump` or `block` line prints goes
-/// to `output`.
-///
-/// Where it is known what there is to read, it ends well only if that is a script, and then the output has grown by exactly what that
-/// script prints. It ends in the middle of its output only if that is a script, and a fault of the script is the one that the script's
+/// Reads a script whole. Where it is known what there is to read, that is the script, and a fault of the script is the one that its
 /// definition gives.
-pub fn run<C: One, R: Read + Drop, W: Write>(
-    alloc: Global,
-    input: R,
-    output: &mut W,
-) -> Result<(), Fault>
-    ensures { let text = R.remaining input in MatchResult result (λ _. PrintsText C.built text (W.contents output.old) (W.contents output.new)) (IsOnceFault text) }
+pub fn read<R: Read>(alloc: Global, input: &mut R) -> Result<Script, Fault>
+    ensures script { IfOk result (λ script. IsScriptOf (R.remaining input.old) (script_value script)) }
+    ensures in_range { IfOk result (λ script. IsInRange (script_value script)) }
+    ensures err { IfErr result (IsOnceFault (R.remaining input.old)) }
 {
     let text = read_all(alloc, input)?;
     let script = parse(alloc, &text)?;
-    run_script::<C, W>(alloc, &script, output)?;
-    Ok(())
+    Ok(script)
 }
 
 /// The whole input.
-fn read_all<R: Read + Drop>(alloc: Global, mut input: R) -> Result<Vec<u8>, Fault>
-    ensures ok { IfOk result (λ text. IfSome (R.remaining input) (λ bytes. text.items ≡ bytes)) }
+fn read_all<R: Read>(alloc: Global, input: &mut R) -> Result<Vec<u8>, Fault>
+    ensures ok { IfOk result (λ text. IfSome (R.remaining input.old) (λ bytes. text.items ≡ bytes)) }
     ensures err { IfErr result IsInput }
 {
     let mut text = Vec::new(alloc);
@@ -48,8 +41,9 @@ fn read_all<R: Read + Drop>(alloc: Global, mut input: R) -> Result<Vec<u8>, Faul
     }
 }
 
-/// Runs the lines of a script on a controller of its sizes.
-fn run_script<C: One, W: Write>(alloc: Global, script: &Script, output: &mut W) -> Result<(), Fault>
+/// Runs the lines of a script one after another on a controller of its sizes. What a `cmd`, `dump` or `block` line prints goes to
+/// `output`.
+pub fn run<C: One, W: Write>(alloc: Global, script: &Script, output: &mut W) -> Result<(), Fault>
     requires { IsInRange (script_value script.now) }
     ensures ok { OnOk result (PrintsScript C.built (script_value script.now) (W.contents output.old) (W.contents output.new)) }
     ensures err { IfErr result IsStop }

@@ -1,6 +1,8 @@
-ghost use Rattle.std.specs.Prelude.{◌≡◌};
+ghost use Rattle.std.specs.Prelude.{◌≡◌, ◌≢◌, ◌⊎◌};
+ghost use Rattle.std.specs.IoError.{error_kind};
 
 use std::alloc::{AllocError, AllocFailed};
+use std::io::{self, ErrorKind};
 
 /// Why words are no command.
 #[derive(Clone, Copy, Debug, PartialEq, Eq)]
@@ -9,6 +11,20 @@ pub enum Refusal {
     Usage,
     /// memory was refused
     NoMemory,
+}
+
+impl Refusal {
+    /// The refusal of words that could not be had: want of memory is told as such, and words that are no text are none that the program
+    /// knows.
+    pub fn of_words(error: io::Error) -> Self
+        ensures { (error_kind error ≡ ErrorKind.OutOfMemory) × (result ≡ Refusal.NoMemory)
+            ⊎ (error_kind error ≢ ErrorKind.OutOfMemory) × (result ≡ Refusal.Usage) }
+    {
+        match error.kind() {
+            ErrorKind::OutOfMemory => Refusal::NoMemory,
+            _ => Refusal::Usage,
+        }
+    }
 }
 
 impl From<AllocError> for Refusal {

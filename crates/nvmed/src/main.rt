@@ -4,41 +4,25 @@
 //! commands on a private controller over flat memory. Any other list of words is a usage fault. A fault is one line on standard
 //! error, and the exit status tells its kind.
 //!
-//! [`program::run`] is the whole program over words, a reader and two writers; `main` hands it the process's own and gives the exit
-//! status to the system. Here it is proved that a word which begins with `-` is a usage fault; what a command prints and how it ends
-//! is the matter of the crate `nv_once`. Which other words are a command is tested and not proved.
+//! Here stand the grammar of the command line, which is tested and not proved, and `main`, which hands the process to the crate
+//! `nv_once`: what a command prints, how it ends and with which exit status is proved there.
 #![tactic(auto)]
 
-mod command;
-mod program;
+mod command_line;
 #[cfg(test)]
 mod tests;
 
-use nv_once::{Fault, Refusal, report};
-use std::env;
-use std::io::ErrorKind;
+use crate::command_line::CommandLine;
+use nv_flat::FlatController;
+use nv_once::program;
+use std::io::{Stderr, Stdin, Stdout};
 use std::process::ExitCode;
-use std::rt::Env;
-
-/// The words behind the program's name. Words that are no text are none that the program knows.
-fn words(rt: &(impl Env + AllocGlobal)) -> Result<Vec<String>, Refusal> {
-    match env::args(rt) {
-        Ok(all) => Ok(all.skip(1).collect(rt.alloc())?),
-        Err(error) if error.kind() == ErrorKind::OutOfMemory => Err(Refusal::NoMemory),
-        Err(_) => Err(Refusal::Usage),
-    }
-}
 
 fn main(rt: HostRuntime) -> ExitCode {
-    let status = match words(&rt) {
-        Ok(words) => program::run(
-            rt.alloc(),
-            words.as_slice(),
-            rt.stdin(),
-            rt.stdout(),
-            rt.stderr(),
-        ),
-        Err(refusal) => report(Fault::from(refusal), rt.stderr()),
-    };
-    ExitCode::from(status.code())
+    program::<CommandLine, FlatController, HostRuntime, Stdin, Stdout, Stderr>(
+        &rt,
+        &mut rt.stdin(),
+        rt.stdout(),
+        &mut rt.stderr(),
+    )
 }

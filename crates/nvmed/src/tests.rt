@@ -1,11 +1,8 @@
-//! The program over words, as a person would run it.
+//! Which words are which command.
 
-use crate::program;
-use nv_once::ExitStatus;
-use std::alloc::Global;
+use crate::command_line::CommandLine;
+use nv_once::{Command, EntryKind, Refusal, command_of};
 use std::process::Abort;
-
-const USAGE: &str = "usage: nvmed once | replay | run | decode KIND HEX\n";
 
 /// A Read of one block at 5 into 512 bytes at 3000h, identifier 7.
 const READ: &str =
@@ -13,76 +10,27 @@ const READ: &str =
 
 const DONE: &str = "00000000000000000100010007000100";
 
-const DONE_LINE: &str =
-    "dw0=00000000 sqhd=0001 sqid=0001 cid=0007 p=1 sct=0 sc=00 crd=0 m=0 dnr=0\n";
-
-const FIRST_RUN: &str =
-    "memory 0x10000\nblocks 64\npaint 5 0xab\ncmd 02400700010000000000000000000000000000000000000000300000000000000002000000000000050000000000000000000000000000000000000000000000\ndump 0x3000 4\n";
-
-/// What a run printed, and how it ended.
-#[derive(Drop)]
-struct Outcome {
-    status: ExitStatus,
-    output: Vec<u8>,
-    faults: Vec<u8>,
-}
-
-fn run(alloc: Global, words: &[&str], input: &str) -> Outcome {
-    let mut output = Vec::new(alloc);
-    let mut faults = Vec::new(alloc);
-    let input = input.as_bytes();
-    let status = program::run(alloc, words, input, &mut output, &mut faults);
-    Outcome {
-        status,
-        output,
-        faults,
-    }
-}
-
-#[test]
-fn does_what_the_words_say(rt: HostRuntime) {
-    for (words, input, status, output, faults) in [
-        (
-            ["decode", "cqe", DONE].as_slice(),
-            "",
-            ExitStatus::Success,
-            DONE_LINE,
-            "",
-        ),
-        (
-            ["decode", "sqe", DONE].as_slice(),
-            "",
-            ExitStatus::ScriptFault,
-            "",
-            "line 1: bad bytes\n",
-        ),
-        (
-            ["once"].as_slice(),
-            FIRST_RUN,
-            ExitStatus::Success,
-            "00000000000000000100010007000100\nabababab\n",
-            "",
-        ),
-        (
-            ["once"].as_slice(),
-            "",
-            ExitStatus::ScriptFault,
-            "",
-            "line 1: out of place\n",
-        ),
-    ] {
-        let run = run(rt.alloc(), words, input);
-        assert_eq!(rt; run.output.as_slice(), output.as_bytes(), "{words:?}");
-        assert_eq!(rt; run.faults.as_slice(), faults.as_bytes(), "{words:?}");
-        assert_eq!(rt; run.status, status, "{words:?}");
-    }
+fn expect(rt: &(impl Abort + AllocGlobal), words: &[&str], want: Result<Command<'_>, Refusal>) {
+    let found = command_of::<CommandLine, &str>(rt.alloc(), words);
+    assert_eq!(rt; found, want, "{words:?}");
 }
 
 fn expect_usage(rt: &(impl Abort + AllocGlobal), words: &[&str]) {
-    let run = run(rt.alloc(), words, "");
-    assert_eq!(rt; run.faults.as_slice(), USAGE.as_bytes(), "{words:?}");
-    assert_eq!(rt; run.status, ExitStatus::Usage, "{words:?}");
-    assert!(rt; run.output.is_empty(), "{words:?}");
+    expect(rt, words, Err(Refusal::Usage));
+}
+
+/// The digits are looked at where the command is done.
+#[test]
+fn knows_its_commands(rt: HostRuntime) {
+    expect(&rt, &["once"], Ok(Command::Once));
+    for digits in [READ, DONE, "", " ", "zz", "help", "once"] {
+        let kind = EntryKind::Submission;
+        let command = Command::Decode { kind, digits };
+        expect(&rt, &["decode", "sqe", digits], Ok(command));
+        let kind = EntryKind::Completion;
+        let command = Command::Decode { kind, digits };
+        expect(&rt, &["decode", "cqe", digits], Ok(command));
+    }
 }
 
 #[test]

@@ -10,8 +10,6 @@ mod number;
 mod reading;
 mod script;
 mod sizes;
-#[cfg(test)]
-mod tests;
 mod vocabulary;
 mod words;
 

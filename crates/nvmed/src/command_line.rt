@@ -1,28 +1,26 @@
-//! The words of the program, as a command.
-ghost use Rattle.std.specs.Prelude.{◌≡◌, ◌↔◌, IsTrue, Any, slice_get};
+//! The grammar of the command line.
 
 use clap::error::ErrorKind;
 use clap::{Arg, ArgMatches};
-use nv_once::{Command, EntryKind, Refusal};
+use nv_once::{Command, EntryKind, Grammar, Refusal};
 use std::alloc::{AllocError, Global};
 use std::convert::AsStr;
 
-/// The command that these words are. A word that begins with `-` is in no command, and no help is built in.
-pub fn parse<'a, S: AsStr>(alloc: Global, words: &'a [S]) -> Result<Command<'a>, Refusal>
-    ensures dash { Any (λ word. slice_get (S.text word) 0 ≡ Some 45) words.entry.now → result ≡ Err Refusal.Usage }
-{
-    if words.iter().any(|word| begins_with_dash(word.as_str())) {
-        return Err(Refusal::Usage);
-    }
-    let found = match grammar(alloc)?.try_get_matches_from(words) {
-        Ok(found) => found,
-        Err(error) if error.kind() == ErrorKind::OutOfMemory => return Err(Refusal::NoMemory),
-        Err(_) => return Err(Refusal::Usage),
-    };
-    match found.subcommand() {
-        Some((DECODE, found)) => decode_command(found).ok_or(Refusal::Usage),
-        Some((ONCE, _)) => Ok(Command::Once),
-        _ => Err(Refusal::Usage),
+/// `once`, or `decode KIND HEX`. No help is built in.
+pub struct CommandLine;
+
+impl Grammar for CommandLine {
+    fn command<'a, S: AsStr>(alloc: Global, words: &'a [S]) -> Result<Command<'a>, Refusal> {
+        let found = match grammar(alloc)?.try_get_matches_from(words) {
+            Ok(found) => found,
+            Err(error) if error.kind() == ErrorKind::OutOfMemory => return Err(Refusal::NoMemory),
+            Err(_) => return Err(Refusal::Usage),
+        };
+        match found.subcommand() {
+            Some((DECODE, found)) => decode_command(found).ok_or(Refusal::Usage),
+            Some((ONCE, _)) => Ok(Command::Once),
+            _ => Err(Refusal::Usage),
+        }
     }
 }
 
@@ -33,12 +31,6 @@ const ONCE: &str = "once";
 const KIND: &str = "KIND";
 
 const HEX: &str = "HEX";
-
-fn begins_with_dash(word: &str) -> bool
-    ensures { IsTrue result ↔ (slice_get word.now 0 ≡ Some 45) }
-{
-    word.as_bytes().first() == Some(&b'-')
-}
 
 /// The subcommands and their arguments.
 fn grammar<'a>(alloc: Global) -> Result<clap::Command<'a>, AllocError> {

@@ -1,11 +1,12 @@
 //! Commands over readers and writers. Expected lines are read off the layouts by hand.
 
-use crate::{Command, EntryKind, ExitStatus, Fault, perform, report};
 use nv_flat::FlatController;
+use nv_once::{Command, EntryKind, ExitStatus, Failure, Fault, Refusal, perform, report, run};
+use nv_script::FaultKind;
 use std::alloc::Global;
 use std::fmt::Debug;
 use std::io::{self, ErrorKind, Read, Write};
-use std::process::Abort;
+use std::process::{Abort, ExitCode};
 use std::test::Fail;
 
 const READ: &str =
@@ -40,23 +41,34 @@ struct Outcome {
 }
 
 /// Does a command on the flat controller.
-fn perform_on_flat<R: Read + Drop, W: Write>(
+fn perform_on_flat<R: Read, W: Write>(
     alloc: Global,
     command: Command<'_>,
-    input: R,
+    input: &mut R,
     output: &mut W,
 ) -> Result<(), Fault> {
-    perform::<FlatController, R, &mut W>(alloc, command, input, output)?;
-    Ok(())
+    match perform::<FlatController, R, &mut W>(alloc, command, input, output) {
+        Ok(_) => Ok(()),
+        Err(failure) => Err(failure.fault),
+    }
 }
 
-fn run<R: Read + Drop>(alloc: Global, command: Command<'_>, input: R) -> Outcome {
+/// What the program does that was given this command.
+fn run_on_flat<R: Read>(
+    alloc: Global,
+    command: Result<Command<'_>, Refusal>,
+    input: &mut R,
+) -> Outcome {
     let mut output = Vec::new(alloc);
     let mut faults = Vec::new(alloc);
-    let status = match perform_on_flat(alloc, command, input, &mut output) {
-        Ok(()) => ExitStatus::Success,
-        Err(fault) => report(fault, &mut faults),
-    };
+    let ended = run::<FlatController, R, &mut Vec<u8>, Vec<u8>>(
+        alloc,
+        command,
+        input,
+        &mut output,
+        &mut faults,
+    );
+    let status = ExitStatus::of(&ended);
     Outcome {
         status,
         output,
@@ -86,7 +98,7 @@ fn expect(
         assert!(rt; false, "no such entry");
         return;
     };
-    let run = run(rt.alloc(), command, text.as_bytes());
+    let run = run_on_flat(rt.alloc(), Ok(command), &mut text.as_bytes());
     let case = (command, text);
     same(rt, &case, &run.output.as_slice(), &output.as_bytes());
     same(rt, &case, &run.faults.as_slice(), &faults.as_bytes());
@@ -184,8 +196,8 @@ fn prints_blocks(rt: HostRuntime) -> Result<(), Fail> {
     Ok(())
 }
 
-/// Scripts and their faults.
-const FAULTY: [(&str, &str); 5] = [
+/// Scripts and their faults: each of the seven kinds, and a beginning that would have printed.
+const FAULTY: [(&str, &str); 9] = [
     ("", "line 1: out of place\n"),
     (
         "memory 0x10000\nblocks 64\ndump 0xfffe 4",
@@ -197,6 +209,19 @@ const FAULTY: [(&str, &str); 5] = [
         "line 4: unknown word\n",
     ),
     ("memory 0x10001\nblocks 64", "line 1: bad number\n"),
+    (
+        "memory 4096\nblocks 1\ndump 0 1\nstore 0",
+        "line 4: missing word\n",
+    ),
+    (
+        "memory 4096\nblocks 1\nblock 0\nblock 0 0",
+        "line 4: too many words\n",
+    ),
+    ("memory 4096\nblock", "line 2: missing word\n"),
+    (
+        "memory 4096\nblocks 1\ntake 0 0 0",
+        "line 3: out of place\n",
+    ),
 ];
 
 fn expect_faults(rt: &(impl Abort + AllocGlobal), rows: &[(&str, &str)]) {
@@ -270,8 +295,8 @@ const FAILED_READS: [FailedRead; 5] = [
 fn expect_failed_reads(rt: &(impl Abort + AllocGlobal), rows: &[FailedRead]) {
     for (read, kind, status, told) in rows {
         let (text, _) = FIRST_RUN.as_bytes().split_at(FIRST_RUN.len().min(*read));
-        let reader = FailingReader { text, kind: *kind };
-        let run = run(rt.alloc(), Command::Once, reader);
+        let mut reader = FailingReader { text, kind: *kind };
+        let run = run_on_flat(rt.alloc(), Ok(Command::Once), &mut reader);
         same(rt, read, &run.status, status);
         same(rt, read, &run.faults.as_slice(), &told.as_bytes());
         same(rt, read, &run.output.is_empty(), &true);
@@ -336,7 +361,8 @@ fn expect_written(
 ) {
     for (room, flushes, want) in rows {
         let mut output = writer(rt.alloc(), *room, *flushes);
-        let ended = perform_on_flat(rt.alloc(), command, script.as_bytes(), &mut output);
+        let mut input = script.as_bytes();
+        let ended = perform_on_flat(rt.alloc(), command, &mut input, &mut output);
         same(rt, room, &ended, want);
         let (front, _) = whole.as_bytes().split_at(whole.len().min(*room));
         same(rt, room, &(output.taken.as_slice() == front), &true);
@@ -360,15 +386,6 @@ fn tells_of_a_writer_that_fails(rt: HostRuntime) {
         return;
     };
     expect_written(&rt, command, "", DONE_LINE, &DECODED_INTO);
-    let mut faults = Vec::new(rt.alloc());
-    let status = report(Fault::CannotWrite, &mut faults);
-    same(&rt, &"status", &status, &ExitStatus::InputOutput);
-    same(
-        &rt,
-        &"told",
-        &faults.as_slice(),
-        &b"cannot write\n".as_slice(),
-    );
 }
 
 /// 65,536 digits and a line feed are printed.
@@ -392,34 +409,131 @@ fn a_script_whose_writer_fails(rt: HostRuntime) -> Result<(), Fail> {
     Ok(())
 }
 
-/// Faults and their exit statuses.
-const FAULTS: [(Fault, ExitStatus); 4] = [
-    (Fault::CannotWrite, ExitStatus::InputOutput),
-    (Fault::BadBytes, ExitStatus::ScriptFault),
-    (Fault::Usage, ExitStatus::Usage),
-    (Fault::NoMemory, ExitStatus::NoMemory),
+/// Refusals of words, what is told, and how the program ends.
+const REFUSALS: [(Refusal, &str, ExitStatus); 2] = [
+    (
+        Refusal::Usage,
+        "usage: nvmed once | replay | run | decode KIND HEX\n",
+        ExitStatus::Usage,
+    ),
+    (Refusal::NoMemory, "no memory\n", ExitStatus::NoMemory),
 ];
 
-fn expect_statuses(rt: &(impl Abort + AllocGlobal), rows: &[(Fault, ExitStatus)]) {
-    for (fault, status) in rows {
-        let faults = writer(rt.alloc(), 3, false);
-        same(rt, fault, &report(*fault, faults), status);
+fn expect_refusals(rt: &(impl Abort + AllocGlobal), rows: &[(Refusal, &str, ExitStatus)]) {
+    for (refusal, told, status) in rows {
+        let mut reader = Counted { reads: 0 };
+        let run = run_on_flat(rt.alloc(), Err(*refusal), &mut reader);
+        same(rt, refusal, &run.status, status);
+        same(rt, refusal, &run.faults.as_slice(), &told.as_bytes());
+        same(rt, refusal, &run.output.is_empty(), &true);
+        same(rt, refusal, &reader.reads, &0);
     }
 }
 
 #[test]
-fn ends_as_ever_where_the_fault_writer_fails(rt: HostRuntime) {
-    expect_statuses(&rt, &FAULTS);
+fn does_nothing_for_words_that_are_no_command(rt: HostRuntime) {
+    expect_refusals(&rt, &REFUSALS);
+}
+
+/// A reader that counts its reads, and has nothing to read.
+#[derive(Drop)]
+struct Counted {
+    reads: u64,
+}
+
+impl Read for Counted {
+    fn read(&mut self, _buf: &mut [u8]) -> io::Result<usize> {
+        self.reads = self.reads.saturating_add(1);
+        Ok(0)
+    }
+}
+
+/// `decode` reads nothing; a script is read to its end.
+#[test]
+fn reads_for_a_script_alone(rt: HostRuntime) {
+    let Some(command) = decode("cqe", DONE) else {
+        return;
+    };
+    let mut reader = Counted { reads: 0 };
+    let decoded = run_on_flat(rt.alloc(), Ok(command), &mut reader);
+    same(&rt, &"decode", &decoded.status, &ExitStatus::Success);
+    same(&rt, &"decode", &reader.reads, &0);
+    let once = run_on_flat(rt.alloc(), Ok(Command::Once), &mut reader);
+    same(&rt, &"once", &once.status, &ExitStatus::ScriptFault);
+    same(&rt, &"once", &(reader.reads > 0), &true);
+}
+
+/// How the first run ends with a writer for which there is this much room.
+fn status_of_first_run(alloc: Global, room: usize, faults: &mut FailingWriter) -> ExitStatus {
+    let mut output = writer(alloc, room, true);
+    let ended = run::<FlatController, &[u8], &mut FailingWriter, FailingWriter>(
+        alloc,
+        Ok(Command::Once),
+        &mut FIRST_RUN.as_bytes(),
+        &mut output,
+        faults,
+    );
+    ExitStatus::of(&ended)
+}
+
+/// A fault is told and flushed; where it cannot be told, the program ends as ever.
+#[test]
+fn tells_of_an_output_that_fails(rt: HostRuntime) {
+    let mut faults = writer(rt.alloc(), 1000, true);
+    let status = status_of_first_run(rt.alloc(), 0, &mut faults);
+    let told = faults.taken.as_slice();
+    same(&rt, &"told", &told, &b"cannot write\n".as_slice());
+    same(&rt, &"flushed", &faults.flushed, &13);
+    same(&rt, &"status", &status, &ExitStatus::InputOutput);
+    let mut full = writer(rt.alloc(), 3, false);
+    let status = status_of_first_run(rt.alloc(), 0, &mut full);
+    same(&rt, &"full", &status, &ExitStatus::InputOutput);
+    let mut quiet = writer(rt.alloc(), 1000, false);
+    let status = status_of_first_run(rt.alloc(), 1000, &mut quiet);
+    same(&rt, &"quiet", &quiet.taken.is_empty(), &true);
+    same(&rt, &"quiet", &status, &ExitStatus::Success);
+}
+
+/// How a command can end, and the number that the process ends with.
+const STATUSES: [(Fault, u8); 7] = [
+    (Fault::BadBytes, 1),
+    (
+        Fault::Script {
+            line: 1,
+            kind: FaultKind::UnknownWord,
+        },
+        1,
+    ),
+    (Fault::Usage, 2),
+    (Fault::NoMemory, 3),
+    (Fault::CannotRead, 5),
+    (Fault::CannotWrite, 5),
+    (
+        Fault::Script {
+            line: 5,
+            kind: FaultKind::OutOfRange,
+        },
+        1,
+    ),
+];
+
+fn expect_statuses(rt: &impl Abort, rows: &[(Fault, u8)]) {
+    for (fault, number) in rows {
+        let ended: Result<(), Failure<()>> = Err(Failure {
+            fault: *fault,
+            output: None,
+        });
+        let code = ExitCode::from(ExitStatus::of(&ended));
+        same(rt, fault, &code, &ExitCode::from(*number));
+    }
 }
 
 #[test]
-fn flushes_the_text_of_a_fault(rt: HostRuntime) {
-    let mut faults = writer(rt.alloc(), 1000, true);
-    let status = report(Fault::NoMemory, &mut faults);
-    same(&rt, &"status", &status, &ExitStatus::NoMemory);
-    let told = faults.taken.as_slice();
-    same(&rt, &"told", &told, &b"no memory\n".as_slice());
-    same(&rt, &"flushed", &faults.flushed, &10);
+fn ends_with_the_status_of_the_fault(rt: HostRuntime) {
+    expect_statuses(&rt, &STATUSES);
+    let ended: Result<(), Failure<()>> = Ok(());
+    let code = ExitCode::from(ExitStatus::of(&ended));
+    same(&rt, &"success", &code, &ExitCode::SUCCESS);
 }
 
 /// A writer that needs no memory.
@@ -463,14 +577,15 @@ fn a_script_where_memory_is_refused(rt: HostRuntime) {
     let mut output = Page::new();
     let mut faults = Page::new();
     let whole = b"00000000000000000100010007000100\nabababab\n".as_slice();
-    match perform_on_flat(rt.alloc(), Command::Once, FIRST_RUN.as_bytes(), &mut output) {
+    let mut input = FIRST_RUN.as_bytes();
+    match perform_on_flat(rt.alloc(), Command::Once, &mut input, &mut output) {
         Ok(()) => same(&rt, &"all", &output.text(), &whole),
         Err(fault) => {
             same(&rt, &"fault", &fault, &Fault::NoMemory);
             same(&rt, &"front", &whole.starts_with(output.text()), &true);
-            let status = report(fault, &mut faults);
-            same(&rt, &"status", &status, &ExitStatus::NoMemory);
-            same(&rt, &"told", &faults.text(), &b"no memory\n".as_slice());
+            let told = report(fault, &mut faults);
+            same(&rt, &"told", &told.is_ok(), &true);
+            same(&rt, &"text", &faults.text(), &b"no memory\n".as_slice());
         }
     }
 }

@@ -4,7 +4,7 @@ use Rattle.nv_script.specs.OnceLine.{value_of}
 use Rattle.nv_script.specs.OnceScript.{script_value}
 use Rattle.nv_once.specs.Once.{HasSizes}
 use Rattle.nv_once.specs.Shown.{AreShown, fresh}
-use Rattle.nv_once.proofs.once.run_script.Given as goal
+use Rattle.nv_once.proofs.once.run.Given as goal
 
 abbrev pub invariant-loop-line : goal.invariant-loop-line
 invariant-loop-line g l =

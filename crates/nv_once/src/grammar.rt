@@ -1,0 +1,50 @@
+//! The words of the program.
+ghost use Rattle.std.specs.Prelude.{◌≡◌, ◌↔◌, IsTrue, Any, map, slice_get};
+
+use crate::command::Command;
+use crate::refusal::Refusal;
+use std::alloc::Global;
+use std::convert::AsStr;
+use std::env;
+use std::rt::Env;
+
+/// Which words are which command.
+pub trait Grammar {
+    ghost use Rattle.std.specs.Prelude.{ℕ, List, Result, map, ⊤};
+    ghost use Rattle.nv_once.specs.declared.command.Command.{Command as AnyCommand};
+    ghost use Rattle.nv_once.specs.declared.refusal.Refusal.{Refusal as AnyRefusal};
+
+    // what the grammar may say of words
+    ghost says: { List (List ℕ) → Result AnyCommand AnyRefusal → Type 0 } = { λ _ _. ⊤ };
+
+    /// The command that these words are. None of them begins with `-`.
+    fn command<'a, S: AsStr>(alloc: Global, words: &'a [S]) -> Result<Command<'a>, Refusal>
+        ensures { says (map S.text words.entry.now) result };
+}
+
+/// The command that these words are in a grammar. A word that begins with `-` is in no command.
+pub fn command_of<'a, G: Grammar, S: AsStr>(
+    alloc: Global,
+    words: &'a [S],
+) -> Result<Command<'a>, Refusal>
+    ensures dash { Any (λ word. slice_get (S.text word) 0 ≡ Some 45) words.entry.now → result ≡ Err Refusal.Usage }
+    ensures other { ¬ Any (λ word. slice_get (S.text word) 0 ≡ Some 45) words.entry.now → G.says (map S.text words.entry.now) result }
+{
+    if words.iter().any(|word| begins_with_dash(word.as_str())) {
+        return Err(Refusal::Usage);
+    }
+    G::command(alloc, words)
+}
+
+fn begins_with_dash(word: &str) -> bool
+    ensures { IsTrue result ↔ (slice_get word.now 0 ≡ Some 45) }
+{
+    word.as_bytes().first() == Some(&b'-')
+}
+
+/// The words behind the program's name. Words that are no text are none that the program knows.
+pub fn words(rt: &(impl Env + AllocGlobal)) -> Result<Vec<String>, Refusal> {
+    let all = env::args(rt).map_err(Refusal::of_words)?;
+    let words = all.skip(1).collect(rt.alloc())?;
+    Ok(words)
+}
