@@ -16,8 +16,6 @@ mod range;
 mod sqe;
 mod status;
 mod status_code;
-#[cfg(test)]
-mod tests;
 
 pub use cqe::Cqe;
 pub use data_pointer::DataPointer;

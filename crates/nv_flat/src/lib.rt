@@ -10,8 +10,6 @@ mod lists;
 mod moves;
 mod one;
 mod one_command;
-#[cfg(test)]
-mod tests;
 mod transfer;
 
 pub use controller::FlatController;

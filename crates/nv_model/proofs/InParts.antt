@@ -12,7 +12,6 @@ use Rattle.nv_entry.specs.declared.data_pointer.DataPointer.TheVariants.{Prp, Sg
 use Rattle.nv_entry.specs.declared.descriptor_type.DescriptorType.{DescriptorType}
 use Rattle.nv_entry.specs.declared.descriptor_type.DescriptorType.TheVariants.{DataBlock, BitBucket, Segment, LastSegment}
 use Rattle.nv_entry.specs.declared.opcode.IoOpcode.{IoOpcode}
-use Rattle.nv_entry.specs.declared.opcode.IoOpcode.TheVariants.{Flush, Write, Read, Compare, WriteZeroes, DatasetManagement}
 use Rattle.nv_entry.specs.declared.status_code.StatusCode.{StatusCode}
 use Rattle.nv_entry.specs.declared.status_code.StatusCode.TheVariants.{DataTransferError, InvalidSglCount, InvalidSglSegment, SglLengthInvalid}
 use Rattle.nv_mem.specs.GuestMap.{everywhere}
@@ -23,7 +22,7 @@ use Rattle.nv_model.specs.Dialogue.{Dialogue, End, Ask, and_then}
 use Rattle.nv_model.specs.Reading.{Reading, Faulty, TooLong, Spells, run, unless_faulty}
 use Rattle.nv_model.specs.Sgl.{Array, array_by, behind_own, fault_by, pieces_by, read_array, read_descriptor, read_sgl, segment_fault}
 use Rattle.nv_model.specs.Prp.{entry_fault, first_len, page, pages_of, read_entries, read_page, read_prp, read_prp2, slots_of}
-use Rattle.nv_model.specs.Judge.{field_refusal, has_blocks, has_buffer, is_read, judge, judge_by, judge_fields, judge_reading, range_count_of, read_buffer, read_by, read_source, sized, transfer_len}
+use Rattle.nv_model.specs.Judge.{Form, Transfer, Clear, Manage, Keep, field_refusal, form_of, has_buffer, is_read, judge, judge_buffer, judge_by, judge_fields, judge_reading, range_count_of, read_buffer, read_by, read_source, sized, transfer_len}
 use Rattle.nv_model.specs.Parts.{AsksInParts, UsesUp, in_hand}
 use Rattle.nv_model.proofs.Endings.{EndsIn, EndsIn-any, OfPieces, and-true, first_failing-none, not-false}
 use Rattle.nv_model.proofs.Asking.{entry_fault-mapped, others-left}
@@ -279,25 +278,25 @@ ranges-short : (entry : List ℕ) → 16 * range_count_of entry ≤ 4096
 unfolding bits
 ranges-short entry = omega arith
 
-ranged-short : (opcode : IoOpcode) (entry : List ℕ) → has_blocks opcode ≡ false → transfer_len opcode entry ≤ 4096
-ranged-short Flush entry none = omega arith
-ranged-short WriteZeroes entry none = omega arith
-ranged-short Read entry none = cc
-ranged-short Write entry none = cc
-ranged-short Compare entry none = cc
-ranged-short DatasetManagement entry none = ranges-short entry
+ranged-short : (opcode : IoOpcode) (entry : List ℕ) → form_of opcode ≡ Manage → transfer_len opcode entry ≤ 4096
+ranged-short opcode entry form = rw form (ranges-short entry)
+
+judge_buffer-part : (form : Form) (blocks : ℕ) (opcode : IoOpcode) (entry : List ℕ) (pieces : List Piece) (from rest : ℕ)
+    → IsUsedUp rest (Spells pieces) → (form ≡ Manage → total_len pieces ≤ 4096) → UsesUpTo Any from rest (judge_buffer form blocks opcode entry pieces)
+judge_buffer-part (Transfer dest) blocks opcode entry pieces from rest used short = tt
+judge_buffer-part Clear blocks opcode entry pieces from rest used short = tt
+judge_buffer-part Manage blocks opcode entry pieces from rest used short =
+    UsesUp-and_then (λ n _. n ≡ 0) (λ _. ⊤) Any from rest (read_source pieces []) _
+    (read_source-used pieces from rest used (short refl)) (EndsIn-any (read_source pieces [])) (λ at n bytes _ _. tt)
+judge_buffer-part Keep blocks opcode entry pieces from rest used short = tt
 
 judge_reading-part : (mapped : ℕ → Bool) (blocks : ℕ) (entry : List ℕ) (opcode : IoOpcode) (reading : Reading) (from rest : ℕ)
     → IsUsedUp rest reading → OfPieces (AreOfLen mapped (transfer_len opcode entry)) reading → UsesUpTo Any from rest (judge_reading blocks entry opcode reading)
 judge_reading-part mapped blocks entry opcode (Faulty code) from rest used there = tt
 judge_reading-part mapped blocks entry opcode TooLong from rest used there = tt
 judge_reading-part mapped blocks entry opcode (Spells pieces) from rest used there =
-    UsesUp-if Any from rest (has_blocks opcode) _ _ (λ _. tt)
-    (λ none.
-    let short = ranged-short opcode entry none in
-    let total = there.total in
-    UsesUp-and_then (λ n _. n ≡ 0) (λ _. ⊤) Any from rest (read_source pieces []) _
-    (read_source-used pieces from rest used (omega arith)) (EndsIn-any (read_source pieces [])) (λ at n bytes _ _. tt))
+    judge_buffer-part (form_of opcode) blocks opcode entry pieces from rest used
+    (λ form. let short = ranged-short opcode entry form in let total = there.total in omega arith)
 
 judge_by-part : (opcode : Option IoOpcode) (mapped : ℕ → Bool) (limit blocks : ℕ) (entry : List ℕ) → UsesUpTo Any 0 0 (judge_by opcode mapped limit blocks entry)
 judge_by-part None mapped limit blocks entry = tt
@@ -310,7 +309,7 @@ judge_by-part (Some opcode) mapped limit blocks entry =
     (λ at n reading used _. sized-part n (transfer_len opcode entry) reading used))
     (read_buffer-of_len (data_pointer (psdt_of entry)) mapped limit entry (is_read opcode) (transfer_len opcode entry))
     (λ at n reading used there. judge_reading-part mapped blocks entry opcode reading at n used there))
-    (λ _. tt)
+    (λ _. judge_buffer-part (form_of opcode) blocks opcode entry [] 0 0 refl (λ _. omega arith))
 
 judge_fields-part : (refusal : Option StatusCode) (mapped : ℕ → Bool) (limit blocks : ℕ) (entry : List ℕ) → UsesUpTo Any 0 0 (judge_fields refusal mapped limit blocks entry)
 judge_fields-part (Some code) mapped limit blocks entry = tt

@@ -2,6 +2,7 @@ pub mod AdminKept
 pub mod Agreeing
 pub mod AnyAnswers
 pub mod Asking
+pub mod Bags
 pub mod CarriedOnly
 pub mod CarriedOut
 pub mod DialogueLemmas
@@ -14,6 +15,7 @@ pub mod Judged
 pub mod MemoryAlike
 pub mod MemoryLemmas
 pub mod PrpAddressed
+pub mod QueueCounts
 pub mod QueueOrder
 pub mod QueuesKept
 pub mod SglSequenced
@@ -22,3 +24,5 @@ pub mod Spelled
 pub mod StepsAlike
 pub mod StepsKept
 pub mod UnitOrder
+pub mod UnitWords
+pub mod Units

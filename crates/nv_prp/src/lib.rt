@@ -33,6 +33,3 @@ pub use building::{build, build_run};
 pub use fitting::fits;
 pub use parse::PrpParse;
 pub use prps::Prps;
-
-#[cfg(test)]
-mod tests;

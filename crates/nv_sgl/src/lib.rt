@@ -26,10 +26,3 @@ mod parse;
 pub use chain::Chain;
 pub use nv_model::Want;
 pub use parse::SglParse;
-
-#[cfg(test)]
-mod refusals;
-#[cfg(test)]
-mod refusing;
-#[cfg(test)]
-mod tests;

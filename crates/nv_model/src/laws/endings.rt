@@ -1,13 +1,13 @@
 //! What a dialogue comes to and asks for, whatever answers it: one memory, a transcript, or memory that changes from question to question.
-ghost use Rattle.std.specs.Prelude.{◌≡◌, ℕ, ◌≤◌, Bool, false, true, List, [], All, Some, length};
-ghost use Rattle.std.specs.List.{range_with_len};
+ghost use Rattle.std.specs.Prelude.{◌≡◌, ℕ, ◌≤◌, Bool, true, List, [], All, Some, length};
+ghost use Rattle.std.specs.List.{list_all};
 ghost use Rattle.nv_entry.specs.Opcode.{io_opcode};
-ghost use Rattle.nv_entry.specs.Submission.{opcode_of, slba_of};
+ghost use Rattle.nv_entry.specs.Submission.{opcode_of};
 ghost use Rattle.nv_mem.specs.Places.{places_of, total_len};
 ghost use Rattle.nv_mem.specs.declared.piece.Piece.{Piece};
 ghost use Rattle.nv_model.specs.Dialogue.{Dialogue, asked, in_memory};
 ghost use Rattle.nv_model.specs.Endings.{IsPartFor, MayAsk, MayEndIn};
-ghost use Rattle.nv_model.specs.Judge.{Verdict, Work, Go, block_units, count_of, has_blocks, has_buffer, judge, range_count_of, transfer_len};
+ghost use Rattle.nv_model.specs.Judge.{Verdict, Work, Go, Manage, form_of, form_units, judge, range_count_of, range_fits, transfer_len};
 ghost use Rattle.nv_model.specs.Laws.{IsMappedPiece, IsMappedPlace, IsMappedSpan, IsUnitWithin, still_wanted};
 ghost use Rattle.nv_model.specs.Parts.{AsksInParts};
 ghost use Rattle.nv_model.specs.Prp.{read_prp};
@@ -91,14 +91,13 @@ pub fn buffer_is_mapped_whatever_answers()
         MayEndIn (judge mapped limit blocks entry) (Go work) → total_len work.pieces ≡ transfer_len work.opcode entry }
 {}
 
-/// Its units lie in the namespace: one for each block of the command's range, in order, or one for each range of a Dataset Management.
+/// Its units lie in the namespace, and are those of a command of its form: of a Dataset Management, those of as many ranges as it names, each
+/// in the namespace.
 pub fn units_are_the_commands_whatever_answers()
     ensures within { (mapped : ℕ → Bool) (limit blocks : ℕ) (entry : List ℕ) (work : Work) →
         MayEndIn (judge mapped limit blocks entry) (Go work) → All (IsUnitWithin blocks) work.units }
-    ensures in_order { (mapped : ℕ → Bool) (limit blocks : ℕ) (entry : List ℕ) (work : Work) →
-        MayEndIn (judge mapped limit blocks entry) (Go work) → has_blocks work.opcode ≡ true →
-        work.units ≡ block_units (range_with_len (slba_of entry) (count_of entry)) }
-    ensures counted { (mapped : ℕ → Bool) (limit blocks : ℕ) (entry : List ℕ) (work : Work) →
-        MayEndIn (judge mapped limit blocks entry) (Go work) → has_buffer work.opcode ≡ true → has_blocks work.opcode ≡ false →
-        length work.units ≡ range_count_of entry }
+    ensures those { (mapped : ℕ → Bool) (limit blocks : ℕ) (entry : List ℕ) (work : Work) →
+        MayEndIn (judge mapped limit blocks entry) (Go work) → (ranges : List (List ℕ))
+        × ((work.units ≡ form_units (form_of work.opcode) blocks entry ranges) × ((list_all (range_fits blocks) ranges ≡ true)
+        × (form_of work.opcode ≡ Manage → length ranges ≡ range_count_of entry))) }
 {}

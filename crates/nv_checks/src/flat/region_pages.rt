@@ -1,0 +1,104 @@
+//! Commands by PRP entries and lists.
+
+use crate::flat::{SUCCESS, changed, filled_are, put, run};
+use nv_entry::Sqe;
+use nv_flat::FlatController;
+use std::alloc::Global;
+use std::process::Abort;
+use std::test::Fail;
+
+/// A Read by PRPs of that many blocks from LBA 0, NLB counted from 0.
+fn by_prp(rt: &impl Abort, nlb: u32, prp1: u32, prp2: u32) -> Sqe {
+    let changes = [(0, 0x0007_0002), (6, prp1), (8, prp2), (10, 0), (12, nlb)];
+    changed(rt, &changes)
+}
+
+/// A controller with 40000h bytes of memory and 256 blocks, of which each is filled with its number.
+fn numbered(rt: &impl Abort, alloc: Global) -> Result<FlatController, Fail> {
+    let mut controller = FlatController::new(alloc, 0x4_0000, 256)?;
+    for block in 0..=255 {
+        assert!(rt; controller.blocks() == 256);
+        controller.paint(u64::from(block), block);
+    }
+    Ok(controller)
+}
+
+/// Puts PRP entries at these addresses.
+fn put_entries(rt: &impl Abort, controller: &mut FlatController, entries: &[(u64, u64)]) {
+    for (addr, entry) in entries {
+        put(rt, controller, *addr, &entry.to_le_bytes());
+    }
+}
+
+#[test]
+fn reads_by_region_pages(rt: HostRuntime) -> Result<(), Fail> {
+    // a list that chains at its page's end, and one that stands in the page
+    for (prp2, first) in [(0x6ff8, 0x7000), (0x6ff0, 0x6ff0)] {
+        let mut controller = numbered(&rt, rt.alloc())?;
+        let entries = [(0x6ff8, 0x7000), (first, 0x8000), (first + 8, 0x9000)];
+        put_entries(&rt, &mut controller, &entries);
+        let sqe = by_prp(&rt, 23, 0x3000, prp2);
+        run(&rt, rt.alloc(), &mut controller, &sqe, SUCCESS)?;
+        for block in 0..8u8 {
+            let at = 512 * u64::from(block);
+            let pages = [
+                (0x3000 + at, block),
+                (0x8000 + at, block + 8),
+                (0x9000 + at, block + 16),
+            ];
+            filled_are(&rt, &controller, &pages);
+        }
+    }
+    Ok(())
+}
+
+/// Puts a list of 32 entries at 2000h: the pages from 10000h on.
+fn put_32_entries(rt: &impl Abort, controller: &mut FlatController) {
+    for entry in 0..32u8 {
+        let page = 0x1_0000 + 0x1000 * u64::from(entry);
+        put(
+            rt,
+            controller,
+            0x2000 + 8 * u64::from(entry),
+            &page.to_le_bytes(),
+        );
+    }
+}
+
+#[test]
+fn reads_33_region_pages(rt: HostRuntime) -> Result<(), Fail> {
+    let mut controller = numbered(&rt, rt.alloc())?;
+    put_32_entries(&rt, &mut controller);
+    // block 255 ends 4 bytes past the beginning of the last page
+    let sqe = by_prp(&rt, 255, 0x3004, 0x2000);
+    run(&rt, rt.alloc(), &mut controller, &sqe, SUCCESS)?;
+    filled_are(
+        &rt,
+        &controller,
+        &[(0x3004, 0), (0x1_0004, 8), (0x2_ee04, 255)],
+    );
+    let mut behind = [0xee; 8];
+    assert!(rt; controller.holds(0x2_f000, 8));
+    controller.load(0x2_f000, &mut behind);
+    assert_eq!(rt; behind, [255, 255, 255, 255, 0, 0, 0, 0]);
+    Ok(())
+}
+
+#[test]
+fn refuses_region_pages(rt: HostRuntime) -> Result<(), Fail> {
+    // NLB, PRP2, the entry at 6FF8h, and the last dword; PRP1 is 3000h
+    for (nlb, prp2, pointer, want) in [
+        (15, 0x5004, 0x7000, 0x8027_0007),
+        (23, 0x6ffc, 0x7000, 0x8027_0007),
+        (23, 0x6ff8, 0x7008, 0x8027_0007),
+        (15, 0x4_0000, 0x7000, 0x8009_0007),
+    ] {
+        let mut controller = numbered(&rt, rt.alloc())?;
+        let entries = [(0x6ff8, pointer), (0x7000, 0x8000), (0x7008, 0x9000)];
+        put_entries(&rt, &mut controller, &entries);
+        let sqe = by_prp(&rt, nlb, 0x3000, prp2);
+        run(&rt, rt.alloc(), &mut controller, &sqe, want)?;
+        filled_are(&rt, &controller, &[(0x3200, 0), (0x8000, 0)]);
+    }
+    Ok(())
+}

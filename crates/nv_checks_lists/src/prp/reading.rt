@@ -1,0 +1,349 @@
+//! Transfers that are read, by a driver that feeds what is wanted.
+ghost use Rattle.std.specs.Prelude.{◌≡◌, IfSome, length};
+
+use super::map;
+use nv_entry::StatusCode;
+use nv_mem::{GuestMap, NoMemory, Piece};
+use nv_model::Want;
+use nv_prp::PrpParse;
+use std::alloc::Global;
+use std::process::Abort;
+use std::test::Fail;
+
+/// A transfer: the numbers in the guest's memory, its PRP1 and PRP2 and its length. What it wants in turn, the code with which it
+/// is refused, and the pieces that it names where it isn't.
+struct Case {
+    name: &'static str,
+    slots: &'static [(usize, u64)],
+    prp1: u64,
+    prp2: u64,
+    need: u64,
+    wants: &'static [(u64, u32)],
+    refusal: Option<StatusCode>,
+    pieces: &'static [Piece],
+}
+
+macro_rules! run {
+    ($addr:expr, $len:expr) => {
+        Piece::Run { addr: $addr, len: $len }
+    };
+}
+
+const OFFSET: Option<StatusCode> = Some(StatusCode::PrpOffsetInvalid);
+
+const UNMAPPED: Option<StatusCode> = Some(StatusCode::DataTransferError);
+
+const THREE_PAGES: &[Piece] = &[run!(0x3000, 4096), run!(0x8000, 4096), run!(0x9000, 4096)];
+
+const DONE: &[Case] = &[
+    Case {
+        name: "one page",
+        slots: &[],
+        prp1: 0x3e00,
+        prp2: u64::MAX,
+        need: 512,
+        wants: &[],
+        refusal: None,
+        pieces: &[run!(0x3e00, 512)],
+    },
+    Case {
+        name: "two pages",
+        slots: &[],
+        prp1: 0x3e00,
+        prp2: 0x5000,
+        need: 1024,
+        wants: &[],
+        refusal: None,
+        pieces: &[run!(0x3e00, 512), run!(0x5000, 512)],
+    },
+    Case {
+        name: "a list at the end of a page that goes on in the next list page, by the pointer in the last slot",
+        slots: &[(0x6ff8, 0x7000), (0x7000, 0x8000), (0x7008, 0x9000)],
+        prp1: 0x3000,
+        prp2: 0x6ff8,
+        need: 12288,
+        wants: &[(0x6ff8, 8), (0x7000, 16)],
+        refusal: None,
+        pieces: THREE_PAGES,
+    },
+    Case {
+        name: "a list at the end of a page whose last slot is an entry",
+        slots: &[(0x6ff0, 0x8000), (0x6ff8, 0x9000)],
+        prp1: 0x3000,
+        prp2: 0x6ff0,
+        need: 12288,
+        wants: &[(0x6ff0, 16)],
+        refusal: None,
+        pieces: THREE_PAGES,
+    },
+];
+
+/// Transfers that are refused before a list is read.
+const REFUSED: &[Case] = &[
+    Case {
+        name: "PRP1 at an offset of 2",
+        slots: &[],
+        prp1: 0x3002,
+        prp2: 0,
+        need: 512,
+        wants: &[],
+        refusal: OFFSET,
+        pieces: &[],
+    },
+    Case {
+        name: "PRP1 at an offset of 2, which isn't mapped either",
+        slots: &[],
+        prp1: 0x4_0002,
+        prp2: 0,
+        need: 512,
+        wants: &[],
+        refusal: OFFSET,
+        pieces: &[],
+    },
+    Case {
+        name: "PRP1 that isn't mapped",
+        slots: &[],
+        prp1: 0x4_0000,
+        prp2: 0,
+        need: 512,
+        wants: &[],
+        refusal: UNMAPPED,
+        pieces: &[],
+    },
+    Case {
+        name: "a second page with an offset",
+        slots: &[],
+        prp1: 0x3000,
+        prp2: 0x5004,
+        need: 8192,
+        wants: &[],
+        refusal: OFFSET,
+        pieces: &[],
+    },
+    Case {
+        name: "a second page that isn't mapped",
+        slots: &[],
+        prp1: 0x3000,
+        prp2: 0x4_0000,
+        need: 8192,
+        wants: &[],
+        refusal: UNMAPPED,
+        pieces: &[],
+    },
+    Case {
+        name: "PRP1 that isn't mapped before a second page with an offset",
+        slots: &[],
+        prp1: 0x4_0000,
+        prp2: 0x5004,
+        need: 8192,
+        wants: &[],
+        refusal: UNMAPPED,
+        pieces: &[],
+    },
+    Case {
+        name: "a list at an offset of 4",
+        slots: &[],
+        prp1: 0x3000,
+        prp2: 0x6ffc,
+        need: 12288,
+        wants: &[],
+        refusal: OFFSET,
+        pieces: &[],
+    },
+    Case {
+        name: "a list that isn't mapped",
+        slots: &[],
+        prp1: 0x3000,
+        prp2: 0x4_0000,
+        need: 12288,
+        wants: &[],
+        refusal: UNMAPPED,
+        pieces: &[],
+    },
+];
+
+/// Transfers that are refused in a list.
+const REFUSED_LISTS: &[Case] = &[
+    Case {
+        name: "a later list pointer with an offset, be it at a multiple of 8",
+        slots: &[(0x6ff8, 0x7008), (0x7008, 0x8000)],
+        prp1: 0x3000,
+        prp2: 0x6ff8,
+        need: 12288,
+        wants: &[(0x6ff8, 8)],
+        refusal: OFFSET,
+        pieces: &[],
+    },
+    Case {
+        name: "a later list pointer that isn't mapped",
+        slots: &[(0x6ff8, 0x4_0000), (0x7000, 0x8000)],
+        prp1: 0x3000,
+        prp2: 0x6ff8,
+        need: 12288,
+        wants: &[(0x6ff8, 8)],
+        refusal: UNMAPPED,
+        pieces: &[],
+    },
+    Case {
+        name: "an entry that isn't mapped before one with an offset",
+        slots: &[(0x6000, 0x4_0000), (0x6008, 0x8004)],
+        prp1: 0x3000,
+        prp2: 0x6000,
+        need: 12288,
+        wants: &[(0x6000, 16)],
+        refusal: UNMAPPED,
+        pieces: &[],
+    },
+    Case {
+        name: "an entry with an offset before one that isn't mapped",
+        slots: &[(0x6000, 0x8004), (0x6008, 0x4_0000)],
+        prp1: 0x3000,
+        prp2: 0x6000,
+        need: 12288,
+        wants: &[(0x6000, 16)],
+        refusal: OFFSET,
+        pieces: &[],
+    },
+    Case {
+        name: "a second entry with an offset",
+        slots: &[(0x6000, 0x8000), (0x6008, 0x9004)],
+        prp1: 0x3000,
+        prp2: 0x6000,
+        need: 12288,
+        wants: &[(0x6000, 16)],
+        refusal: OFFSET,
+        pieces: &[],
+    },
+];
+
+// A memory of zeros in which these numbers stand, each in 8 bytes.
+fn holding(alloc: Global, slots: &[(usize, u64)]) -> Result<Vec<u8>, NoMemory> {
+    let mut memory = vec![in alloc; 0u8; 0x40000]?;
+    for (at, number) in slots {
+        store(&mut memory, *at, *number);
+    }
+    Ok(memory)
+}
+
+fn store(memory: &mut [u8], at: usize, number: u64) {
+    let bytes = number.to_le_bytes();
+    for (place, byte) in memory.iter_mut().skip(at).zip(bytes.iter()) {
+        *place = *byte;
+    }
+}
+
+fn part(memory: &[u8], addr: u64, len: u32) -> Option<&[u8]>
+    ensures { IfSome result (λ bytes. length bytes.now ≡ len) }
+{
+    let from = addr as usize;
+    let len = len as usize;
+    if from <= memory.len() && len <= memory.len() - from {
+        Some(&memory[from..from + len])
+    } else {
+        None
+    }
+}
+
+// Feeds the parse the next part that it wants, and says which that was; or nothing where it has ended.
+fn step(parse: &mut PrpParse<'_>, memory: &[u8]) -> Option<(u64, u32)> {
+    match parse.wants() {
+        Want::Read { addr, len } => match part(memory, addr, len) {
+            Some(bytes) => {
+                parse.feed(bytes);
+                Some((addr, len))
+            }
+            None => None,
+        },
+        _ => None,
+    }
+}
+
+// Feeds the parse these parts, and says whether it wanted each of them.
+fn takes(parse: &mut PrpParse<'_>, memory: &[u8], wants: &[(u64, u32)]) -> bool {
+    for want in wants {
+        if step(parse, memory) != Some(*want) {
+            return false;
+        }
+    }
+    true
+}
+
+// Whether a parse has ended with this refusal, or, where there is none, is done.
+fn has_ended(parse: &PrpParse<'_>, refusal: Option<StatusCode>) -> bool {
+    let end = match refusal {
+        Some(code) => Want::Fault(code.refused()),
+        None => Want::Done,
+    };
+    parse.wants() == end
+}
+
+// Whether a parse that is done names these pieces; where it isn't done, whether they are none.
+fn has_pieces(alloc: Global, parse: &PrpParse<'_>, pieces: &[Piece]) -> Result<bool, NoMemory> {
+    if let Want::Done = parse.wants() {
+        Ok(parse.places(alloc)?.pieces() == pieces)
+    } else {
+        Ok(pieces.is_empty())
+    }
+}
+
+// Whether reading a transfer comes to what is expected.
+fn is_as_expected(alloc: Global, map: &GuestMap, case: &Case) -> Result<bool, NoMemory> {
+    if case.need == 0 || case.need > 131072 {
+        return Ok(false);
+    }
+    let memory = holding(alloc, case.slots)?;
+    let mut parse = PrpParse::new(map, case.prp1, case.prp2, case.need);
+    let is_read = takes(&mut parse, &memory, case.wants) && has_ended(&parse, case.refusal);
+    Ok(is_read && has_pieces(alloc, &parse, case.pieces)?)
+}
+
+fn check(rt: &impl Abort, alloc: Global, map: &GuestMap, cases: &[Case]) -> Result<(), NoMemory> {
+    for case in cases {
+        assert!(rt; is_as_expected(alloc, map, case)?, "{}", case.name);
+    }
+    Ok(())
+}
+
+#[test]
+fn transfers(rt: HostRuntime) -> Result<(), Fail> {
+    let map = map(rt.alloc())?;
+    check(&rt, rt.alloc(), &map, DONE)?;
+    check(&rt, rt.alloc(), &map, REFUSED)?;
+    check(&rt, rt.alloc(), &map, REFUSED_LISTS)?;
+    Ok(())
+}
+
+// 33 pages from an offset of 4: 32 entries of a list, the last of which stands for 4 bytes.
+fn list_of_largest(alloc: Global) -> Result<Vec<u8>, NoMemory> {
+    let mut memory = holding(alloc, &[])?;
+    for i in 0..32 {
+        store(&mut memory, 0x2000 + 8 * i, 0x8000 + 0x1000 * i as u64);
+    }
+    Ok(memory)
+}
+
+fn are_of_largest(pieces: &[Piece]) -> bool {
+    pieces.len() == 33
+        && pieces.first().copied() == Some(run!(0x3004, 4092))
+        && pieces.get(31).copied() == Some(run!(0x2_6000, 4096))
+        && pieces.get(32).copied() == Some(run!(0x2_7000, 4))
+}
+
+fn is_largest_read(alloc: Global, map: &GuestMap) -> Result<bool, NoMemory> {
+    let memory = list_of_largest(alloc)?;
+    let mut parse = PrpParse::new(map, 0x3004, 0x2000, 131072);
+    if !takes(&mut parse, &memory, &[(0x2000, 256)]) {
+        return Ok(false);
+    }
+    match parse.wants() {
+        Want::Done => Ok(are_of_largest(parse.places(alloc)?.pieces())),
+        _ => Ok(false),
+    }
+}
+
+#[test]
+fn the_largest_transfer(rt: HostRuntime) -> Result<(), Fail> {
+    let map = map(rt.alloc())?;
+    assert!(rt; is_largest_read(rt.alloc(), &map)?);
+    Ok(())
+}
