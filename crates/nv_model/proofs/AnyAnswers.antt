@@ -60,7 +60,7 @@ asked-may memory (Ask addr unit left next) =
 -- ---- with bytes that were read
 
 -- what is left of a part, from a question on
-uses-next : {A : Type 0} (from rest addr unit left : ℕ) (next : List ℕ → Dialogue A) (bytes : List ℕ)
+pub uses-next : {A : Type 0} (from rest addr unit left : ℕ) (next : List ℕ → Dialogue A) (bytes : List ℕ)
     → UsesUp from rest (Ask addr unit left next) → length bytes ≡ in_hand rest left
     → (unit ≤ length bytes) × UsesUp (addr + unit) (length (drop unit bytes)) (next (take unit bytes))
 uses-next from rest addr unit left next bytes uses many =
@@ -125,7 +125,7 @@ uses-none from at (End end) uses = tt
 uses-none from at (Ask addr unit left next) uses = (λ some. absurd (omega arith), uses.1, uses.2)
 
 -- behind an answer
-LeadsOn-behind : {A : Type 0} (addr unit left : ℕ) (next : List ℕ → Dialogue A) (bytes : List ℕ) (behind : Dialogue A)
+pub LeadsOn-behind : {A : Type 0} (addr unit left : ℕ) (next : List ℕ → Dialogue A) (bytes : List ℕ) (behind : Dialogue A)
     → length bytes ≡ unit → LeadsOn (next bytes) behind → LeadsOn (Ask addr unit left next) behind
 LeadsOn-behind addr unit left next bytes behind many leads =
     record {

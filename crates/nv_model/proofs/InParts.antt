@@ -1,6 +1,7 @@
 -- Lists are asked for in parts: each is used up where the next question begins.
-use Rattle.std.proofs.Common.{◌≡◌, ℕ, zero, suc, ◌+◌, ◌-◌, ◌*◌, ◌/◌, ◌%◌, ◌<◌, ◌≤◌, min, Bool, true, false, cond, not, ◌&&◌, ◌||◌, ◌==◌, nat_lt, List, [], ◌∷◌, ◌++◌, Option, Some, None, length, arith, refl, sym, subst, eqb-true}
+use Rattle.std.proofs.Common.{◌≡◌, ℕ, zero, suc, ◌+◌, ◌-◌, ◌*◌, ◌/◌, ◌%◌, ◌<◌, ◌≤◌, min, Bool, true, false, cond, not, ◌&&◌, ◌||◌, ◌==◌, nat_lt, List, [], ◌∷◌, ◌++◌, All, Option, Some, None, length, arith, refl, sym, subst, eqb-true}
 use Rattle.std.specs.Bool.{⊤}
+use Rattle.std.proofs.lemmas.List.Elements.{All-cons, All-head, All-nil, All-tail}
 use Rattle.std.proofs.lemmas.List.Sums.{sum_by-cons}
 use Rattle.nv_entry.specs.Layout.{bits, number_at}
 use Rattle.nv_entry.specs.Descriptor.{address_of, length_of, kind_of}
@@ -224,26 +225,36 @@ read_prp-part mapped prp1 prp2 len =
 
 -- ---- the ranges of Dataset Management
 
+-- a piece is at most one part
+abbrev IsShort : Piece → Type 0
+IsShort p = piece_len p ≤ 4096
+
+-- those of a transfer of one part are
+short-each : (pieces : List Piece) → total_len pieces ≤ 4096 → All IsShort pieces
+short-each [] few = All-nil IsShort
+short-each (p ∷ pieces) few =
+    let total = sum_by-cons piece_len p pieces in
+    let here : piece_len p ≤ 4096 = omega arith in
+    All-cons IsShort p pieces here (short-each pieces (omega arith))
+
 -- a source of runs that are one part each
-pub read_source-part : (pieces : List Piece) (bytes : List ℕ) (from : ℕ) → total_len pieces ≤ 4096 → UsesUpTo (λ rest _. rest ≡ 0) from 0 (read_source pieces bytes)
+pub read_source-part : (pieces : List Piece) (bytes : List ℕ) (from : ℕ) → All (λ p. piece_len p ≤ 4096) pieces
+    → UsesUpTo (λ rest _. rest ≡ 0) from 0 (read_source pieces bytes)
 unfolding read_source
 read_source-part [] bytes from few = refl
 read_source-part (Run addr len ∷ pieces) bytes from few =
-    let total = sum_by-cons piece_len (Run addr len) pieces in
-    let short : len ≤ 4096 = omega arith in
+    let short : len ≤ 4096 = All-head IsShort (Run addr len) pieces few in
     let none : in_hand 0 len - len ≡ 0 = omega arith in (
       λ some. absurd (omega arith),
       omega arith,
       λ more many. subst (λ (n : ℕ). UsesUpTo (λ rest _. rest ≡ 0) (addr + len) n (read_source pieces (bytes ++ more))) (sym none)
-          (read_source-part pieces (bytes ++ more) (addr + len) (omega arith)),
+          (read_source-part pieces (bytes ++ more) (addr + len) (All-tail IsShort (Run addr len) pieces few)),
     )
-read_source-part (Bucket len ∷ pieces) bytes from few =
-    let total = sum_by-cons piece_len (Bucket len) pieces in
-    read_source-part pieces bytes from (omega arith)
+read_source-part (Bucket len ∷ pieces) bytes from few = read_source-part pieces bytes from (All-tail IsShort (Bucket len) pieces few)
 
 read_source-used : (pieces : List Piece) (from rest : ℕ) → rest ≡ 0 → total_len pieces ≤ 4096 → UsesUpTo (λ n _. n ≡ 0) from rest (read_source pieces [])
 read_source-used pieces from rest used few =
-    subst (λ (n : ℕ). UsesUpTo (λ m _. m ≡ 0) from n (read_source pieces [])) (sym used) (read_source-part pieces [] from few)
+    subst (λ (n : ℕ). UsesUpTo (λ m _. m ≡ 0) from n (read_source pieces [])) (sym used) (read_source-part pieces [] from (short-each pieces few))
 
 -- ---- the verdict
 
@@ -317,7 +328,7 @@ read_sgl-in_parts mapped dest limit own = UsesUp-to IsUsedUp 0 0 (read_sgl mappe
 pub read_prp-in_parts : (mapped : ℕ → Bool) (prp1 prp2 len : ℕ) → AsksInParts (read_prp mapped prp1 prp2 len)
 read_prp-in_parts mapped prp1 prp2 len = UsesUp-to IsUsedUp 0 0 (read_prp mapped prp1 prp2 len) (read_prp-part mapped prp1 prp2 len)
 
-pub read_source-in_parts : (pieces : List Piece) (bytes : List ℕ) → total_len pieces ≤ 4096 → AsksInParts (read_source pieces bytes)
+pub read_source-in_parts : (pieces : List Piece) (bytes : List ℕ) → All (λ p. piece_len p ≤ 4096) pieces → AsksInParts (read_source pieces bytes)
 read_source-in_parts pieces bytes few = UsesUp-to (λ rest _. rest ≡ 0) 0 0 (read_source pieces bytes) (read_source-part pieces bytes 0 few)
 
 pub judge-in_parts : (mapped : ℕ → Bool) (limit blocks : ℕ) (entry : List ℕ) → AsksInParts (judge mapped limit blocks entry)

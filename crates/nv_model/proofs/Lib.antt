@@ -10,6 +10,7 @@ pub mod Endings
 pub mod Feedings
 pub mod InParts
 pub mod InPlace
+pub mod InTurn
 pub mod Judged
 pub mod MemoryAlike
 pub mod MemoryLemmas

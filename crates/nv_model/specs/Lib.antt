@@ -14,6 +14,7 @@ pub mod Carried
 pub mod Footprint
 pub mod Laws
 pub mod Parts
+pub mod Readers
 pub mod Endings
 pub mod SglSequence
 pub mod PrpAddresses
