@@ -12,8 +12,6 @@ mod path;
 mod physical;
 #[cfg(test)]
 mod scripts;
-#[cfg(test)]
-mod tests;
 
 use crate::thin::physical::BLOCK;
 use nv_entry::{Cqe, Sqe};

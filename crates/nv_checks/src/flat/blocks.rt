@@ -1,148 +1,241 @@
 //! Commands through one Data Block, or none.
 
 use crate::flat::{
-    COMPARE_BY_SGL, DIFFERS, READ_BY_SGL, SUCCESS, WRITE_BY_SGL, block_is, blocks_are, changed,
-    filled_are, is_kept, marks_are, prepared, put, run,
+    COMPARE_BY_SGL, DIFFERS, SUCCESS, WRITE_BY_SGL, block_is, blocks_are, changed, filled_are,
+    is_kept, marks_are, prepared, put, run,
 };
 use nv_flat::FlatController;
 use std::alloc::Global;
 use std::process::Abort;
 use std::test::Fail;
 
-#[test]
-fn reads_a_block(rt: HostRuntime) -> Result<(), Fail> {
-    // where the buffer lies, in 20000h bytes of memory, and the bytes before it and behind it, which stay zeros
-    for (addr, before, behind) in [
-        (0x3000, 0x2e00, 0x3200),
-        (0x3002, 0x2e02, 0x3202),
-        (0x1_fe00, 0x1_fc00, 0),
-    ] {
-        let mut controller = prepared(&rt, rt.alloc())?;
-        let sqe = changed(&rt, &[(6, addr)]);
-        run(&rt, rt.alloc(), &mut controller, &sqe, SUCCESS)?;
-        let memory = [(u64::from(addr), 0x55), (before, 0), (behind, 0)];
-        filled_are(&rt, &controller, &memory);
-        blocks_are(&rt, &controller, &[(5, 0x55)]);
-        marks_are(&rt, &controller, &[(5, false)]);
-    }
-    Ok(())
+/// Commands one after another, and what stands in memory and on the disk behind them.
+struct Case {
+    /// Bytes that stand in the memory before: where, which, and how many.
+    stored: &'static [(u64, u8, usize)],
+    /// What is changed of the Read, and the last dword of its completion.
+    commands: &'static [(&'static [(usize, u32)], u32)],
+    memory: &'static [(u64, u8)],
+    blocks: &'static [(u64, u8)],
+    marks: &'static [(u64, bool)],
 }
 
-#[test]
-fn writes_blocks_in_order(rt: HostRuntime) -> Result<(), Fail> {
-    let mut controller = FlatController::new(rt.alloc(), 0x1_0000, 64)?;
-    put(&rt, &mut controller, 0x3000, &[0x11; 512]);
-    put(&rt, &mut controller, 0x3200, &[0x22; 512]);
-    let two = changed(&rt, &[(0, WRITE_BY_SGL), (8, 0x400), (12, 1)]);
-    run(&rt, rt.alloc(), &mut controller, &two, SUCCESS)?;
-    blocks_are(&rt, &controller, &[(4, 0), (5, 0x11), (6, 0x22), (7, 0)]);
-    marks_are(&rt, &controller, &[(5, false), (6, false)]);
-    Ok(())
-}
+/// A Write, a Read, a Write and a Read of block 5: the first and the last with the bit of Force Unit Access.
+const WRITE_THROUGH: (&[(usize, u32)], u32) = (&[(0, WRITE_BY_SGL), (12, 0x4000_0000)], SUCCESS);
 
-#[test]
-fn reads_blocks_in_order(rt: HostRuntime) -> Result<(), Fail> {
-    let mut controller = prepared(&rt, rt.alloc())?;
-    let two = changed(&rt, &[(6, 0x8000), (8, 0x400), (12, 1)]);
-    run(&rt, rt.alloc(), &mut controller, &two, SUCCESS)?;
-    let memory = [(0x7e00, 0), (0x8000, 0x55), (0x8200, 0x66), (0x8400, 0)];
-    filled_are(&rt, &controller, &memory);
-    Ok(())
-}
+const READ_BACK: (&[(usize, u32)], u32) = (&[], SUCCESS);
 
-#[test]
-fn keeps_what_force_unit_access_says(rt: HostRuntime) -> Result<(), Fail> {
-    let mut controller = FlatController::new(rt.alloc(), 0x1_0000, 64)?;
-    // a Write with the bit, a Read without, a Write without, a Read with
-    for (dword, cdw12, want) in [
-        (WRITE_BY_SGL, 0x4000_0000, true),
-        (READ_BY_SGL, 0, true),
-        (WRITE_BY_SGL, 0, false),
-        (READ_BY_SGL, 0x4000_0000, true),
-    ] {
-        let sqe = changed(&rt, &[(0, dword), (12, cdw12)]);
-        run(&rt, rt.alloc(), &mut controller, &sqe, SUCCESS)?;
-        marks_are(&rt, &controller, &[(4, false), (5, want), (6, false)]);
-    }
-    Ok(())
-}
+const WRITE_AGAIN: (&[(usize, u32)], u32) = (&[(0, WRITE_BY_SGL)], SUCCESS);
 
-/// Runs the Read with these changes, which is refused: nothing moves.
-fn is_refused(
+const READ_THROUGH: (&[(usize, u32)], u32) = (&[(12, 0x4000_0000)], SUCCESS);
+
+/// A Compare of two blocks with the bit, that are equal or differ.
+const EQUAL: (&[(usize, u32)], u32) = (
+    &[(0, COMPARE_BY_SGL), (8, 0x400), (12, 0x4000_0001)],
+    SUCCESS,
+);
+
+const UNEQUAL: (&[(usize, u32)], u32) = (
+    &[(0, COMPARE_BY_SGL), (8, 0x400), (12, 0x4000_0001)],
+    DIFFERS,
+);
+
+/// The bit makes the blocks of a Compare kept, also where they differ.
+const COMPARED: &[(u64, bool)] = &[(5, true), (6, true), (7, false)];
+
+/// On a controller of 20000h bytes and 64 blocks, of which block 5 is filled with 55h, block 6 with 66h and block 63 with CDh.
+const CASES: &[Case] = &[
+    // where the buffer lies, and the bytes before it and behind it, which stay zeros
+    // a Read at the start of a page
+    Case {
+        stored: &[],
+        commands: &[(&[(6, 0x3000)], SUCCESS)],
+        memory: &[(0x3000, 0x55), (0x2e00, 0), (0x3200, 0)],
+        blocks: &[(5, 0x55)],
+        marks: &[(5, false)],
+    },
+    // a Read inside a page
+    Case {
+        stored: &[],
+        commands: &[(&[(6, 0x3002)], SUCCESS)],
+        memory: &[(0x3002, 0x55), (0x2e02, 0), (0x3202, 0)],
+        blocks: &[(5, 0x55)],
+        marks: &[(5, false)],
+    },
+    // a Read at the end of the memory
+    Case {
+        stored: &[],
+        commands: &[(&[(6, 0x1_fe00)], SUCCESS)],
+        memory: &[(0x1_fe00, 0x55), (0x1_fc00, 0), (0, 0)],
+        blocks: &[(5, 0x55)],
+        marks: &[(5, false)],
+    },
+    // a Read of two blocks, in order
+    Case {
+        stored: &[],
+        commands: &[(&[(6, 0x8000), (8, 0x400), (12, 1)], SUCCESS)],
+        memory: &[(0x7e00, 0), (0x8000, 0x55), (0x8200, 0x66), (0x8400, 0)],
+        blocks: &[],
+        marks: &[],
+    },
+    // a Read of the last block
+    Case {
+        stored: &[],
+        commands: &[(&[(10, 63)], SUCCESS)],
+        memory: &[(0x3000, 0xcd)],
+        blocks: &[],
+        marks: &[],
+    },
+    // a Write of two blocks, in order
+    Case {
+        stored: &[(0x3000, 0x11, 512), (0x3200, 0x22, 512)],
+        commands: &[(&[(0, WRITE_BY_SGL), (8, 0x400), (12, 1)], SUCCESS)],
+        memory: &[],
+        blocks: &[(4, 0), (5, 0x11), (6, 0x22), (7, 0)],
+        marks: &[(5, false), (6, false)],
+    },
+    // what Force Unit Access says: a Write with the bit, a Read without, a Write without, a Read with
+    // a Write with the bit
+    Case {
+        stored: &[],
+        commands: &[WRITE_THROUGH],
+        memory: &[],
+        blocks: &[],
+        marks: &[(4, false), (5, true), (6, false)],
+    },
+    // a Read without the bit behind it
+    Case {
+        stored: &[],
+        commands: &[WRITE_THROUGH, READ_BACK],
+        memory: &[],
+        blocks: &[],
+        marks: &[(4, false), (5, true), (6, false)],
+    },
+    // a Write without the bit behind them
+    Case {
+        stored: &[],
+        commands: &[WRITE_THROUGH, READ_BACK, WRITE_AGAIN],
+        memory: &[],
+        blocks: &[],
+        marks: &[(4, false), (5, false), (6, false)],
+    },
+    // a Read with the bit behind all
+    Case {
+        stored: &[],
+        commands: &[WRITE_THROUGH, READ_BACK, WRITE_AGAIN, READ_THROUGH],
+        memory: &[],
+        blocks: &[],
+        marks: &[(4, false), (5, true), (6, false)],
+    },
+    // where a byte of a Compare's buffer is changed, and to what
+    // a Compare whose last byte differs
+    Case {
+        stored: &[(0x3000, 0x55, 512), (0x3200, 0x66, 512), (0x33ff, 0, 1)],
+        commands: &[UNEQUAL],
+        memory: &[],
+        blocks: &[(5, 0x55), (6, 0x66)],
+        marks: COMPARED,
+    },
+    // a Compare of equal blocks
+    Case {
+        stored: &[(0x3000, 0x55, 512), (0x3200, 0x66, 512), (0x33ff, 0x66, 1)],
+        commands: &[EQUAL],
+        memory: &[],
+        blocks: &[(5, 0x55), (6, 0x66)],
+        marks: COMPARED,
+    },
+    // a Compare whose first byte differs
+    Case {
+        stored: &[(0x3000, 0x55, 512), (0x3200, 0x66, 512), (0x3000, 0x54, 1)],
+        commands: &[UNEQUAL],
+        memory: &[],
+        blocks: &[(5, 0x55), (6, 0x66)],
+        marks: COMPARED,
+    },
+];
+
+/// A prepared controller whose memory holds these bytes.
+fn holding(
     rt: &impl Abort,
     alloc: Global,
-    changes: &[(usize, u32)],
-    want: u32,
-) -> Result<(), Fail> {
+    stored: &[(u64, u8, usize)],
+) -> Result<FlatController, Fail> {
     let mut controller = prepared(rt, alloc)?;
-    run(rt, alloc, &mut controller, &changed(rt, changes), want)?;
-    filled_are(rt, &controller, &[(0x3000, 0)]);
-    blocks_are(rt, &controller, &[(5, 0x55), (6, 0x66)]);
+    assert!(rt; controller.blocks() == 64);
+    controller.paint(63, 0xcd);
+    for (addr, byte, len) in stored {
+        assert!(rt; *len <= 512);
+        put(rt, &mut controller, *addr, &[*byte; 512][..*len]);
+    }
+    Ok(controller)
+}
+
+fn run_all(
+    rt: &impl Abort,
+    alloc: Global,
+    controller: &mut FlatController,
+    commands: &[(&[(usize, u32)], u32)],
+) -> Result<(), Fail> {
+    for (changes, want) in commands {
+        run(rt, alloc, controller, &changed(rt, changes), *want)?;
+    }
     Ok(())
 }
+
+fn is_as_expected(rt: &impl Abort, controller: &FlatController, case: &Case) {
+    filled_are(rt, controller, case.memory);
+    blocks_are(rt, controller, case.blocks);
+    marks_are(rt, controller, case.marks);
+}
+
+fn check(rt: &impl Abort, alloc: Global, cases: &[Case]) -> Result<(), Fail> {
+    for case in cases {
+        let mut controller = holding(rt, alloc, case.stored)?;
+        run_all(rt, alloc, &mut controller, case.commands)?;
+        is_as_expected(rt, &controller, case);
+    }
+    Ok(())
+}
+
+#[test]
+fn reads_writes_and_compares(rt: HostRuntime) -> Result<(), Fail> {
+    check(&rt, rt.alloc(), CASES)
+}
+
+// A Read with these changes, which is refused with this last dword: nothing moves.
+macro_rules! refused {
+    ($want:expr, $changes:expr) => {
+        Case {
+            stored: &[],
+            commands: &[($changes, $want)],
+            memory: &[(0x3000, 0)],
+            blocks: &[(5, 0x55), (6, 0x66)],
+            marks: &[],
+        }
+    };
+}
+
+const REFUSED: &[Case] = &[
+    refused!(0x8101_0007, &[(10, 63), (12, 1), (8, 0x400)]),
+    refused!(
+        0x8101_0007,
+        &[(10, 0xffff_ffff), (11, 0xffff_ffff), (12, 1), (8, 0x400)]
+    ),
+    refused!(0x8005_0007, &[(0, 0x0007_c002)]),
+    refused!(0x8005_0007, &[(12, 256)]),
+    refused!(0x8017_0007, &[(1, 2)]),
+    refused!(0x8003_0007, &[(0, 0x0007_4004)]),
+    refused!(0x8005_0007, &[(0, 0x0007_4104)]),
+    refused!(0x8009_0007, &[(6, 0x2_0000)]),
+    refused!(0x8009_0007, &[(6, 0x1_ffc0)]),
+    refused!(0x801f_0007, &[(8, 0x400)]),
+    refused!(0x8023_0007, &[(9, 0x0100_0000)]),
+    refused!(0x8027_0007, &[(0, 0x0007_0002), (6, 0x3002)]),
+];
 
 #[test]
 fn refuses_without_a_move(rt: HostRuntime) -> Result<(), Fail> {
-    // dword 3 of the completion, and what is changed of the Read
-    let table: [(u32, &[(usize, u32)]); 12] = [
-        (0x8101_0007, &[(10, 63), (12, 1), (8, 0x400)]),
-        (
-            0x8101_0007,
-            &[(10, 0xffff_ffff), (11, 0xffff_ffff), (12, 1), (8, 0x400)],
-        ),
-        (0x8005_0007, &[(0, 0x0007_c002)]),
-        (0x8005_0007, &[(12, 256)]),
-        (0x8017_0007, &[(1, 2)]),
-        (0x8003_0007, &[(0, 0x0007_4004)]),
-        (0x8005_0007, &[(0, 0x0007_4104)]),
-        (0x8009_0007, &[(6, 0x2_0000)]),
-        (0x8009_0007, &[(6, 0x1_ffc0)]),
-        (0x801f_0007, &[(8, 0x400)]),
-        (0x8023_0007, &[(9, 0x0100_0000)]),
-        (0x8027_0007, &[(0, 0x0007_0002), (6, 0x3002)]),
-    ];
-    for (want, changes) in table {
-        is_refused(&rt, rt.alloc(), changes, want)?;
-    }
-    Ok(())
-}
-
-#[test]
-fn reads_the_last_block(rt: HostRuntime) -> Result<(), Fail> {
-    let mut controller = FlatController::new(rt.alloc(), 0x1_0000, 64)?;
-    assert!(rt; controller.blocks() == 64);
-    controller.paint(63, 0xcd);
-    let sqe = changed(&rt, &[(10, 63)]);
-    run(&rt, rt.alloc(), &mut controller, &sqe, SUCCESS)?;
-    filled_are(&rt, &controller, &[(0x3000, 0xcd)]);
-    Ok(())
-}
-
-#[test]
-fn compares(rt: HostRuntime) -> Result<(), Fail> {
-    // where a byte of the buffer is changed, to what, and the last dword
-    for (addr, byte, want) in [
-        (0x33ff, 0, DIFFERS),
-        (0x33ff, 0x66, SUCCESS),
-        (0x3000, 0x54, DIFFERS),
-    ] {
-        let mut controller = prepared(&rt, rt.alloc())?;
-        put(&rt, &mut controller, 0x3000, &[0x55; 512]);
-        put(&rt, &mut controller, 0x3200, &[0x66; 512]);
-        put(&rt, &mut controller, addr, &[byte]);
-        let changes = [(0, COMPARE_BY_SGL), (8, 0x400), (12, 0x4000_0001)];
-        run(
-            &rt,
-            rt.alloc(),
-            &mut controller,
-            &changed(&rt, &changes),
-            want,
-        )?;
-        blocks_are(&rt, &controller, &[(5, 0x55), (6, 0x66)]);
-        // a set FUA bit makes the blocks kept, also where they differ
-        marks_are(&rt, &controller, &[(5, true), (6, true), (7, false)]);
-    }
-    Ok(())
+    check(&rt, rt.alloc(), REFUSED)
 }
 
 /// Block 5 is kept or not, and all others are kept.
