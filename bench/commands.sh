@@ -5,7 +5,8 @@
 # Each kind runs at a number of commands and at half of it, so that a reader sees time grow linearly. What one run costs beside its
 # commands is measured with none, and taken off. The program is proved and built first, where it is not yet.
 #
-#     bench/commands.sh [COMMANDS]      2,000, where nothing is given
+#     bench/commands.sh [COMMANDS]                    2,000, where nothing is given
+#     PEER=PROGRAM bench/commands.sh [COMMANDS]       the same, with the speed set beside that of another program of the same scripts
 set -euo pipefail
 export LC_ALL=C
 
@@ -54,25 +55,28 @@ script() {
 
 set_up >"$room/set-up"
 cp "$room/set-up" "$room/script"
-none=$(nanoseconds)
+run_script
+none=$took
+peer_none=$peer_took
 
 measure() {
-    local name=$1 entry=$2 bytes=$3 n took
+    local name=$1 entry=$2 bytes=$3 n
     for n in $((commands / 2)) "$commands"; do
         script "$n" "$entry" >"$room/script"
-        took=$(nanoseconds)
+        run_script
         if [[ $(grep -c '00010007000100$' "$room/output") -ne $n ]]; then
             echo "$name: a command did not succeed" >&2
             exit 1
         fi
-        awk -v name="$name" -v n="$n" -v took="$((took - none))" -v bytes="$bytes" 'BEGIN {
+        awk -v name="$name" -v n="$n" -v took="$((took - none))" -v bytes="$bytes" \
+            -v beside="$(beside $((took - none)) $((peer_took - peer_none)))" 'BEGIN {
             seconds = took / 1000000000
             if (seconds < 0.001) {
                 printf "%-34s %6d commands: too short to tell\n", name, n
                 exit
             }
-            printf "%-34s %6d commands: %7.3f s, %9.0f commands a second, %7.0f MiB a second\n",
-                name, n, seconds, n / seconds, n * bytes / seconds / 1048576
+            printf "%-34s %6d commands: %7.3f s, %9.0f commands a second, %7.0f MiB a second%s\n",
+                name, n, seconds, n / seconds, n * bytes / seconds / 1048576, beside
         }'
     done
 }

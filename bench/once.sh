@@ -4,7 +4,8 @@
 # It runs a script of commands and a dump, each at a length and at half of it, and prints lines a second and MiB a second. Where time
 # grows linearly, the two rates of a pair are about the same. The program is proved and built first, where it is not yet.
 #
-#     bench/once.sh [LINES] [MIB]      100,000 lines and 16 MiB, where nothing is given
+#     bench/once.sh [LINES] [MIB]                    100,000 lines and 16 MiB, where nothing is given
+#     PEER=PROGRAM bench/once.sh [LINES] [MIB]       the same, with the speed set beside that of another program of the same scripts
 set -euo pipefail
 export LC_ALL=C
 
@@ -35,22 +36,21 @@ dump() {
     printf 'memory 16777216\nblocks 1\nfill 0 131072 0xa5\ndump 0 %d\n' "$(($1 * 1048576))"
 }
 
-# How long the script takes, in seconds.
 seconds() {
-    awk -v took="$(nanoseconds)" 'BEGIN { printf "%.3f", took / 1000000000 }'
+    awk -v took="$1" 'BEGIN { printf "%.3f", took / 1000000000 }'
 }
 
 rate() {
-    awk -v amount="$1" -v took="$2" 'BEGIN { printf "%.0f", amount / took }'
+    awk -v amount="$1" -v took="$2" 'BEGIN { printf "%.0f", amount * 1000000000 / took }'
 }
 
 for n in $((lines / 2)) "$lines"; do
     commands "$n" >"$room/script"
-    took=$(seconds)
-    printf '%8d lines: %8s s, %12s lines a second\n' "$n" "$took" "$(rate "$n" "$took")"
+    run_script
+    printf '%8d lines: %8s s, %12s lines a second%s\n' "$n" "$(seconds "$took")" "$(rate "$n" "$took")" "$(beside "$took" "$peer_took")"
 done
 for n in $((mib / 2)) "$mib"; do
     dump "$n" >"$room/script"
-    took=$(seconds)
-    printf '%8d MiB dumped: %3s s, %12s MiB a second\n' "$n" "$took" "$(rate "$n" "$took")"
+    run_script
+    printf '%8d MiB dumped: %3s s, %12s MiB a second%s\n' "$n" "$(seconds "$took")" "$(rate "$n" "$took")" "$(beside "$took" "$peer_took")"
 done

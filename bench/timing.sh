@@ -9,18 +9,46 @@ trap 'rm -rf "$room"' EXIT
 printf 'memory 4096\nblocks 1\n' | "$root/nvmed" once
 program=$root/crates/nvmed/out/nvmed
 
-# Runs the script in `$room/script`, and prints how long it took: the least of five runs, in nanoseconds. What the script printed
-# stands in `$room/output`.
-nanoseconds() {
-    local least="" took start end
+# Another program of the same language of scripts, where one is named: `PEER=PROGRAM bench/..`. Each script runs on both in turn, and
+# its time stands beside ours: 1.00 is as fast, and more is faster than it.
+peer=${PEER:-}
+if [[ -n $peer && ! -x $peer ]]; then
+    echo "$peer is no program" >&2
+    exit 2
+fi
+
+# Runs the script in `$room/script` with a program, and keeps what it printed in a file. Prints how long it took, in nanoseconds.
+one_run() {
+    local start end
+    start=$(date +%s%N)
+    "$1" once <"$room/script" >"$2"
+    end=$(date +%s%N)
+    printf '%s' $((end - start))
+}
+
+# Runs the script in `$room/script`, and sets `took`, and `peer_took` where there is a peer, to how long it took: the least of five runs,
+# in nanoseconds. What the script printed stands in `$room/output`.
+run_script() {
+    local now
+    took=""
+    peer_took=""
     for _ in 1 2 3 4 5; do
-        start=$(date +%s%N)
-        "$program" once <"$room/script" >"$room/output"
-        end=$(date +%s%N)
-        took=$((end - start))
-        if [[ -z $least || $took -lt $least ]]; then
-            least=$took
+        now=$(one_run "$program" "$room/output")
+        [[ -n $took && $took -le $now ]] || took=$now
+        if [[ -n $peer ]]; then
+            now=$(one_run "$peer" "$room/peer-output")
+            [[ -n $peer_took && $peer_took -le $now ]] || peer_took=$now
         fi
     done
-    printf '%s' "$least"
+    if [[ -n $peer ]] && ! cmp -s "$room/output" "$room/peer-output"; then
+        echo "the output of $peer differs" >&2
+        exit 1
+    fi
+}
+
+# The peer's time by ours, where there is a peer and both are long enough to tell.
+beside() {
+    [[ -z $peer ]] || awk -v ours="$1" -v peers="$2" 'BEGIN {
+        if (ours > 0 && peers > 0) printf ", %.2fx the peer", peers / ours
+    }'
 }

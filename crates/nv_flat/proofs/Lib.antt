@@ -1,5 +1,6 @@
 pub mod AskingLemmas
 pub mod BufferLemmas
+pub mod CompareLemmas
 pub mod DatasetLemmas
 pub mod DoneLemmas
 pub mod ExampleLemmas
@@ -10,6 +11,7 @@ pub mod MadeLemmas
 pub mod MoveLemmas
 pub mod OneLemmas
 pub mod PieceLemmas
+pub mod ReadLemmas
 pub mod RunLemmas
 pub mod TransferLemmas
 pub mod VerdictLemmas

@@ -4,4 +4,5 @@ pub mod Listed
 pub mod One
 pub mod Transfer
 pub mod Laws
+pub mod Marks
 pub mod Examples

@@ -1,7 +1,9 @@
 //! The buffer of a command, whose bytes go to or come from its places in order.
 
-ghost use Rattle.std.specs.Prelude.{◌≡◌, ◌++◌, ◌+◌, ◌<◌, ◌≤◌, ◌^◌, [], ℕ, length, take, drop, min, MatchOption};
+ghost use Rattle.std.specs.Prelude.{◌≡◌, ◌++◌, ◌+◌, ◌<◌, ◌≤◌, ◌^◌, ◌==◌, [], ℕ, length, not, take, drop, min, MatchOption};
+ghost use Rattle.std.specs.List.{list_any};
 ghost use Rattle.nv_model.specs.Memory.{gathered, scattered};
+ghost use Rattle.nv_model.specs.Private.{differs};
 ghost use Rattle.nv_mem.specs.Places.{piece_len, places_of, places_of_piece};
 ghost use Rattle.nv_flat.specs.Buffer.{AreBelow, IsFront};
 ghost use Rattle.nv_flat.specs.Flat.{byte_in};
@@ -39,6 +41,7 @@ impl<'a> Buffer<'a> {
     }
 
     /// Takes the front of what is left: a piece of at least one byte, and of `most` bytes at most. None where nothing is left.
+    #[inline(always)]
     fn take_front(&mut self, most: u64) -> Option<Piece>
         requires some { 0 < most }
         requires in_range { AreBelow (2 ^ 64) self.old }
@@ -58,6 +61,7 @@ impl<'a> Buffer<'a> {
     }
 
     /// Gives the bytes to the first of the places that are left, and goes on behind these.
+    #[inline(always)]
     pub(crate) fn put(&mut self, memory: &mut Host, bytes: &[u8])
         requires in_memory { AreBelow (length memory.old) self.old }
         ensures memory { byte_in memory.new ≡ scattered (byte_in memory.old) self.old bytes.now }
@@ -78,6 +82,7 @@ impl<'a> Buffer<'a> {
     }
 
     /// Takes the bytes from the first of the places that are left, and goes on behind these.
+    #[inline(always)]
     pub(crate) fn fetch(&mut self, memory: &Host, out: &mut [u8])
         requires in_memory { AreBelow (length memory.now) self.old }
         requires enough { length out.old ≤ length self.old }
@@ -96,9 +101,33 @@ impl<'a> Buffer<'a> {
             done = end;
         }
     }
+
+    /// Whether the bytes of the first of the places that are left are others than these. It goes on behind these places.
+    #[inline(always)]
+    pub(crate) fn differs(&mut self, memory: &Host, bytes: &[u8]) -> bool
+        requires in_memory { AreBelow (length memory.now) self.old }
+        requires enough { length bytes.now ≤ length self.old }
+        ensures value { result ≡ differs (gathered (byte_in memory.now) (take (length bytes.now) self.old)) bytes.now }
+        ensures rest { self.new ≡ drop (length bytes.now) self.old }
+    {
+        // An address of the memory fits in 64 bits, and so does the end of a run.
+        let _size = memory.len();
+        let mut rest = bytes;
+        let mut differed = false;
+        while !rest.is_empty() {
+            let Some(piece) = self.take_front(rest.len() as u64) else {
+                unreachable!()
+            };
+            let (bytes, others) = rest.split_at(len_of(&piece) as usize);
+            differed = differed || piece_differs(memory, &piece, bytes);
+            rest = others;
+        }
+        differed
+    }
 }
 
 /// How many bytes a piece names.
+#[inline(always)]
 fn len_of(piece: &Piece) -> u64
     ensures { result ≡ piece_len piece.now }
 {
@@ -108,6 +137,7 @@ fn len_of(piece: &Piece) -> u64
 }
 
 /// The front of a piece, `most` bytes at most, and what is left of it.
+#[inline(always)]
 fn cut(piece: Piece, most: u64) -> (Piece, Piece)
     requires in_range { AreBelow (2 ^ 64) (places_of_piece piece) }
     ensures places { places_of_piece piece ≡ places_of_piece result.0 ++ places_of_piece result.1 }
@@ -132,6 +162,7 @@ fn cut(piece: Piece, most: u64) -> (Piece, Piece)
 }
 
 /// Gives bytes to the places of a piece, as many as it has.
+#[inline(always)]
 fn store(memory: &mut Host, piece: &Piece, bytes: &[u8])
     requires in_memory { AreBelow (length memory.old) (places_of_piece piece.now) }
     requires whole { length bytes.now ≡ piece_len piece.now }
@@ -146,6 +177,7 @@ fn store(memory: &mut Host, piece: &Piece, bytes: &[u8])
 }
 
 /// Takes the bytes from the places of a piece. A bucket has none to take: a source names no buckets.
+#[inline(always)]
 fn load(memory: &Host, piece: &Piece, out: &mut [u8])
     requires in_memory { AreBelow (length memory.now) (places_of_piece piece.now) }
     requires whole { length out.old ≡ piece_len piece.now }
@@ -156,4 +188,46 @@ fn load(memory: &Host, piece: &Piece, out: &mut [u8])
         Piece::Run { addr, .. } => memory.load(addr, out),
         Piece::Bucket { .. } => out.fill(0),
     }
+}
+
+/// Whether the bytes of the places of a piece are others than these. Those of a bucket are zeros: a source names no buckets.
+#[inline(always)]
+fn piece_differs(memory: &Host, piece: &Piece, bytes: &[u8]) -> bool
+    requires in_memory { AreBelow (length memory.now) (places_of_piece piece.now) }
+    requires whole { length bytes.now ≡ piece_len piece.now }
+    requires some { 0 < piece_len piece.now }
+    ensures { result ≡ differs (gathered (byte_in memory.now) (places_of_piece piece.now)) bytes.now }
+{
+    match *piece {
+        Piece::Run { addr, len } => differ(memory.bytes(addr, len), bytes),
+        Piece::Bucket { .. } => has_others_than_zeros(bytes),
+    }
+}
+
+/// Whether some byte isn't zero.
+fn has_others_than_zeros(bytes: &[u8]) -> bool
+    ensures { result ≡ list_any (λ byte. not (byte == 0)) bytes.now }
+{
+    bytes.iter().any(|byte| *byte != 0)
+}
+
+/// Whether some bytes are others than as many others. They are compared 64 at a time.
+#[inline(always)]
+fn differ(bytes: &[u8], others: &[u8]) -> bool
+    requires { length bytes.now ≡ length others.now }
+    ensures { result ≡ differs bytes.now others.now }
+{
+    let mut left = bytes;
+    let mut right = others;
+    while let Some((one, more)) = left.split_first_chunk::<64>() {
+        let Some((other, behind)) = right.split_first_chunk::<64>() else {
+            unreachable!()
+        };
+        if *one != *other {
+            return true;
+        }
+        left = more;
+        right = behind;
+    }
+    left != right
 }

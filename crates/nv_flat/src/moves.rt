@@ -1,13 +1,14 @@
 //! Blocks that move between the disk and a buffer, and blocks that become zeros.
 
-ghost use Rattle.std.specs.Prelude.{◌≡◌, ◌+◌, ◌*◌, ◌<◌, ◌≤◌, ℕ, Bool, List, false, length, drop};
+ghost use Rattle.std.specs.Prelude.{◌≡◌, ◌+◌, ◌*◌, ◌<◌, ◌≤◌, ℕ, Bool, List, false, true, length, drop};
 ghost use Rattle.std.specs.List.{range_with_len};
 ghost use Rattle.nv_mem.specs.Places.{places_of};
 ghost use Rattle.nv_mem.specs.declared.piece.Piece.{Piece};
 ghost use Rattle.nv_model.specs.Judge.{KeepAll, MoveBlock, Work};
-ghost use Rattle.nv_model.specs.Carried.{block_work, cleared, cleared_one, moved_on};
+ghost use Rattle.nv_model.specs.Carried.{block_work, cleared, cleared_one, moved_on, units_from, units_moved};
 ghost use Rattle.nv_flat.specs.Buffer.{AreBelow};
 ghost use Rattle.nv_flat.specs.Flat.{flat, moved_of};
+ghost use Rattle.nv_flat.specs.Marks.{mark_of, raised};
 
 use crate::buffer::Buffer;
 use nv_entry::IoOpcode;
@@ -16,31 +17,44 @@ use nv_mem::Host;
 /// The size of a logical block in bytes.
 pub(crate) const BLOCK: usize = 512;
 
-/// Moves a block to the next places of the buffer. A set FUA bit makes it kept.
-pub(crate) fn read_block(
+/// Moves the `count` blocks from `start` on to the buffer, all at once. A set FUA bit makes them kept.
+pub(crate) fn read_blocks(
     memory: &mut Host,
     disk: &[[u8; BLOCK]],
     kept: &mut [bool],
     buffer: &mut Buffer,
-    lba: u64,
+    start: u64,
+    count: u64,
     fua: bool,
 )
     requires in_memory { AreBelow (length memory.old) buffer.old }
-    requires block { lba < length disk.now }
+    requires enough { 512 * count ≤ length buffer.old }
+    requires blocks { start + count ≤ length disk.now }
     requires marks { length kept.old ≡ length disk.now }
-    ensures moved { (index : ℕ) (pieces : List Piece) (differed : Bool) → buffer.old ≡ drop (512 * index) (places_of pieces) →
-        moved_of (flat memory.new disk.now kept.new) differed
-        ≡ moved_on (MoveBlock index lba) (block_work IoOpcode.Read pieces fua) (moved_of (flat memory.old disk.now kept.old) differed) }
+    ensures moved { (pieces : List Piece) → buffer.old ≡ places_of pieces →
+        moved_of (flat memory.new disk.now kept.new) false
+        ≡ units_moved (units_from 0 start count) (block_work IoOpcode.Read pieces fua) (moved_of (flat memory.old disk.now kept.old) false) }
     ensures size { length memory.new ≡ length memory.old }
-    ensures rest { buffer.new ≡ drop 512 buffer.old }
 {
-    buffer.put(memory, &disk[lba as usize]);
+    let blocks = &disk[start as usize..(start + count) as usize];
+    buffer.put(memory, blocks.as_flattened());
     if fua {
+        raise_marks(kept, start, count);
+    }
+}
+
+/// Makes the `count` blocks from `start` on kept.
+fn raise_marks(kept: &mut [bool], start: u64, count: u64)
+    requires { start + count ≤ length kept.old }
+    ensures { mark_of kept.new ≡ raised true start count (mark_of kept.old) }
+{
+    for lba in start..start + count {
         kept[lba as usize] = true;
     }
 }
 
 /// Moves a block from the next places of the buffer. It is kept where the FUA bit is set.
+#[inline(always)]
 pub(crate) fn write_block(
     memory: &Host,
     disk: &mut [[u8; BLOCK]],
@@ -64,6 +78,7 @@ pub(crate) fn write_block(
 
 /// Compares a block with the bytes from the next places of the buffer. A set FUA bit makes it kept. It says whether the command
 /// differs, as it did before or does here.
+#[inline(always)]
 pub(crate) fn compare_block(
     memory: &Host,
     disk: &[[u8; BLOCK]],
@@ -82,9 +97,7 @@ pub(crate) fn compare_block(
         ≡ moved_on (MoveBlock index lba) (block_work IoOpcode.Compare pieces fua) (moved_of (flat memory.now disk.now kept.old) differed) }
     ensures rest { buffer.new ≡ drop 512 buffer.old }
 {
-    let mut bytes = [0; BLOCK];
-    buffer.fetch(memory, &mut bytes);
-    let differs = bytes != disk[lba as usize];
+    let differs = buffer.differs(memory, &disk[lba as usize]);
     if fua {
         kept[lba as usize] = true;
     }

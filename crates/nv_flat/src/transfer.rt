@@ -1,6 +1,6 @@
 //! Commands that move blocks between the disk and a buffer: Read, Write and Compare.
 
-ghost use Rattle.std.specs.Prelude.{◌≡◌, ◌+◌, ◌*◌, ◌<◌, ◌≤◌, ℕ, List, true, false, length, drop};
+ghost use Rattle.std.specs.Prelude.{◌≡◌, ◌≢◌, ◌+◌, ◌*◌, ◌<◌, ◌≤◌, ℕ, List, true, false, length, drop};
 ghost use Rattle.nv_mem.specs.Places.{places_of};
 ghost use Rattle.nv_mem.specs.declared.piece.Piece.{Piece};
 ghost use Rattle.nv_model.specs.Judge.{MoveBlock};
@@ -36,6 +36,18 @@ impl FlatController {
         // The end of the range fits in 64 bits, as the number of blocks does.
         let _blocks = self.blocks();
         let mut buffer = Buffer::new(places);
+        if let IoOpcode::Read = opcode {
+            moves::read_blocks(
+                &mut self.memory,
+                &self.disk,
+                &mut self.kept,
+                &mut buffer,
+                slba,
+                count,
+                fua,
+            );
+            return false;
+        }
         let mut differed = false;
         for index in 0..count {
             differed = self.move_block(opcode, &mut buffer, slba + index, fua, differed);
@@ -43,7 +55,9 @@ impl FlatController {
         differed
     }
 
-    /// Moves one block to or from the next places of the buffer. It says whether a Compare differs, as it did before or does here.
+    /// Moves one block of a Write or Compare from the next places of the buffer. It says whether a Compare differs, as it did before or
+    /// does here.
+    #[inline(always)]
     fn move_block(
         &mut self,
         opcode: IoOpcode,
@@ -53,6 +67,7 @@ impl FlatController {
         differed: bool,
     ) -> bool
         requires transfer { is_transfer opcode ≡ true }
+        requires from_buffer { opcode ≢ IoOpcode.Read }
         requires in_memory { AreBelow (length self.old.memory) buffer.old }
         requires enough { 512 ≤ length buffer.old }
         requires block { lba < length self.old.disk }
@@ -63,17 +78,6 @@ impl FlatController {
         ensures rest { buffer.new ≡ drop 512 buffer.old }
     {
         match opcode {
-            IoOpcode::Read => {
-                moves::read_block(
-                    &mut self.memory,
-                    &self.disk,
-                    &mut self.kept,
-                    buffer,
-                    lba,
-                    fua,
-                );
-                differed
-            }
             IoOpcode::Write => {
                 moves::write_block(
                     &self.memory,

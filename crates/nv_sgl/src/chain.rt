@@ -90,6 +90,7 @@ impl<A: Allocator> Chain<A> {
     }
 
     // Whether what is read next begins an array.
+    #[inline(always)]
     fn begins_array(&self) -> bool
         ensures { result ≡ begins_array self.now }
     {
@@ -104,6 +105,7 @@ impl<A: Allocator> Chain<A> {
 
     /// Reads the descriptors in these bytes, from the cursor on, and gives the cursor behind them. Where no memory is left, the
     /// chain is as it was.
+    #[inline(always)]
     pub(crate) fn read(
         &mut self,
         map: &GuestMap,
@@ -126,6 +128,7 @@ impl<A: Allocator> Chain<A> {
     }
 
     // The same where the bytes go on with the newest array.
+    #[inline(always)]
     fn read_more(
         &mut self,
         map: &GuestMap,
@@ -143,6 +146,7 @@ impl<A: Allocator> Chain<A> {
     }
 
     // The same where an array begins with the bytes.
+    #[inline(always)]
     fn read_first(
         &mut self,
         map: &GuestMap,
@@ -165,6 +169,7 @@ impl<A: Allocator> Chain<A> {
     }
 
     // Puts an array in front of the others.
+    #[inline(always)]
     fn put_in_front(&mut self, blocks: Vec<Descriptor, A>) -> Result<(), NoMemory>
     where
         A: Clone,
@@ -190,6 +195,7 @@ impl<A: Allocator> Chain<A> {
 }
 
 // Adds the pieces that the descriptors of an array name.
+#[inline(always)]
 fn push_array(blocks: &[Descriptor], dest: bool, places: &mut Places) -> Result<(), NoMemory>
     ensures { OnOk result (places.new ≡ places.old ++ pieces_of dest blocks.now) }
 {

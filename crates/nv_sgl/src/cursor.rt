@@ -1,4 +1,4 @@
-ghost use Rattle.std.specs.Prelude.{◌≡◌, false, None, ◌+◌, ◌-◌, ◌*◌, ◌<◌, ◌≤◌, ◌^◌, ◌%◌, IsTrue, IfOk, OnErr, true, length, option_to_list};
+ghost use Rattle.std.specs.Prelude.{◌≡◌, false, None, Some, ◌+◌, ◌-◌, ◌*◌, ◌<◌, ◌≤◌, ◌^◌, ◌%◌, IsTrue, IfOk, OnErr, true, length, option_to_list};
 ghost use Rattle.nv_entry.specs.Descriptor.{address_of, kind_of, length_of};
 ghost use Rattle.nv_mem.specs.GuestMap.{mapped, all_mapped};
 ghost use Rattle.nv_mem.specs.Places.{total_len};
@@ -52,65 +52,90 @@ impl Cursor {
     }
 
     // For how many descriptors there is to be room, where the bytes of `given` are there: for those of the array that may be read.
+    #[inline(always)]
     fn room(&self, given: usize) -> usize
         ensures { given ≤ result }
     {
         given.max(self.left.min(self.budget) as usize)
     }
 
-    /// Behind the next descriptor, before it was looked at.
+    /// Goes behind the next descriptor, before it is looked at.
     #[inline(always)]
-    pub fn past_one(self) -> Self
-        requires left { 0 < self.left }
-        requires budget { 0 < self.budget }
-        requires in_range { self.from + 16 * self.left ≤ 2 ^ 64 }
-        ensures { result ≡ record self { from = self.from + 16; left = self.left - 1; budget = self.budget - 1 } }
+    pub fn pass_one(&mut self)
+        requires left { 0 < self.old.left }
+        requires budget { 0 < self.old.budget }
+        requires in_range { self.old.from + 16 * self.old.left ≤ 2 ^ 64 }
+        ensures { self.new ≡ record self.old { from = self.old.from + 16; left = self.old.left - 1; budget = self.old.budget - 1 } }
     {
-        Cursor {
-            from: self.from + 16,
-            left: self.left - 1,
-            budget: self.budget - 1,
-            ..self
+        self.from += 16;
+        self.left -= 1;
+        self.budget -= 1;
+    }
+
+    /// Looks at `d`, behind which `self` is.
+    #[inline(always)]
+    pub fn look_at(&mut self, map: &GuestMap, dest: bool, d: &Descriptor)
+        requires array { self.old.from + 16 * self.old.left ≤ 2 ^ 64 }
+        requires total { self.old.total + (2 ^ 32 - 1) * (self.old.budget + 1) < 2 ^ 64 }
+        ensures behind { StandsBehind (mapped map.now.regions) dest self.old d.now self.new }
+        ensures in_range { IsInRange self.new }
+    {
+        match d.kind() {
+            Some(DescriptorType::DataBlock) => self.look_at_block(map, dest, d),
+            _ => self.look_at_any(map, dest, d),
         }
     }
 
-    /// Behind `d`, where `self` is behind it before it was looked at.
+    // The same of a Data Block, the most frequent of them.
     #[inline(always)]
-    pub fn behind(self, map: &GuestMap, dest: bool, d: &Descriptor) -> Self
-        requires array { self.from + 16 * self.left ≤ 2 ^ 64 }
-        requires total { self.total + (2 ^ 32 - 1) * (self.budget + 1) < 2 ^ 64 }
-        ensures behind { StandsBehind (mapped map.now.regions) dest self d.now result }
-        ensures in_range { IsInRange result }
+    fn look_at_block(&mut self, map: &GuestMap, _dest: bool, d: &Descriptor)
+        requires block { kind_of d.now ≡ Some DescriptorType.DataBlock }
+        requires array { self.old.from + 16 * self.old.left ≤ 2 ^ 64 }
+        requires total { self.old.total + (2 ^ 32 - 1) * (self.old.budget + 1) < 2 ^ 64 }
+        ensures behind { StandsBehind (mapped map.now.regions) _dest self.old d.now self.new }
+        ensures in_range { IsInRange self.new }
     {
-        let total = self.total + u64::from(bytes_named(d, dest));
-        let fault = self.fault_of(map, d);
-        let next = if fault.is_none() {
-            self.array_behind(d)
+        let len = u64::from(d.length());
+        self.total += len;
+        self.fault = if map.holds(d.address(), len) {
+            None
         } else {
-            self
+            Some(StatusCode::DataTransferError)
         };
-        Cursor {
-            total,
-            fault,
-            ..next
+    }
+
+    // The same of any descriptor.
+    #[inline(always)]
+    fn look_at_any(&mut self, map: &GuestMap, dest: bool, d: &Descriptor)
+        requires array { self.old.from + 16 * self.old.left ≤ 2 ^ 64 }
+        requires total { self.old.total + (2 ^ 32 - 1) * (self.old.budget + 1) < 2 ^ 64 }
+        ensures behind { StandsBehind (mapped map.now.regions) dest self.old d.now self.new }
+        ensures in_range { IsInRange self.new }
+    {
+        let fault = self.fault_of(map, d);
+        self.total += u64::from(bytes_named(d, dest));
+        self.fault = fault;
+        if fault.is_none() {
+            self.follow(d);
         }
     }
 
-    // The array that is read behind `d`.
+    // Goes on with the array that is read behind `d`.
     #[inline(always)]
-    fn array_behind(self, d: &Descriptor) -> Self
-        ensures array { array_at result ≡ array_by (kind_of d.now) (array_at self) d.now }
-        ensures budget { result.budget ≡ self.budget }
+    fn follow(&mut self, d: &Descriptor)
+        ensures array { array_at self.new ≡ array_by (kind_of d.now) (array_at self.old) d.now }
+        ensures budget { self.new.budget ≡ self.old.budget }
+        ensures total { self.new.total ≡ self.old.total }
+        ensures fault { self.new.fault ≡ self.old.fault }
     {
         match d.kind() {
             Some(kind) if kind == DescriptorType::Segment || kind == DescriptorType::LastSegment =>
-                Cursor {
-                    from: u128::from(d.address()),
-                    left: d.length() / 16,
-                    by_last: kind == DescriptorType::LastSegment,
-                    ..self
-                },
-            _ => self,
+                {
+                    self.from = u128::from(d.address());
+                    self.left = d.length() / 16;
+                    self.by_last = kind == DescriptorType::LastSegment;
+                }
+            _ => {}
         }
     }
 
@@ -199,6 +224,7 @@ pub fn piece_of(d: &Descriptor, dest: bool) -> Option<Piece>
 
 /// Reads the descriptors in these bytes, from the cursor on, behind `blocks`, and gives the cursor behind them. Room for the array is
 /// taken at once, with its first bytes. Where no memory is left, the blocks are as they were.
+#[inline(always)]
 pub fn read_part<A: Allocator>(
     map: &GuestMap,
     dest: bool,
@@ -219,7 +245,8 @@ pub fn read_part<A: Allocator>(
             break;
         };
         let d = Descriptor::of(own);
-        cursor = cursor.past_one().behind(map, dest, &d);
+        cursor.pass_one();
+        cursor.look_at(map, dest, &d);
         blocks.push_reserved(d);
         rest = more;
     }

@@ -77,7 +77,8 @@ impl<'a, A: Allocator + Clone> SglParse<'a, A> {
             and_then (read_sgl (mapped map.now.regions) dest limit first) (λ reading. End (sized need reading))) }
         ensures chain { IfOk result (λ parse. parse.chain ≡ (first ∷ []) ∷ []) }
     {
-        let cursor = Cursor::at_own(limit).behind(map, dest, &first);
+        let mut cursor = Cursor::at_own(limit);
+        cursor.look_at(map, dest, &first);
         Ok(SglParse {
             map,
             dest,
@@ -102,6 +103,7 @@ impl<'a, A: Allocator + Clone> SglParse<'a, A> {
 
     /// What the parse wants to be fed, or how it ended. The bytes of an array are wanted from its start on, 4,096 at a time, the
     /// last what is left.
+    #[inline(always)]
     pub fn wants(&self) -> Want
         ensures { result ≡ want_of (dialogue_of self.now) }
     {
@@ -131,6 +133,7 @@ impl<'a, A: Allocator + Clone> SglParse<'a, A> {
     }
 
     /// Reads on with the bytes that were wanted. Where no memory is left, the parse is as it was.
+    #[inline(always)]
     pub fn feed(&mut self, bytes: &[u8]) -> Result<(), NoMemory>
         requires { (addr : ℕ) × (want_of (dialogue_of self.old) ≡ Want.Read addr (length bytes.now)) }
         ensures dialogue { OnOk result (dialogue_of self.new ≡ fed (dialogue_of self.old) bytes.now) }

@@ -10,8 +10,8 @@ loop-rest-preserved g c =
     let some : 16 ≤ length c.loop-rest.rest.now = omega arith in
     record {
       progress = Progress-next
-          _ _ _ _ _ _ _ _ _ _ _ _ _ c.loop-rest.invariant.progress asking some c.past_one.ensures (c.of-d.ensures ∙ c.in-Some.ensures.cases.0)
-          c.in-Some.ensures.cases.1 c.push_reserved.ensures.items c.behind-cursor.ensures.behind c.behind-cursor.ensures.in_range;
+          _ _ _ _ _ _ _ _ _ _ _ _ _ c.loop-rest.invariant.progress asking some c.pass_one.ensures (c.of-d.ensures ∙ c.in-Some.ensures.cases.0)
+          c.in-Some.ensures.cases.1 c.push_reserved.ensures.items c.look_at.ensures.behind c.look_at.ensures.in_range;
       room =
           let len = c.push_reserved.ensures.len in
           let capacity = c.push_reserved.ensures.capacity in

@@ -1,0 +1,104 @@
+-- Blocks that are read all at once
+use Rattle.std.proofs.Common.{◌≡◌, ℕ, zero, suc, ◌+◌, ◌-◌, ◌*◌, ◌<◌, ◌≤◌, Bool, true, false, ◌||◌, List, [], ◌∷◌, ◌++◌, length, get_or, set, take, drop, refl, sym, ap, ◌∙◌, arith}
+use Rattle.std.specs.List.{flat_map, slice_index_or}
+use Rattle.std.proofs.lemmas.List.{drop-drop, length-drop, length-take-le, take-append-drop}
+use Rattle.std.proofs.Math.Seq.{drop-cons}
+use Rattle.nv_entry.specs.declared.opcode.IoOpcode.TheVariants.{Read}
+use Rattle.nv_mem.specs.Places.{Place, places_of}
+use Rattle.nv_mem.specs.declared.piece.Piece.{Piece}
+use Rattle.nv_model.specs.Memory.{scattered}
+use Rattle.nv_model.proofs.MemoryLemmas.{scattered-append}
+use Rattle.nv_model.specs.Judge.{Work, MoveBlock}
+use Rattle.nv_model.specs.Private.{Moved, block_bytes, marked}
+use Rattle.nv_model.specs.Carried.{block_work, moved_on, units_from, units_moved}
+use Rattle.nv_flat.specs.Flat.{byte_in, byte_of_block, flat, moved_of}
+use Rattle.nv_flat.specs.Marks.{mark_of, raised}
+use Rattle.nv_flat.proofs.BufferLemmas.{scattered-no_bytes}
+use Rattle.nv_flat.proofs.MoveLemmas.{block_bytes-list, marks-raised, marks-same, moved}
+
+-- the bytes of blocks, one behind the other
+abbrev pub joined : List (List ℕ) → List ℕ
+joined blocks = flat_map (λ x. x) blocks
+
+-- bytes are given to the first places, and the others to those behind them
+scattered-split : (m : ℕ → ℕ) (places : List Place) (bytes rest : List ℕ) → length bytes ≡ 512 → 512 ≤ length places
+    → scattered (scattered m (take 512 places) bytes) (drop 512 places) rest ≡ scattered m places (bytes ++ rest)
+scattered-split m places bytes rest sized enough =
+    sym (scattered-append m (take 512 places) (drop 512 places) bytes rest (length-take-le 512 places enough ∙ sym sized))
+    ∙ ap (λ (ps : List Place). scattered m ps (bytes ++ rest)) (take-append-drop 512 places)
+
+-- the first of some blocks, and those behind it
+joined-more : (disk : List (List ℕ)) (lba n : ℕ) → lba < length disk
+    → joined (take (suc n) (drop lba disk)) ≡ slice_index_or disk lba [] ++ joined (take n (drop (lba + 1) disk))
+joined-more disk lba n below =
+    let next : suc lba ≡ lba + 1 = omega arith in
+    ap (λ (blocks : List (List ℕ)). joined (take (suc n) blocks)) (drop-cons disk lba [] below)
+    ∙ ap (λ (k : ℕ). slice_index_or disk lba [] ++ joined (take n (drop k disk))) next
+
+-- the units of a Read give the bytes of its blocks to the places in order
+pub read-all : (n i lba : ℕ) (m : ℕ → ℕ) (disk : List (List ℕ)) (kept : ℕ → Bool) (pieces : List Piece) (fua : Bool)
+    → lba + n ≤ length disk → ((k : ℕ) → k < length disk → length (slice_index_or disk k []) ≡ 512)
+    → 512 * (i + n) ≤ length (places_of pieces)
+    → units_moved (units_from i lba n) (block_work Read pieces fua) (record { memory = m; disk = byte_of_block disk; kept = kept; differed = false })
+    ≡ record { memory = scattered m (drop (512 * i) (places_of pieces)) (joined (take n (drop lba disk))); disk = byte_of_block disk; kept = raised fua lba n kept; differed = false }
+unfolding units_from units_moved raised
+read-all zero i lba m disk kept pieces fua within sized enough = moved m _ (byte_of_block disk) _ kept _ false false (sym (scattered-no_bytes m (drop (512 * i) (places_of pieces)) [] refl)) refl refl refl
+read-all (suc n) i lba m disk kept pieces fua within sized enough =
+    let places : List Place = drop (512 * i) (places_of pieces) in
+    let block : List ℕ = slice_index_or disk lba [] in
+    let rest : List ℕ = joined (take n (drop (lba + 1) disk)) in
+    let below : lba < length disk = omega arith in
+    let here : length block ≡ 512 = sized lba below in
+    let count = length-drop (512 * i) (places_of pieces) in
+    let some : 512 ≤ length places = omega arith in
+    let first : ℕ → ℕ = scattered m (take 512 places) (block_bytes (byte_of_block disk) lba) in
+    let at : 512 * i + 512 ≡ 512 * (i + 1) = omega arith in
+    let memory : scattered first (drop (512 * (i + 1)) (places_of pieces)) rest ≡ scattered m places (joined (take (suc n) (drop lba disk))) =
+    ap (λ (bs : List ℕ). scattered (scattered m (take 512 places) bs) (drop (512 * (i + 1)) (places_of pieces)) rest) (block_bytes-list disk lba here)
+    ∙ ap (λ (k : ℕ). scattered (scattered m (take 512 places) block) (drop k (places_of pieces)) rest) (sym at)
+    ∙ ap (λ (ps : List Place). scattered (scattered m (take 512 places) block) ps rest) (sym (drop-drop 512 (512 * i) (places_of pieces)))
+    ∙ scattered-split m places block rest here some
+    ∙ ap (scattered m places) (sym (joined-more disk lba n below)) in
+    read-all n (i + 1) (lba + 1) first disk (marked kept lba (kept lba || fua)) pieces fua (omega arith) sized (omega arith)
+    ∙ moved _ _ (byte_of_block disk) (byte_of_block disk) _ _ false false memory refl refl refl
+
+-- blocks that were read into the buffer all at once are moved units
+pub read-moved_all : (memory new : List ℕ) (disk : List (List ℕ)) (kept marks : List Bool) (places : List Place) (start count : ℕ) (fua : Bool)
+    → start + count ≤ length disk → ((k : ℕ) → k < length disk → length (slice_index_or disk k []) ≡ 512) → 512 * count ≤ length places
+    → byte_in new ≡ scattered (byte_in memory) places (joined (take count (drop start disk)))
+    → mark_of marks ≡ raised fua start count (mark_of kept)
+    → (pieces : List Piece) → places ≡ places_of pieces
+    → moved_of (flat new disk marks) false ≡ units_moved (units_from 0 start count) (block_work Read pieces fua) (moved_of (flat memory disk kept) false)
+unfolding moved_of
+read-moved_all memory new disk kept marks places start count fua within sized enough scatter mark pieces at =
+    let same : length places ≡ length (places_of pieces) = ap length at in
+    moved (byte_in new) _ (byte_of_block disk) (byte_of_block disk) (mark_of marks) _ false false
+    (scatter ∙ ap (λ (ps : List Place). scattered (byte_in memory) ps (joined (take count (drop start disk)))) at) refl mark refl
+    ∙ sym (read-all count 0 start (byte_in memory) disk (mark_of kept) pieces fua within sized (omega arith))
+
+-- ---- marks
+
+-- one more mark
+pub raised-more : (fua : Bool) (lba left n : ℕ) (kept : ℕ → Bool) → left ≡ suc n → raised fua lba left kept ≡ raised fua (lba + 1) n (marked kept lba (kept lba || fua))
+unfolding raised
+raised-more fua lba left n kept e = rw e refl
+
+-- no more marks
+pub raised-none : (fua : Bool) (lba left : ℕ) (kept : ℕ → Bool) → left ≡ 0 → raised fua lba left kept ≡ kept
+unfolding raised
+raised-none fua lba left kept e = rw e refl
+
+-- where the FUA bit is clear, the marks stay
+pub raised-same : (lba n : ℕ) (kept : List Bool) → raised false lba n (mark_of kept) ≡ mark_of kept
+unfolding raised
+raised-same lba zero kept = refl
+raised-same lba (suc n) kept = ap (raised false (lba + 1) n) (sym (marks-same kept lba)) ∙ raised-same (lba + 1) n kept
+
+-- one more mark is raised
+pub raised-set : (start count lba : ℕ) (kept : List Bool) (done : ℕ → Bool) → lba < start + count → lba < length kept
+    → raised true lba (start + count - lba) (mark_of kept) ≡ done → raised true (lba + 1) (start + count - (lba + 1)) (mark_of (set kept lba true)) ≡ done
+raised-set start count lba kept done below inside so_far =
+    let left : start + count - lba ≡ suc (start + count - (lba + 1)) = omega arith in
+    ap (raised true (lba + 1) (start + count - (lba + 1))) (marks-raised kept lba inside)
+    ∙ sym (raised-more true lba (start + count - lba) (start + count - (lba + 1)) (mark_of kept) left)
+    ∙ so_far
