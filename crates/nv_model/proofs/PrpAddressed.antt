@@ -150,11 +150,11 @@ spells-faultless memory None more out spells = (refl, spells)
 spells-faultless memory (Some code) more out spells = cc
 
 -- the next slot of a list of that many entries, which may go on that many times
-record IsNextSlot (times entries slots from : ℕ) : Type 0 where
-  counted : 0 < entries → slots ≡ slots_of from
-  some : 0 < entries → 0 < slots
-  enough : entries ≤ times + 1
-  last : slots ≡ 1 → 1 < entries → entries ≤ times
+pub record IsNextSlot (times entries slots from : ℕ) : Type 0 where
+  pub counted : 0 < entries → slots ≡ slots_of from
+  pub some : 0 < entries → 0 < slots
+  pub enough : entries ≤ times + 1
+  pub last : slots ≡ 1 → 1 < entries → entries ≤ times
 
 -- a page entry, and what follows
 read_page-spells : (mapped : ℕ → Bool) (memory : ℕ → ℕ) (bytes : ℕ) (pieces : List Piece) (follow : List Piece → Dialogue Reading) (addr : ℕ) (out rest : List Piece)
@@ -172,7 +172,7 @@ spells-if memory true x y out spells so not_so = so refl spells
 spells-if memory false x y out spells so not_so = not_so refl spells
 
 -- where one slot is no pointer, no entry is to come
-alone : (slots pages : ℕ) → (slots == 1 && nat_lt 0 pages) ≡ false → slots ≡ 1 → pages ≡ 0
+pub alone : (slots pages : ℕ) → (slots == 1 && nat_lt 0 pages) ≡ false → slots ≡ 1 → pages ≡ 0
 alone slots pages is one = grind (arith, nat_tests)
 
 -- the run of the first entry, and those of the others
@@ -265,7 +265,7 @@ read_prp2-runs mapped memory (suc (suc pages)) prp2 bytes pieces out spells =
     (λ i below. entry_of-list memory prp2 n i (omega arith)))
 
 -- how many pages are behind PRP1's
-last_page-counts : (prp1 len : ℕ) → 0 < len → pages_of (len - first_len prp1 len) ≡ last_page prp1 len
+pub last_page-counts : (prp1 len : ℕ) → 0 < len → pages_of (len - first_len prp1 len) ≡ last_page prp1 len
 last_page-counts prp1 len some = omega arith
 
 pages_of-fit : (bytes : ℕ) → bytes ≤ pages_of bytes * 4096

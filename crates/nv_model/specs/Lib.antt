@@ -18,5 +18,6 @@ pub mod Readers
 pub mod Endings
 pub mod SglSequence
 pub mod PrpAddresses
+pub mod PrpEntries
 pub mod Rows
 pub mod RowsRuns
