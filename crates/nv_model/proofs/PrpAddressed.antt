@@ -13,6 +13,7 @@ use Rattle.nv_model.specs.Reading.{Reading, Spells, run, unless_faulty}
 use Rattle.nv_model.specs.Prp.{entry_fault, first_len, page, pages_of, read_entries, read_page, read_prp, read_prp2, slots_of}
 use Rattle.nv_model.specs.PrpAddresses.{byte_address, entry_of, last_page, slot_at, slot_of}
 use Rattle.nv_model.proofs.Endings.{and-true}
+use Rattle.nv_model.proofs.Spelled.{pages_of-fit}
 use Rattle.nv_model.proofs.Asking.{entry_fault-mapped}
 
 -- ---- places of runs
@@ -175,6 +176,11 @@ spells-if memory false x y out spells so not_so = not_so refl spells
 pub alone : (slots pages : ℕ) → (slots == 1 && nat_lt 0 pages) ≡ false → slots ≡ 1 → pages ≡ 0
 alone slots pages is one = grind (arith, nat_tests)
 
+-- and where one is to come, others stand on the page
+pub many : (slots pages at : ℕ) → (slots == 1 && nat_lt 0 pages) ≡ false → 0 < slots → 0 < pages → slots ≡ at → 1 < at
+many slots pages at is some left same =
+    (elim (eq-or-lt_of_le some) [ inl one ↦ (let none = alone slots pages is (sym one) in absurd (omega arith)) | inr two ↦ omega arith ])
+
 -- the run of the first entry, and those of the others
 runs_of-first : (memory : ℕ → ℕ) (pages bytes : ℕ) (pieces out : List Piece) (f g : ℕ → ℕ) (addr : ℕ)
     → f 0 ≡ addr → ((i : ℕ) → i < pages → f (suc i) ≡ g i)
@@ -222,18 +228,15 @@ read_entries-runs mapped memory times (suc pages) slots from bytes pieces out ne
     let enough = next.enough in
     runs_of-first memory pages bytes pieces out (λ i. slot_of memory times from (suc pages) i) (λ i. slot_of memory times (from + 8) pages i) from
     (slot_of-first memory times from (suc pages) (λ one. let none = alone slots pages is (omega arith) in omega arith) (omega arith))
-    (λ i below. slot_of-next memory times from pages i (many slots pages is some (omega arith) counted))
+    (λ i below. slot_of-next memory times from pages i (many slots pages _ is some (omega arith) counted))
     (read_page-spells mapped memory bytes pieces (λ ps. read_entries mapped pages (slots - 1) (from + 8) (bytes - page) ps) (slot_at memory from) out _ here
     (λ behind. read_entries-runs mapped memory times pages (slots - 1) (from + 8) (bytes - page) (pieces ++ run (slot_at memory from) (min bytes page)) out
     (record {
-      counted = λ left. let two = many slots pages is some left counted in omega arith;
-      some = λ left. let two = many slots pages is some left counted in omega arith;
+      counted = λ left. let two = many slots pages _ is some left counted in omega arith;
+      some = λ left. let two = many slots pages _ is some left counted in omega arith;
       enough = omega arith;
       last = λ single left. omega arith;
     }) behind)))
-  where
-    many : (slots pages : ℕ) {at : ℕ} → (slots == 1 && nat_lt 0 pages) ≡ false → 0 < slots → 0 < pages → slots ≡ at → 1 < at
-    many slots pages {at} is some left same = (elim (eq-or-lt_of_le some) [ inl one ↦ (let none = alone slots pages is (sym one) in absurd (omega arith)) | inr two ↦ omega arith ])
 
 -- ---- PRP1 and PRP2
 
@@ -267,9 +270,6 @@ read_prp2-runs mapped memory (suc (suc pages)) prp2 bytes pieces out spells =
 -- how many pages are behind PRP1's
 pub last_page-counts : (prp1 len : ℕ) → 0 < len → pages_of (len - first_len prp1 len) ≡ last_page prp1 len
 last_page-counts prp1 len some = omega arith
-
-pages_of-fit : (bytes : ℕ) → bytes ≤ pages_of bytes * 4096
-pages_of-fit bytes = omega arith
 
 -- each byte lies in its page
 pub read_prp-at : (mapped : ℕ → Bool) (memory : ℕ → ℕ) (prp1 prp2 len : ℕ) (out : List Piece) (i : ℕ)

@@ -15,14 +15,10 @@ use Rattle.nv_model.specs.PrpAddresses.{last_page, slot_at}
 use Rattle.nv_model.specs.PrpEntries.{IsFaultlessEntry, PrpEntry, entries_at, entries_behind, entry_fault_of, list_entries, list_pointer, page_entry, transfer_entries}
 use Rattle.nv_model.proofs.Endings.{and-true}
 use Rattle.nv_model.proofs.Asking.{entry_fault-mapped}
-use Rattle.nv_model.proofs.PrpAddressed.{IsNextSlot, alone, last_page-counts}
+use Rattle.nv_model.proofs.PrpAddressed.{IsNextSlot, alone, last_page-counts, many}
+use Rattle.nv_model.proofs.SglSequenced.{unless}
 
 -- ---- entries in a row
-
--- a fault ends it
-abbrev unless : Option StatusCode → Reading → Reading
-unless (Some code) more = Faulty code
-unless None more = more
 
 -- the reading, where these decide first
 abbrev decided : (ℕ → Bool) → List PrpEntry → Reading → Reading
@@ -215,14 +211,11 @@ read_entries-decided mapped memory times (suc pages) slots from bytes pieces nex
     (follow (pieces ++ run (slot_at memory from) (min bytes page)))
     (λ _. read_entries-decided mapped memory times pages (slots - 1) (from + 8) (bytes - page) (pieces ++ run (slot_at memory from) (min bytes page))
     (record {
-      counted = λ left. let two = many slots pages is some left counted in omega arith;
-      some = λ left. let two = many slots pages is some left counted in omega arith;
+      counted = λ left. let two = many slots pages _ is some left counted in omega arith;
+      some = λ left. let two = many slots pages _ is some left counted in omega arith;
       enough = omega arith;
       last = λ single left. omega arith;
     }))))
-  where
-    many : (slots pages : ℕ) {at : ℕ} → (slots == 1 && nat_lt 0 pages) ≡ false → 0 < slots → 0 < pages → slots ≡ at → 1 < at
-    many slots pages {at} is some left same = (elim (eq-or-lt_of_le some) [ inl one ↦ (let none = alone slots pages is (sym one) in absurd (omega arith)) | inr two ↦ omega arith ])
 
 -- the pages behind PRP1's
 read_prp2-decided : (mapped : ℕ → Bool) (memory : ℕ → ℕ) (pages prp2 bytes : ℕ) (pieces : List Piece)
