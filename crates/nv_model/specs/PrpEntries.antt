@@ -1,6 +1,6 @@
--- The entries that a transfer by physical region pages meets, in order. Base Specification 2.0, "Physical Region Page Entry and List": PRP1;
--- then PRP2, as the entry of the second page, or as the pointer to a list; then the entries of the list, page by page, and behind those of
--- a list page that can't hold all the pointer to the next.
+-- The entries that a transfer by physical region pages meets, in order. Base Specification 2.0, "Physical Region Page
+-- Entry and List": PRP1; then PRP2, as the entry of the second page, or as the pointer to a list; then the entries of
+-- the list, page by page, and behind those of a list page that can't hold all the pointer to the next.
 use Rattle.std.specs.Prelude.{◌≡◌, ℕ, zero, suc, ◌+◌, ◌-◌, ◌*◌, ◌%◌, ◌==◌, nat_le, min, Bool, if◌then◌else◌, List, [], ◌∷◌, ◌++◌, Option, None}
 use Rattle.nv_entry.specs.declared.status_code.StatusCode.{StatusCode}
 use Rattle.nv_model.specs.Prp.{entry_fault, page, slots_of}

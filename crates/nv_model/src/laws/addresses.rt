@@ -9,8 +9,8 @@ ghost use Rattle.nv_model.specs.PrpAddresses.{byte_address};
 ghost use Rattle.nv_model.specs.PrpEntries.{IsFaultlessEntry, PrpEntry, entry_fault_of, transfer_entries};
 ghost use Rattle.nv_model.specs.Reading.{Faulty, Spells};
 
-/// Of the entries and list pointers that a transfer meets the first with a fault decides, by the first check that it fails. Where none has one,
-/// pieces are spelled.
+/// Of the entries and list pointers that a transfer meets the first with a fault decides, by the first check that it
+/// fails. Where none has one, pieces are spelled.
 pub fn region_pages_are_checked_in_order()
     ensures faulty { (mapped : ℕ → Bool) (memory : ℕ → ℕ) (prp1 prp2 len i : ℕ) (e : PrpEntry) (code : StatusCode) → 0 < len →
         slice_get (transfer_entries memory prp1 prp2 len) i ≡ Some e → entry_fault_of mapped e ≡ Some code →
