@@ -1,11 +1,10 @@
 -- Dataset Management, once its list is read
-use Rattle.std.proofs.Common.{◌≡◌, ℕ, ◌+◌, ◌*◌, ◌/◌, ◌≤◌, ◌<◌, Bool, true, false, ◌&&◌, ◌==◌, cond, Result, Ok, Err, List, [], ◌∷◌, length, take, drop, refl, sym, ap, ◌∙◌, arith, eq-eqb, inl, inr}
+use Rattle.std.proofs.Common.{◌≡◌, ℕ, ◌+◌, ◌*◌, ◌/◌, ◌≤◌, ◌<◌, Bool, true, false, ◌&&◌, ◌==◌, cond, Result, Ok, Err, List, [], length, take, drop, refl, sym, ap, ◌∙◌, arith, eq-eqb, inl, inr}
 use Rattle.std.specs.Prelude.{IsTrue, ◌↔◌}
 use Rattle.std.specs.List.{list_all, range_with_len}
 use Rattle.std.proofs.lemmas.Bool.{cases_eq}
 use Rattle.std.proofs.lemmas.Bool.Decides.{nat_tests}
 use Rattle.nv_entry.specs.Range.{blocks_of, start_of}
-use Rattle.nv_entry.specs.Submission.{deallocate_of}
 use Rattle.nv_entry.specs.Status.{StatusField}
 use Rattle.nv_entry.specs.StatusCode.{done_with, refused_with}
 use Rattle.nv_entry.specs.declared.opcode.IoOpcode.TheVariants.{DatasetManagement}
@@ -19,18 +18,18 @@ use Rattle.nv_mem.specs.declared.piece.Piece.{Piece}
 use Rattle.nv_model.specs.Dialogue.{End, in_memory}
 use Rattle.nv_model.specs.Memory.{gathered}
 use Rattle.nv_model.specs.Reading.{Spells}
-use Rattle.nv_model.specs.Judge.{OneRange, Work, Refuse, Go, judge_ranges, range_count_of, range_fits, range_units, ranges_in, read_source, work_of}
-use Rattle.nv_model.specs.Carried.{moved_on, units_moved}
-use Rattle.nv_model.specs.Private.{Moved, verdict_in}
+use Rattle.nv_model.specs.Judge.{Work, Refuse, Go, judge_ranges, range_count_of, range_fits, range_units, ranges_in, read_source, work_of, deallocates}
+use Rattle.nv_model.specs.Carried.{cleared, units_moved}
+use Rattle.nv_model.specs.Private.{verdict_in}
 use Rattle.nv_model.proofs.DialogueLemmas.{in_memory-and_then}
 use Rattle.nv_model.proofs.MemoryLemmas.{length-gathered}
-use Rattle.nv_flat.specs.Flat.{Flat, byte_in, cleared, moved_of}
+use Rattle.nv_flat.specs.Flat.{Flat, byte_in, moved_of}
 use Rattle.nv_flat.specs.Listed.{list_reading}
 use Rattle.nv_flat.specs.One.{IsInOrder, IsRun, shape_of}
 use Rattle.nv_flat.proofs.DoneLemmas.{list-verdict, range-within}
 use Rattle.nv_flat.proofs.OneLemmas.{moved-run, refused-run}
 use Rattle.nv_flat.proofs.PieceLemmas.{read_source-gathered, spelled-usable}
-use Rattle.nv_flat.proofs.WorkLemmas.{range-cleared, ranges-kept}
+use Rattle.nv_flat.proofs.WorkLemmas.{deallocated-more, ranges-kept}
 
 -- what is known of a Dataset Management whose list is read, and these are the bytes that it names
 pub record IsManaged (f : Flat) (entry : List ℕ) (pieces : List Piece) (bytes : List ℕ) : Type 0 where
@@ -62,16 +61,16 @@ managed f entry pieces bytes memory places n o read same_memory same_places whol
 
 -- the verdict on it
 managed-verdict : (f : Flat) (entry : List ℕ) (pieces : List Piece) (bytes : List ℕ) → IsManaged f entry pieces bytes
-    → verdict_in (shape_of f) (byte_in f.memory) entry ≡ judge_ranges (length f.disk) entry pieces (ranges_in (length bytes / 16) bytes)
+    → verdict_in (shape_of f) (byte_in f.memory) entry ≡ judge_ranges (length f.disk) DatasetManagement entry pieces (ranges_in (length bytes / 16) bytes)
 unfolding in_memory
 managed-verdict f entry pieces bytes m =
     let usable = spelled-usable f entry (need_of entry DatasetManagement) pieces m.spelled in
     let count : range_count_of entry ≡ length bytes / 16 = (let whole = m.whole in omega arith) in
     list-verdict f entry DatasetManagement (need_of entry DatasetManagement) (Spells pieces) m.in_order refl m.spelled
-    ∙ in_memory-and_then (byte_in f.memory) (read_source pieces []) (λ source. End (judge_ranges (length f.disk) entry pieces (ranges_in (range_count_of entry) source)))
-    ∙ ap (λ (source : List ℕ). judge_ranges (length f.disk) entry pieces (ranges_in (range_count_of entry) source))
+    ∙ in_memory-and_then (byte_in f.memory) (read_source pieces []) (λ source. End (judge_ranges (length f.disk) DatasetManagement entry pieces (ranges_in (range_count_of entry) source)))
+    ∙ ap (λ (source : List ℕ). judge_ranges (length f.disk) DatasetManagement entry pieces (ranges_in (range_count_of entry) source))
     (read_source-gathered (byte_in f.memory) pieces [] (usable.runs refl) ∙ sym m.taken)
-    ∙ ap (λ (n : ℕ). judge_ranges (length f.disk) entry pieces (ranges_in n bytes)) count
+    ∙ ap (λ (n : ℕ). judge_ranges (length f.disk) DatasetManagement entry pieces (ranges_in n bytes)) count
 
 -- the ranges fit, or they don't
 verdict-by_ranges : (all : Bool) (work : Work) (st : StatusField) → ◌≡◌ {A = Result (Unit {0}) StatusField} (cond all (Ok tt) (Err (refused_with LbaOutOfRange))) (Err st)
@@ -93,33 +92,36 @@ managed-refused f entry pieces bytes st m refused =
     refused-run f entry st
     (managed-verdict f entry pieces bytes m
     ∙ verdict-by_ranges (list_all (range_fits (length f.disk)) (ranges_in (length bytes / 16) bytes))
-    (work_of DatasetManagement entry pieces (range_units (ranges_in (length bytes / 16) bytes))) st refused)
+    (work_of (length f.disk) DatasetManagement entry pieces (ranges_in (length bytes / 16) bytes)) st refused)
 
 -- the work of one whose ranges fit
 managed-goes : (f : Flat) (entry : List ℕ) (pieces : List Piece) (bytes : List ℕ) → IsManaged f entry pieces bytes
     → list_all (range_fits (length f.disk)) (ranges_in (length bytes / 16) bytes) ≡ true
-    → verdict_in (shape_of f) (byte_in f.memory) entry ≡ Go (work_of DatasetManagement entry pieces (range_units (ranges_in (length bytes / 16) bytes)))
+    → verdict_in (shape_of f) (byte_in f.memory) entry ≡ Go (work_of (length f.disk) DatasetManagement entry pieces (ranges_in (length bytes / 16) bytes))
 managed-goes f entry pieces bytes m fit =
     managed-verdict f entry pieces bytes m
-    ∙ ap (λ (b : Bool). cond b (Go (work_of DatasetManagement entry pieces (range_units (ranges_in (length bytes / 16) bytes)))) (Refuse (refused_with LbaOutOfRange))) fit
+    ∙ ap (λ (b : Bool). cond b (Go (work_of (length f.disk) DatasetManagement entry pieces (ranges_in (length bytes / 16) bytes))) (Refuse (refused_with LbaOutOfRange))) fit
 
 -- deallocated
 pub managed-deallocated : (f g : Flat) (entry : List ℕ) (pieces : List Piece) (bytes : List ℕ) → IsManaged f entry pieces bytes
-    → list_all (range_fits (length f.disk)) (ranges_in (length bytes / 16) bytes) ≡ true → (deallocate_of entry == 1) ≡ true
-    → ((work : Work) → work.deallocate ≡ true → moved_of g false ≡ units_moved (range_units (ranges_in (length bytes / 16) bytes)) work (moved_of f false))
+    → list_all (range_fits (length f.disk)) (ranges_in (length bytes / 16) bytes) ≡ true → deallocates entry ≡ true
+    → ((work : Work) → moved_of g false ≡ units_moved (range_units true (ranges_in (length bytes / 16) bytes)) work (moved_of f false))
     → IsRun f entry (done_with Success) g
 managed-deallocated f g entry pieces bytes m fit asked moved =
-    let work : Work = work_of DatasetManagement entry pieces (range_units (ranges_in (length bytes / 16) bytes)) in
-    moved-run f g entry work false (managed-goes f entry pieces bytes m fit) (moved work asked)
+    let ranges : List (List ℕ) = ranges_in (length bytes / 16) bytes in
+    let work : Work = work_of (length f.disk) DatasetManagement entry pieces ranges in
+    moved-run f g entry work false (managed-goes f entry pieces bytes m fit)
+    (moved work ∙ ap (λ (flag : Bool). units_moved (range_units flag ranges) work (moved_of f false)) (sym asked))
 
 -- or left as they are
 pub managed-kept : (f : Flat) (entry : List ℕ) (pieces : List Piece) (bytes : List ℕ) → IsManaged f entry pieces bytes
-    → list_all (range_fits (length f.disk)) (ranges_in (length bytes / 16) bytes) ≡ true → (deallocate_of entry == 1) ≡ false
+    → list_all (range_fits (length f.disk)) (ranges_in (length bytes / 16) bytes) ≡ true → deallocates entry ≡ false
     → IsRun f entry (done_with Success) f
 managed-kept f entry pieces bytes m fit unasked =
     let ranges : List (List ℕ) = ranges_in (length bytes / 16) bytes in
-    let work : Work = work_of DatasetManagement entry pieces (range_units ranges) in
-    moved-run f f entry work false (managed-goes f entry pieces bytes m fit) (sym (ranges-kept work ranges (moved_of f false) unasked))
+    let work : Work = work_of (length f.disk) DatasetManagement entry pieces ranges in
+    moved-run f f entry work false (managed-goes f entry pieces bytes m fit)
+    (sym (ranges-kept work ranges (moved_of f false)) ∙ ap (λ (flag : Bool). units_moved (range_units flag ranges) work (moved_of f false)) (sym unasked))
 
 -- a flag that is set exactly where a bit is 1
 pub is-asked : (b : Bool) (n : ℕ) → (IsTrue b ↔ (n ≡ 1)) → (n == 1) ≡ b
@@ -134,16 +136,11 @@ is-asked false n same = elim (cases_eq n 1) [ inl one ↦ let bad = same.1 one i
 -- what it keeps
 pub record IsDeallocating (old : Flat) (all : List ℕ) (f : Flat) (rest : List ℕ) : Type 0 where
   pub fit : list_all (range_fits (length old.disk)) (ranges_in (length rest / 16) rest) ≡ true
-  pub moved : (work : Work) → work.deallocate ≡ true
-      → units_moved (range_units (ranges_in (length rest / 16) rest)) work (moved_of f false) ≡ units_moved (range_units (ranges_in (length all / 16) all)) work (moved_of old false)
+  pub moved : (work : Work)
+      → units_moved (range_units true (ranges_in (length rest / 16) rest)) work (moved_of f false)
+      ≡ units_moved (range_units true (ranges_in (length all / 16) all)) work (moved_of old false)
   pub memory_size : length f.memory ≡ length old.memory
   pub disk_size : length f.disk ≡ length old.disk
-
--- the unit of one more range
-one-more : (range : List ℕ) (ranges : List (List ℕ)) (work : Work) (m : Moved)
-    → units_moved (range_units (range ∷ ranges)) work m ≡ units_moved (range_units ranges) work (moved_on (OneRange (start_of range) (blocks_of range)) work m)
-unfolding range_units units_moved
-one-more range ranges work m = refl
 
 -- the first range fits, and the others do
 both-fit : (blocks : ℕ) (rest range more : List ℕ) → range ≡ take 16 rest → more ≡ drop 16 rest → length more + 16 ≡ length rest
@@ -173,17 +170,17 @@ IsDeallocating-more old all f g rest range more so_far first others sized moved 
     let later : List (List ℕ) = ranges_in (length more / 16) more in
     record {
       fit = (both-fit (length old.disk) rest range more first others sized so_far.fit).1;
-      moved = λ work asked.
-          ap (units_moved (range_units later) work) (moved ∙ sym (range-cleared work (start_of range) (blocks_of range) (moved_of f false) asked))
-          ∙ sym (one-more range later work (moved_of f false))
-          ∙ ap (λ (ranges : List (List ℕ)). units_moved (range_units ranges) work (moved_of f false)) (sym (ranges_in-more rest range more first others sized))
-          ∙ so_far.moved work asked;
+      moved = λ work.
+          ap (units_moved (range_units true later) work) moved
+          ∙ sym (deallocated-more range later work (moved_of f false))
+          ∙ ap (λ (ranges : List (List ℕ)). units_moved (range_units true ranges) work (moved_of f false)) (sym (ranges_in-more rest range more first others sized))
+          ∙ so_far.moved work;
       memory_size = memory_size ∙ so_far.memory_size;
       disk_size = disk_size ∙ so_far.disk_size;
     }
 
 pub IsDeallocating-end : (old : Flat) (all : List ℕ) (f : Flat) (rest : List ℕ) → IsDeallocating old all f rest → length rest < 16
-    → (work : Work) → work.deallocate ≡ true → moved_of f false ≡ units_moved (range_units (ranges_in (length all / 16) all)) work (moved_of old false)
+    → (work : Work) → moved_of f false ≡ units_moved (range_units true (ranges_in (length all / 16) all)) work (moved_of old false)
 unfolding units_moved range_units
-IsDeallocating-end old all f rest so_far few work asked =
-    sym (ap (λ (ranges : List (List ℕ)). units_moved (range_units ranges) work (moved_of f false)) (ranges_in-none rest few)) ∙ so_far.moved work asked
+IsDeallocating-end old all f rest so_far few work =
+    sym (ap (λ (ranges : List (List ℕ)). units_moved (range_units true ranges) work (moved_of f false)) (ranges_in-none rest few)) ∙ so_far.moved work

@@ -1,9 +1,9 @@
 -- What carrying a command out has to show
-use Rattle.std.proofs.Common.{◌≡◌, ℕ, ◌+◌, ◌*◌, ◌≤◌, Bool, true, false, ◌&&◌, ◌==◌, Some, None, Ok, Err, List, [], ◌∷◌, length, refl, sym, ap, subst, ◌∙◌, arith, ◌<◌}
+use Rattle.std.proofs.Common.{◌≡◌, ℕ, ◌+◌, ◌*◌, ◌≤◌, Bool, true, false, ◌&&◌, Some, None, Ok, Err, List, [], length, refl, sym, ap, subst, ◌∙◌, arith, ◌<◌}
 use Rattle.std.specs.List.{range_with_len}
 use Rattle.std.proofs.lemmas.Bool.Decides.{nat_tests}
 use Rattle.nv_entry.specs.Opcode.{io_opcode}
-use Rattle.nv_entry.specs.Submission.{opcode_of, slba_of, fua_of}
+use Rattle.nv_entry.specs.Submission.{opcode_of, slba_of}
 use Rattle.nv_entry.specs.Status.{StatusField}
 use Rattle.nv_entry.specs.StatusCode.{done_with, refused_with}
 use Rattle.nv_entry.specs.declared.opcode.IoOpcode.{IoOpcode}
@@ -15,17 +15,17 @@ use Rattle.nv_mem.specs.declared.piece.Piece.{Piece}
 use Rattle.nv_ns.specs.BlockRange.{in_namespace}
 use Rattle.nv_model.specs.Dialogue.{End, in_memory}
 use Rattle.nv_model.specs.Reading.{Reading, Faulty, TooLong, Spells}
-use Rattle.nv_model.specs.Judge.{Verdict, Work, WorkUnit, AllBlocks, Refuse, Go, block_units, count_of, has_blocks, has_buffer, judge_reading, work_of}
-use Rattle.nv_model.specs.Private.{verdict_in}
-use Rattle.nv_model.specs.Carried.{moved_on, moved_status, units_moved}
-use Rattle.nv_flat.specs.Flat.{Flat, block_work, byte_in, cleared, moved_of, units_from}
+use Rattle.nv_model.specs.Judge.{Verdict, Work, KeepAll, Refuse, Go, count_of, has_blocks, has_buffer, judge_reading, work_of, is_fua, lbas_of}
+use Rattle.nv_model.specs.Private.{moved_status, verdict_in}
+use Rattle.nv_model.specs.Carried.{block_work, cleared, moved_on, units_from, units_moved}
+use Rattle.nv_flat.specs.Flat.{Flat, byte_in, moved_of}
 use Rattle.nv_flat.specs.Listed.{refusal_of_reading, list_reading}
 use Rattle.nv_flat.specs.One.{IsInOrder, IsRun, shape_of}
 use Rattle.nv_flat.specs.Transfer.{is_transfer}
-use Rattle.nv_flat.proofs.MoveLemmas.{block_units-range}
 use Rattle.nv_flat.proofs.OneLemmas.{moved-run, refused-run}
 use Rattle.nv_flat.proofs.VerdictLemmas.{field_verdict-err, field_verdict-ok, count-at_most, in-namespace, verdict-listed, verdict-refused, verdict-unlisted}
-use Rattle.nv_flat.proofs.WorkLemmas.{units_moved-transfer, units_moved-zeroes}
+use Rattle.nv_flat.proofs.WorkLemmas.{units_moved-transfer}
+use Rattle.nv_model.proofs.UnitWords.{units_moved-cleared}
 
 -- ---- the fields
 
@@ -103,16 +103,15 @@ transfer-needs entry WriteZeroes t = (cc)
 transfer-needs entry DatasetManagement t = (cc)
 
 -- the work of a command over blocks whose list is read
-goes-with : (f : Flat) (entry : List ℕ) (opcode : IoOpcode) (pieces : List Piece) → has_blocks opcode ≡ true
-    → in_memory (byte_in f.memory) (judge_reading (length f.disk) entry opcode (Spells pieces))
-    ≡ Go (work_of opcode entry pieces (block_units (range_with_len (slba_of entry) (count_of entry))))
+goes-with : (f : Flat) (entry : List ℕ) (opcode : IoOpcode) (pieces : List Piece) → is_transfer opcode ≡ true
+    → in_memory (byte_in f.memory) (judge_reading (length f.disk) entry opcode (Spells pieces)) ≡ Go (work_of (length f.disk) opcode entry pieces [])
 unfolding in_memory
-goes-with f entry Read pieces ranged = refl
-goes-with f entry Write pieces ranged = refl
-goes-with f entry Compare pieces ranged = refl
-goes-with f entry WriteZeroes pieces ranged = refl
-goes-with f entry Flush pieces ranged = (cc)
-goes-with f entry DatasetManagement pieces ranged = (cc)
+goes-with f entry Read pieces t = refl
+goes-with f entry Write pieces t = refl
+goes-with f entry Compare pieces t = refl
+goes-with f entry WriteZeroes pieces t = (cc)
+goes-with f entry Flush pieces t = (cc)
+goes-with f entry DatasetManagement pieces t = (cc)
 
 -- a Read, Write or Compare whose blocks have moved
 pub transfer-run : (f g : Flat) (entry : List ℕ) (opcode : IoOpcode) (need : Need) (pieces : List Piece) (differed : Bool) → IsInOrder (length f.disk) entry opcode need
@@ -121,16 +120,14 @@ pub transfer-run : (f g : Flat) (entry : List ℕ) (opcode : IoOpcode) (need : N
     → IsRun f entry (moved_status differed) g
 transfer-run f g entry opcode need pieces differed o t read moved =
     let b = buffered opcode t in
-    let units : List WorkUnit = block_units (range_with_len (slba_of entry) (count_of entry)) in
-    let goes = list-verdict f entry opcode need (Spells pieces) o b.0 read ∙ goes-with f entry opcode pieces b.1 in
+    let goes = list-verdict f entry opcode need (Spells pieces) o b.0 read ∙ goes-with f entry opcode pieces t in
     let Q : Need → Type 0 =
     λ n. moved_of g differed ≡ units_moved (units_from 0 (slba_of entry) n.blocks) (block_work opcode pieces n.fua) (moved_of f false) in
     let N : ℕ → Type 0 =
-    λ n. moved_of g differed ≡ units_moved (units_from 0 (slba_of entry) n) (block_work opcode pieces (has_blocks opcode && fua_of entry == 1)) (moved_of f false) in
-    moved-run f g entry (work_of opcode entry pieces units) differed goes
+    λ n. moved_of g differed ≡ units_moved (units_from 0 (slba_of entry) n) (block_work opcode pieces (has_blocks opcode && is_fua entry)) (moved_of f false) in
+    moved-run f g entry (work_of (length f.disk) opcode entry pieces []) differed goes
     (subst N (transfer-needs entry opcode t).0 (subst Q o.needs moved)
-    ∙ ap (λ (us : List WorkUnit). units_moved us (block_work opcode pieces (has_blocks opcode && fua_of entry == 1)) (moved_of f false)) (sym (block_units-range (slba_of entry) (count_of entry)))
-    ∙ sym (units_moved-transfer opcode entry pieces units (moved_of f false) t))
+    ∙ sym (units_moved-transfer (length f.disk) opcode entry pieces (moved_of f false) t))
 
 -- the same, with the numbers that the code has
 pub transfer-done : (f g : Flat) (entry : List ℕ) (opcode : IoOpcode) (need : Need) (pieces : List Piece) (slba count : ℕ) (result differed : Bool) (st : StatusField)
@@ -150,19 +147,19 @@ transfer-done f g entry opcode need pieces slba count result differed st o t rea
 pub zeroes-run : (f g : Flat) (entry : List ℕ) (need : Need) → IsInOrder (length f.disk) entry WriteZeroes need
     → moved_of g false ≡ cleared (range_with_len (slba_of entry) need.blocks) need.fua (moved_of f false) → IsRun f entry (done_with Success) g
 zeroes-run f g entry need o moved =
-    let lbas : List ℕ = range_with_len (slba_of entry) (count_of entry) in
     let Q : Need → Type 0 = λ n. moved_of g false ≡ cleared (range_with_len (slba_of entry) n.blocks) n.fua (moved_of f false) in
-    moved-run f g entry (work_of WriteZeroes entry [] (block_units lbas)) false
+    let work : Work = work_of (length f.disk) WriteZeroes entry [] [] in
+    moved-run f g entry work false
     (verdict-unlisted (shape_of f) (byte_in f.memory) entry WriteZeroes o.unrefused o.known refl)
-    (subst Q o.needs moved ∙ sym (units_moved-zeroes entry lbas (block_units lbas) (moved_of f false)))
+    (subst Q o.needs moved ∙ sym (units_moved-cleared (is_fua entry) (lbas_of entry) work (moved_of f false)))
 
 pub flush-run : (f g : Flat) (entry : List ℕ) (need : Need) → IsInOrder (length f.disk) entry Flush need
-    → ((work : Work) → moved_of g false ≡ moved_on (AllBlocks (length f.disk)) work (moved_of f false)) → IsRun f entry (done_with Success) g
+    → ((work : Work) → moved_of g false ≡ moved_on (KeepAll (length f.disk)) work (moved_of f false)) → IsRun f entry (done_with Success) g
 unfolding units_moved
 flush-run f g entry need o moved =
-    moved-run f g entry (work_of Flush entry [] (AllBlocks (length f.disk) ∷ [])) false
-    (verdict-unlisted (shape_of f) (byte_in f.memory) entry Flush o.unrefused o.known refl)
-    (moved (work_of Flush entry [] (AllBlocks (length f.disk) ∷ [])))
+    let work : Work = work_of (length f.disk) Flush entry [] [] in
+    moved-run f g entry work false
+    (verdict-unlisted (shape_of f) (byte_in f.memory) entry Flush o.unrefused o.known refl) (moved work)
 
 -- ---- the blocks
 

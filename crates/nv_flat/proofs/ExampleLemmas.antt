@@ -12,7 +12,7 @@ use Rattle.nv_mem.specs.declared.piece.Piece.TheVariants.{Run}
 use Rattle.nv_model.specs.Memory.{bytes_from}
 use Rattle.nv_model.specs.Dialogue.{in_memory, and_then}
 use Rattle.nv_model.specs.Sgl.{read_array, read_sgl}
-use Rattle.nv_model.specs.Judge.{Work, Go, Refuse, OneBlock, block_units, judge}
+use Rattle.nv_model.specs.Judge.{Work, Go, Refuse, MoveBlock, move_units, judge}
 use Rattle.nv_model.specs.Private.{Moved, verdict_in}
 use Rattle.nv_model.specs.Carried.{moved_on, units_moved}
 use Rattle.nv_flat.specs.Examples.{block_read, block_written, read_to_half, small, write_from_half}
@@ -26,13 +26,13 @@ use Rattle.nv_flat.proofs.RunLemmas.{one-outcome, refused-unchanged}
 -- ---- the Read
 
 abbrev pub reading : Work
-reading = record { opcode = opcode.Read; pieces = Run 0x200 512 ∷ []; units = OneBlock 0 1 ∷ []; fua = false; deallocate = false }
+reading = record { opcode = opcode.Read; pieces = Run 0x200 512 ∷ []; units = MoveBlock 0 1 ∷ []; fua = false }
 
 read-goes : verdict_in (shape_of small) (byte_in small.memory) (read_to_half 1) ≡ Go reading
-unfolding number_at dword qword bits bytes_of_dwords everywhere bytes_from in_memory and_then read_array read_sgl block_units judge
+unfolding number_at dword qword bits bytes_of_dwords everywhere bytes_from in_memory and_then read_array read_sgl move_units judge
 read-goes = refl
 
-read-moves : moved_of block_read false ≡ moved_on (OneBlock 0 1) reading (moved_of small false)
+read-moves : moved_of block_read false ≡ moved_on (MoveBlock 0 1) reading (moved_of small false)
 unfolding addresses
 read-moves =
     read-moved small.memory block_read.memory small.disk small.kept small.kept (addresses 0x200 512) 0 1 false refl
@@ -45,7 +45,7 @@ read-run = moved-run small block_read (read_to_half 1) reading false read-goes r
 pub one-read : (st : StatusField) (new : Flat) → IsRun small (read_to_half 1) st new → (st ≡ done_with Success) × (moved_of new false ≡ moved_of block_read false)
 unfolding moved_of
 one-read st new run =
-    one-outcome small new (read_to_half 1) st reading (OneBlock 0 1) (moved_of block_read false) read-goes refl read-moves run
+    one-outcome small new (read_to_half 1) st reading (MoveBlock 0 1) (moved_of block_read false) read-goes refl read-moves run
 
 pub bytes-of-read : (st : StatusField) (new : Flat) → IsRun small (read_to_half 1) st new → (addr : ℕ) → slice_index new.memory addr ≡ slice_index block_read.memory addr
 unfolding moved_of byte_in
@@ -54,13 +54,13 @@ bytes-of-read st new run addr = ap (λ (m : Moved). m.memory addr) (one-read st 
 -- ---- the Write
 
 abbrev pub writing : Work
-writing = record { opcode = opcode.Write; pieces = Run 0x200 512 ∷ []; units = OneBlock 0 0 ∷ []; fua = false; deallocate = false }
+writing = record { opcode = opcode.Write; pieces = Run 0x200 512 ∷ []; units = MoveBlock 0 0 ∷ []; fua = false }
 
 write-goes : verdict_in (shape_of small) (byte_in small.memory) write_from_half ≡ Go writing
-unfolding number_at dword qword bits bytes_of_dwords everywhere bytes_from in_memory and_then read_array read_sgl block_units judge
+unfolding number_at dword qword bits bytes_of_dwords everywhere bytes_from in_memory and_then read_array read_sgl move_units judge
 write-goes = refl
 
-write-moves : moved_of block_written false ≡ moved_on (OneBlock 0 0) writing (moved_of small false)
+write-moves : moved_of block_written false ≡ moved_on (MoveBlock 0 0) writing (moved_of small false)
 unfolding addresses
 write-moves =
     write-moved small.memory small.disk small.kept (addresses 0x200 512) 0 0 (replicate 512 0x22) false (omega arith) (omega arith)
@@ -73,7 +73,7 @@ write-run = moved-run small block_written write_from_half writing false write-go
 pub one-write : (st : StatusField) (new : Flat) → IsRun small write_from_half st new → (st ≡ done_with Success) × (moved_of new false ≡ moved_of block_written false)
 unfolding moved_of
 one-write st new run =
-    one-outcome small new write_from_half st writing (OneBlock 0 0) (moved_of block_written false) write-goes refl write-moves run
+    one-outcome small new write_from_half st writing (MoveBlock 0 0) (moved_of block_written false) write-goes refl write-moves run
 
 pub blocks-of-write : (st : StatusField) (new : Flat) → IsRun small write_from_half st new → (lba offset : ℕ)
     → byte_of_block new.disk lba offset ≡ byte_of_block block_written.disk lba offset

@@ -8,12 +8,12 @@ use Rattle.nv_entry.specs.declared.opcode.IoOpcode.{IoOpcode}
 use Rattle.nv_entry.specs.declared.opcode.IoOpcode.TheVariants.{Flush, Write, Read, Compare, WriteZeroes, DatasetManagement}
 use Rattle.nv_mem.specs.Places.{Place, At, Bucket, places_of}
 use Rattle.nv_model.specs.Memory.{scattered, stored}
-use Rattle.nv_model.specs.Judge.{WorkUnit, OneBlock, OneRange, AllBlocks, Work, block, is_read}
-use Rattle.nv_model.specs.Private.{Moved, block_bytes, block_moved, places_of_block, range_moved}
+use Rattle.nv_model.specs.Judge.{WorkUnit, MoveBlock, ClearBlock, LeaveBlock, KeepAll, Work, block, is_read}
+use Rattle.nv_model.specs.Private.{Moved, block_bytes, block_moved, places_of_block}
 use Rattle.nv_model.specs.Carried.{moved_on, units_moved}
 use Rattle.nv_flat.specs.Flat.{Flat, byte_in, flat, moved_of}
 use Rattle.nv_flat.specs.Laws.{IsAnother, IsAsLarge, IsElsewhere}
-use Rattle.nv_flat.proofs.MoveLemmas.{or-false}
+use Rattle.nv_model.proofs.UnitWords.{or-false}
 
 -- ---- the memory
 
@@ -52,39 +52,24 @@ block-memory WriteZeroes work index lba m other = refl
 block-memory DatasetManagement work index lba m other = refl
 block-memory Flush work index lba m other = refl
 
--- a range changes no byte of memory, and never differs
-range-memory : (work : Work) (start count : ℕ) (m : Moved) → (range_moved work start count m.memory m.disk m.kept).memory ≡ m.memory
-range-memory work start count m = by_flag work.deallocate work refl
-  where
-    by_flag : (flag : Bool) (work : Work) → work.deallocate ≡ flag → (range_moved work start count m.memory m.disk m.kept).memory ≡ m.memory
-    by_flag true work is = rw is refl
-    by_flag false work is = rw is refl
-
-range-differs : (work : Work) (start count : ℕ) (m : Moved) → (range_moved work start count m.memory m.disk m.kept).differed ≡ false
-range-differs work start count m = by_flag work.deallocate work refl
-  where
-    by_flag : (flag : Bool) (work : Work) → work.deallocate ≡ flag → (range_moved work start count m.memory m.disk m.kept).differed ≡ false
-    by_flag true work is = rw is refl
-    by_flag false work is = rw is refl
-
 pub units-memory_at : (units : List WorkUnit) (work : Work) (addr : ℕ) (m : Moved) → All (IsAnother (At addr)) (places_of work.pieces)
     → (units_moved units work m).memory addr ≡ m.memory addr
 unfolding units_moved
 units-memory_at [] work addr m each = refl
-units-memory_at (OneBlock index lba ∷ units) work addr m each =
-    units-memory_at units work addr (moved_on (OneBlock index lba) work m) each ∙ block-memory_at work.opcode work index lba addr m each
-units-memory_at (OneRange start count ∷ units) work addr m each =
-    units-memory_at units work addr (moved_on (OneRange start count) work m) each ∙ ap (λ (n : ℕ → ℕ). n addr) (range-memory work start count m)
-units-memory_at (AllBlocks blocks ∷ units) work addr m each = units-memory_at units work addr (moved_on (AllBlocks blocks) work m) each
+units-memory_at (MoveBlock index lba ∷ units) work addr m each =
+    units-memory_at units work addr (moved_on (MoveBlock index lba) work m) each ∙ block-memory_at work.opcode work index lba addr m each
+units-memory_at (ClearBlock lba mark ∷ units) work addr m each = units-memory_at units work addr (moved_on (ClearBlock lba mark) work m) each
+units-memory_at (LeaveBlock lba ∷ units) work addr m each = units-memory_at units work addr (moved_on (LeaveBlock lba) work m) each
+units-memory_at (KeepAll blocks ∷ units) work addr m each = units-memory_at units work addr (moved_on (KeepAll blocks) work m) each
 
 pub units-memory : (units : List WorkUnit) (work : Work) (m : Moved) → is_read work.opcode ≡ false → (units_moved units work m).memory ≡ m.memory
 unfolding units_moved
 units-memory [] work m other = refl
-units-memory (OneBlock index lba ∷ units) work m other =
-    units-memory units work (moved_on (OneBlock index lba) work m) other ∙ block-memory work.opcode work index lba m other
-units-memory (OneRange start count ∷ units) work m other =
-    units-memory units work (moved_on (OneRange start count) work m) other ∙ range-memory work start count m
-units-memory (AllBlocks blocks ∷ units) work m other = units-memory units work (moved_on (AllBlocks blocks) work m) other
+units-memory (MoveBlock index lba ∷ units) work m other =
+    units-memory units work (moved_on (MoveBlock index lba) work m) other ∙ block-memory work.opcode work index lba m other
+units-memory (ClearBlock lba mark ∷ units) work m other = units-memory units work (moved_on (ClearBlock lba mark) work m) other
+units-memory (LeaveBlock lba ∷ units) work m other = units-memory units work (moved_on (LeaveBlock lba) work m) other
+units-memory (KeepAll blocks ∷ units) work m other = units-memory units work (moved_on (KeepAll blocks) work m) other
 
 -- ---- a Compare
 
@@ -100,13 +85,12 @@ block-differs Flush work index lba m other = refl
 pub units-differ : (units : List WorkUnit) (work : Work) (m : Moved) → (work.opcode ≡ Compare → ⊥) → (units_moved units work m).differed ≡ m.differed
 unfolding units_moved
 units-differ [] work m other = refl
-units-differ (OneBlock index lba ∷ units) work m other =
-    units-differ units work (moved_on (OneBlock index lba) work m) other
+units-differ (MoveBlock index lba ∷ units) work m other =
+    units-differ units work (moved_on (MoveBlock index lba) work m) other
     ∙ ap (λ (b : Bool). m.differed || b) (block-differs work.opcode work index lba m other) ∙ or-false m.differed
-units-differ (OneRange start count ∷ units) work m other =
-    units-differ units work (moved_on (OneRange start count) work m) other
-    ∙ ap (λ (b : Bool). m.differed || b) (range-differs work start count m) ∙ or-false m.differed
-units-differ (AllBlocks blocks ∷ units) work m other = units-differ units work (moved_on (AllBlocks blocks) work m) other ∙ or-false m.differed
+units-differ (ClearBlock lba mark ∷ units) work m other = units-differ units work (moved_on (ClearBlock lba mark) work m) other ∙ or-false m.differed
+units-differ (LeaveBlock lba ∷ units) work m other = units-differ units work (moved_on (LeaveBlock lba) work m) other ∙ or-false m.differed
+units-differ (KeepAll blocks ∷ units) work m other = units-differ units work (moved_on (KeepAll blocks) work m) other ∙ or-false m.differed
 
 -- ---- the disk
 
@@ -127,23 +111,18 @@ block-elsewhere Read work index at lba m other = record { bytes = refl; mark = n
 block-elsewhere Write work index at lba m other =
     record { bytes = fun_ext (λ offset. not-here lba at _ (m.disk lba offset) other); mark = not-here lba at _ (m.kept lba) other }
 block-elsewhere Compare work index at lba m other = record { bytes = refl; mark = not-here lba at _ (m.kept lba) other }
-block-elsewhere WriteZeroes work index at lba m other =
-    record { bytes = fun_ext (λ offset. not-here lba at _ (m.disk lba offset) other); mark = not-here lba at _ (m.kept lba) other }
+block-elsewhere WriteZeroes work index at lba m other = record { bytes = refl; mark = refl }
 block-elsewhere DatasetManagement work index at lba m other = record { bytes = refl; mark = refl }
 block-elsewhere Flush work index at lba m other = record { bytes = refl; mark = refl }
 
 unit-elsewhere : (unit : WorkUnit) (work : Work) (lba : ℕ) (m : Moved) → IsElsewhere lba unit → IsSame lba m (moved_on unit work m)
-unit-elsewhere (OneBlock index at) work lba m other =
+unit-elsewhere (MoveBlock index at) work lba m other =
     let same = block-elsewhere work.opcode work index at lba m other in
     record { bytes = same.bytes; mark = same.mark }
-unit-elsewhere (OneRange start count) work lba m out = by_flag work.deallocate work refl
-  where
-    by_flag : (flag : Bool) (work : Work) → work.deallocate ≡ flag → IsSame lba m (moved_on (OneRange start count) work m)
-    by_flag true work is =
-        let zeros : ℕ → ℕ = λ _. 0 in
-        rw is (record { bytes = ap (λ (b : Bool). cond b zeros (m.disk lba)) out; mark = ap (λ (b : Bool). cond b false (m.kept lba)) out })
-    by_flag false work is = rw is (record { bytes = refl; mark = refl })
-unit-elsewhere (AllBlocks blocks) work lba m past = record { bytes = refl; mark = ap (λ (b : Bool). b || m.kept lba) (not-below lba blocks past) }
+unit-elsewhere (ClearBlock at mark) work lba m other =
+    record { bytes = fun_ext (λ offset. not-here lba at _ (m.disk lba offset) other); mark = not-here lba at mark (m.kept lba) other }
+unit-elsewhere (LeaveBlock at) work lba m other = record { bytes = refl; mark = refl }
+unit-elsewhere (KeepAll blocks) work lba m past = record { bytes = refl; mark = ap (λ (b : Bool). b || m.kept lba) (not-below lba blocks past) }
   where
     not-below : (lba blocks : ℕ) → blocks ≤ lba → nat_lt lba blocks ≡ false
     not-below lba blocks past = grind (arith, nat_tests)

@@ -1,6 +1,6 @@
 -- What the units of a command leave is a flat controller again: memory, blocks and marks that are lists
-use Rattle.std.proofs.Common.{◌≡◌, ℕ, zero, suc, ◌+◌, ◌<◌, ◌≤◌, Bool, true, false, ◌||◌, List, [], ◌∷◌, length, set, All, replicate, refl, sym, ap, subst, ◌∙◌, arith, ◌*◌, take, drop, nat_lt, take-append-drop}
-use Rattle.std.specs.List.{range_with_len, slice_index_or}
+use Rattle.std.proofs.Common.{◌≡◌, ℕ, ◌<◌, Bool, true, false, ◌||◌, List, [], ◌∷◌, length, set, All, replicate, refl, sym, ap, subst, ◌∙◌, arith, ◌*◌, take, drop, nat_lt, take-append-drop}
+use Rattle.std.specs.List.{slice_index_or}
 use Rattle.std.proofs.lemmas.List.{length-replicate, length-set}
 use Rattle.std.proofs.lemmas.List.Elements.{All-head, All-tail}
 use Rattle.nv_entry.specs.declared.opcode.IoOpcode.{IoOpcode}
@@ -9,21 +9,21 @@ use Rattle.nv_mem.specs.Bytes.{InMemory, after_store}
 use Rattle.nv_mem.specs.Places.{Place, At, Bucket, places_of}
 use Rattle.nv_mem.proofs.Memory.{length-after_store}
 use Rattle.nv_model.specs.Memory.{gathered, scattered}
-use Rattle.nv_model.specs.Judge.{WorkUnit, OneBlock, OneRange, AllBlocks, Work, Verdict, Go, Refuse, block}
+use Rattle.nv_model.specs.Judge.{WorkUnit, MoveBlock, KeepAll, Work, Verdict, Go, Refuse, block, ClearBlock, LeaveBlock}
 use Rattle.nv_model.specs.Laws.{IsUnitWithin}
-use Rattle.nv_model.specs.Private.{Moved, block_bytes, block_moved, places_of_block, range_moved, unit_moved, verdict_in}
-use Rattle.nv_model.specs.Carried.{moved_on, moved_status, units_moved}
+use Rattle.nv_model.specs.Private.{Moved, block_bytes, block_moved, moved_status, places_of_block, unit_moved, verdict_in, block_written, marked}
+use Rattle.nv_model.specs.Carried.{moved_on, units_moved}
 use Rattle.nv_model.proofs.Judged.{verdict-sound}
 use Rattle.nv_model.proofs.MemoryLemmas.{stored-list}
 use Rattle.nv_flat.proofs.BufferLemmas.{AreBelow-drop, AreBelow-front}
 use Rattle.nv_flat.specs.Buffer.{AreBelow, IsBelow}
-use Rattle.nv_flat.specs.Flat.{Flat, byte_in, byte_of_block, cleared, flat, moved_of}
+use Rattle.nv_flat.specs.Flat.{Flat, byte_in, byte_of_block, flat, moved_of}
 use Rattle.nv_flat.specs.Laws.{HasRun}
 use Rattle.nv_flat.specs.One.{shape_of}
-use Rattle.nv_flat.proofs.MoveLemmas.{clear-set, marked-set, moved, written-set}
+use Rattle.nv_flat.proofs.MoveLemmas.{marked-set, moved, written-set}
 use Rattle.nv_flat.proofs.OneLemmas.{moved-run, refused-run}
 use Rattle.nv_flat.proofs.PieceLemmas.{pieces-are-below}
-use Rattle.nv_flat.proofs.WorkLemmas.{keep-all, range-cleared}
+use Rattle.nv_flat.proofs.WorkLemmas.{keep-all}
 
 -- ---- bytes scattered in a list
 
@@ -117,68 +117,25 @@ block-made Compare work index lba f below sized each =
       marked = length-set f.kept lba (marks_of f lba || work.fua);
     }
 block-made WriteZeroes work index lba f below sized each =
-    record {
-      new = flat f.memory (set f.disk lba (replicate 512 0)) (set f.kept lba work.fua);
-      bytes = refl;
-      blocks = written-set f.disk lba (replicate 512 0) below;
-      marks = marked-set f.kept lba work.fua (omega arith);
-      memory_size = refl;
-      disk_size = length-set f.disk lba (replicate 512 0);
-      marked = length-set f.kept lba work.fua;
-    }
+    record { new = f; bytes = refl; blocks = refl; marks = refl; memory_size = refl; disk_size = refl; marked = refl }
 block-made DatasetManagement work index lba f below sized each =
     record { new = f; bytes = refl; blocks = refl; marks = refl; memory_size = refl; disk_size = refl; marked = refl }
 block-made Flush work index lba f below sized each =
     record { new = f; bytes = refl; blocks = refl; marks = refl; memory_size = refl; disk_size = refl; marked = refl }
 
--- blocks that become zeros, and are not kept
-cleared-made : (start n : ℕ) (differed : Bool) (f : Flat) → start + n ≤ length f.disk → length f.kept ≡ length f.disk
-    → IsMade f (cleared (range_with_len start n) false (moved_of f differed))
-unfolding cleared moved_of
-cleared-made start zero differed f within sized =
-    record { new = f; bytes = refl; blocks = refl; marks = refl; memory_size = refl; disk_size = refl; marked = refl }
-cleared-made start (suc n) differed f within sized =
-    let blocks : List (List ℕ) = set f.disk start (replicate 512 0) in
-    let marks : List Bool = set f.kept start false in
-    let as_many : length blocks ≡ length f.disk = length-set f.disk start (replicate 512 0) in
-    let as_marked : length marks ≡ length f.kept = length-set f.kept start false in
-    let here : start < length f.disk = omega arith in
-    let there : start < length f.kept = omega arith in
-    let rest = cleared-made (start + 1) n differed (flat f.memory blocks marks) (omega arith) (as_marked ∙ sized ∙ sym as_many) in
-    let same = clear-set f.memory f.disk f.kept start false differed here there in
-    let M : Moved → Type 0 = λ m. IsMade (flat f.memory blocks marks) (cleared (range_with_len (start + 1) n) false m) in
-    let done = subst M same rest in
+-- a block that is cleared
+clear-made : (lba : ℕ) (mark : Bool) (f : Flat) → lba < length f.disk → length f.kept ≡ length f.disk
+    → IsMade f (record { memory = byte_in f.memory; disk = block_written (byte_of_block f.disk) lba (replicate 512 0); kept = marked (marks_of f) lba mark; differed = false })
+clear-made lba mark f below sized =
     record {
-      new = done.new;
-      bytes = done.bytes;
-      blocks = done.blocks;
-      marks = done.marks;
-      memory_size = done.memory_size;
-      disk_size = done.disk_size ∙ as_many;
-      marked = done.marked ∙ as_marked;
+      new = flat f.memory (set f.disk lba (replicate 512 0)) (set f.kept lba mark);
+      bytes = refl;
+      blocks = written-set f.disk lba (replicate 512 0) below;
+      marks = marked-set f.kept lba mark (omega arith);
+      memory_size = refl;
+      disk_size = length-set f.disk lba (replicate 512 0);
+      marked = length-set f.kept lba mark;
     }
-
--- a range of a command
-range-made : (work : Work) (start n : ℕ) (f : Flat) → start + n ≤ length f.disk → length f.kept ≡ length f.disk
-    → IsMade f (range_moved work start n (byte_in f.memory) (byte_of_block f.disk) (marks_of f))
-unfolding moved_of
-range-made work start n f within sized = by_flag work.deallocate refl
-  where
-    by_flag : (flag : Bool) → work.deallocate ≡ flag → IsMade f (range_moved work start n (byte_in f.memory) (byte_of_block f.disk) (marks_of f))
-    by_flag true asked =
-        let made = cleared-made start n false f within sized in
-        let same = range-cleared work start n (moved_of f false) asked in
-        record {
-          new = made.new;
-          bytes = made.bytes ∙ ap (λ (m : Moved). m.memory) (sym same);
-          blocks = made.blocks ∙ ap (λ (m : Moved). m.disk) (sym same);
-          marks = made.marks ∙ ap (λ (m : Moved). m.kept) (sym same);
-          memory_size = made.memory_size;
-          disk_size = made.disk_size;
-          marked = made.marked;
-        }
-    by_flag false unasked =
-        rw unasked (record { new = f; bytes = refl; blocks = refl; marks = refl; memory_size = refl; disk_size = refl; marked = refl })
 
 -- every block kept
 every-mark : (work : Work) (f : Flat) (blocks : ℕ) → length f.kept ≡ blocks
@@ -189,9 +146,11 @@ every-mark work f blocks many = ap (λ (m : Moved). m.kept) (keep-all work f.mem
 -- a unit of a command
 unit-made : (work : Work) (unit : WorkUnit) (f : Flat) → IsUnitWithin (length f.disk) unit → length f.kept ≡ length f.disk
     → AreBelow (length f.memory) (places_of work.pieces) → IsMade f (unit_moved unit work (byte_in f.memory) (byte_of_block f.disk) (marks_of f))
-unit-made work (OneBlock index lba) f below sized each = block-made work.opcode work index lba f below sized each
-unit-made work (OneRange start n) f within sized each = range-made work start n f within sized
-unit-made work (AllBlocks blocks) f all sized each =
+unit-made work (MoveBlock index lba) f below sized each = block-made work.opcode work index lba f below sized each
+unit-made work (ClearBlock lba mark) f below sized each = clear-made lba mark f below sized
+unit-made work (LeaveBlock lba) f below sized each =
+    record { new = f; bytes = refl; blocks = refl; marks = refl; memory_size = refl; disk_size = refl; marked = refl }
+unit-made work (KeepAll blocks) f all sized each =
     record {
       new = flat f.memory f.disk (replicate blocks true);
       bytes = refl;

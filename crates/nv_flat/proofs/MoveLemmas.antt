@@ -1,22 +1,23 @@
 -- A block that moves, over a memory, blocks and marks that are lists
-use Rattle.std.proofs.Common.{◌≡◌, ℕ, zero, suc, ◌+◌, ◌-◌, ◌*◌, ◌<◌, ◌≤◌, Bool, true, false, not, ◌&&◌, ◌||◌, nat_eq, List, [], ◌∷◌, length, slice_index, get_or, set, map, take, drop, refl, sym, ap, ◌∙◌, arith, cond, ◌==◌, inl, inr, replicate}
+use Rattle.std.proofs.Common.{◌≡◌, ℕ, suc, ◌+◌, ◌-◌, ◌*◌, ◌<◌, ◌≤◌, Bool, true, false, not, ◌&&◌, ◌||◌, nat_eq, List, [], ◌∷◌, length, slice_index, get_or, set, take, drop, refl, sym, ap, ◌∙◌, arith, cond, ◌==◌, inl, inr, replicate}
 use Rattle.std.proofs.lemmas.Bool.{cases_eq}
 use Rattle.std.proofs.lemmas.Grind.{get_or-set_at}
 use Rattle.std.proofs.lemmas.List.{get_or-set_other, get_or_past}
 use Rattle.std.proofs.Math.Seq.{take-length}
 use lib.Pointwise.{pointwise}
 use mathlib.Core.Path.{fun_ext}
-use Rattle.std.specs.List.{slice_index_or, enumerate_from, range_with_len}
+use Rattle.std.specs.List.{slice_index_or, range_with_len}
 use Rattle.std.proofs.lemmas.Bool.Decides.{nat_tests}
 use Rattle.nv_entry.specs.declared.opcode.IoOpcode.TheVariants.{Compare, Read, Write}
 use Rattle.nv_mem.specs.Places.{Place, places_of}
 use Rattle.nv_mem.specs.declared.piece.Piece.{Piece}
 use Rattle.nv_model.specs.Memory.{gathered, scattered, stored}
 use Rattle.nv_model.proofs.MemoryLemmas.{bytes_from-list}
-use Rattle.nv_model.specs.Judge.{Work, WorkUnit, OneBlock, block_units}
+use Rattle.nv_model.specs.Judge.{Work, MoveBlock}
 use Rattle.nv_model.specs.Private.{Moved, block_bytes, block_written, differs, marked}
-use Rattle.nv_model.specs.Carried.{moved_on, units_moved}
-use Rattle.nv_flat.specs.Flat.{block_work, byte_in, byte_of_block, clear, cleared, flat, moved_of, units_from}
+use Rattle.nv_model.specs.Carried.{block_work, cleared, cleared_one, moved_on, units_from, units_moved}
+use Rattle.nv_model.proofs.UnitWords.{or-false}
+use Rattle.nv_flat.specs.Flat.{byte_in, byte_of_block, flat, moved_of}
 use Rattle.nv_flat.proofs.BufferLemmas.{scattered-take}
 
 -- equal in each part
@@ -27,10 +28,6 @@ moved m n d e k l x y same_memory same_disk same_marks same_differed =
     ∙ ap (λ (z : ℕ → ℕ → ℕ). let r : Moved = record { memory = n; disk = z; kept = k; differed = x } in r) same_disk
     ∙ ap (λ (z : ℕ → Bool). let r : Moved = record { memory = n; disk = e; kept = z; differed = x } in r) same_marks
     ∙ ap (λ (z : Bool). let r : Moved = record { memory = n; disk = e; kept = l; differed = z } in r) same_differed
-
-pub or-false : (b : Bool) → b || false ≡ b
-or-false true = refl
-or-false false = refl
 
 pub or-true : (b : Bool) → b || true ≡ true
 or-true true = refl
@@ -79,7 +76,7 @@ pub read-moved : (memory new : List ℕ) (disk : List (List ℕ)) (kept marks : 
     → (λ b. slice_index_or marks b false) ≡ marked (λ b. slice_index_or kept b false) lba (slice_index_or kept lba false || fua)
     → (pieces : List Piece) (differed : Bool) → places ≡ drop (512 * index) (places_of pieces)
     → moved_of (flat new disk marks) differed
-    ≡ moved_on (OneBlock index lba) (block_work Read pieces fua) (moved_of (flat memory disk kept) differed)
+    ≡ moved_on (MoveBlock index lba) (block_work Read pieces fua) (moved_of (flat memory disk kept) differed)
 unfolding moved_of
 read-moved memory new disk kept marks places index lba fua sized scatter mark pieces differed at =
     moved (byte_in new) _ (byte_of_block disk) (byte_of_block disk) _ _ differed (differed || false)
@@ -95,7 +92,7 @@ pub write-moved : (memory : List ℕ) (disk : List (List ℕ)) (kept : List Bool
     → bytes ≡ gathered (byte_in memory) (take 512 places)
     → (pieces : List Piece) (differed : Bool) → places ≡ drop (512 * index) (places_of pieces)
     → moved_of (flat memory (set disk lba bytes) (set kept lba fua)) differed
-    ≡ moved_on (OneBlock index lba) (block_work Write pieces fua) (moved_of (flat memory disk kept) differed)
+    ≡ moved_on (MoveBlock index lba) (block_work Write pieces fua) (moved_of (flat memory disk kept) differed)
 unfolding moved_of
 write-moved memory disk kept places index lba bytes fua block mark gather pieces differed at =
     moved (byte_in memory) _ (byte_of_block (set disk lba bytes)) _ _ _ differed (differed || false)
@@ -124,7 +121,7 @@ pub compare-moved : (memory : List ℕ) (disk : List (List ℕ)) (kept marks : L
     → (λ b. slice_index_or marks b false) ≡ marked (λ b. slice_index_or kept b false) lba (slice_index_or kept lba false || fua)
     → (pieces : List Piece) (differed : Bool) → places ≡ drop (512 * index) (places_of pieces)
     → moved_of (flat memory disk marks) (differed || unlike)
-    ≡ moved_on (OneBlock index lba) (block_work Compare pieces fua) (moved_of (flat memory disk kept) differed)
+    ≡ moved_on (MoveBlock index lba) (block_work Compare pieces fua) (moved_of (flat memory disk kept) differed)
 unfolding moved_of
 compare-moved memory disk kept marks places index lba bytes fua unlike sized gather differ mark pieces differed at =
     moved (byte_in memory) _ (byte_of_block disk) _ _ _ (differed || unlike) _
@@ -155,7 +152,7 @@ marks-same kept lba = fun_ext (λ b. elim (cases_eq b lba) [ inl same ↦ here b
 
 -- one more unit, and then those behind it
 pub units_moved-from : (work : Work) (m : Moved) (index lba n left : ℕ) → left ≡ suc n
-    → units_moved (units_from index lba left) work m ≡ units_moved (units_from (index + 1) (lba + 1) n) work (moved_on (OneBlock index lba) work m)
+    → units_moved (units_from index lba left) work m ≡ units_moved (units_from (index + 1) (lba + 1) n) work (moved_on (MoveBlock index lba) work m)
 unfolding units_from units_moved
 units_moved-from work m index lba n left e = rw e refl
 
@@ -164,28 +161,18 @@ pub units_moved-none : (work : Work) (m : Moved) (index lba left : ℕ) → left
 unfolding units_from units_moved
 units_moved-none work m index lba left e = rw e refl
 
--- the units of consecutive blocks
-units_from-enumerated : (index lba n : ℕ) → map (λ (p : ℕ × ℕ). OneBlock p.0 p.1) (enumerate_from index (range_with_len lba n)) ≡ units_from index lba n
-unfolding units_from
-units_from-enumerated index lba zero = refl
-units_from-enumerated index lba (suc n) = ap (λ (units : List WorkUnit). OneBlock index lba ∷ units) (units_from-enumerated (index + 1) (lba + 1) n)
-
-pub block_units-range : (lba n : ℕ) → block_units (range_with_len lba n) ≡ units_from 0 lba n
-unfolding block_units
-block_units-range lba n = units_from-enumerated 0 lba n
-
 -- ---- blocks that become zeros
 
 -- one block is cleared
-pub clear-set : (memory : List ℕ) (disk : List (List ℕ)) (kept : List Bool) (lba : ℕ) (mark differed : Bool) → lba < length disk → lba < length kept
-    → moved_of (flat memory (set disk lba (replicate 512 0)) (set kept lba mark)) differed ≡ clear lba mark (moved_of (flat memory disk kept) differed)
+pub cleared-set : (memory : List ℕ) (disk : List (List ℕ)) (kept : List Bool) (lba : ℕ) (mark differed : Bool) → lba < length disk → lba < length kept
+    → moved_of (flat memory (set disk lba (replicate 512 0)) (set kept lba mark)) differed ≡ cleared_one lba mark (moved_of (flat memory disk kept) differed)
 unfolding moved_of
-clear-set memory disk kept lba mark differed block below =
+cleared-set memory disk kept lba mark differed block below =
     moved (byte_in memory) (byte_in memory) _ _ _ _ differed differed refl (written-set disk lba (replicate 512 0) block) (marked-set kept lba mark below) refl
 
 -- one more block, and then those behind it
 pub cleared-more : (mark : Bool) (m : Moved) (start left n : ℕ) → left ≡ suc n
-    → cleared (range_with_len start left) mark m ≡ cleared (range_with_len (start + 1) n) mark (clear start mark m)
+    → cleared (range_with_len start left) mark m ≡ cleared (range_with_len (start + 1) n) mark (cleared_one start mark m)
 unfolding cleared
 cleared-more mark m start left n e = rw e refl
 
@@ -196,7 +183,7 @@ cleared-none mark m start left e = rw e refl
 
 -- one more block of a loop over them
 pub blocks-step : (work : Work) (done m n : Moved) (index slba count : ℕ) → index < count
-    → n ≡ moved_on (OneBlock index (slba + index)) work m
+    → n ≡ moved_on (MoveBlock index (slba + index)) work m
     → units_moved (units_from index (slba + index) (count - index)) work m ≡ done
     → units_moved (units_from (index + 1) (slba + (index + 1)) (count - (index + 1))) work n ≡ done
 blocks-step work done m n index slba count below one whole =

@@ -1,19 +1,56 @@
 -- One command, judged and moved to its end
-use Rattle.std.proofs.Common.{◌≡◌, ℕ, Bool, true, false, List, [], ◌∷◌, refl, sym, subst}
+use Rattle.std.proofs.Common.{◌≡◌, ℕ, Bool, true, false, List, [], refl, sym, subst, ap, length, Some, ◌∙◌}
 use Rattle.nv_entry.specs.Status.{StatusField}
 use Rattle.nv_model.specs.Judge.{Work, Refuse, Go}
-use Rattle.nv_model.specs.Private.{AtWork, Ended, Moved, Private, verdict_in}
-use Rattle.nv_model.specs.Carried.{IsCarriedOut, alone_at_work, moved_status, units_moved}
+use Rattle.nv_model.specs.Private.{AtWork, Ended, Moved, Private, moved_status, verdict_in, Taken, step, Bag, no_commands, Progress, ending, Shape}
+use Rattle.nv_model.specs.Carried.{IsCarriedOut, units_moved, at_work, this_far}
 use Rattle.nv_model.proofs.CarriedOut.{IsCarriedOut-moved, IsCarriedOut-refused}
-use Rattle.nv_flat.specs.Flat.{Flat, byte_in, moved_of}
-use Rattle.nv_flat.specs.One.{IsOutcome, IsRun, newly_taken, private_of, shape_of}
+use Rattle.nv_flat.specs.Flat.{Flat, byte_in, moved_of, byte_of_block}
+use Rattle.nv_flat.specs.One.{IsOutcome, IsRun, newly_taken, private_of, shape_of, completion_posted, serving}
+use Rattle.nv_model.specs.Controller.{post}
+use Rattle.nv_model.proofs.Bags.{put-twice}
+use Rattle.nv_entry.specs.Completion.{completion}
+use Rattle.nv_entry.specs.Submission.{cid_of}
+use Rattle.nv_model.specs.Memory.{bytes_from, stored}
+use Rattle.nv_model.proofs.MemoryLemmas.{bytes_from-stored}
+use Rattle.nv_entry.specs.Layout.{bits, bytes_of_dwords}
+use Rattle.std.specs.List.{slice_index_or}
+
+-- a command that is this far, alone
+this_far-alone : (f : Flat) (entry : List ℕ) (t : Taken) (progress : Progress) → this_far 0 t progress (private_of f t) ≡ private_of f (record t { progress = progress })
+this_far-alone f entry t progress =
+    ap (λ (b : Bag). let q : Private = record { memory = byte_in f.memory; disk = byte_of_block f.disk; kept = (λ lba. slice_index_or f.kept lba false); controller = serving; bag = b } in q)
+    (put-twice no_commands 0 (Some t) (Some (record t { progress = progress })))
+
+-- a completion has 16 bytes
+length-completion : (dw0 sqhd sqid cid : ℕ) (phase : Bool) (st : StatusField) → length (completion dw0 sqhd sqid cid phase st) ≡ 16
+unfolding completion bytes_of_dwords
+length-completion dw0 sqhd sqid cid phase st = refl
+
+-- and where it was stored, these are read back
+slot-holds : (memory : ℕ → ℕ) (dw0 sqhd sqid cid : ℕ) (phase : Bool) (st : StatusField)
+    → bytes_from (stored memory 0 (completion dw0 sqhd sqid cid phase st)) 0 16 ≡ completion dw0 sqhd sqid cid phase st
+slot-holds memory dw0 sqhd sqid cid phase st =
+    ap (bytes_from (stored memory 0 (completion dw0 sqhd sqid cid phase st)) 0) (sym (length-completion dw0 sqhd sqid cid phase st))
+    ∙ bytes_from-stored memory 0 (completion dw0 sqhd sqid cid phase st)
+
+-- where the command has ended, its completion is the next that is posted
+posted-ended : (f : Flat) (shape : Shape) (entry : List ℕ) (progress : Progress) (st : StatusField) → ending progress ≡ Some st
+    → completion_posted shape (private_of f (record { queue = 1; entry = entry; progress = progress })) ≡ Some (completion 0 1 1 (cid_of entry) true st)
+unfolding step post bits
+posted-ended f shape entry progress st ended =
+    rw ended (ap (λ (bs : List ℕ). Some bs) (slot-holds (byte_in f.memory) 0 1 1 (cid_of entry) true st))
 
 -- a command that is refused
 pub refused-run : (f : Flat) (entry : List ℕ) (st : StatusField) → verdict_in (shape_of f) (byte_in f.memory) entry ≡ Refuse st → IsRun f entry st f
 refused-run f entry st refused =
     record {
-      after = record { name = 0; queue = 1; entry = entry; progress = Ended st };
-      carried = IsCarriedOut-refused (shape_of f) (private_of f (newly_taken entry ∷ [])) (newly_taken entry) st refl refl refused;
+      after = record { queue = 1; entry = entry; progress = Ended st };
+      carried =
+          subst (λ (q : Private). IsCarriedOut (shape_of f) (private_of f (newly_taken entry)) 0 (newly_taken entry) st q)
+          (this_far-alone f entry (newly_taken entry) (Ended st))
+          (IsCarriedOut-refused (shape_of f) (private_of f (newly_taken entry)) 0 (newly_taken entry) st refl refl refused);
+      posted = posted-ended f (shape_of f) entry (Ended st) st refl;
     }
 
 -- a command all of whose units have moved
@@ -21,11 +58,17 @@ pub moved-run : (f g : Flat) (entry : List ℕ) (work : Work) (differed : Bool) 
     → moved_of g differed ≡ units_moved work.units work (moved_of f false) → IsRun f entry (moved_status differed) g
 unfolding moved_of
 moved-run f g entry work differed goes moved =
-    let p : Private = private_of f (newly_taken entry ∷ []) in
-    let P : Moved → Type 0 = λ m. IsCarriedOut (shape_of f) p (newly_taken entry) (moved_status m.differed) (alone_at_work (newly_taken entry) work [] m p) in
+    let p : Private = private_of f (newly_taken entry) in
+    let t : Taken = newly_taken entry in
+    let P : Moved → Type 0 = λ m. IsCarriedOut (shape_of f) p 0 t (moved_status m.differed) (at_work 0 t work [] m p) in
     record {
-      after = record { name = 0; queue = 1; entry = entry; progress = AtWork work [] differed };
-      carried = subst P (sym moved) (IsCarriedOut-moved (shape_of f) p (newly_taken entry) work refl refl goes);
+      after = record { queue = 1; entry = entry; progress = AtWork work [] differed };
+      carried =
+          subst (λ (q : Private). IsCarriedOut (shape_of f) p 0 t (moved_status differed) q)
+          (ap (λ (b : Bag). let q : Private = record { memory = byte_in g.memory; disk = byte_of_block g.disk; kept = (λ lba. slice_index_or g.kept lba false); controller = serving; bag = b } in q)
+          (put-twice no_commands 0 (Some t) (Some (record t { progress = AtWork work [] differed }))))
+          (subst P (sym moved) (IsCarriedOut-moved (shape_of f) p 0 t work refl refl goes));
+      posted = posted-ended g (shape_of f) entry (AtWork work [] differed) (moved_status differed) refl;
     }
 
 -- ---- the outcome

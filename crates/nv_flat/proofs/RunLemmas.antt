@@ -2,10 +2,9 @@
 use Rattle.std.proofs.Common.{◌≡◌, ℕ, zero, suc, Bool, false, All, IfSome, Option, List, [], ◌∷◌, drop, remove, slice_get, take, sym, ap, subst, ◌∙◌}
 use Rattle.std.proofs.lemmas.List.Elements.{All-append, All-cons, All-drop, All-nil, All-take}
 use Rattle.nv_entry.specs.Status.{StatusField}
-use Rattle.nv_entry.specs.Submission.{slba_of}
-use Rattle.nv_model.specs.Judge.{WorkUnit, Work, Go, Refuse, is_read}
-use Rattle.nv_model.specs.Private.{Ended, Moved, Private, Taken, verdict_in}
-use Rattle.nv_model.specs.Carried.{alone_at_work, alone_with, moved_on, moved_status, unmoved, units_moved}
+use Rattle.nv_model.specs.Judge.{WorkUnit, Work, Go, Refuse, is_read, form_of}
+use Rattle.nv_model.specs.Private.{Ended, Moved, Private, Taken, moved_status, verdict_in}
+use Rattle.nv_model.specs.Carried.{moved_on, units_moved, unmoved, this_far, at_work}
 use Rattle.nv_model.specs.Laws.{IsOrderOf}
 use Rattle.nv_model.proofs.CarriedOnly.{moved-only, refused-only}
 use Rattle.nv_model.proofs.Judged.{verdict-sound}
@@ -14,12 +13,13 @@ use Rattle.nv_model.proofs.UnitOrder.{any-order}
 use Rattle.nv_flat.specs.Flat.{Flat, byte_in, moved_of}
 use Rattle.nv_flat.specs.Laws.{IsMovedInSomeOrder}
 use Rattle.nv_flat.specs.One.{IsRun, newly_taken, private_of, shape_of}
+use Rattle.nv_model.proofs.Units.{IsUnitOf, form_units-own}
 
 -- what is seen of two flat controllers whose states are the same
-same-seen : (new : Flat) (bag : List Taken) (q : Private) (differed : Bool) → private_of new bag ≡ q
+same-seen : (new : Flat) (t : Taken) (q : Private) (differed : Bool) → private_of new t ≡ q
     → moved_of new differed ≡ record { memory = q.memory; disk = q.disk; kept = q.kept; differed = differed }
 unfolding moved_of
-same-seen new bag q differed is =
+same-seen new t q differed is =
     ap (λ (x : Private). let r : Moved = record { memory = x.memory; disk = x.disk; kept = x.kept; differed = differed } in r) is
 
 -- a command that is refused
@@ -29,9 +29,9 @@ pub refused-unchanged : (old new : Flat) (entry : List ℕ) (st refusal : Status
 unfolding moved_of
 refused-unchanged old new entry st refusal refused run =
     let t : Taken = newly_taken entry in
-    let p : Private = private_of old (t ∷ []) in
-    let only = refused-only (shape_of old) t p (private_of new (run.after ∷ [])) st refusal run.carried refused in
-    (only.0, same-seen new (run.after ∷ []) (alone_with t (Ended refusal) p) false only.1)
+    let p : Private = private_of old t in
+    let only = refused-only (shape_of old) 0 t p (private_of new run.after) st refusal run.carried refused in
+    (only.0, same-seen new run.after (this_far 0 t (Ended refusal) p) false only.1)
 
 -- a command that goes
 pub units-moved : (old new : Flat) (entry : List ℕ) (st : StatusField) (work : Work)
@@ -39,14 +39,14 @@ pub units-moved : (old new : Flat) (entry : List ℕ) (st : StatusField) (work :
 unfolding moved_of
 units-moved old new entry st work goes run =
     let t : Taken = newly_taken entry in
-    let p : Private = private_of old (t ∷ []) in
-    let only = moved-only (shape_of old) t p (private_of new (run.after ∷ [])) work st run.carried goes in
+    let p : Private = private_of old t in
+    let only = moved-only (shape_of old) 0 t p (private_of new run.after) work st run.carried goes in
     let behind : Moved = units_moved only.order work (moved_of old false) in
     record {
       order = only.order;
       each_once = only.each_once;
       differed = behind.differed;
-      moved = same-seen new (run.after ∷ []) (alone_at_work t work [] (units_moved only.order work (unmoved p)) p) behind.differed only.behind;
+      moved = same-seen new run.after (at_work 0 t work [] (units_moved only.order work (unmoved p)) p) behind.differed only.behind;
       status = only.status;
     }
 
@@ -93,7 +93,9 @@ unfolding moved_of
 in-order-outcome old new entry st work behind goes other is run =
     let r = units-moved old new entry st work goes run in
     let shape = shape_of old in
-    let own = (verdict-sound shape.mapped shape.limit shape.blocks entry (byte_in old.memory) work goes).own in
-    let moved : moved_of new r.differed ≡ behind = r.moved ∙ any-order work (slba_of entry) r.order work.units (moved_of old false) other own r.each_once ∙ sym is in
+    let sound = verdict-sound shape.mapped shape.limit shape.blocks entry (byte_in old.memory) work goes in
+    let own : All (IsUnitOf (form_of work.opcode) entry) work.units =
+    subst (λ (us : List WorkUnit). All (IsUnitOf (form_of work.opcode) entry) us) (sym sound.units) (form_units-own (form_of work.opcode) shape.blocks entry sound.ranges) in
+    let moved : moved_of new r.differed ≡ behind = r.moved ∙ any-order work entry (form_of work.opcode) r.order work.units (moved_of old false) other own r.each_once ∙ sym is in
     let same : r.differed ≡ behind.differed = ap (λ (m : Moved). m.differed) moved in
     (r.status ∙ ap moved_status same, ap (moved_of new) (sym same) ∙ moved)

@@ -2,9 +2,9 @@
 use Rattle.std.proofs.Common.{◌≡◌, ℕ, suc, ◌+◌, ◌-◌, ◌*◌, ◌<◌, ◌≤◌, Bool, false, List, length, drop, arith, refl, sym, ap, ◌∙◌}
 use Rattle.std.proofs.lemmas.List.{drop-drop, length-drop}
 use Rattle.nv_mem.specs.Places.{Place}
-use Rattle.nv_model.specs.Judge.{Work, OneBlock}
-use Rattle.nv_model.specs.Carried.{moved_on, units_moved}
-use Rattle.nv_flat.specs.Flat.{Flat, moved_of, units_from}
+use Rattle.nv_model.specs.Judge.{Work, MoveBlock}
+use Rattle.nv_model.specs.Carried.{moved_on, units_from, units_moved}
+use Rattle.nv_flat.specs.Flat.{Flat, moved_of}
 use Rattle.nv_flat.proofs.MoveLemmas.{units_moved-from, units_moved-none}
 
 -- what a loop over the blocks of a transfer keeps
@@ -29,7 +29,7 @@ IsMoving-start work slba count all old =
 -- one more
 pub IsMoving-more : (work : Work) (slba count : ℕ) (all : List Place) (old : Flat) (index : ℕ) (f g : Flat) (differed differs : Bool) (buffer rest : List Place)
     → IsMoving work slba count all old index f differed buffer → index < count
-    → moved_of g differs ≡ moved_on (OneBlock index (slba + index)) work (moved_of f differed)
+    → moved_of g differs ≡ moved_on (MoveBlock index (slba + index)) work (moved_of f differed)
     → rest ≡ drop 512 buffer → length g.memory ≡ length f.memory → length g.disk ≡ length f.disk
     → IsMoving work slba count all old (index + 1) g differs rest
 IsMoving-more work slba count all old index f g differed differs buffer rest so_far below moved behind memory_size disk_size =

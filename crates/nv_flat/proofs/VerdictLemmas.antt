@@ -11,11 +11,12 @@ use Rattle.nv_entry.specs.declared.status_code.StatusCode.TheVariants.{InvalidFi
 use Rattle.nv_judge.specs.declared.need.Need.{Need}
 use Rattle.nv_judge.specs.Need.{field_verdict, need_of, verdict_by}
 use Rattle.nv_ns.specs.BlockRange.{in_namespace}
-use Rattle.nv_model.specs.Dialogue.{Dialogue, End, and_then, in_memory}
+use Rattle.nv_model.specs.Dialogue.{Dialogue, and_then, in_memory}
 use Rattle.nv_model.proofs.DialogueLemmas.{in_memory-and_then}
 use Rattle.nv_model.specs.Reading.{Reading, first_failing}
-use Rattle.nv_model.specs.Judge.{Verdict, Refuse, Go, count_of, field_refusal, has_blocks, has_buffer, judge, judge_by, judge_fields, judge_reading, most_blocks, read_buffer, refusal_by_opcode, units_of, work_of}
+use Rattle.nv_model.specs.Judge.{Verdict, Refuse, Go, count_of, field_refusal, has_blocks, has_buffer, judge, judge_by, judge_fields, judge_reading, most_blocks, read_buffer, refusal_by_opcode, work_of, judge_buffer, form_of}
 use Rattle.nv_model.specs.Private.{Shape, verdict_in}
+use Rattle.nv_entry.specs.declared.opcode.IoOpcode.TheVariants.{Flush, Write, Read, Compare, WriteZeroes, DatasetManagement}
 
 -- ---- the fields
 
@@ -74,7 +75,7 @@ unfolding judge
 verdict-listed shape memory entry opcode reading none known buffer read =
     let target : Verdict = in_memory memory (judge_reading shape.blocks entry opcode reading) in
     let listed : Dialogue Verdict = and_then (read_buffer shape.mapped shape.limit opcode entry) (judge_reading shape.blocks entry opcode) in
-    let unlisted : Dialogue Verdict = End (Go (work_of opcode entry [] (units_of shape.blocks opcode entry))) in
+    let unlisted : Dialogue Verdict = judge_buffer (form_of opcode) shape.blocks opcode entry [] in
     let ByFields : Option StatusCode → Type 0 = λ o. in_memory memory (judge_fields o shape.mapped shape.limit shape.blocks entry) ≡ target in
     let ByOpcode : Option IoOpcode → Type 0 = λ o. in_memory memory (judge_by o shape.mapped shape.limit shape.blocks entry) ≡ target in
     let ByBuffer : Bool → Type 0 = λ b. in_memory memory (cond b listed unlisted) ≡ target in
@@ -86,15 +87,24 @@ verdict-listed shape memory entry opcode reading none known buffer read =
 -- a command without a buffer, whose fields are in order
 pub verdict-unlisted : (shape : Shape) (memory : ℕ → ℕ) (entry : List ℕ) (opcode : IoOpcode)
     → field_refusal shape.blocks entry ≡ None → io_opcode (opcode_of entry) ≡ Some opcode → has_buffer opcode ≡ false
-    → verdict_in shape memory entry ≡ Go (work_of opcode entry [] (units_of shape.blocks opcode entry))
+    → verdict_in shape memory entry ≡ Go (work_of shape.blocks opcode entry [] [])
 unfolding judge in_memory
 verdict-unlisted shape memory entry opcode none known buffer =
-    let target : Verdict = Go (work_of opcode entry [] (units_of shape.blocks opcode entry)) in
+    let target : Verdict = Go (work_of shape.blocks opcode entry [] []) in
     let listed : Dialogue Verdict = and_then (read_buffer shape.mapped shape.limit opcode entry) (judge_reading shape.blocks entry opcode) in
     let ByFields : Option StatusCode → Type 0 = λ o. in_memory memory (judge_fields o shape.mapped shape.limit shape.blocks entry) ≡ target in
     let ByOpcode : Option IoOpcode → Type 0 = λ o. in_memory memory (judge_by o shape.mapped shape.limit shape.blocks entry) ≡ target in
-    let ByBuffer : Bool → Type 0 = λ b. in_memory memory (cond b listed (End target)) ≡ target in
-    subst ByFields (sym none) (subst ByOpcode (sym known) (subst ByBuffer (sym buffer) refl))
+    let ByBuffer : Bool → Type 0 = λ b. in_memory memory (cond b listed (judge_buffer (form_of opcode) shape.blocks opcode entry [])) ≡ target in
+    subst ByFields (sym none) (subst ByOpcode (sym known) (subst ByBuffer (sym buffer) (unbuffered opcode buffer)))
+  where
+    unbuffered : (opcode : IoOpcode) → has_buffer opcode ≡ false
+        → in_memory memory (judge_buffer (form_of opcode) shape.blocks opcode entry []) ≡ Go (work_of shape.blocks opcode entry [] [])
+    unbuffered Flush none = refl
+    unbuffered WriteZeroes none = refl
+    unbuffered Read none = (cc)
+    unbuffered Write none = (cc)
+    unbuffered Compare none = (cc)
+    unbuffered DatasetManagement none = (cc)
 
 -- ---- the blocks
 

@@ -1,11 +1,8 @@
 -- The flat controller as it stands: its memory, the bytes of its blocks, and their marks
-use Rattle.std.specs.Prelude.{◌≡◌, ℕ, zero, suc, ◌+◌, ◌%◌, ◌<◌, ◌≤◌, Bool, false, List, [], ◌∷◌, slice_index, length, replicate}
+use Rattle.std.specs.Prelude.{◌≡◌, ℕ, ◌%◌, ◌<◌, ◌≤◌, Bool, false, List, [], ◌∷◌, slice_index, length}
 use Rattle.std.specs.List.{slice_index_or}
-use Rattle.nv_entry.specs.declared.opcode.IoOpcode.{IoOpcode}
 use Rattle.nv_mem.specs.GuestMap.{Mapping}
-use Rattle.nv_mem.specs.declared.piece.Piece.{Piece}
-use Rattle.nv_model.specs.Judge.{Work, WorkUnit, OneBlock, block}
-use Rattle.nv_model.specs.Private.{Moved, block_written, marked}
+use Rattle.nv_model.specs.Private.{Moved}
 
 pub record Flat : Type 0 where
   pub memory : List ℕ
@@ -33,26 +30,6 @@ moved_of f differed =
 -- a flat controller of this memory, these blocks and these marks
 abbrev pub flat : List ℕ → List (List ℕ) → List Bool → Flat
 flat memory disk kept = record { memory = memory; disk = disk; kept = kept }
-
--- the work of a command over blocks: what a unit of it needs
-abbrev pub block_work : IoOpcode → List Piece → (fua : Bool) → Work
-block_work opcode pieces fua =
-    record { opcode = opcode; pieces = pieces; units = []; fua = fua; deallocate = false }
-
--- n units from that index of a transfer and that LBA on
-unfoldable pub units_from : (index lba n : ℕ) → List WorkUnit
-units_from index lba zero = []
-units_from index lba (suc n) = OneBlock index lba ∷ units_from (index + 1) (lba + 1) n
-
--- a block is zeros and has this mark
-abbrev pub clear : (lba : ℕ) → (mark : Bool) → Moved → Moved
-clear lba mark m =
-    record m { disk = block_written m.disk lba (replicate block 0); kept = marked m.kept lba mark }
-
--- these blocks are, one after another
-unfoldable pub cleared : (lbas : List ℕ) → (mark : Bool) → Moved → Moved
-cleared [] mark m = m
-cleared (lba ∷ lbas) mark m = cleared lbas mark (clear lba mark m)
 
 -- the map of a guest whose addresses are those of a memory of that size
 abbrev pub identity_map : (size : ℕ) → Mapping

@@ -1,11 +1,12 @@
 -- Words of the laws on one command
 use Rattle.std.specs.Prelude.{◌≡◌, ◌≢◌, ◌≤◌, ℕ, Bool, false, All, List, length}
+use Rattle.std.specs.Bool.{⊤}
 use Rattle.nv_entry.specs.Status.{StatusField}
 use Rattle.nv_mem.specs.Places.{Place}
-use Rattle.nv_model.specs.Judge.{AllBlocks, OneBlock, OneRange, Work, WorkUnit, block}
-use Rattle.nv_model.specs.Carried.{moved_status, units_moved}
+use Rattle.nv_model.specs.Judge.{ClearBlock, KeepAll, LeaveBlock, MoveBlock, Work, WorkUnit, block}
+use Rattle.nv_model.specs.Carried.{units_moved}
 use Rattle.nv_model.specs.Laws.{IsOrderOf}
-use Rattle.nv_model.specs.Private.{in_range}
+use Rattle.nv_model.specs.Private.{moved_status}
 use Rattle.nv_flat.specs.Flat.{Flat, moved_of}
 use Rattle.nv_flat.specs.One.{IsRun}
 
@@ -30,12 +31,13 @@ pub record HasRun (old : Flat) (entry : List ℕ) : Type 0 where
 abbrev pub IsAnother : Place → Place → Type 0
 IsAnother place other = other ≢ place
 
--- a unit changes neither this block nor its mark: it is that of another block, of a range that it is not in, or of all blocks of a
+-- a unit changes neither this block nor its mark: it is that of another block, it leaves its block as it is, or it keeps all blocks of a
 -- namespace that ends before it
 abbrev pub IsElsewhere : (lba : ℕ) → WorkUnit → Type 0
-IsElsewhere lba (OneBlock index at) = at ≢ lba
-IsElsewhere lba (OneRange start count) = in_range start count lba ≡ false
-IsElsewhere lba (AllBlocks blocks) = blocks ≤ lba
+IsElsewhere lba (MoveBlock index at) = at ≢ lba
+IsElsewhere lba (ClearBlock at mark) = at ≢ lba
+IsElsewhere lba (LeaveBlock at) = ⊤
+IsElsewhere lba (KeepAll blocks) = blocks ≤ lba
 
 -- two controllers have as much memory, as many blocks, of 512 bytes each, and as many marks
 pub record IsAsLarge (f g : Flat) : Type 0 where

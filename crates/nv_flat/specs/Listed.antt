@@ -9,7 +9,7 @@ use Rattle.nv_entry.specs.declared.status_code.StatusCode.TheVariants.{InternalE
 use Rattle.nv_judge.specs.declared.need.Need.{Need}
 use Rattle.nv_mem.specs.GuestMap.{mapped}
 use Rattle.nv_model.specs.Dialogue.{Dialogue, End, and_then, in_memory}
-use Rattle.nv_model.specs.Judge.{read_by, sized}
+use Rattle.nv_model.specs.Judge.{most_descriptors, read_by, sized}
 use Rattle.nv_model.specs.Reading.{Reading, Faulty, TooLong, Spells}
 use Rattle.nv_flat.specs.Flat.{Flat, byte_in, identity_map}
 use Rattle.nv_flat.specs.declared.lists.Listed.{Listed}
@@ -18,7 +18,7 @@ use Rattle.nv_flat.specs.declared.lists.Listed.TheVariants.{Refused, Named}
 -- the list of a command whose data pointer holds this, in a memory of that size, for the transfer that the command needs
 abbrev pub list_dialogue : DataPointer → (size : ℕ) → List ℕ → Need → Dialogue Reading
 list_dialogue pointer size entry need =
-    and_then (read_by pointer (mapped (identity_map size).regions) 1024 need.dest need.bytes entry) (λ reading. End (sized need.bytes reading))
+    and_then (read_by pointer (mapped (identity_map size).regions) most_descriptors need.dest need.bytes entry) (λ reading. End (sized need.bytes reading))
 
 -- the same, as it ends in the memory
 abbrev pub reading_by : DataPointer → Flat → List ℕ → Need → Reading

@@ -1,45 +1,81 @@
 -- One command on the flat controller
-use Rattle.std.specs.Prelude.{◌≡◌, ℕ, Bool, true, false, not, List, [], ◌∷◌, length, Some, None, is_none}
+use Rattle.std.specs.Prelude.{◌≡◌, ℕ, Bool, true, false, not, List, ◌∷◌, length, replicate, Option, Some, None, is_none}
 use Rattle.std.specs.List.{slice_index_or}
 use Rattle.nv_entry.specs.Opcode.{io_opcode}
 use Rattle.nv_entry.specs.Status.{StatusField}
 use Rattle.nv_entry.specs.StatusCode.{done_with}
-use Rattle.nv_entry.specs.Submission.{opcode_of}
+use Rattle.nv_entry.specs.Completion.{completion}
+use Rattle.nv_entry.specs.Submission.{cid_of, opcode_of}
 use Rattle.nv_entry.specs.declared.opcode.IoOpcode.{IoOpcode}
 use Rattle.nv_entry.specs.declared.status_code.StatusCode.TheVariants.{InternalError}
 use Rattle.nv_mem.specs.GuestMap.{mapped}
-use Rattle.nv_model.specs.Controller.{opening}
-use Rattle.nv_model.specs.Judge.{field_refusal}
-use Rattle.nv_model.specs.Private.{Private, Shape, Taken, Unjudged}
+use Rattle.nv_model.specs.Memory.{bytes_from}
+use Rattle.nv_model.specs.Queue.{cqe_size}
+use Rattle.nv_model.specs.Controller.{Controller}
+use Rattle.nv_model.specs.Judge.{field_refusal, most_descriptors}
+use Rattle.nv_model.specs.Private.{After, PostStep, Private, Shape, Taken, Unjudged, no_commands, put, step}
 use Rattle.nv_model.specs.Carried.{IsCarriedOut}
 use Rattle.nv_judge.specs.declared.need.Need.{Need}
 use Rattle.nv_judge.specs.Need.{need_of}
 use Rattle.nv_flat.specs.Flat.{Flat, byte_in, byte_of_block, identity_map}
 
--- the flat controller as a private controller with these commands taken
-abbrev pub private_of : Flat → List Taken → Private
-private_of f bag =
+-- a controller with queue pair 1 behind a bring-up, from which one command was taken. The queues have few slots and lie at the memory's
+-- start; nothing depends on where they lie.
+abbrev pub serving : Controller
+serving = record {
+  cc = 0x00460001;
+  aqa = 0x00020002;
+  asq_low = 0;
+  asq_high = 0;
+  acq_low = 0;
+  acq_high = 0;
+  ready = true;
+  failed = false;
+  submission =
+      Some (record { base = 0; size = 3; head = 2; tail = 2; completes_to = 0; closing = false })
+      ∷ Some (record { base = 0; size = 2; head = 1; tail = 1; completes_to = 1; closing = false }) ∷ replicate 7 None;
+  completion_queues =
+      Some (record { base = 0; size = 3; head = 0; tail = 2; phase = true })
+      ∷ Some (record { base = 0; size = 2; head = 0; tail = 0; phase = true }) ∷ replicate 7 None;
+  taken = 0 ∷ 1 ∷ replicate 7 0;
+  held_requests = 0;
+  deletion = None;
+}
+
+-- the flat controller as a private controller that serves this one command, under the name 0
+abbrev pub private_of : Flat → Taken → Private
+private_of f t =
     record {
       memory = byte_in f.memory;
       disk = byte_of_block f.disk;
       kept = (λ lba. slice_index_or f.kept lba false);
-      controller = opening;
-      bag = bag;
+      controller = serving;
+      bag = put no_commands 0 (Some t);
     }
 
 -- what doesn't change: all of its memory is the guest's, and its blocks are the namespace
 abbrev pub shape_of : Flat → Shape
-shape_of f = record { mapped = mapped (identity_map (length f.memory)).regions; blocks = length f.disk; limit = 1024 }
+shape_of f = record { mapped = mapped (identity_map (length f.memory)).regions; blocks = length f.disk; limit = most_descriptors }
 
 -- the command of 64 bytes, taken from queue 1 and not judged
 abbrev pub newly_taken : List ℕ → Taken
-newly_taken entry = record { name = 0; queue = 1; entry = entry; progress = Unjudged }
+newly_taken entry = record { queue = 1; entry = entry; progress = Unjudged }
+
+-- the 16 bytes that the next step of this state writes into the first slot of completion queue 1, where that step posts the command's
+-- completion
+abbrev pub slot_behind : Option After → Option (List ℕ)
+slot_behind None = None
+slot_behind (Some after) = Some (bytes_from after.state.memory 0 cqe_size)
+
+abbrev pub completion_posted : Shape → Private → Option (List ℕ)
+completion_posted shape p = slot_behind (step shape (PostStep 0) p)
 
 -- some run of the private controller that judges the command and moves it to its end leads from the one to the other, and ends with
--- this status
+-- this status; its completion, if it is posted then, has that status
 pub record IsRun (old : Flat) (entry : List ℕ) (st : StatusField) (new : Flat) : Type 0 where
   pub after : Taken
-  pub carried : IsCarriedOut (shape_of old) (private_of old (newly_taken entry ∷ [])) (newly_taken entry) st (private_of new (after ∷ []))
+  pub carried : IsCarriedOut (shape_of old) (private_of old (newly_taken entry)) 0 (newly_taken entry) st (private_of new after)
+  pub posted : completion_posted (shape_of old) (private_of new after) ≡ Some (completion 0 1 1 (cid_of entry) true st)
 
 -- every command is carried out
 abbrev pub every_command : List ℕ → Bool

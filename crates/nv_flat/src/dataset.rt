@@ -70,8 +70,8 @@ impl FlatController {
     /// Makes the blocks of the ranges zeros that are not kept.
     fn deallocate(&mut self, ranges: &[u8])
         requires fit { list_all (range_fits (length self.old.disk)) (ranges_in (length ranges.now / 16) ranges.now) ≡ true }
-        ensures moved { (work : Work) → work.deallocate ≡ true →
-            moved_of self.new false ≡ units_moved (range_units (ranges_in (length ranges.now / 16) ranges.now)) work (moved_of self.old false) }
+        ensures moved { (work : Work) →
+            moved_of self.new false ≡ units_moved (range_units true (ranges_in (length ranges.now / 16) ranges.now)) work (moved_of self.old false) }
         ensures memory_size { length self.new.memory ≡ length self.old.memory }
         ensures disk_size { length self.new.disk ≡ length self.old.disk }
     {

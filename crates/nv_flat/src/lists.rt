@@ -11,13 +11,14 @@ ghost use Rattle.nv_prp.specs.Parse.{dialogue_of as prp_dialogue_of};
 ghost use Rattle.nv_flat.specs.Listed.{IsListed, IsThere, list_reading, reading_by};
 
 use crate::controller::FlatController;
+use bumpalo::Bump;
 use nv_entry::{DataPointer, Sqe, Status, StatusCode};
 use nv_judge::Need;
 use nv_mem::{Host, NoMemory, Places};
 use nv_model::Want;
 use nv_prp::PrpParse;
 use nv_sgl::SglParse;
-use std::alloc::Global;
+use std::alloc::{Allocator, Global};
 
 /// What a command's list says: it is refused, or where the bytes of the transfer lie.
 #[derive(Debug, Drop)]
@@ -29,8 +30,8 @@ pub(crate) enum Listed {
 /// The most descriptors of an SGL, and so the most parts in which a list is read: those of PRPs have fewer slots.
 const MOST_PARTS: u32 = 1024;
 
-/// The most bytes of a list that are wanted at once.
-const PART: usize = 4096;
+/// How many bytes of memory are taken for the descriptors of a list at first.
+const FIRST_ROOM: usize = 4000;
 
 impl FlatController {
     /// Reads the list of a command, for the transfer that it needs.
@@ -69,8 +70,9 @@ impl FlatController {
     fn read_sgl(&self, alloc: Global, sqe: &Sqe, need: Need) -> Result<Listed, NoMemory>
         ensures { IfOk result (λ listed. IsListed listed (reading_by pointer.Sgl self.now sqe.now need)) }
     {
+        let heap = Bump::try_with_capacity(alloc, FIRST_ROOM)?;
         let mut parse = SglParse::new(
-            alloc,
+            &heap,
             &self.map,
             sqe.sgl(),
             need.dest,
@@ -89,9 +91,10 @@ impl FlatController {
 }
 
 /// Feeds a parse of an SGL the bytes that it wants.
-fn feed_sgl(
+#[inline(always)]
+fn feed_sgl<A: Allocator + Clone>(
     memory: &Host,
-    parse: &mut SglParse<Global>,
+    parse: &mut SglParse<A>,
     addr: u64,
     len: u32,
 ) -> Result<(), NoMemory>
@@ -99,25 +102,7 @@ fn feed_sgl(
     requires there { IsThere memory.now addr len }
     ensures { OnOk result (dialogue_of parse.new ≡ fed (dialogue_of parse.old) (bytes_from (byte_in memory.now) addr len)) }
 {
-    let mut part = [0; PART];
-    feed_sgl_through(memory, parse, addr, len, &mut part[..len as usize])
-}
-
-/// The same through a buffer of that length.
-fn feed_sgl_through(
-    memory: &Host,
-    parse: &mut SglParse<Global>,
-    addr: u64,
-    len: u32,
-    part: &mut [u8],
-) -> Result<(), NoMemory>
-    requires wanted { want_of (dialogue_of parse.old) ≡ Want.Read addr len }
-    requires there { IsThere memory.now addr len }
-    requires whole { length part.old ≡ len }
-    ensures { OnOk result (dialogue_of parse.new ≡ fed (dialogue_of parse.old) (bytes_from (byte_in memory.now) addr len)) }
-{
-    memory.load(addr, part);
-    parse.feed(part)
+    parse.feed(memory.bytes(addr, u64::from(len)))
 }
 
 /// Feeds a parse of PRPs the bytes that it wants.
@@ -126,17 +111,6 @@ fn feed_prp(memory: &Host, parse: &mut PrpParse, addr: u64, len: u32)
     requires there { IsThere memory.now addr len }
     ensures { prp_dialogue_of parse.new ≡ fed (prp_dialogue_of parse.old) (bytes_from (byte_in memory.now) addr len) }
 {
-    let mut part = [0; PART];
-    feed_prp_through(memory, parse, addr, len, &mut part[..len as usize]);
-}
-
-/// The same through a buffer of that length.
-fn feed_prp_through(memory: &Host, parse: &mut PrpParse, addr: u64, len: u32, part: &mut [u8])
-    requires wanted { want_of (prp_dialogue_of parse.old) ≡ Want.Read addr len }
-    requires there { IsThere memory.now addr len }
-    requires whole { length part.old ≡ len }
-    ensures { prp_dialogue_of parse.new ≡ fed (prp_dialogue_of parse.old) (bytes_from (byte_in memory.now) addr len) }
-{
-    memory.load(addr, part);
+    let part = memory.bytes(addr, u64::from(len));
     parse.feed(part);
 }

@@ -4,10 +4,10 @@ ghost use Rattle.std.specs.Prelude.{◌≡◌, ◌+◌, ◌*◌, ◌<◌, ◌≤
 ghost use Rattle.std.specs.List.{range_with_len};
 ghost use Rattle.nv_mem.specs.Places.{places_of};
 ghost use Rattle.nv_mem.specs.declared.piece.Piece.{Piece};
-ghost use Rattle.nv_model.specs.Judge.{AllBlocks, OneBlock, Work};
-ghost use Rattle.nv_model.specs.Carried.{moved_on};
+ghost use Rattle.nv_model.specs.Judge.{KeepAll, MoveBlock, Work};
+ghost use Rattle.nv_model.specs.Carried.{block_work, cleared, cleared_one, moved_on};
 ghost use Rattle.nv_flat.specs.Buffer.{AreBelow};
-ghost use Rattle.nv_flat.specs.Flat.{block_work, clear, cleared, flat, moved_of};
+ghost use Rattle.nv_flat.specs.Flat.{flat, moved_of};
 
 use crate::buffer::Buffer;
 use nv_entry::IoOpcode;
@@ -30,7 +30,7 @@ pub(crate) fn read_block(
     requires marks { length kept.old ≡ length disk.now }
     ensures moved { (index : ℕ) (pieces : List Piece) (differed : Bool) → buffer.old ≡ drop (512 * index) (places_of pieces) →
         moved_of (flat memory.new disk.now kept.new) differed
-        ≡ moved_on (OneBlock index lba) (block_work IoOpcode.Read pieces fua) (moved_of (flat memory.old disk.now kept.old) differed) }
+        ≡ moved_on (MoveBlock index lba) (block_work IoOpcode.Read pieces fua) (moved_of (flat memory.old disk.now kept.old) differed) }
     ensures size { length memory.new ≡ length memory.old }
     ensures rest { buffer.new ≡ drop 512 buffer.old }
 {
@@ -55,7 +55,7 @@ pub(crate) fn write_block(
     requires marks { length kept.old ≡ length disk.old }
     ensures moved { (index : ℕ) (pieces : List Piece) (differed : Bool) → buffer.old ≡ drop (512 * index) (places_of pieces) →
         moved_of (flat memory.now disk.new kept.new) differed
-        ≡ moved_on (OneBlock index lba) (block_work IoOpcode.Write pieces fua) (moved_of (flat memory.now disk.old kept.old) differed) }
+        ≡ moved_on (MoveBlock index lba) (block_work IoOpcode.Write pieces fua) (moved_of (flat memory.now disk.old kept.old) differed) }
     ensures rest { buffer.new ≡ drop 512 buffer.old }
 {
     buffer.fetch(memory, &mut disk[lba as usize]);
@@ -79,7 +79,7 @@ pub(crate) fn compare_block(
     requires marks { length kept.old ≡ length disk.now }
     ensures moved { (index : ℕ) (pieces : List Piece) → buffer.old ≡ drop (512 * index) (places_of pieces) →
         moved_of (flat memory.now disk.now kept.new) result
-        ≡ moved_on (OneBlock index lba) (block_work IoOpcode.Compare pieces fua) (moved_of (flat memory.now disk.now kept.old) differed) }
+        ≡ moved_on (MoveBlock index lba) (block_work IoOpcode.Compare pieces fua) (moved_of (flat memory.now disk.now kept.old) differed) }
     ensures rest { buffer.new ≡ drop 512 buffer.old }
 {
     let mut bytes = [0; BLOCK];
@@ -114,7 +114,7 @@ fn clear_block(disk: &mut [[u8; BLOCK]], kept: &mut [bool], lba: u64, mark: bool
     requires block { lba < length disk.old }
     requires marks { length kept.old ≡ length disk.old }
     ensures moved { (memory : List ℕ) (differed : Bool) → moved_of (flat memory disk.new kept.new) differed
-        ≡ clear lba mark (moved_of (flat memory disk.old kept.old) differed) }
+        ≡ cleared_one lba mark (moved_of (flat memory disk.old kept.old) differed) }
     ensures disk_size { length disk.new ≡ length disk.old }
     ensures marks_size { length kept.new ≡ length kept.old }
 {
@@ -125,7 +125,7 @@ fn clear_block(disk: &mut [[u8; BLOCK]], kept: &mut [bool], lba: u64, mark: bool
 /// Makes every block kept.
 pub(crate) fn keep_all(kept: &mut [bool])
     ensures moved { (work : Work) (memory : List ℕ) (disk : List (List ℕ)) → length kept.old ≡ length disk →
-        moved_of (flat memory disk kept.new) false ≡ moved_on (AllBlocks (length disk)) work (moved_of (flat memory disk kept.old) false) }
+        moved_of (flat memory disk kept.new) false ≡ moved_on (KeepAll (length disk)) work (moved_of (flat memory disk kept.old) false) }
     ensures size { length kept.new ≡ length kept.old }
 {
     kept.fill(true);

@@ -5,9 +5,9 @@ ghost use Rattle.std.specs.List.{range_with_len};
 ghost use Rattle.nv_entry.specs.Completion.{completion};
 ghost use Rattle.nv_entry.specs.Submission.{cid_of};
 ghost use Rattle.nv_entry.specs.Status.{StatusField};
-ghost use Rattle.nv_model.specs.Judge.{AllBlocks, Work};
-ghost use Rattle.nv_model.specs.Carried.{moved_on};
-ghost use Rattle.nv_flat.specs.Flat.{cleared, moved_of};
+ghost use Rattle.nv_model.specs.Judge.{KeepAll, Work};
+ghost use Rattle.nv_model.specs.Carried.{cleared, moved_on};
+ghost use Rattle.nv_flat.specs.Flat.{moved_of};
 ghost use Rattle.nv_flat.specs.One.{IsInOrder, IsRun};
 ghost use Rattle.nv_flat.specs.Transfer.{is_transfer};
 
@@ -123,7 +123,7 @@ impl FlatController {
 
     /// Makes every block kept.
     fn keep_all(&mut self)
-        ensures moved { (work : Work) → moved_of self.new false ≡ moved_on (AllBlocks (length self.old.disk)) work (moved_of self.old false) }
+        ensures moved { (work : Work) → moved_of self.new false ≡ moved_on (KeepAll (length self.old.disk)) work (moved_of self.old false) }
         ensures memory_size { length self.new.memory ≡ length self.old.memory }
         ensures disk_size { length self.new.disk ≡ length self.old.disk }
     {

@@ -3,10 +3,10 @@
 ghost use Rattle.std.specs.Prelude.{◌≡◌, ◌+◌, ◌*◌, ◌<◌, ◌≤◌, ℕ, List, true, false, length, drop};
 ghost use Rattle.nv_mem.specs.Places.{places_of};
 ghost use Rattle.nv_mem.specs.declared.piece.Piece.{Piece};
-ghost use Rattle.nv_model.specs.Judge.{OneBlock};
-ghost use Rattle.nv_model.specs.Carried.{moved_on, units_moved};
+ghost use Rattle.nv_model.specs.Judge.{MoveBlock};
+ghost use Rattle.nv_model.specs.Carried.{block_work, moved_on, units_from, units_moved};
 ghost use Rattle.nv_flat.specs.Buffer.{AreBelow};
-ghost use Rattle.nv_flat.specs.Flat.{block_work, moved_of, units_from};
+ghost use Rattle.nv_flat.specs.Flat.{moved_of};
 ghost use Rattle.nv_flat.specs.Transfer.{is_transfer};
 
 use crate::buffer::Buffer;
@@ -57,7 +57,7 @@ impl FlatController {
         requires enough { 512 ≤ length buffer.old }
         requires block { lba < length self.old.disk }
         ensures moved { (index : ℕ) (pieces : List Piece) → buffer.old ≡ drop (512 * index) (places_of pieces) →
-            moved_of self.new result ≡ moved_on (OneBlock index lba) (block_work opcode pieces fua) (moved_of self.old differed) }
+            moved_of self.new result ≡ moved_on (MoveBlock index lba) (block_work opcode pieces fua) (moved_of self.old differed) }
         ensures memory_size { length self.new.memory ≡ length self.old.memory }
         ensures disk_size { length self.new.disk ≡ length self.old.disk }
         ensures rest { buffer.new ≡ drop 512 buffer.old }

@@ -65,6 +65,20 @@ impl Host {
         out.copy_from_slice(&self.bytes[start..start + out.len()]);
     }
 
+    /// The `len` bytes from host address `addr` on, where they lie.
+    ///
+    /// The caller knows that they lie in the memory ([`Host::holds`] tests it).
+    pub fn bytes(&self, addr: u64, len: u64) -> &[u8]
+        requires { InMemory (length self.now) addr len }
+        ensures { result.now ≡ bytes_at self.now addr len }
+    {
+        if len == 0 {
+            return &[];
+        }
+        let start = addr as usize;
+        &self.bytes[start..start + len as usize]
+    }
+
     /// Writes the bytes to host address `addr` on, and changes no other byte.
     ///
     /// The caller knows that they lie in the memory ([`Host::holds`] tests it).

@@ -12,7 +12,7 @@
 //! NVM Express says nothing of memory maps: they are the hypervisor's, and so is every rule on them
 //! here. Sums are taken in whole numbers, so a region may end exactly at 2 to the 64.
 //!
-//! [`Host::new`], [`Places::push`] and the two `try_clone` take memory, and nothing else does. Each
+//! [`Host::new`], [`Places::reserve`], [`Places::push`] and the two `try_clone` take memory, and nothing else does. Each
 //! is called with ample memory in a test that compares its answer. `rt try --test --fail-alloc N`
 //! was run for each N up to 22: the test whose Nth allocation is refused ends with that call's
 //! error, and all others pass.

@@ -33,6 +33,14 @@ impl Places {
         }
     }
 
+    /// Takes room for so many more pieces at once. The places are as they were.
+    pub fn reserve(&mut self, pieces: usize) -> Result<(), NoMemory>
+        ensures { self.new ≡ self.old }
+    {
+        self.pieces.try_reserve(pieces)?;
+        Ok(())
+    }
+
     /// Adds a piece behind the others. Where no memory is left, the places are as they were.
     pub fn push(&mut self, piece: Piece) -> Result<(), NoMemory>
         ensures ok { OnOk result (self.new ≡ self.old ++ piece ∷ []) }

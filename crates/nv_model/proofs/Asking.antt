@@ -20,7 +20,7 @@ use Rattle.nv_model.specs.Dialogue.{Dialogue, End, Ask, and_then, asked}
 use Rattle.nv_model.specs.Reading.{Reading, Faulty, TooLong, Spells, run, unless_faulty}
 use Rattle.nv_model.specs.Sgl.{Array, array_by, behind_own, fault_by, pieces_by, read_array, read_descriptor, read_sgl, segment_fault}
 use Rattle.nv_model.specs.Prp.{entry_fault, first_len, page, pages_of, read_entries, read_page, read_prp, read_prp2, slots_of}
-use Rattle.nv_model.specs.Judge.{field_refusal, has_blocks, has_buffer, is_read, judge, judge_by, judge_fields, judge_reading, read_buffer, read_by, read_source, transfer_len}
+use Rattle.nv_model.specs.Judge.{Form, Transfer, Clear, Manage, Keep, field_refusal, form_of, has_buffer, is_read, judge, judge_buffer, judge_by, judge_fields, judge_reading, read_buffer, read_by, read_source, transfer_len}
 use Rattle.nv_model.specs.Laws.{IsMappedPiece, still_wanted}
 use Rattle.nv_model.proofs.Endings.{EndsIn, EndsIn-any, OfPieces, and-false, first_failing-none, not-false}
 use Rattle.nv_model.proofs.Spelled.{AreOfLen}
@@ -203,12 +203,18 @@ read_source-asks mapped (Run addr len ∷ pieces) bytes each = (
 )
 read_source-asks mapped (Bucket len ∷ pieces) bytes each = read_source-asks mapped pieces bytes (All-tail (IsMappedPiece mapped) (Bucket len) pieces each)
 
+judge_buffer-asks : (form : Form) (mapped : ℕ → Bool) (blocks : ℕ) (opcode : IoOpcode) (entry : List ℕ) (pieces : List Piece) → All (IsMappedPiece mapped) pieces
+    → AsksIn mapped (judge_buffer form blocks opcode entry pieces)
+judge_buffer-asks (Transfer dest) mapped blocks opcode entry pieces each = tt
+judge_buffer-asks Clear mapped blocks opcode entry pieces each = tt
+judge_buffer-asks Manage mapped blocks opcode entry pieces each =
+    AsksIn-and_then mapped (λ _. ⊤) (read_source pieces []) _ (read_source-asks mapped pieces [] each) (EndsIn-any (read_source pieces [])) (λ bytes _. tt)
+judge_buffer-asks Keep mapped blocks opcode entry pieces each = tt
+
 judge_reading-asks : (mapped : ℕ → Bool) (blocks : ℕ) (entry : List ℕ) (opcode : IoOpcode) (len : ℕ) (reading : Reading) → OfPieces (AreOfLen mapped len) reading → AsksIn mapped (judge_reading blocks entry opcode reading)
 judge_reading-asks mapped blocks entry opcode len (Faulty code) there = tt
 judge_reading-asks mapped blocks entry opcode len TooLong there = tt
-judge_reading-asks mapped blocks entry opcode len (Spells pieces) there =
-    AsksIn-if mapped (has_blocks opcode) _ _ (λ _. tt)
-    (λ _. AsksIn-and_then mapped (λ _. ⊤) (read_source pieces []) _ (read_source-asks mapped pieces [] there.mapped_each) (EndsIn-any (read_source pieces [])) (λ bytes _. tt))
+judge_reading-asks mapped blocks entry opcode len (Spells pieces) there = judge_buffer-asks (form_of opcode) mapped blocks opcode entry pieces there.mapped_each
 
 judge_by-asks : (opcode : Option IoOpcode) (mapped : ℕ → Bool) (limit blocks : ℕ) (entry : List ℕ) → AsksIn mapped (judge_by opcode mapped limit blocks entry)
 judge_by-asks None mapped limit blocks entry = tt
@@ -219,7 +225,7 @@ judge_by-asks (Some opcode) mapped limit blocks entry =
     (AsksIn-and_then mapped (λ _. ⊤) (read_by (data_pointer (psdt_of entry)) mapped limit (is_read opcode) (transfer_len opcode entry) entry) _
     (read_by-asks (data_pointer (psdt_of entry)) mapped limit (is_read opcode) (transfer_len opcode entry) entry) (EndsIn-any _) (λ reading _. tt))
     ends (λ reading there. judge_reading-asks mapped blocks entry opcode (transfer_len opcode entry) reading there))
-    (λ _. tt)
+    (λ _. judge_buffer-asks (form_of opcode) mapped blocks opcode entry [] (All-nil (IsMappedPiece mapped)))
 
 judge_fields-asks : (refusal : Option StatusCode) (mapped : ℕ → Bool) (limit blocks : ℕ) (entry : List ℕ) → AsksIn mapped (judge_fields refusal mapped limit blocks entry)
 judge_fields-asks (Some code) mapped limit blocks entry = tt

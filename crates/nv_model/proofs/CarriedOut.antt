@@ -1,26 +1,33 @@
 -- Lemmas on carrying one command out.
-use Rattle.std.proofs.Common.{◌≡◌, ℕ, zero, suc, true, ◌==◌, List, [], ◌∷◌, ◌++◌, length, replicate, Some, refl, sym, ap, ◌∙◌, subst, eq-eqb}
-use Rattle.std.specs.List.{list_all}
+use Rattle.std.proofs.Common.{◌≡◌, ℕ, zero, suc, ◌+◌, ◌<◌, true, ◌==◌, List, [], ◌∷◌, ◌++◌, length, map, slice_get, Some, arith, refl, sym, ap, ◌∙◌, subst, eq-eqb}
+use Rattle.std.specs.List.{list_all, range_with_len}
 use Rattle.nv_entry.specs.Status.{StatusField}
 use Rattle.nv_model.specs.Judge.{WorkUnit, Work, Go, Refuse}
-use Rattle.nv_model.specs.Private.{AtWork, Ended, Progress, Unjudged, JudgeStep, MoveStep, Moved, Private, Progress, Shape, Taken, ending, named, run_of, step, silently, verdict_in, progress_of}
-use Rattle.nv_model.specs.Carried.{IsCarriedOut, all_moved, alone_at_work, alone_with, ending_of, is_own_step, judged_then_moved, moved_on, moved_status, unmoved, units_moved}
+use Rattle.nv_model.specs.Private.{AtWork, Bag, Ended, Progress, Unjudged, JudgeStep, MoveStep, Moved, Private, Shape, Taken, ending, moved_status, others, progress_of, run_of, step, unit_left, unseen, verdict_in}
+use Rattle.nv_model.specs.Carried.{IsCarriedOut, all_moved, at_work, ending_of, is_own_step, judged_then_moved, moved_on, this_far, unmoved, units_moved}
+use Rattle.nv_model.proofs.Bags.{others-first, put-here, put-same, put-twice, unit_left-first}
 
--- a unit of the command that is alone in the bag moves
-pub step-move_alone : (shape : Shape) (t : Taken) (work : Work) (unit : WorkUnit) (units : List WorkUnit) (m : Moved) (p : Private)
-    → step shape (MoveStep t.name 0) (alone_at_work t work (unit ∷ units) m p) ≡ silently (alone_at_work t work units (moved_on unit work m) p)
+-- a unit of a command moves
+pub step-move : (shape : Shape) (name : ℕ) (t : Taken) (work : Work) (left : List ℕ) (number : ℕ) (unit : WorkUnit) (m : Moved) (p : Private)
+    → unit_left work left number ≡ Some unit
+    → step shape (MoveStep name number) (at_work name t work left m p) ≡ unseen (at_work name t work (others number left) (moved_on unit work m) p)
 unfolding step
-step-move_alone shape t work unit units m p =
-    let same : (t.name == t.name) ≡ true = eq-eqb t.name t.name refl in
-    rw (same, same) refl
+step-move shape name t work left number unit m p found =
+    let same : (name == name) ≡ true = eq-eqb name name refl in
+    let n = moved_on unit work m in
+    rw (same, found)
+    (ap (λ (b : Bag). unseen (record { memory = n.memory; disk = n.disk; kept = n.kept; controller = p.controller; bag = b }))
+    (put-twice p.bag name (Some (record t { progress = AtWork work left m.differed })) (Some (record t { progress = AtWork work (others number left) n.differed }))))
 
--- the command that is alone in the bag is judged
-pub step-judge_alone : (shape : Shape) (t : Taken) (p : Private)
-    → step shape (JudgeStep t.name) (alone_with t Unjudged p) ≡ silently (alone_with t (progress_of (verdict_in shape p.memory t.entry)) p)
+-- a command is judged
+pub step-judge : (shape : Shape) (name : ℕ) (t : Taken) (p : Private)
+    → step shape (JudgeStep name) (this_far name t Unjudged p) ≡ unseen (this_far name t (progress_of (verdict_in shape p.memory t.entry)) p)
 unfolding step
-step-judge_alone shape t p =
-    let same : (t.name == t.name) ≡ true = eq-eqb t.name t.name refl in
-    rw (same, same) refl
+step-judge shape name t p =
+    let same : (name == name) ≡ true = eq-eqb name name refl in
+    rw same
+    (ap (λ (b : Bag). unseen (record p { bag = b }))
+    (put-twice p.bag name (Some (record t { progress = Unjudged })) (Some (record t { progress = progress_of (verdict_in shape p.memory t.entry) }))))
 
 -- units in two parts
 pub units_moved-append : (first rest : List WorkUnit) (work : Work) (m : Moved) → units_moved (first ++ rest) work m ≡ units_moved rest work (units_moved first work m)
@@ -28,94 +35,98 @@ unfolding units_moved
 units_moved-append [] rest work m = refl
 units_moved-append (unit ∷ first) rest work m = units_moved-append first rest work (moved_on unit work m)
 
--- moves of the first unit, as many as there are units
-pub run_of-moves_alone : (shape : Shape) (t : Taken) (work : Work) (units : List WorkUnit) (m : Moved) (p : Private)
-    → run_of shape (replicate (length units) (MoveStep t.name 0)) (alone_at_work t work units m p)
-    ≡ Some (record { state = alone_at_work t work [] (units_moved units work m) p; replies = [] })
+-- the last units of a command move, in order of their numbers
+pub run_of-moves : (shape : Shape) (name : ℕ) (t : Taken) (work : Work) (p : Private) (units : List WorkUnit) (start : ℕ) (m : Moved)
+    → ((i : ℕ) → i < length units → slice_get work.units (start + i) ≡ slice_get units i)
+    → run_of shape (map (MoveStep name) (range_with_len start (length units))) (at_work name t work (range_with_len start (length units)) m p)
+    ≡ Some (record { state = at_work name t work [] (units_moved units work m) p; seen = [] })
 unfolding run_of units_moved
-run_of-moves_alone shape t work [] m p = refl
-run_of-moves_alone shape t work (unit ∷ units) m p =
-    rw (step-move_alone shape t work unit units m p, run_of-moves_alone shape t work units (moved_on unit work m) p) refl
+run_of-moves shape name t work p [] start m each = refl
+run_of-moves shape name t work p (unit ∷ units) start m each =
+    let here : start + 0 ≡ start = omega arith in
+    let first : slice_get work.units start ≡ Some unit = subst (λ (n : ℕ). slice_get work.units n ≡ Some unit) here (each 0 (omega arith)) in
+    let found : unit_left work (range_with_len start (suc (length units))) start ≡ Some unit = unit_left-first work start (length units) ∙ first in
+    let rest = run_of-moves shape name t work p units (start + 1) (moved_on unit work m)
+    (λ i below. let next : start + suc i ≡ start + 1 + i = omega arith in subst (λ (n : ℕ). slice_get work.units n ≡ slice_get units i) next (each (suc i) (omega arith))) in
+    rw (step-move shape name t work (range_with_len start (suc (length units))) start unit m p found, others-first start (length units), rest) refl
 
--- the commands of the list of steps are the one command
-own-judged_then_moved : (name units : ℕ) → list_all (is_own_step name) (replicate units (MoveStep name 0)) ≡ true
-own-judged_then_moved name zero = refl
-own-judged_then_moved name (suc units) =
+-- the steps are the command's own
+own-moves : (name start units : ℕ) → list_all (is_own_step name) (map (MoveStep name) (range_with_len start units)) ≡ true
+own-moves name start zero = refl
+own-moves name start (suc units) =
     let same : (name == name) ≡ true = eq-eqb name name refl in
-    rw (same, own-judged_then_moved name units) refl
+    rw (same, own-moves name (start + 1) units) refl
+
+own-steps : (name units : ℕ) → list_all (is_own_step name) (judged_then_moved name units) ≡ true
+own-steps name units = rw (eq-eqb name name refl, own-moves name 0 units) refl
 
 -- a command that goes is judged, and its units move in order
-run_of-judged_then_moved : (shape : Shape) (t : Taken) (p : Private) (work : Work)
+run_of-judged_then_moved : (shape : Shape) (name : ℕ) (t : Taken) (p : Private) (work : Work)
     → verdict_in shape p.memory t.entry ≡ Go work
-    → run_of shape (judged_then_moved t.name (length work.units)) (alone_with t Unjudged p)
-    ≡ Some (record { state = all_moved t work p; replies = [] })
+    → run_of shape (judged_then_moved name (length work.units)) (this_far name t Unjudged p)
+    ≡ Some (record { state = all_moved name t work p; seen = [] })
 unfolding run_of
-run_of-judged_then_moved shape t p work goes =
-    rw (step-judge_alone shape t p, goes, run_of-moves_alone shape t work work.units (unmoved p) p) refl
+run_of-judged_then_moved shape name t p work goes =
+    let all = run_of-moves shape name t work p work.units 0 (unmoved p) (λ i below. let none : 0 + i ≡ i = omega arith in ap (slice_get work.units) none) in
+    rw (step-judge shape name t p, goes, all) refl
 
 -- a command that is refused is judged
-run_of-judged : (shape : Shape) (t : Taken) (p : Private) (st : StatusField)
+run_of-judged : (shape : Shape) (name : ℕ) (t : Taken) (p : Private) (st : StatusField)
     → verdict_in shape p.memory t.entry ≡ Refuse st
-    → run_of shape (judged_then_moved t.name 0) (alone_with t Unjudged p)
-    ≡ Some (record { state = alone_with t (Ended st) p; replies = [] })
+    → run_of shape (judged_then_moved name 0) (this_far name t Unjudged p)
+    ≡ Some (record { state = this_far name t (Ended st) p; seen = [] })
 unfolding run_of
-run_of-judged shape t p st refused = rw (step-judge_alone shape t p, refused) refl
+run_of-judged shape name t p st refused = rw (step-judge shape name t p, refused) refl
 
--- a state with one unjudged command in its bag
-pub alone-is : (t : Taken) (p : Private) → p.bag ≡ t ∷ [] → t.progress ≡ Unjudged → alone_with t Unjudged p ≡ p
-alone-is t p alone unjudged =
+-- a state in which the command is not judged
+pub unjudged-is : (name : ℕ) (t : Taken) (p : Private) → p.bag name ≡ Some t → t.progress ≡ Unjudged → this_far name t Unjudged p ≡ p
+unjudged-is name t p there unjudged =
     let whole : record t { progress = Unjudged } ≡ t = ap (λ (g : Progress). record t { progress = g }) (sym unjudged) in
-    ap (λ (u : Taken). record p { bag = u ∷ [] }) whole ∙ ap (λ (b : List Taken). record p { bag = b }) (sym alone)
+    ap (λ (b : Bag). record p { bag = b }) (put-same p.bag name (Some (record t { progress = Unjudged })) (there ∙ ap (λ (u : Taken). Some u) (sym whole)))
 
--- the command that is alone in the bag is found there
-pub ending_of-alone : (t : Taken) (progress : Progress) (p : Private) → ending_of (named t.name (alone_with t progress p).bag) ≡ ending progress
-ending_of-alone t progress p =
-    let same : (t.name == t.name) ≡ true = eq-eqb t.name t.name refl in
-    rw same refl
-
--- the list of steps is the command's own
-own-steps : (name units : ℕ) → list_all (is_own_step name) (judged_then_moved name units) ≡ true
-own-steps name units = rw (eq-eqb name name refl, own-judged_then_moved name units) refl
+-- a command that is this far has ended so
+pub ending_of-this_far : (name : ℕ) (t : Taken) (progress : Progress) (p : Private) → ending_of ((this_far name t progress p).bag name) ≡ ending progress
+ending_of-this_far name t progress p = ap ending_of (put-here p.bag name (Some (record t { progress = progress })))
 
 -- a command that goes: judging it, and moving its units in order, is a run
-pub units_in_order : (shape : Shape) (p : Private) (t : Taken) (work : Work) → p.bag ≡ t ∷ [] → t.progress ≡ Unjudged
+pub units_in_order : (shape : Shape) (p : Private) (name : ℕ) (t : Taken) (work : Work) → p.bag name ≡ Some t → t.progress ≡ Unjudged
     → verdict_in shape p.memory t.entry ≡ Go work
-    → run_of shape (judged_then_moved t.name (length work.units)) p ≡ Some (record { state = all_moved t work p; replies = [] })
-units_in_order shape p t work alone unjudged goes =
-    subst (λ (q : Private). run_of shape (judged_then_moved t.name (length work.units)) q ≡ Some (record { state = all_moved t work p; replies = [] }))
-    (alone-is t p alone unjudged) (run_of-judged_then_moved shape t p work goes)
+    → run_of shape (judged_then_moved name (length work.units)) p ≡ Some (record { state = all_moved name t work p; seen = [] })
+units_in_order shape p name t work there unjudged goes =
+    subst (λ (q : Private). run_of shape (judged_then_moved name (length work.units)) q ≡ Some (record { state = all_moved name t work p; seen = [] }))
+    (unjudged-is name t p there unjudged) (run_of-judged_then_moved shape name t p work goes)
 
 -- a command that is refused: judging it is a run
-pub refusal_alone : (shape : Shape) (p : Private) (t : Taken) (st : StatusField) → p.bag ≡ t ∷ [] → t.progress ≡ Unjudged
+pub refusal_alone : (shape : Shape) (p : Private) (name : ℕ) (t : Taken) (st : StatusField) → p.bag name ≡ Some t → t.progress ≡ Unjudged
     → verdict_in shape p.memory t.entry ≡ Refuse st
-    → run_of shape (judged_then_moved t.name 0) p ≡ Some (record { state = alone_with t (Ended st) p; replies = [] })
-refusal_alone shape p t st alone unjudged refused =
-    subst (λ (q : Private). run_of shape (judged_then_moved t.name 0) q ≡ Some (record { state = alone_with t (Ended st) p; replies = [] }))
-    (alone-is t p alone unjudged) (run_of-judged shape t p st refused)
+    → run_of shape (judged_then_moved name 0) p ≡ Some (record { state = this_far name t (Ended st) p; seen = [] })
+refusal_alone shape p name t st there unjudged refused =
+    subst (λ (q : Private). run_of shape (judged_then_moved name 0) q ≡ Some (record { state = this_far name t (Ended st) p; seen = [] }))
+    (unjudged-is name t p there unjudged) (run_of-judged shape name t p st refused)
 
 -- the one and the other carry the command out
-pub IsCarriedOut-moved : (shape : Shape) (p : Private) (t : Taken) (work : Work) → p.bag ≡ t ∷ [] → t.progress ≡ Unjudged
+pub IsCarriedOut-moved : (shape : Shape) (p : Private) (name : ℕ) (t : Taken) (work : Work) → p.bag name ≡ Some t → t.progress ≡ Unjudged
     → verdict_in shape p.memory t.entry ≡ Go work
-    → IsCarriedOut shape p t (moved_status (units_moved work.units work (unmoved p)).differed) (all_moved t work p)
-IsCarriedOut-moved shape p t work alone unjudged goes =
+    → IsCarriedOut shape p name t (moved_status (units_moved work.units work (unmoved p)).differed) (all_moved name t work p)
+IsCarriedOut-moved shape p name t work there unjudged goes =
     record {
-      alone = alone;
+      there = there;
       unjudged = unjudged;
-      steps = judged_then_moved t.name (length work.units);
-      own = own-steps t.name (length work.units);
-      runs = units_in_order shape p t work alone unjudged goes;
-      ended = ending_of-alone t (AtWork work [] (units_moved work.units work (unmoved p)).differed) (all_moved t work p);
+      steps = judged_then_moved name (length work.units);
+      own = own-steps name (length work.units);
+      runs = units_in_order shape p name t work there unjudged goes;
+      ended = ending_of-this_far name t (AtWork work [] (units_moved work.units work (unmoved p)).differed) p;
     }
 
-pub IsCarriedOut-refused : (shape : Shape) (p : Private) (t : Taken) (st : StatusField) → p.bag ≡ t ∷ [] → t.progress ≡ Unjudged
+pub IsCarriedOut-refused : (shape : Shape) (p : Private) (name : ℕ) (t : Taken) (st : StatusField) → p.bag name ≡ Some t → t.progress ≡ Unjudged
     → verdict_in shape p.memory t.entry ≡ Refuse st
-    → IsCarriedOut shape p t st (alone_with t (Ended st) p)
-IsCarriedOut-refused shape p t st alone unjudged refused =
+    → IsCarriedOut shape p name t st (this_far name t (Ended st) p)
+IsCarriedOut-refused shape p name t st there unjudged refused =
     record {
-      alone = alone;
+      there = there;
       unjudged = unjudged;
-      steps = judged_then_moved t.name 0;
-      own = own-steps t.name 0;
-      runs = refusal_alone shape p t st alone unjudged refused;
-      ended = ending_of-alone t (Ended st) p;
+      steps = judged_then_moved name 0;
+      own = own-steps name 0;
+      runs = refusal_alone shape p name t st there unjudged refused;
+      ended = ending_of-this_far name t (Ended st) p;
     }

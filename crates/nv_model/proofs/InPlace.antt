@@ -1,6 +1,5 @@
 -- Each step keeps a state in place: its queues in mapped memory, and its commands at work in mapped memory and in the namespace.
-use Rattle.std.proofs.Common.{◌≡◌, ℕ, suc, Bool, not, ◌==◌, nat_lt, List, [], ◌∷◌, length, take, drop, find, remove, slice_get, All, Option, Some, None, IfSome, refl}
-use Rattle.std.proofs.lemmas.List.Elements.{All-nil, All-cons, All-head, All-tail, All-append, All-take, All-drop, All-filter}
+use Rattle.std.proofs.Common.{◌≡◌, ℕ, Bool, ◌==◌, nat_lt, List, [], ◌∷◌, length, All, Option, Some, None, IfSome, refl}
 use Rattle.nv_entry.specs.Submission.{cid_of}
 use Rattle.nv_entry.specs.Status.{StatusField}
 use Rattle.nv_entry.specs.StatusCode.{done_with}
@@ -13,25 +12,20 @@ use Rattle.nv_model.specs.Judge.{Go, Refuse, Verdict, Work, WorkUnit}
 use Rattle.nv_model.specs.Queue.{sqe_size}
 use Rattle.nv_model.specs.Controller.{Controller, Posted, doorbell, front, is_enabled, post, reg_read, reg_write}
 use Rattle.nv_model.specs.Admin.{AdminStep, NothingToDo, QueueFull, Stepped, admin}
-use Rattle.nv_model.specs.Private.{ActStep, AdminQueueStep, After, AtWork, Ended, GiveUpStep, JudgeStep, KeepStep, MoveStep, PostStep, Private, Progress, RunOutStep, Shape, Step, TakeStep, Taken, Unjudged, acted, administered, completed_at, controlled, ending, further, given_up_at, judged_at, may_take, moved_at, named, posted_at, progress_of, register_replied, run_of, run_out_at, start, step, taken_at, unit_done, verdict_in, with_named, with_progress, without}
-use Rattle.nv_model.specs.Laws.{IsCompletionInPlace, IsInPlace, IsMappedPiece, IsProgressInPlace, IsSubmissionInPlace, IsUnitWithin, QueuesInPlace}
+use Rattle.nv_model.specs.Private.{Acted, ActStep, AdminQueueStep, After, AtWork, Bag, Ended, GiveUpStep, JudgeStep, KeepStep, MoveStep, PostStep, Private, Progress, RunOutStep, Shape, Step, TakeStep, Taken, Unjudged, acted, administered, completed_at, controlled, ending, further, given_up_at, judged_at, may_take, moved_at, others, posted_at, progress_of, put, register_replied, run_of, run_out_at, start, step, taken_at, unit_done, unit_left, verdict_in, with_taken}
+use Rattle.nv_model.specs.Laws.{IsCompletionInPlace, IsInPlace, IsMappedPiece, IsProgressInPlace, IsSubmissionInPlace, IsTakenInPlace, IsUnitWithin, QueuesInPlace}
 use Rattle.nv_model.proofs.Judged.{verdict-sound}
 use Rattle.nv_model.proofs.QueuesKept.{QueuesHave-opening, by_test}
 use Rattle.nv_model.proofs.QueueOrder.{IsKept-in_place}
 use Rattle.nv_model.proofs.StepsKept.{further-state, step-kept}
 
 -- each command of the bag is in place
-abbrev pub BagInPlace : Shape → List Taken → Type 0
-BagInPlace shape bag = All (λ t. IsProgressInPlace shape t.progress) bag
+abbrev pub BagInPlace : Shape → Bag → Type 0
+BagInPlace shape bag = (name : ℕ) → IsTakenInPlace shape (bag name)
 
 -- so it is behind a step
 abbrev AfterBag : Shape → Option After → Type 0
 AfterBag shape o = IfSome o (λ a. BagInPlace shape a.state.bag)
-
--- what is found in a list has what each element has
-find-has : {X : Type 0} (P : X → Type 0) (test : X → Bool) (xs : List X) → All P xs → IfSome (find test xs) P
-find-has P test [] each = tt
-find-has P test (x ∷ xs) each = by_test (λ o. IfSome o P) (test x) _ _ (λ _. All-head P x xs each) (λ _. find-has P test xs (All-tail P x xs each))
 
 module _ (shape : Shape) where
   -- a verdict that goes is in place
@@ -41,25 +35,21 @@ module _ (shape : Shape) where
       let sound = verdict-sound shape.mapped shape.limit shape.blocks entry memory work is in
       (sound.mapped_each, sound.within)
 
-  -- the bag without a command, and with one changed
-  without-in_place : (name : ℕ) (bag : List Taken) → BagInPlace shape bag → BagInPlace shape (without name bag)
-  without-in_place name bag each = All-filter (λ t. not (t.name == name)) (λ t. IsProgressInPlace shape t.progress) bag each
+  -- the bag with something under a name
+  put-in_place : (bag : Bag) (name : ℕ) (member : Option Taken) → BagInPlace shape bag → IsTakenInPlace shape member → BagInPlace shape (put bag name member)
+  put-in_place bag name member each there at = by_test (IsTakenInPlace shape) (at == name) member (bag at) (λ _. there) (λ _. each at)
 
-  with_progress-in_place : (t : Taken) (progress : Progress) (bag : List Taken) → BagInPlace shape bag → IsProgressInPlace shape progress → BagInPlace shape (with_progress t progress bag)
-  with_progress-in_place t progress bag each there =
-      All-cons (λ t. IsProgressInPlace shape t.progress) (record t { progress = progress }) (without t.name bag) there (without-in_place t.name bag each)
-
-  controlled-bag : (o : Option Controller) (p : Private) → BagInPlace shape p.bag → AfterBag shape (controlled o p)
+  controlled-bag : (o : Option Controller) (p : Private) → BagInPlace shape p.bag → BagInPlace shape (controlled o p).state.bag
   controlled-bag None p each = each
   controlled-bag (Some c) p each = each
 
-  register_replied-bag : (o : Option ℕ) (p : Private) → BagInPlace shape p.bag → AfterBag shape (register_replied o p)
+  register_replied-bag : (o : Option ℕ) (p : Private) → BagInPlace shape p.bag → BagInPlace shape (register_replied o p).state.bag
   register_replied-bag None p each = each
   register_replied-bag (Some value) p each = each
 
-  acted-bag : (a : Act) (p : Private) → BagInPlace shape p.bag → AfterBag shape (acted shape a p)
-  acted-bag (act.Store addr bytes) p each = by_test (AfterBag shape) (everywhere shape.mapped addr (length bytes)) _ _ (λ _. each) (λ _. each)
-  acted-bag (act.Load addr len) p each = by_test (AfterBag shape) (everywhere shape.mapped addr len) _ _ (λ _. each) (λ _. each)
+  acted-bag : (a : Act) (p : Private) → BagInPlace shape p.bag → BagInPlace shape (acted shape a p).state.bag
+  acted-bag (act.Store addr bytes) p each = by_test (λ (a : Acted). BagInPlace shape a.state.bag) (everywhere shape.mapped addr (length bytes)) _ _ (λ _. each) (λ _. each)
+  acted-bag (act.Load addr len) p each = by_test (λ (a : Acted). BagInPlace shape a.state.bag) (everywhere shape.mapped addr len) _ _ (λ _. each) (λ _. each)
   acted-bag (act.RegRead offset) p each = register_replied-bag (reg_read p.controller offset) p each
   acted-bag (act.RegWrite offset value) p each = controlled-bag (reg_write shape.mapped p.controller offset value) p each
   acted-bag (act.Doorbell offset value) p each = controlled-bag (doorbell p.controller offset value) p each
@@ -67,64 +57,65 @@ module _ (shape : Shape) where
   taken_at-bag : (at : Option ℕ) (queue name : ℕ) (p : Private) → BagInPlace shape p.bag → AfterBag shape (taken_at at queue name p)
   taken_at-bag None queue name p each = tt
   taken_at-bag (Some addr) queue name p each =
-      All-cons (λ t. IsProgressInPlace shape t.progress) (record { name = name; queue = queue; entry = bytes_from p.memory addr sqe_size; progress = Unjudged }) p.bag tt each
+      put-in_place p.bag name (Some (record { queue = queue; entry = bytes_from p.memory addr sqe_size; progress = Unjudged })) each tt
 
-  judged_at-bag : (progress : Progress) (t : Taken) (p : Private) → BagInPlace shape p.bag → AfterBag shape (judged_at progress shape t p)
-  judged_at-bag Unjudged t p each = with_progress-in_place t (progress_of (verdict_in shape p.memory t.entry)) p.bag each (progress_of-in_place p.memory t.entry (verdict_in shape p.memory t.entry) refl)
-  judged_at-bag (Ended st) t p each = tt
-  judged_at-bag (AtWork work units differed) t p each = tt
+  judged_at-bag : (progress : Progress) (name : ℕ) (t : Taken) (p : Private) → BagInPlace shape p.bag → AfterBag shape (judged_at progress shape name t p)
+  judged_at-bag Unjudged name t p each =
+      put-in_place p.bag name (Some (record t { progress = progress_of (verdict_in shape p.memory t.entry) })) each
+      (progress_of-in_place p.memory t.entry (verdict_in shape p.memory t.entry) refl)
+  judged_at-bag (Ended st) name t p each = tt
+  judged_at-bag (AtWork work left differed) name t p each = tt
 
-  given_up_at-bag : (progress : Progress) (t : Taken) (p : Private) → BagInPlace shape p.bag → AfterBag shape (given_up_at progress t p)
-  given_up_at-bag Unjudged t p each = with_progress-in_place t (Ended (done_with InternalError)) p.bag each tt
-  given_up_at-bag (Ended st) t p each = tt
-  given_up_at-bag (AtWork work units differed) t p each = tt
+  given_up_at-bag : (progress : Progress) (name : ℕ) (t : Taken) (p : Private) → BagInPlace shape p.bag → AfterBag shape (given_up_at progress name t p)
+  given_up_at-bag Unjudged name t p each = put-in_place p.bag name (Some (record t { progress = Ended (done_with InternalError) })) each tt
+  given_up_at-bag (Ended st) name t p each = tt
+  given_up_at-bag (AtWork work left differed) name t p each = tt
 
-  unit_done-bag : (o : Option WorkUnit) (others : List WorkUnit) (work : Work) (differed : Bool) (t : Taken) (p : Private)
-      → BagInPlace shape p.bag → All (IsMappedPiece shape.mapped) work.pieces → All (IsUnitWithin shape.blocks) others → AfterBag shape (unit_done o others work differed t p)
-  unit_done-bag None others work differed t p each pieces units = tt
-  unit_done-bag (Some unit) others work differed t p each pieces units = with_progress-in_place t _ p.bag each (pieces, units)
+  unit_done-bag : (o : Option WorkUnit) (left : List ℕ) (work : Work) (differed : Bool) (name : ℕ) (t : Taken) (p : Private)
+      → BagInPlace shape p.bag → All (IsMappedPiece shape.mapped) work.pieces → All (IsUnitWithin shape.blocks) work.units
+      → AfterBag shape (unit_done o left work differed name t p)
+  unit_done-bag None left work differed name t p each pieces units = tt
+  unit_done-bag (Some unit) left work differed name t p each pieces units = put-in_place p.bag name (Some _) each (pieces, units)
 
-  moved_at-bag : (progress : Progress) (place : ℕ) (t : Taken) (p : Private) → BagInPlace shape p.bag → IsProgressInPlace shape progress → AfterBag shape (moved_at progress place t p)
-  moved_at-bag Unjudged place t p each there = tt
-  moved_at-bag (Ended st) place t p each there = tt
-  moved_at-bag (AtWork work units differed) place t p each there =
-      unit_done-bag (slice_get units place) (remove units place) work differed t p each there.0
-      (All-append (IsUnitWithin shape.blocks) (take place units) (drop (suc place) units)
-      (All-take (IsUnitWithin shape.blocks) place units there.1) (All-drop (IsUnitWithin shape.blocks) (suc place) units there.1))
+  moved_at-bag : (progress : Progress) (number name : ℕ) (t : Taken) (p : Private) → BagInPlace shape p.bag → IsProgressInPlace shape progress
+      → AfterBag shape (moved_at progress number name t p)
+  moved_at-bag Unjudged number name t p each there = tt
+  moved_at-bag (Ended st) number name t p each there = tt
+  moved_at-bag (AtWork work left differed) number name t p each there =
+      unit_done-bag (unit_left work left number) (others number left) work differed name t p each there.0 there.1
 
-  posted_at-bag : (o : Option Posted) (t : Taken) (p : Private) → BagInPlace shape p.bag → AfterBag shape (posted_at o t p)
-  posted_at-bag None t p each = tt
-  posted_at-bag (Some posted) t p each = without-in_place t.name p.bag each
+  posted_at-bag : (o : Option Posted) (name : ℕ) (p : Private) → BagInPlace shape p.bag → AfterBag shape (posted_at o name p)
+  posted_at-bag None name p each = tt
+  posted_at-bag (Some posted) name p each = put-in_place p.bag name None each tt
 
-  completed_at-bag : (o : Option StatusField) (t : Taken) (p : Private) → BagInPlace shape p.bag → AfterBag shape (completed_at o t p)
-  completed_at-bag None t p each = tt
-  completed_at-bag (Some st) t p each = by_test (AfterBag shape) (is_enabled p.controller) _ _ (λ _. posted_at-bag (post p.controller t.queue 0 (cid_of t.entry) st) t p each) (λ _. tt)
+  completed_at-bag : (o : Option StatusField) (name : ℕ) (t : Taken) (p : Private) → BagInPlace shape p.bag → AfterBag shape (completed_at o name t p)
+  completed_at-bag None name t p each = tt
+  completed_at-bag (Some st) name t p each =
+      by_test (AfterBag shape) (is_enabled p.controller) _ _ (λ _. posted_at-bag (post p.controller t.queue 0 (cid_of t.entry) st) name p each) (λ _. tt)
 
-  run_out_at-bag : (o : Option StatusField) (t : Taken) (p : Private) → BagInPlace shape p.bag → AfterBag shape (run_out_at o t p)
-  run_out_at-bag None t p each = tt
-  run_out_at-bag (Some st) t p each = by_test (AfterBag shape) (is_enabled p.controller) _ _ (λ _. tt) (λ _. without-in_place t.name p.bag each)
+  run_out_at-bag : (o : Option StatusField) (name : ℕ) (t : Taken) (p : Private) → BagInPlace shape p.bag → AfterBag shape (run_out_at o name t p)
+  run_out_at-bag None name t p each = tt
+  run_out_at-bag (Some st) name t p each = by_test (AfterBag shape) (is_enabled p.controller) _ _ (λ _. tt) (λ _. put-in_place p.bag name None each tt)
 
   administered-bag : (a : AdminStep) (p : Private) → BagInPlace shape p.bag → AfterBag shape (administered a p)
   administered-bag NothingToDo p each = tt
   administered-bag QueueFull p each = tt
   administered-bag (Stepped c memory) p each = each
 
-  with_named-bag : (o : Option Taken) (change : Taken → Option After) → IfSome o (λ t. IsProgressInPlace shape t.progress) → ((t : Taken) → IsProgressInPlace shape t.progress → AfterBag shape (change t)) → AfterBag shape (with_named o change)
-  with_named-bag None change there each = tt
-  with_named-bag (Some t) change there each = each t there
-
-  pub named-in_place : (name : ℕ) (bag : List Taken) → BagInPlace shape bag → IfSome (named name bag) (λ t. IsProgressInPlace shape t.progress)
-  named-in_place name bag each = find-has (λ t. IsProgressInPlace shape t.progress) (λ t. t.name == name) bag each
+  with_taken-bag : (o : Option Taken) (change : Taken → Option After) → IsTakenInPlace shape o
+      → ((t : Taken) → IsProgressInPlace shape t.progress → AfterBag shape (change t)) → AfterBag shape (with_taken o change)
+  with_taken-bag None change there each = tt
+  with_taken-bag (Some t) change there each = each t there
 
   step-bag : (s : Step) (p : Private) → BagInPlace shape p.bag → AfterBag shape (step shape s p)
   unfolding step
   step-bag (ActStep a) p each = acted-bag a p each
   step-bag (TakeStep queue name) p each = by_test (AfterBag shape) (may_take queue name p) _ _ (λ _. taken_at-bag (front p.controller queue) queue name p each) (λ _. tt)
-  step-bag (JudgeStep name) p each = with_named-bag (named name p.bag) _ (named-in_place name p.bag each) (λ t there. judged_at-bag t.progress t p each)
-  step-bag (MoveStep name place) p each = with_named-bag (named name p.bag) _ (named-in_place name p.bag each) (λ t there. moved_at-bag t.progress place t p each there)
-  step-bag (GiveUpStep name) p each = with_named-bag (named name p.bag) _ (named-in_place name p.bag each) (λ t there. given_up_at-bag t.progress t p each)
-  step-bag (PostStep name) p each = with_named-bag (named name p.bag) _ (named-in_place name p.bag each) (λ t there. completed_at-bag (ending t.progress) t p each)
-  step-bag (RunOutStep name) p each = with_named-bag (named name p.bag) _ (named-in_place name p.bag each) (λ t there. run_out_at-bag (ending t.progress) t p each)
+  step-bag (JudgeStep name) p each = with_taken-bag (p.bag name) _ (each name) (λ t there. judged_at-bag t.progress name t p each)
+  step-bag (MoveStep name number) p each = with_taken-bag (p.bag name) _ (each name) (λ t there. moved_at-bag t.progress number name t p each there)
+  step-bag (GiveUpStep name) p each = with_taken-bag (p.bag name) _ (each name) (λ t there. given_up_at-bag t.progress name t p each)
+  step-bag (PostStep name) p each = with_taken-bag (p.bag name) _ (each name) (λ t there. completed_at-bag (ending t.progress) name t p each)
+  step-bag (RunOutStep name) p each = with_taken-bag (p.bag name) _ (each name) (λ t there. run_out_at-bag (ending t.progress) name t p each)
   step-bag AdminQueueStep p each = administered-bag (admin shape.mapped shape.blocks p.controller p.memory) p each
   step-bag (KeepStep lba) p each = by_test (AfterBag shape) (nat_lt lba shape.blocks) _ _ (λ _. each) (λ _. tt)
 
@@ -145,7 +136,7 @@ module _ (shape : Shape) where
   IsInPlace-start =
       record {
         queues = QueuesHave-opening shape.mapped (IsSubmissionInPlace shape.mapped) (IsCompletionInPlace shape.mapped) (IsKept-in_place shape.mapped);
-        taken = All-nil (λ t. IsProgressInPlace shape t.progress);
+        taken = λ name. tt;
       }
 
   further-in_place : (o : Option After) (steps : List Step) → IfSome o (λ a. IsInPlace shape a.state)

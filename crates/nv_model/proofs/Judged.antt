@@ -1,14 +1,11 @@
 -- What each verdict that goes says.
-use Rattle.std.proofs.Common.{◌-◌, ◌++◌, min, sym, ◌≡◌, ℕ, zero, suc, ◌+◌, ◌<◌, ◌≤◌, Bool, true, false, cond, not, ◌&&◌, ◌==◌, nat_lt, List, [], ◌∷◌, map, length, drop, slice_get, All, Option, Some, None, arith, refl, ap, ◌∙◌, subst, eqb-true, eq-or-lt_of_le, inl, inr}
+use Rattle.std.proofs.Common.{◌-◌, ◌++◌, min, sym, ◌≡◌, ℕ, zero, suc, ◌+◌, ◌<◌, ◌≤◌, Bool, true, false, cond, not, ◌&&◌, ◌==◌, nat_lt, List, [], ◌∷◌, length, All, Option, Some, None, arith, refl, ◌∙◌, subst, eqb-true, eq-or-lt_of_le, inl, inr}
 use Rattle.std.specs.Bool.{⊤}
-use Rattle.std.specs.List.{list_all, range_with_len, enumerate_from}
+use Rattle.std.specs.List.{list_all, range_with_len}
 use Rattle.std.proofs.lemmas.List.Elements.{All-nil, All-cons, All-append, All-head, All-tail, All-map, All-replicate}
-use Rattle.std.proofs.lemmas.List.FromFn.{length-range_with_len, length-enumerate_from}
-use Rattle.std.proofs.lemmas.List.{length-map}
 use Rattle.nv_entry.specs.Submission.{opcode_of, fuse_of, psdt_of, nsid_of, prp1_of, prp2_of, sgl_of, slba_of}
 use Rattle.nv_entry.specs.Opcode.{io_opcode, data_pointer}
 use Rattle.nv_entry.specs.StatusCode.{refused_with}
-use Rattle.nv_entry.specs.Range.{blocks_of, start_of}
 use Rattle.nv_entry.specs.declared.data_pointer.DataPointer.{DataPointer}
 use Rattle.nv_entry.specs.declared.data_pointer.DataPointer.TheVariants.{Prp, Sgl, Reserved}
 use Rattle.nv_entry.specs.declared.opcode.IoOpcode.{IoOpcode}
@@ -20,23 +17,17 @@ use Rattle.nv_mem.specs.Places.{At, Bucket, addresses, places_of, places_of_piec
 use Rattle.nv_mem.specs.declared.piece.Piece.{Piece}
 use Rattle.nv_mem.specs.declared.piece.Piece.TheVariants as piece
 use Rattle.nv_ns.specs.BlockRange.{in_namespace}
-use Rattle.nv_ns.proofs.Ranges.{InNamespace-tested}
 use Rattle.nv_model.specs.Dialogue.{Dialogue, End, and_then, asked, in_memory}
 use Rattle.nv_model.specs.Reading.{Reading, Faulty, TooLong, Spells, run, unless_faulty}
 use Rattle.nv_model.specs.Prp.{entry_fault, first_len, page, pages_of, read_prp, read_prp2}
-use Rattle.nv_model.specs.Judge.{WorkUnit, OneBlock, OneRange, AllBlocks, Work, Verdict, Go, Refuse, block_units, count_of, field_refusal, has_blocks, has_buffer, is_read, judge, judge_by, judge_fields, judge_ranges, judge_reading, most_blocks, range_count_of, range_fits, range_units, ranges_in, read_buffer, read_by, read_source, refusal_by_opcode, sized, transfer_len, units_of, work_of}
+use Rattle.nv_model.specs.Judge.{Form, Transfer, Clear, Manage, Keep, Work, Verdict, Go, Refuse, count_of, field_refusal, form_of, form_units, has_blocks, has_buffer, is_read, judge, judge_buffer, judge_by, judge_fields, judge_ranges, judge_reading, most_blocks, range_count_of, range_fits, ranges_in, read_buffer, read_by, read_source, refusal_by_opcode, sized, transfer_len, work_of}
 use Rattle.nv_model.proofs.Agreeing.{in_memory-agree}
 use Rattle.nv_model.specs.Laws.{AgreeAt, AgreeOn, IsMappedPiece, IsMappedPlace, IsUnitWithin}
-use Rattle.nv_model.proofs.Endings.{EndsIn, EndsIn-and_then, EndsIn-any, EndsIn-if, OfPieces, and-true, first_failing-none, in_memory-ends, not-false}
+use Rattle.nv_model.proofs.Endings.{EndsIn, EndsIn-and_then, EndsIn-any, EndsIn-if, OfPieces, and-true, first_failing-none, in_memory-ends}
+use Rattle.nv_model.proofs.Units.{form_units-within, length-ranges_in}
 use Rattle.nv_model.proofs.Spelled.{AreOfLen, read_prp-of_len, read_sgl-mapped}
 
 -- ---- what a work says of its command
-
--- a unit is one of a command with this opcode: a block of its range, in its place; a range of a Dataset Management; all blocks of a Flush
-abbrev pub IsUnitOf : IoOpcode → (slba : ℕ) → WorkUnit → Type 0
-IsUnitOf opcode slba (OneBlock index lba) = (has_blocks opcode ≡ true) × (lba ≡ slba + index)
-IsUnitOf opcode slba (OneRange start count) = opcode ≡ DatasetManagement
-IsUnitOf opcode slba (AllBlocks all) = opcode ≡ Flush
 
 -- a work that goes, of this command, in a namespace of that many blocks
 pub record IsSoundWork (mapped : ℕ → Bool) (blocks : ℕ) (entry : List ℕ) (work : Work) : Type 0 where
@@ -44,96 +35,15 @@ pub record IsSoundWork (mapped : ℕ → Bool) (blocks : ℕ) (entry : List ℕ)
   pub mapped_each : All (IsMappedPiece mapped) work.pieces
   pub total : total_len work.pieces ≡ transfer_len work.opcode entry
   pub within : All (IsUnitWithin blocks) work.units
-  pub own : All (IsUnitOf work.opcode (slba_of entry)) work.units
-  pub counted : has_buffer work.opcode ≡ true → has_blocks work.opcode ≡ false → length work.units ≡ range_count_of entry
-  pub in_order : has_blocks work.opcode ≡ true → work.units ≡ block_units (range_with_len (slba_of entry) (count_of entry))
+  pub ranges : List (List ℕ)
+  pub counted : form_of work.opcode ≡ Manage → length ranges ≡ range_count_of entry
+  pub fit : list_all (range_fits blocks) ranges ≡ true
+  pub units : work.units ≡ form_units (form_of work.opcode) blocks entry ranges
 
 -- this of the work, where it goes
 abbrev pub IfGo : (Work → Type 0) → Verdict → Type 0
 IfGo P (Refuse st) = ⊤
 IfGo P (Go work) = P work
-
--- ---- units
-
-All-enumerate_from : (P : ℕ → Type 0) (n : ℕ) (xs : List ℕ) → All P xs → All (λ (p : ℕ × ℕ). P p.1) (enumerate_from n xs)
-All-enumerate_from P n [] each = All-nil (λ (p : ℕ × ℕ). P p.1)
-All-enumerate_from P n (x ∷ xs) each =
-    All-cons (λ (p : ℕ × ℕ). P p.1) (n, x) (enumerate_from (n + 1) xs) (All-head P x xs each) (All-enumerate_from P (n + 1) xs (All-tail P x xs each))
-
--- units of blocks of the namespace
-block_units-within : (blocks : ℕ) (lbas : List ℕ) → All (λ lba. lba < blocks) lbas → All (IsUnitWithin blocks) (block_units lbas)
-unfolding block_units
-block_units-within blocks lbas each =
-    All-map (IsUnitWithin blocks) (λ (p : ℕ × ℕ). OneBlock p.0 p.1) (enumerate_from 0 lbas) (All-enumerate_from (λ lba. lba < blocks) 0 lbas each)
-
--- a range of numbers below another
-range-below : (blocks start n : ℕ) → start + n ≤ blocks → All (λ lba. lba < blocks) (range_with_len start n)
-range-below blocks start zero fit = All-nil (λ lba. lba < blocks)
-range-below blocks start (suc n) fit =
-    All-cons (λ lba. lba < blocks) start (range_with_len (start + 1) n) (omega arith) (range-below blocks (start + 1) n (omega arith))
-
--- the blocks of a range in the namespace
-in_namespace-below : (blocks start n : ℕ) → in_namespace start n blocks ≡ true → All (λ lba. lba < blocks) (range_with_len start n)
-in_namespace-below blocks start n is =
-    let inside = InNamespace-tested start n blocks is in
-    range-below blocks start n (omega arith)
-
--- the units of ranges in the namespace
-range_units-within : (blocks : ℕ) (ranges : List (List ℕ)) → list_all (range_fits blocks) ranges ≡ true → All (IsUnitWithin blocks) (range_units ranges)
-unfolding range_units
-range_units-within blocks [] fit = All-nil (IsUnitWithin blocks)
-range_units-within blocks (range ∷ ranges) fit =
-    let both = and-true (range_fits blocks range) (list_all (range_fits blocks) ranges) fit in
-    let inside = InNamespace-tested (start_of range) (blocks_of range) blocks both.0 in
-    let ends : start_of range + blocks_of range ≤ blocks = omega arith in
-    All-cons (IsUnitWithin blocks) (OneRange (start_of range) (blocks_of range)) (range_units ranges) ends (range_units-within blocks ranges both.1)
-
--- there is one for each range
-length-range_units : (ranges : List (List ℕ)) → length (range_units ranges) ≡ length ranges
-unfolding range_units
-length-range_units ranges = length-map ranges (λ (range : List ℕ). OneRange (start_of range) (blocks_of range))
-
-length-ranges_in : (n : ℕ) (bytes : List ℕ) → length (ranges_in n bytes) ≡ n
-unfolding ranges_in
-length-ranges_in zero bytes = refl
-length-ranges_in (suc n) bytes = ap (λ (k : ℕ). suc k) (length-ranges_in n (drop 16 bytes))
-
--- the units of a command, where its range is in the namespace
-units_of-within : (blocks : ℕ) (opcode : IoOpcode) (entry : List ℕ) → (has_blocks opcode && not (in_namespace (slba_of entry) (count_of entry) blocks)) ≡ false
-    → All (IsUnitWithin blocks) (units_of blocks opcode entry)
-units_of-within blocks opcode entry fine =
-    (elim (has_blocks opcode) as (λ b. (b && not (in_namespace (slba_of entry) (count_of entry) blocks)) ≡ false
-    → All (IsUnitWithin blocks) (cond b (block_units (range_with_len (slba_of entry) (count_of entry))) (AllBlocks blocks ∷ []))) [
-      | true ↦ λ is. block_units-within blocks (range_with_len (slba_of entry) (count_of entry)) (in_namespace-below blocks (slba_of entry) (count_of entry) (not-false _ is))
-      | false ↦ λ is. All-cons (IsUnitWithin blocks) (AllBlocks blocks) [] refl (All-nil (IsUnitWithin blocks))
-    ]) fine
-
-units_of-in_order : (blocks : ℕ) (opcode : IoOpcode) (entry : List ℕ) → has_blocks opcode ≡ true → units_of blocks opcode entry ≡ block_units (range_with_len (slba_of entry) (count_of entry))
-units_of-in_order blocks opcode entry has = rw has refl
-
--- each of them is the command's
-blocks-own : (opcode : IoOpcode) (slba index lba n : ℕ) → has_blocks opcode ≡ true → lba ≡ slba + index
-    → All (IsUnitOf opcode slba) (map (λ (p : ℕ × ℕ). OneBlock p.0 p.1) (enumerate_from index (range_with_len lba n)))
-blocks-own opcode slba index lba zero has at = All-nil (IsUnitOf opcode slba)
-blocks-own opcode slba index lba (suc n) has at =
-    All-cons (IsUnitOf opcode slba) (OneBlock index lba) (map (λ (p : ℕ × ℕ). OneBlock p.0 p.1) (enumerate_from (index + 1) (range_with_len (lba + 1) n)))
-    (has, at) (blocks-own opcode slba (index + 1) (lba + 1) n has (omega arith))
-
-range_units-own : (slba : ℕ) (ranges : List (List ℕ)) → All (IsUnitOf DatasetManagement slba) (range_units ranges)
-unfolding range_units
-range_units-own slba [] = All-nil (IsUnitOf DatasetManagement slba)
-range_units-own slba (range ∷ ranges) =
-    All-cons (IsUnitOf DatasetManagement slba) (OneRange (start_of range) (blocks_of range)) (range_units ranges) refl (range_units-own slba ranges)
-
-units_of-own : (blocks : ℕ) (opcode : IoOpcode) (entry : List ℕ) → (has_blocks opcode ≡ false → opcode ≡ Flush)
-    → All (IsUnitOf opcode (slba_of entry)) (units_of blocks opcode entry)
-unfolding block_units
-units_of-own blocks opcode entry flush =
-    (elim (has_blocks opcode) as (λ b. has_blocks opcode ≡ b
-    → All (IsUnitOf opcode (slba_of entry)) (cond b (block_units (range_with_len (slba_of entry) (count_of entry))) (AllBlocks blocks ∷ []))) [
-      | true ↦ λ has. blocks-own opcode (slba_of entry) 0 (slba_of entry) (count_of entry) has (omega arith)
-      | false ↦ λ none. All-cons (IsUnitOf opcode (slba_of entry)) (AllBlocks blocks) [] (flush none) (All-nil (IsUnitOf opcode (slba_of entry)))
-    ]) refl
 
 -- ---- the buffer
 
@@ -168,24 +78,6 @@ read_buffer-of_len Reserved mapped limit entry dest len =
 
 -- ---- the verdict
 
--- a command with a buffer but no blocks
-ranged-is : (opcode : IoOpcode) → has_buffer opcode ≡ true → has_blocks opcode ≡ false → opcode ≡ DatasetManagement
-ranged-is Flush buffer blocks = cc
-ranged-is WriteZeroes buffer blocks = cc
-ranged-is Read buffer blocks = cc
-ranged-is Write buffer blocks = cc
-ranged-is Compare buffer blocks = cc
-ranged-is DatasetManagement buffer blocks = refl
-
--- one with neither
-unbuffered-is : (opcode : IoOpcode) → has_buffer opcode ≡ false → has_blocks opcode ≡ false → opcode ≡ Flush
-unbuffered-is Flush buffer blocks = refl
-unbuffered-is WriteZeroes buffer blocks = cc
-unbuffered-is Read buffer blocks = cc
-unbuffered-is Write buffer blocks = cc
-unbuffered-is Compare buffer blocks = cc
-unbuffered-is DatasetManagement buffer blocks = cc
-
 -- a command without a buffer has no bytes to transfer
 unbuffered_len : (opcode : IoOpcode) (entry : List ℕ) → has_buffer opcode ≡ false → 0 ≡ transfer_len opcode entry
 unbuffered_len Flush entry none = refl
@@ -195,50 +87,62 @@ unbuffered_len Write entry none = cc
 unbuffered_len Compare entry none = cc
 unbuffered_len DatasetManagement entry none = cc
 
--- Dataset Management, with its ranges read
-judge_ranges-sound : (mapped : ℕ → Bool) (blocks : ℕ) (entry : List ℕ) (pieces : List Piece) (ranges : List (List ℕ))
-    → io_opcode (opcode_of entry) ≡ Some DatasetManagement → AreOfLen mapped (transfer_len DatasetManagement entry) pieces
-    → length ranges ≡ range_count_of entry → IfGo (IsSoundWork mapped blocks entry) (judge_ranges blocks entry pieces ranges)
-judge_ranges-sound mapped blocks entry pieces ranges is there many =
-    (elim (list_all (range_fits blocks) ranges) as (λ b. list_all (range_fits blocks) ranges ≡ b →
-    IfGo (IsSoundWork mapped blocks entry) (cond b (Go (work_of DatasetManagement entry pieces (range_units ranges))) (Refuse (refused_with LbaOutOfRange)))) [
-      | true ↦ λ fit. record {
-        opcode = is;
-        mapped_each = there.mapped_each;
-        total = there.total;
-        within = range_units-within blocks ranges fit;
-        own = range_units-own (slba_of entry) ranges;
-        counted = λ buffered not_has. length-range_units ranges ∙ many;
-        in_order = λ has. cc;
-      }
-      | false ↦ λ fit. tt
-    ]) refl
-
--- a command whose list was read
-judge_reading-sound : (mapped : ℕ → Bool) (blocks : ℕ) (entry : List ℕ) (opcode : IoOpcode) (reading : Reading)
-    → io_opcode (opcode_of entry) ≡ Some opcode → has_buffer opcode ≡ true
+-- the work of a command whose buffer is of the right length
+work_of-sound : (mapped : ℕ → Bool) (blocks : ℕ) (entry : List ℕ) (opcode : IoOpcode) (pieces : List Piece) (ranges : List (List ℕ))
+    → io_opcode (opcode_of entry) ≡ Some opcode → AreOfLen mapped (transfer_len opcode entry) pieces
     → (has_blocks opcode && not (in_namespace (slba_of entry) (count_of entry) blocks)) ≡ false
-    → OfPieces (AreOfLen mapped (transfer_len opcode entry)) reading
-    → EndsIn (IfGo (IsSoundWork mapped blocks entry)) (judge_reading blocks entry opcode reading)
-judge_reading-sound mapped blocks entry opcode (Faulty code) is buffer fine there = tt
-judge_reading-sound mapped blocks entry opcode TooLong is buffer fine there = tt
-judge_reading-sound mapped blocks entry opcode (Spells pieces) is buffer fine there =
-    EndsIn-if (IfGo (IsSoundWork mapped blocks entry)) (has_blocks opcode) _ _
-    (λ has. record {
+    → (form_of opcode ≡ Manage → length ranges ≡ range_count_of entry) → list_all (range_fits blocks) ranges ≡ true
+    → IsSoundWork mapped blocks entry (work_of blocks opcode entry pieces ranges)
+work_of-sound mapped blocks entry opcode pieces ranges is there fine many fit =
+    record {
       opcode = is;
       mapped_each = there.mapped_each;
       total = there.total;
-      within = units_of-within blocks opcode entry fine;
-      own = units_of-own blocks opcode entry (λ not_has. cc);
-      counted = λ buffered not_has. cc;
-      in_order = units_of-in_order blocks opcode entry;
-    })
-    (λ not_has.
-    let ranged = ranged-is opcode buffer not_has in
+      within = form_units-within (form_of opcode) blocks entry ranges fine fit;
+      ranges = ranges;
+      counted = many;
+      fit = fit;
+      units = refl;
+    }
+
+-- with its ranges read
+judge_ranges-sound : (mapped : ℕ → Bool) (blocks : ℕ) (entry : List ℕ) (opcode : IoOpcode) (pieces : List Piece) (ranges : List (List ℕ))
+    → io_opcode (opcode_of entry) ≡ Some opcode → AreOfLen mapped (transfer_len opcode entry) pieces
+    → (has_blocks opcode && not (in_namespace (slba_of entry) (count_of entry) blocks)) ≡ false
+    → length ranges ≡ range_count_of entry → IfGo (IsSoundWork mapped blocks entry) (judge_ranges blocks opcode entry pieces ranges)
+judge_ranges-sound mapped blocks entry opcode pieces ranges is there fine many =
+    (elim (list_all (range_fits blocks) ranges) as (λ b. list_all (range_fits blocks) ranges ≡ b →
+    IfGo (IsSoundWork mapped blocks entry) (cond b (Go (work_of blocks opcode entry pieces ranges)) (Refuse (refused_with LbaOutOfRange)))) [
+      | true ↦ λ fit. work_of-sound mapped blocks entry opcode pieces ranges is there fine (λ _. many) fit
+      | false ↦ λ fit. tt
+    ]) refl
+
+-- a command whose buffer is of the right length
+judge_buffer-sound : (form : Form) (mapped : ℕ → Bool) (blocks : ℕ) (entry : List ℕ) (opcode : IoOpcode) (pieces : List Piece)
+    → form_of opcode ≡ form → io_opcode (opcode_of entry) ≡ Some opcode → AreOfLen mapped (transfer_len opcode entry) pieces
+    → (has_blocks opcode && not (in_namespace (slba_of entry) (count_of entry) blocks)) ≡ false
+    → EndsIn (IfGo (IsSoundWork mapped blocks entry)) (judge_buffer form blocks opcode entry pieces)
+judge_buffer-sound (Transfer dest) mapped blocks entry opcode pieces form is there fine =
+    work_of-sound mapped blocks entry opcode pieces [] is there fine (λ other. (let bad : Transfer dest ≡ Manage = sym form ∙ other in cc)) refl
+judge_buffer-sound Clear mapped blocks entry opcode pieces form is there fine =
+    work_of-sound mapped blocks entry opcode pieces [] is there fine (λ other. (let bad : Clear ≡ Manage = sym form ∙ other in cc)) refl
+judge_buffer-sound Keep mapped blocks entry opcode pieces form is there fine =
+    work_of-sound mapped blocks entry opcode pieces [] is there fine (λ other. (let bad : Keep ≡ Manage = sym form ∙ other in cc)) refl
+judge_buffer-sound Manage mapped blocks entry opcode pieces form is there fine =
     EndsIn-and_then (λ _. ⊤) (IfGo (IsSoundWork mapped blocks entry)) (read_source pieces []) _ (EndsIn-any (read_source pieces []))
-    (λ bytes _. judge_ranges-sound mapped blocks entry pieces (ranges_in (range_count_of entry) bytes) (is ∙ ap (λ (o : IoOpcode). Some o) ranged)
-    (subst (λ (o : IoOpcode). AreOfLen mapped (transfer_len o entry) pieces) ranged there)
-    (length-ranges_in (range_count_of entry) bytes)))
+    (λ bytes _. judge_ranges-sound mapped blocks entry opcode pieces (ranges_in (range_count_of entry) bytes) is there fine
+    (length-ranges_in (range_count_of entry) bytes))
+
+-- a command whose list was read
+judge_reading-sound : (mapped : ℕ → Bool) (blocks : ℕ) (entry : List ℕ) (opcode : IoOpcode) (reading : Reading)
+    → io_opcode (opcode_of entry) ≡ Some opcode
+    → (has_blocks opcode && not (in_namespace (slba_of entry) (count_of entry) blocks)) ≡ false
+    → OfPieces (AreOfLen mapped (transfer_len opcode entry)) reading
+    → EndsIn (IfGo (IsSoundWork mapped blocks entry)) (judge_reading blocks entry opcode reading)
+judge_reading-sound mapped blocks entry opcode (Faulty code) is fine there = tt
+judge_reading-sound mapped blocks entry opcode TooLong is fine there = tt
+judge_reading-sound mapped blocks entry opcode (Spells pieces) is fine there =
+    judge_buffer-sound (form_of opcode) mapped blocks entry opcode pieces refl is there fine
 
 -- the checks of the fields leave the range of blocks in the namespace
 refusal_by_opcode-none : (blocks : ℕ) (entry : List ℕ) (opcode : IoOpcode) → refusal_by_opcode blocks entry (Some opcode) ≡ None
@@ -263,16 +167,10 @@ judge_by-sound mapped limit blocks entry (Some opcode) is none =
     (λ buffer.
     EndsIn-and_then (OfPieces (AreOfLen mapped (transfer_len opcode entry))) (IfGo (IsSoundWork mapped blocks entry)) (read_buffer mapped limit opcode entry) (judge_reading blocks entry opcode)
     (read_buffer-of_len (data_pointer (psdt_of entry)) mapped limit entry (is_read opcode) (transfer_len opcode entry))
-    (λ reading there. judge_reading-sound mapped blocks entry opcode reading is buffer fine there))
-    (λ none_there. record {
-      opcode = is;
-      mapped_each = All-nil (IsMappedPiece mapped);
-      total = unbuffered_len opcode entry none_there;
-      within = units_of-within blocks opcode entry fine;
-      own = units_of-own blocks opcode entry (unbuffered-is opcode none_there);
-      counted = λ buffered not_has. cc;
-      in_order = units_of-in_order blocks opcode entry;
-    })
+    (λ reading there. judge_reading-sound mapped blocks entry opcode reading is fine there))
+    (λ none_there.
+    judge_buffer-sound (form_of opcode) mapped blocks entry opcode [] refl is
+    (record { mapped_each = All-nil (IsMappedPiece mapped); total = unbuffered_len opcode entry none_there }) fine)
 
 -- refused by its fields, or judged further
 judge_fields-sound : (mapped : ℕ → Bool) (limit blocks : ℕ) (entry : List ℕ) (refusal : Option StatusCode)
@@ -326,28 +224,6 @@ IsMappedPlace-pieces mapped [] each = All-nil (IsMappedPlace mapped)
 IsMappedPlace-pieces mapped (p ∷ ps) each =
     All-append (IsMappedPlace mapped) (places_of_piece p) (places_of ps)
     (IsMappedPlace-piece mapped p (All-head (IsMappedPiece mapped) p ps each)) (IsMappedPlace-pieces mapped ps (All-tail (IsMappedPiece mapped) p ps each))
-
--- ---- units in order
-
--- the unit of a block
-unit_at : (start n k i : ℕ) → i < n → slice_get (map (λ p. OneBlock p.0 p.1) (enumerate_from k (range_with_len start n))) i ≡ Some (OneBlock (k + i) (start + i))
-unit_at start zero k i below = absurd (omega arith)
-unit_at start (suc n) k zero below =
-    let same : k + 0 ≡ k = omega arith in
-    let also : start + 0 ≡ start = omega arith in
-    rw (same, also) refl
-unit_at start (suc n) k (suc i) below =
-    let same : k + suc i ≡ k + 1 + i = omega arith in
-    let also : start + suc i ≡ start + 1 + i = omega arith in
-    rw (same, also) (unit_at (start + 1) n (k + 1) i (omega arith))
-
-pub block_units-at : (start n i : ℕ) → i < n → slice_get (block_units (range_with_len start n)) i ≡ Some (OneBlock i (start + i))
-unfolding block_units
-block_units-at start n i below = let none : 0 + i ≡ i = omega arith in unit_at start n 0 i below ∙ ap (λ (j : ℕ). Some (OneBlock j (start + i))) none
-
-pub length-block_units : (start n : ℕ) → length (block_units (range_with_len start n)) ≡ n
-unfolding block_units
-length-block_units start n = length-map (enumerate_from 0 (range_with_len start n)) (λ (p : ℕ × ℕ). OneBlock p.0 p.1) ∙ length-enumerate_from 0 (range_with_len start n) ∙ length-range_with_len start n
 
 -- ---- lists
 

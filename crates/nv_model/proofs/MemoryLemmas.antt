@@ -111,3 +111,29 @@ stored-list_at memory addr bytes h at =
 pub stored-list : (memory : List ℕ) (addr : ℕ) (bytes : List ℕ) → addr + length bytes ≤ length memory
     → stored (λ a. slice_index memory a) addr bytes ≡ (λ a. slice_index (after_store memory addr bytes) a)
 stored-list memory addr bytes h = fun_ext (stored-list_at memory addr bytes h)
+
+-- ---- what was stored is read back
+
+bytes_from-each : (memory : ℕ → ℕ) (addr : ℕ) (bytes : List ℕ) → ((i : ℕ) → i < length bytes → memory (addr + i) ≡ slice_index bytes i)
+    → bytes_from memory addr (length bytes) ≡ bytes
+unfolding bytes_from
+bytes_from-each memory addr [] each = refl
+bytes_from-each memory addr (byte ∷ bytes) each =
+    let here : addr + 0 ≡ addr = omega arith in
+    let first : memory addr ≡ byte = ap memory (sym here) ∙ each 0 (omega arith) in
+    rw (
+      first,
+      bytes_from-each memory (suc addr) bytes
+          (λ i below. let next : suc addr + i ≡ addr + suc i = omega arith in ap memory next ∙ each (suc i) (omega arith)),
+    ) refl
+
+stored-at_offset : (memory : ℕ → ℕ) (addr : ℕ) (bytes : List ℕ) (i : ℕ) → i < length bytes → stored memory addr bytes (addr + i) ≡ slice_index bytes i
+unfolding stored
+stored-at_offset memory addr bytes i below =
+    let offset : addr + i - addr ≡ i = omega arith in
+    let same = ap (λ (n : ℕ). slice_index bytes n) offset in
+    grind (arith, nat_tests, same)
+
+-- bytes that are stored are read back from where they were stored
+pub bytes_from-stored : (memory : ℕ → ℕ) (addr : ℕ) (bytes : List ℕ) → bytes_from (stored memory addr bytes) addr (length bytes) ≡ bytes
+bytes_from-stored memory addr bytes = bytes_from-each (stored memory addr bytes) addr bytes (stored-at_offset memory addr bytes)

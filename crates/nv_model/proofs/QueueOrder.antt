@@ -34,12 +34,12 @@ ahead-below size head tail order =
     omega arith
 
 -- from where to where, without a remainder
-ahead-up : (size head tail : ℕ) → head ≤ tail → tail < size → ahead size head tail ≡ tail - head
+pub ahead-up : (size head tail : ℕ) → head ≤ tail → tail < size → ahead size head tail ≡ tail - head
 ahead-up size head tail up below =
     let split : tail + size - head ≡ (tail - head) + size = omega arith in
     rw (split, add-mod_right) (mod-eq_of_lt (omega arith))
 
-ahead-round : (size head tail : ℕ) → tail < head → head < size → ahead size head tail ≡ tail + size - head
+pub ahead-round : (size head tail : ℕ) → tail < head → head < size → ahead size head tail ≡ tail + size - head
 ahead-round size head tail round below = mod-eq_of_lt (omega arith)
 
 -- the next slot is one further, unless it is the head

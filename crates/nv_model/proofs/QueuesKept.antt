@@ -31,7 +31,7 @@ queue_of-found P (x ∷ xs) zero q each found = subst (λ o. IfSome o P) found (
 queue_of-found P (x ∷ xs) (suc y) q each found = queue_of-found P xs y q (All-tail (λ o. IfSome o P) x xs each) found
 
 -- and changed
-queue_of-set : {Q : Type 0} (xs : List (Option Q)) (y : ℕ) (q new : Q) → queue_of (slice_get xs y) ≡ Some q → queue_of (slice_get (set xs y (Some new)) y) ≡ Some new
+pub queue_of-set : {Q : Type 0} (xs : List (Option Q)) (y : ℕ) (q new : Q) → queue_of (slice_get xs y) ≡ Some q → queue_of (slice_get (set xs y (Some new)) y) ≡ Some new
 queue_of-set [] y q new found = cc
 queue_of-set (x ∷ xs) zero q new found = refl
 queue_of-set (x ∷ xs) (suc y) q new found = queue_of-set xs y q new found

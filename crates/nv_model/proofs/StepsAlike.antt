@@ -1,5 +1,6 @@
 -- States that look alike take the same steps, with the same replies, to states that look alike.
-use Rattle.std.proofs.Common.{◌≡◌, ℕ, zero, suc, ◌+◌, ◌*◌, ◌<◌, Bool, true, false, cond, ◌||◌, ◌==◌, nat_lt, List, [], ◌∷◌, length, drop, replicate, remove, slice_get, All, Option, Some, None, IfSome, refl, ap, ◌∙◌, subst, arith}
+use Rattle.std.proofs.Common.{◌≡◌, ℕ, zero, suc, ◌+◌, ◌*◌, ◌<◌, Bool, true, cond, ◌||◌, ◌==◌, nat_lt, List, [], ◌∷◌, length, drop, replicate, slice_get, All, Option, Some, None, IfSome, refl, ap, ◌∙◌, subst, arith}
+use Rattle.std.specs.List.{list_any}
 use Rattle.std.proofs.lemmas.List.Elements.{All-head, All-tail, All-take, All-drop}
 use Rattle.nv_entry.specs.Submission.{cid_of}
 use Rattle.nv_entry.specs.Status.{StatusField}
@@ -12,17 +13,18 @@ use Rattle.nv_model.specs.declared.act.Act.TheVariants as act
 use Rattle.nv_model.specs.declared.reply.Reply.{Reply}
 use Rattle.nv_model.specs.declared.reply.Reply.TheVariants as reply
 use Rattle.nv_model.specs.Memory.{gathered, scattered, stored}
-use Rattle.nv_model.specs.Judge.{AllBlocks, OneBlock, OneRange, Verdict, Work, WorkUnit, block}
+use Rattle.nv_model.specs.Judge.{ClearBlock, KeepAll, LeaveBlock, MoveBlock, Verdict, Work, WorkUnit, block}
 use Rattle.nv_model.specs.Queue.{sqe_size}
 use Rattle.nv_model.specs.Controller.{Controller, Posted, doorbell, front, is_enabled, post, reg_read, reg_write}
 use Rattle.nv_model.specs.Admin.{AdminStep, NothingToDo, QueueFull, Stepped, admin}
-use Rattle.nv_model.specs.Private.{ActStep, AdminQueueStep, After, AtWork, Ended, GiveUpStep, JudgeStep, KeepStep, MoveStep, Moved, PostStep, Private, Progress, Run, RunOutStep, Shape, Step, TakeStep, Taken, Unjudged, acted, administered, block_bytes, block_moved, block_written, completed_at, controlled, differs, ending, further, given_up_at, in_range, judged_at, marked, may_take, moved_at, named, places_of_block, posted_at, progress_of, register_replied, run_of, run_out_at, step, taken_at, unit_done, unit_moved, with_named, with_progress, with_reply}
-use Rattle.nv_model.specs.Laws.{IsInPlace, IsMappedPiece, IsMappedPlace, IsProgressInPlace, IsUnitWithin, LookAlike, RunsAlike, StepsAlike}
+use Rattle.nv_model.specs.Private.{Acted, ActStep, AdminQueueStep, After, AtWork, Bag, Ended, GiveUpStep, JudgeStep, KeepStep, MoveStep, Moved, PostStep, Private, Progress, Run, RunOutStep, Seen, Shape, Step, TakeStep, Taken, Unjudged, acted, administered, block_bytes, block_moved, block_written, completed_at, controlled, differs, ending, further, given_up_at, judged_at, marked, may_take, moved_at, others, places_of_block, posted_at, progress_of, put, register_replied, run_of, run_out_at, step, taken_at, unit_done, unit_left, unit_moved, with_progress, with_seen, with_taken}
+use Rattle.nv_model.specs.Laws.{IsInPlace, IsMappedPiece, IsMappedPlace, IsProgressInPlace, IsTakenInPlace, IsUnitWithin, LookAlike, RunsAlike, StepsAlike}
 use Rattle.nv_model.proofs.Agreeing.{bytes_from-agree}
 use Rattle.nv_model.proofs.Asking.{IsMappedFrom}
 use Rattle.nv_model.proofs.Judged.{IsMappedPlace-pieces, everywhere-at}
 use Rattle.nv_model.proofs.MemoryAlike.{AdminAlike, admin-alike, by_test_both, bytes_from-mapped, front-mapped, gathered-mapped, scattered-at, stored-at, verdict-mapped}
-use Rattle.nv_model.proofs.InPlace.{named-in_place, step-in_place}
+use Rattle.nv_model.proofs.InPlace.{step-in_place}
+use Rattle.nv_model.proofs.QueuesKept.{by_test}
 
 -- a state with another memory, disk and marks
 abbrev twin : Private → (ℕ → ℕ) → (ℕ → ℕ → ℕ) → (ℕ → Bool) → Private
@@ -35,11 +37,20 @@ record MovedAlike (shape : Shape) (m n : Moved) : Type 0 where
   pub kept : (lba : ℕ) → lba < shape.blocks → m.kept lba ≡ n.kept lba
   pub differed : m.differed ≡ n.differed
 
+-- what two acts did is alike, and so are their replies
+abbrev ActedAlike : Shape → Acted → Acted → Type 0
+ActedAlike shape a b = (a.reply ≡ b.reply) × LookAlike shape a.state b.state
+
 -- an element that is found among those that have something has it
 pub slice_get-has : {X : Type 0} (P : X → Type 0) (xs : List X) (i : ℕ) → All P xs → IfSome (slice_get xs i) P
 slice_get-has P [] i each = tt
 slice_get-has P (x ∷ xs) zero each = All-head P x xs each
 slice_get-has P (x ∷ xs) (suc i) each = slice_get-has P xs i (All-tail P x xs each)
+
+-- a unit that is left lies in the namespace where the work's units do
+unit_left-within : (blocks : ℕ) (work : Work) (left : List ℕ) (number : ℕ) → All (IsUnitWithin blocks) work.units → IfSome (unit_left work left number) (IsUnitWithin blocks)
+unit_left-within blocks work left number each =
+    by_test (λ o. IfSome o (IsUnitWithin blocks)) (list_any (λ k. k == number) left) _ _ (λ _. slice_get-has (IsUnitWithin blocks) work.units number each) (λ _. tt)
 
 -- ---- marks and blocks
 
@@ -90,34 +101,22 @@ module _ (shape : Shape) (p : Private) (memory : ℕ → ℕ) (disk : ℕ → �
         differed = ap (λ (bs : List ℕ). differs bs (block_bytes p.disk lba)) (buffer-alike work index pieces)
             ∙ ap (λ (bs : List ℕ). differs (gathered memory (places_of_block work index)) bs) (block_bytes-alike lba within);
       }
-  block_moved-alike WriteZeroes work index lba within pieces =
-      record {
-        memory = alike.memory;
-        disk = λ at offset below inside. block_written-at p.disk disk lba (replicate block 0) (replicate block 0) at offset refl (alike.disk at offset below inside);
-        kept = λ at below. marked-at p.kept kept lba work.fua work.fua at refl (alike.kept at below);
-        differed = refl;
-      }
-  block_moved-alike DatasetManagement work index lba within pieces =
-      record { memory = alike.memory; disk = alike.disk; kept = alike.kept; differed = refl }
+  block_moved-alike WriteZeroes work index lba within pieces = record { memory = alike.memory; disk = alike.disk; kept = alike.kept; differed = refl }
+  block_moved-alike DatasetManagement work index lba within pieces = record { memory = alike.memory; disk = alike.disk; kept = alike.kept; differed = refl }
   block_moved-alike Flush work index lba within pieces = record { memory = alike.memory; disk = alike.disk; kept = alike.kept; differed = refl }
 
   unit_moved-alike : (unit : WorkUnit) (work : Work) → IsUnitWithin shape.blocks unit → All (IsMappedPiece shape.mapped) work.pieces
       → MovedAlike shape (unit_moved unit work p.memory p.disk p.kept) (unit_moved unit work memory disk kept)
-  unit_moved-alike (OneBlock index lba) work within pieces = block_moved-alike work.opcode work index lba within pieces
-  unit_moved-alike (OneRange start count) work within pieces =
-      by_test_both (MovedAlike shape) work.deallocate _ _ _ _
-      (λ _. record {
+  unit_moved-alike (MoveBlock index lba) work within pieces = block_moved-alike work.opcode work index lba within pieces
+  unit_moved-alike (ClearBlock lba mark) work within pieces =
+      record {
         memory = alike.memory;
-        disk = λ at offset below inside. cleared-at (in_range start count at) offset (p.disk at) (disk at) (alike.disk at offset below inside);
-        kept = λ at below. ap (λ (mark : Bool). cond (in_range start count at) false mark) (alike.kept at below);
+        disk = λ at offset below inside. block_written-at p.disk disk lba (replicate block 0) (replicate block 0) at offset refl (alike.disk at offset below inside);
+        kept = λ at below. marked-at p.kept kept lba mark mark at refl (alike.kept at below);
         differed = refl;
-      })
-      (λ _. record { memory = alike.memory; disk = alike.disk; kept = alike.kept; differed = refl })
-    where
-      cleared-at : (b : Bool) (offset : ℕ) (bytes other : ℕ → ℕ) → bytes offset ≡ other offset → cond b (λ _. 0) bytes offset ≡ cond b (λ _. 0) other offset
-      cleared-at true offset bytes other same = refl
-      cleared-at false offset bytes other same = same
-  unit_moved-alike (AllBlocks all) work within pieces =
+      }
+  unit_moved-alike (LeaveBlock lba) work within pieces = record { memory = alike.memory; disk = alike.disk; kept = alike.kept; differed = refl }
+  unit_moved-alike (KeepAll all) work within pieces =
       record {
         memory = alike.memory;
         disk = alike.disk;
@@ -127,17 +126,17 @@ module _ (shape : Shape) (p : Private) (memory : ℕ → ℕ) (disk : ℕ → �
 
   -- ---- acts
 
-  controlled-alike : (o : Option Controller) → StepsAlike shape (controlled o p) (controlled o (twin p memory disk kept))
+  controlled-alike : (o : Option Controller) → ActedAlike shape (controlled o p) (controlled o (twin p memory disk kept))
   controlled-alike None = (refl, alike)
   controlled-alike (Some c) = (refl, record { controller = refl; bag = refl; memory = alike.memory; disk = alike.disk; kept = alike.kept })
 
-  register_replied-alike : (o : Option ℕ) → StepsAlike shape (register_replied o p) (register_replied o (twin p memory disk kept))
+  register_replied-alike : (o : Option ℕ) → ActedAlike shape (register_replied o p) (register_replied o (twin p memory disk kept))
   register_replied-alike None = (refl, alike)
   register_replied-alike (Some value) = (refl, alike)
 
-  acted-alike : (a : Act) → StepsAlike shape (acted shape a p) (acted shape a (twin p memory disk kept))
+  acted-alike : (a : Act) → ActedAlike shape (acted shape a p) (acted shape a (twin p memory disk kept))
   acted-alike (act.Store addr bytes) =
-      by_test_both (StepsAlike shape) (everywhere shape.mapped addr (length bytes)) _ _ _ _
+      by_test_both (ActedAlike shape) (everywhere shape.mapped addr (length bytes)) _ _ _ _
       (λ _. (
         refl,
         record {
@@ -150,9 +149,9 @@ module _ (shape : Shape) (p : Private) (memory : ℕ → ℕ) (disk : ℕ → �
       ))
       (λ _. (refl, alike))
   acted-alike (act.Load addr len) =
-      by_test_both (StepsAlike shape) (everywhere shape.mapped addr len) _ _ _ _
+      by_test_both (ActedAlike shape) (everywhere shape.mapped addr len) _ _ _ _
       (λ there. (
-        ap (λ (bs : List ℕ). Some (reply.Bytes bs))
+        ap (λ (bs : List ℕ). reply.Bytes bs)
             (bytes_from-mapped shape.mapped p.memory memory alike.memory addr len (λ i below. everywhere-at shape.mapped addr len i there below)),
         alike,
       ))
@@ -170,7 +169,7 @@ module _ (shape : Shape) (p : Private) (memory : ℕ → ℕ) (disk : ℕ → �
     refl,
     record {
       controller = refl;
-      bag = ap (λ (bs : List ℕ). record { name = name; queue = queue; entry = bs; progress = Unjudged } ∷ p.bag)
+      bag = ap (λ (bs : List ℕ). put p.bag name (Some (record { queue = queue; entry = bs; progress = Unjudged })))
           (bytes_from-mapped shape.mapped p.memory memory alike.memory addr sqe_size (there addr refl));
       memory = alike.memory;
       disk = alike.disk;
@@ -178,50 +177,51 @@ module _ (shape : Shape) (p : Private) (memory : ℕ → ℕ) (disk : ℕ → �
     },
   )
 
-  judged_at-alike : (progress : Progress) (t : Taken) → StepsAlike shape (judged_at progress shape t p) (judged_at progress shape t (twin p memory disk kept))
-  judged_at-alike Unjudged t = (
+  judged_at-alike : (progress : Progress) (name : ℕ) (t : Taken) → StepsAlike shape (judged_at progress shape name t p) (judged_at progress shape name t (twin p memory disk kept))
+  judged_at-alike Unjudged name t = (
     refl,
     record {
       controller = refl;
-      bag = ap (λ (v : Verdict). with_progress t (progress_of v) p.bag) (verdict-mapped shape.mapped p.memory memory alike.memory shape.limit shape.blocks t.entry);
+      bag = ap (λ (v : Verdict). with_progress p.bag name t (progress_of v)) (verdict-mapped shape.mapped p.memory memory alike.memory shape.limit shape.blocks t.entry);
       memory = alike.memory;
       disk = alike.disk;
       kept = alike.kept;
     },
   )
-  judged_at-alike (Ended st) t = tt
-  judged_at-alike (AtWork work units differed) t = tt
+  judged_at-alike (Ended st) name t = tt
+  judged_at-alike (AtWork work left differed) name t = tt
 
-  given_up_at-alike : (progress : Progress) (t : Taken) → StepsAlike shape (given_up_at progress t p) (given_up_at progress t (twin p memory disk kept))
-  given_up_at-alike Unjudged t = (refl, record { controller = refl; bag = refl; memory = alike.memory; disk = alike.disk; kept = alike.kept })
-  given_up_at-alike (Ended st) t = tt
-  given_up_at-alike (AtWork work units differed) t = tt
+  given_up_at-alike : (progress : Progress) (name : ℕ) (t : Taken) → StepsAlike shape (given_up_at progress name t p) (given_up_at progress name t (twin p memory disk kept))
+  given_up_at-alike Unjudged name t = (refl, record { controller = refl; bag = refl; memory = alike.memory; disk = alike.disk; kept = alike.kept })
+  given_up_at-alike (Ended st) name t = tt
+  given_up_at-alike (AtWork work left differed) name t = tt
 
-  unit_done-alike : (o : Option WorkUnit) (others : List WorkUnit) (work : Work) (differed : Bool) (t : Taken)
+  unit_done-alike : (o : Option WorkUnit) (left : List ℕ) (work : Work) (differed : Bool) (name : ℕ) (t : Taken)
       → IfSome o (IsUnitWithin shape.blocks) → All (IsMappedPiece shape.mapped) work.pieces
-      → StepsAlike shape (unit_done o others work differed t p) (unit_done o others work differed t (twin p memory disk kept))
-  unit_done-alike None others work differed t within pieces = tt
-  unit_done-alike (Some unit) others work differed t within pieces =
+      → StepsAlike shape (unit_done o left work differed name t p) (unit_done o left work differed name t (twin p memory disk kept))
+  unit_done-alike None left work differed name t within pieces = tt
+  unit_done-alike (Some unit) left work differed name t within pieces =
       let moved = unit_moved-alike unit work within pieces in (
         refl,
         record {
           controller = refl;
-          bag = ap (λ (b : Bool). with_progress t (AtWork work others (differed || b)) p.bag) moved.differed;
+          bag = ap (λ (b : Bool). with_progress p.bag name t (AtWork work left (differed || b))) moved.differed;
           memory = moved.memory;
           disk = moved.disk;
           kept = moved.kept;
         },
       )
 
-  moved_at-alike : (progress : Progress) (place : ℕ) (t : Taken) → IsProgressInPlace shape progress → StepsAlike shape (moved_at progress place t p) (moved_at progress place t (twin p memory disk kept))
-  moved_at-alike Unjudged place t there = tt
-  moved_at-alike (Ended st) place t there = tt
-  moved_at-alike (AtWork work units differed) place t there =
-      unit_done-alike (slice_get units place) (remove units place) work differed t (slice_get-has (IsUnitWithin shape.blocks) units place there.1) there.0
+  moved_at-alike : (progress : Progress) (number name : ℕ) (t : Taken) → IsProgressInPlace shape progress
+      → StepsAlike shape (moved_at progress number name t p) (moved_at progress number name t (twin p memory disk kept))
+  moved_at-alike Unjudged number name t there = tt
+  moved_at-alike (Ended st) number name t there = tt
+  moved_at-alike (AtWork work left differed) number name t there =
+      unit_done-alike (unit_left work left number) (others number left) work differed name t (unit_left-within shape.blocks work left number there.1) there.0
 
-  posted_at-alike : (o : Option Posted) (t : Taken) → StepsAlike shape (posted_at o t p) (posted_at o t (twin p memory disk kept))
-  posted_at-alike None t = tt
-  posted_at-alike (Some posted) t = (
+  posted_at-alike : (o : Option Posted) (name : ℕ) → StepsAlike shape (posted_at o name p) (posted_at o name (twin p memory disk kept))
+  posted_at-alike None name = tt
+  posted_at-alike (Some posted) name = (
     refl,
     record {
       controller = refl;
@@ -232,21 +232,21 @@ module _ (shape : Shape) (p : Private) (memory : ℕ → ℕ) (disk : ℕ → �
     },
   )
 
-  completed_at-alike : (o : Option StatusField) (t : Taken) → StepsAlike shape (completed_at o t p) (completed_at o t (twin p memory disk kept))
-  completed_at-alike None t = tt
-  completed_at-alike (Some st) t =
-      by_test_both (StepsAlike shape) (is_enabled p.controller) _ _ _ _ (λ _. posted_at-alike (post p.controller t.queue 0 (cid_of t.entry) st) t) (λ _. tt)
+  completed_at-alike : (o : Option StatusField) (name : ℕ) (t : Taken) → StepsAlike shape (completed_at o name t p) (completed_at o name t (twin p memory disk kept))
+  completed_at-alike None name t = tt
+  completed_at-alike (Some st) name t =
+      by_test_both (StepsAlike shape) (is_enabled p.controller) _ _ _ _ (λ _. posted_at-alike (post p.controller t.queue 0 (cid_of t.entry) st) name) (λ _. tt)
 
-  run_out_at-alike : (o : Option StatusField) (t : Taken) → StepsAlike shape (run_out_at o t p) (run_out_at o t (twin p memory disk kept))
-  run_out_at-alike None t = tt
-  run_out_at-alike (Some st) t =
+  run_out_at-alike : (o : Option StatusField) (name : ℕ) (t : Taken) → StepsAlike shape (run_out_at o name t p) (run_out_at o name t (twin p memory disk kept))
+  run_out_at-alike None name t = tt
+  run_out_at-alike (Some st) name t =
       by_test_both (StepsAlike shape) (is_enabled p.controller) _ _ _ _ (λ _. tt)
       (λ _. (refl, record { controller = refl; bag = refl; memory = alike.memory; disk = alike.disk; kept = alike.kept }))
 
-  with_named-alike : (o : Option Taken) (change also : Taken → Option After) → IfSome o (λ t. IsProgressInPlace shape t.progress)
-      → ((t : Taken) → IsProgressInPlace shape t.progress → StepsAlike shape (change t) (also t)) → StepsAlike shape (with_named o change) (with_named o also)
-  with_named-alike None change also there each = tt
-  with_named-alike (Some t) change also there each = each t there
+  with_taken-alike : (o : Option Taken) (change also : Taken → Option After) → IsTakenInPlace shape o
+      → ((t : Taken) → IsProgressInPlace shape t.progress → StepsAlike shape (change t) (also t)) → StepsAlike shape (with_taken o change) (with_taken o also)
+  with_taken-alike None change also there each = tt
+  with_taken-alike (Some t) change also there each = each t there
 
   administered-alike : (a b : AdminStep) → AdminAlike shape.mapped a b → StepsAlike shape (administered a p) (administered b (twin p memory disk kept))
   administered-alike NothingToDo NothingToDo same = tt
@@ -263,15 +263,16 @@ module _ (shape : Shape) (p : Private) (memory : ℕ → ℕ) (disk : ℕ → �
 
   twin_step-alike : (s : Step) → IsInPlace shape p → StepsAlike shape (step shape s p) (step shape s (twin p memory disk kept))
   unfolding step
-  twin_step-alike (ActStep a) place = acted-alike a
+  twin_step-alike (ActStep a) place =
+      (ap (λ (r : Reply). Some (record { act = a; reply = r })) (acted-alike a).0, (acted-alike a).1)
   twin_step-alike (TakeStep queue name) place =
       by_test_both (StepsAlike shape) (may_take queue name p) _ _ _ _
       (λ _. taken_at-alike (front p.controller queue) queue name (λ addr at. front-mapped shape.mapped p.controller queue addr place.queues at)) (λ _. tt)
-  twin_step-alike (JudgeStep name) place = with_named-alike (named name p.bag) _ _ (named-in_place shape name p.bag place.taken) (λ t there. judged_at-alike t.progress t)
-  twin_step-alike (MoveStep name at) place = with_named-alike (named name p.bag) _ _ (named-in_place shape name p.bag place.taken) (λ t there. moved_at-alike t.progress at t there)
-  twin_step-alike (GiveUpStep name) place = with_named-alike (named name p.bag) _ _ (named-in_place shape name p.bag place.taken) (λ t there. given_up_at-alike t.progress t)
-  twin_step-alike (PostStep name) place = with_named-alike (named name p.bag) _ _ (named-in_place shape name p.bag place.taken) (λ t there. completed_at-alike (ending t.progress) t)
-  twin_step-alike (RunOutStep name) place = with_named-alike (named name p.bag) _ _ (named-in_place shape name p.bag place.taken) (λ t there. run_out_at-alike (ending t.progress) t)
+  twin_step-alike (JudgeStep name) place = with_taken-alike (p.bag name) _ _ (place.taken name) (λ t there. judged_at-alike t.progress name t)
+  twin_step-alike (MoveStep name number) place = with_taken-alike (p.bag name) _ _ (place.taken name) (λ t there. moved_at-alike t.progress number name t there)
+  twin_step-alike (GiveUpStep name) place = with_taken-alike (p.bag name) _ _ (place.taken name) (λ t there. given_up_at-alike t.progress name t)
+  twin_step-alike (PostStep name) place = with_taken-alike (p.bag name) _ _ (place.taken name) (λ t there. completed_at-alike (ending t.progress) name t)
+  twin_step-alike (RunOutStep name) place = with_taken-alike (p.bag name) _ _ (place.taken name) (λ t there. run_out_at-alike (ending t.progress) name t)
   twin_step-alike AdminQueueStep place =
       administered-alike (admin shape.mapped shape.blocks p.controller p.memory) (admin shape.mapped shape.blocks p.controller memory)
       (admin-alike shape.mapped p.memory memory alike.memory shape.blocks p.controller place.queues)
@@ -293,7 +294,7 @@ module _ (shape : Shape) (p : Private) (memory : ℕ → ℕ) (disk : ℕ → �
 twin-is : (p q : Private) → p.controller ≡ q.controller → p.bag ≡ q.bag → twin p q.memory q.disk q.kept ≡ q
 twin-is p q controller bag =
     ap (λ (c : Controller). record { memory = q.memory; disk = q.disk; kept = q.kept; controller = c; bag = p.bag }) controller
-    ∙ ap (λ (b : List Taken). record { memory = q.memory; disk = q.disk; kept = q.kept; controller = q.controller; bag = b }) bag
+    ∙ ap (λ (b : Bag). record { memory = q.memory; disk = q.disk; kept = q.kept; controller = q.controller; bag = b }) bag
 
 -- each step does the same to states that look alike
 pub step-alike : (shape : Shape) (s : Step) (p q : Private) → LookAlike shape p q → IsInPlace shape p → StepsAlike shape (step shape s p) (step shape s q)
@@ -304,12 +305,12 @@ step-alike shape s p q alike place =
 -- ---- runs
 
 -- one more step in front of runs that are alike
-further_some-alike : (shape : Shape) (state also : Private) (r : Option Reply) (tail other : Option Run) → RunsAlike shape tail other
-    → RunsAlike shape (further (Some (record { state = state; reply = r })) (λ _. tail)) (further (Some (record { state = also; reply = r })) (λ _. other))
-further_some-alike shape state also r None None same = tt
-further_some-alike shape state also r None (Some b) same = absurd same
-further_some-alike shape state also r (Some a) None same = absurd same
-further_some-alike shape state also r (Some a) (Some b) same = (ap (λ (replies : List Reply). with_reply r replies) same.0, same.1)
+further_some-alike : (shape : Shape) (state also : Private) (a : Option Seen) (tail other : Option Run) → RunsAlike shape tail other
+    → RunsAlike shape (further (Some (record { state = state; seen = a })) (λ _. tail)) (further (Some (record { state = also; seen = a })) (λ _. other))
+further_some-alike shape state also a None None same = tt
+further_some-alike shape state also a None (Some s) same = absurd same
+further_some-alike shape state also a (Some r) None same = absurd same
+further_some-alike shape state also a (Some r) (Some s) same = (ap (λ (seen : List Seen). with_seen a seen) same.0, same.1)
 
 further-alike : (shape : Shape) (o also : Option After) (steps : List Step) → StepsAlike shape o also → IfSome o (λ a. IsInPlace shape a.state)
     → ((p q : Private) → LookAlike shape p q → IsInPlace shape p → RunsAlike shape (run_of shape steps p) (run_of shape steps q))
@@ -318,8 +319,8 @@ further-alike shape None None steps same place rest = tt
 further-alike shape None (Some b) steps same place rest = absurd same
 further-alike shape (Some a) None steps same place rest = absurd same
 further-alike shape (Some a) (Some b) steps same place rest =
-    subst (λ (r : Option Reply). RunsAlike shape (further (Some a) (λ p. run_of shape steps p)) (further (Some (record { state = b.state; reply = r })) (λ q. run_of shape steps q))) same.0
-    (further_some-alike shape a.state b.state a.reply (run_of shape steps a.state) (run_of shape steps b.state) (rest a.state b.state same.1 place))
+    subst (λ (r : Option Seen). RunsAlike shape (further (Some a) (λ p. run_of shape steps p)) (further (Some (record { state = b.state; seen = r })) (λ q. run_of shape steps q))) same.0
+    (further_some-alike shape a.state b.state a.seen (run_of shape steps a.state) (run_of shape steps b.state) (rest a.state b.state same.1 place))
 
 -- each run does
 pub run_of-alike : (shape : Shape) (steps : List Step) (p q : Private) → LookAlike shape p q → IsInPlace shape p → RunsAlike shape (run_of shape steps p) (run_of shape steps q)

@@ -6,11 +6,12 @@ use mathlib.Core.Path.{fun_ext}
 use Rattle.nv_entry.specs.declared.opcode.IoOpcode.{IoOpcode}
 use Rattle.nv_entry.specs.declared.opcode.IoOpcode.TheVariants.{Flush, Write, Read, Compare, WriteZeroes, DatasetManagement}
 use Rattle.nv_model.specs.Memory.{gathered, stored}
-use Rattle.nv_model.specs.Judge.{WorkUnit, OneBlock, OneRange, AllBlocks, Work, block, has_blocks, is_read}
-use Rattle.nv_model.specs.Private.{Moved, block_bytes, block_moved, differs, in_range, marked, places_of_block}
+use Rattle.nv_entry.specs.Submission.{slba_of}
+use Rattle.nv_model.specs.Judge.{Form, Transfer, Clear, Manage, Keep, WorkUnit, MoveBlock, ClearBlock, LeaveBlock, KeepAll, Work, block, form_is_read, form_of}
+use Rattle.nv_model.specs.Private.{Moved, block_bytes, block_moved, differs, marked, places_of_block, unit_moved}
 use Rattle.nv_model.specs.Carried.{moved_on, units_moved}
 use Rattle.nv_model.specs.Laws.{IsOrderOf}
-use Rattle.nv_model.proofs.Judged.{IsUnitOf}
+use Rattle.nv_model.proofs.Units.{IsUnitOf}
 use Rattle.nv_model.proofs.StepsAlike.{slice_get-has}
 
 -- ---- what is changed at two places
@@ -35,13 +36,6 @@ swapped at one other x y z apart =
           ]) refl
       | false ↦ λ is. refl
     ]) refl
-
--- one value in two ranges, in either order
-both : {A : Type 0} (p q : Bool) (x z : A) → cond p x (cond q x z) ≡ cond q x (cond p x z)
-both true true x z = refl
-both true false x z = refl
-both false true x z = refl
-both false false x z = refl
 
 or-swapped : (a b c : Bool) → (a || b) || c ≡ (a || c) || b
 or-swapped true b c = refl
@@ -84,7 +78,7 @@ block_on opcode work index lba m =
     (let n = block_moved opcode work index lba m.memory m.disk m.kept in
     record { memory = n.memory; disk = n.disk; kept = n.kept; differed = m.differed || n.differed })
 
-blocks-commute : (opcode : IoOpcode) (work : Work) (i a j b : ℕ) (m : Moved) → is_read opcode ≡ false → (a ≡ b → ⊥)
+blocks-commute : (opcode : IoOpcode) (work : Work) (i a j b : ℕ) (m : Moved) → form_is_read (form_of opcode) ≡ false → (a ≡ b → ⊥)
     → block_on opcode work i a (block_on opcode work j b m) ≡ block_on opcode work j b (block_on opcode work i a m)
 blocks-commute Read work i a j b m other apart = cc
 blocks-commute Write work i a j b m other apart =
@@ -93,80 +87,108 @@ blocks-commute Write work i a j b m other apart =
     (stored (λ _. 0) 0 (gathered m.memory (places_of_block work i)) offset) (stored (λ _. 0) 0 (gathered m.memory (places_of_block work j)) offset) (m.disk at offset) apart)))
     (fun_ext (λ at. swapped at a b work.fua work.fua (m.kept at) apart))
     refl
-blocks-commute WriteZeroes work i a j b m other apart =
-    same_parts m.memory m.memory _ _ _ _ _ _ refl
-    (fun_ext (λ at. fun_ext (λ offset. swapped at a b
-    (stored (λ _. 0) 0 (replicate block 0) offset) (stored (λ _. 0) 0 (replicate block 0) offset) (m.disk at offset) apart)))
-    (fun_ext (λ at. swapped at a b work.fua work.fua (m.kept at) apart))
-    refl
 blocks-commute Compare work i a j b m other apart =
     same_parts m.memory m.memory m.disk m.disk _ _ _ _ refl refl
     (raised m.kept work.fua a b apart)
     (or-swapped m.differed (differs (gathered m.memory (places_of_block work j)) (block_bytes m.disk b)) (differs (gathered m.memory (places_of_block work i)) (block_bytes m.disk a)))
+blocks-commute WriteZeroes work i a j b m other apart = refl
 blocks-commute DatasetManagement work i a j b m other apart = refl
 blocks-commute Flush work i a j b m other apart = refl
 
-ranges-commute : (work : Work) (s n t k : ℕ) → Commute work (OneRange s n) (OneRange t k)
-ranges-commute work s n t k = λ m. by_flag work.deallocate work refl m
+-- two blocks that are cleared with one mark
+clears-commute : (work : Work) (a b : ℕ) (mark : Bool) → Commute work (ClearBlock a mark) (ClearBlock b mark)
+clears-commute work a b mark = λ m.
+    same_parts m.memory m.memory _ _ _ _ _ _ refl
+    (fun_ext (λ at. fun_ext (λ offset. both (at == a) (at == b) (stored (λ _. 0) 0 (replicate block 0) offset) (m.disk at offset))))
+    (fun_ext (λ at. both (at == a) (at == b) mark (m.kept at)))
+    refl
   where
-    by_flag : (flag : Bool) (work : Work) → work.deallocate ≡ flag → Commute work (OneRange s n) (OneRange t k)
-    by_flag true work is = λ m.
-        let zeros : ℕ → ℕ = λ _. 0 in
-        rw is
-        (same_parts m.memory m.memory _ _ _ _ _ _ refl
-        (fun_ext (λ lba. both (in_range s n lba) (in_range t k lba) zeros (m.disk lba)))
-        (fun_ext (λ lba. both (in_range s n lba) (in_range t k lba) false (m.kept lba)))
-        refl)
-    by_flag false work is = λ m. rw is refl
+    both : {A : Type 0} (p q : Bool) (x z : A) → cond p x (cond q x z) ≡ cond q x (cond p x z)
+    both true true x z = refl
+    both true false x z = refl
+    both false true x z = refl
+    both false false x z = refl
+
+-- likewise where their marks are the same
+cleared-commute : (work : Work) (a b : ℕ) (one other : Bool) → one ≡ other → Commute work (ClearBlock a one) (ClearBlock b other)
+cleared-commute work a b one other same = subst (λ (mark : Bool). Commute work (ClearBlock a one) (ClearBlock b mark)) same (clears-commute work a b one)
+
+-- a block that stays as it is
+leave-commutes : (work : Work) (lba : ℕ) (unit : WorkUnit) → Commute work (LeaveBlock lba) unit
+leave-commutes work lba unit = λ m.
+    let n = unit_moved unit work m.memory m.disk m.kept in
+    same_parts n.memory _ n.disk _ n.kept _ _ _ refl refl refl
+    (or-none (m.differed || n.differed) ∙ ap (λ (b : Bool). b || n.differed) (sym (or-none m.differed)))
+  where
+    or-none : (b : Bool) → b || false ≡ b
+    or-none true = refl
+    or-none false = refl
 
 -- two units of one command that is no Read
-units-commute : (work : Work) (slba : ℕ) (u v : WorkUnit) → is_read work.opcode ≡ false → IsUnitOf work.opcode slba u → IsUnitOf work.opcode slba v → Commute work u v
-units-commute work slba (OneBlock i a) (OneBlock j b) other one two = λ m.
+units-commute : (work : Work) (entry : List ℕ) (form : Form) (u v : WorkUnit) → form_is_read (form_of work.opcode) ≡ false
+    → IsUnitOf form entry u → IsUnitOf form entry v → Commute work u v
+units-commute work entry (Transfer dest) (MoveBlock i a) (MoveBlock j b) other one two = λ m.
     elim (cases_eq i j) [
       | inl same ↦
-          let lba : a ≡ b = one.1 ∙ ap (λ (n : ℕ). slba + n) same ∙ sym two.1 in
-          subst (λ (n : ℕ). moved_on (OneBlock i a) work (moved_on (OneBlock n b) work m) ≡ moved_on (OneBlock n b) work (moved_on (OneBlock i a) work m)) same
-          (subst (λ (n : ℕ). moved_on (OneBlock i a) work (moved_on (OneBlock i n) work m) ≡ moved_on (OneBlock i n) work (moved_on (OneBlock i a) work m)) lba refl)
-      | inr unlike ↦
-          let here = one.1 in
-          let there = two.1 in
-          blocks-commute work.opcode work i a j b m other (λ same. unlike (omega arith))
+          let lba : a ≡ b = one ∙ ap (λ (n : ℕ). slba_of entry + n) same ∙ sym two in
+          subst (λ (n : ℕ). moved_on (MoveBlock i a) work (moved_on (MoveBlock n b) work m) ≡ moved_on (MoveBlock n b) work (moved_on (MoveBlock i a) work m)) same
+          (subst (λ (n : ℕ). moved_on (MoveBlock i a) work (moved_on (MoveBlock i n) work m) ≡ moved_on (MoveBlock i n) work (moved_on (MoveBlock i a) work m)) lba refl)
+      | inr unlike ↦ blocks-commute work.opcode work i a j b m other (λ same. unlike (omega arith))
     ]
-units-commute work slba (OneBlock i a) (OneRange t k) other one two = (let bad : has_blocks DatasetManagement ≡ true = sym (ap has_blocks two) ∙ one.0 in cc)
-units-commute work slba (OneBlock i a) (AllBlocks all) other one two = (let bad : has_blocks Flush ≡ true = sym (ap has_blocks two) ∙ one.0 in cc)
-units-commute work slba (OneRange s n) (OneBlock j b) other one two = (let bad : has_blocks DatasetManagement ≡ true = sym (ap has_blocks one) ∙ two.0 in cc)
-units-commute work slba (OneRange s n) (OneRange t k) other one two = ranges-commute work s n t k
-units-commute work slba (OneRange s n) (AllBlocks all) other one two = (let bad : DatasetManagement ≡ Flush = sym one ∙ two in cc)
-units-commute work slba (AllBlocks all) (OneBlock j b) other one two = (let bad : has_blocks Flush ≡ true = sym (ap has_blocks one) ∙ two.0 in cc)
-units-commute work slba (AllBlocks all) (OneRange t k) other one two = (let bad : DatasetManagement ≡ Flush = sym two ∙ one in cc)
-units-commute work slba (AllBlocks all) (AllBlocks some) other one two = λ m.
+units-commute work entry (Transfer dest) (MoveBlock i a) (ClearBlock b mark) other one two = absurd two
+units-commute work entry (Transfer dest) (MoveBlock i a) (LeaveBlock b) other one two = absurd two
+units-commute work entry (Transfer dest) (MoveBlock i a) (KeepAll all) other one two = absurd two
+units-commute work entry (Transfer dest) (ClearBlock a mark) v other one two = absurd one
+units-commute work entry (Transfer dest) (LeaveBlock a) v other one two = absurd one
+units-commute work entry (Transfer dest) (KeepAll all) v other one two = absurd one
+units-commute work entry Clear (ClearBlock a mark) (ClearBlock b also) other one two = cleared-commute work a b mark also (one ∙ sym two)
+units-commute work entry Clear (ClearBlock a mark) (MoveBlock j b) other one two = absurd two
+units-commute work entry Clear (ClearBlock a mark) (LeaveBlock b) other one two = absurd two
+units-commute work entry Clear (ClearBlock a mark) (KeepAll all) other one two = absurd two
+units-commute work entry Clear (MoveBlock i a) v other one two = absurd one
+units-commute work entry Clear (LeaveBlock a) v other one two = absurd one
+units-commute work entry Clear (KeepAll all) v other one two = absurd one
+units-commute work entry Manage (ClearBlock a mark) (ClearBlock b also) other one two = cleared-commute work a b mark also (one ∙ sym two)
+units-commute work entry Manage (ClearBlock a mark) (LeaveBlock b) other one two = λ m. sym (leave-commutes work b (ClearBlock a mark) m)
+units-commute work entry Manage (ClearBlock a mark) (MoveBlock j b) other one two = absurd two
+units-commute work entry Manage (ClearBlock a mark) (KeepAll all) other one two = absurd two
+units-commute work entry Manage (LeaveBlock a) v other one two = leave-commutes work a v
+units-commute work entry Manage (MoveBlock i a) v other one two = absurd one
+units-commute work entry Manage (KeepAll all) v other one two = absurd one
+units-commute work entry Keep (KeepAll all) (KeepAll some) other one two = λ m.
     same_parts m.memory m.memory m.disk m.disk _ _ _ _ refl refl (fun_ext (λ lba. or-exchanged (nat_lt lba all) (nat_lt lba some) (m.kept lba))) refl
+units-commute work entry Keep (KeepAll all) (MoveBlock j b) other one two = absurd two
+units-commute work entry Keep (KeepAll all) (ClearBlock b mark) other one two = absurd two
+units-commute work entry Keep (KeepAll all) (LeaveBlock b) other one two = absurd two
+units-commute work entry Keep (MoveBlock i a) v other one two = absurd one
+units-commute work entry Keep (ClearBlock a mark) v other one two = absurd one
+units-commute work entry Keep (LeaveBlock a) v other one two = absurd one
 
 -- ---- any order
 
 -- a unit may move before those that stand in front of it
-moves-first : (work : Work) (slba : ℕ) (units : List WorkUnit) (place : ℕ) (unit : WorkUnit) (m : Moved) → is_read work.opcode ≡ false
-    → IsUnitOf work.opcode slba unit → All (IsUnitOf work.opcode slba) units → slice_get units place ≡ Some unit
+moves-first : (work : Work) (entry : List ℕ) (form : Form) (units : List WorkUnit) (place : ℕ) (unit : WorkUnit) (m : Moved) → form_is_read (form_of work.opcode) ≡ false
+    → IsUnitOf form entry unit → All (IsUnitOf form entry) units → slice_get units place ≡ Some unit
     → units_moved units work m ≡ units_moved (remove units place) work (moved_on unit work m)
 unfolding units_moved
-moves-first work slba [] place unit m other own each found = cc
-moves-first work slba (first ∷ units) zero unit m other own each found =
+moves-first work entry form [] place unit m other own each found = cc
+moves-first work entry form (first ∷ units) zero unit m other own each found =
     let same : first ≡ unit = (cc) in
     ap (λ (u : WorkUnit). units_moved units work (moved_on u work m)) same
-moves-first work slba (first ∷ units) (suc place) unit m other own each found =
-    let of_first = All-head (IsUnitOf work.opcode slba) first units each in
-    moves-first work slba units place unit (moved_on first work m) other own (All-tail (IsUnitOf work.opcode slba) first units each) found
-    ∙ ap (units_moved (remove units place) work) (units-commute work slba unit first other own of_first m)
+moves-first work entry form (first ∷ units) (suc place) unit m other own each found =
+    let of_first = All-head (IsUnitOf form entry) first units each in
+    moves-first work entry form units place unit (moved_on first work m) other own (All-tail (IsUnitOf form entry) first units each) found
+    ∙ ap (units_moved (remove units place) work) (units-commute work entry form unit first other own of_first m)
 
-pub any-order : (work : Work) (slba : ℕ) (order units : List WorkUnit) (m : Moved) → is_read work.opcode ≡ false
-    → All (IsUnitOf work.opcode slba) units → IsOrderOf order units → units_moved order work m ≡ units_moved units work m
+pub any-order : (work : Work) (entry : List ℕ) (form : Form) (order units : List WorkUnit) (m : Moved) → form_is_read (form_of work.opcode) ≡ false
+    → All (IsUnitOf form entry) units → IsOrderOf order units → units_moved order work m ≡ units_moved units work m
 unfolding units_moved
-any-order work slba [] units m other each none = ap (λ (us : List WorkUnit). units_moved us work m) (sym none)
-any-order work slba (unit ∷ order) units m other each (place, (found, rest)) =
-    any-order work slba order (remove units place) (moved_on unit work m) other
-    (All-append (IsUnitOf work.opcode slba) (take place units) (drop (suc place) units)
-    (All-take (IsUnitOf work.opcode slba) place units each) (All-drop (IsUnitOf work.opcode slba) (suc place) units each)) rest
-    ∙ sym (moves-first work slba units place unit m other own each found)
+any-order work entry form [] units m other each none = ap (λ (us : List WorkUnit). units_moved us work m) (sym none)
+any-order work entry form (unit ∷ order) units m other each (place, (found, rest)) =
+    any-order work entry form order (remove units place) (moved_on unit work m) other
+    (All-append (IsUnitOf form entry) (take place units) (drop (suc place) units)
+    (All-take (IsUnitOf form entry) place units each) (All-drop (IsUnitOf form entry) (suc place) units each)) rest
+    ∙ sym (moves-first work entry form units place unit m other own each found)
   where
-    own : IsUnitOf work.opcode slba unit
-    own = subst (λ (o : Option WorkUnit). IfSome o (IsUnitOf work.opcode slba)) found (slice_get-has (IsUnitOf work.opcode slba) units place each)
+    own : IsUnitOf form entry unit
+    own = subst (λ (o : Option WorkUnit). IfSome o (IsUnitOf form entry)) found (slice_get-has (IsUnitOf form entry) units place each)

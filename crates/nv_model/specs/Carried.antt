@@ -1,11 +1,11 @@
 -- Carrying one command out on the private controller: it is judged, and its units move.
-use Rattle.std.specs.Prelude.{◌≡◌, ℕ, Bool, true, false, ◌||◌, ◌==◌, if◌then◌else◌, List, [], ◌∷◌, replicate, Option, Some, None}
-use Rattle.std.specs.List.{list_all}
+use Rattle.std.specs.Prelude.{◌≡◌, ℕ, zero, suc, ◌+◌, Bool, true, false, ◌||◌, ◌==◌, List, [], ◌∷◌, map, replicate, Option, Some, None}
+use Rattle.std.specs.List.{list_all, range_with_len}
 use Rattle.nv_entry.specs.Status.{StatusField}
-use Rattle.nv_entry.specs.StatusCode.{done_with}
-use Rattle.nv_entry.specs.declared.status_code.StatusCode.TheVariants.{Success, CompareFailure}
-use Rattle.nv_model.specs.Judge.{WorkUnit, Work}
-use Rattle.nv_model.specs.Private.{AtWork, JudgeStep, MoveStep, ActStep, TakeStep, GiveUpStep, PostStep, RunOutStep, AdminQueueStep, KeepStep, Moved, Private, Progress, Shape, Step, Taken, Unjudged, ending, named, run_of, unit_moved}
+use Rattle.nv_entry.specs.declared.opcode.IoOpcode.{IoOpcode}
+use Rattle.nv_mem.specs.declared.piece.Piece.{Piece}
+use Rattle.nv_model.specs.Judge.{WorkUnit, MoveBlock, Work, block}
+use Rattle.nv_model.specs.Private.{AtWork, JudgeStep, MoveStep, ActStep, TakeStep, GiveUpStep, PostStep, RunOutStep, AdminQueueStep, KeepStep, Moved, Private, Progress, Shape, Step, Taken, Unjudged, block_written, ending, marked, run_of, unit_moved, with_progress}
 
 -- ---- units in order
 
@@ -24,38 +24,57 @@ units_moved (unit ∷ units) work m = units_moved units work (moved_on unit work
 abbrev pub unmoved : Private → Moved
 unmoved p = record { memory = p.memory; disk = p.disk; kept = p.kept; differed = false }
 
--- the state with the taken command t alone in its bag, this far
-abbrev pub alone_with : Taken → Progress → Private → Private
-alone_with t progress p = record p { bag = record t { progress = progress } ∷ [] }
+-- ---- words for what moves units one after another
 
--- the state with this memory, disk and marks, and the command t alone in its bag, at work with these units left
-abbrev pub alone_at_work : Taken → Work → List WorkUnit → Moved → Private → Private
-alone_at_work t work units m p =
+-- what a unit that moves a block needs of a work
+abbrev pub block_work : IoOpcode → List Piece → (fua : Bool) → Work
+block_work opcode pieces fua = record { opcode = opcode; pieces = pieces; units = []; fua = fua }
+
+-- n units that move blocks, from that index of a transfer and that LBA on
+unfoldable pub units_from : (index lba n : ℕ) → List WorkUnit
+units_from index lba zero = []
+units_from index lba (suc n) = MoveBlock index lba ∷ units_from (index + 1) (lba + 1) n
+
+-- a block is zeros and has this mark
+abbrev pub cleared_one : (lba : ℕ) → (mark : Bool) → Moved → Moved
+cleared_one lba mark m =
+    record m { disk = block_written m.disk lba (replicate block 0); kept = marked m.kept lba mark }
+
+-- these blocks are, one after another
+unfoldable pub cleared : (lbas : List ℕ) → (mark : Bool) → Moved → Moved
+cleared [] mark m = m
+cleared (lba ∷ lbas) mark m = cleared lbas mark (cleared_one lba mark m)
+
+-- ---- a command that goes on
+
+-- the state with the command of a name this far
+abbrev pub this_far : (name : ℕ) → Taken → Progress → Private → Private
+this_far name t progress p = record p { bag = with_progress p.bag name t progress }
+
+-- the state with this memory, disk and marks, and the command of a name at work with these units left
+abbrev pub at_work : (name : ℕ) → Taken → Work → (left : List ℕ) → Moved → Private → Private
+at_work name t work left m p =
     record p {
       memory = m.memory;
       disk = m.disk;
       kept = m.kept;
-      bag = record t { progress = AtWork work units m.differed } ∷ [];
+      bag = with_progress p.bag name t (AtWork work left m.differed);
     }
 
--- the state behind all units of the command t in order
-abbrev pub all_moved : Taken → Work → Private → Private
-all_moved t work p = alone_at_work t work [] (units_moved work.units work (unmoved p)) p
+-- the state behind all units of a command in order
+abbrev pub all_moved : (name : ℕ) → Taken → Work → Private → Private
+all_moved name t work p = at_work name t work [] (units_moved work.units work (unmoved p)) p
 
--- the status of a command all of whose units have moved
-abbrev pub moved_status : (differed : Bool) → StatusField
-moved_status differed = if differed then done_with CompareFailure else done_with Success
-
--- the command of that name is judged, and then this many times the first of its units that have not moved does
+-- the command of that name is judged, and then this many units move in order of their numbers
 abbrev pub judged_then_moved : (name units : ℕ) → List Step
-judged_then_moved name units = JudgeStep name ∷ replicate units (MoveStep name 0)
+judged_then_moved name units = JudgeStep name ∷ map (MoveStep name) (range_with_len 0 units)
 
 -- ---- carried out
 
 -- whether a step judges the command of that name, or moves one of its units
 abbrev pub is_own_step : (name : ℕ) → Step → Bool
 is_own_step name (JudgeStep other) = other == name
-is_own_step name (MoveStep other place) = other == name
+is_own_step name (MoveStep other number) = other == name
 is_own_step name (ActStep a) = false
 is_own_step name (TakeStep queue other) = false
 is_own_step name (GiveUpStep other) = false
@@ -69,12 +88,12 @@ abbrev pub ending_of : Option Taken → Option StatusField
 ending_of None = None
 ending_of (Some t) = ending t.progress
 
--- some run of steps that judge the command t or move its units leads from p, whose bag holds t alone, not judged, to q, where it has
--- ended with this status
-pub record IsCarriedOut (shape : Shape) (p : Private) (t : Taken) (st : StatusField) (q : Private) : Type 0 where
-  pub alone : p.bag ≡ t ∷ []
+-- some run of steps that judge the command t of that name, which is not judged in p, or move its units, leads from p to q, where it
+-- has ended with this status
+pub record IsCarriedOut (shape : Shape) (p : Private) (name : ℕ) (t : Taken) (st : StatusField) (q : Private) : Type 0 where
+  pub there : p.bag name ≡ Some t
   pub unjudged : t.progress ≡ Unjudged
   pub steps : List Step
-  pub own : list_all (is_own_step t.name) steps ≡ true
-  pub runs : run_of shape steps p ≡ Some (record { state = q; replies = [] })
-  pub ended : ending_of (named t.name q.bag) ≡ Some st
+  pub own : list_all (is_own_step name) steps ≡ true
+  pub runs : run_of shape steps p ≡ Some (record { state = q; seen = [] })
+  pub ended : ending_of (q.bag name) ≡ Some st

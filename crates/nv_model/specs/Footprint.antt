@@ -1,6 +1,6 @@
 -- The bytes of guest memory that a guest's outstanding commands name. Outstanding are the entries from head to tail of each submission
 -- queue that is not being deleted, and the taken I/O commands that are neither completed nor run out.
-use Rattle.std.specs.Prelude.{ℕ, ◌+◌, ◌*◌, ◌%◌, Bool, true, false, ◌&&◌, ◌==◌, nat_le, nat_lt, if◌then◌else◌, List, [], ◌∷◌, ◌++◌, map, Option, Some, None}
+use Rattle.std.specs.Prelude.{ℕ, ◌+◌, ◌*◌, ◌%◌, Bool, true, false, ◌&&◌, ◌==◌, nat_le, nat_lt, if◌then◌else◌, List, [], ◌∷◌, ◌++◌, length, map, Option, Some, None}
 use Rattle.std.specs.List.{flat_map, list_any, range_with_len, enumerate_from}
 use Rattle.nv_entry.specs.Submission.{opcode_of, fuse_of, psdt_of}
 use Rattle.nv_entry.specs.Opcode.{admin_opcode}
@@ -12,9 +12,12 @@ use Rattle.nv_model.specs.Memory.{bytes_from}
 use Rattle.nv_model.specs.Dialogue.{asked}
 use Rattle.nv_model.specs.Reading.{Reading, Faulty, TooLong, Spells}
 use Rattle.nv_model.specs.Judge.{Verdict, Refuse, Go, is_read, judge}
-use Rattle.nv_model.specs.Queue.{SubmissionQueue, sqe_size, submitted}
+use Rattle.nv_model.specs.declared.act.Act.{Act}
+use Rattle.nv_model.specs.declared.act.Act.TheVariants as act
+use Rattle.nv_model.specs.Queue.{SubmissionQueue, CompletionQueue, cqe_size, sqe_size, waiting}
+use Rattle.nv_model.specs.Controller.{Controller}
 use Rattle.nv_model.specs.Admin.{Shown, Hidden, Structure, identify_reading, shown}
-use Rattle.nv_model.specs.Private.{Private, Shape, verdict_in}
+use Rattle.nv_model.specs.Private.{Shape, verdict_in}
 
 -- what the bytes are to the command
 pub data Use : Type 0 where
@@ -45,8 +48,8 @@ abbrev pub verdict_named : Verdict → List Named
 verdict_named (Refuse st) = []
 verdict_named (Go work) = buffer_named (if is_read work.opcode then Destination else Source) work.pieces
 
--- what an I/O command of 64 bytes names, in this memory: the members of its lists up to the first fault, the ranges of Dataset
--- Management where they are checked, and its buffer
+-- what a taken I/O command of 64 bytes names in this memory: its lists, of which the members up to the first fault, the ranges of
+-- Dataset Management where they are checked, and its source or destination
 abbrev pub io_named : Shape → (ℕ → ℕ) → List ℕ → List Named
 io_named shape memory entry =
     map (λ a. named_as ListBytes a.0 a.1) (asked memory (judge shape.mapped shape.limit shape.blocks entry))
@@ -70,7 +73,7 @@ admin_named shape entry =
     if fuse_of entry == 0 && is_identify (admin_opcode (opcode_of entry)) && psdt_of entry == 0
     then identify_named (shown shape.blocks entry) (identify_reading shape.mapped entry) else []
 
--- what a command that is not taken names: its entry, at that address, and what the entry says
+-- what a command of that queue that is not taken names: its entry, at that address, and what the entry says
 abbrev pub untaken_named : Shape → (ℕ → ℕ) → (queue addr : ℕ) → List Named
 untaken_named shape memory queue addr =
     named_as Entry addr sqe_size
@@ -78,22 +81,65 @@ untaken_named shape memory queue addr =
 
 -- the addresses of the entries from a queue's head to its tail
 abbrev pub entries_of : SubmissionQueue → List ℕ
-entries_of q = map (λ i. q.base + sqe_size * ((q.head + i) % q.size)) (range_with_len 0 (submitted q))
+entries_of q = map (λ i. q.base + sqe_size * ((q.head + i) % q.size)) (range_with_len 0 (waiting q))
 
-abbrev pub queue_named : Shape → (ℕ → ℕ) → (queue : ℕ) → Option SubmissionQueue → List Named
+-- what the untaken commands of a queue name, a list for each command
+abbrev pub queue_named : Shape → (ℕ → ℕ) → (queue : ℕ) → Option SubmissionQueue → List (List Named)
 queue_named shape memory queue None = []
 queue_named shape memory queue (Some q) =
-    if q.closing then [] else flat_map (untaken_named shape memory queue) (entries_of q)
+    if q.closing then [] else map (untaken_named shape memory queue) (entries_of q)
 
--- the bytes that the outstanding commands of a state name
-unfoldable pub footprint : Shape → Private → List Named
-footprint shape p =
-    flat_map (λ q. queue_named shape p.memory q.0 q.1) (enumerate_from 0 p.controller.submission)
-    ++ flat_map (λ t. io_named shape p.memory t.entry) p.bag
+-- what the outstanding commands name in this memory, a list for each: those that the controller's queues hold, and then the taken I/O
+-- commands, whose entries are these
+unfoldable pub footprints : Shape → (ℕ → ℕ) → Controller → (entries : List (List ℕ)) → List (List Named)
+footprints shape memory c entries =
+    flat_map (λ q. queue_named shape memory q.0 q.1) (enumerate_from 0 c.submission) ++ map (io_named shape memory) entries
 
--- whether an address lies in one of them
+-- the slots of the completion queues that are there
+abbrev pub slots_named : Option CompletionQueue → List (ℕ × ℕ)
+slots_named None = []
+slots_named (Some q) = (q.base, cqe_size * q.size) ∷ []
+
+unfoldable pub completion_slots : Controller → List (ℕ × ℕ)
+completion_slots c = flat_map slots_named c.completion_queues
+
+-- ---- what meets them
+
+-- whether an address lies in named bytes
 abbrev pub names : Named → ℕ → Bool
 names n addr = nat_le n.addr addr && nat_lt addr (n.addr + n.len)
 
-unfoldable pub in_footprint : List Named → ℕ → Bool
-in_footprint spans addr = list_any (λ n. names n addr) spans
+-- whether two runs of bytes share one
+abbrev pub meet : (addr len other more : ℕ) → Bool
+meet addr len other more =
+    nat_lt 0 len && nat_lt 0 more && nat_lt addr (other + more) && nat_lt other (addr + len)
+
+abbrev pub meets : (addr len : ℕ) → Named → Bool
+meets addr len n = meet addr len n.addr n.len
+
+-- whether they are a destination
+abbrev pub is_destination : Named → Bool
+is_destination n = use_is_destination n.use_of
+  where
+    use_is_destination : Use → Bool
+    use_is_destination Entry = false
+    use_is_destination ListBytes = false
+    use_is_destination Source = false
+    use_is_destination Destination = true
+
+-- whether an act is a store into bytes that an outstanding command names
+unfoldable pub stores_into : List (List Named) → Act → Bool
+stores_into commands (act.Store addr bytes) = list_any (λ spans. list_any (meets addr (length bytes)) spans) commands
+stores_into commands (act.Load addr len) = false
+stores_into commands (act.RegRead offset) = false
+stores_into commands (act.RegWrite offset value) = false
+stores_into commands (act.Doorbell offset value) = false
+
+-- whether an act is a load from the destination of one
+unfoldable pub loads_from_destination : List (List Named) → Act → Bool
+loads_from_destination commands (act.Store addr bytes) = false
+loads_from_destination commands (act.Load addr len) =
+    list_any (λ spans. list_any (λ n. is_destination n && meets addr len n) spans) commands
+loads_from_destination commands (act.RegRead offset) = false
+loads_from_destination commands (act.RegWrite offset value) = false
+loads_from_destination commands (act.Doorbell offset value) = false

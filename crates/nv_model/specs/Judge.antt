@@ -1,7 +1,7 @@
 -- The verdict on an I/O command: the checks in their order, and what a command that passes them does. The order of the checks,
 -- the limit on a transfer (MDTS) and DNR are the project's own (profile).
 use Rattle.std.specs.Prelude.{ℕ, zero, suc, ◌+◌, ◌*◌, Bool, true, false, not, ◌&&◌, ◌==◌, nat_lt, if◌then◌else◌, List, [], ◌∷◌, ◌++◌, map, take, drop, Option, Some, None}
-use Rattle.std.specs.List.{list_all, range_with_len, enumerate_from}
+use Rattle.std.specs.List.{flat_map, list_all, range_with_len, enumerate_from}
 use Rattle.nv_entry.specs.Submission.{opcode_of, fuse_of, psdt_of, nsid_of, prp1_of, prp2_of, sgl_of, slba_of, nlb_of, fua_of, nr_of, deallocate_of}
 use Rattle.nv_entry.specs.Opcode.{io_opcode, data_pointer}
 use Rattle.nv_entry.specs.Range.{blocks_of, start_of}
@@ -22,20 +22,24 @@ use Rattle.nv_model.specs.Reading.{Reading, Faulty, TooLong, Spells, first_faili
 use Rattle.nv_model.specs.Sgl.{read_sgl}
 use Rattle.nv_model.specs.Prp.{read_prp}
 
--- one step of a command's work: a block of its LBA range (which one of the transfer, and its LBA), or a range of Dataset Management
--- (its first LBA, and of how many blocks), or all blocks of a namespace of that many
+-- one step of a command's work, with its effect
 pub data WorkUnit : Type 0 where
-  OneBlock : (index lba : ℕ) → WorkUnit
-  OneRange : (start blocks : ℕ) → WorkUnit
-  AllBlocks : (blocks : ℕ) → WorkUnit
+  -- a block moves between the disk and the buffer, or is compared with it: which one of the transfer, and its LBA
+  MoveBlock : (index lba : ℕ) → WorkUnit
+  -- a block becomes zeros, and has this mark
+  ClearBlock : (lba : ℕ) (mark : Bool) → WorkUnit
+  -- a block of a range that is not deallocated: the other attributes have no effect
+  LeaveBlock : (lba : ℕ) → WorkUnit
+  -- every block of a namespace of that many becomes kept
+  KeepAll : (blocks : ℕ) → WorkUnit
 
--- what a command that is carried out does: where its buffer lies, its units, and its flags
+-- what a command that is carried out does: where its buffer lies, its units in order of their numbers, and whether its blocks are
+-- kept (Force Unit Access)
 pub record Work : Type 0 where
   pub opcode : IoOpcode
   pub pieces : List Piece
   pub units : List WorkUnit
   pub fua : Bool
-  pub deallocate : Bool
 
 -- a command is refused with a status, or goes
 pub data Verdict : Type 0 where
@@ -48,32 +52,59 @@ pub data Verdict : Type 0 where
 abbrev pub block : ℕ
 block = 512
 
--- whether a command reads or writes a buffer
+-- the size of a range of Dataset Management
+abbrev pub range_size : ℕ
+range_size = 16
+
+-- the forms that commands have
+pub data Form : Type 0 where
+  -- a range of blocks, and a buffer that holds their bytes, which is a destination or not: each block moves
+  Transfer : (dest : Bool) → Form
+  -- a range of blocks and no buffer: each block is cleared
+  Clear : Form
+  -- a buffer that holds ranges of blocks: each block of each range is cleared where the command deallocates
+  Manage : Form
+  -- neither: all blocks of the namespace are kept
+  Keep : Form
+
+-- the form of each command
+abbrev pub form_of : IoOpcode → Form
+form_of Flush = Keep
+form_of Write = Transfer false
+form_of Read = Transfer true
+form_of Compare = Transfer false
+form_of WriteZeroes = Clear
+form_of DatasetManagement = Manage
+
+-- whether a command of that form reads or writes a buffer
+abbrev pub form_has_buffer : Form → Bool
+form_has_buffer (Transfer dest) = true
+form_has_buffer Clear = false
+form_has_buffer Manage = true
+form_has_buffer Keep = false
+
 abbrev pub has_buffer : IoOpcode → Bool
-has_buffer Flush = false
-has_buffer WriteZeroes = false
-has_buffer Read = true
-has_buffer Write = true
-has_buffer Compare = true
-has_buffer DatasetManagement = true
+has_buffer opcode = form_has_buffer (form_of opcode)
 
--- whether a command names a range of blocks by SLBA and NLB
+-- whether it names a range of blocks by SLBA and NLB
+abbrev pub form_has_blocks : Form → Bool
+form_has_blocks (Transfer dest) = true
+form_has_blocks Clear = true
+form_has_blocks Manage = false
+form_has_blocks Keep = false
+
 abbrev pub has_blocks : IoOpcode → Bool
-has_blocks Flush = false
-has_blocks DatasetManagement = false
-has_blocks WriteZeroes = true
-has_blocks Read = true
-has_blocks Write = true
-has_blocks Compare = true
+has_blocks opcode = form_has_blocks (form_of opcode)
 
--- whether the buffer is a destination
+-- whether its buffer is a destination
+abbrev pub form_is_read : Form → Bool
+form_is_read (Transfer dest) = dest
+form_is_read Clear = false
+form_is_read Manage = false
+form_is_read Keep = false
+
 abbrev pub is_read : IoOpcode → Bool
-is_read Read = true
-is_read Write = false
-is_read Compare = false
-is_read WriteZeroes = false
-is_read Flush = false
-is_read DatasetManagement = false
+is_read opcode = form_is_read (form_of opcode)
 
 -- the blocks of a command's range; NLB counts from 0
 abbrev pub count_of : List ℕ → ℕ
@@ -83,18 +114,23 @@ count_of entry = nlb_of entry + 1
 abbrev pub range_count_of : List ℕ → ℕ
 range_count_of entry = nr_of entry + 1
 
--- the length of a command's buffer in bytes
+-- the length of its buffer in bytes
+abbrev pub form_transfer_len : Form → List ℕ → ℕ
+form_transfer_len (Transfer dest) entry = block * count_of entry
+form_transfer_len Clear entry = 0
+form_transfer_len Manage entry = range_size * range_count_of entry
+form_transfer_len Keep entry = 0
+
 abbrev pub transfer_len : IoOpcode → List ℕ → ℕ
-transfer_len Read entry = block * count_of entry
-transfer_len Write entry = block * count_of entry
-transfer_len Compare entry = block * count_of entry
-transfer_len DatasetManagement entry = 16 * range_count_of entry
-transfer_len Flush entry = 0
-transfer_len WriteZeroes entry = 0
+transfer_len opcode entry = form_transfer_len (form_of opcode) entry
 
 -- the most blocks of a transfer: 128 KiB, as MDTS 5 says
 abbrev pub most_blocks : ℕ
 most_blocks = 256
+
+-- the most descriptors of a list, where a guest has no limit of its own (profile)
+abbrev pub most_descriptors : ℕ
+most_descriptors = 1024
 
 -- the checks of the fields of a command that is one of the six, in a namespace of `blocks` blocks
 abbrev pub command_checks : ℕ → List ℕ → IoOpcode → List (Bool × StatusCode)
@@ -145,7 +181,7 @@ read_source (Bucket len ∷ pieces) bytes = read_source pieces bytes
 -- the first n ranges in these bytes, 16 bytes each
 unfoldable pub ranges_in : ℕ → List ℕ → List (List ℕ)
 ranges_in zero bytes = []
-ranges_in (suc n) bytes = take 16 bytes ∷ ranges_in n (drop 16 bytes)
+ranges_in (suc n) bytes = take range_size bytes ∷ ranges_in n (drop range_size bytes)
 
 -- whether a range lies in a namespace of `blocks` blocks
 abbrev pub range_fits : ℕ → List ℕ → Bool
@@ -153,53 +189,80 @@ range_fits blocks range = in_namespace (start_of range) (blocks_of range) blocks
 
 -- ---- the units
 
--- a unit for each block, in the order of the transfer
-unfoldable pub block_units : List ℕ → List WorkUnit
-block_units lbas = map (λ p. OneBlock p.0 p.1) (enumerate_from 0 lbas)
+-- the LBAs of a command's range, in order
+abbrev pub lbas_of : List ℕ → List ℕ
+lbas_of entry = range_with_len (slba_of entry) (count_of entry)
 
--- a unit for each range, in their order
-unfoldable pub range_units : List (List ℕ) → List WorkUnit
-range_units ranges = map (λ range. OneRange (start_of range) (blocks_of range)) ranges
+-- a unit for each block of a transfer, in its order
+unfoldable pub move_units : List ℕ → List WorkUnit
+move_units lbas = map (λ p. MoveBlock p.0 p.1) (enumerate_from 0 lbas)
 
--- the units of a command but for Dataset Management, in a namespace of `blocks` blocks
-abbrev pub units_of : (blocks : ℕ) → IoOpcode → List ℕ → List WorkUnit
-units_of blocks opcode entry =
-    if has_blocks opcode then block_units (range_with_len (slba_of entry) (count_of entry)) else AllBlocks blocks ∷ []
+-- a unit for each block that is cleared
+unfoldable pub clear_units : (mark : Bool) → List ℕ → List WorkUnit
+clear_units mark lbas = map (λ lba. ClearBlock lba mark) lbas
 
--- the work of a command whose buffer lies there
-abbrev pub work_of : IoOpcode → List ℕ → List Piece → List WorkUnit → Work
-work_of opcode entry pieces units =
+-- a unit for each block of a range, which is cleared, or stays as it is
+abbrev pub one_range_units : (deallocate : Bool) → List ℕ → List WorkUnit
+one_range_units true range = clear_units false (range_with_len (start_of range) (blocks_of range))
+one_range_units false range = map LeaveBlock (range_with_len (start_of range) (blocks_of range))
+
+-- those of all ranges, in their order; a range of no blocks has none
+unfoldable pub range_units : (deallocate : Bool) → List (List ℕ) → List WorkUnit
+range_units deallocate ranges = flat_map (one_range_units deallocate) ranges
+
+-- whether the blocks of a command are kept: Force Unit Access
+abbrev pub is_fua : List ℕ → Bool
+is_fua entry = fua_of entry == 1
+
+-- whether a Dataset Management deallocates
+abbrev pub deallocates : List ℕ → Bool
+deallocates entry = deallocate_of entry == 1
+
+-- the units of a command of that form, in a namespace of `blocks` blocks; those of a Dataset Management by the ranges that it names
+abbrev pub form_units : Form → (blocks : ℕ) → List ℕ → (ranges : List (List ℕ)) → List WorkUnit
+form_units (Transfer dest) blocks entry ranges = move_units (lbas_of entry)
+form_units Clear blocks entry ranges = clear_units (is_fua entry) (lbas_of entry)
+form_units Manage blocks entry ranges = range_units (deallocates entry) ranges
+form_units Keep blocks entry ranges = KeepAll blocks ∷ []
+
+-- the work of a command of `blocks` blocks whose buffer lies there, and whose ranges, if it names any, are these
+abbrev pub work_of : (blocks : ℕ) → IoOpcode → List ℕ → List Piece → (ranges : List (List ℕ)) → Work
+work_of blocks opcode entry pieces ranges =
     record {
       opcode = opcode;
       pieces = pieces;
-      units = units;
-      fua = has_blocks opcode && fua_of entry == 1;
-      deallocate = has_buffer opcode && not (has_blocks opcode) && deallocate_of entry == 1;
+      units = form_units (form_of opcode) blocks entry ranges;
+      fua = has_blocks opcode && is_fua entry;
     }
 
 -- ---- the verdict
 
--- Dataset Management, with its ranges read: each must lie in the namespace
-abbrev pub judge_ranges : ℕ → List ℕ → List Piece → List (List ℕ) → Verdict
-judge_ranges blocks entry pieces ranges =
-    if list_all (range_fits blocks) ranges
-    then Go (work_of DatasetManagement entry pieces (range_units ranges))
+-- a command whose ranges are read: each must lie in the namespace
+abbrev pub judge_ranges : (blocks : ℕ) → IoOpcode → List ℕ → List Piece → List (List ℕ) → Verdict
+judge_ranges blocks opcode entry pieces ranges =
+    if list_all (range_fits blocks) ranges then Go (work_of blocks opcode entry pieces ranges)
     else Refuse (refused_with LbaOutOfRange)
+
+-- a command of that form whose buffer lies there
+abbrev pub judge_buffer : Form → (blocks : ℕ) → IoOpcode → List ℕ → List Piece → Dialogue Verdict
+judge_buffer (Transfer dest) blocks opcode entry pieces = End (Go (work_of blocks opcode entry pieces []))
+judge_buffer Clear blocks opcode entry pieces = End (Go (work_of blocks opcode entry pieces []))
+judge_buffer Manage blocks opcode entry pieces =
+    and_then (read_source pieces []) (λ bytes. End (judge_ranges blocks opcode entry pieces (ranges_in (range_count_of entry) bytes)))
+judge_buffer Keep blocks opcode entry pieces = End (Go (work_of blocks opcode entry pieces []))
 
 -- a command whose list was read
 abbrev pub judge_reading : ℕ → List ℕ → IoOpcode → Reading → Dialogue Verdict
 judge_reading blocks entry opcode (Faulty code) = End (Refuse (refused_with code))
 judge_reading blocks entry opcode TooLong = End (Refuse (done_with InternalError))
-judge_reading blocks entry opcode (Spells pieces) =
-    if has_blocks opcode then End (Go (work_of opcode entry pieces (units_of blocks opcode entry))) else
-    and_then (read_source pieces []) (λ bytes. End (judge_ranges blocks entry pieces (ranges_in (range_count_of entry) bytes)))
+judge_reading blocks entry opcode (Spells pieces) = judge_buffer (form_of opcode) blocks opcode entry pieces
 
--- a command whose fields are in order
+-- a command whose fields are in order: its list is read where it has one
 abbrev pub judge_by : Option IoOpcode → (ℕ → Bool) → (limit blocks : ℕ) → List ℕ → Dialogue Verdict
 judge_by None mapped limit blocks entry = End (Refuse (refused_with InvalidOpcode))
 judge_by (Some opcode) mapped limit blocks entry =
     if has_buffer opcode then and_then (read_buffer mapped limit opcode entry) (judge_reading blocks entry opcode)
-    else End (Go (work_of opcode entry [] (units_of blocks opcode entry)))
+    else judge_buffer (form_of opcode) blocks opcode entry []
 
 -- refused by its fields, or judged further
 abbrev pub judge_fields : Option StatusCode → (ℕ → Bool) → (limit blocks : ℕ) → List ℕ → Dialogue Verdict

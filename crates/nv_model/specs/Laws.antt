@@ -8,11 +8,11 @@ use Rattle.nv_mem.specs.declared.piece.Piece.TheVariants as piece
 use Rattle.nv_entry.specs.Status.{StatusField}
 use Rattle.nv_model.specs.Memory.{bytes_from}
 use Rattle.nv_model.specs.Dialogue.{Dialogue, End, Ask}
-use Rattle.nv_model.specs.Judge.{WorkUnit, OneBlock, OneRange, AllBlocks, Work, block}
-use Rattle.nv_model.specs.Queue.{SubmissionQueue, CompletionQueue, ahead, cqe_size, sqe_size}
+use Rattle.nv_model.specs.Judge.{WorkUnit, MoveBlock, ClearBlock, LeaveBlock, KeepAll, Work, block}
+use Rattle.nv_model.specs.Queue.{SubmissionQueue, CompletionQueue, cqe_size, sqe_size}
 use Rattle.nv_model.specs.Controller.{Controller, most_slots}
-use Rattle.nv_model.specs.Private.{After, AtWork, Ended, Private, Progress, Run, Shape, Taken, Unjudged}
-use Rattle.nv_model.specs.Carried.{alone_at_work, moved_status, unmoved, units_moved}
+use Rattle.nv_model.specs.Private.{After, AtWork, Ended, Private, Progress, Run, Shape, Taken, Unjudged, moved_status}
+use Rattle.nv_model.specs.Carried.{at_work, unmoved, units_moved}
 
 -- ---- memories
 
@@ -45,11 +45,12 @@ abbrev pub IsMappedPlace : (ℕ → Bool) → Place → Type 0
 IsMappedPlace mapped (At addr) = mapped addr ≡ true
 IsMappedPlace mapped Bucket = ⊤
 
--- a unit is that of a block of the namespace, of a range in it, or of all its blocks
+-- a unit is that of a block of the namespace, or of all its blocks
 abbrev pub IsUnitWithin : (blocks : ℕ) → WorkUnit → Type 0
-IsUnitWithin blocks (OneBlock index lba) = lba < blocks
-IsUnitWithin blocks (OneRange start count) = start + count ≤ blocks
-IsUnitWithin blocks (AllBlocks all) = all ≡ blocks
+IsUnitWithin blocks (MoveBlock index lba) = lba < blocks
+IsUnitWithin blocks (ClearBlock lba mark) = lba < blocks
+IsUnitWithin blocks (LeaveBlock lba) = lba < blocks
+IsUnitWithin blocks (KeepAll all) = all ≡ blocks
 
 -- ---- commands that are carried out
 
@@ -58,12 +59,13 @@ abbrev pub IsOrderOf : (order units : List WorkUnit) → Type 0
 IsOrderOf [] units = units ≡ []
 IsOrderOf (unit ∷ order) units = (place : ℕ) × ((slice_get units place ≡ Some unit) × IsOrderOf order (remove units place))
 
--- the units of the command t, which goes with this work, have moved from p to q, each once, and it has ended with this status
-pub record HasMoved (p : Private) (t : Taken) (work : Work) (st : StatusField) (q : Private) : Type 0 where
+-- the units of the command t of that name, which goes with this work, have moved from p to q, each once, and it has ended with this
+-- status
+pub record HasMoved (p : Private) (name : ℕ) (t : Taken) (work : Work) (st : StatusField) (q : Private) : Type 0 where
   pub order : List WorkUnit
   pub each_once : IsOrderOf order work.units
   pub status : st ≡ moved_status (units_moved order work (unmoved p)).differed
-  pub behind : q ≡ alone_at_work t work [] (units_moved order work (unmoved p)) p
+  pub behind : q ≡ at_work name t work [] (units_moved order work (unmoved p)) p
 
 -- ---- queues
 
@@ -100,22 +102,23 @@ IsCompletionInPlace mapped q = IsInOrder q.size q.head q.tail × (everywhere map
 abbrev pub QueuesInPlace : (ℕ → Bool) → Controller → Type 0
 QueuesInPlace mapped c = QueuesHave (IsSubmissionInPlace mapped) (IsCompletionInPlace mapped) c
 
--- how many completions lie between head and tail
-abbrev pub posted_of : CompletionQueue → ℕ
-posted_of q = ahead q.size q.head q.tail
-
 -- ---- states that look alike
 
--- a command at work: the runs of its buffer are mapped, and its units that have not moved lie in the namespace
+-- a command at work: the runs of its buffer are mapped, and its units lie in the namespace
 abbrev pub IsProgressInPlace : Shape → Progress → Type 0
 IsProgressInPlace shape Unjudged = ⊤
 IsProgressInPlace shape (Ended st) = ⊤
-IsProgressInPlace shape (AtWork work units differed) = All (IsMappedPiece shape.mapped) work.pieces × All (IsUnitWithin shape.blocks) units
+IsProgressInPlace shape (AtWork work left differed) = All (IsMappedPiece shape.mapped) work.pieces × All (IsUnitWithin shape.blocks) work.units
+
+-- so is a command that is taken, where one is
+abbrev pub IsTakenInPlace : Shape → Option Taken → Type 0
+IsTakenInPlace shape None = ⊤
+IsTakenInPlace shape (Some t) = IsProgressInPlace shape t.progress
 
 -- the queues lie in mapped memory, and the taken commands work in mapped memory and in the namespace
 pub record IsInPlace (shape : Shape) (p : Private) : Type 0 where
   pub queues : QueuesInPlace shape.mapped p.controller
-  pub taken : All (λ t. IsProgressInPlace shape t.progress) p.bag
+  pub taken : (name : ℕ) → IsTakenInPlace shape (p.bag name)
 
 -- two states differ at most in what lies at unmapped addresses, in blocks past the namespace, and past the end of a block
 pub record LookAlike (shape : Shape) (p q : Private) : Type 0 where
@@ -125,16 +128,16 @@ pub record LookAlike (shape : Shape) (p q : Private) : Type 0 where
   pub disk : (lba offset : ℕ) → lba < shape.blocks → offset < block → p.disk lba offset ≡ q.disk lba offset
   pub kept : (lba : ℕ) → lba < shape.blocks → p.kept lba ≡ q.kept lba
 
--- both steps can't be made, or both can: with equal replies, to states that look alike
+-- both steps can't be made, or both can: the guest sees the same of both, and they lead to states that look alike
 abbrev pub StepsAlike : Shape → Option After → Option After → Type 0
 StepsAlike shape None None = ⊤
 StepsAlike shape None (Some b) = ⊥
 StepsAlike shape (Some a) None = ⊥
-StepsAlike shape (Some a) (Some b) = (a.reply ≡ b.reply) × LookAlike shape a.state b.state
+StepsAlike shape (Some a) (Some b) = (a.seen ≡ b.seen) × LookAlike shape a.state b.state
 
--- both runs can't be made, or both can: with equal replies, to states that look alike
+-- both runs can't be made, or both can: the guest sees the same of both, and they lead to states that look alike
 abbrev pub RunsAlike : Shape → Option Run → Option Run → Type 0
 RunsAlike shape None None = ⊤
 RunsAlike shape None (Some s) = ⊥
 RunsAlike shape (Some r) None = ⊥
-RunsAlike shape (Some r) (Some s) = (r.replies ≡ s.replies) × LookAlike shape r.state s.state
+RunsAlike shape (Some r) (Some s) = (r.seen ≡ s.seen) × LookAlike shape r.state s.state

@@ -13,5 +13,9 @@ pub mod Private
 pub mod Carried
 pub mod Footprint
 pub mod Laws
+pub mod Parts
+pub mod Endings
+pub mod SglSequence
+pub mod PrpAddresses
 pub mod Rows
 pub mod RowsRuns

@@ -51,9 +51,13 @@ new_submission base size completes_to =
 abbrev pub new_completion : (base size : ℕ) → CompletionQueue
 new_completion base size = record { base = base; size = size; head = 0; tail = 0; phase = true }
 
--- how many slots are taken
-abbrev pub submitted : SubmissionQueue → ℕ
-submitted q = ahead q.size q.head q.tail
+-- how many entries are rung and not taken
+abbrev pub waiting : SubmissionQueue → ℕ
+waiting q = ahead q.size q.head q.tail
+
+-- how many completions are posted and not acknowledged
+abbrev pub unacknowledged : CompletionQueue → ℕ
+unacknowledged q = ahead q.size q.head q.tail
 
 -- the front entry is taken
 abbrev pub front_taken : SubmissionQueue → SubmissionQueue

@@ -159,11 +159,11 @@ pages_from addr (suc count) = addr ∷ pages_from (addr + 0x1000) count
 
 -- a Read that goes
 abbrev pub reads : List Piece → List WorkUnit → Verdict
-reads pieces units = Go (record { opcode = opcode.Read; pieces = pieces; units = units; fua = false; deallocate = false })
+reads pieces units = Go (record { opcode = opcode.Read; pieces = pieces; units = units; fua = false })
 
 -- a command without a buffer that goes
 abbrev pub goes_without_buffer : IoOpcode → List WorkUnit → Verdict
-goes_without_buffer code units = Go (record { opcode = code; pieces = []; units = units; fua = false; deallocate = false })
+goes_without_buffer code units = Go (record { opcode = code; pieces = []; units = units; fua = false })
 
 -- the last dword of the completion with which a command of identifier 7 is refused, phase tag 1; none where it goes
 abbrev pub refusal : Verdict → Option ℕ
@@ -179,9 +179,8 @@ abbrev pub larger_refusal_in : (ℕ → ℕ) → List ℕ → Option ℕ
 larger_refusal_in memory entry = refusal (verdict_in larger_guest memory entry)
 
 -- Dataset Management that goes
-abbrev pub manages : (deallocate : Bool) → List Piece → List WorkUnit → Verdict
-manages deallocate pieces units =
-    Go (record { opcode = opcode.DatasetManagement; pieces = pieces; units = units; fua = false; deallocate = deallocate })
+abbrev pub manages : List Piece → List WorkUnit → Verdict
+manages pieces units = Go (record { opcode = opcode.DatasetManagement; pieces = pieces; units = units; fua = false })
 
 -- ---- transcripts
 

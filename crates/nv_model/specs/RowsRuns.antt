@@ -1,5 +1,5 @@
 -- Worked examples: runs of the private controller
-use Rattle.std.specs.Prelude.{ℕ, ◌+◌, ◌*◌, ◌-◌, Bool, true, List, [], ◌∷◌, ◌++◌, replicate, Option, Some, None, is_some}
+use Rattle.std.specs.Prelude.{ℕ, ◌+◌, ◌*◌, ◌-◌, Bool, true, List, [], ◌∷◌, ◌++◌, map, replicate, Option, Some, None, is_some}
 use Rattle.nv_entry.specs.Layout.{number_at, dword}
 use Rattle.nv_entry.specs.Status.{StatusField}
 use Rattle.nv_entry.specs.Completion.{completion}
@@ -7,8 +7,9 @@ use Rattle.nv_model.specs.declared.act.Act.TheVariants as act
 use Rattle.nv_model.specs.declared.reply.Reply.{Reply}
 use Rattle.nv_model.specs.Memory.{bytes_from}
 use Rattle.nv_model.specs.Controller.{opening}
-use Rattle.nv_model.specs.Private.{Private, Run, Step, ActStep, TakeStep, JudgeStep, MoveStep, PostStep, AdminQueueStep, Taken, Unjudged, ending, run_of, start}
-use Rattle.nv_model.specs.Footprint.{Named, footprint}
+use Rattle.nv_model.specs.Private.{Private, Run, Step, ActStep, TakeStep, JudgeStep, MoveStep, PostStep, AdminQueueStep, Taken, Unjudged, no_commands, put, run_of, start}
+use Rattle.nv_model.specs.Carried.{ending_of, judged_then_moved}
+use Rattle.nv_model.specs.Footprint.{Named, footprints}
 use Rattle.nv_model.specs.Rows.{command, data_block, first_example, guest, prps}
 
 -- ---- looking at a run
@@ -29,7 +30,7 @@ can_run steps p = is_some (run_of guest steps p)
 -- what the guest is replied
 abbrev pub replies_of : Option Run → Option (List Reply)
 replies_of None = None
-replies_of (Some run) = Some run.replies
+replies_of (Some run) = Some (map (λ a. a.reply) run.seen)
 
 abbrev pub replied_to : List Step → Private → Option (List Reply)
 replied_to steps p = replies_of (run_of guest steps p)
@@ -71,25 +72,21 @@ with_command memory disk kept entry =
       disk = disk;
       kept = kept;
       controller = opening;
-      bag = record { name = 0; queue = 1; entry = entry; progress = Unjudged } ∷ [];
+      bag = put no_commands 0 (Some (record { queue = 1; entry = entry; progress = Unjudged }));
     }
 
 -- it is judged, and so many units move, in their order
 abbrev pub carried : (units : ℕ) → List Step
-carried units = JudgeStep 0 ∷ replicate units (MoveStep 0 0)
+carried units = judged_then_moved 0 units
 
 -- the last dword of the completion of a command of identifier 7 with this status, phase tag 1
 abbrev pub dw3_with : Option StatusField → Option ℕ
 dw3_with None = None
 dw3_with (Some st) = Some (dword (completion 0 1 1 7 true st) 3)
 
-abbrev pub first_ending : List Taken → Option ℕ
-first_ending [] = None
-first_ending (t ∷ ts) = dw3_with (ending t.progress)
-
 -- the last dword of that command's completion, where it has ended
 abbrev pub ended : Private → Option ℕ
-ended p = first_ending p.bag
+ended p = dw3_with (ending_of (p.bag 0))
 
 -- ---- a guest's acts
 
@@ -253,6 +250,11 @@ shared_completion_queue =
 
 -- ---- footprints
 
--- the bytes that the outstanding commands name
-abbrev pub named_bytes : Private → List Named
-named_bytes p = footprint guest p
+-- the entry of a taken command, where one is
+abbrev pub entry_of : Option Taken → List (List ℕ)
+entry_of None = []
+entry_of (Some t) = t.entry ∷ []
+
+-- the bytes that each outstanding command names; the names of the taken ones are 0 and 1
+abbrev pub named_bytes : Private → List (List Named)
+named_bytes p = footprints guest p.memory p.controller (entry_of (p.bag 0) ++ entry_of (p.bag 1))

@@ -77,10 +77,10 @@ prps_met-built list_page [] = refl
 prps_met-built list_page (x ∷ xs) = refl
 
 -- addresses in a row fit
-pub fit-row : (addr len : ℕ) → addr % 4 ≡ 0 → fit_prp (range_with_len addr len) ≡ true
+pub fit-row : (addr len : ℕ) → 0 < len → addr % 4 ≡ 0 → fit_prp (range_with_len addr len) ≡ true
 unfolding fit_behind
-fit-row addr zero aligned = refl
-fit-row addr (suc len) aligned =
+fit-row addr zero some aligned = absurd (omega arith)
+fit-row addr (suc len) some aligned =
     ap (fit_behind None) (sym (append-nil (range_with_len addr (suc len))))
     ∙ fit_behind-row None addr len []
     ∙ ap (λ (b : Bool). b && true) (eq-eqb (addr % 4) 0 aligned)

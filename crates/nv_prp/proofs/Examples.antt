@@ -48,6 +48,10 @@ ahead_of_a_pointer = refl
 
 -- ---- which addresses fit
 
+no_bytes : fit_prp [] ≡ false
+unfolding fit_behind
+no_bytes = refl
+
 in_a_row : fit_prp (range_with_len 0x104 6) ≡ true
 unfolding fit_behind
 in_a_row = refl

@@ -230,8 +230,8 @@ pub places_fit-bucket : (regions : List Region) (old : Option ℕ) (pieces : Lis
 places_fit-bucket regions old pieces i d len below is =
     ap (places_fit_behind regions old) (at_index pieces i d below ∙ ap (λ (p : Piece). p ∷ drop (i + 1) pieces) is)
 
--- no pieces fit
-pub places_fit-none : (regions : List Region) (old : Option ℕ) (pieces : List Piece) (i : ℕ) → length pieces ≤ i → places_fit_behind regions old (drop i pieces) ≡ true
+-- no pieces fit behind others
+pub places_fit-none : (regions : List Region) (old : Option ℕ) (pieces : List Piece) (i : ℕ) → length pieces ≤ i → places_fit_behind regions old (drop i pieces) ≡ is_some old
 unfolding hosts_of fit_behind
 places_fit-none regions old pieces i past = ap (places_fit_behind regions old) (drop-past pieces i past)
 

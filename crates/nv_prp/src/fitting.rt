@@ -9,9 +9,9 @@ use nv_mem::{GuestMap, Piece, Places};
 /// The size of a memory page.
 const PAGE: u64 = 4096;
 
-/// Whether a transfer can name these places by PRP: no bucket is among them, the host address of the first byte is a multiple of 4,
-/// and each later one is the one before plus 1, or is a page start after a page end. It takes time by the places' runs in the host,
-/// whatever their length.
+/// Whether a transfer can name these places by PRP: no bucket is among them, they have at least one byte, the host address of the
+/// first byte is a multiple of 4, and each later one is the one before plus 1, or is a page start after a page end. It takes time by
+/// the places' runs in the host, whatever their length.
 pub fn fits(map: &GuestMap, places: &Places) -> bool
     requires { All (IsMappedPiece (mapped map.now.regions)) places.now }
     ensures { result ≡ places_fit map.now.regions places.now }
@@ -27,7 +27,7 @@ pub fn fits(map: &GuestMap, places: &Places) -> bool
             }
         }
     }
-    true
+    end.is_some()
 }
 
 // Whether the host addresses of a run fit behind bytes that end before `end`. If so, `end` becomes where they end.

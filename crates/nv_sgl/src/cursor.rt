@@ -44,13 +44,22 @@ impl Cursor {
     }
 
     /// Whether the next descriptor is asked for.
+    #[inline(always)]
     pub fn is_asking(&self) -> bool
         ensures { result ≡ is_asking self.now }
     {
         self.fault.is_none() && self.left > 0 && self.budget > 0
     }
 
+    // For how many descriptors there is to be room, where the bytes of `given` are there: for those of the array that may be read.
+    fn room(&self, given: usize) -> usize
+        ensures { given ≤ result }
+    {
+        given.max(self.left.min(self.budget) as usize)
+    }
+
     /// Behind the next descriptor, before it was looked at.
+    #[inline(always)]
     pub fn past_one(self) -> Self
         requires left { 0 < self.left }
         requires budget { 0 < self.budget }
@@ -66,6 +75,7 @@ impl Cursor {
     }
 
     /// Behind `d`, where `self` is behind it before it was looked at.
+    #[inline(always)]
     pub fn behind(self, map: &GuestMap, dest: bool, d: &Descriptor) -> Self
         requires array { self.from + 16 * self.left ≤ 2 ^ 64 }
         requires total { self.total + (2 ^ 32 - 1) * (self.budget + 1) < 2 ^ 64 }
@@ -87,6 +97,7 @@ impl Cursor {
     }
 
     // The array that is read behind `d`.
+    #[inline(always)]
     fn array_behind(self, d: &Descriptor) -> Self
         ensures array { array_at result ≡ array_by (kind_of d.now) (array_at self) d.now }
         ensures budget { result.budget ≡ self.budget }
@@ -104,6 +115,7 @@ impl Cursor {
     }
 
     // The first check that `d` fails, where `self` is behind it.
+    #[inline(always)]
     fn fault_of(&self, map: &GuestMap, d: &Descriptor) -> Option<StatusCode>
         ensures value { result ≡ fault_by (kind_of d.now) (mapped map.now.regions) (array_at self.now) d.now }
         ensures inside { result ≡ None → names_array (kind_of d.now) ≡ true → address_of d.now + length_of d.now ≤ 2 ^ 64 }
@@ -158,6 +170,7 @@ fn holds_some(map: &GuestMap, addr: u64, len: u32) -> bool
 }
 
 // How many bytes of the transfer a descriptor names.
+#[inline(always)]
 fn bytes_named(d: &Descriptor, dest: bool) -> u32
     ensures { result ≡ total_len (pieces_by (kind_of d.now) dest d.now) }
 {
@@ -169,6 +182,7 @@ fn bytes_named(d: &Descriptor, dest: bool) -> u32
 }
 
 /// The piece that a descriptor names, where it names bytes of the transfer.
+#[inline(always)]
 pub fn piece_of(d: &Descriptor, dest: bool) -> Option<Piece>
     ensures { option_to_list result ≡ pieces_by (kind_of d.now) dest d.now }
 {
@@ -183,8 +197,8 @@ pub fn piece_of(d: &Descriptor, dest: bool) -> Option<Piece>
     }
 }
 
-/// Reads the descriptors in these bytes, from the cursor on, behind `blocks`, and gives the cursor behind them. Where no memory is
-/// left, the blocks are as they were.
+/// Reads the descriptors in these bytes, from the cursor on, behind `blocks`, and gives the cursor behind them. Room for the array is
+/// taken at once, with its first bytes. Where no memory is left, the blocks are as they were.
 pub fn read_part<A: Allocator>(
     map: &GuestMap,
     dest: bool,
@@ -197,7 +211,7 @@ pub fn read_part<A: Allocator>(
     ensures ok { IfOk result (λ c. ReadsPart (mapped map.now.regions) dest cursor bytes.now blocks.old.items c blocks.new.items) }
     ensures err { OnErr result (blocks.new.items ≡ blocks.old.items) }
 {
-    blocks.try_reserve(bytes.len() / 16)?;
+    blocks.try_reserve(cursor.room(bytes.len() / 16))?;
     let mut cursor = cursor;
     let mut rest = bytes;
     while cursor.is_asking() {

@@ -154,6 +154,7 @@ impl<'a, A: Allocator + Clone> SglParse<'a, A> {
         ensures { IfOk result (λ places. dialogue_of self.now ≡ End (Spells places)) }
     {
         let mut places = Places::new(alloc);
+        places.reserve(LIMIT.saturating_sub(self.cursor.budget) as usize)?;
         self.chain.push_pieces(self.dest, &mut places)?;
         Ok(places)
     }

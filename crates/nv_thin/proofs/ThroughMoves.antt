@@ -12,12 +12,12 @@ use Rattle.nv_entry.specs.declared.opcode.IoOpcode.TheVariants.{Read, Write}
 use Rattle.nv_mem.specs.Bytes.{after_store, bytes_at}
 use Rattle.nv_mem.specs.Places.{Place, addresses, places_of}
 use Rattle.nv_mem.specs.declared.piece.Piece.TheVariants.{Run}
-use Rattle.nv_model.specs.Carried.{moved_on, units_moved}
-use Rattle.nv_model.specs.Judge.{Work, OneBlock, count_of}
+use Rattle.nv_model.specs.Carried.{block_work, moved_on, units_from, units_moved}
+use Rattle.nv_model.specs.Judge.{Work, MoveBlock, count_of}
 use Rattle.nv_model.specs.Memory.{bytes_from, gathered, scattered, stored}
 use Rattle.nv_model.specs.Private.{Moved, block_bytes, block_written, marked}
 use Rattle.nv_model.proofs.MemoryLemmas.{bytes_from-list, gathered-addresses, scattered-addresses, stored-list, stored-nil}
-use Rattle.nv_flat.specs.Flat.{Flat, block_work, byte_in, flat, moved_of, units_from}
+use Rattle.nv_flat.specs.Flat.{Flat, byte_in, flat, moved_of}
 use Rattle.nv_thin.specs.Thin.{IsPhysical, carried, copied, guests_view}
 use Rattle.nv_thin.proofs.OneRunLemmas.{take-drop-addresses}
 
@@ -178,8 +178,8 @@ abbrev pub run_work : IoOpcode → (addr len : ℕ) → (fua : Bool) → Work
 run_work opcode addr len fua = block_work opcode (Run addr len ∷ []) fua
 
 read-step : (offset base page addr len k lba : ℕ) (fua : Bool) (m : Moved) → page + 4096 ≤ offset → k < 8 → 512 * k + 512 ≤ len
-    → behind offset base (copied page (offset + addr) (512 * (k + 1)) (moved_on (OneBlock k (base + lba)) (run_work Read page 4096 fua) m))
-    ≡ moved_on (OneBlock k lba) (run_work Read addr len fua) (behind offset base (copied page (offset + addr) (512 * k) m))
+    → behind offset base (copied page (offset + addr) (512 * (k + 1)) (moved_on (MoveBlock k (base + lba)) (run_work Read page 4096 fua) m))
+    ≡ moved_on (MoveBlock k lba) (run_work Read addr len fua) (behind offset base (copied page (offset + addr) (512 * k) m))
 read-step offset base page addr len k lba fua m room below within =
     let bytes : List ℕ = block_bytes m.disk (base + lba) in
     let sized : length bytes ≡ 512 = length-bytes_from (m.disk (base + lba)) 0 512 in
@@ -201,7 +201,7 @@ reads-from offset base page addr len k lba zero fua m room below within =
     let e : 512 * (k + 0) ≡ 512 * k = omega arith in
     ap (λ (c : ℕ). behind offset base (copied page (offset + addr) c m)) e
 reads-from offset base page addr len k lba (suc n) fua m room below within =
-    let moved : Moved = moved_on (OneBlock k (base + lba)) (run_work Read page 4096 fua) m in
+    let moved : Moved = moved_on (MoveBlock k (base + lba)) (run_work Read page 4096 fua) m in
     let bytes : 512 * (k + suc n) ≡ 512 * (k + 1 + n) = omega arith in
     let next : base + lba + 1 ≡ base + (lba + 1) = omega arith in
     ap (λ (c : ℕ). behind offset base (copied page (offset + addr) c (units_moved (units_from (k + 1) (base + lba + 1) n) (run_work Read page 4096 fua) moved))) bytes
@@ -225,8 +225,8 @@ reads-through offset base page addr len lba n fua m room below within =
 
 write-step : (offset base page addr len k lba : ℕ) (fua : Bool) (m : Moved) → 512 * k + 512 ≤ 4096 → 512 * k + 512 ≤ len
     → ((i : ℕ) → i < 512 → m.memory (page + 512 * k + i) ≡ m.memory (offset + (addr + 512 * k + i)))
-    → behind offset base (moved_on (OneBlock k (base + lba)) (run_work Write page 4096 fua) m)
-    ≡ moved_on (OneBlock k lba) (run_work Write addr len fua) (behind offset base m)
+    → behind offset base (moved_on (MoveBlock k (base + lba)) (run_work Write page 4096 fua) m)
+    ≡ moved_on (MoveBlock k lba) (run_work Write addr len fua) (behind offset base m)
 write-step offset base page addr len k lba fua m on_page within alike =
     let from_page = unit-gathered m.memory page 4096 k on_page in
     let from_guest = unit-gathered (λ a. m.memory (offset + a)) addr len k within in
@@ -245,7 +245,7 @@ writes-from : (offset base page addr len k lba n : ℕ) (fua : Bool) (m : Moved)
 unfolding units_from units_moved
 writes-from offset base page addr len k lba zero fua m below within alike = refl
 writes-from offset base page addr len k lba (suc n) fua m below within alike =
-    let moved : Moved = moved_on (OneBlock k (base + lba)) (run_work Write page 4096 fua) m in
+    let moved : Moved = moved_on (MoveBlock k (base + lba)) (run_work Write page 4096 fua) m in
     let next : base + lba + 1 ≡ base + (lba + 1) = omega arith in
     let here : (i : ℕ) → i < 512 → m.memory (page + 512 * k + i) ≡ m.memory (offset + (addr + 512 * k + i)) =
     λ i small. ap m.memory (omega arith) ∙ alike (512 * k + i) (omega arith) (omega arith) ∙ ap m.memory (omega arith) in

@@ -1,6 +1,5 @@
 -- The verdict on a command that goes through the bounce page, and what it has to show
 use Rattle.std.proofs.Common.{◌≡◌, ℕ, ◌+◌, ◌-◌, ◌*◌, ◌<◌, ◌≤◌, Bool, true, false, not, ◌&&◌, ◌==◌, nat_le, nat_lt, cond, is_some, Option, Some, None, Ok, Err, is_none, List, [], ◌∷◌, length, refl, sym, ap, subst, ◌∙◌, arith, inl, inr, ◌⊎◌}
-use Rattle.std.specs.List.{range_with_len}
 use Rattle.std.proofs.lemmas.Bool.Decides.{nat_tests}
 use Rattle.nv_entry.specs.Descriptor.{address_of, length_of, type_of}
 use Rattle.nv_entry.specs.Opcode.{io_opcode}
@@ -21,16 +20,15 @@ use Rattle.nv_ns.specs.BlockRange.{Extent, in_namespace, translated}
 use Rattle.nv_model.specs.Dialogue.{Dialogue, End, and_then, in_memory}
 use Rattle.nv_model.specs.Reading.{Reading, Faulty, Spells, run}
 use Rattle.nv_model.specs.Sgl.{read_sgl}
-use Rattle.nv_model.specs.Judge.{WorkUnit, Refuse, Go, block_units, judge_reading, count_of, field_refusal, has_blocks, has_buffer, is_read, sized}
+use Rattle.nv_model.specs.Judge.{Refuse, Go, judge_reading, count_of, field_refusal, has_blocks, has_buffer, is_read, sized}
 use Rattle.nv_model.specs.Judge.{work_of}
 use Rattle.nv_model.specs.Private.{Moved, verdict_in}
-use Rattle.nv_model.specs.Carried.{units_moved}
+use Rattle.nv_model.specs.Carried.{block_work, units_from, units_moved}
 use Rattle.nv_model.specs.declared.want.Want.{Want}
 use Rattle.nv_model.specs.declared.want.Want.TheVariants as want
 use Rattle.nv_model.specs.Want.{want_of}
-use Rattle.nv_flat.specs.Flat.{Flat, block_work, byte_in, identity_map, moved_of, units_from}
+use Rattle.nv_flat.specs.Flat.{Flat, byte_in, identity_map, moved_of}
 use Rattle.nv_flat.specs.One.{IsDone, IsOutcome, shape_of}
-use Rattle.nv_flat.proofs.MoveLemmas.{block_units-range}
 use Rattle.nv_flat.proofs.OneLemmas.{moved-run, outcome-built, outcome-refused, refused-run}
 use Rattle.nv_flat.proofs.VerdictLemmas.{field_verdict-err, field_verdict-ok, in-namespace, verdict-refused}
 use Rattle.nv_flat.proofs.WorkLemmas.{units_moved-transfer}
@@ -121,28 +119,27 @@ done-faulty f entry need code st verdict built read status =
     let P : Bool → Type 0 = λ b. IsOutcome b (not (is_none (field_refusal (length f.disk) entry))) f entry st f in
     subst P (sym built) (outcome-built (not (is_none (field_refusal (length f.disk) entry))) f f entry st (refused-run f entry st refused))
 
--- the work of a command over blocks
-goes-with : (f : Flat) (entry : List ℕ) (opcode : IoOpcode) (pieces : List Piece) → has_blocks opcode ≡ true
-    → in_memory (byte_in f.memory) (judge_reading (length f.disk) entry opcode (Spells pieces))
-    ≡ Go (work_of opcode entry pieces (block_units (range_with_len (slba_of entry) (count_of entry))))
+-- the work of a Read or Write
+goes-with : (f : Flat) (entry : List ℕ) (opcode : IoOpcode) (pieces : List Piece) → is_transfer (Some opcode) ≡ true
+    → in_memory (byte_in f.memory) (judge_reading (length f.disk) entry opcode (Spells pieces)) ≡ Go (work_of (length f.disk) opcode entry pieces [])
 unfolding in_memory
-goes-with f entry Read pieces ranged = refl
-goes-with f entry Write pieces ranged = refl
-goes-with f entry Compare pieces ranged = refl
-goes-with f entry WriteZeroes pieces ranged = refl
-goes-with f entry Flush pieces ranged = (cc)
-goes-with f entry DatasetManagement pieces ranged = (cc)
+goes-with f entry Read pieces t = refl
+goes-with f entry Write pieces t = refl
+goes-with f entry Compare pieces t = (cc)
+goes-with f entry WriteZeroes pieces t = (cc)
+goes-with f entry Flush pieces t = (cc)
+goes-with f entry DatasetManagement pieces t = (cc)
 
 -- the units of a Read or Write, in order
-transferred : (entry : List ℕ) (opcode : IoOpcode) (pieces : List Piece) (units : List WorkUnit) (m : Moved) → is_transfer (Some opcode) ≡ true
-    → units_moved units (work_of opcode entry pieces units) m
-    ≡ units_moved units (block_work (cond (is_read opcode) Read Write) pieces (has_blocks opcode && fua_of entry == 1)) m
-transferred entry Read pieces units m t = units_moved-transfer Read entry pieces units m refl
-transferred entry Write pieces units m t = units_moved-transfer Write entry pieces units m refl
-transferred entry Flush pieces units m t = (cc)
-transferred entry Compare pieces units m t = (cc)
-transferred entry WriteZeroes pieces units m t = (cc)
-transferred entry DatasetManagement pieces units m t = (cc)
+transferred : (blocks : ℕ) (entry : List ℕ) (opcode : IoOpcode) (pieces : List Piece) (m : Moved) → is_transfer (Some opcode) ≡ true
+    → units_moved (work_of blocks opcode entry pieces []).units (work_of blocks opcode entry pieces []) m
+    ≡ units_moved (units_from 0 (slba_of entry) (count_of entry)) (block_work (cond (is_read opcode) Read Write) pieces (has_blocks opcode && fua_of entry == 1)) m
+transferred blocks entry Read pieces m t = units_moved-transfer blocks Read entry pieces m refl
+transferred blocks entry Write pieces m t = units_moved-transfer blocks Write entry pieces m refl
+transferred blocks entry Flush pieces m t = (cc)
+transferred blocks entry Compare pieces m t = (cc)
+transferred blocks entry WriteZeroes pieces m t = (cc)
+transferred blocks entry DatasetManagement pieces m t = (cc)
 
 -- the blocks that a Read or Write needs
 blocks-needed : (entry : List ℕ) (opcode : IoOpcode) → is_transfer (Some opcode) ≡ true → (need_of entry opcode).blocks ≡ count_of entry
@@ -163,21 +160,18 @@ pub done-moved : (f g : Flat) (entry : List ℕ) (need : Need) (addr len : ℕ)
 done-moved f g entry need addr len verdict built read moved =
     let t = transfer-of f entry need verdict built in
     let pieces : List Piece = piece.Run addr len ∷ [] in
-    let units : List WorkUnit = block_units (range_with_len (slba_of entry) (count_of entry)) in
-    let goes = transfer-verdict f entry need t.0 (Spells pieces) t.1 read ∙ goes-with f entry t.0 pieces (buffered t.0 t.1.transfers).1 in
+    let goes = transfer-verdict f entry need t.0 (Spells pieces) t.1 read ∙ goes-with f entry t.0 pieces t.1.transfers in
     let Q : Need → Type 0 =
     λ n. moved_of g false ≡ units_moved (units_from 0 (slba_of entry) n.blocks) (block_work (cond n.dest Read Write) pieces n.fua) (moved_of f false) in
     let needed = subst Q t.1.needs moved in
     let B : ℕ → Type 0 =
     λ n. moved_of g false ≡ units_moved (units_from 0 (slba_of entry) n) (block_work (cond (is_read t.0) Read Write) pieces (has_blocks t.0 && fua_of entry == 1)) (moved_of f false) in
     let counted = subst B (blocks-needed entry t.0 t.1.transfers) needed in
-    let in_order = counted
-    ∙ ap (λ (us : List WorkUnit). units_moved us (block_work (cond (is_read t.0) Read Write) pieces (has_blocks t.0 && fua_of entry == 1)) (moved_of f false)) (sym (block_units-range (slba_of entry) (count_of entry)))
-    ∙ sym (transferred entry t.0 pieces units (moved_of f false) t.1.transfers) in
+    let in_order = counted ∙ sym (transferred (length f.disk) entry t.0 pieces (moved_of f false) t.1.transfers) in
     let P : Bool → Type 0 = λ b. IsOutcome b (not (is_none (field_refusal (length f.disk) entry))) f entry (done_with Success) g in
     subst P (sym built)
     (outcome-built (not (is_none (field_refusal (length f.disk) entry))) f g entry (done_with Success)
-    (moved-run f g entry (work_of t.0 entry pieces units) false goes in_order))
+    (moved-run f g entry (work_of (length f.disk) t.0 entry pieces []) false goes in_order))
 
 -- ---- a list that is one run
 

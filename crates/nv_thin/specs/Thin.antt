@@ -9,11 +9,11 @@ use Rattle.nv_entry.specs.declared.opcode.IoOpcode.TheVariants.{Flush, Write, Re
 use Rattle.nv_mem.specs.Bytes.{bytes_at}
 use Rattle.nv_mem.specs.GuestMap.{Mapping}
 use Rattle.nv_mem.specs.declared.piece.Piece.TheVariants.{Run}
-use Rattle.nv_model.specs.Carried.{units_moved}
+use Rattle.nv_model.specs.Carried.{block_work, units_from, units_moved}
 use Rattle.nv_model.specs.Judge.{count_of}
 use Rattle.nv_model.specs.Memory.{bytes_from, stored}
 use Rattle.nv_model.specs.Private.{Moved}
-use Rattle.nv_flat.specs.Flat.{Flat, block_work, flat, units_from}
+use Rattle.nv_flat.specs.Flat.{Flat, flat}
 
 -- ---- where things lie (profile)
 

@@ -113,9 +113,9 @@ fn ends_all_the_same(
     alloc: Global,
     guest: &Guest,
 ) -> Result<bool, NoMemory> {
-    // an array's first part takes a block for its descriptors and one for its place in the chain, and a further part a larger block
+    // an array's first part takes a block for its descriptors and one for its place in the chain, and a further part none
     Ok(
-        are_refused(parse, heap, &guest.memory, &[2, 2, 1])?
+        are_refused(parse, heap, &guest.memory, &[2, 2, 0])?
             && has_read_three(alloc, parse)?
             && is_chain_of_three(parse.chain(), alloc, guest)?,
     )

@@ -78,8 +78,8 @@ fn is_refused_and_fed_again(
     guest: &Guest,
 ) -> Result<bool, NoMemory> {
     let mut parse = parse_of_three(heap, &guest.map)?;
-    // each array's first part takes two blocks, one for its descriptors and one for its place in the chain
-    Ok(are_refused(&mut parse, heap, &guest.memory, &[2, 2, 1]) && has_read_three(alloc, &parse)?)
+    // each array's first part takes two blocks, one for its descriptors and one for its place in the chain, and a further part none
+    Ok(are_refused(&mut parse, heap, &guest.memory, &[2, 2, 0]) && has_read_three(alloc, &parse)?)
 }
 
 #[test]

@@ -1,11 +1,11 @@
 //! A controller's queues stay in order, and hold one entry less than they have slots at most.
-ghost use Rattle.std.specs.Prelude.{◌≡◌, ℕ, ◌+◌, ◌-◌, ◌≤◌, Bool, false, List, Some};
+ghost use Rattle.std.specs.Prelude.{◌≡◌, ℕ, ◌+◌, ◌-◌, ◌<◌, ◌≤◌, Bool, true, false, List, Some};
 ghost use Rattle.nv_entry.specs.Status.{StatusField};
-ghost use Rattle.nv_model.specs.Queue.{SubmissionQueue, CompletionQueue, is_full, posted, submitted};
-ghost use Rattle.nv_model.specs.Controller.{Controller, Posted, completion_queue, doorbell, opening, post, ran_out, reg_write, submission_queue, took};
+ghost use Rattle.nv_model.specs.Queue.{SubmissionQueue, CompletionQueue, ahead, front_taken, is_full, posted, unacknowledged, waiting};
+ghost use Rattle.nv_model.specs.Controller.{Controller, Posted, completion_queue, doorbell, front, head_rung, opening, post, ran_out, reg_write, submission_queue, took};
 ghost use Rattle.nv_model.specs.Admin.{Stepped, admin};
 ghost use Rattle.nv_model.specs.Private.{Private, Run, Shape, Step, run_of, start};
-ghost use Rattle.nv_model.specs.Laws.{QueuesInOrder, posted_of};
+ghost use Rattle.nv_model.specs.Laws.{QueuesInOrder};
 
 /// Whatever a controller does, its queues stay in order.
 pub fn queues_stay_in_order()
@@ -31,16 +31,29 @@ pub fn runs_keep_queues_in_order()
         run_of shape steps start ≡ Some r → QueuesInOrder r.state.controller }
 {}
 
-/// A queue in order holds one entry less than it has slots at most.
+/// A queue in order holds one entry less than it has slots at most, and a completion queue is full exactly where it holds that many.
 pub fn a_slot_stays_empty()
     ensures submission { (c : Controller) (y : ℕ) (q : SubmissionQueue) →
-        QueuesInOrder c → submission_queue c y ≡ Some q → submitted q ≤ q.size - 1 }
+        QueuesInOrder c → submission_queue c y ≡ Some q → waiting q ≤ q.size - 1 }
     ensures completion { (c : Controller) (y : ℕ) (q : CompletionQueue) →
-        QueuesInOrder c → completion_queue c y ≡ Some q → posted_of q ≤ q.size - 1 }
+        QueuesInOrder c → completion_queue c y ≡ Some q → unacknowledged q ≤ q.size - 1 }
+    ensures full { (c : Controller) (y : ℕ) (q : CompletionQueue) →
+        QueuesInOrder c → completion_queue c y ≡ Some q → (is_full q.size q.head q.tail ≡ true → unacknowledged q ≡ q.size - 1)
+        × (unacknowledged q ≡ q.size - 1 → is_full q.size q.head q.tail ≡ true) }
 {}
 
-/// A completion is posted only where its queue is not full, and the queue then holds one more, which still leaves a slot.
-pub fn posts_leave_a_slot_empty()
+/// A command is taken only where one waits, and then one waits less.
+pub fn a_take_lowers_what_waits()
+    ensures had_one { (c : Controller) (y addr : ℕ) (q : SubmissionQueue) →
+        QueuesInOrder c → submission_queue c y ≡ Some q → front c y ≡ Some addr → 0 < waiting q }
+    ensures behind { (c : Controller) (y : ℕ) (q : SubmissionQueue) →
+        submission_queue c y ≡ Some q → submission_queue (took c y) y ≡ Some (front_taken q) }
+    ensures one_less { (c : Controller) (y addr : ℕ) (q : SubmissionQueue) →
+        QueuesInOrder c → submission_queue c y ≡ Some q → front c y ≡ Some addr → waiting (front_taken q) + 1 ≡ waiting q }
+{}
+
+/// A completion is posted only where its queue is not full, and one more is unacknowledged then, which still leaves a slot.
+pub fn a_post_raises_what_is_unacknowledged()
     ensures had_room { (c : Controller) (y dw0 cid : ℕ) (st : StatusField) (q : SubmissionQueue) (cq : CompletionQueue) (r : Posted) →
         submission_queue c y ≡ Some q → completion_queue c q.completes_to ≡ Some cq → post c y dw0 cid st ≡ Some r →
         is_full cq.size cq.head cq.tail ≡ false }
@@ -50,9 +63,17 @@ pub fn posts_leave_a_slot_empty()
     ensures one_more { (c : Controller) (y dw0 cid : ℕ) (st : StatusField) (q : SubmissionQueue) (cq : CompletionQueue) (r : Posted) →
         QueuesInOrder c →
         submission_queue c y ≡ Some q → completion_queue c q.completes_to ≡ Some cq → post c y dw0 cid st ≡ Some r →
-        posted_of (posted cq) ≡ posted_of cq + 1 }
+        unacknowledged (posted cq) ≡ unacknowledged cq + 1 }
     ensures still_room { (c : Controller) (y dw0 cid : ℕ) (st : StatusField) (q : SubmissionQueue) (cq : CompletionQueue) (r : Posted) →
         QueuesInOrder c →
         submission_queue c y ≡ Some q → completion_queue c q.completes_to ≡ Some cq → post c y dw0 cid st ≡ Some r →
-        posted_of (posted cq) ≤ cq.size - 1 }
+        unacknowledged cq + 1 < cq.size }
+{}
+
+/// A head doorbell lowers what is unacknowledged by the completions that it acknowledges, whose tail stays.
+pub fn a_head_doorbell_acknowledges()
+    ensures { (c after : Controller) (y head : ℕ) (q : CompletionQueue) →
+        QueuesInOrder c → completion_queue c y ≡ Some q → head_rung (Some q) c y head ≡ Some after →
+        (now : CompletionQueue) × ((completion_queue after y ≡ Some now) × ((now.tail ≡ q.tail)
+        × (unacknowledged now + ahead q.size q.head now.head ≡ unacknowledged q))) }
 {}

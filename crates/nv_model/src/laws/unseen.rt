@@ -37,9 +37,9 @@ pub fn steps_do_the_same()
 pub fn runs_do_the_same()
     ensures alike { (shape : Shape) (steps : List Step) (p q : Private) →
         LookAlike shape p q → IsInPlace shape p → RunsAlike shape (run_of shape steps p) (run_of shape steps q) }
-    ensures replies { (shape : Shape) (steps : List Step) (p q : Private) (r s : Run) →
+    ensures seen { (shape : Shape) (steps : List Step) (p q : Private) (r s : Run) →
         LookAlike shape p q → IsInPlace shape p →
-        run_of shape steps p ≡ Some r → run_of shape steps q ≡ Some s → r.replies ≡ s.replies }
+        run_of shape steps p ≡ Some r → run_of shape steps q ≡ Some s → r.seen ≡ s.seen }
     ensures from_start { (shape : Shape) (before steps : List Step) (r : Run) (q : Private) →
         run_of shape before start ≡ Some r → LookAlike shape r.state q →
         RunsAlike shape (run_of shape steps r.state) (run_of shape steps q) }

@@ -1,9 +1,10 @@
 //! What each verdict that goes says, whatever the memory holds.
-ghost use Rattle.std.specs.Prelude.{◌≡◌, ℕ, ◌+◌, ◌<◌, Bool, true, false, List, length, All, Some, slice_get};
+ghost use Rattle.std.specs.Prelude.{◌≡◌, ℕ, ◌+◌, ◌<◌, Bool, true, List, [], ◌∷◌, length, All, Some, slice_get};
+ghost use Rattle.std.specs.List.{list_all};
 ghost use Rattle.nv_entry.specs.Opcode.{io_opcode};
 ghost use Rattle.nv_entry.specs.Submission.{opcode_of, slba_of};
 ghost use Rattle.nv_mem.specs.Places.{places_of, total_len};
-ghost use Rattle.nv_model.specs.Judge.{Work, OneBlock, Go, count_of, has_blocks, has_buffer, range_count_of, transfer_len};
+ghost use Rattle.nv_model.specs.Judge.{Work, Transfer, Clear, Manage, Keep, MoveBlock, ClearBlock, KeepAll, Go, count_of, deallocates, form_of, is_fua, range_count_of, range_fits, range_units, transfer_len};
 ghost use Rattle.nv_model.specs.Private.{Shape, verdict_in};
 ghost use Rattle.nv_model.specs.Laws.{IsMappedPiece, IsMappedPlace, IsUnitWithin};
 
@@ -33,18 +34,35 @@ pub fn units_lie_in_the_namespace()
         verdict_in shape memory entry ≡ Go work → All (IsUnitWithin shape.blocks) work.units }
 {}
 
-/// A command of a range of blocks has one unit for each of them, in order.
-pub fn units_are_the_blocks_in_order()
-    ensures count { (shape : Shape) (memory : ℕ → ℕ) (entry : List ℕ) (work : Work) →
-        verdict_in shape memory entry ≡ Go work → has_blocks work.opcode ≡ true → length work.units ≡ count_of entry }
-    ensures each { (shape : Shape) (memory : ℕ → ℕ) (entry : List ℕ) (work : Work) (i : ℕ) →
-        verdict_in shape memory entry ≡ Go work → has_blocks work.opcode ≡ true → i < count_of entry →
-        slice_get work.units i ≡ Some (OneBlock i (slba_of entry + i)) }
+/// A Read, Write or Compare has one unit for each block of its range, in order, and each moves that block.
+pub fn a_transfer_moves_each_block()
+    ensures count { (shape : Shape) (memory : ℕ → ℕ) (entry : List ℕ) (work : Work) (dest : Bool) →
+        verdict_in shape memory entry ≡ Go work → form_of work.opcode ≡ Transfer dest → length work.units ≡ count_of entry }
+    ensures each { (shape : Shape) (memory : ℕ → ℕ) (entry : List ℕ) (work : Work) (dest : Bool) (i : ℕ) →
+        verdict_in shape memory entry ≡ Go work → form_of work.opcode ≡ Transfer dest → i < count_of entry →
+        slice_get work.units i ≡ Some (MoveBlock i (slba_of entry + i)) }
 {}
 
-/// A Dataset Management has one unit for each of its ranges.
-pub fn units_are_as_many_as_the_ranges()
+/// A Write Zeroes has one unit for each block of its range, in order, which clears it: it is kept where the FUA bit is set.
+pub fn write_zeroes_clears_each_block()
+    ensures count { (shape : Shape) (memory : ℕ → ℕ) (entry : List ℕ) (work : Work) →
+        verdict_in shape memory entry ≡ Go work → form_of work.opcode ≡ Clear → length work.units ≡ count_of entry }
+    ensures each { (shape : Shape) (memory : ℕ → ℕ) (entry : List ℕ) (work : Work) (i : ℕ) →
+        verdict_in shape memory entry ≡ Go work → form_of work.opcode ≡ Clear → i < count_of entry →
+        slice_get work.units i ≡ Some (ClearBlock (slba_of entry + i) (is_fua entry)) }
+{}
+
+/// A Flush has one unit, which keeps all blocks of the namespace.
+pub fn a_flush_keeps_all_blocks()
     ensures { (shape : Shape) (memory : ℕ → ℕ) (entry : List ℕ) (work : Work) →
-        verdict_in shape memory entry ≡ Go work → has_buffer work.opcode ≡ true → has_blocks work.opcode ≡ false →
-        length work.units ≡ range_count_of entry }
+        verdict_in shape memory entry ≡ Go work → form_of work.opcode ≡ Keep → work.units ≡ KeepAll shape.blocks ∷ [] }
+{}
+
+/// A Dataset Management has the units of its ranges, one for each of their blocks: there are as many ranges as it says, and each lies in
+/// the namespace.
+pub fn dataset_management_has_the_units_of_its_ranges()
+    ensures { (shape : Shape) (memory : ℕ → ℕ) (entry : List ℕ) (work : Work) →
+        verdict_in shape memory entry ≡ Go work → form_of work.opcode ≡ Manage →
+        (ranges : List (List ℕ)) × ((length ranges ≡ range_count_of entry) × ((list_all (range_fits shape.blocks) ranges ≡ true)
+        × (work.units ≡ range_units (deallocates entry) ranges))) }
 {}

@@ -2,7 +2,7 @@
 
 ghost use Rattle.std.specs.Prelude.{◌≡◌, [], ◌∷◌, ◌++◌, Some, None, true, false};
 ghost use Rattle.nv_mem.specs.declared.piece.Piece.TheVariants.{Run};
-ghost use Rattle.nv_model.specs.Judge.{OneRange};
+ghost use Rattle.nv_model.specs.Judge.{ClearBlock, LeaveBlock};
 ghost use Rattle.nv_model.specs.Memory.{stored};
 ghost use Rattle.nv_model.specs.Private.{verdict_in};
 ghost use Rattle.nv_model.specs.Rows.{block_range, data_block, guest, holding, last_segment, manage, manages, many_ranges, refusal_in};
@@ -25,10 +25,10 @@ pub fn a_range_of_blocks_that_would_wrap()
     ensures { refusal_in (holding 0x3000 (block_range 0xffffffffffffffff 1)) (manage true 0 (data_block 0x3000 16)) ≡ Some 0x81010007 }
 {}
 
-/// A range of length 0 at the namespace's end passes, and is a unit.
+/// A range of length 0 at the namespace's end passes, and has no unit.
 #[tactic(none)]
 pub fn no_blocks_at_the_end()
-    ensures { verdict_in guest (holding 0x3000 (block_range 64 0)) (manage true 0 (data_block 0x3000 16)) ≡ manages true (Run 0x3000 16 ∷ []) (OneRange 64 0 ∷ []) }
+    ensures { verdict_in guest (holding 0x3000 (block_range 64 0)) (manage true 0 (data_block 0x3000 16)) ≡ manages (Run 0x3000 16 ∷ []) [] }
 {}
 
 /// Behind the end it does not pass.
@@ -37,18 +37,18 @@ pub fn no_blocks_behind_the_end()
     ensures { refusal_in (holding 0x3000 (block_range 65 0)) (manage true 0 (data_block 0x3000 16)) ≡ Some 0x81010007 }
 {}
 
-/// There is a unit for each range, in their order.
+/// There is a unit for each block of each range, in their order, and each clears its block.
 #[tactic(none)]
-pub fn a_unit_for_each_range()
+pub fn a_unit_for_each_block_of_each_range()
     ensures { verdict_in guest (holding 0x3000 (block_range 5 2 ++ block_range 0 1)) (manage true 1 (data_block 0x3000 32))
-        ≡ manages true (Run 0x3000 32 ∷ []) (OneRange 5 2 ∷ OneRange 0 1 ∷ []) }
+        ≡ manages (Run 0x3000 32 ∷ []) (ClearBlock 5 false ∷ ClearBlock 6 false ∷ ClearBlock 0 false ∷ []) }
 {}
 
-/// With deallocate clear there are the same units.
+/// With deallocate clear there are as many units, and each leaves its block as it is.
 #[tactic(none)]
-pub fn deallocate_clear_has_the_same_units()
+pub fn deallocate_clear_leaves_each_block()
     ensures { verdict_in guest (holding 0x3000 (block_range 5 2 ++ block_range 0 1)) (manage false 1 (data_block 0x3000 32))
-        ≡ manages false (Run 0x3000 32 ∷ []) (OneRange 5 2 ∷ OneRange 0 1 ∷ []) }
+        ≡ manages (Run 0x3000 32 ∷ []) (LeaveBlock 5 ∷ LeaveBlock 6 ∷ LeaveBlock 0 ∷ []) }
 {}
 
 /// A range may stand in two Data Blocks.
@@ -57,7 +57,7 @@ pub fn a_range_in_two_data_blocks()
     ensures { verdict_in guest
         (stored (stored (holding 0x6000 (data_block 0x3000 8 ++ data_block 0x5000 8)) 0x3000 (0 ∷ 0 ∷ 0 ∷ 0 ∷ 2 ∷ [])) 0x5000 (5 ∷ []))
         (manage true 0 (last_segment 0x6000 32))
-        ≡ manages true (Run 0x3000 8 ∷ Run 0x5000 8 ∷ []) (OneRange 5 2 ∷ []) }
+        ≡ manages (Run 0x3000 8 ∷ Run 0x5000 8 ∷ []) (ClearBlock 5 false ∷ ClearBlock 6 false ∷ []) }
 {}
 
 /// A list of another number of bytes than the ranges have is refused before they are read.

@@ -3,7 +3,7 @@
 ghost use Rattle.std.specs.Prelude.{◌≡◌, [], ◌∷◌, ◌++◌, ◌+◌, ◌*◌, Some};
 ghost use Rattle.nv_entry.specs.declared.status_code.StatusCode.TheVariants.{InvalidSglSegment, SglTypeInvalid};
 ghost use Rattle.nv_mem.specs.declared.piece.Piece.TheVariants.{Run};
-ghost use Rattle.nv_model.specs.Judge.{OneBlock};
+ghost use Rattle.nv_model.specs.Judge.{MoveBlock};
 ghost use Rattle.nv_model.specs.Private.{verdict_in};
 ghost use Rattle.nv_model.specs.Reading.{Faulty, Spells, TooLong};
 ghost use Rattle.nv_model.specs.Rows.{by_sgl, data_block, guest, holding, last_segment, one_block, read, reads, refusal_in, segment, sgl_in, sgl_within, type_four, zeros};
@@ -24,7 +24,7 @@ pub fn too_long_is_answered_internal_error()
 #[tactic(none)]
 pub fn as_many_descriptors_as_the_limit_go()
     ensures { verdict_in guest (holding (0x6000 + 16 * 1022) one_block) (by_sgl read 5 0 (last_segment 0x6000 (16 * 1023)))
-        ≡ reads (Run 0x3000 512 ∷ []) (OneBlock 0 5 ∷ []) }
+        ≡ reads (Run 0x3000 512 ∷ []) (MoveBlock 0 5 ∷ []) }
 {}
 
 /// One more is too long.

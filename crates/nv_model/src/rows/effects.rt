@@ -3,7 +3,7 @@
 ghost use Rattle.std.specs.Prelude.{◌≡◌, [], ◌∷◌, ◌++◌, ◌&&◌, ◌==◌, Some, None, true, false, replicate, if◌then◌else◌};
 ghost use Rattle.nv_model.specs.Private.{JudgeStep, MoveStep, block_bytes};
 ghost use Rattle.nv_model.specs.Rows.{bit_bucket, block_range, by_sgl, compare, data_block, flush, holding, last_segment, manage, one_block, read, with_fua, write, write_zeroes, zeros};
-ghost use Rattle.nv_model.specs.RowsRuns.{after, all_blocks, all_bytes, all_marks, block_byte, bytes_in, carried, ended, numbered_blocks, with_command};
+ghost use Rattle.nv_model.specs.RowsRuns.{after, all_blocks, all_bytes, all_marks, block_byte, bytes_in, can_run, carried, ended, numbered_blocks, with_command};
 
 /// A Compare of two blocks that are equal to the buffer ends in Success.
 #[tactic(none)]
@@ -156,47 +156,62 @@ pub fn write_zeroes_zeroes_its_blocks()
 /// Dataset Management with deallocate set zeroes the blocks of its ranges, which are no longer kept.
 #[tactic(none)]
 pub fn deallocate_zeroes_its_blocks()
-    ensures { after (carried 2)
+    ensures { after (carried 3)
         (with_command (holding 0x3000 (block_range 5 2 ++ block_range 1 1)) numbered_blocks (all_marks true) (manage true 1 (data_block 0x3000 32)))
         (λ p. block_byte 1 0 p ∷ block_byte 2 0 p ∷ block_byte 4 0 p ∷ block_byte 5 0 p ∷ block_byte 6 511 p ∷ block_byte 7 0 p ∷ [])
         ≡ Some ((0, false) ∷ (2, true) ∷ (4, true) ∷ (0, false) ∷ (0, false) ∷ (7, true) ∷ []) }
 {}
 
-/// All blocks of a range become zeros at once, before those of the next range.
+/// Block by block, in the order of the ranges or in any other.
 #[tactic(none)]
-pub fn a_range_is_deallocated_at_once()
-    ensures { after (carried 1)
+pub fn each_block_of_a_range_is_deallocated_alone()
+    ensures in_order { after (carried 1)
         (with_command (holding 0x3000 (block_range 5 2 ++ block_range 1 1)) numbered_blocks (all_marks true) (manage true 1 (data_block 0x3000 32)))
         (λ p. block_byte 1 0 p ∷ block_byte 5 0 p ∷ block_byte 6 511 p ∷ [])
-        ≡ Some ((1, true) ∷ (0, false) ∷ (0, false) ∷ []) }
+        ≡ Some ((1, true) ∷ (0, false) ∷ (6, true) ∷ []) }
+    ensures any_other { after (JudgeStep 0 ∷ MoveStep 0 2 ∷ MoveStep 0 1 ∷ [])
+        (with_command (holding 0x3000 (block_range 5 2 ++ block_range 1 1)) numbered_blocks (all_marks true) (manage true 1 (data_block 0x3000 32)))
+        (λ p. block_byte 1 0 p ∷ block_byte 5 0 p ∷ block_byte 6 511 p ∷ [])
+        ≡ Some ((0, false) ∷ (5, true) ∷ (0, false) ∷ []) }
 {}
 
-/// The second of two ranges may be deallocated first.
+/// A unit moves once.
 #[tactic(none)]
-pub fn the_second_of_two_ranges_may_move_first()
-    ensures { after (JudgeStep 0 ∷ MoveStep 0 1 ∷ [])
-        (with_command (holding 0x3000 (block_range 5 2 ++ block_range 1 1)) numbered_blocks (all_marks true) (manage true 1 (data_block 0x3000 32)))
-        (λ p. block_byte 1 0 p ∷ block_byte 5 0 p ∷ block_byte 6 511 p ∷ [])
-        ≡ Some ((0, false) ∷ (5, true) ∷ (6, true) ∷ []) }
+pub fn a_unit_moves_once()
+    ensures again { can_run (JudgeStep 0 ∷ MoveStep 0 1 ∷ MoveStep 0 1 ∷ [])
+        (with_command zeros numbered_blocks (all_marks false) (by_sgl read 5 1 (data_block 0x3000 1024))) ≡ false }
+    ensures not_there { can_run (JudgeStep 0 ∷ MoveStep 0 2 ∷ [])
+        (with_command zeros numbered_blocks (all_marks false) (by_sgl read 5 1 (data_block 0x3000 1024))) ≡ false }
+    ensures unjudged { can_run (MoveStep 0 0 ∷ [])
+        (with_command zeros numbered_blocks (all_marks false) (by_sgl read 5 1 (data_block 0x3000 1024))) ≡ false }
 {}
 
 /// With deallocate clear its units have no effect.
 #[tactic(none)]
 pub fn deallocate_clear_has_no_effect()
-    ensures { after (carried 2)
+    ensures { after (carried 3)
         (with_command (holding 0x3000 (block_range 5 2 ++ block_range 1 1)) numbered_blocks (all_marks true) (manage false 1 (data_block 0x3000 32)))
         (λ p. block_byte 1 0 p ∷ block_byte 5 0 p ∷ block_byte 6 511 p ∷ [])
         ≡ Some ((1, true) ∷ (5, true) ∷ (6, true) ∷ []) }
 {}
 
-/// A range of no blocks is a unit that changes nothing; the command has ended, in Success, behind it and not before.
+/// It has ended once they have moved.
 #[tactic(none)]
-pub fn a_range_of_no_blocks_is_a_unit()
-    ensures before { after (carried 0) (with_command (holding 0x3000 (block_range 64 0)) numbered_blocks (all_marks true) (manage true 0 (data_block 0x3000 16))) ended
+pub fn deallocate_clear_ends_behind_its_units()
+    ensures before { after (carried 2)
+        (with_command (holding 0x3000 (block_range 5 2 ++ block_range 1 1)) numbered_blocks (all_marks true) (manage false 1 (data_block 0x3000 32))) ended
         ≡ Some None }
-    ensures behind { after (carried 1) (with_command (holding 0x3000 (block_range 64 0)) numbered_blocks (all_marks true) (manage true 0 (data_block 0x3000 16))) ended
+    ensures behind { after (carried 3)
+        (with_command (holding 0x3000 (block_range 5 2 ++ block_range 1 1)) numbered_blocks (all_marks true) (manage false 1 (data_block 0x3000 32))) ended
         ≡ Some (Some 0x00010007) }
-    ensures unchanged { after (carried 1) (with_command (holding 0x3000 (block_range 63 0)) numbered_blocks (all_marks true) (manage true 0 (data_block 0x3000 16)))
+{}
+
+/// A command whose ranges are all empty has no unit: it has ended, in Success, once it is judged, and changes nothing.
+#[tactic(none)]
+pub fn a_range_of_no_blocks_has_no_unit()
+    ensures ended { after (carried 0) (with_command (holding 0x3000 (block_range 64 0)) numbered_blocks (all_marks true) (manage true 0 (data_block 0x3000 16))) ended
+        ≡ Some (Some 0x00010007) }
+    ensures unchanged { after (carried 0) (with_command (holding 0x3000 (block_range 63 0)) numbered_blocks (all_marks true) (manage true 0 (data_block 0x3000 16)))
         (λ p. block_byte 62 0 p ∷ block_byte 63 0 p ∷ [])
         ≡ Some ((62, true) ∷ (63, true) ∷ []) }
 {}

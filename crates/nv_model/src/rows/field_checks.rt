@@ -1,9 +1,9 @@
 //! Commands that are refused by their fields, and those at the edge that are not: the first example, changed in a field or two. What
 //! stands at the left is the last dword of the completion; none where the command goes.
 
-ghost use Rattle.std.specs.Prelude.{◌≡◌, [], ◌∷◌, Some, None};
+ghost use Rattle.std.specs.Prelude.{◌≡◌, [], ◌∷◌, Some, None, false};
 ghost use Rattle.nv_entry.specs.declared.opcode.IoOpcode.TheVariants as opcode;
-ghost use Rattle.nv_model.specs.Judge.{AllBlocks, OneBlock};
+ghost use Rattle.nv_model.specs.Judge.{ClearBlock, KeepAll};
 ghost use Rattle.nv_model.specs.Private.{verdict_in};
 ghost use Rattle.nv_model.specs.Rows.{by_sgl, command, compare, data_block, dataset_management, dword0, flush, goes_without_buffer, guest, larger_refusal_in, one_block, read, refusal, refusal_in, write, write_zeroes, zeros};
 
@@ -107,7 +107,7 @@ pub fn a_range_beyond_32_bits()
 #[tactic(none)]
 pub fn write_zeroes_with_psdt_three()
     ensures { verdict_in guest zeros (command (dword0 write_zeroes 0 3) 1 (data_block 0x20000 512) 63 0 0)
-        ≡ goes_without_buffer opcode.WriteZeroes (OneBlock 0 63 ∷ []) }
+        ≡ goes_without_buffer opcode.WriteZeroes (ClearBlock 63 false ∷ []) }
 {}
 
 /// Write Zeroes has no transfer, so its 257 blocks are looked at for their range alone.
@@ -125,7 +125,7 @@ pub fn write_zeroes_of_300_blocks()
 /// Flush looks at neither PSDT nor a range.
 #[tactic(none)]
 pub fn a_flush_with_psdt_three()
-    ensures { verdict_in guest zeros (command (dword0 flush 0 3) 1 (data_block 0x20000 512) 64 0 0) ≡ goes_without_buffer opcode.Flush (AllBlocks 64 ∷ []) }
+    ensures { verdict_in guest zeros (command (dword0 flush 0 3) 1 (data_block 0x20000 512) 64 0 0) ≡ goes_without_buffer opcode.Flush (KeepAll 64 ∷ []) }
 {}
 
 /// Flush knows no namespace but number 1.

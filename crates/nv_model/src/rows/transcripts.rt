@@ -1,10 +1,10 @@
 //! What a mediator has read of a command's lists, and what it wants next.
 
-ghost use Rattle.std.specs.Prelude.{◌≡◌, [], ◌∷◌, ◌++◌, ◌+◌, replicate, true};
+ghost use Rattle.std.specs.Prelude.{◌≡◌, [], ◌∷◌, ◌++◌, ◌+◌, replicate, false, true};
 ghost use Rattle.nv_mem.specs.declared.piece.Piece.TheVariants.{Run};
 ghost use Rattle.nv_entry.specs.StatusCode.{done_with, refused_with};
 ghost use Rattle.nv_entry.specs.declared.status_code.StatusCode.TheVariants.{DataTransferError, InternalError, SglTypeInvalid};
-ghost use Rattle.nv_model.specs.Judge.{OneBlock, OneRange, Refuse};
+ghost use Rattle.nv_model.specs.Judge.{ClearBlock, MoveBlock, Refuse};
 ghost use Rattle.nv_model.specs.Transcript.{Settled, Wanted};
 ghost use Rattle.nv_model.specs.Rows.{block_range, by_prp, by_sgl, data_block, last_segment, manage, manages, one_block, outcome_in, outcome_within, prp_entries, read, read_of, reads, type_four};
 
@@ -24,14 +24,14 @@ pub fn a_read_of_half_the_array_does_not_meet_it()
 #[tactic(none)]
 pub fn the_read_that_is_wanted_settles_the_verdict()
     ensures { outcome_in (by_sgl read 5 1 (last_segment 0x6000 32)) (read_of 0x6000 (data_block 0x3e00 512 ++ data_block 0x5000 512) ∷ [])
-        ≡ Settled (reads (Run 0x3e00 512 ∷ Run 0x5000 512 ∷ []) (OneBlock 0 5 ∷ OneBlock 1 6 ∷ [])) }
+        ≡ Settled (reads (Run 0x3e00 512 ∷ Run 0x5000 512 ∷ []) (MoveBlock 0 5 ∷ MoveBlock 1 6 ∷ [])) }
 {}
 
 /// A read before it that is not wanted is skipped.
 #[tactic(none)]
 pub fn a_read_that_is_not_wanted_is_skipped()
     ensures { outcome_in (by_sgl read 5 1 (last_segment 0x6000 32)) (read_of 0x5000 (replicate 16 0xff) ∷ read_of 0x6000 (data_block 0x3e00 512 ++ data_block 0x5000 512) ∷ [])
-        ≡ Settled (reads (Run 0x3e00 512 ∷ Run 0x5000 512 ∷ []) (OneBlock 0 5 ∷ OneBlock 1 6 ∷ [])) }
+        ≡ Settled (reads (Run 0x3e00 512 ∷ Run 0x5000 512 ∷ []) (MoveBlock 0 5 ∷ MoveBlock 1 6 ∷ [])) }
 {}
 
 /// The first read of an array counts, and a later one of the same bytes is not looked at.
@@ -39,7 +39,7 @@ pub fn a_read_that_is_not_wanted_is_skipped()
 pub fn the_first_read_of_an_array_counts()
     ensures { outcome_in (by_sgl read 5 1 (last_segment 0x6000 32))
         (read_of 0x6000 (data_block 0x3e00 512 ++ data_block 0x5000 512) ∷ read_of 0x6000 (data_block 0x3e00 512 ++ data_block 0x20000 512) ∷ [])
-        ≡ Settled (reads (Run 0x3e00 512 ∷ Run 0x5000 512 ∷ []) (OneBlock 0 5 ∷ OneBlock 1 6 ∷ [])) }
+        ≡ Settled (reads (Run 0x3e00 512 ∷ Run 0x5000 512 ∷ []) (MoveBlock 0 5 ∷ MoveBlock 1 6 ∷ [])) }
 {}
 
 /// Where only a half was read first, the later read of the whole is the one that counts.
@@ -67,7 +67,7 @@ pub fn of_300_descriptors_44_are_wanted_then()
 pub fn both_parts_of_300_descriptors_settle_the_verdict()
     ensures { outcome_in (by_sgl read 5 0 (last_segment 0x6000 4800))
         (read_of 0x6000 (replicate 4096 0) ∷ read_of 0x7000 (replicate 688 0 ++ one_block) ∷ [])
-        ≡ Settled (reads (Run 0x3000 512 ∷ []) (OneBlock 0 5 ∷ [])) }
+        ≡ Settled (reads (Run 0x3000 512 ∷ []) (MoveBlock 0 5 ∷ [])) }
 {}
 
 /// Behind a fault in the first part nothing more is wanted.
@@ -136,5 +136,5 @@ pub fn the_ranges_are_wanted()
 #[tactic(none)]
 pub fn the_ranges_settle_the_verdict()
     ensures { outcome_in (manage true 1 (data_block 0x3000 32)) (read_of 0x3000 (block_range 5 2 ++ block_range 0 1) ∷ [])
-        ≡ Settled (manages true (Run 0x3000 32 ∷ []) (OneRange 5 2 ∷ OneRange 0 1 ∷ [])) }
+        ≡ Settled (manages (Run 0x3000 32 ∷ []) (ClearBlock 5 false ∷ ClearBlock 6 false ∷ ClearBlock 0 false ∷ [])) }
 {}

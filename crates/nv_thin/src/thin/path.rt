@@ -8,12 +8,12 @@ ghost use Rattle.nv_entry.specs.declared.status_code.StatusCode.{StatusCode as C
 ghost use Rattle.nv_mem.specs.declared.piece.Piece.TheVariants as piece;
 ghost use Rattle.nv_mem.specs.Bytes.{bytes_at};
 ghost use Rattle.nv_mem.specs.GuestMap.{mapped};
-ghost use Rattle.nv_model.specs.Carried.{units_moved};
+ghost use Rattle.nv_model.specs.Carried.{block_work, units_from, units_moved};
 ghost use Rattle.nv_model.specs.Dialogue.{End, and_then, in_memory};
 ghost use Rattle.nv_model.specs.Judge.{count_of, sized};
 ghost use Rattle.nv_model.specs.Reading.{Faulty, Spells};
 ghost use Rattle.nv_model.specs.Sgl.{read_sgl};
-ghost use Rattle.nv_flat.specs.Flat.{block_work, byte_in, flat, identity_map, moved_of, units_from};
+ghost use Rattle.nv_flat.specs.Flat.{byte_in, flat, identity_map, moved_of};
 ghost use Rattle.nv_flat.specs.One.{IsDone};
 ghost use Rattle.nv_thin.specs.Thin.{IsSameBefore, bounce_page, copied, first_block, goes_through};
 

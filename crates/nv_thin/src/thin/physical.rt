@@ -5,9 +5,9 @@ ghost use Rattle.nv_entry.specs.Layout.{bytes_of_dwords};
 ghost use Rattle.nv_entry.specs.Opcode.{io_code, io_opcode};
 ghost use Rattle.nv_entry.specs.Submission.{opcode_of, prp1_of, slba_of};
 ghost use Rattle.nv_mem.specs.declared.piece.Piece.TheVariants.{Run};
-ghost use Rattle.nv_model.specs.Carried.{moved_on, units_moved};
-ghost use Rattle.nv_model.specs.Judge.{OneBlock, count_of};
-ghost use Rattle.nv_flat.specs.Flat.{block_work, flat, moved_of, units_from};
+ghost use Rattle.nv_model.specs.Carried.{block_work, moved_on, units_from, units_moved};
+ghost use Rattle.nv_model.specs.Judge.{MoveBlock, count_of};
+ghost use Rattle.nv_flat.specs.Flat.{flat, moved_of};
 ghost use Rattle.nv_thin.specs.Thin.{IsPhysical, IsSameApart, IsSameBefore, carried, physical_entry};
 
 use byteorder::{ByteOrder, LittleEndian};
@@ -123,7 +123,7 @@ fn read_block(
     requires block { lba < length disk.now }
     requires marks { length kept.old ≡ length disk.now }
     ensures moved { moved_of (flat host.new disk.now kept.new) false ≡
-        moved_on (OneBlock index lba) (block_work IoOpcode.Read (Run page 4096 ∷ []) fua) (moved_of (flat host.old disk.now kept.old) false) }
+        moved_on (MoveBlock index lba) (block_work IoOpcode.Read (Run page 4096 ∷ []) fua) (moved_of (flat host.old disk.now kept.old) false) }
     ensures others { IsSameApart page 4096 host.new host.old }
     ensures marks_before { IsSameBefore lba kept.new kept.old }
     ensures size { length host.new ≡ length host.old }
@@ -174,7 +174,7 @@ fn write_block(
     requires block { lba < length disk.old }
     requires marks { length kept.old ≡ length disk.old }
     ensures moved { moved_of (flat host.now disk.new kept.new) false ≡
-        moved_on (OneBlock index lba) (block_work IoOpcode.Write (Run page 4096 ∷ []) fua) (moved_of (flat host.now disk.old kept.old) false) }
+        moved_on (MoveBlock index lba) (block_work IoOpcode.Write (Run page 4096 ∷ []) fua) (moved_of (flat host.now disk.old kept.old) false) }
     ensures blocks_before { IsSameBefore lba disk.new disk.old }
     ensures marks_before { IsSameBefore lba kept.new kept.old }
 {

@@ -12,7 +12,7 @@ add_row-requires-clause-room c =
     let most : length (range_with_len c.args.addr c.args.len) ≤ 131072 = let most = c.requires.most in omega arith in
     subst
     (λ (m : Met). length (met_more m (range_with_len c.args.addr c.args.len)).entries ≤ 32)
-    (sym c.nothing-met.ensures) (met-room (range_with_len c.args.addr c.args.len) (fit-row c.args.addr c.args.len four) most)
+    (sym c.nothing-met.ensures) (met-room (range_with_len c.args.addr c.args.len) (fit-row c.args.addr c.args.len c.requires.some four) most)
 
 pub returns : goal.returns
 returns c =

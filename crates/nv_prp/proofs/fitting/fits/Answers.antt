@@ -36,4 +36,5 @@ loop-piece-preserved c =
 
 pub returns : goal.returns
 returns c =
-    sym (c.loop-piece.invariant ∙ places_fit-none c.args.map.now.regions c.loop-piece.end c.pieces-piece-items.result.now c.loop-piece.piece-index c.loop-piece-test.false)
+    c.is_some.ensures
+    ∙ sym (c.loop-piece.invariant ∙ places_fit-none c.args.map.now.regions c.loop-piece.end c.pieces-piece-items.result.now c.loop-piece.piece-index c.loop-piece-test.false)

@@ -1,7 +1,8 @@
 use Rattle.std.proofs.Common.{◌≡◌, ℕ, false, ap, ◌∙◌, arith}
 use Rattle.std.specs.List.{range_with_len}
 use Rattle.nv_entry.specs.Range.{blocks_of, start_of}
-use Rattle.nv_flat.specs.Flat.{cleared, moved_of}
+use Rattle.nv_flat.specs.Flat.{moved_of}
+use Rattle.nv_model.specs.Carried.{cleared}
 use Rattle.nv_flat.proofs.DatasetLemmas.{IsDeallocating-end, IsDeallocating-fits, IsDeallocating-more}
 use Rattle.nv_flat.proofs.controller.FlatController.deallocate.Goals as goal
 
@@ -25,4 +26,4 @@ loop-range-preserved c =
     c.clear.ensures.memory_size c.clear.ensures.disk_size
 
 pub returns-clause-moved : goal.returns-clause-moved
-returns-clause-moved c = λ work asked. IsDeallocating-end c.args.self.now c.args.ranges.now c.loop-range.self c.loop-range.rest.now c.loop-range.invariant c.in_default.ensures.cases work asked
+returns-clause-moved c = λ work. IsDeallocating-end c.args.self.now c.args.ranges.now c.loop-range.self c.loop-range.rest.now c.loop-range.invariant c.in_default.ensures.cases work

@@ -1,5 +1,5 @@
 use Rattle.nv_mem.specs.Places.{places_of}
-use Rattle.nv_flat.specs.Flat.{block_work}
+use Rattle.nv_model.specs.Carried.{block_work}
 use Rattle.nv_flat.proofs.TransferLemmas.{IsMoving}
 use Rattle.nv_flat.proofs.controller.FlatController.move_blocks.Given as goal
 

@@ -8,8 +8,8 @@ use Rattle.nv_model.proofs.laws.unseen.runs_do_the_same.Goals as goal
 pub returns-clause-alike : goal.returns-clause-alike
 returns-clause-alike c = run_of-alike
 
-pub returns-clause-replies : goal.returns-clause-replies
-returns-clause-replies c shape steps p q r s alike place one other =
+pub returns-clause-seen : goal.returns-clause-seen
+returns-clause-seen c shape steps p q r s alike place one other =
     (subst (λ (o : Option Run). RunsAlike shape (Some r) o) other
     (subst (λ (o : Option Run). RunsAlike shape o (run_of shape steps q)) one (run_of-alike shape steps p q alike place))).0
 

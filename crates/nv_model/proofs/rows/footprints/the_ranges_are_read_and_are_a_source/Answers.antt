@@ -7,13 +7,13 @@ use Rattle.nv_model.specs.Memory.{bytes_from, stored, gathered, scattered}
 use Rattle.nv_model.specs.Dialogue.{in_memory, asked, and_then}
 use Rattle.nv_model.specs.Sgl.{read_array, read_sgl}
 use Rattle.nv_model.specs.Prp.{read_entries}
-use Rattle.nv_model.specs.Judge.{read_source, ranges_in, block_units, range_units, judge}
+use Rattle.nv_model.specs.Judge.{read_source, ranges_in, move_units, clear_units, range_units, judge}
 use Rattle.nv_model.specs.Controller.{opening, register, reg_write, doorbell, front, took, post, ran_out}
 use Rattle.nv_model.specs.Admin.{admin_command, admin}
-use Rattle.nv_model.specs.Footprint.{footprint}
+use Rattle.nv_model.specs.Footprint.{footprints}
 use Rattle.nv_model.specs.Private.{start, differs, step, run_of}
 use Rattle.nv_model.proofs.rows.footprints.the_ranges_are_read_and_are_a_source.Goals as goal
 
 pub returns : goal.returns
-unfolding number_at dword qword bits bytes_of_dwords completion everywhere addresses bytes_from stored gathered scattered in_memory asked and_then read_array read_sgl read_entries read_source ranges_in block_units range_units judge opening register reg_write doorbell front took post ran_out admin_command admin footprint start differs step run_of
+unfolding number_at dword qword bits bytes_of_dwords completion everywhere addresses bytes_from stored gathered scattered in_memory asked and_then read_array read_sgl read_entries read_source ranges_in move_units clear_units range_units judge opening register reg_write doorbell front took post ran_out admin_command admin footprints start differs step run_of
 returns c = refl

@@ -6,12 +6,12 @@ use Rattle.nv_mem.specs.Places.{addresses}
 use Rattle.nv_model.specs.Memory.{bytes_from, stored, gathered, scattered}
 use Rattle.nv_model.specs.Dialogue.{in_memory, and_then}
 use Rattle.nv_model.specs.Sgl.{read_array, read_sgl}
-use Rattle.nv_model.specs.Judge.{block_units, judge}
+use Rattle.nv_model.specs.Judge.{move_units, judge}
 use Rattle.nv_model.specs.Controller.{opening, register, reg_write, doorbell, front, took, post, ran_out}
 use Rattle.nv_model.specs.Admin.{admin_command, admin}
 use Rattle.nv_model.specs.Private.{start, differs, step, run_of}
 use Rattle.nv_model.proofs.rows.private_runs.the_bring_up_posts_two_completions.Goals as goal
 
 pub returns : goal.returns
-unfolding number_at dword qword bits bytes_of_dwords completion everywhere addresses bytes_from stored gathered scattered in_memory and_then read_array read_sgl block_units judge opening register reg_write doorbell front took post ran_out admin_command admin start differs step run_of
+unfolding number_at dword qword bits bytes_of_dwords completion everywhere addresses bytes_from stored gathered scattered in_memory and_then read_array read_sgl move_units judge opening register reg_write doorbell front took post ran_out admin_command admin start differs step run_of
 returns c = refl

@@ -1,0 +1,19 @@
+use Rattle.std.proofs.Common.{refl}
+use Rattle.nv_entry.specs.Layout.{number_at, dword, qword, bits, bytes_of_dwords}
+use Rattle.nv_entry.specs.Completion.{completion}
+use Rattle.nv_mem.specs.GuestMap.{everywhere}
+use Rattle.nv_mem.specs.Places.{addresses}
+use Rattle.nv_model.specs.Memory.{bytes_from, stored, gathered, scattered}
+use Rattle.nv_model.specs.Dialogue.{in_memory, and_then}
+use Rattle.nv_model.specs.Sgl.{read_array, read_sgl}
+use Rattle.nv_model.specs.Judge.{read_source, ranges_in, move_units, clear_units, range_units, judge}
+use Rattle.nv_model.specs.Private.{differs, step, run_of}
+use Rattle.nv_model.proofs.rows.effects.each_block_of_a_range_is_deallocated_alone.Goals as goal
+
+pub returns-clause-in_order : goal.returns-clause-in_order
+unfolding number_at dword qword bits bytes_of_dwords completion everywhere addresses bytes_from stored gathered scattered in_memory and_then read_array read_sgl read_source ranges_in move_units clear_units range_units judge differs step run_of
+returns-clause-in_order c = refl
+
+pub returns-clause-any_other : goal.returns-clause-any_other
+unfolding number_at dword qword bits bytes_of_dwords completion everywhere addresses bytes_from stored gathered scattered in_memory and_then read_array read_sgl read_source ranges_in move_units clear_units range_units judge differs step run_of
+returns-clause-any_other c = refl
