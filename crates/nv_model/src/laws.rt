@@ -7,6 +7,7 @@ pub mod feeding;
 pub mod lists;
 pub mod parts;
 pub mod queues;
+pub mod running;
 pub mod sequences;
 pub mod transcripts;
 pub mod unseen;
