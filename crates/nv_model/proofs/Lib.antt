@@ -5,6 +5,7 @@ pub mod Asking
 pub mod Bags
 pub mod CarriedOnly
 pub mod CarriedOut
+pub mod CountedBags
 pub mod DialogueLemmas
 pub mod Endings
 pub mod Feedings
@@ -19,11 +20,17 @@ pub mod PrpDecided
 pub mod QueueCounts
 pub mod QueueOrder
 pub mod QueuesKept
+pub mod Running
+pub mod RunningFacts
 pub mod SglSequenced
 pub mod Shown
 pub mod Spelled
 pub mod StepsAlike
 pub mod StepsKept
+pub mod TakenSums
+pub mod Together
+pub mod TogetherAdmin
+pub mod TogetherKept
 pub mod UnitOrder
 pub mod UnitWords
 pub mod Units

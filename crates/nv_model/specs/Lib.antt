@@ -13,6 +13,7 @@ pub mod Private
 pub mod Carried
 pub mod Footprint
 pub mod Laws
+pub mod Running
 pub mod Parts
 pub mod Readers
 pub mod Endings

@@ -8,6 +8,7 @@ pub mod lists;
 pub mod parts;
 pub mod queues;
 pub mod readers;
+pub mod running;
 pub mod sequences;
 pub mod transcripts;
 pub mod unseen;
