@@ -32,6 +32,19 @@ pub struct Failure<W> {
     pub output: Option<W>,
 }
 
+impl<W: Write> Failure<W> {
+    /// A fault that came before anything could be written.
+    pub(crate) fn untouched(fault: Fault, output: W) -> Self
+        ensures fault { result.fault ≡ fault }
+        ensures output { result.output ≡ Some output }
+    {
+        Failure {
+            fault,
+            output: Some(output),
+        }
+    }
+}
+
 /// What is left to do once nothing more is to be read.
 #[derive(Drop)]
 enum Job {
@@ -62,12 +75,7 @@ pub fn perform<C: One, R: Read, W: Write + Drop>(
 {
     let job = match prepare(alloc, command, input) {
         Ok(job) => job,
-        Err(fault) => {
-            return Err(Failure {
-                fault,
-                output: Some(output),
-            });
-        }
+        Err(fault) => return Err(Failure::untouched(fault, output)),
     };
     match carry_out::<C, W>(alloc, &job, output) {
         Ok(written) => Ok(written),

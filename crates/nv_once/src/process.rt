@@ -35,15 +35,19 @@ pub fn run<C: One, R: Read, W: Write + Drop, E: Write>(
 {
     let ended = match command {
         Ok(command) => perform::<C, R, W>(alloc, command, input, output),
-        Err(refusal) => Err(Failure {
-            fault: Fault::from(refusal),
-            output: Some(output),
-        }),
+        Err(refusal) => Err(Failure::untouched(Fault::from(refusal), output)),
     };
-    if let Err(failure) = &ended {
+    tell(&ended, faults);
+    ended
+}
+
+/// Tells of the fault with which a command ended, if it did. Where that cannot be told, nobody is left to tell of it.
+fn tell<W, E: Write>(ended: &Result<W, Failure<W>>, faults: &mut E)
+    ensures { OnOk ended.now (faults.new ≡ faults.old) }
+{
+    if let Err(failure) = ended {
         let _ = report(failure.fault, faults);
     }
-    ended
 }
 
 /// The whole program: does what the words of a process say in the grammar `G`, on its streams, and answers what the process is to end
