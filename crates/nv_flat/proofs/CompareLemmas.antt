@@ -12,7 +12,8 @@ use Rattle.nv_model.proofs.MemoryLemmas.{gathered-append, length-gathered}
 use Rattle.nv_flat.specs.Buffer.{AreBelow, IsFront}
 use Rattle.nv_flat.proofs.BufferLemmas.{AreBelow-behind, drop-front}
 
-or-assoc : (a b c : Bool) → (a || (b || c)) ≡ ((a || b) || c)
+-- one of three
+pub or-assoc : (a b c : Bool) → (a || (b || c)) ≡ ((a || b) || c)
 or-assoc true b c = refl
 or-assoc false b c = refl
 
@@ -24,24 +25,6 @@ differs-append [] (u ∷ us) ys vs e = absurd (omega arith)
 differs-append (x ∷ xs) [] ys vs e = absurd (omega arith)
 differs-append (x ∷ xs) (u ∷ us) ys vs e =
     ap (λ (b : Bool). not (x == u) || b) (differs-append xs us ys vs (omega arith)) ∙ or-assoc (not (x == u)) (differs xs us) (differs ys vs)
-
--- the first of them, and the others
-pub differs-split : (n : ℕ) (xs us : List ℕ) → n ≤ length xs → length xs ≡ length us → differs xs us ≡ (differs (take n xs) (take n us) || differs (drop n xs) (drop n us))
-differs-split n xs us within same =
-    ap (λ (l : List ℕ). differs l us) (sym (take-append-drop n xs))
-    ∙ ap (differs (take n xs ++ drop n xs)) (sym (take-append-drop n us))
-    ∙ differs-append (take n xs) (take n us) (drop n xs) (drop n us)
-    (length-take-le n xs within ∙ sym (length-take-le n us (omega arith)))
-
--- the same of chunks that were taken
-pub differs-chunk : (n : ℕ) (xs us one more other behind : List ℕ) → one ≡ take n xs → more ≡ drop n xs → length more + n ≡ length xs
-    → other ≡ take n us → behind ≡ drop n us → length xs ≡ length us → differs xs us ≡ (differs one other || differs more behind)
-differs-chunk n xs us one more other behind is_one is_more size is_other is_behind same =
-    differs-split n xs us (omega arith) same
-    ∙ ap (λ (l : List ℕ). differs l (take n us) || differs (drop n xs) (drop n us)) (sym is_one)
-    ∙ ap (λ (l : List ℕ). differs one l || differs (drop n xs) (drop n us)) (sym is_other)
-    ∙ ap (λ (l : List ℕ). differs one other || differs l (drop n us)) (sym is_more)
-    ∙ ap (λ (l : List ℕ). differs one other || differs more l) (sym is_behind)
 
 -- bytes other than zeros
 pub differs-zeros : (bytes : List ℕ) → differs (replicate (length bytes) 0) bytes ≡ list_any (λ b. not (b == 0)) bytes

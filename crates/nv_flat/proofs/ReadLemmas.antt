@@ -1,19 +1,20 @@
--- Blocks that are read all at once
-use Rattle.std.proofs.Common.{◌≡◌, ℕ, zero, suc, ◌+◌, ◌-◌, ◌*◌, ◌<◌, ◌≤◌, Bool, true, false, ◌||◌, List, [], ◌++◌, length, set, take, drop, refl, sym, ap, ◌∙◌, arith}
+-- Blocks that are read, or compared, all at once
+use Rattle.std.proofs.Common.{◌≡◌, ℕ, zero, suc, ◌+◌, ◌-◌, ◌*◌, ◌<◌, ◌≤◌, Bool, true, false, ◌||◌, List, [], ◌∷◌, ◌++◌, length, set, take, drop, refl, sym, ap, ◌∙◌, arith}
 use Rattle.std.specs.List.{flat_map, slice_index_or}
 use Rattle.std.proofs.lemmas.List.{drop-drop, length-drop, length-take-le, take-append-drop}
 use Rattle.std.proofs.Math.Seq.{drop-cons}
-use Rattle.nv_entry.specs.declared.opcode.IoOpcode.TheVariants.{Read}
+use Rattle.nv_entry.specs.declared.opcode.IoOpcode.TheVariants.{Compare, Read}
 use Rattle.nv_mem.specs.Places.{Place, places_of}
 use Rattle.nv_mem.specs.declared.piece.Piece.{Piece}
-use Rattle.nv_model.specs.Memory.{scattered}
-use Rattle.nv_model.proofs.MemoryLemmas.{scattered-append}
-use Rattle.nv_model.specs.Private.{block_bytes, marked}
+use Rattle.nv_model.specs.Memory.{gathered, scattered}
+use Rattle.nv_model.proofs.MemoryLemmas.{gathered-append, length-gathered, scattered-append}
+use Rattle.nv_model.specs.Private.{block_bytes, differs, marked}
 use Rattle.nv_model.specs.Carried.{block_work, units_from, units_moved}
 use Rattle.nv_flat.specs.Flat.{byte_in, byte_of_block, flat, moved_of}
 use Rattle.nv_flat.specs.Marks.{mark_of, raised}
 use Rattle.nv_flat.proofs.BufferLemmas.{scattered-no_bytes}
-use Rattle.nv_flat.proofs.MoveLemmas.{block_bytes-list, marks-raised, marks-same, moved}
+use Rattle.nv_flat.proofs.MoveLemmas.{block_bytes-list, marks-raised, marks-same, moved, or-false}
+use Rattle.nv_flat.proofs.CompareLemmas.{differs-append, or-assoc}
 
 -- the bytes of blocks, one behind the other
 abbrev pub joined : List (List ℕ) → List ℕ
@@ -74,6 +75,83 @@ read-moved_all memory new disk kept marks places start count fua within sized en
     moved (byte_in new) _ (byte_of_block disk) (byte_of_block disk) (mark_of marks) _ false false
     (scatter ∙ ap (λ (ps : List Place). scattered (byte_in memory) ps (joined (take count (drop start disk)))) at) refl mark refl
     ∙ sym (read-all count 0 start (byte_in memory) disk (mark_of kept) pieces fua within sized (omega arith))
+
+-- ---- blocks that are compared
+
+-- the first places, in two parts
+take-sum : (n k : ℕ) (places : List Place) → take (n + k) places ≡ take n places ++ take k (drop n places)
+take-sum zero k places = (let e : zero + k ≡ k = omega arith in ap (λ (j : ℕ). take j places) e)
+take-sum (suc n) zero [] = (let e : suc n + zero ≡ suc n = omega arith in ap (λ (j : ℕ). take {A = Place} j []) e)
+take-sum (suc n) (suc k) [] = (let e : suc n + suc k ≡ suc (n + suc k) = omega arith in ap (λ (j : ℕ). take {A = Place} j []) e)
+take-sum (suc n) k (place ∷ places) =
+    (let e : suc n + k ≡ suc (n + k) = omega arith in
+    ap (λ (j : ℕ). take j (place ∷ places)) e ∙ ap (λ (ps : List Place). place ∷ ps) (take-sum n k places))
+
+-- the bytes of the first block's places and of those behind them
+compared-more : (m : ℕ → ℕ) (places : List Place) (n : ℕ) (block rest : List ℕ) (differed : Bool) → length block ≡ 512 → 512 ≤ length places
+    → ((differed || differs (gathered m (take 512 places)) block) || differs (gathered m (take (512 * n) (drop 512 places))) rest)
+    ≡ (differed || differs (gathered m (take (512 * suc n) places)) (block ++ rest))
+compared-more m places n block rest differed sized enough =
+    let one : List ℕ = gathered m (take 512 places) in
+    let more : List ℕ = gathered m (take (512 * n) (drop 512 places)) in
+    let len : length one ≡ length block = length-gathered m (take 512 places) ∙ length-take-le 512 places enough ∙ sym sized in
+    let sum : 512 + 512 * n ≡ 512 * suc n = omega arith in
+    let all : one ++ more ≡ gathered m (take (512 * suc n) places) =
+    sym (gathered-append m (take 512 places) (take (512 * n) (drop 512 places)))
+    ∙ ap (gathered m) (sym (take-sum 512 (512 * n) places) ∙ ap (λ (k : ℕ). take k places) sum) in
+    sym (or-assoc differed (differs one block) (differs more rest))
+    ∙ ap (λ (b : Bool). differed || b) (sym (differs-append one block more rest len) ∙ ap (λ (l : List ℕ). differs l (block ++ rest)) all)
+
+-- the units of a Compare compare the bytes of its blocks with those of the places in order
+pub compare-all : (n i lba : ℕ) (m : ℕ → ℕ) (disk : List (List ℕ)) (kept : ℕ → Bool) (pieces : List Piece) (fua differed : Bool)
+    → lba + n ≤ length disk → ((k : ℕ) → k < length disk → length (slice_index_or disk k []) ≡ 512)
+    → 512 * (i + n) ≤ length (places_of pieces)
+    → units_moved (units_from i lba n) (block_work Compare pieces fua) (record { memory = m; disk = byte_of_block disk; kept = kept; differed = differed })
+    ≡ record { memory = m; disk = byte_of_block disk; kept = raised fua lba n kept; differed = differed || differs (gathered m (take (512 * n) (drop (512 * i) (places_of pieces)))) (joined (take n (drop lba disk))) }
+unfolding units_from units_moved raised differs gathered
+compare-all zero i lba m disk kept pieces fua differed within sized enough = moved m m (byte_of_block disk) _ kept _ differed _ refl refl refl (sym (or-false differed))
+compare-all (suc n) i lba m disk kept pieces fua differed within sized enough =
+    let places : List Place = drop (512 * i) (places_of pieces) in
+    let block : List ℕ = slice_index_or disk lba [] in
+    let rest : List ℕ = joined (take n (drop (lba + 1) disk)) in
+    let below : lba < length disk = omega arith in
+    let here : length block ≡ 512 = sized lba below in
+    let count = length-drop (512 * i) (places_of pieces) in
+    let some : 512 ≤ length places = omega arith in
+    let at : 512 * i + 512 ≡ 512 * (i + 1) = omega arith in
+    let first : Bool = differed || differs (gathered m (take 512 places)) (block_bytes (byte_of_block disk) lba) in
+    let whole : (first || differs (gathered m (take (512 * n) (drop (512 * (i + 1)) (places_of pieces)))) rest)
+        ≡ (differed || differs (gathered m (take (512 * suc n) places)) (joined (take (suc n) (drop lba disk)))) =
+    ap (λ (bs : List ℕ). (differed || differs (gathered m (take 512 places)) bs) || differs (gathered m (take (512 * n) (drop (512 * (i + 1)) (places_of pieces)))) rest)
+    (block_bytes-list disk lba here)
+    ∙ ap (λ (ps : List Place). (differed || differs (gathered m (take 512 places)) block) || differs (gathered m (take (512 * n) ps)) rest)
+    (sym (drop-drop 512 (512 * i) (places_of pieces) ∙ ap (λ (k : ℕ). drop k (places_of pieces)) at))
+    ∙ compared-more m places n block rest differed here some
+    ∙ ap (λ (bs : List ℕ). differed || differs (gathered m (take (512 * suc n) places)) bs) (sym (joined-more disk lba n below)) in
+    compare-all n (i + 1) (lba + 1) m disk (marked kept lba (kept lba || fua)) pieces fua first (omega arith) sized (omega arith)
+    ∙ moved m m (byte_of_block disk) (byte_of_block disk) _ _ _ _ refl refl refl whole
+
+-- as many bytes as the blocks have
+pub length-blocks : (start count n : ℕ) (disk : List (List ℕ)) → start + count ≤ length disk → n ≡ length (take (start + count - start) (drop start disk)) * 512 → n ≡ 512 * count
+length-blocks start count n disk within is =
+    let behind = length-drop start disk in
+    let taken = length-take-le (start + count - start) (drop start disk) (omega arith) in
+    omega arith
+
+-- blocks that were compared with the buffer all at once are moved units
+pub compare-moved_all : (memory : List ℕ) (disk : List (List ℕ)) (kept marks : List Bool) (places : List Place) (start count : ℕ) (fua unlike : Bool)
+    → start + count ≤ length disk → ((k : ℕ) → k < length disk → length (slice_index_or disk k []) ≡ 512) → 512 * count ≤ length places
+    → unlike ≡ differs (gathered (byte_in memory) (take (512 * count) places)) (joined (take count (drop start disk)))
+    → mark_of marks ≡ raised fua start count (mark_of kept)
+    → (pieces : List Piece) → places ≡ places_of pieces
+    → moved_of (flat memory disk marks) unlike ≡ units_moved (units_from 0 start count) (block_work Compare pieces fua) (moved_of (flat memory disk kept) false)
+unfolding moved_of
+compare-moved_all memory disk kept marks places start count fua unlike within sized enough compared mark pieces at =
+    let same : length places ≡ length (places_of pieces) = ap length at in
+    moved (byte_in memory) (byte_in memory) (byte_of_block disk) (byte_of_block disk) (mark_of marks) _ unlike _
+    refl refl mark
+    (compared ∙ ap (λ (ps : List Place). differs (gathered (byte_in memory) (take (512 * count) ps)) (joined (take count (drop start disk)))) at)
+    ∙ sym (compare-all count 0 start (byte_in memory) disk (mark_of kept) pieces fua false within sized (omega arith))
 
 -- ---- marks
 

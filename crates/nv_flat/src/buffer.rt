@@ -199,7 +199,7 @@ fn piece_differs(memory: &Host, piece: &Piece, bytes: &[u8]) -> bool
     ensures { result ≡ differs (gathered (byte_in memory.now) (places_of_piece piece.now)) bytes.now }
 {
     match *piece {
-        Piece::Run { addr, len } => differ(memory.bytes(addr, len), bytes),
+        Piece::Run { addr, len } => *memory.bytes(addr, len) != *bytes,
         Piece::Bucket { .. } => has_others_than_zeros(bytes),
     }
 }
@@ -209,25 +209,4 @@ fn has_others_than_zeros(bytes: &[u8]) -> bool
     ensures { result ≡ list_any (λ byte. not (byte == 0)) bytes.now }
 {
     bytes.iter().any(|byte| *byte != 0)
-}
-
-/// Whether some bytes are others than as many others. They are compared 64 at a time.
-#[inline(always)]
-fn differ(bytes: &[u8], others: &[u8]) -> bool
-    requires { length bytes.now ≡ length others.now }
-    ensures { result ≡ differs bytes.now others.now }
-{
-    let mut left = bytes;
-    let mut right = others;
-    while let Some((one, more)) = left.split_first_chunk::<64>() {
-        let Some((other, behind)) = right.split_first_chunk::<64>() else {
-            unreachable!()
-        };
-        if *one != *other {
-            return true;
-        }
-        left = more;
-        right = behind;
-    }
-    left != right
 }

@@ -76,32 +76,31 @@ pub(crate) fn write_block(
     kept[lba as usize] = fua;
 }
 
-/// Compares a block with the bytes from the next places of the buffer. A set FUA bit makes it kept. It says whether the command
-/// differs, as it did before or does here.
-#[inline(always)]
-pub(crate) fn compare_block(
+/// Compares the `count` blocks from `start` on with the bytes of the buffer, all at once. A set FUA bit makes them kept. It says whether
+/// they differ.
+pub(crate) fn compare_blocks(
     memory: &Host,
     disk: &[[u8; BLOCK]],
     kept: &mut [bool],
     buffer: &mut Buffer,
-    lba: u64,
+    start: u64,
+    count: u64,
     fua: bool,
-    differed: bool,
 ) -> bool
     requires in_memory { AreBelow (length memory.now) buffer.old }
-    requires enough { 512 ≤ length buffer.old }
-    requires block { lba < length disk.now }
+    requires enough { 512 * count ≤ length buffer.old }
+    requires blocks { start + count ≤ length disk.now }
     requires marks { length kept.old ≡ length disk.now }
-    ensures moved { (index : ℕ) (pieces : List Piece) → buffer.old ≡ drop (512 * index) (places_of pieces) →
+    ensures { (pieces : List Piece) → buffer.old ≡ places_of pieces →
         moved_of (flat memory.now disk.now kept.new) result
-        ≡ moved_on (MoveBlock index lba) (block_work IoOpcode.Compare pieces fua) (moved_of (flat memory.now disk.now kept.old) differed) }
-    ensures rest { buffer.new ≡ drop 512 buffer.old }
+        ≡ units_moved (units_from 0 start count) (block_work IoOpcode.Compare pieces fua) (moved_of (flat memory.now disk.now kept.old) false) }
 {
-    let differs = buffer.differs(memory, &disk[lba as usize]);
+    let blocks = &disk[start as usize..(start + count) as usize];
+    let differs = buffer.differs(memory, blocks.as_flattened());
     if fua {
-        kept[lba as usize] = true;
+        raise_marks(kept, start, count);
     }
-    differed || differs
+    differs
 }
 
 /// Makes the `count` blocks from `start` on zeros, and gives their marks this value.

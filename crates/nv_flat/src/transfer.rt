@@ -1,6 +1,6 @@
 //! Commands that move blocks between the disk and a buffer: Read, Write and Compare.
 
-ghost use Rattle.std.specs.Prelude.{◌≡◌, ◌≢◌, ◌+◌, ◌*◌, ◌<◌, ◌≤◌, ℕ, List, true, false, length, drop};
+ghost use Rattle.std.specs.Prelude.{◌≡◌, ◌+◌, ◌*◌, ◌<◌, ◌≤◌, ℕ, List, true, false, length, drop};
 ghost use Rattle.nv_mem.specs.Places.{places_of};
 ghost use Rattle.nv_mem.specs.declared.piece.Piece.{Piece};
 ghost use Rattle.nv_model.specs.Judge.{MoveBlock};
@@ -16,7 +16,7 @@ use nv_entry::IoOpcode;
 use nv_mem::Places;
 
 impl FlatController {
-    /// Moves the `count` blocks from `slba` on to or from a buffer, in order. It says whether a Compare differs.
+    /// Moves the `count` blocks from `slba` on to or from a buffer, in order, or compares them. It says whether a Compare differs.
     pub(crate) fn move_blocks(
         &mut self,
         opcode: IoOpcode,
@@ -33,72 +33,73 @@ impl FlatController {
         ensures memory_size { length self.new.memory ≡ length self.old.memory }
         ensures disk_size { length self.new.disk ≡ length self.old.disk }
     {
-        // The end of the range fits in 64 bits, as the number of blocks does.
-        let _blocks = self.blocks();
         let mut buffer = Buffer::new(places);
-        if let IoOpcode::Read = opcode {
-            moves::read_blocks(
-                &mut self.memory,
+        match opcode {
+            IoOpcode::Read => {
+                moves::read_blocks(
+                    &mut self.memory,
+                    &self.disk,
+                    &mut self.kept,
+                    &mut buffer,
+                    slba,
+                    count,
+                    fua,
+                );
+                false
+            }
+            IoOpcode::Compare => moves::compare_blocks(
+                &self.memory,
                 &self.disk,
                 &mut self.kept,
                 &mut buffer,
                 slba,
                 count,
                 fua,
-            );
-            return false;
+            ),
+            IoOpcode::Write => {
+                self.write_blocks(places, slba, count, fua);
+                false
+            }
+            _ => unreachable!(),
         }
-        let mut differed = false;
-        for index in 0..count {
-            differed = self.move_block(opcode, &mut buffer, slba + index, fua, differed);
-        }
-        differed
     }
 
-    /// Moves one block of a Write or Compare from the next places of the buffer. It says whether a Compare differs, as it did before or
-    /// does here.
+    /// Moves the `count` blocks from `slba` on from a buffer, in order.
+    fn write_blocks(&mut self, places: &Places, slba: u64, count: u64, fua: bool)
+        requires in_memory { AreBelow (length self.old.memory) (places_of places.now) }
+        requires enough { 512 * count ≤ length (places_of places.now) }
+        requires blocks { slba + count ≤ length self.old.disk }
+        ensures moved { moved_of self.new false ≡ units_moved (units_from 0 slba count) (block_work IoOpcode.Write places.now fua) (moved_of self.old false) }
+        ensures memory_size { length self.new.memory ≡ length self.old.memory }
+        ensures disk_size { length self.new.disk ≡ length self.old.disk }
+    {
+        // The end of the range fits in 64 bits, as the number of blocks does.
+        let _blocks = self.blocks();
+        let mut buffer = Buffer::new(places);
+        for index in 0..count {
+            self.write_block(&mut buffer, slba + index, fua);
+        }
+    }
+
+    /// Moves one block from the next places of the buffer.
     #[inline(always)]
-    fn move_block(
-        &mut self,
-        opcode: IoOpcode,
-        buffer: &mut Buffer,
-        lba: u64,
-        fua: bool,
-        differed: bool,
-    ) -> bool
-        requires transfer { is_transfer opcode ≡ true }
-        requires from_buffer { opcode ≢ IoOpcode.Read }
+    fn write_block(&mut self, buffer: &mut Buffer, lba: u64, fua: bool)
         requires in_memory { AreBelow (length self.old.memory) buffer.old }
         requires enough { 512 ≤ length buffer.old }
         requires block { lba < length self.old.disk }
         ensures moved { (index : ℕ) (pieces : List Piece) → buffer.old ≡ drop (512 * index) (places_of pieces) →
-            moved_of self.new result ≡ moved_on (MoveBlock index lba) (block_work opcode pieces fua) (moved_of self.old differed) }
+            moved_of self.new false ≡ moved_on (MoveBlock index lba) (block_work IoOpcode.Write pieces fua) (moved_of self.old false) }
         ensures memory_size { length self.new.memory ≡ length self.old.memory }
         ensures disk_size { length self.new.disk ≡ length self.old.disk }
         ensures rest { buffer.new ≡ drop 512 buffer.old }
     {
-        match opcode {
-            IoOpcode::Write => {
-                moves::write_block(
-                    &self.memory,
-                    &mut self.disk,
-                    &mut self.kept,
-                    buffer,
-                    lba,
-                    fua,
-                );
-                differed
-            }
-            IoOpcode::Compare => moves::compare_block(
-                &self.memory,
-                &self.disk,
-                &mut self.kept,
-                buffer,
-                lba,
-                fua,
-                differed,
-            ),
-            _ => unreachable!(),
-        }
+        moves::write_block(
+            &self.memory,
+            &mut self.disk,
+            &mut self.kept,
+            buffer,
+            lba,
+            fua,
+        );
     }
 }

@@ -177,10 +177,17 @@ impl<A: Allocator> Chain<A> {
         ensures err { OnErr result (self.new ≡ self.old) }
     {
         let heap = blocks.allocator().clone()?;
-        let mut older = Box::new(heap, Chain { blocks, next: None })?;
-        mem::swap(self, &mut *older);
-        self.next = Some(older);
-        Ok(())
+        let older = mem::replace(self, Chain { blocks, next: None });
+        match Box::new(heap, older) {
+            Ok(older) => {
+                self.next = Some(older);
+                Ok(())
+            }
+            Err(failed) => {
+                *self = failed.value;
+                Err(NoMemory)
+            }
+        }
     }
 
     /// Adds the pieces that the descriptors name, in the order in which these were read. It calls itself once for each array.

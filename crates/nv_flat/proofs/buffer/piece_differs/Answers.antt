@@ -1,31 +1,22 @@
 use Rattle.std.proofs.Common.{◌+◌, ◌≤◌, ℕ, List, length, replicate, ap, sym, ◌∙◌}
-use Rattle.nv_mem.specs.Places.{addresses, places_of_piece, piece_len}
-use Rattle.nv_mem.proofs.PlaceLists.{length-addresses}
+use Rattle.nv_mem.specs.Places.{places_of_piece, piece_len}
 use Rattle.nv_model.specs.Memory.{gathered}
 use Rattle.nv_model.specs.Private.{differs}
-use Rattle.nv_model.proofs.MemoryLemmas.{length-gathered}
 use Rattle.nv_flat.specs.Flat.{byte_in}
 use Rattle.nv_flat.proofs.BufferLemmas.{addresses-below, gathered-buckets, gathered-run}
 use Rattle.nv_flat.proofs.CompareLemmas.{differs-zeros}
+use Rattle.nv_flat.proofs.MoveLemmas.{differs-pointwise}
 use Rattle.nv_flat.proofs.buffer.piece_differs.Goals as goal
 
 pub bytes-requires : goal.bytes-requires
 bytes-requires c = λ some. addresses-below (length c.args.memory.now) c.in-Run.addr c.in-Run.len some (rw c.in-Run.is at c.requires.in_memory)
 
-pub differ-requires : goal.differ-requires
-differ-requires c =
-    let inside : c.in-Run.addr + c.in-Run.len ≤ length c.args.memory.now =
-    addresses-below (length c.args.memory.now) c.in-Run.addr c.in-Run.len (rw c.in-Run.is at c.requires.some) (rw c.in-Run.is at c.requires.in_memory) in
-    ap length (c.bytes.ensures ∙ gathered-run c.args.memory.now c.in-Run.addr c.in-Run.len inside)
-    ∙ length-gathered (byte_in c.args.memory.now) (addresses c.in-Run.addr c.in-Run.len)
-    ∙ length-addresses c.in-Run.addr c.in-Run.len
-    ∙ sym (c.requires.whole ∙ ap piece_len c.in-Run.is)
-
 pub returns-in-Run : goal.returns-in-Run
 returns-in-Run c =
     let inside : c.in-Run.addr + c.in-Run.len ≤ length c.args.memory.now =
     addresses-below (length c.args.memory.now) c.in-Run.addr c.in-Run.len (rw c.in-Run.is at c.requires.some) (rw c.in-Run.is at c.requires.in_memory) in
-    c.differ.ensures
+    c.ne.ensures
+    ∙ sym (differs-pointwise c.bytes.result.now c.args.bytes.now)
     ∙ ap (λ (l : List ℕ). differs l c.args.bytes.now)
     (c.bytes.ensures
     ∙ gathered-run c.args.memory.now c.in-Run.addr c.in-Run.len inside
