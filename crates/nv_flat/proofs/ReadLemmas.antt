@@ -13,8 +13,9 @@ use Rattle.nv_model.specs.Carried.{block_work, units_from, units_moved}
 use Rattle.nv_flat.specs.Flat.{byte_in, byte_of_block, flat, moved_of}
 use Rattle.nv_flat.specs.Marks.{mark_of, raised}
 use Rattle.nv_flat.proofs.BufferLemmas.{scattered-no_bytes}
-use Rattle.nv_flat.proofs.MoveLemmas.{block_bytes-list, marks-raised, marks-same, moved, or-false}
+use Rattle.nv_flat.proofs.MoveLemmas.{block_bytes-list, marks-raised, marks-same, moved}
 use Rattle.nv_flat.proofs.CompareLemmas.{differs-append, or-assoc}
+use Rattle.nv_model.proofs.UnitWords.{or-false}
 
 -- the bytes of blocks, one behind the other
 abbrev pub joined : List (List ℕ) → List ℕ

@@ -13,13 +13,14 @@ use Rattle.nv_entry.specs.declared.status_code.StatusCode.TheVariants as code
 use Rattle.nv_model.specs.Memory.{bytes_from}
 use Rattle.nv_model.specs.Reading.{Reading, Faulty, TooLong, Spells, first_failing}
 use Rattle.nv_model.specs.Queue.{SubmissionQueue, new_completion, new_submission, sqe_size}
-use Rattle.nv_model.specs.Controller.{Controller, Deletion, Posted, completion_queue, front, is_enabled, is_ready, most_slots, post, submission_queue, took, took_of, with_submission}
-use Rattle.nv_model.specs.Admin.{AdminStep, Done, Hidden, NothingToDo, QueueFull, Shown, Stepped, Structure, admin, admin_command, admin_ready, answered, checked, completes_to_checks, completion_id, contiguous, create_completion, create_submission, delete_completion, delete_found, delete_submission, done_by, done_with_opcode, finish_deletion, front_command, identified, identify_by, identify_reading, is_queue_full, last_queue, most_requests, new_queue_checks, number_of_queues, place_checks, queue_id, queue_size, selector, shown, stepped, uses, with_answer, with_completion_posted}
+use Rattle.nv_model.specs.Controller.{Controller, Deletion, Posted, completion_queue, front, is_enabled, is_ready, post, submission_queue, took, took_of, with_submission}
+use Rattle.nv_model.specs.Admin.{AdminStep, Done, Hidden, NothingToDo, QueueFull, Shown, Stepped, Structure, admin, admin_command, admin_ready, answered, checked, completes_to_checks, completion_id, contiguous, create_completion, create_submission, delete_completion, delete_found, delete_submission, done_by, done_with_opcode, finish_deletion, front_command, identified, identify_by, identify_reading, is_queue_full, new_queue_checks, number_of_queues, place_checks, queue_id, queue_size, selector, shown, stepped, uses, with_answer, with_completion_posted}
 use Rattle.nv_model.specs.Running.{GoTogether, IsTogether}
 use Rattle.nv_model.proofs.Endings.{and-true, first_failing-none, not-false}
 use Rattle.nv_model.proofs.QueuesKept.{by_test}
 use Rattle.nv_model.proofs.Together.{completion-gone, completion-put, deletion-put, submission-gone, submission-put, there-put}
 use Rattle.nv_model.proofs.TogetherKept.{IsBehind, IsPosted, front-may, post-together, took-together}
+use Rattle.nv_model.specs.Limits.{last_queue, most_requests, most_slots}
 
 -- behind an admin command: EN is still 1, and nothing was taken
 pub record IsDone (taken : List ℕ) (done : Done) : Type 0 where
