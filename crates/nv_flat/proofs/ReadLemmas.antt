@@ -1,5 +1,5 @@
 -- Blocks that are read all at once
-use Rattle.std.proofs.Common.{◌≡◌, ℕ, zero, suc, ◌+◌, ◌-◌, ◌*◌, ◌<◌, ◌≤◌, Bool, true, false, ◌||◌, List, [], ◌∷◌, ◌++◌, length, get_or, set, take, drop, refl, sym, ap, ◌∙◌, arith}
+use Rattle.std.proofs.Common.{◌≡◌, ℕ, zero, suc, ◌+◌, ◌-◌, ◌*◌, ◌<◌, ◌≤◌, Bool, true, false, ◌||◌, List, [], ◌++◌, length, set, take, drop, refl, sym, ap, ◌∙◌, arith}
 use Rattle.std.specs.List.{flat_map, slice_index_or}
 use Rattle.std.proofs.lemmas.List.{drop-drop, length-drop, length-take-le, take-append-drop}
 use Rattle.std.proofs.Math.Seq.{drop-cons}
@@ -8,9 +8,8 @@ use Rattle.nv_mem.specs.Places.{Place, places_of}
 use Rattle.nv_mem.specs.declared.piece.Piece.{Piece}
 use Rattle.nv_model.specs.Memory.{scattered}
 use Rattle.nv_model.proofs.MemoryLemmas.{scattered-append}
-use Rattle.nv_model.specs.Judge.{Work, MoveBlock}
-use Rattle.nv_model.specs.Private.{Moved, block_bytes, marked}
-use Rattle.nv_model.specs.Carried.{block_work, moved_on, units_from, units_moved}
+use Rattle.nv_model.specs.Private.{block_bytes, marked}
+use Rattle.nv_model.specs.Carried.{block_work, units_from, units_moved}
 use Rattle.nv_flat.specs.Flat.{byte_in, byte_of_block, flat, moved_of}
 use Rattle.nv_flat.specs.Marks.{mark_of, raised}
 use Rattle.nv_flat.proofs.BufferLemmas.{scattered-no_bytes}

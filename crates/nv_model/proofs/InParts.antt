@@ -1,10 +1,10 @@
 -- Lists are asked for in parts: each is used up where the next question begins.
-use Rattle.std.proofs.Common.{◌≡◌, ℕ, zero, suc, ◌+◌, ◌-◌, ◌*◌, ◌/◌, ◌%◌, ◌<◌, ◌≤◌, min, Bool, true, false, cond, not, ◌&&◌, ◌||◌, ◌==◌, nat_lt, List, [], ◌∷◌, ◌++◌, All, Option, Some, None, length, arith, refl, sym, subst, eqb-true}
+use Rattle.std.proofs.Common.{◌≡◌, ℕ, zero, suc, ◌+◌, ◌-◌, ◌*◌, ◌/◌, ◌%◌, ◌<◌, ◌≤◌, min, Bool, true, false, cond, ◌&&◌, ◌==◌, nat_lt, List, [], ◌∷◌, ◌++◌, All, Option, Some, None, length, arith, refl, sym, subst, eqb-true}
 use Rattle.std.specs.Bool.{⊤}
 use Rattle.std.proofs.lemmas.List.Elements.{All-cons, All-head, All-nil, All-tail}
 use Rattle.std.proofs.lemmas.List.Sums.{sum_by-cons}
 use Rattle.nv_entry.specs.Layout.{bits, number_at}
-use Rattle.nv_entry.specs.Descriptor.{address_of, length_of, kind_of}
+use Rattle.nv_entry.specs.Descriptor.{kind_of}
 use Rattle.nv_entry.specs.Opcode.{data_pointer, io_opcode}
 use Rattle.nv_entry.specs.Submission.{opcode_of, psdt_of, prp1_of, prp2_of, sgl_of}
 use Rattle.nv_entry.specs.declared.data_pointer.DataPointer.{DataPointer}
@@ -13,21 +13,21 @@ use Rattle.nv_entry.specs.declared.descriptor_type.DescriptorType.{DescriptorTyp
 use Rattle.nv_entry.specs.declared.descriptor_type.DescriptorType.TheVariants.{DataBlock, BitBucket, Segment, LastSegment}
 use Rattle.nv_entry.specs.declared.opcode.IoOpcode.{IoOpcode}
 use Rattle.nv_entry.specs.declared.status_code.StatusCode.{StatusCode}
-use Rattle.nv_entry.specs.declared.status_code.StatusCode.TheVariants.{DataTransferError, InvalidSglCount, InvalidSglSegment, SglLengthInvalid}
-use Rattle.nv_mem.specs.GuestMap.{everywhere}
+use Rattle.nv_entry.specs.declared.status_code.StatusCode.TheVariants.{SglLengthInvalid}
 use Rattle.nv_mem.specs.Places.{piece_len, total_len}
 use Rattle.nv_mem.specs.declared.piece.Piece.{Piece}
 use Rattle.nv_mem.specs.declared.piece.Piece.TheVariants.{Run, Bucket}
 use Rattle.nv_model.specs.Dialogue.{Dialogue, End, Ask, and_then}
 use Rattle.nv_model.specs.Reading.{Reading, Faulty, TooLong, Spells, run, unless_faulty}
-use Rattle.nv_model.specs.Sgl.{Array, array_by, behind_own, fault_by, pieces_by, read_array, read_descriptor, read_sgl, segment_fault}
+use Rattle.nv_model.specs.Sgl.{Array, array_by, behind_own, fault_by, pieces_by, read_array, read_descriptor, read_sgl}
 use Rattle.nv_model.specs.Prp.{entry_fault, first_len, pages_of, read_entries, read_page, read_prp, read_prp2, slots_of}
 use Rattle.nv_model.specs.Limits.{page}
 use Rattle.nv_model.specs.Judge.{Form, Transfer, Clear, Manage, Keep, field_refusal, form_of, has_buffer, is_read, judge, judge_buffer, judge_by, judge_fields, judge_reading, range_count_of, read_buffer, read_by, read_source, sized, transfer_len}
 use Rattle.nv_model.specs.Parts.{AsksInParts, UsesUp, in_hand}
-use Rattle.nv_model.proofs.Endings.{EndsIn, EndsIn-any, OfPieces, and-true, first_failing-none, not-false}
+use Rattle.nv_model.proofs.Endings.{EndsIn, EndsIn-any, OfPieces, and-true}
 use Rattle.nv_model.proofs.Asking.{entry_fault-mapped, others-left}
 use Rattle.nv_model.proofs.Judged.{read_buffer-of_len}
+use Rattle.nv_model.proofs.SglSequenced.{segment_fault-names}
 use Rattle.nv_model.proofs.Shown.{in_hand-some}
 use Rattle.nv_model.proofs.Spelled.{AreOfLen}
 
@@ -106,16 +106,6 @@ pub record IsPartOf (from rest : ℕ) (a : Array) : Type 0 where
 IsPartOf-none : (from rest : ℕ) (a : Array) → rest ≡ 0 → IsPartOf from rest a
 IsPartOf-none from rest a none = record { whole = omega arith; within = omega arith; next = λ some. absurd (omega arith) }
 
--- a segment that stands last leaves nothing of its array
-segment_fault-last : (mapped : ℕ → Bool) (rest : Array) (d : List ℕ) → segment_fault mapped rest d ≡ None → rest.left ≡ 0
-segment_fault-last mapped rest d fine =
-    let five : List (Bool × StatusCode) = (not (everywhere mapped (address_of d) (length_of d)), DataTransferError) ∷ [] in
-    let four : List (Bool × StatusCode) = (not (address_of d % 8 == 0), InvalidSglSegment) ∷ five in
-    let three : List (Bool × StatusCode) = (length_of d == 0 || not (length_of d % 16 == 0), InvalidSglSegment) ∷ four in
-    let two : List (Bool × StatusCode) = (not (rest.left == 0), InvalidSglCount) ∷ three in
-    let behind_one = (first_failing-none rest.by_last InvalidSglSegment two fine).1 in
-    eqb-true rest.left 0 (not-false _ (first_failing-none (not (rest.left == 0)) InvalidSglCount three behind_one).0)
-
 -- so the part goes on with what is read behind a descriptor
 array_by-part : (mapped : ℕ → Bool) (kind : Option DescriptorType) (a : Array) (d : List ℕ) (from rest : ℕ)
     → fault_by kind mapped a d ≡ None → IsPartOf from rest a → IsPartOf from rest (array_by kind a d)
@@ -123,9 +113,9 @@ array_by-part mapped None a d from rest fine left_over = left_over
 array_by-part mapped (Some DataBlock) a d from rest fine left_over = left_over
 array_by-part mapped (Some BitBucket) a d from rest fine left_over = left_over
 array_by-part mapped (Some Segment) a d from rest fine left_over =
-    let none = segment_fault-last mapped a d fine in IsPartOf-none from rest _ (omega arith)
+    let names = segment_fault-names mapped a d fine in IsPartOf-none from rest _ (omega arith)
 array_by-part mapped (Some LastSegment) a d from rest fine left_over =
-    let none = segment_fault-last mapped a d fine in IsPartOf-none from rest _ (omega arith)
+    let names = segment_fault-names mapped a d fine in IsPartOf-none from rest _ (omega arith)
 
 read_descriptor-part : (mapped : ℕ → Bool) (dest : Bool) (a : Array) (pieces : List Piece) (follow : Array → List Piece → Dialogue Reading) (d : List ℕ) (from rest : ℕ)
     → IsPartOf from rest a → ((b : Array) (ps : List Piece) → IsPartOf from rest b → UsesUpTo IsUsedUp from rest (follow b ps))

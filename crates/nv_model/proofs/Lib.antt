@@ -15,6 +15,7 @@ pub mod Judged
 pub mod MemoryAlike
 pub mod MemoryLemmas
 pub mod PrpAddressed
+pub mod PrpDecided
 pub mod QueueCounts
 pub mod QueueOrder
 pub mod QueuesKept

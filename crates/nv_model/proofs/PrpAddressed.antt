@@ -14,6 +14,7 @@ use Rattle.nv_model.specs.Prp.{entry_fault, first_len, pages_of, read_entries, r
 use Rattle.nv_model.specs.Limits.{page}
 use Rattle.nv_model.specs.PrpAddresses.{byte_address, entry_of, last_page, slot_at, slot_of}
 use Rattle.nv_model.proofs.Endings.{and-true}
+use Rattle.nv_model.proofs.Spelled.{pages_of-fit}
 use Rattle.nv_model.proofs.Asking.{entry_fault-mapped}
 
 -- ---- places of runs
@@ -151,11 +152,11 @@ spells-faultless memory None more out spells = (refl, spells)
 spells-faultless memory (Some code) more out spells = cc
 
 -- the next slot of a list of that many entries, which may go on that many times
-record IsNextSlot (times entries slots from : ℕ) : Type 0 where
-  counted : 0 < entries → slots ≡ slots_of from
-  some : 0 < entries → 0 < slots
-  enough : entries ≤ times + 1
-  last : slots ≡ 1 → 1 < entries → entries ≤ times
+pub record IsNextSlot (times entries slots from : ℕ) : Type 0 where
+  pub counted : 0 < entries → slots ≡ slots_of from
+  pub some : 0 < entries → 0 < slots
+  pub enough : entries ≤ times + 1
+  pub last : slots ≡ 1 → 1 < entries → entries ≤ times
 
 -- a page entry, and what follows
 read_page-spells : (mapped : ℕ → Bool) (memory : ℕ → ℕ) (bytes : ℕ) (pieces : List Piece) (follow : List Piece → Dialogue Reading) (addr : ℕ) (out rest : List Piece)
@@ -173,8 +174,13 @@ spells-if memory true x y out spells so not_so = so refl spells
 spells-if memory false x y out spells so not_so = not_so refl spells
 
 -- where one slot is no pointer, no entry is to come
-alone : (slots pages : ℕ) → (slots == 1 && nat_lt 0 pages) ≡ false → slots ≡ 1 → pages ≡ 0
+pub alone : (slots pages : ℕ) → (slots == 1 && nat_lt 0 pages) ≡ false → slots ≡ 1 → pages ≡ 0
 alone slots pages is one = grind (arith, nat_tests)
+
+-- and where one is to come, others stand on the page
+pub many : (slots pages at : ℕ) → (slots == 1 && nat_lt 0 pages) ≡ false → 0 < slots → 0 < pages → slots ≡ at → 1 < at
+many slots pages at is some left same =
+    (elim (eq-or-lt_of_le some) [ inl one ↦ (let none = alone slots pages is (sym one) in absurd (omega arith)) | inr two ↦ omega arith ])
 
 -- the run of the first entry, and those of the others
 runs_of-first : (memory : ℕ → ℕ) (pages bytes : ℕ) (pieces out : List Piece) (f g : ℕ → ℕ) (addr : ℕ)
@@ -223,18 +229,15 @@ read_entries-runs mapped memory times (suc pages) slots from bytes pieces out ne
     let enough = next.enough in
     runs_of-first memory pages bytes pieces out (λ i. slot_of memory times from (suc pages) i) (λ i. slot_of memory times (from + 8) pages i) from
     (slot_of-first memory times from (suc pages) (λ one. let none = alone slots pages is (omega arith) in omega arith) (omega arith))
-    (λ i below. slot_of-next memory times from pages i (many slots pages is some (omega arith) counted))
+    (λ i below. slot_of-next memory times from pages i (many slots pages _ is some (omega arith) counted))
     (read_page-spells mapped memory bytes pieces (λ ps. read_entries mapped pages (slots - 1) (from + 8) (bytes - page) ps) (slot_at memory from) out _ here
     (λ behind. read_entries-runs mapped memory times pages (slots - 1) (from + 8) (bytes - page) (pieces ++ run (slot_at memory from) (min bytes page)) out
     (record {
-      counted = λ left. let two = many slots pages is some left counted in omega arith;
-      some = λ left. let two = many slots pages is some left counted in omega arith;
+      counted = λ left. let two = many slots pages _ is some left counted in omega arith;
+      some = λ left. let two = many slots pages _ is some left counted in omega arith;
       enough = omega arith;
       last = λ single left. omega arith;
     }) behind)))
-  where
-    many : (slots pages : ℕ) {at : ℕ} → (slots == 1 && nat_lt 0 pages) ≡ false → 0 < slots → 0 < pages → slots ≡ at → 1 < at
-    many slots pages {at} is some left same = (elim (eq-or-lt_of_le some) [ inl one ↦ (let none = alone slots pages is (sym one) in absurd (omega arith)) | inr two ↦ omega arith ])
 
 -- ---- PRP1 and PRP2
 
@@ -266,11 +269,8 @@ read_prp2-runs mapped memory (suc (suc pages)) prp2 bytes pieces out spells =
     (λ i below. entry_of-list memory prp2 n i (omega arith)))
 
 -- how many pages are behind PRP1's
-last_page-counts : (prp1 len : ℕ) → 0 < len → pages_of (len - first_len prp1 len) ≡ last_page prp1 len
+pub last_page-counts : (prp1 len : ℕ) → 0 < len → pages_of (len - first_len prp1 len) ≡ last_page prp1 len
 last_page-counts prp1 len some = omega arith
-
-pages_of-fit : (bytes : ℕ) → bytes ≤ pages_of bytes * 4096
-pages_of-fit bytes = omega arith
 
 -- each byte lies in its page
 pub read_prp-at : (mapped : ℕ → Bool) (memory : ℕ → ℕ) (prp1 prp2 len : ℕ) (out : List Piece) (i : ℕ)

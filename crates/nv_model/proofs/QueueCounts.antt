@@ -141,7 +141,7 @@ head_rung-acknowledges c after y head q order is rung =
     as (λ b. (nat_lt head q.size && nat_le (ahead q.size q.head head) (ahead q.size q.head q.tail)) ≡ b
     → cond b (Some (with_completion c y (Some (record q { head = head })))) None ≡ Some after → Acknowledges q y after) [
       | true ↦ λ fits done.
-          let both = and-true _ _ fits in
+          let both = and-true (nat_lt head q.size) (nat_le (ahead q.size q.head head) (ahead q.size q.head q.tail)) fits in
           let same : with_completion c y (Some (record q { head = head })) ≡ after = cc in
           record {
             now = record q { head = head };

@@ -19,7 +19,7 @@ use Rattle.nv_model.proofs.Endings.{first_failing-none, not-false}
 -- ---- the reading of a sequence
 
 -- a fault ends it
-abbrev unless : Option StatusCode → Reading → Reading
+abbrev pub unless : Option StatusCode → Reading → Reading
 unless (Some code) more = Faulty code
 unless None more = more
 
@@ -37,11 +37,11 @@ ahead memory (suc left) from by_last = Some (member_at memory from left by_last)
 -- ---- what follows a descriptor
 
 -- a faultless segment stands last, and names at least one descriptor
-record Names (rest : Array) (d : List ℕ) : Type 0 where
-  last : rest.left ≡ 0
-  some : 0 < length_of d / 16
+pub record Names (rest : Array) (d : List ℕ) : Type 0 where
+  pub last : rest.left ≡ 0
+  pub some : 0 < length_of d / 16
 
-segment_fault-names : (mapped : ℕ → Bool) (rest : Array) (d : List ℕ) → segment_fault mapped rest d ≡ None → Names rest d
+pub segment_fault-names : (mapped : ℕ → Bool) (rest : Array) (d : List ℕ) → segment_fault mapped rest d ≡ None → Names rest d
 segment_fault-names mapped rest d fine =
     let five : List (Bool × StatusCode) = (not (everywhere mapped (address_of d) (length_of d)), DataTransferError) ∷ [] in
     let four : List (Bool × StatusCode) = (not (address_of d % 8 == 0), InvalidSglSegment) ∷ five in

@@ -153,7 +153,7 @@ read_prp2-of_len mapped len (suc (suc pages)) prp2 bytes pieces so_far_len so_fa
     (λ _. read_entries-of_len mapped len (suc (suc pages)) (slots_of prp2) prp2 bytes pieces so_far_len so_far sum fit)
 
 -- the pages hold the bytes
-pages_of-fit : (bytes : ℕ) → bytes ≤ pages_of bytes * 4096
+pub pages_of-fit : (bytes : ℕ) → bytes ≤ pages_of bytes * 4096
 pages_of-fit bytes = omega arith
 
 -- each run that PRP1 and PRP2 spell is mapped, and they are as long as the transfer

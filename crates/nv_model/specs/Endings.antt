@@ -1,4 +1,5 @@
--- Words of the laws about a dialogue whatever answers it: one memory, a transcript, or memory that changes from question to question.
+-- Words of the laws about a dialogue whatever answers it: one memory, a transcript, or memory that changes from
+-- question to question.
 use Rattle.std.specs.Prelude.{◌≡◌, ◌⊎◌, ℕ, List, length}
 use Rattle.std.specs.Bool.{⊤}
 use Rattle.nv_model.specs.Dialogue.{Dialogue, End, Ask}

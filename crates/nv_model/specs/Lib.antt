@@ -18,6 +18,7 @@ pub mod Readers
 pub mod Endings
 pub mod SglSequence
 pub mod PrpAddresses
+pub mod PrpEntries
 pub mod Rows
 pub mod RowsRuns
 pub mod Limits

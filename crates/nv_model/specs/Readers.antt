@@ -1,4 +1,5 @@
--- A reader that takes reads one after the other, and one that reads in a memory what is wanted: words of the laws about transcripts.
+-- A reader that takes reads one after the other, and one that reads in a memory what is wanted: words of the laws about
+-- transcripts.
 use Rattle.std.specs.Prelude.{ℕ, ◌&&◌, ◌==◌, if◌then◌else◌, List, [], ◌∷◌, drop, length, take}
 use Rattle.nv_model.specs.Dialogue.{Dialogue, End, Ask}
 use Rattle.nv_model.specs.Memory.{bytes_from}

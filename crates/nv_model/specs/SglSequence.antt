@@ -1,6 +1,6 @@
--- A scatter gather list in a memory as one sequence of descriptors. Base Specification 2.0, "Scatter Gather List (SGL)": the descriptor in
--- the command comes first; the descriptors of a segment follow one another; and where the last of them is a Segment or Last Segment
--- descriptor, those of the segment that it describes come next.
+-- A scatter gather list in a memory as one sequence of descriptors. Base Specification 2.0, "Scatter Gather List
+-- (SGL)": the descriptor in the command comes first; the descriptors of a segment follow one another; and where the
+-- last of them is a Segment or Last Segment descriptor, those of the segment that it describes come next.
 use Rattle.std.specs.Prelude.{◌≡◌, ℕ, zero, suc, ◌+◌, ◌-◌, ◌/◌, Bool, true, false, nat_lt, if◌then◌else◌, List, [], ◌∷◌, Option, Some, None, is_some}
 use Rattle.nv_entry.specs.Descriptor.{address_of, length_of, kind_of}
 use Rattle.nv_entry.specs.declared.descriptor_type.DescriptorType.{DescriptorType}
@@ -40,7 +40,8 @@ named_by (Some DataBlock) memory d = None
 named_by (Some BitBucket) memory d = None
 named_by None memory d = None
 
--- the one that follows: the next of its array; and behind the last of it, if that has no fault, the first of the array that it names
+-- the one that follows: the next of its array; and behind the last of it, if that has no fault, the first of the array
+-- that it names
 abbrev pub member_behind : (ℕ → Bool) → (ℕ → ℕ) → Member → Option Member
 member_behind mapped memory m =
     if nat_lt 0 m.rest.left then Some (member_at memory m.rest.from (m.rest.left - 1) m.rest.by_last)

@@ -1,6 +1,7 @@
 //! Worked examples, computed from the definitions.
 
 pub mod admin_commands;
+pub mod answers;
 pub mod dataset_management;
 pub mod deletions;
 pub mod descriptor_limit;

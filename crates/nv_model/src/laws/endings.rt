@@ -1,4 +1,5 @@
-//! What a dialogue comes to and asks for, whatever answers it: one memory, a transcript, or memory that changes from question to question.
+//! What a dialogue comes to and asks for, whatever answers it: one memory, a transcript, or memory that changes from
+//! question to question.
 ghost use Rattle.std.specs.Prelude.{◌≡◌, ℕ, ◌≤◌, Bool, true, List, [], All, Some, length};
 ghost use Rattle.std.specs.List.{list_all};
 ghost use Rattle.nv_entry.specs.Opcode.{io_opcode};
@@ -15,7 +16,8 @@ ghost use Rattle.nv_model.specs.Reading.{Spells};
 ghost use Rattle.nv_model.specs.Sgl.{read_sgl};
 ghost use Rattle.nv_model.specs.Transcript.{ReadDone, Settled, Wanted, fed, in_transcript, part};
 
-/// Some answers lead a dialogue to its value in a memory, to all that it asks for there, and to all that is wanted where it asks.
+/// Some answers lead a dialogue to its value in a memory, to all that it asks for there, and to all that is wanted
+/// where it asks.
 pub fn a_memory_gives_some_answers<A>()
     ensures ends { (memory : ℕ → ℕ) (d : Dialogue A) → MayEndIn d (in_memory memory d) }
     ensures asks { (memory : ℕ → ℕ) (d : Dialogue A) → All (λ span. (left : ℕ) × MayAsk d span.0 span.1 left) (asked memory d) }
@@ -91,8 +93,8 @@ pub fn buffer_is_mapped_whatever_answers()
         MayEndIn (judge mapped limit blocks entry) (Go work) → total_len work.pieces ≡ transfer_len work.opcode entry }
 {}
 
-/// Its units lie in the namespace, and are those of a command of its form: of a Dataset Management, those of as many ranges as it names, each
-/// in the namespace.
+/// Its units lie in the namespace, and are those of a command of its form: of a Dataset Management, those of as many
+/// ranges as it names, each in the namespace.
 pub fn units_are_the_commands_whatever_answers()
     ensures within { (mapped : ℕ → Bool) (limit blocks : ℕ) (entry : List ℕ) (work : Work) →
         MayEndIn (judge mapped limit blocks entry) (Go work) → All (IsUnitWithin blocks) work.units }

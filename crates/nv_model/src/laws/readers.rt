@@ -7,8 +7,9 @@ ghost use Rattle.nv_model.specs.Parts.{AsksInParts, reads_met};
 ghost use Rattle.nv_model.specs.Readers.{given_all, reads_in, standing};
 ghost use Rattle.nv_model.specs.Transcript.{ReadDone, Settled, in_transcript};
 
-/// A transcript is taken read by read: one that is wanted is fed to the dialogue, and any other changes nothing. So further reads are taken
-/// by what is left of the dialogue, and the reads that it meets come behind those that were met.
+/// A transcript is taken read by read: one that is wanted is fed to the dialogue, and any other changes nothing. So
+/// further reads are taken by what is left of the dialogue, and the reads that it meets come behind those that were
+/// met.
 pub fn reads_are_taken_one_after_the_other<A>()
     ensures each { (d : Dialogue A) (reads : List ReadDone) → in_transcript d [] reads ≡ standing (given_all d reads) }
     ensures further { (d : Dialogue A) (reads more : List ReadDone) →

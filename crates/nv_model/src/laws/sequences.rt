@@ -7,8 +7,9 @@ ghost use Rattle.nv_model.specs.Reading.{Faulty, TooLong, Spells};
 ghost use Rattle.nv_model.specs.Sgl.{read_sgl};
 ghost use Rattle.nv_model.specs.SglSequence.{IsFaultless, Member, fault_of, first_members, member_pieces};
 
-/// The first descriptor with a fault decides, by the first check that it fails, where it is one of those that may be read. If none of them has
-/// one, a list of more descriptors is too long, and any other spells the pieces that its descriptors name, in order.
+/// The first descriptor with a fault decides, by the first check that it fails, where it is one of those that may be
+/// read. If none of them has one, a list of more descriptors is too long, and any other spells the pieces that its
+/// descriptors name, in order.
 pub fn scatter_gather_lists_are_one_sequence()
     ensures faulty { (mapped : ℕ → Bool) (dest : Bool) (limit : ℕ) (own : List ℕ) (memory : ℕ → ℕ) (i : ℕ) (m : Member) (code : StatusCode) →
         slice_get (first_members mapped memory own limit) i ≡ Some m → fault_of mapped m ≡ Some code →

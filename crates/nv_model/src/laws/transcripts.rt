@@ -6,16 +6,16 @@ ghost use Rattle.nv_model.specs.Memory.{bytes_from};
 ghost use Rattle.nv_model.specs.Parts.{AsksInParts, ShowsOn, reads_met};
 ghost use Rattle.nv_model.specs.Transcript.{ReadDone, Settled, in_transcript};
 
-/// A dialogue that asks in parts ends with a transcript as it ends in a memory that the reads show: those that it met, wherever it asks in
-/// that memory.
+/// A dialogue that asks in parts ends with a transcript as it ends in a memory that the reads show: those that it met,
+/// wherever it asks in that memory.
 pub fn a_transcript_that_shows_a_memory_settles_its_value<A>()
     ensures { (memory : ℕ → ℕ) (d : Dialogue A) (reads : List ReadDone) (value : A) → AsksInParts d →
         All (ShowsOn memory (asked memory d)) (reads_met d [] reads) → in_transcript d [] reads ≡ Settled value →
         in_memory memory d ≡ value }
 {}
 
-/// A verdict that a transcript settles is that of each memory that its reads show: those that were met, wherever judging asks in that memory;
-/// or all of them there; or the whole of each.
+/// A verdict that a transcript settles is that of each memory that its reads show: those that were met, wherever
+/// judging asks in that memory; or all of them there; or the whole of each.
 pub fn a_transcript_that_shows_a_memory_gives_its_verdict()
     ensures met { (mapped : ℕ → Bool) (limit blocks : ℕ) (entry : List ℕ) (memory : ℕ → ℕ) (reads : List ReadDone) (verdict : Verdict) →
         All (ShowsOn memory (asked memory (judge mapped limit blocks entry))) (reads_met (judge mapped limit blocks entry) [] reads) →

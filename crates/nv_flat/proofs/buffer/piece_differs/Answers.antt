@@ -1,4 +1,4 @@
-use Rattle.std.proofs.Common.{◌≡◌, ◌+◌, ◌≤◌, ℕ, List, length, replicate, arith, ap, sym, ◌∙◌}
+use Rattle.std.proofs.Common.{◌+◌, ◌≤◌, ℕ, List, length, replicate, ap, sym, ◌∙◌}
 use Rattle.nv_mem.specs.Places.{addresses, places_of_piece, piece_len}
 use Rattle.nv_mem.proofs.PlaceLists.{length-addresses}
 use Rattle.nv_model.specs.Memory.{gathered}

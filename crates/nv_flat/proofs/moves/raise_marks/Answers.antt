@@ -1,5 +1,5 @@
-use Rattle.std.proofs.Common.{◌≡◌, ◌+◌, ◌-◌, length, true, arith, sym, ◌∙◌}
-use Rattle.nv_flat.specs.Marks.{mark_of, raised}
+use Rattle.std.proofs.Common.{◌+◌, ◌-◌, true, arith, sym, ◌∙◌}
+use Rattle.nv_flat.specs.Marks.{mark_of}
 use Rattle.std.proofs.lemmas.List.{length-set}
 use Rattle.nv_flat.proofs.ReadLemmas.{raised-none, raised-set}
 use Rattle.nv_flat.proofs.moves.raise_marks.Goals as goal

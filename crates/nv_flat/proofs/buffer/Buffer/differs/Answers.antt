@@ -1,4 +1,4 @@
-use Rattle.std.proofs.Common.{◌≡◌, ◌||◌, Bool, length, ap, sym, ◌∙◌, arith}
+use Rattle.std.proofs.Common.{◌||◌, Bool, length, ap, sym, ◌∙◌, arith}
 use Rattle.std.proofs.lemmas.Bool.Decides.{nat_tests}
 use Rattle.nv_mem.specs.Places.{places_of_piece}
 use Rattle.nv_model.specs.Memory.{gathered}
