@@ -25,7 +25,7 @@ use Rattle.nv_model.proofs.DialogueLemmas.{in_memory-and_then}
 use Rattle.nv_model.proofs.MemoryLemmas.{length-gathered}
 use Rattle.nv_flat.specs.Flat.{Flat, byte_in, moved_of}
 use Rattle.nv_flat.specs.Listed.{list_reading}
-use Rattle.nv_flat.specs.One.{IsInOrder, IsRun, shape_of}
+use Rattle.nv_flat.specs.One.{HasFieldsInOrder, IsRun, shape_of}
 use Rattle.nv_flat.proofs.DoneLemmas.{list-verdict, range-within}
 use Rattle.nv_flat.proofs.OneLemmas.{moved-run, refused-run}
 use Rattle.nv_flat.proofs.PieceLemmas.{read_source-gathered, spelled-usable}
@@ -33,13 +33,13 @@ use Rattle.nv_flat.proofs.WorkLemmas.{deallocated-more, ranges-kept}
 
 -- what is known of a Dataset Management whose list is read, and these are the bytes that it names
 pub record IsManaged (f : Flat) (entry : List ℕ) (pieces : List Piece) (bytes : List ℕ) : Type 0 where
-  pub in_order : IsInOrder (length f.disk) entry DatasetManagement (need_of entry DatasetManagement)
+  pub in_order : HasFieldsInOrder (length f.disk) entry DatasetManagement (need_of entry DatasetManagement)
   pub spelled : list_reading f entry (need_of entry DatasetManagement) ≡ Spells pieces
   pub taken : bytes ≡ gathered (byte_in f.memory) (places_of pieces)
   pub whole : length bytes ≡ 16 * range_count_of entry
 
 pub managed : (f : Flat) (entry : List ℕ) (pieces : List Piece) (bytes memory : List ℕ) (places : List Place) (n : ℕ)
-    → IsInOrder (length f.disk) entry DatasetManagement (need_of entry DatasetManagement)
+    → HasFieldsInOrder (length f.disk) entry DatasetManagement (need_of entry DatasetManagement)
     → list_reading f entry (need_of entry DatasetManagement) ≡ Spells pieces
     → memory ≡ f.memory → places ≡ places_of pieces → n ≡ 16 * range_count_of entry → bytes ≡ gathered (byte_in memory) (take n places)
     → IsManaged f entry pieces bytes

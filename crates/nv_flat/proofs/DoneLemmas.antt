@@ -20,7 +20,7 @@ use Rattle.nv_model.specs.Private.{moved_status, verdict_in}
 use Rattle.nv_model.specs.Carried.{block_work, cleared, moved_on, units_from, units_moved}
 use Rattle.nv_flat.specs.Flat.{Flat, byte_in, moved_of}
 use Rattle.nv_flat.specs.Listed.{refusal_of_reading, list_reading}
-use Rattle.nv_flat.specs.One.{IsInOrder, IsRun, shape_of}
+use Rattle.nv_flat.specs.One.{HasFieldsInOrder, IsRun, shape_of}
 use Rattle.nv_flat.specs.Transfer.{is_transfer}
 use Rattle.nv_flat.proofs.OneLemmas.{moved-run, refused-run}
 use Rattle.nv_flat.proofs.VerdictLemmas.{field_verdict-err, field_verdict-ok, count-at_most, in-namespace, verdict-listed, verdict-refused, verdict-unlisted}
@@ -37,7 +37,7 @@ fields-refused f entry st e =
 
 -- a command whose fields are in order
 pub in-order : (f : Flat) (entry : List ℕ) (need : Need) (opcode : IoOpcode) → field_verdict (length f.disk) entry ≡ Ok need → io_opcode (opcode_of entry) ≡ Some opcode
-    → IsInOrder (length f.disk) entry opcode need
+    → HasFieldsInOrder (length f.disk) entry opcode need
 in-order f entry need opcode verdict known =
     let ok = field_verdict-ok (length f.disk) entry need verdict in
     let same : ok.1.0 ≡ opcode = some-same ok.1.0 opcode (sym ok.1.1 ∙ known) in
@@ -56,7 +56,7 @@ known-opcode f entry need verdict unknown =
 -- ---- the list
 
 -- the verdict on a command, once its list is read
-pub list-verdict : (f : Flat) (entry : List ℕ) (opcode : IoOpcode) (need : Need) (reading : Reading) → IsInOrder (length f.disk) entry opcode need
+pub list-verdict : (f : Flat) (entry : List ℕ) (opcode : IoOpcode) (need : Need) (reading : Reading) → HasFieldsInOrder (length f.disk) entry opcode need
     → has_buffer opcode ≡ true → list_reading f entry need ≡ reading
     → verdict_in (shape_of f) (byte_in f.memory) entry ≡ in_memory (byte_in f.memory) (judge_reading (length f.disk) entry opcode reading)
 list-verdict f entry opcode need reading o buffer read =
@@ -69,7 +69,7 @@ unfolding in_memory
 ended m v = refl
 
 -- a command that its list refuses
-pub list-refused : (f : Flat) (entry : List ℕ) (opcode : IoOpcode) (need : Need) (st : StatusField) → IsInOrder (length f.disk) entry opcode need
+pub list-refused : (f : Flat) (entry : List ℕ) (opcode : IoOpcode) (need : Need) (st : StatusField) → HasFieldsInOrder (length f.disk) entry opcode need
     → has_buffer opcode ≡ true → refusal_of_reading (list_reading f entry need) ≡ Some st → IsRun f entry st f
 list-refused f entry opcode need st o buffer refused =
     refused-run f entry st
@@ -114,7 +114,7 @@ goes-with f entry Flush pieces t = (cc)
 goes-with f entry DatasetManagement pieces t = (cc)
 
 -- a Read, Write or Compare whose blocks have moved
-pub transfer-run : (f g : Flat) (entry : List ℕ) (opcode : IoOpcode) (need : Need) (pieces : List Piece) (differed : Bool) → IsInOrder (length f.disk) entry opcode need
+pub transfer-run : (f g : Flat) (entry : List ℕ) (opcode : IoOpcode) (need : Need) (pieces : List Piece) (differed : Bool) → HasFieldsInOrder (length f.disk) entry opcode need
     → is_transfer opcode ≡ true → list_reading f entry need ≡ Spells pieces
     → moved_of g differed ≡ units_moved (units_from 0 (slba_of entry) need.blocks) (block_work opcode pieces need.fua) (moved_of f false)
     → IsRun f entry (moved_status differed) g
@@ -131,7 +131,7 @@ transfer-run f g entry opcode need pieces differed o t read moved =
 
 -- the same, with the numbers that the code has
 pub transfer-done : (f g : Flat) (entry : List ℕ) (opcode : IoOpcode) (need : Need) (pieces : List Piece) (slba count : ℕ) (result differed : Bool) (st : StatusField)
-    → IsInOrder (length f.disk) entry opcode need → is_transfer opcode ≡ true → list_reading f entry need ≡ Spells pieces
+    → HasFieldsInOrder (length f.disk) entry opcode need → is_transfer opcode ≡ true → list_reading f entry need ≡ Spells pieces
     → slba ≡ slba_of entry → count ≡ need.blocks → result ≡ differed → st ≡ moved_status differed
     → moved_of g result ≡ units_moved (units_from 0 slba count) (block_work opcode pieces need.fua) (moved_of f false)
     → IsRun f entry st g
@@ -144,7 +144,7 @@ transfer-done f g entry opcode need pieces slba count result differed st o t rea
 
 -- ---- Write Zeroes and Flush
 
-pub zeroes-run : (f g : Flat) (entry : List ℕ) (need : Need) → IsInOrder (length f.disk) entry WriteZeroes need
+pub zeroes-run : (f g : Flat) (entry : List ℕ) (need : Need) → HasFieldsInOrder (length f.disk) entry WriteZeroes need
     → moved_of g false ≡ cleared (range_with_len (slba_of entry) need.blocks) need.fua (moved_of f false) → IsRun f entry (done_with Success) g
 zeroes-run f g entry need o moved =
     let Q : Need → Type 0 = λ n. moved_of g false ≡ cleared (range_with_len (slba_of entry) n.blocks) n.fua (moved_of f false) in
@@ -153,7 +153,7 @@ zeroes-run f g entry need o moved =
     (verdict-unlisted (shape_of f) (byte_in f.memory) entry WriteZeroes o.unrefused o.known refl)
     (subst Q o.needs moved ∙ sym (units_moved-cleared (is_fua entry) (lbas_of entry) work (moved_of f false)))
 
-pub flush-run : (f g : Flat) (entry : List ℕ) (need : Need) → IsInOrder (length f.disk) entry Flush need
+pub flush-run : (f g : Flat) (entry : List ℕ) (need : Need) → HasFieldsInOrder (length f.disk) entry Flush need
     → ((work : Work) → moved_of g false ≡ moved_on (KeepAll (length f.disk)) work (moved_of f false)) → IsRun f entry (done_with Success) g
 unfolding units_moved
 flush-run f g entry need o moved =
@@ -168,19 +168,19 @@ pub range-within : (slba count blocks : ℕ) → in_namespace slba count blocks 
 range-within slba count blocks inside = grind (arith, nat_tests)
 
 -- the blocks of a command are there
-pub blocks-within : (blocks : ℕ) (entry : List ℕ) (opcode : IoOpcode) (need : Need) → IsInOrder blocks entry opcode need → has_blocks opcode ≡ true → slba_of entry + count_of entry ≤ blocks
+pub blocks-within : (blocks : ℕ) (entry : List ℕ) (opcode : IoOpcode) (need : Need) → HasFieldsInOrder blocks entry opcode need → has_blocks opcode ≡ true → slba_of entry + count_of entry ≤ blocks
 blocks-within blocks entry opcode need o ranged = range-within (slba_of entry) (count_of entry) blocks (in-namespace blocks entry opcode o.unrefused o.known ranged)
 
 -- ---- the transfer
 
 -- no transfer is longer than 128 KiB, and each is some bytes
-pub transfer-at_most : (blocks : ℕ) (entry : List ℕ) (opcode : IoOpcode) (need : Need) → IsInOrder blocks entry opcode need → is_transfer opcode ≡ true → need.bytes ≤ 131072
+pub transfer-at_most : (blocks : ℕ) (entry : List ℕ) (opcode : IoOpcode) (need : Need) → HasFieldsInOrder blocks entry opcode need → is_transfer opcode ≡ true → need.bytes ≤ 131072
 transfer-at_most blocks entry opcode need o t =
     let bytes : need.bytes ≡ 512 * count_of entry = ap (λ (n : Need). n.bytes) o.needs ∙ (transfer-needs entry opcode t).1 in
     let few = count-at_most blocks entry opcode o.unrefused o.known (buffered opcode t).0 (buffered opcode t).1 in
     omega arith
 
-pub transfer-some : (blocks : ℕ) (entry : List ℕ) (opcode : IoOpcode) (need : Need) → IsInOrder blocks entry opcode need → is_transfer opcode ≡ true → 0 < need.bytes
+pub transfer-some : (blocks : ℕ) (entry : List ℕ) (opcode : IoOpcode) (need : Need) → HasFieldsInOrder blocks entry opcode need → is_transfer opcode ≡ true → 0 < need.bytes
 transfer-some blocks entry opcode need o t =
     let bytes : need.bytes ≡ 512 * count_of entry = ap (λ (n : Need). n.bytes) o.needs ∙ (transfer-needs entry opcode t).1 in
     omega arith

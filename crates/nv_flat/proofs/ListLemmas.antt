@@ -21,7 +21,7 @@ use Rattle.nv_model.specs.Transcript.{fed}
 use Rattle.nv_model.specs.Want.{want_of}
 use Rattle.nv_model.specs.declared.want.Want.TheVariants as want
 use Rattle.nv_flat.specs.Flat.{Flat, byte_in, identity_map}
-use Rattle.nv_flat.specs.Listed.{IsThere, list_dialogue, list_reading, reading_by, refusal_of_reading}
+use Rattle.nv_flat.specs.Listed.{IsPartThere, list_dialogue, list_reading, reading_by, refusal_of_reading}
 use Rattle.nv_flat.proofs.AskingLemmas.{AsksAtMost, AsksAtMost-and_then, mapped-inside, read_prp-often, read_sgl-often, wants-more}
 
 -- a dialogue that wants nothing more, by what it wants
@@ -104,7 +104,7 @@ IsReading-start_prp f entry need d map prp1 prp2 bytes dialogue same_map same_pr
 
 -- what is wanted lies in the memory
 pub IsReading-there : (f : Flat) (reading : Reading) (part : ℕ) (d : Dialogue Reading) (addr len : ℕ) → IsReading f reading part d
-    → want_of d ≡ want.Read addr len → IsThere f.memory addr len
+    → want_of d ≡ want.Read addr len → IsPartThere f.memory addr len
 IsReading-there f reading part d addr len so_far wanted =
     let w = wants-more (mapped (identity_map (length f.memory)).regions) (1023 - part) d addr len so_far.asks wanted in
     record { some = w.some; at_most = w.at_most; inside = mapped-inside (length f.memory) addr len w.some w.there }

@@ -41,7 +41,7 @@ IsListed (Refused st) reading = refusal_of_reading reading ≡ Some st
 IsListed (Named places) reading = reading ≡ Spells places
 
 -- some bytes of a list lie in the memory, 4,096 at most
-pub record IsThere (memory : List ℕ) (addr len : ℕ) : Type 0 where
+pub record IsPartThere (memory : List ℕ) (addr len : ℕ) : Type 0 where
   pub some : 0 < len
   pub at_most : len ≤ 4096
   pub inside : addr + len ≤ length memory

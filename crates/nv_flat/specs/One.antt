@@ -112,7 +112,7 @@ abbrev pub IsDone : (built : List ℕ → Bool) → Flat → List ℕ → Status
 IsDone built old entry st new = IsOutcome (built entry) (not (is_none (field_refusal (length old.disk) entry))) old entry st new
 
 -- a command whose fields are in order in a namespace of `blocks` blocks: its opcode, and what it needs
-pub record IsInOrder (blocks : ℕ) (entry : List ℕ) (opcode : IoOpcode) (need : Need) : Type 0 where
+pub record HasFieldsInOrder (blocks : ℕ) (entry : List ℕ) (opcode : IoOpcode) (need : Need) : Type 0 where
   pub unrefused : field_refusal blocks entry ≡ None
   pub known : io_opcode (opcode_of entry) ≡ Some opcode
   pub needs : need ≡ need_of entry opcode

@@ -9,7 +9,7 @@ ghost use Rattle.nv_judge.specs.Need.{need_of};
 ghost use Rattle.nv_model.specs.Reading.{Spells};
 ghost use Rattle.nv_flat.specs.Flat.{moved_of};
 ghost use Rattle.nv_flat.specs.Listed.{list_reading};
-ghost use Rattle.nv_flat.specs.One.{IsInOrder, IsRun};
+ghost use Rattle.nv_flat.specs.One.{HasFieldsInOrder, IsRun};
 
 use crate::buffer::Buffer;
 use crate::controller::FlatController;
@@ -31,7 +31,7 @@ impl FlatController {
         sqe: &Sqe,
         need: Need,
     ) -> Result<Status, NoMemory>
-        requires in_order { IsInOrder (length self.old.disk) sqe.now opcode.DatasetManagement need }
+        requires in_order { HasFieldsInOrder (length self.old.disk) sqe.now opcode.DatasetManagement need }
         ensures ok { IfOk result (λ status. IsRun self.old sqe.now status self.new) }
         ensures memory_size { length self.new.memory ≡ length self.old.memory }
         ensures disk_size { length self.new.disk ≡ length self.old.disk }
@@ -49,7 +49,7 @@ impl FlatController {
 
     /// The same once its list is read, through a buffer of the length of the ranges.
     fn manage_ranges(&mut self, sqe: &Sqe, places: &Places, ranges: &mut [u8]) -> Status
-        requires in_order { IsInOrder (length self.old.disk) sqe.now opcode.DatasetManagement (need_of sqe.now opcode.DatasetManagement) }
+        requires in_order { HasFieldsInOrder (length self.old.disk) sqe.now opcode.DatasetManagement (need_of sqe.now opcode.DatasetManagement) }
         requires spelled { list_reading self.old sqe.now (need_of sqe.now opcode.DatasetManagement) ≡ Spells places.now }
         requires whole { length ranges.old ≡ 16 * range_count_of sqe.now }
         ensures run { IsRun self.old sqe.now result self.new }

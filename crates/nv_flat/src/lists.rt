@@ -8,7 +8,7 @@ ghost use Rattle.nv_model.specs.Want.{want_of};
 ghost use Rattle.nv_flat.specs.Flat.{byte_in};
 ghost use Rattle.nv_entry.specs.declared.data_pointer.DataPointer.TheVariants as pointer;
 ghost use Rattle.nv_prp.specs.Parse.{dialogue_of as prp_dialogue_of};
-ghost use Rattle.nv_flat.specs.Listed.{IsListed, IsThere, list_reading, reading_by};
+ghost use Rattle.nv_flat.specs.Listed.{IsListed, IsPartThere, list_reading, reading_by};
 
 use crate::controller::FlatController;
 use bumpalo::Bump;
@@ -99,7 +99,7 @@ fn feed_sgl<A: Allocator + Clone>(
     len: u32,
 ) -> Result<(), NoMemory>
     requires wanted { want_of (dialogue_of parse.old) ≡ Want.Read addr len }
-    requires there { IsThere memory.now addr len }
+    requires there { IsPartThere memory.now addr len }
     ensures { OnOk result (dialogue_of parse.new ≡ fed (dialogue_of parse.old) (bytes_from (byte_in memory.now) addr len)) }
 {
     parse.feed(memory.bytes(addr, u64::from(len)))
@@ -108,7 +108,7 @@ fn feed_sgl<A: Allocator + Clone>(
 /// Feeds a parse of PRPs the bytes that it wants.
 fn feed_prp(memory: &Host, parse: &mut PrpParse, addr: u64, len: u32)
     requires wanted { want_of (prp_dialogue_of parse.old) ≡ Want.Read addr len }
-    requires there { IsThere memory.now addr len }
+    requires there { IsPartThere memory.now addr len }
     ensures { prp_dialogue_of parse.new ≡ fed (prp_dialogue_of parse.old) (bytes_from (byte_in memory.now) addr len) }
 {
     let part = memory.bytes(addr, u64::from(len));

@@ -8,7 +8,7 @@ ghost use Rattle.nv_entry.specs.Status.{StatusField};
 ghost use Rattle.nv_model.specs.Judge.{KeepAll, Work};
 ghost use Rattle.nv_model.specs.Carried.{cleared, moved_on};
 ghost use Rattle.nv_flat.specs.Flat.{moved_of};
-ghost use Rattle.nv_flat.specs.One.{IsInOrder, IsRun};
+ghost use Rattle.nv_flat.specs.One.{HasFieldsInOrder, IsRun};
 ghost use Rattle.nv_flat.specs.Transfer.{is_transfer};
 
 use crate::controller::FlatController;
@@ -61,7 +61,7 @@ impl FlatController {
         sqe: &Sqe,
         need: Need,
     ) -> Result<Status, NoMemory>
-        requires in_order { IsInOrder (length self.old.disk) sqe.now opcode need }
+        requires in_order { HasFieldsInOrder (length self.old.disk) sqe.now opcode need }
         ensures ok { IfOk result (λ status. IsRun self.old sqe.now status self.new) }
         ensures memory_size { length self.new.memory ≡ length self.old.memory }
         ensures disk_size { length self.new.disk ≡ length self.old.disk }
@@ -91,7 +91,7 @@ impl FlatController {
         sqe: &Sqe,
         need: Need,
     ) -> Result<Status, NoMemory>
-        requires in_order { IsInOrder (length self.old.disk) sqe.now opcode need }
+        requires in_order { HasFieldsInOrder (length self.old.disk) sqe.now opcode need }
         requires transfer { is_transfer opcode ≡ true }
         ensures ok { IfOk result (λ status. IsRun self.old sqe.now status self.new) }
         ensures memory_size { length self.new.memory ≡ length self.old.memory }

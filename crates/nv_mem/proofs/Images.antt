@@ -5,7 +5,7 @@ use Rattle.std.proofs.lemmas.List.Elements.{All-head, All-tail}
 use Rattle.std.proofs.lemmas.Bool.{cases_lt}
 use Rattle.std.specs.List.{All, AllPairs, find}
 use Rattle.nv_mem.specs.declared.region.Region.{Region}
-use Rattle.nv_mem.specs.GuestMap.{covers, host_of, IsApart, IsInside, IsRun, IsLongestRun}
+use Rattle.nv_mem.specs.GuestMap.{covers, host_of, IsApart, IsInside, IsContiguous, IsLongestRun}
 
 -- what holds of the first element and each later one
 pub AllPairs-head : {X : Type 0} (R : X → X → Type 0) (x : X) (xs : List X) → AllPairs R (x ∷ xs) → All (R x) xs
@@ -109,19 +109,19 @@ host_of-high host_len (r ∷ rs) addr inside high =
 -- ---- runs
 
 -- the run from a covered address to the end of its region
-pub IsRun-front : (rs : List Region) (r : Region) (addr : ℕ) → AllPairs IsApart rs → find (λ s. covers s addr) rs ≡ Some r → IsRun rs addr (r.host + (addr - r.guest)) (r.len - (addr - r.guest))
-IsRun-front rs r addr apart found =
+pub IsContiguous-front : (rs : List Region) (r : Region) (addr : ℕ) → AllPairs IsApart rs → find (λ s. covers s addr) rs ≡ Some r → IsContiguous rs addr (r.host + (addr - r.guest)) (r.len - (addr - r.guest))
+IsContiguous-front rs r addr apart found =
     let covered : covers r addr ≡ true = find-passes (λ s. covers s addr) rs r found in
     record { nonempty = grind (arith, nat_tests); contiguous = λ i below. host_of-front rs r addr i apart found below }
 
 -- a front of a run is a run
-pub IsRun-take : (rs : List Region) (addr host n k : ℕ) → IsRun rs addr host n → 0 < k → k ≤ n → IsRun rs addr host k
-IsRun-take rs addr host n k run some within =
+pub IsContiguous-take : (rs : List Region) (addr host n k : ℕ) → IsContiguous rs addr host n → 0 < k → k ≤ n → IsContiguous rs addr host k
+IsContiguous-take rs addr host n k run some within =
     record { nonempty = some; contiguous = λ i below. run.contiguous i (omega arith) }
 
 -- a run and the front of another that goes on where it ends
-pub IsRun-append : (rs : List Region) (addr host n m k : ℕ) → IsRun rs addr host n → IsRun rs (addr + n) (host + n) m → k ≤ m → IsRun rs addr host (n + k)
-IsRun-append rs addr host n m k run next within = record {
+pub IsContiguous-append : (rs : List Region) (addr host n m k : ℕ) → IsContiguous rs addr host n → IsContiguous rs (addr + n) (host + n) m → k ≤ m → IsContiguous rs addr host (n + k)
+IsContiguous-append rs addr host n m k run next within = record {
   nonempty = let some = run.nonempty in omega arith;
   contiguous = λ i below.
       elim (cases_lt i n) [
@@ -135,8 +135,8 @@ IsRun-append rs addr host n m k run next within = record {
 }
 
 -- a run ends inside the host
-pub IsRun-inside : (host_len : ℕ) (rs : List Region) (addr host n : ℕ) → All (IsInside host_len) rs → IsRun rs addr host n → host + n ≤ host_len
-IsRun-inside host_len rs addr host n inside run =
+pub IsContiguous-inside : (host_len : ℕ) (rs : List Region) (addr host n : ℕ) → All (IsInside host_len) rs → IsContiguous rs addr host n → host + n ≤ host_len
+IsContiguous-inside host_len rs addr host n inside run =
     let some : 0 < n = run.nonempty in
     let last = host_of-inside host_len rs (addr + (n - 1)) (host + (n - 1)) inside (run.contiguous (n - 1) (omega arith)) in
     omega (arith, last)

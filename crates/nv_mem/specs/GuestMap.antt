@@ -43,13 +43,13 @@ abbrev pub all_mapped : List Region → ℕ → ℕ → Bool
 all_mapped rs addr len = everywhere (mapped rs) addr len
 
 -- the `n` addresses from `addr` on, at least one, lie in a row from `host` on
-pub record IsRun (rs : List Region) (addr host n : ℕ) : Type 0 where
+pub record IsContiguous (rs : List Region) (addr host n : ℕ) : Type 0 where
   pub nonempty : 0 < n
   pub contiguous : (i : ℕ) → i < n → host_of rs (addr + i) ≡ Some (host + i)
 
 -- the first `n` of the `len` addresses from `addr` on lie in a row from `host` on, and no longer front does
 pub record IsLongestRun (rs : List Region) (addr len host n : ℕ) : Type 0 where
-  pub run : IsRun rs addr host n
+  pub run : IsContiguous rs addr host n
   pub within : n ≤ len
   pub longest : n < len → host_of rs (addr + n) ≢ Some (host + n)
 

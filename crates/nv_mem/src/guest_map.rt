@@ -30,7 +30,7 @@ impl Model for GuestMap {
 }
 
 impl GuestMap {
-    ghost use Rattle.nv_mem.specs.GuestMap.{Mapping, IsSound, IsRun, IsLongestRun, AllMapped, all_mapped, host_of, refusal_of, span_met, hosts_meet};
+    ghost use Rattle.nv_mem.specs.GuestMap.{Mapping, IsSound, IsContiguous, IsLongestRun, AllMapped, all_mapped, host_of, refusal_of, span_met, hosts_meet};
 
     /// The map with these regions, for a host of `host_len` bytes, or the lowest of the three
     /// refusals that applies. It takes no memory.
@@ -108,7 +108,7 @@ impl GuestMap {
     // The host address of a guest address, and how many bytes its region has from there on.
     fn locate(&self, addr: u64) -> Option<(u64, u64)>
         ensures { MatchOption result (host_of self.now.regions addr ≡ None)
-            (λ run. IsRun self.now.regions addr run.0 run.1) }
+            (λ run. IsContiguous self.now.regions addr run.0 run.1) }
     {
         // What is read is known to be below 2 to the 64, and so is what lies inside the host.
         let _host_len = self.host_len;
@@ -125,7 +125,7 @@ impl GuestMap {
     // where the one is not at the other.
     fn next(&self, addr: u64, host: u64) -> Option<u64>
         ensures { MatchOption result (host_of self.now.regions addr ≢ Some host)
-            (λ n. IsRun self.now.regions addr host n) }
+            (λ n. IsContiguous self.now.regions addr host n) }
     {
         match self.locate(addr) {
             Some((start, left)) if start == host => Some(left),
@@ -135,7 +135,7 @@ impl GuestMap {
 
     // The length, up to `len`, of the longest run that begins with this one of `front` bytes.
     fn run_len(&self, addr: u64, len: u64, host: u64, front: u64) -> u64
-        requires run { IsRun self.now.regions addr host front }
+        requires run { IsContiguous self.now.regions addr host front }
         requires within { front ≤ len }
         ensures { IsLongestRun self.now.regions addr len host result }
     {

@@ -14,13 +14,13 @@ use Rattle.nv_model.specs.Reading.{Reading, Faulty, TooLong, Spells, first_faili
 use Rattle.nv_model.specs.Queue.{SubmissionQueue, CompletionQueue, cqe_size, new_completion, new_submission, sqe_size}
 use Rattle.nv_model.specs.Controller.{Controller, Deletion, Posted, completion_queue, front, is_ready, post, size_fits, submission_queue, took, with_submission}
 use Rattle.nv_model.specs.Limits.{last_queue, most_requests, most_slots}
-use Rattle.nv_model.specs.Admin.{AdminStep, Done, Hidden, NothingToDo, QueueFull, Shown, Stepped, Structure, admin, admin_command, admin_ready, checked, completes_to_checks, contiguous, completion_id, create_completion, create_submission, delete_completion, delete_found, delete_submission, done_by, done_with_opcode, finish_deletion, front_command, identified, identify_by, identify_reading, is_queue_full, new_queue_checks, number_of_queues, place_checks, queue_id, queue_size, selector, shown, stepped, with_answer, with_completion_posted, answered}
+use Rattle.nv_model.specs.Admin.{AdminStep, AdminEffect, Hidden, NothingToDo, QueueFull, Shown, Stepped, Structure, admin, admin_command, admin_ready, checked, completes_to_checks, contiguous, completion_id, create_completion, create_submission, delete_completion, delete_found, delete_submission, done_by, done_with_opcode, finish_deletion, front_command, identified, identify_by, identify_reading, is_queue_full, new_queue_checks, number_of_queues, place_checks, qid, qsize, selector, shown, stepped, with_answer, with_completion_posted, answered}
 use Rattle.nv_model.specs.Laws.{QueuesHave}
 use Rattle.nv_model.proofs.Endings.{first_failing-none, not-false}
 use Rattle.nv_model.proofs.QueuesKept.{HaveBehind, IsKept, QueuesHave-same, QueuesHave-with_completion, QueuesHave-with_submission, by_test, post-kept, submission_queue-has, took-kept}
 
 -- what the queues behind a command have
-abbrev DoneHas : (P : SubmissionQueue → Type 0) (Q : CompletionQueue → Type 0) → Done → Type 0
+abbrev DoneHas : (P : SubmissionQueue → Type 0) (Q : CompletionQueue → Type 0) → AdminEffect → Type 0
 DoneHas P Q done = QueuesHave P Q done.controller
 
 -- what the queues behind an admin step have
@@ -47,19 +47,19 @@ new_size size fine =
     rw (low, high) refl
 
 new_queue_checks-size : (there : Bool) (entry : List ℕ) (others : List (Bool × StatusCode)) → first_failing (new_queue_checks there entry ++ others) ≡ None
-    → (size_fits (queue_size entry + 1) ≡ true) × (first_failing others ≡ None)
+    → (size_fits (qsize entry + 1) ≡ true) × (first_failing others ≡ None)
 new_queue_checks-size there entry others fine =
     let third : List (Bool × StatusCode) = (contiguous entry == 0, code.InvalidField) ∷ others in
-    let second : List (Bool × StatusCode) = (queue_size entry == 0 || nat_lt most_slots (queue_size entry + 1), code.InvalidQueueSize) ∷ third in
-    let behind = (first_failing-none (queue_id entry == 0 || nat_lt last_queue (queue_id entry) || there) code.InvalidQueueIdentifier second fine).1 in
-    let last = first_failing-none (queue_size entry == 0 || nat_lt most_slots (queue_size entry + 1)) code.InvalidQueueSize third behind in
-    (new_size (queue_size entry) last.0, (first_failing-none (contiguous entry == 0) code.InvalidField others last.1).1)
+    let second : List (Bool × StatusCode) = (qsize entry == 0 || nat_lt most_slots (qsize entry + 1), code.InvalidQueueSize) ∷ third in
+    let behind = (first_failing-none (qid entry == 0 || nat_lt last_queue (qid entry) || there) code.InvalidQueueIdentifier second fine).1 in
+    let last = first_failing-none (qsize entry == 0 || nat_lt most_slots (qsize entry + 1)) code.InvalidQueueSize third behind in
+    (new_size (qsize entry) last.0, (first_failing-none (contiguous entry == 0) code.InvalidField others last.1).1)
 
-place_checks-mapped : (mapped : ℕ → Bool) (slot : ℕ) (entry : List ℕ) → first_failing (place_checks mapped slot entry) ≡ None → everywhere mapped (prp1_of entry) (slot * (queue_size entry + 1)) ≡ true
+place_checks-mapped : (mapped : ℕ → Bool) (slot : ℕ) (entry : List ℕ) → first_failing (place_checks mapped slot entry) ≡ None → everywhere mapped (prp1_of entry) (slot * (qsize entry + 1)) ≡ true
 place_checks-mapped mapped slot entry fine =
-    let second : List (Bool × StatusCode) = (not (everywhere mapped (prp1_of entry) (slot * (queue_size entry + 1))), code.DataTransferError) ∷ [] in
+    let second : List (Bool × StatusCode) = (not (everywhere mapped (prp1_of entry) (slot * (qsize entry + 1))), code.DataTransferError) ∷ [] in
     let behind = (first_failing-none (not (prp1_of entry % 4096 == 0)) code.PrpOffsetInvalid second fine).1 in
-    not-false _ (first_failing-none (not (everywhere mapped (prp1_of entry) (slot * (queue_size entry + 1)))) code.DataTransferError [] behind).0
+    not-false _ (first_failing-none (not (everywhere mapped (prp1_of entry) (slot * (qsize entry + 1)))) code.DataTransferError [] behind).0
 
 completes_to_checks-none : (c : Controller) (entry : List ℕ) (others : List (Bool × StatusCode)) → first_failing (completes_to_checks c entry ++ others) ≡ None → first_failing others ≡ None
 completes_to_checks-none c entry others fine =
@@ -71,41 +71,41 @@ module _ (mapped : ℕ → Bool) (P : SubmissionQueue → Type 0) (Q : Completio
   -- ---- admin commands
 
   -- refused, or done
-  checked-kept : (o : Option StatusCode) (c : Controller) (memory : ℕ → ℕ) (done : Done) → QueuesHave P Q c → (o ≡ None → DoneHas P Q done) → DoneHas P Q (checked o c memory done)
+  checked-kept : (o : Option StatusCode) (c : Controller) (memory : ℕ → ℕ) (done : AdminEffect) → QueuesHave P Q c → (o ≡ None → DoneHas P Q done) → DoneHas P Q (checked o c memory done)
   checked-kept None c memory done order goes = goes refl
   checked-kept (Some why) c memory done order goes = order
 
   create_submission-kept : (entry : List ℕ) (c : Controller) (memory : ℕ → ℕ) → QueuesHave P Q c → DoneHas P Q (create_submission mapped entry c memory)
   create_submission-kept entry c memory order =
       checked-kept _ c memory _ order (λ fine.
-      let size = new_queue_checks-size (is_some (submission_queue c (queue_id entry))) entry (completes_to_checks c entry ++ place_checks mapped sqe_size entry) fine in
+      let size = new_queue_checks-size (is_some (submission_queue c (qid entry))) entry (completes_to_checks c entry ++ place_checks mapped sqe_size entry) fine in
       let there = place_checks-mapped mapped sqe_size entry (completes_to_checks-none c entry (place_checks mapped sqe_size entry) size.1) in
-      QueuesHave-with_submission mapped P Q closed c (queue_id entry) (Some (new_submission (prp1_of entry) (queue_size entry + 1) (completion_id entry))) order
-      (closed.new_submission (prp1_of entry) (queue_size entry + 1) (completion_id entry) size.0 there))
+      QueuesHave-with_submission mapped P Q closed c (qid entry) (Some (new_submission (prp1_of entry) (qsize entry + 1) (completion_id entry))) order
+      (closed.new_submission (prp1_of entry) (qsize entry + 1) (completion_id entry) size.0 there))
 
   create_completion-kept : (entry : List ℕ) (c : Controller) (memory : ℕ → ℕ) → QueuesHave P Q c → DoneHas P Q (create_completion mapped entry c memory)
   create_completion-kept entry c memory order =
       checked-kept _ c memory _ order (λ fine.
-      let size = new_queue_checks-size (is_some (completion_queue c (queue_id entry))) entry (place_checks mapped cqe_size entry) fine in
+      let size = new_queue_checks-size (is_some (completion_queue c (qid entry))) entry (place_checks mapped cqe_size entry) fine in
       let there = place_checks-mapped mapped cqe_size entry size.1 in
-      QueuesHave-with_completion mapped P Q closed c (queue_id entry) (Some (new_completion (prp1_of entry) (queue_size entry + 1))) order
-      (closed.new_completion (prp1_of entry) (queue_size entry + 1) size.0 there))
+      QueuesHave-with_completion mapped P Q closed c (qid entry) (Some (new_completion (prp1_of entry) (qsize entry + 1))) order
+      (closed.new_completion (prp1_of entry) (qsize entry + 1) size.0 there))
 
   delete_completion-kept : (entry : List ℕ) (c : Controller) (memory : ℕ → ℕ) → QueuesHave P Q c → DoneHas P Q (delete_completion entry c memory)
   delete_completion-kept entry c memory order =
-      checked-kept _ c memory _ order (λ fine. QueuesHave-with_completion mapped P Q closed c (queue_id entry) None order tt)
+      checked-kept _ c memory _ order (λ fine. QueuesHave-with_completion mapped P Q closed c (qid entry) None order tt)
 
-  delete_found-kept : (found : Option SubmissionQueue) (entry : List ℕ) (c : Controller) (memory : ℕ → ℕ) → QueuesHave P Q c → submission_queue c (queue_id entry) ≡ found → DoneHas P Q (delete_found found entry c memory)
+  delete_found-kept : (found : Option SubmissionQueue) (entry : List ℕ) (c : Controller) (memory : ℕ → ℕ) → QueuesHave P Q c → submission_queue c (qid entry) ≡ found → DoneHas P Q (delete_found found entry c memory)
   delete_found-kept None entry c memory order is = order
   delete_found-kept (Some q) entry c memory order is =
-      by_test (DoneHas P Q) (slice_index c.taken (queue_id entry) == 0) _ _
-      (λ _. QueuesHave-with_submission mapped P Q closed c (queue_id entry) None order tt)
-      (λ _. QueuesHave-same mapped P Q closed (with_submission c (queue_id entry) (Some (record q { closing = true }))) _
-      (QueuesHave-with_submission mapped P Q closed c (queue_id entry) (Some (record q { closing = true })) order (closed.closing q (submission_queue-has mapped P Q closed c (queue_id entry) q order is))) refl refl)
+      by_test (DoneHas P Q) (slice_index c.taken (qid entry) == 0) _ _
+      (λ _. QueuesHave-with_submission mapped P Q closed c (qid entry) None order tt)
+      (λ _. QueuesHave-same mapped P Q closed (with_submission c (qid entry) (Some (record q { closing = true }))) _
+      (QueuesHave-with_submission mapped P Q closed c (qid entry) (Some (record q { closing = true })) order (closed.closing q (submission_queue-has mapped P Q closed c (qid entry) q order is))) refl refl)
 
   delete_submission-kept : (entry : List ℕ) (c : Controller) (memory : ℕ → ℕ) → QueuesHave P Q c → DoneHas P Q (delete_submission entry c memory)
   delete_submission-kept entry c memory order =
-      by_test (DoneHas P Q) (queue_id entry == 0) _ _ (λ _. order) (λ _. delete_found-kept (submission_queue c (queue_id entry)) entry c memory order refl)
+      by_test (DoneHas P Q) (qid entry == 0) _ _ (λ _. order) (λ _. delete_found-kept (submission_queue c (qid entry)) entry c memory order refl)
 
   identified-kept : (bytes : List ℕ) (reading : Reading) (c : Controller) (memory : ℕ → ℕ) → QueuesHave P Q c → DoneHas P Q (identified bytes reading c memory)
   identified-kept bytes (Spells pieces) c memory order = order
@@ -149,7 +149,7 @@ module _ (mapped : ℕ → Bool) (P : SubmissionQueue → Type 0) (Q : Completio
   with_answer-kept None cid c memory order = order
   with_answer-kept (Some answer) cid c memory order = with_completion_posted-kept (post c 0 answer.0 cid answer.1) memory (post-kept mapped P Q closed c 0 answer.0 cid answer.1 order)
 
-  stepped-kept : (done : Done) (cid : ℕ) → DoneHas P Q done → AdminHas P Q (stepped done cid)
+  stepped-kept : (done : AdminEffect) (cid : ℕ) → DoneHas P Q done → AdminHas P Q (stepped done cid)
   stepped-kept done cid order = with_answer-kept done.answer cid done.controller done.memory order
 
   front_command-kept : (at : Option ℕ) (blocks : ℕ) (c : Controller) (memory : ℕ → ℕ) → QueuesHave P Q c → AdminHas P Q (front_command at mapped blocks c memory)

@@ -4,7 +4,7 @@ use Rattle.nv_entry.specs.declared.status_code.StatusCode.{StatusCode}
 use Rattle.nv_model.specs.Dialogue.{Dialogue, End, Ask, and_then, in_memory}
 use Rattle.nv_model.specs.Memory.{bytes_from}
 use Rattle.nv_model.specs.Reading.{Reading, unless_faulty}
-use Rattle.nv_model.specs.Transcript.{ReadDone, fed, in_transcript, taken}
+use Rattle.nv_model.specs.Transcript.{ReadDone, fed, in_transcript, units_fed}
 
 -- ---- a dialogue that is fed
 
@@ -15,8 +15,8 @@ fed-nil (End value) = refl
 fed-nil (Ask addr unit left next) = refl
 
 -- and nothing is taken of them
-pub taken-nil : {A : Type 0} (d : Dialogue A) → taken d [] ≡ []
-unfolding taken
+pub taken-nil : {A : Type 0} (d : Dialogue A) → units_fed d [] ≡ []
+unfolding units_fed
 taken-nil (End value) = refl
 taken-nil (Ask addr unit left next) = refl
 
@@ -28,8 +28,8 @@ fed-and_then (Ask addr unit left next) f [] = refl
 fed-and_then (Ask addr unit left next) f (byte ∷ bytes) = fed-and_then (next (take unit (byte ∷ bytes))) f (drop unit (byte ∷ bytes))
 
 -- and takes the same units
-pub taken-and_then : {A B : Type 0} (d : Dialogue A) (f : A → B) (bytes : List ℕ) → taken (and_then d (λ v. End (f v))) bytes ≡ taken d bytes
-unfolding taken and_then
+pub taken-and_then : {A B : Type 0} (d : Dialogue A) (f : A → B) (bytes : List ℕ) → units_fed (and_then d (λ v. End (f v))) bytes ≡ units_fed d bytes
+unfolding units_fed and_then
 taken-and_then (End value) f bytes = refl
 taken-and_then (Ask addr unit left next) f [] = refl
 taken-and_then (Ask addr unit left next) f (byte ∷ bytes) = ap (λ units. take unit (byte ∷ bytes) ∷ units) (taken-and_then (next (take unit (byte ∷ bytes))) f (drop unit (byte ∷ bytes)))

@@ -18,7 +18,7 @@ use Rattle.nv_model.specs.Reading.{Reading, Faulty, TooLong, Spells, first_faili
 use Rattle.nv_model.specs.Judge.{judge}
 use Rattle.nv_model.specs.Queue.{SubmissionQueue, cqe_size, new_completion, new_submission, sqe_size}
 use Rattle.nv_model.specs.Controller.{Controller, Deletion, Posted, completion_queue, front, front_of, is_ready, post, submission_queue, took, with_completion, with_submission}
-use Rattle.nv_model.specs.Admin.{AdminStep, Done, Hidden, NothingToDo, QueueFull, Shown, Stepped, Structure, admin, admin_command, admin_ready, answered, checked, completes_to_checks, completion_id, create_completion, create_submission, delete_completion, delete_found, done_by, done_with_opcode, finish_deletion, front_command, has_io_queue, identified, identify_by, identify_reading, is_queue_full, new_queue_checks, number_of_queues, place_checks, queue_id, queue_size, queues_allocated, selector, set_features, shown, stepped, uses, with_answer, with_completion_posted}
+use Rattle.nv_model.specs.Admin.{AdminStep, AdminEffect, Hidden, NothingToDo, QueueFull, Shown, Stepped, Structure, admin, admin_command, admin_ready, answered, checked, completes_to_checks, completion_id, create_completion, create_submission, delete_completion, delete_found, done_by, done_with_opcode, finish_deletion, front_command, has_io_queue, identified, identify_by, identify_reading, is_queue_full, new_queue_checks, number_of_queues, place_checks, qid, qsize, queues_allocated, selector, set_features, shown, stepped, uses, with_answer, with_completion_posted}
 use Rattle.nv_model.specs.Limits.{most_requests}
 use Rattle.nv_model.specs.Laws.{AgreeAt, IsMappedPlace, IsSubmissionInPlace, IsCompletionInPlace, QueuesInPlace}
 use Rattle.nv_model.proofs.Agreeing.{bytes_from-agree, in_memory-agree}
@@ -98,7 +98,7 @@ module _ (mapped : ℕ → Bool) (memory other : ℕ → ℕ) (agree : (addr : �
 -- ---- admin commands
 
 -- two commands did the same, but for unmapped addresses
-pub record DoneAlike (mapped : ℕ → Bool) (done also : Done) : Type 0 where
+pub record DoneAlike (mapped : ℕ → Bool) (done also : AdminEffect) : Type 0 where
   pub controller : done.controller ≡ also.controller
   pub answer : done.answer ≡ also.answer
   pub memory : (addr : ℕ) → mapped addr ≡ true → done.memory addr ≡ also.memory addr
@@ -123,22 +123,22 @@ module _ (mapped : ℕ → Bool) (memory other : ℕ → ℕ) (agree : (addr : �
   create_submission-alike entry c =
       checked-alike
       (first_failing (
-      new_queue_checks (is_some (submission_queue c (queue_id entry))) entry ++ completes_to_checks c entry
+      new_queue_checks (is_some (submission_queue c (qid entry))) entry ++ completes_to_checks c entry
       ++ place_checks mapped sqe_size entry))
-      c (with_submission c (queue_id entry) (Some (new_submission (prp1_of entry) (queue_size entry + 1) (completion_id entry)))) 0
+      c (with_submission c (qid entry) (Some (new_submission (prp1_of entry) (qsize entry + 1) (completion_id entry)))) 0
 
   create_completion-alike : (entry : List ℕ) (c : Controller) → DoneAlike mapped (create_completion mapped entry c memory) (create_completion mapped entry c other)
   create_completion-alike entry c =
-      checked-alike (first_failing (new_queue_checks (is_some (completion_queue c (queue_id entry))) entry ++ place_checks mapped cqe_size entry))
-      c (with_completion c (queue_id entry) (Some (new_completion (prp1_of entry) (queue_size entry + 1)))) 0
+      checked-alike (first_failing (new_queue_checks (is_some (completion_queue c (qid entry))) entry ++ place_checks mapped cqe_size entry))
+      c (with_completion c (qid entry) (Some (new_completion (prp1_of entry) (qsize entry + 1)))) 0
 
   delete_completion-alike : (entry : List ℕ) (c : Controller) → DoneAlike mapped (delete_completion entry c memory) (delete_completion entry c other)
   delete_completion-alike entry c =
       checked-alike
       (first_failing (
-      (queue_id entry == 0 || is_none (completion_queue c (queue_id entry)), code.InvalidQueueIdentifier)
-      ∷ (list_any (uses (queue_id entry)) c.submission, code.InvalidQueueDeletion) ∷ []))
-      c (with_completion c (queue_id entry) None) 0
+      (qid entry == 0 || is_none (completion_queue c (qid entry)), code.InvalidQueueIdentifier)
+      ∷ (list_any (uses (qid entry)) c.submission, code.InvalidQueueDeletion) ∷ []))
+      c (with_completion c (qid entry) None) 0
 
   set_features-alike : (entry : List ℕ) (c : Controller) → DoneAlike mapped (set_features entry c memory) (set_features entry c other)
   set_features-alike entry c =
@@ -151,7 +151,7 @@ module _ (mapped : ℕ → Bool) (memory other : ℕ → ℕ) (agree : (addr : �
   delete_found-alike : (found : Option SubmissionQueue) (entry : List ℕ) (c : Controller) → DoneAlike mapped (delete_found found entry c memory) (delete_found found entry c other)
   delete_found-alike None entry c = same_memory c _
   delete_found-alike (Some q) entry c =
-      by_test_both (DoneAlike mapped) (slice_index c.taken (queue_id entry) == 0) _ _ _ _
+      by_test_both (DoneAlike mapped) (slice_index c.taken (qid entry) == 0) _ _ _ _
       (λ _. record { controller = refl; answer = refl; memory = agree }) (λ _. record { controller = refl; answer = refl; memory = agree })
 
   identified-alike : (bytes : List ℕ) (reading : Reading) (c : Controller) → DoneAlike mapped (identified bytes reading c memory) (identified bytes reading c other)
@@ -164,7 +164,7 @@ module _ (mapped : ℕ → Bool) (memory other : ℕ → ℕ) (agree : (addr : �
   identify_by-alike (Structure bytes) entry c = identified-alike bytes (identify_reading mapped entry) c
 
   done_by-alike : (opcode : AdminOpcode) (blocks : ℕ) (entry : List ℕ) (c : Controller) → DoneAlike mapped (done_by opcode mapped blocks entry c memory) (done_by opcode mapped blocks entry c other)
-  done_by-alike DeleteIoSubmissionQueue blocks entry c = by_test_both (DoneAlike mapped) (queue_id entry == 0) _ _ _ _ (λ _. same_memory c _) (λ _. delete_found-alike (submission_queue c (queue_id entry)) entry c)
+  done_by-alike DeleteIoSubmissionQueue blocks entry c = by_test_both (DoneAlike mapped) (qid entry == 0) _ _ _ _ (λ _. same_memory c _) (λ _. delete_found-alike (submission_queue c (qid entry)) entry c)
   done_by-alike CreateIoSubmissionQueue blocks entry c = create_submission-alike entry c
   done_by-alike GetLogPage blocks entry c = same_memory c _
   done_by-alike DeleteIoCompletionQueue blocks entry c = delete_completion-alike entry c
@@ -192,7 +192,7 @@ module _ (mapped : ℕ → Bool) (memory other : ℕ → ℕ) (agree : (addr : �
   with_answer-alike (Some answer) cid c = with_completion_posted-alike (post c 0 answer.0 cid answer.1)
 
 -- what a command did, answered
-stepped-alike : (mapped : ℕ → Bool) (done also : Done) (cid : ℕ) → DoneAlike mapped done also → AdminAlike mapped (stepped done cid) (stepped also cid)
+stepped-alike : (mapped : ℕ → Bool) (done also : AdminEffect) (cid : ℕ) → DoneAlike mapped done also → AdminAlike mapped (stepped done cid) (stepped also cid)
 stepped-alike mapped done also cid alike =
     subst (λ (a : Option (ℕ × StatusField)). AdminAlike mapped (with_answer done.answer cid done.controller done.memory) (with_answer a cid also.controller also.memory)) alike.answer
     (subst (λ (c : Controller). AdminAlike mapped (with_answer done.answer cid done.controller done.memory) (with_answer done.answer cid c also.memory)) alike.controller

@@ -4,7 +4,7 @@ use Rattle.std.proofs.lemmas.List.Elements.{All-head, All-tail, All-set, All-rep
 use Rattle.nv_entry.specs.Layout.{bits}
 use Rattle.nv_entry.specs.Status.{StatusField}
 use Rattle.nv_mem.specs.GuestMap.{everywhere}
-use Rattle.nv_model.specs.Queue.{SubmissionQueue, CompletionQueue, ahead, front_taken, is_full, new_completion, new_submission, posted, sqe_size, cqe_size}
+use Rattle.nv_model.specs.Queue.{SubmissionQueue, CompletionQueue, ahead, front_taken, is_full, new_completion, new_submission, after_post, sqe_size, cqe_size}
 use Rattle.nv_model.specs.Controller.{Controller, Posted, admin_completion_base, admin_completion_size, admin_register_written, admin_submission_base, admin_submission_size, base_fits, can_enable, cc_written, completion_queue, doorbell, enabled, head_rung, is_enabled, is_ready, no_queues, opening, post, post_from, post_to, queue_count, queue_of, ran_out, reg_write, reset, rung, running, size_fits, submission_queue, tail_rung, took, took_of, with_completion, with_submission}
 use Rattle.nv_model.specs.Laws.{QueuesHave}
 use Rattle.nv_model.proofs.Endings.{and-true}
@@ -43,7 +43,7 @@ pub record IsKept (mapped : ℕ → Bool) (P : SubmissionQueue → Type 0) (Q : 
   pub front_taken : (q : SubmissionQueue) → P q → P (front_taken q)
   pub tail_rung : (q : SubmissionQueue) (tail : ℕ) → tail < q.size → P q → P (record q { tail = tail })
   pub closing : (q : SubmissionQueue) → P q → P (record q { closing = true })
-  pub posted : (q : CompletionQueue) → Q q → Q (posted q)
+  pub posted : (q : CompletionQueue) → Q q → Q (after_post q)
   pub head_rung : (q : CompletionQueue) (head : ℕ) → head < q.size → Q q → Q (record q { head = head })
 
 no_queues-have : (Q : Type 0) (P : Q → Type 0) → All (λ o. IfSome o P) (no_queues {Q = Q})
@@ -176,8 +176,8 @@ module _ (mapped : ℕ → Bool) (P : SubmissionQueue → Type 0) (Q : Completio
   post_to-kept (Some cq) c q y dw0 cid st order is =
       let was = completion_queue-has c q.completes_to cq order is in
       by_test (HaveBehind P Q) (is_full cq.size cq.head cq.tail) _ _ (λ _. tt)
-      (λ _. QueuesHave-same (with_completion c q.completes_to (Some (posted cq))) _
-      (QueuesHave-with_completion c q.completes_to (Some (posted cq)) order (closed.posted cq was)) refl refl)
+      (λ _. QueuesHave-same (with_completion c q.completes_to (Some (after_post cq))) _
+      (QueuesHave-with_completion c q.completes_to (Some (after_post cq)) order (closed.posted cq was)) refl refl)
 
   post_from-kept : (found : Option SubmissionQueue) (c : Controller) (y dw0 cid : ℕ) (st : StatusField) → QueuesHave P Q c → HaveBehind P Q (post_from found c y dw0 cid st)
   post_from-kept None c y dw0 cid st order = tt
@@ -196,13 +196,13 @@ module _ (mapped : ℕ → Bool) (P : SubmissionQueue → Type 0) (Q : Completio
 -- where a completion is posted, its queue was not full, and holds one more behind it
 pub record IsPost (cq : CompletionQueue) (to : ℕ) (r : Posted) : Type 0 where
   pub had_room : is_full cq.size cq.head cq.tail ≡ false
-  pub behind : completion_queue r.controller to ≡ Some (posted cq)
+  pub behind : completion_queue r.controller to ≡ Some (after_post cq)
 
 post_to-posts : (c : Controller) (q : SubmissionQueue) (cq : CompletionQueue) (y dw0 cid : ℕ) (st : StatusField) → completion_queue c q.completes_to ≡ Some cq
     → IfSome (post_to (Some cq) c q y dw0 cid st) (IsPost cq q.completes_to)
 post_to-posts c q cq y dw0 cid st is =
     by_test (λ o. IfSome o (IsPost cq q.completes_to)) (is_full cq.size cq.head cq.tail) _ _ (λ _. tt)
-    (λ room. record { had_room = room; behind = queue_of-set c.completion_queues q.completes_to cq (posted cq) is })
+    (λ room. record { had_room = room; behind = queue_of-set c.completion_queues q.completes_to cq (after_post cq) is })
 
 pub post-posts : (c : Controller) (y dw0 cid : ℕ) (st : StatusField) (q : SubmissionQueue) (cq : CompletionQueue) (r : Posted)
     → submission_queue c y ≡ Some q → completion_queue c q.completes_to ≡ Some cq → post c y dw0 cid st ≡ Some r → IsPost cq q.completes_to r

@@ -14,7 +14,7 @@ use Rattle.nv_model.specs.Memory.{bytes_from}
 use Rattle.nv_model.specs.Reading.{Reading, Faulty, TooLong, Spells, first_failing}
 use Rattle.nv_model.specs.Queue.{SubmissionQueue, new_completion, new_submission, sqe_size}
 use Rattle.nv_model.specs.Controller.{Controller, Deletion, Posted, completion_queue, front, is_enabled, is_ready, post, submission_queue, took, took_of, with_submission}
-use Rattle.nv_model.specs.Admin.{AdminStep, Done, Hidden, NothingToDo, QueueFull, Shown, Stepped, Structure, admin, admin_command, admin_ready, answered, checked, completes_to_checks, completion_id, contiguous, create_completion, create_submission, delete_completion, delete_found, delete_submission, done_by, done_with_opcode, finish_deletion, front_command, identified, identify_by, identify_reading, is_queue_full, new_queue_checks, number_of_queues, place_checks, queue_id, queue_size, selector, shown, stepped, uses, with_answer, with_completion_posted}
+use Rattle.nv_model.specs.Admin.{AdminStep, AdminEffect, Hidden, NothingToDo, QueueFull, Shown, Stepped, Structure, admin, admin_command, admin_ready, answered, checked, completes_to_checks, completion_id, contiguous, create_completion, create_submission, delete_completion, delete_found, delete_submission, done_by, done_with_opcode, finish_deletion, front_command, identified, identify_by, identify_reading, is_queue_full, new_queue_checks, number_of_queues, place_checks, qid, qsize, selector, shown, stepped, uses, with_answer, with_completion_posted}
 use Rattle.nv_model.specs.Running.{GoTogether, IsTogether}
 use Rattle.nv_model.proofs.Endings.{and-true, first_failing-none, not-false}
 use Rattle.nv_model.proofs.QueuesKept.{by_test}
@@ -23,7 +23,7 @@ use Rattle.nv_model.proofs.TogetherKept.{IsBehind, IsPosted, front-may, post-tog
 use Rattle.nv_model.specs.Limits.{last_queue, most_requests, most_slots}
 
 -- behind an admin command: EN is still 1, and nothing was taken
-pub record IsDone (taken : List ℕ) (done : Done) : Type 0 where
+pub record IsDone (taken : List ℕ) (done : AdminEffect) : Type 0 where
   pub together : IsTogether done.controller
   pub same : done.controller.taken ≡ taken
   pub on : is_enabled done.controller ≡ true
@@ -54,9 +54,9 @@ none-some (Some a) is = refl
 new_queue_checks-behind : (there : Bool) (entry : List ℕ) (others : List (Bool × StatusCode)) → first_failing (new_queue_checks there entry ++ others) ≡ None → first_failing others ≡ None
 new_queue_checks-behind there entry others fine =
     let third : List (Bool × StatusCode) = (contiguous entry == 0, code.InvalidField) ∷ others in
-    let second : List (Bool × StatusCode) = (queue_size entry == 0 || nat_lt most_slots (queue_size entry + 1), code.InvalidQueueSize) ∷ third in
-    let one = (first_failing-none (queue_id entry == 0 || nat_lt last_queue (queue_id entry) || there) code.InvalidQueueIdentifier second fine).1 in
-    let two = (first_failing-none (queue_size entry == 0 || nat_lt most_slots (queue_size entry + 1)) code.InvalidQueueSize third one).1 in
+    let second : List (Bool × StatusCode) = (qsize entry == 0 || nat_lt most_slots (qsize entry + 1), code.InvalidQueueSize) ∷ third in
+    let one = (first_failing-none (qid entry == 0 || nat_lt last_queue (qid entry) || there) code.InvalidQueueIdentifier second fine).1 in
+    let two = (first_failing-none (qsize entry == 0 || nat_lt most_slots (qsize entry + 1)) code.InvalidQueueSize third one).1 in
     (first_failing-none (contiguous entry == 0) code.InvalidField others two).1
 
 completes_to_checks-there : (c : Controller) (entry : List ℕ) (others : List (Bool × StatusCode)) → first_failing (completes_to_checks c entry ++ others) ≡ None
@@ -73,18 +73,18 @@ module _ (mapped : ℕ → Bool) (entry : List ℕ) (c : Controller) (memory : �
   unchanged : (answer : Option (ℕ × StatusField)) (behind : ℕ → ℕ) → IsDone c.taken (record { controller = c; memory = behind; answer = answer })
   unchanged answer behind = record { together = g; same = refl; on = on }
 
-  checked-together : (o : Option StatusCode) (done : Done) → (o ≡ None → IsDone c.taken done) → IsDone c.taken (checked o c memory done)
+  checked-together : (o : Option StatusCode) (done : AdminEffect) → (o ≡ None → IsDone c.taken done) → IsDone c.taken (checked o c memory done)
   checked-together None done goes = goes refl
   checked-together (Some why) done goes = unchanged _ memory
 
   create_submission-together : IsDone c.taken (create_submission mapped entry c memory)
   create_submission-together =
       checked-together _ _ (λ fine.
-      let behind = new_queue_checks-behind (is_some (submission_queue c (queue_id entry))) entry (completes_to_checks c entry ++ place_checks mapped sqe_size entry) fine in
+      let behind = new_queue_checks-behind (is_some (submission_queue c (qid entry))) entry (completes_to_checks c entry ++ place_checks mapped sqe_size entry) fine in
       let there = completes_to_checks-there c entry (place_checks mapped sqe_size entry) behind in
       record {
-        together = submission-put (is_enabled c) c.ready c.submission c.completion_queues c.taken c.deletion on (queue_id entry)
-            (new_submission (prp1_of entry) (queue_size entry + 1) (completion_id entry)) there g;
+        together = submission-put (is_enabled c) c.ready c.submission c.completion_queues c.taken c.deletion on (qid entry)
+            (new_submission (prp1_of entry) (qsize entry + 1) (completion_id entry)) there g;
         same = refl;
         on = on;
       })
@@ -93,7 +93,7 @@ module _ (mapped : ℕ → Bool) (entry : List ℕ) (c : Controller) (memory : �
   create_completion-together =
       checked-together _ _ (λ fine.
       record {
-        together = completion-put (is_enabled c) c.ready c.submission c.completion_queues c.taken c.deletion on (queue_id entry) (new_completion (prp1_of entry) (queue_size entry + 1)) g;
+        together = completion-put (is_enabled c) c.ready c.submission c.completion_queues c.taken c.deletion on (qid entry) (new_completion (prp1_of entry) (qsize entry + 1)) g;
         same = refl;
         on = on;
       })
@@ -101,41 +101,41 @@ module _ (mapped : ℕ → Bool) (entry : List ℕ) (c : Controller) (memory : �
   delete_completion-together : IsDone c.taken (delete_completion entry c memory)
   delete_completion-together =
       checked-together _ _ (λ fine.
-      let second : List (Bool × StatusCode) = (list_any (uses (queue_id entry)) c.submission, code.InvalidQueueDeletion) ∷ [] in
-      let first = first_failing-none (queue_id entry == 0 || is_none (completion_queue c (queue_id entry))) code.InvalidQueueIdentifier second fine in
-      let io = not-zero (queue_id entry) (or-false (queue_id entry == 0) (is_none (completion_queue c (queue_id entry))) first.0).0 in
-      let unused = (first_failing-none (list_any (uses (queue_id entry)) c.submission) code.InvalidQueueDeletion [] first.1).0 in
+      let second : List (Bool × StatusCode) = (list_any (uses (qid entry)) c.submission, code.InvalidQueueDeletion) ∷ [] in
+      let first = first_failing-none (qid entry == 0 || is_none (completion_queue c (qid entry))) code.InvalidQueueIdentifier second fine in
+      let io = not-zero (qid entry) (or-false (qid entry == 0) (is_none (completion_queue c (qid entry))) first.0).0 in
+      let unused = (first_failing-none (list_any (uses (qid entry)) c.submission) code.InvalidQueueDeletion [] first.1).0 in
       record {
-        together = completion-gone (is_enabled c) c.ready c.submission c.completion_queues c.taken c.deletion on (queue_id entry) io unused g;
+        together = completion-gone (is_enabled c) c.ready c.submission c.completion_queues c.taken c.deletion on (qid entry) io unused g;
         same = refl;
         on = on;
       })
 
-  delete_found-together : (found : Option SubmissionQueue) → submission_queue c (queue_id entry) ≡ found → 0 < queue_id entry → IsDone c.taken (delete_found found entry c memory)
+  delete_found-together : (found : Option SubmissionQueue) → submission_queue c (qid entry) ≡ found → 0 < qid entry → IsDone c.taken (delete_found found entry c memory)
   delete_found-together None is io = unchanged _ memory
   delete_found-together (Some q) is io =
-      by_test (IsDone c.taken) (slice_index c.taken (queue_id entry) == 0) _ _
+      by_test (IsDone c.taken) (slice_index c.taken (qid entry) == 0) _ _
       (λ none. record {
-        together = subst (λ (d : Option Deletion). GoTogether (is_enabled c) c.ready (set c.submission (queue_id entry) None) c.completion_queues c.taken d) (sym idle)
-            (submission-gone (is_enabled c) c.ready c.submission c.completion_queues c.taken c.deletion on (queue_id entry) io (eqb-true (slice_index c.taken (queue_id entry)) 0 none) g);
+        together = subst (λ (d : Option Deletion). GoTogether (is_enabled c) c.ready (set c.submission (qid entry) None) c.completion_queues c.taken d) (sym idle)
+            (submission-gone (is_enabled c) c.ready c.submission c.completion_queues c.taken c.deletion on (qid entry) io (eqb-true (slice_index c.taken (qid entry)) 0 none) g);
         same = refl;
         on = on;
       })
       (λ _. record { together = closes q is io; same = refl; on = on })
     where
-      closes : (q : SubmissionQueue) → submission_queue c (queue_id entry) ≡ Some q → 0 < queue_id entry
-          → GoTogether (is_enabled c) c.ready (set c.submission (queue_id entry) (Some (record q { closing = true }))) c.completion_queues c.taken (Some (record { cid = cid_of entry; queue = queue_id entry }))
+      closes : (q : SubmissionQueue) → submission_queue c (qid entry) ≡ Some q → 0 < qid entry
+          → GoTogether (is_enabled c) c.ready (set c.submission (qid entry) (Some (record q { closing = true }))) c.completion_queues c.taken (Some (record { cid = cid_of entry; queue = qid entry }))
       closes q is io =
-          let completes = subst (λ o. IfSome o (λ (s : SubmissionQueue). IsSome (completion_queue c s.completes_to))) is (g.completes (queue_id entry)) in
-          let was : IsSome (submission_queue c (queue_id entry)) = subst (λ (o : Option SubmissionQueue). IsSome o) (sym is) refl in
-          deletion-put (is_enabled c) c.ready (set c.submission (queue_id entry) (Some (record q { closing = true }))) c.completion_queues c.taken c.deletion on
-          (record { cid = cid_of entry; queue = queue_id entry }) io (there-put c.submission (queue_id entry) (record q { closing = true }) (queue_id entry) was)
-          (submission-put (is_enabled c) c.ready c.submission c.completion_queues c.taken c.deletion on (queue_id entry) (record q { closing = true }) completes g)
+          let completes = subst (λ o. IfSome o (λ (s : SubmissionQueue). IsSome (completion_queue c s.completes_to))) is (g.completes (qid entry)) in
+          let was : IsSome (submission_queue c (qid entry)) = subst (λ (o : Option SubmissionQueue). IsSome o) (sym is) refl in
+          deletion-put (is_enabled c) c.ready (set c.submission (qid entry) (Some (record q { closing = true }))) c.completion_queues c.taken c.deletion on
+          (record { cid = cid_of entry; queue = qid entry }) io (there-put c.submission (qid entry) (record q { closing = true }) (qid entry) was)
+          (submission-put (is_enabled c) c.ready c.submission c.completion_queues c.taken c.deletion on (qid entry) (record q { closing = true }) completes g)
 
   delete_submission-together : IsDone c.taken (delete_submission entry c memory)
   delete_submission-together =
-      by_test (IsDone c.taken) (queue_id entry == 0) _ _ (λ _. unchanged _ memory)
-      (λ io. delete_found-together (submission_queue c (queue_id entry)) refl (not-zero (queue_id entry) io))
+      by_test (IsDone c.taken) (qid entry == 0) _ _ (λ _. unchanged _ memory)
+      (λ io. delete_found-together (submission_queue c (qid entry)) refl (not-zero (qid entry) io))
 
   identified-together : (bytes : List ℕ) (reading : Reading) → IsDone c.taken (identified bytes reading c memory)
   identified-together bytes (Spells pieces) = unchanged _ _
@@ -177,12 +177,12 @@ answer-together : (taken : List ℕ) (d : Controller) (o : Option Posted) (memor
 answer-together taken d None memory same is c was = tt
 answer-together taken d (Some r) memory same is c was = (is.0, is.1 ∙ same ∙ sym was)
 
-with_answer-together : (c : Controller) (done : Done) (answer : Option (ℕ × StatusField)) (cid : ℕ) → IsDone c.taken done → IsAdminBehind c (with_answer answer cid done.controller done.memory)
+with_answer-together : (c : Controller) (done : AdminEffect) (answer : Option (ℕ × StatusField)) (cid : ℕ) → IsDone c.taken done → IsAdminBehind c (with_answer answer cid done.controller done.memory)
 with_answer-together c done None cid is = (is.together, is.same)
 with_answer-together c done (Some answer) cid is =
     answer-together c.taken done.controller (post done.controller 0 answer.0 cid answer.1) done.memory is.same (post-together done.controller 0 answer.0 cid answer.1 is.on is.together) c refl
 
-stepped-together : (c : Controller) (done : Done) (cid : ℕ) → IsDone c.taken done → IsAdminBehind c (stepped done cid)
+stepped-together : (c : Controller) (done : AdminEffect) (cid : ℕ) → IsDone c.taken done → IsAdminBehind c (stepped done cid)
 stepped-together c done cid is = with_answer-together c done done.answer cid is
 
 -- what took changes

@@ -3,7 +3,7 @@ use Rattle.std.proofs.Common.{◌≡◌, ℕ, ◌+◌, ◌-◌, ◌/◌, ◌%◌
 use Rattle.std.proofs.lemmas.List.{length-set}
 use Rattle.nv_entry.specs.Layout.{bits}
 use Rattle.nv_entry.specs.Status.{StatusField}
-use Rattle.nv_model.specs.Queue.{SubmissionQueue, CompletionQueue, ahead, front_taken, is_full, new_completion, new_submission, posted}
+use Rattle.nv_model.specs.Queue.{SubmissionQueue, CompletionQueue, ahead, front_taken, is_full, new_completion, new_submission, after_post}
 use Rattle.nv_model.specs.Controller.{Controller, Deletion, Posted, admin_completion_base, admin_completion_size, admin_register_written, admin_submission_base, admin_submission_size, can_enable, cc_written, completion_queue, doorbell, front, front_of, head_rung, is_enabled, is_ready, opening, post, post_from, post_to, queue_count, queue_of, ran_out, reg_write, reset, rung, running, submission_queue, tail_rung, taken_less, taken_more, took, took_of}
 use Rattle.nv_model.specs.Running.{GoTogether, IsTogether}
 use Rattle.nv_model.proofs.Endings.{and-true}
@@ -238,9 +238,9 @@ post_to-together None c q y dw0 cid st on g = tt
 post_to-together (Some cq) c q y dw0 cid st on g =
     by_test (λ o. IfSome o (IsPosted c y)) (is_full cq.size cq.head cq.tail) _ _ (λ _. tt)
     (λ _. (
-      taken-put (is_enabled c) c.ready c.submission (set c.completion_queues q.completes_to (Some (posted cq))) c.taken c.deletion on (taken_less c y) (less-count c y g)
+      taken-put (is_enabled c) c.ready c.submission (set c.completion_queues q.completes_to (Some (after_post cq))) c.taken c.deletion on (taken_less c y) (less-count c y g)
           (λ z some. (g.taken_there on z (less-some c y z some), g.taken_ready z (less-some c y z some)))
-          (completion-put (is_enabled c) c.ready c.submission c.completion_queues c.taken c.deletion on q.completes_to (posted cq) g),
+          (completion-put (is_enabled c) c.ready c.submission c.completion_queues c.taken c.deletion on q.completes_to (after_post cq) g),
       refl,
       refl,
     ))

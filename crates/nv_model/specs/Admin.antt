@@ -23,7 +23,7 @@ use Rattle.nv_model.specs.Controller.{Controller, Deletion, Posted, completion_q
 use Rattle.nv_model.specs.Limits.{last_queue, most_requests, most_slots, page}
 
 -- what a command did: the controller and the guest's memory behind it, and the answer that is posted now, if one is: DW0 and status
-pub record Done : Type 0 where
+pub record AdminEffect : Type 0 where
   pub controller : Controller
   pub memory : ℕ → ℕ
   pub answer : Option (ℕ × StatusField)
@@ -31,12 +31,12 @@ pub record Done : Type 0 where
 -- ---- fields
 
 -- the queue that a command names: CDW10 bits 15:0
-abbrev pub queue_id : List ℕ → ℕ
-queue_id entry = bits (cdw_of 10 entry) 15 0
+abbrev pub qid : List ℕ → ℕ
+qid entry = bits (cdw_of 10 entry) 15 0
 
 -- the queue's size, counted from 0: CDW10 bits 31:16
-abbrev pub queue_size : List ℕ → ℕ
-queue_size entry = bits (cdw_of 10 entry) 31 16
+abbrev pub qsize : List ℕ → ℕ
+qsize entry = bits (cdw_of 10 entry) 31 16
 
 -- PC, physically contiguous: CDW11 bit 0
 abbrev pub contiguous : List ℕ → ℕ
@@ -53,19 +53,19 @@ selector entry = bits (cdw_of 10 entry) 7 0
 -- ---- answers
 
 -- refused: nothing changes
-abbrev pub refused : StatusCode → Controller → (ℕ → ℕ) → Done
+abbrev pub refused : StatusCode → Controller → (ℕ → ℕ) → AdminEffect
 refused why c memory = record { controller = c; memory = memory; answer = Some (0, refused_with why) }
 
 -- done, with this DW0 and this controller behind it
-abbrev pub answered : (dw0 : ℕ) → Controller → (ℕ → ℕ) → Done
+abbrev pub answered : (dw0 : ℕ) → Controller → (ℕ → ℕ) → AdminEffect
 answered dw0 c memory = record { controller = c; memory = memory; answer = Some (dw0, done_with code.Success) }
 
 -- done, and nothing is posted now
-abbrev pub unanswered : Controller → (ℕ → ℕ) → Done
+abbrev pub unanswered : Controller → (ℕ → ℕ) → AdminEffect
 unanswered c memory = record { controller = c; memory = memory; answer = None }
 
 -- the first check that fails refuses; where none does, this is done
-abbrev pub checked : Option StatusCode → Controller → (ℕ → ℕ) → Done → Done
+abbrev pub checked : Option StatusCode → Controller → (ℕ → ℕ) → AdminEffect → AdminEffect
 checked (Some why) c memory done = refused why c memory
 checked None c memory done = done
 
@@ -74,15 +74,15 @@ checked None c memory done = done
 -- the checks of a new queue's number, size and contiguity
 abbrev pub new_queue_checks : (there : Bool) → List ℕ → List (Bool × StatusCode)
 new_queue_checks there entry =
-    (queue_id entry == 0 || nat_lt last_queue (queue_id entry) || there, code.InvalidQueueIdentifier)
-    ∷ (queue_size entry == 0 || nat_lt most_slots (queue_size entry + 1), code.InvalidQueueSize)
+    (qid entry == 0 || nat_lt last_queue (qid entry) || there, code.InvalidQueueIdentifier)
+    ∷ (qsize entry == 0 || nat_lt most_slots (qsize entry + 1), code.InvalidQueueSize)
     ∷ (contiguous entry == 0, code.InvalidField) ∷ []
 
 -- the checks of a new queue's place, with slots of that many bytes
 abbrev pub place_checks : (ℕ → Bool) → (slot : ℕ) → List ℕ → List (Bool × StatusCode)
 place_checks mapped slot entry =
     (not (prp1_of entry % page == 0), code.PrpOffsetInvalid)
-    ∷ (not (everywhere mapped (prp1_of entry) (slot * (queue_size entry + 1))), code.DataTransferError) ∷ []
+    ∷ (not (everywhere mapped (prp1_of entry) (slot * (qsize entry + 1))), code.DataTransferError) ∷ []
 
 -- the checks of the completion queue that a new submission queue names
 abbrev pub completes_to_checks : Controller → List ℕ → List (Bool × StatusCode)
@@ -91,23 +91,23 @@ completes_to_checks c entry =
     ∷ (is_none (completion_queue c (completion_id entry)), code.CompletionQueueInvalid) ∷ []
 
 -- Create I/O Submission Queue
-abbrev pub create_submission : (ℕ → Bool) → List ℕ → Controller → (ℕ → ℕ) → Done
+abbrev pub create_submission : (ℕ → Bool) → List ℕ → Controller → (ℕ → ℕ) → AdminEffect
 create_submission mapped entry c memory =
     checked
     (first_failing (
-    new_queue_checks (is_some (submission_queue c (queue_id entry))) entry ++ completes_to_checks c entry
+    new_queue_checks (is_some (submission_queue c (qid entry))) entry ++ completes_to_checks c entry
     ++ place_checks mapped sqe_size entry))
     c memory
-    (answered 0 (with_submission c (queue_id entry) (Some (new_submission (prp1_of entry) (queue_size entry + 1) (completion_id entry)))) memory)
+    (answered 0 (with_submission c (qid entry) (Some (new_submission (prp1_of entry) (qsize entry + 1) (completion_id entry)))) memory)
 
 -- Create I/O Completion Queue
-abbrev pub create_completion : (ℕ → Bool) → List ℕ → Controller → (ℕ → ℕ) → Done
+abbrev pub create_completion : (ℕ → Bool) → List ℕ → Controller → (ℕ → ℕ) → AdminEffect
 create_completion mapped entry c memory =
     checked
     (first_failing (
-    new_queue_checks (is_some (completion_queue c (queue_id entry))) entry ++ place_checks mapped cqe_size entry))
+    new_queue_checks (is_some (completion_queue c (qid entry))) entry ++ place_checks mapped cqe_size entry))
     c memory
-    (answered 0 (with_completion c (queue_id entry) (Some (new_completion (prp1_of entry) (queue_size entry + 1)))) memory)
+    (answered 0 (with_completion c (qid entry) (Some (new_completion (prp1_of entry) (qsize entry + 1)))) memory)
 
 -- whether a submission queue uses that completion queue
 abbrev pub uses : ℕ → Option SubmissionQueue → Bool
@@ -115,29 +115,29 @@ uses y None = false
 uses y (Some q) = q.completes_to == y
 
 -- Delete I/O Completion Queue
-abbrev pub delete_completion : List ℕ → Controller → (ℕ → ℕ) → Done
+abbrev pub delete_completion : List ℕ → Controller → (ℕ → ℕ) → AdminEffect
 delete_completion entry c memory =
     checked
     (first_failing (
-    (queue_id entry == 0 || is_none (completion_queue c (queue_id entry)), code.InvalidQueueIdentifier)
-    ∷ (list_any (uses (queue_id entry)) c.submission, code.InvalidQueueDeletion) ∷ []))
-    c memory (answered 0 (with_completion c (queue_id entry) None) memory)
+    (qid entry == 0 || is_none (completion_queue c (qid entry)), code.InvalidQueueIdentifier)
+    ∷ (list_any (uses (qid entry)) c.submission, code.InvalidQueueDeletion) ∷ []))
+    c memory (answered 0 (with_completion c (qid entry) None) memory)
 
 -- a submission queue without taken commands goes; one with taken commands closes, its untaken entries are dropped, and its deletion
 -- waits for them
-abbrev pub delete_found : Option SubmissionQueue → List ℕ → Controller → (ℕ → ℕ) → Done
+abbrev pub delete_found : Option SubmissionQueue → List ℕ → Controller → (ℕ → ℕ) → AdminEffect
 delete_found None entry c memory = refused code.InvalidQueueIdentifier c memory
 delete_found (Some q) entry c memory =
-    if slice_index c.taken (queue_id entry) == 0 then answered 0 (with_submission c (queue_id entry) None) memory else
-    unanswered (record (with_submission c (queue_id entry) (Some (record q { closing = true }))) {
-      deletion = Some (record { cid = cid_of entry; queue = queue_id entry });
+    if slice_index c.taken (qid entry) == 0 then answered 0 (with_submission c (qid entry) None) memory else
+    unanswered (record (with_submission c (qid entry) (Some (record q { closing = true }))) {
+      deletion = Some (record { cid = cid_of entry; queue = qid entry });
     }) memory
 
 -- Delete I/O Submission Queue
-abbrev pub delete_submission : List ℕ → Controller → (ℕ → ℕ) → Done
+abbrev pub delete_submission : List ℕ → Controller → (ℕ → ℕ) → AdminEffect
 delete_submission entry c memory =
-    if queue_id entry == 0 then refused code.InvalidQueueIdentifier c memory
-    else delete_found (submission_queue c (queue_id entry)) entry c memory
+    if qid entry == 0 then refused code.InvalidQueueIdentifier c memory
+    else delete_found (submission_queue c (qid entry)) entry c memory
 
 -- ---- features and events
 
@@ -154,7 +154,7 @@ abbrev pub has_io_queue : Controller → Bool
 has_io_queue c = list_any is_some (drop 1 c.submission) || list_any is_some (drop 1 c.completion_queues)
 
 -- Set Features: no number of queues may be asked for once an I/O queue is there, and none of FFFFh
-abbrev pub set_features : List ℕ → Controller → (ℕ → ℕ) → Done
+abbrev pub set_features : List ℕ → Controller → (ℕ → ℕ) → AdminEffect
 set_features entry c memory =
     checked
     (first_failing (
@@ -164,12 +164,12 @@ set_features entry c memory =
     c memory (answered queues_allocated c memory)
 
 -- Get Features
-abbrev pub get_features : List ℕ → Controller → (ℕ → ℕ) → Done
+abbrev pub get_features : List ℕ → Controller → (ℕ → ℕ) → AdminEffect
 get_features entry c memory =
     if selector entry == number_of_queues then answered queues_allocated c memory else refused code.InvalidField c memory
 
 -- Asynchronous Event Request
-abbrev pub request_event : Controller → (ℕ → ℕ) → Done
+abbrev pub request_event : Controller → (ℕ → ℕ) → AdminEffect
 request_event c memory =
     if nat_lt c.held_requests most_requests then unanswered (record c { held_requests = c.held_requests + 1 }) memory
     else refused code.EventLimitExceeded c memory
@@ -205,7 +205,7 @@ abbrev pub active_structure : (above : ℕ) → List ℕ
 active_structure above = if above == 0 then structure ((0, number_bytes 4 1) ∷ []) else structure []
 
 -- the structure goes where the data pointer says
-abbrev pub identified : List ℕ → Reading → Controller → (ℕ → ℕ) → Done
+abbrev pub identified : List ℕ → Reading → Controller → (ℕ → ℕ) → AdminEffect
 identified bytes (Spells pieces) c memory = answered 0 c (scattered memory (places_of pieces) bytes)
 identified bytes (Faulty why) c memory = refused why c memory
 identified bytes TooLong c memory = refused code.InternalError c memory
@@ -230,17 +230,17 @@ shown blocks entry =
     else Hidden code.InvalidField
 
 -- Identify: refusals by CNS and NSID come before those by PRP
-abbrev pub identify_by : Shown → (ℕ → Bool) → List ℕ → Controller → (ℕ → ℕ) → Done
+abbrev pub identify_by : Shown → (ℕ → Bool) → List ℕ → Controller → (ℕ → ℕ) → AdminEffect
 identify_by (Hidden why) mapped entry c memory = refused why c memory
 identify_by (Structure bytes) mapped entry c memory = identified bytes (identify_reading mapped entry) c memory
 
-abbrev pub identify : (ℕ → Bool) → (blocks : ℕ) → List ℕ → Controller → (ℕ → ℕ) → Done
+abbrev pub identify : (ℕ → Bool) → (blocks : ℕ) → List ℕ → Controller → (ℕ → ℕ) → AdminEffect
 identify mapped blocks entry c memory = identify_by (shown blocks entry) mapped entry c memory
 
 -- ---- a command
 
 -- a command of this opcode; Abort never aborts
-abbrev pub done_by : AdminOpcode → (ℕ → Bool) → (blocks : ℕ) → List ℕ → Controller → (ℕ → ℕ) → Done
+abbrev pub done_by : AdminOpcode → (ℕ → Bool) → (blocks : ℕ) → List ℕ → Controller → (ℕ → ℕ) → AdminEffect
 done_by DeleteIoSubmissionQueue mapped blocks entry c memory = delete_submission entry c memory
 done_by CreateIoSubmissionQueue mapped blocks entry c memory = create_submission mapped entry c memory
 done_by GetLogPage mapped blocks entry c memory = refused code.InvalidLogPage c memory
@@ -253,13 +253,13 @@ done_by GetFeatures mapped blocks entry c memory = get_features entry c memory
 done_by AsynchronousEventRequest mapped blocks entry c memory = request_event c memory
 
 -- a command whose opcode, if it is one that is known, is this; admin commands use PRPs
-abbrev pub done_with_opcode : Option AdminOpcode → (ℕ → Bool) → (blocks : ℕ) → List ℕ → Controller → (ℕ → ℕ) → Done
+abbrev pub done_with_opcode : Option AdminOpcode → (ℕ → Bool) → (blocks : ℕ) → List ℕ → Controller → (ℕ → ℕ) → AdminEffect
 done_with_opcode None mapped blocks entry c memory = refused code.InvalidOpcode c memory
 done_with_opcode (Some opcode) mapped blocks entry c memory =
     if psdt_of entry == 0 then done_by opcode mapped blocks entry c memory else refused code.InvalidField c memory
 
 -- an admin command of 64 bytes
-unfoldable pub admin_command : (ℕ → Bool) → (blocks : ℕ) → List ℕ → Controller → (ℕ → ℕ) → Done
+unfoldable pub admin_command : (ℕ → Bool) → (blocks : ℕ) → List ℕ → Controller → (ℕ → ℕ) → AdminEffect
 admin_command mapped blocks entry c memory =
     if fuse_of entry == 0 then done_with_opcode (admin_opcode (opcode_of entry)) mapped blocks entry c memory
     else refused code.InvalidField c memory
@@ -287,7 +287,7 @@ abbrev pub with_answer : Option (ℕ × StatusField) → (cid : ℕ) → Control
 with_answer None cid c memory = Stepped c memory
 with_answer (Some answer) cid c memory = with_completion_posted (post c 0 answer.0 cid answer.1) memory
 
-abbrev pub stepped : Done → (cid : ℕ) → AdminStep
+abbrev pub stepped : AdminEffect → (cid : ℕ) → AdminStep
 stepped done cid = with_answer done.answer cid done.controller done.memory
 
 -- the command at the front of the admin queue, where one is

@@ -6,7 +6,7 @@ use Rattle.nv_entry.specs.Layout.{bits}
 use Rattle.nv_entry.specs.Status.{StatusField, bit}
 use Rattle.nv_entry.specs.Completion.{completion}
 use Rattle.nv_mem.specs.GuestMap.{everywhere}
-use Rattle.nv_model.specs.Queue.{SubmissionQueue, CompletionQueue, ahead, cqe_size, front_taken, is_empty, is_full, new_completion, new_submission, posted, sqe_size}
+use Rattle.nv_model.specs.Queue.{SubmissionQueue, CompletionQueue, ahead, cqe_size, front_taken, is_empty, is_full, new_completion, new_submission, after_post, sqe_size}
 use Rattle.nv_model.specs.Limits.{last_queue, most_slots, page}
 
 -- a deletion of an I/O submission queue that waits for the queue's taken commands
@@ -261,7 +261,7 @@ post_to (Some cq) c q y dw0 cid st =
     Some (record {
       addr = cq.base + cqe_size * cq.tail;
       entry = completion dw0 q.head y cid cq.phase st;
-      controller = record (with_completion c q.completes_to (Some (posted cq))) { taken = taken_less c y };
+      controller = record (with_completion c q.completes_to (Some (after_post cq))) { taken = taken_less c y };
     })
 
 abbrev pub post_from : Option SubmissionQueue → Controller → (y dw0 cid : ℕ) → StatusField → Option Posted

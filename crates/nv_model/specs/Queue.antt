@@ -64,8 +64,8 @@ abbrev pub front_taken : SubmissionQueue → SubmissionQueue
 front_taken q = record q { head = next_slot q.size q.head }
 
 -- one more completion is posted; at the wrap the phase tag is inverted
-abbrev pub posted : CompletionQueue → CompletionQueue
-posted q = record q {
+abbrev pub after_post : CompletionQueue → CompletionQueue
+after_post q = record q {
   tail = next_slot q.size q.tail;
   phase = (if next_slot q.size q.tail == 0 then not q.phase else q.phase);
 }

@@ -48,8 +48,8 @@ fed (Ask addr unit left next) [] = Ask addr unit left next
 fed (Ask addr unit left next) (byte ∷ bytes) = fed (next (take unit (byte ∷ bytes))) (drop unit (byte ∷ bytes))
 
 -- the units that it takes of them
-unfoldable pub taken : {A : Type 0} → Dialogue A → List ℕ → List (List ℕ)
-taken (End value) bytes = []
-taken (Ask addr unit left next) [] = []
-taken (Ask addr unit left next) (byte ∷ bytes) =
-    take unit (byte ∷ bytes) ∷ taken (next (take unit (byte ∷ bytes))) (drop unit (byte ∷ bytes))
+unfoldable pub units_fed : {A : Type 0} → Dialogue A → List ℕ → List (List ℕ)
+units_fed (End value) bytes = []
+units_fed (Ask addr unit left next) [] = []
+units_fed (Ask addr unit left next) (byte ∷ bytes) =
+    take unit (byte ∷ bytes) ∷ units_fed (next (take unit (byte ∷ bytes))) (drop unit (byte ∷ bytes))

@@ -13,7 +13,7 @@ use Rattle.nv_mem.specs.declared.piece.Piece.TheVariants as piece
 use Rattle.nv_mem.specs.declared.region.Region.{Region}
 use Rattle.nv_mem.proofs.Counts.{AllMapped-tested}
 use Rattle.nv_mem.proofs.PlaceLists.{length-places_of}
-use Rattle.nv_mem.proofs.Images.{host_of-high, IsRun-inside}
+use Rattle.nv_mem.proofs.Images.{host_of-high, IsContiguous-inside}
 use Rattle.nv_model.specs.Laws.{IsMappedPiece}
 use Rattle.nv_prp.specs.Fits.{fit_behind, host_address, host_addresses, hosts_of, is_run, may_follow, places_fit_behind}
 
@@ -126,7 +126,7 @@ hosts_of-none regions addr len rest none = rw none refl
 
 -- a run that is there ends in the host
 pub run-inside : (m : Mapping) (addr len host n : ℕ) → IsSound m → IsLongestRun m.regions addr len host n → host + n ≤ m.host_len
-run-inside m addr len host n sound longest = IsRun-inside m.host_len m.regions addr host n sound.inside longest.run
+run-inside m addr len host n sound longest = IsContiguous-inside m.host_len m.regions addr host n sound.inside longest.run
 
 -- ---- piece by piece
 

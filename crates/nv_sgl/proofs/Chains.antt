@@ -8,7 +8,7 @@ use Rattle.nv_mem.specs.declared.piece.Piece.{Piece}
 use Rattle.nv_model.specs.Sgl.{pieces_by}
 use Rattle.nv_sgl.specs.Chain.{begins_array, grown_by, pieces_in, pieces_of}
 use Rattle.nv_sgl.specs.Cursor.{reading_from, ExtendsChain, ReadsPart}
-use Rattle.nv_model.specs.Transcript.{fed, taken}
+use Rattle.nv_model.specs.Transcript.{fed, units_fed}
 use Rattle.nv_sgl.specs.declared.cursor.Cursor.{Cursor}
 
 -- the newest array's pieces come last
@@ -33,7 +33,7 @@ ExtendsChain-more mapped dest from bytes array older to these more reads = recor
   dialogue = reads.dialogue (pieces_in dest older);
   chain =
       ap (λ (ds : List (List ℕ)). ds ∷ older) (reads.blocks (pieces_in dest older))
-      ∙ ap (λ (b : Bool). grown_by b (array ∷ older) (taken (reading_from mapped dest from (pieces_in dest (array ∷ older))) bytes)) (sym more);
+      ∙ ap (λ (b : Bool). grown_by b (array ∷ older) (units_fed (reading_from mapped dest from (pieces_in dest (array ∷ older))) bytes)) (sym more);
   total =
       let those_all = total_len-cons dest array older in
       let these_all = total_len-cons dest these older in
@@ -52,8 +52,8 @@ ExtendsChain-first mapped dest from bytes old to these first reads =
           reads.dialogue (pieces_in dest old)
           ∙ ap (λ (ps : List Piece). fed (reading_from mapped dest from ps) bytes) before;
       chain =
-          ap (λ (ds : List (List ℕ)). ds ∷ old) (reads.blocks (pieces_in dest old) ∙ ap (λ (ps : List Piece). taken (reading_from mapped dest from ps) bytes) before)
-          ∙ ap (λ (b : Bool). grown_by b old (taken (reading_from mapped dest from (pieces_in dest old)) bytes)) (sym first);
+          ap (λ (ds : List (List ℕ)). ds ∷ old) (reads.blocks (pieces_in dest old) ∙ ap (λ (ps : List Piece). units_fed (reading_from mapped dest from ps) bytes) before)
+          ∙ ap (λ (b : Bool). grown_by b old (units_fed (reading_from mapped dest from (pieces_in dest old)) bytes)) (sym first);
       total =
           let none : total_len (pieces_of dest []) ≡ 0 = ap total_len (pieces_of-nil dest) in
           let these_all = total_len-cons dest these old in

@@ -9,7 +9,7 @@ use Rattle.nv_model.specs.Dialogue.{Dialogue, End, Ask, and_then}
 use Rattle.nv_model.specs.Reading.{Faulty, TooLong, Spells}
 use Rattle.nv_model.specs.Sgl.{read_array}
 use Rattle.nv_sgl.specs.Chain.{begins_array, grown, pieces_in, pieces_of}
-use Rattle.nv_model.specs.Transcript.{fed, taken}
+use Rattle.nv_model.specs.Transcript.{fed, units_fed}
 use Rattle.nv_sgl.specs.Parse.{Parse, dialogue_of, list_ahead}
 use Rattle.nv_model.specs.Want.{want_of}
 use Rattle.nv_model.specs.declared.want.Want.TheVariants as want
@@ -49,8 +49,8 @@ fed_behind_its_end : fed (fed twice (1 ∷ 2 ∷ 3 ∷ 4 ∷ [])) (5 ∷ 6 ∷ [
 unfolding fed
 fed_behind_its_end = refl
 
-taken_whole : taken twice (1 ∷ 2 ∷ 3 ∷ 4 ∷ 5 ∷ 6 ∷ []) ≡ (1 ∷ 2 ∷ []) ∷ (3 ∷ 4 ∷ []) ∷ []
-unfolding taken
+taken_whole : units_fed twice (1 ∷ 2 ∷ 3 ∷ 4 ∷ 5 ∷ 6 ∷ []) ≡ (1 ∷ 2 ∷ []) ∷ (3 ∷ 4 ∷ []) ∷ []
+unfolding units_fed
 taken_whole = refl
 
 -- ---- chains
@@ -128,6 +128,6 @@ fault_at_the_limit : fed (dialogue_of (parse 2 128)) (block 0x30 ++ descriptor 0
 unfolding dialogue_of list_ahead and_then read_array fed everywhere pieces_in pieces_of bits dword number_at qword
 fault_at_the_limit = refl
 
-none_behind_the_fault : taken (dialogue_of (parse 1023 128)) (descriptor 0x40 0 0 ++ block 0x30) ≡ descriptor 0x40 0 0 ∷ []
-unfolding dialogue_of list_ahead and_then read_array taken everywhere pieces_in pieces_of bits dword number_at qword
+none_behind_the_fault : units_fed (dialogue_of (parse 1023 128)) (descriptor 0x40 0 0 ++ block 0x30) ≡ descriptor 0x40 0 0 ∷ []
+unfolding dialogue_of list_ahead and_then read_array units_fed everywhere pieces_in pieces_of bits dword number_at qword
 none_behind_the_fault = refl

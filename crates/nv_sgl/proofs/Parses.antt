@@ -16,7 +16,7 @@ use Rattle.nv_model.specs.Sgl.{behind_own, pieces_by, read_array, read_descripto
 use Rattle.nv_model.specs.Transcript.{part}
 use Rattle.nv_sgl.specs.Chain.{grown, pieces_in, pieces_of}
 use Rattle.nv_sgl.specs.Cursor.{reading_from, ExtendsChain, parse_at, IsParse, StandsBehind}
-use Rattle.nv_model.specs.Transcript.{fed, taken}
+use Rattle.nv_model.specs.Transcript.{fed, units_fed}
 use Rattle.nv_sgl.specs.Parse.{Parse, dialogue_of, list_ahead}
 use Rattle.nv_model.specs.Want.{want_of}
 use Rattle.nv_sgl.specs.declared.cursor.Cursor.{Cursor}
@@ -155,7 +155,7 @@ dialogue_of-fed regions dest need from to bytes old new extends =
     ∙ sym (fed-and_then (reading_from (mapped regions) dest from (pieces_in dest old)) (sized need) bytes)
 
 -- and keeps the descriptors that its dialogue takes
-pub grown-fed : (regions : List Region) (dest : Bool) (need : ℕ) (from to : Cursor) (bytes : List ℕ) (old new : List (List (List ℕ))) → ExtendsChain (mapped regions) dest from bytes old to new → new ≡ grown old (taken (dialogue_of (parse_at regions dest need from old)) bytes)
+pub grown-fed : (regions : List Region) (dest : Bool) (need : ℕ) (from to : Cursor) (bytes : List ℕ) (old new : List (List (List ℕ))) → ExtendsChain (mapped regions) dest from bytes old to new → new ≡ grown old (units_fed (dialogue_of (parse_at regions dest need from old)) bytes)
 unfolding dialogue_of list_ahead reading_from
 grown-fed regions dest need from to bytes old new extends =
     extends.chain

@@ -12,7 +12,7 @@ use Rattle.nv_model.specs.Reading.{Reading, unless_faulty}
 use Rattle.nv_model.specs.Sgl.{Array, array_by, fault_by, pieces_by, read_array, read_descriptor}
 use Rattle.nv_sgl.specs.Chain.{pieces_of}
 use Rattle.nv_sgl.specs.Cursor.{array_at, is_asking, reading_from, IsInRange, ReadsPart, StandsBehind}
-use Rattle.nv_model.specs.Transcript.{fed, taken}
+use Rattle.nv_model.specs.Transcript.{fed, units_fed}
 use Rattle.nv_sgl.specs.declared.cursor.Cursor.{Cursor}
 use Rattle.nv_model.proofs.Feedings.{fed-nil, taken-nil}
 
@@ -39,8 +39,8 @@ unfolding fed read_array
 read_array-fed mapped dest budget left from by_last before byte bytes = refl
 
 -- and takes it
-read_array-taken : (mapped : ℕ → Bool) (dest : Bool) (budget left from : ℕ) (by_last : Bool) (before : List Piece) (byte : ℕ) (bytes : List ℕ) → taken (read_array mapped dest (suc budget) (suc left) from by_last before) (byte ∷ bytes) ≡ take 16 (byte ∷ bytes) ∷ taken (read_descriptor mapped dest (record { from = from + 16; left = left; by_last = by_last }) before (λ a ps. read_array mapped dest budget a.left a.from a.by_last ps) (take 16 (byte ∷ bytes))) (drop 16 (byte ∷ bytes))
-unfolding taken read_array
+read_array-taken : (mapped : ℕ → Bool) (dest : Bool) (budget left from : ℕ) (by_last : Bool) (before : List Piece) (byte : ℕ) (bytes : List ℕ) → units_fed (read_array mapped dest (suc budget) (suc left) from by_last before) (byte ∷ bytes) ≡ take 16 (byte ∷ bytes) ∷ units_fed (read_descriptor mapped dest (record { from = from + 16; left = left; by_last = by_last }) before (λ a ps. read_array mapped dest budget a.left a.from a.by_last ps) (take 16 (byte ∷ bytes))) (drop 16 (byte ∷ bytes))
+unfolding units_fed read_array
 read_array-taken mapped dest budget left from by_last before byte bytes = refl
 
 -- from a cursor that asks, the next descriptor leads to the cursor behind it
@@ -51,17 +51,17 @@ reading_from-fed mapped dest now next before byte bytes sound left budget behind
     (read_array-fed mapped dest (now.budget - 1) (now.left - 1) now.from now.by_last before byte bytes
     ∙ ap (λ (d : Dialogue Reading). fed d (drop 16 (byte ∷ bytes))) (sym (reading_from-behind mapped dest (past now) (take 16 (byte ∷ bytes)) next before behind)))
 
-reading_from-taken : (mapped : ℕ → Bool) (dest : Bool) (now next : Cursor) (before : List Piece) (byte : ℕ) (bytes : List ℕ) → now.fault ≡ None → now.left ≡ suc (now.left - 1) → now.budget ≡ suc (now.budget - 1) → StandsBehind mapped dest (past now) (take 16 (byte ∷ bytes)) next → taken (reading_from mapped dest now before) (byte ∷ bytes) ≡ take 16 (byte ∷ bytes) ∷ taken (reading_from mapped dest next (before ++ pieces_by (kind_of (take 16 (byte ∷ bytes))) dest (take 16 (byte ∷ bytes)))) (drop 16 (byte ∷ bytes))
+reading_from-taken : (mapped : ℕ → Bool) (dest : Bool) (now next : Cursor) (before : List Piece) (byte : ℕ) (bytes : List ℕ) → now.fault ≡ None → now.left ≡ suc (now.left - 1) → now.budget ≡ suc (now.budget - 1) → StandsBehind mapped dest (past now) (take 16 (byte ∷ bytes)) next → units_fed (reading_from mapped dest now before) (byte ∷ bytes) ≡ take 16 (byte ∷ bytes) ∷ units_fed (reading_from mapped dest next (before ++ pieces_by (kind_of (take 16 (byte ∷ bytes))) dest (take 16 (byte ∷ bytes)))) (drop 16 (byte ∷ bytes))
 unfolding reading_from
 reading_from-taken mapped dest now next before byte bytes sound left budget behind =
     rw (sound, left, budget)
     (read_array-taken mapped dest (now.budget - 1) (now.left - 1) now.from now.by_last before byte bytes
-    ∙ ap (λ (d : Dialogue Reading). take 16 (byte ∷ bytes) ∷ taken d (drop 16 (byte ∷ bytes))) (sym (reading_from-behind mapped dest (past now) (take 16 (byte ∷ bytes)) next before behind)))
+    ∙ ap (λ (d : Dialogue Reading). take 16 (byte ∷ bytes) ∷ units_fed d (drop 16 (byte ∷ bytes))) (sym (reading_from-behind mapped dest (past now) (take 16 (byte ∷ bytes)) next before behind)))
 
 -- nothing is asked: it has ended
 pub record HasEnded (d : Dialogue Reading) (bytes : List ℕ) : Type 0 where
   pub fed : fed d bytes ≡ d
-  pub taken : taken d bytes ≡ []
+  pub taken : units_fed d bytes ≡ []
 
 -- these tests hold
 not_asking : (left budget : ℕ) → (true && nat_lt 0 (suc left) && nat_lt 0 (suc budget)) ≡ false → ⊥
@@ -78,7 +78,7 @@ asks_by (Some code) left budget is = absurd (cc)
 asks_by None left budget is = record { sound = refl; more = grind (arith, nat_tests); may = grind (arith, nat_tests) }
 
 ended_by : (mapped : ℕ → Bool) (dest : Bool) (fault : Option StatusCode) (budget left from : ℕ) (by_last : Bool) (before : List Piece) (bytes : List ℕ) → (is_none fault && nat_lt 0 left && nat_lt 0 budget) ≡ false → HasEnded (unless_faulty fault (read_array mapped dest budget left from by_last before)) bytes
-unfolding fed taken read_array
+unfolding fed units_fed read_array
 ended_by mapped dest (Some code) budget left from by_last before bytes is = record { fed = refl; taken = refl }
 ended_by mapped dest None budget zero from by_last before bytes is = record { fed = refl; taken = refl }
 ended_by mapped dest None zero (suc left) from by_last before bytes is = record { fed = refl; taken = refl }
@@ -91,7 +91,7 @@ ended mapped dest c before bytes is = ended_by mapped dest c.fault c.budget c.le
 -- how far a part was read: what is left of it leads from here to where the whole leads from the start
 pub record Progress (mapped : ℕ → Bool) (dest : Bool) (start : Cursor) (bytes : List ℕ) (those : List (List ℕ)) (now : Cursor) (rest : List ℕ) (these : List (List ℕ)) : Type 0 where
   pub dialogue : (before : List Piece) → fed (reading_from mapped dest now (before ++ pieces_of dest these)) rest ≡ fed (reading_from mapped dest start (before ++ pieces_of dest those)) bytes
-  pub blocks : (before : List Piece) → these ++ taken (reading_from mapped dest now (before ++ pieces_of dest these)) rest ≡ those ++ taken (reading_from mapped dest start (before ++ pieces_of dest those)) bytes
+  pub blocks : (before : List Piece) → these ++ units_fed (reading_from mapped dest now (before ++ pieces_of dest these)) rest ≡ those ++ units_fed (reading_from mapped dest start (before ++ pieces_of dest those)) bytes
   pub total : now.total + total_len (pieces_of dest those) ≡ start.total + total_len (pieces_of dest these)
   pub in_range : IsInRange now
   pub whole : length rest % 16 ≡ 0
@@ -119,8 +119,8 @@ Progress-step mapped dest start bytes those now (byte ∷ rest) these next progr
           ∙ sym (reading_from-fed mapped dest now next (before ++ pieces_of dest these) byte rest asks.sound asks.more asks.may behind)
           ∙ progress.dialogue before;
       blocks = λ before.
-          append_assoc these (d ∷ []) (taken (reading_from mapped dest next (before ++ pieces_of dest (these ++ d ∷ []))) tail)
-          ∙ ap (λ (ps : List Piece). these ++ d ∷ taken (reading_from mapped dest next ps) tail) (pieces_of-more dest before these d)
+          append_assoc these (d ∷ []) (units_fed (reading_from mapped dest next (before ++ pieces_of dest (these ++ d ∷ []))) tail)
+          ∙ ap (λ (ps : List Piece). these ++ d ∷ units_fed (reading_from mapped dest next ps) tail) (pieces_of-more dest before these d)
           ∙ ap (λ (ds : List (List ℕ)). these ++ ds) (sym (reading_from-taken mapped dest now next (before ++ pieces_of dest these) byte rest asks.sound asks.more asks.may behind))
           ∙ progress.blocks before;
       total =

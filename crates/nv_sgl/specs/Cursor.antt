@@ -9,7 +9,7 @@ use Rattle.nv_model.specs.Dialogue.{Dialogue}
 use Rattle.nv_model.specs.Reading.{Reading, unless_faulty}
 use Rattle.nv_model.specs.Sgl.{Array, array_by, fault_by, pieces_by, read_array}
 use Rattle.nv_sgl.specs.Chain.{grown, pieces_in, pieces_of}
-use Rattle.nv_model.specs.Transcript.{fed, taken}
+use Rattle.nv_model.specs.Transcript.{fed, units_fed}
 use Rattle.nv_sgl.specs.Parse.{Parse}
 use Rattle.nv_sgl.specs.declared.cursor.Cursor.{Cursor}
 
@@ -40,14 +40,14 @@ pub record StandsBehind (mapped : ℕ → Bool) (dest : Bool) (rest : Cursor) (d
 -- the bytes led from the one cursor to the other, and the descriptors that were taken of them from those to these
 pub record ReadsPart (mapped : ℕ → Bool) (dest : Bool) (from : Cursor) (bytes : List ℕ) (those : List (List ℕ)) (to : Cursor) (these : List (List ℕ)) : Type 0 where
   pub dialogue : (before : List Piece) → reading_from mapped dest to (before ++ pieces_of dest these) ≡ fed (reading_from mapped dest from (before ++ pieces_of dest those)) bytes
-  pub blocks : (before : List Piece) → these ≡ those ++ taken (reading_from mapped dest from (before ++ pieces_of dest those)) bytes
+  pub blocks : (before : List Piece) → these ≡ those ++ units_fed (reading_from mapped dest from (before ++ pieces_of dest those)) bytes
   pub total : to.total + total_len (pieces_of dest those) ≡ from.total + total_len (pieces_of dest these)
   pub in_range : IsInRange to
 
 -- the same for the whole chain
 pub record ExtendsChain (mapped : ℕ → Bool) (dest : Bool) (from : Cursor) (bytes : List ℕ) (old : List (List (List ℕ))) (to : Cursor) (new : List (List (List ℕ))) : Type 0 where
   pub dialogue : reading_from mapped dest to (pieces_in dest new) ≡ fed (reading_from mapped dest from (pieces_in dest old)) bytes
-  pub chain : new ≡ grown old (taken (reading_from mapped dest from (pieces_in dest old)) bytes)
+  pub chain : new ≡ grown old (units_fed (reading_from mapped dest from (pieces_in dest old)) bytes)
   pub total : to.total + total_len (pieces_in dest old) ≡ from.total + total_len (pieces_in dest new)
   pub in_range : IsInRange to
 

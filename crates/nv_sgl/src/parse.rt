@@ -44,7 +44,7 @@ impl<'a, A: Allocator + Clone> Model for SglParse<'a, A> {
 impl<'a, A: Allocator + Clone> SglParse<'a, A> {
     ghost use Rattle.nv_sgl.specs.Parse.{dialogue_of};
     ghost use Rattle.nv_sgl.specs.Chain.{grown};
-    ghost use Rattle.nv_model.specs.Transcript.{fed, taken};
+    ghost use Rattle.nv_model.specs.Transcript.{fed, units_fed};
     ghost use Rattle.nv_model.specs.Want.{want_of};
 
     /// A parse of the list of a command's own descriptor `first`, for a transfer of `need` bytes. `dest` says whether the buffer
@@ -137,7 +137,7 @@ impl<'a, A: Allocator + Clone> SglParse<'a, A> {
     pub fn feed(&mut self, bytes: &[u8]) -> Result<(), NoMemory>
         requires { (addr : ℕ) × (want_of (dialogue_of self.old) ≡ Want.Read addr (length bytes.now)) }
         ensures dialogue { OnOk result (dialogue_of self.new ≡ fed (dialogue_of self.old) bytes.now) }
-        ensures chain { OnOk result (self.new.chain ≡ grown self.old.chain (taken (dialogue_of self.old) bytes.now)) }
+        ensures chain { OnOk result (self.new.chain ≡ grown self.old.chain (units_fed (dialogue_of self.old) bytes.now)) }
         ensures err { OnErr result (self.new ≡ self.old) }
     {
         self.cursor = self.chain.read(self.map, self.dest, self.cursor, bytes)?;

@@ -1,7 +1,7 @@
 //! A controller's queues stay in order, and hold one entry less than they have slots at most.
 ghost use Rattle.std.specs.Prelude.{◌≡◌, ℕ, ◌+◌, ◌-◌, ◌<◌, ◌≤◌, Bool, true, false, List, Some};
 ghost use Rattle.nv_entry.specs.Status.{StatusField};
-ghost use Rattle.nv_model.specs.Queue.{SubmissionQueue, CompletionQueue, ahead, front_taken, is_full, posted, unacknowledged, waiting};
+ghost use Rattle.nv_model.specs.Queue.{SubmissionQueue, CompletionQueue, ahead, front_taken, is_full, after_post, unacknowledged, waiting};
 ghost use Rattle.nv_model.specs.Controller.{Controller, Posted, completion_queue, doorbell, front, head_rung, opening, post, ran_out, reg_write, submission_queue, took};
 ghost use Rattle.nv_model.specs.Admin.{Stepped, admin};
 ghost use Rattle.nv_model.specs.Private.{Private, Run, Shape, Step, run_of, start};
@@ -59,11 +59,11 @@ pub fn a_post_raises_what_is_unacknowledged()
         is_full cq.size cq.head cq.tail ≡ false }
     ensures behind { (c : Controller) (y dw0 cid : ℕ) (st : StatusField) (q : SubmissionQueue) (cq : CompletionQueue) (r : Posted) →
         submission_queue c y ≡ Some q → completion_queue c q.completes_to ≡ Some cq → post c y dw0 cid st ≡ Some r →
-        completion_queue r.controller q.completes_to ≡ Some (posted cq) }
+        completion_queue r.controller q.completes_to ≡ Some (after_post cq) }
     ensures one_more { (c : Controller) (y dw0 cid : ℕ) (st : StatusField) (q : SubmissionQueue) (cq : CompletionQueue) (r : Posted) →
         QueuesInOrder c →
         submission_queue c y ≡ Some q → completion_queue c q.completes_to ≡ Some cq → post c y dw0 cid st ≡ Some r →
-        unacknowledged (posted cq) ≡ unacknowledged cq + 1 }
+        unacknowledged (after_post cq) ≡ unacknowledged cq + 1 }
     ensures still_room { (c : Controller) (y dw0 cid : ℕ) (st : StatusField) (q : SubmissionQueue) (cq : CompletionQueue) (r : Posted) →
         QueuesInOrder c →
         submission_queue c y ≡ Some q → completion_queue c q.completes_to ≡ Some cq → post c y dw0 cid st ≡ Some r →

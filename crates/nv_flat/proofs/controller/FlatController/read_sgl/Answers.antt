@@ -4,7 +4,7 @@ use Rattle.nv_model.specs.Transcript.{fed}
 use Rattle.nv_sgl.specs.Parse.{dialogue_of}
 use Rattle.nv_sgl.proofs.Shown.{in_memory-fed}
 use Rattle.nv_flat.specs.Flat.{Flat, byte_in, identity_map}
-use Rattle.nv_flat.specs.Listed.{IsThere, refusal_of_reading}
+use Rattle.nv_flat.specs.Listed.{IsPartThere, refusal_of_reading}
 use Rattle.nv_flat.proofs.ListLemmas.{IsReading-more, IsReading-there, reading-done, reading-fault, reading-too_long, IsReading-start_sgl}
 use Rattle.nv_flat.proofs.controller.FlatController.read_sgl.Goals as goal
 
@@ -17,7 +17,7 @@ loop-part-init c =
 
 pub feed_sgl-requires-clause-there : goal.feed_sgl-requires-clause-there
 feed_sgl-requires-clause-there c =
-    let M : Flat → Type 0 = λ f. IsThere f.memory c.in-Read.addr c.in-Read.len in
+    let M : Flat → Type 0 = λ f. IsPartThere f.memory c.in-Read.addr c.in-Read.len in
     subst M (sym c.self.view_is) (IsReading-there c.args.self.now _ c.loop-part._part (dialogue_of c.loop-part.parse) c.in-Read.addr c.in-Read.len c.loop-part.invariant (sym c.in-Read.ensures))
 
 pub loop-part-preserved : goal.loop-part-preserved

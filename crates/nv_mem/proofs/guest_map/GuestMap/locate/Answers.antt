@@ -1,7 +1,7 @@
 use Rattle.std.proofs.Common.{◌≡◌, Some, None, arith}
 use Rattle.std.specs.List.{find}
 use Rattle.nv_mem.specs.GuestMap.{covers}
-use Rattle.nv_mem.proofs.Images.{found-covers, found-inside, host_of-uncovered, IsRun-front}
+use Rattle.nv_mem.proofs.Images.{found-covers, found-inside, host_of-uncovered, IsContiguous-front}
 use Rattle.nv_mem.proofs.guest_map.GuestMap.locate.Goals as goal
 
 pub overflow_sub-offset : goal.overflow_sub-offset
@@ -30,4 +30,4 @@ returns-in-None c =
 pub returns-in-Some : goal.returns-in-Some
 returns-in-Some c =
     let found : find (λ r. covers r c.args.addr) c.self.inside.regions.items ≡ Some c.in-Some.region = cc in
-    rw (← c.self.view_is) (IsRun-front c.self.inside.regions.items c.in-Some.region c.args.addr c.self.invariant.apart found)
+    rw (← c.self.view_is) (IsContiguous-front c.self.inside.regions.items c.in-Some.region c.args.addr c.self.invariant.apart found)

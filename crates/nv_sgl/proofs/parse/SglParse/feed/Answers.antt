@@ -1,6 +1,6 @@
 use Rattle.std.proofs.Common.{length, ◌∙◌, ap}
 use Rattle.nv_sgl.specs.Chain.{grown}
-use Rattle.nv_model.specs.Transcript.{fed, taken}
+use Rattle.nv_model.specs.Transcript.{fed, units_fed}
 use Rattle.nv_sgl.specs.Parse.{Parse, dialogue_of}
 use Rattle.nv_sgl.proofs.Parses.{dialogue_of-fed, grown-fed, want_of-whole}
 use Rattle.nv_sgl.proofs.parse.SglParse.feed.Goals as goal
@@ -16,4 +16,4 @@ returns-clause-dialogue g c =
 pub returns-clause-chain : goal.returns-clause-chain
 returns-clause-chain g c =
     grown-fed _ _ c.self.inside.need c.self.inside.cursor _ c.args.bytes.now c.self.inside.chain _ c.in_ok-self-inside.ensures.ok
-    ∙ ap (λ (p : Parse). grown p.chain (taken (dialogue_of p) c.args.bytes.now)) c.self.view_is
+    ∙ ap (λ (p : Parse). grown p.chain (units_fed (dialogue_of p) c.args.bytes.now)) c.self.view_is
