@@ -14,7 +14,7 @@ use Rattle.nv_model.specs.Queue.{sqe_size}
 use Rattle.nv_model.specs.Controller.{Controller, Posted, doorbell, front, is_enabled, opening, post, queue_count, queue_of, ran_out, reg_read, reg_write, taken_less, taken_more, took}
 use Rattle.nv_model.specs.Admin.{AdminStep, NothingToDo, QueueFull, Stepped, admin}
 use Rattle.nv_model.specs.Private.{Acted, ActStep, AdminQueueStep, After, AtWork, Bag, Ended, GiveUpStep, JudgeStep, KeepStep, MoveStep, PostStep, Private, Progress, Run, RunOutStep, Shape, Step, TakeStep, Taken, Unjudged, acted, administered, completed_at, controlled, ending, further, given_up_at, judged_at, may_take, moved_at, others, posted_at, progress_of, put, register_replied, run_of, run_out_at, start, step, taken_at, unit_done, unit_left, verdict_in, with_taken}
-use Rattle.nv_model.specs.Running.{AreCounted, IsConsistent, IsOfIoQueue, IsRunning, IsTogether}
+use Rattle.nv_model.specs.Running.{AlongEveryRun, AreCounted, IsConsistent, IsOfIoQueue, IsRunning, IsTogether}
 use Rattle.nv_model.proofs.CountedBags.{counted-put, counted-some, index-less, index-more}
 use Rattle.nv_model.proofs.Endings.{and-true}
 use Rattle.nv_model.proofs.QueuesKept.{by_test}
@@ -216,5 +216,5 @@ start-running =
     none (suc n) (suc queue) = none n queue
 
 -- it holds along every run from the start
-pub along-running : (shape : Shape) (steps : List Step) (r : Run) → run_of shape steps start ≡ Some r → IsRunning r.state
+pub along-running : AlongEveryRun IsRunning
 along-running shape steps r is = subst (λ (o : Option Run). IfSome o (λ e. IsRunning e.state)) is (run_of-running shape steps start start-running)

@@ -3,7 +3,7 @@ use Rattle.std.specs.Prelude.{◌≡◌, ℕ, zero, suc, ◌+◌, ◌<◌, ◌�
 use Rattle.nv_entry.specs.Status.{bit}
 use Rattle.nv_model.specs.Queue.{SubmissionQueue, CompletionQueue}
 use Rattle.nv_model.specs.Controller.{Controller, Deletion, is_enabled, no_queues, queue_count, queue_of}
-use Rattle.nv_model.specs.Private.{Bag, Private, Taken}
+use Rattle.nv_model.specs.Private.{Bag, Private, Run, Shape, Step, Taken, run_of, start}
 
 -- ---- counts
 
@@ -17,7 +17,8 @@ abbrev pub count_below : Bag → (queue bound : ℕ) → ℕ
 count_below bag queue zero = 0
 count_below bag queue (suc name) = one_of queue (bag name) + count_below bag queue name
 
--- these counts by queue are the bag's: from some bound on no name is taken, and below it are as many of each queue as are counted
+-- these counts by queue are the bag's: from some bound on no name is taken, and below it are as many of each queue as are
+-- counted
 pub record AreCounted (taken : List ℕ) (bag : Bag) : Type 0 where
   pub bound : ℕ
   pub none_beyond : (name : ℕ) → bound ≤ name → bag name ≡ None
@@ -30,17 +31,20 @@ IsOfIoQueue t = (0 < t.queue) × (t.queue < queue_count)
 -- ---- queues
 
 -- EN, RDY, the queues, the counts of taken commands and a waiting deletion go together
-pub record GoTogether (enabled ready : Bool) (submission : List (Option SubmissionQueue)) (completion : List (Option CompletionQueue)) (taken : List ℕ) (deletion : Option Deletion) : Type 0 where
+pub record GoTogether (enabled ready : Bool) (submission : List (Option SubmissionQueue))
+    (completion : List (Option CompletionQueue)) (taken : List ℕ) (deletion : Option Deletion) : Type 0 where
   -- each list goes by queue number
   pub submission_count : length submission ≡ queue_count
   pub completion_count : length completion ≡ queue_count
   pub taken_count : length taken ≡ queue_count
   -- the completion queue of each submission queue is there
-  pub completes : (y : ℕ) → IfSome (queue_of (slice_get submission y)) (λ q. IsSome (queue_of (slice_get completion q.completes_to)))
+  pub completes : (y : ℕ)
+      → IfSome (queue_of (slice_get submission y)) (λ q. IsSome (queue_of (slice_get completion q.completes_to)))
   -- while EN is 1, a queue with taken commands is there
   pub taken_there : enabled ≡ true → (y : ℕ) → 0 < slice_index taken y → IsSome (queue_of (slice_get submission y))
   -- while EN is 1 and RDY is 1, the admin queues are there
-  pub admin_there : enabled ≡ true → ready ≡ true → IsSome (queue_of (slice_get submission 0)) × IsSome (queue_of (slice_get completion 0))
+  pub admin_there : enabled ≡ true → ready ≡ true
+      → IsSome (queue_of (slice_get submission 0)) × IsSome (queue_of (slice_get completion 0))
   -- while EN is 0 no queue is there
   pub none_there : enabled ≡ false → (submission ≡ no_queues) × (completion ≡ no_queues)
   -- while a command is taken, RDY is 1
@@ -56,7 +60,8 @@ IsTogether c = GoTogether (is_enabled c) c.ready c.submission c.completion_queue
 
 -- ---- states
 
--- the counts of a controller are those of the bag, each taken command is of an I/O queue, and the controller's parts go together
+-- the counts of a controller are those of the bag, each taken command is of an I/O queue, and the controller's parts go
+-- together
 pub record IsConsistent (c : Controller) (bag : Bag) : Type 0 where
   pub counted : AreCounted c.taken bag
   pub of_io_queues : (name : ℕ) → IfSome (bag name) IsOfIoQueue
@@ -71,3 +76,7 @@ pub record HasTaken (bag : Bag) : Type 0 where
   pub name : ℕ
   pub command : Taken
   pub is_there : bag name ≡ Some command
+
+-- this holds behind every run from the start
+abbrev pub AlongEveryRun : (Private → Type 0) → Type 0
+AlongEveryRun P = (shape : Shape) (steps : List Step) (r : Run) → run_of shape steps start ≡ Some r → P r.state

@@ -1,11 +1,11 @@
-//! What holds along every run of the private controller: its counts, its queues and RDY go with the commands that are taken.
+//! What holds along every run of the private controller: its counts, its queues and RDY go with the taken commands.
 ghost use Rattle.std.specs.Prelude.{◌≡◌, ◌↔◌, ℕ, ◌<◌, ◌≤◌, Bool, true, false, List, length, slice_index, Option, Some, None, IsSome};
 ghost use Rattle.nv_entry.specs.Submission.{cid_of};
 ghost use Rattle.nv_entry.specs.Status.{StatusField};
 ghost use Rattle.nv_model.specs.Queue.{SubmissionQueue, CompletionQueue, is_full};
 ghost use Rattle.nv_model.specs.Controller.{Deletion, completion_queue, is_enabled, post, queue_count, running, submission_queue};
 ghost use Rattle.nv_model.specs.Private.{After, PostStep, Private, Run, RunOutStep, Shape, Step, Taken, ending, run_of, start, step};
-ghost use Rattle.nv_model.specs.Running.{HasTaken, IsRunning, count_below};
+ghost use Rattle.nv_model.specs.Running.{AlongEveryRun, HasTaken, IsRunning, count_below};
 
 /// The start is consistent, and each step and each run stay so.
 pub fn runs_stay_consistent()
@@ -14,78 +14,76 @@ pub fn runs_stay_consistent()
         IsRunning p → step shape s p ≡ Some a → IsRunning a.state }
     ensures run { (shape : Shape) (steps : List Step) (p : Private) (r : Run) →
         IsRunning p → run_of shape steps p ≡ Some r → IsRunning r.state }
-    ensures from_start { (shape : Shape) (steps : List Step) (r : Run) →
-        run_of shape steps start ≡ Some r → IsRunning r.state }
+    ensures from_start { AlongEveryRun IsRunning }
 {}
 
-/// Along every run the controller counts the commands that are taken, by their queue, which is an I/O queue: no name from some bound on
-/// is taken, and below it are as many of each queue as are counted. So none is counted exactly where none is taken.
+/// Along every run the controller counts the commands that are taken, by their queue, which is an I/O queue: no name from
+/// some bound on is taken, and below it are as many of each queue as are counted. So none is counted exactly where none is
+/// taken.
 pub fn taken_commands_are_counted()
-    ensures by_queue { (shape : Shape) (steps : List Step) (r : Run) → run_of shape steps start ≡ Some r →
-        (bound : ℕ) × (((name : ℕ) → bound ≤ name → r.state.bag name ≡ None)
-        × ((queue : ℕ) → count_below r.state.bag queue bound ≡ slice_index r.state.controller.taken queue)) }
-    ensures of_io_queues { (shape : Shape) (steps : List Step) (r : Run) (name : ℕ) (t : Taken) → run_of shape steps start ≡ Some r →
-        r.state.bag name ≡ Some t → (0 < t.queue) × (t.queue < queue_count) }
-    ensures no_admin_commands { (shape : Shape) (steps : List Step) (r : Run) → run_of shape steps start ≡ Some r →
-        slice_index r.state.controller.taken 0 ≡ 0 }
-    ensures lengths { (shape : Shape) (steps : List Step) (r : Run) → run_of shape steps start ≡ Some r →
-        (length r.state.controller.taken ≡ queue_count) × (length r.state.controller.submission ≡ queue_count)
-        × (length r.state.controller.completion_queues ≡ queue_count) }
-    ensures none { (shape : Shape) (steps : List Step) (r : Run) → run_of shape steps start ≡ Some r →
-        (running r.state.controller ≡ 0) ↔ ((name : ℕ) → r.state.bag name ≡ None) }
+    ensures by_queue { AlongEveryRun (λ p.
+        (bound : ℕ) × (((name : ℕ) → bound ≤ name → p.bag name ≡ None)
+        × ((queue : ℕ) → count_below p.bag queue bound ≡ slice_index p.controller.taken queue))) }
+    ensures of_io_queues { AlongEveryRun (λ p. (name : ℕ) (t : Taken) →
+        p.bag name ≡ Some t → (0 < t.queue) × (t.queue < queue_count)) }
+    ensures no_admin_commands { AlongEveryRun (λ p. slice_index p.controller.taken 0 ≡ 0) }
+    ensures lengths { AlongEveryRun (λ p.
+        (length p.controller.taken ≡ queue_count) × (length p.controller.submission ≡ queue_count)
+        × (length p.controller.completion_queues ≡ queue_count)) }
+    ensures none { AlongEveryRun (λ p. (running p.controller ≡ 0) ↔ ((name : ℕ) → p.bag name ≡ None)) }
 {}
 
-/// Along every run, while the controller is enabled, the submission queue of each taken command is there; the completion queue of each
-/// submission queue is there; while it is not, no queue is there; and a waiting deletion names an I/O queue that is there.
+/// Along every run, while the controller is enabled, the submission queue of each taken command is there; the completion
+/// queue of each submission queue is there; while it is not, no queue is there; and a waiting deletion names an I/O queue
+/// that is there.
 pub fn queues_of_taken_commands_are_there()
-    ensures submission { (shape : Shape) (steps : List Step) (r : Run) (name : ℕ) (t : Taken) → run_of shape steps start ≡ Some r →
-        is_enabled r.state.controller ≡ true → r.state.bag name ≡ Some t → IsSome (submission_queue r.state.controller t.queue) }
-    ensures completion { (shape : Shape) (steps : List Step) (r : Run) (y : ℕ) (q : SubmissionQueue) → run_of shape steps start ≡ Some r →
-        submission_queue r.state.controller y ≡ Some q → IsSome (completion_queue r.state.controller q.completes_to) }
-    ensures while_disabled { (shape : Shape) (steps : List Step) (r : Run) (y : ℕ) → run_of shape steps start ≡ Some r →
-        is_enabled r.state.controller ≡ false →
-        (submission_queue r.state.controller y ≡ None) × (completion_queue r.state.controller y ≡ None) }
-    ensures deletion { (shape : Shape) (steps : List Step) (r : Run) (d : Deletion) → run_of shape steps start ≡ Some r →
-        r.state.controller.deletion ≡ Some d → (0 < d.queue) × IsSome (submission_queue r.state.controller d.queue) }
+    ensures submission { AlongEveryRun (λ p. (name : ℕ) (t : Taken) →
+        is_enabled p.controller ≡ true → p.bag name ≡ Some t → IsSome (submission_queue p.controller t.queue)) }
+    ensures completion { AlongEveryRun (λ p. (y : ℕ) (q : SubmissionQueue) →
+        submission_queue p.controller y ≡ Some q → IsSome (completion_queue p.controller q.completes_to)) }
+    ensures while_disabled { AlongEveryRun (λ p. (y : ℕ) → is_enabled p.controller ≡ false →
+        (submission_queue p.controller y ≡ None) × (completion_queue p.controller y ≡ None)) }
+    ensures deletion { AlongEveryRun (λ p. (d : Deletion) →
+        p.controller.deletion ≡ Some d → (0 < d.queue) × IsSome (submission_queue p.controller d.queue)) }
 {}
 
-/// Along every run RDY is 1 while a command is taken, and, while EN is 0, only then; where EN and RDY are 1 the admin queues are there.
+/// Along every run RDY is 1 while a command is taken, and, while EN is 0, only then; where EN and RDY are 1 the admin
+/// queues are there.
 pub fn ready_while_a_command_is_taken()
-    ensures taken { (shape : Shape) (steps : List Step) (r : Run) (name : ℕ) (t : Taken) → run_of shape steps start ≡ Some r →
-        r.state.bag name ≡ Some t → r.state.controller.ready ≡ true }
-    ensures while_disabled { (shape : Shape) (steps : List Step) (r : Run) → run_of shape steps start ≡ Some r →
-        is_enabled r.state.controller ≡ false → (r.state.controller.ready ≡ true) ↔ HasTaken r.state.bag }
-    ensures admin_queues { (shape : Shape) (steps : List Step) (r : Run) → run_of shape steps start ≡ Some r →
-        is_enabled r.state.controller ≡ true → r.state.controller.ready ≡ true →
-        IsSome (submission_queue r.state.controller 0) × IsSome (completion_queue r.state.controller 0) }
+    ensures taken { AlongEveryRun (λ p. (name : ℕ) (t : Taken) → p.bag name ≡ Some t → p.controller.ready ≡ true) }
+    ensures while_disabled { AlongEveryRun (λ p.
+        is_enabled p.controller ≡ false → (p.controller.ready ≡ true) ↔ HasTaken p.bag) }
+    ensures admin_queues { AlongEveryRun (λ p.
+        is_enabled p.controller ≡ true → p.controller.ready ≡ true →
+        IsSome (submission_queue p.controller 0) × IsSome (completion_queue p.controller 0)) }
 {}
 
-/// Along every run, while the controller is enabled, a taken command that has ended has a completion queue, and it cannot be completed
-/// exactly where that queue is full.
+/// Along every run, while the controller is enabled, a taken command that has ended has a completion queue, and it cannot
+/// be completed exactly where that queue is full.
 pub fn a_completion_waits_only_for_room()
-    ensures has_queue { (shape : Shape) (steps : List Step) (r : Run) (name : ℕ) (t : Taken) → run_of shape steps start ≡ Some r →
-        is_enabled r.state.controller ≡ true → r.state.bag name ≡ Some t →
-        (q : SubmissionQueue) × ((cq : CompletionQueue) × ((submission_queue r.state.controller t.queue ≡ Some q)
-        × (completion_queue r.state.controller q.completes_to ≡ Some cq))) }
-    ensures full { (shape : Shape) (steps : List Step) (r : Run) (name : ℕ) (t : Taken) (st : StatusField) (q : SubmissionQueue) (cq : CompletionQueue) →
-        run_of shape steps start ≡ Some r →
-        is_enabled r.state.controller ≡ true → r.state.bag name ≡ Some t → ending t.progress ≡ Some st →
-        submission_queue r.state.controller t.queue ≡ Some q → completion_queue r.state.controller q.completes_to ≡ Some cq →
-        (post r.state.controller t.queue 0 (cid_of t.entry) st ≡ None) ↔ (is_full cq.size cq.head cq.tail ≡ true) }
-    ensures step { (shape : Shape) (steps : List Step) (r : Run) (name : ℕ) (t : Taken) (st : StatusField) (q : SubmissionQueue) (cq : CompletionQueue) →
-        run_of shape steps start ≡ Some r →
-        is_enabled r.state.controller ≡ true → r.state.bag name ≡ Some t → ending t.progress ≡ Some st →
-        submission_queue r.state.controller t.queue ≡ Some q → completion_queue r.state.controller q.completes_to ≡ Some cq →
-        IsSome (step shape (PostStep name) r.state) ↔ (is_full cq.size cq.head cq.tail ≡ false) }
+    ensures has_queue { AlongEveryRun (λ p. (name : ℕ) (t : Taken) →
+        is_enabled p.controller ≡ true → p.bag name ≡ Some t →
+        (q : SubmissionQueue) × ((cq : CompletionQueue) × ((submission_queue p.controller t.queue ≡ Some q)
+        × (completion_queue p.controller q.completes_to ≡ Some cq)))) }
+    ensures full { AlongEveryRun (λ p.
+        (name : ℕ) (t : Taken) (st : StatusField) (q : SubmissionQueue) (cq : CompletionQueue) →
+        is_enabled p.controller ≡ true → p.bag name ≡ Some t → ending t.progress ≡ Some st →
+        submission_queue p.controller t.queue ≡ Some q → completion_queue p.controller q.completes_to ≡ Some cq →
+        (post p.controller t.queue 0 (cid_of t.entry) st ≡ None) ↔ (is_full cq.size cq.head cq.tail ≡ true)) }
+    ensures step { AlongEveryRun (λ p.
+        (shape : Shape) (name : ℕ) (t : Taken) (st : StatusField) (q : SubmissionQueue) (cq : CompletionQueue) →
+        is_enabled p.controller ≡ true → p.bag name ≡ Some t → ending t.progress ≡ Some st →
+        submission_queue p.controller t.queue ≡ Some q → completion_queue p.controller q.completes_to ≡ Some cq →
+        IsSome (step shape (PostStep name) p) ↔ (is_full cq.size cq.head cq.tail ≡ false)) }
 {}
 
-/// Along every run a command that runs out is taken no longer, the others are as they were, and RDY stays 1 exactly where another is
-/// taken still.
+/// A command that runs out is taken no longer, and the others are as they were; along every run RDY stays 1 exactly where
+/// another is taken still.
 pub fn ready_falls_with_the_last()
     ensures gone { (shape : Shape) (p : Private) (a : After) (name : ℕ) →
         step shape (RunOutStep name) p ≡ Some a → a.state.bag name ≡ None }
     ensures others { (shape : Shape) (p : Private) (a : After) (name other : ℕ) →
         step shape (RunOutStep name) p ≡ Some a → (other ≡ name → ⊥) → a.state.bag other ≡ p.bag other }
-    ensures ready { (shape : Shape) (steps : List Step) (r : Run) (a : After) (name : ℕ) → run_of shape steps start ≡ Some r →
-        step shape (RunOutStep name) r.state ≡ Some a → (a.state.controller.ready ≡ true) ↔ HasTaken a.state.bag }
+    ensures ready { AlongEveryRun (λ p. (shape : Shape) (a : After) (name : ℕ) →
+        step shape (RunOutStep name) p ≡ Some a → (a.state.controller.ready ≡ true) ↔ HasTaken a.state.bag) }
 {}

@@ -6,7 +6,7 @@ pub returns-clause-by_queue : goal.returns-clause-by_queue
 returns-clause-by_queue c shape steps r is = let counted = (along-running shape steps r is).counted in (counted.bound, (counted.none_beyond, counted.count))
 
 pub returns-clause-of_io_queues : goal.returns-clause-of_io_queues
-returns-clause-of_io_queues c shape steps r name t is there = taken-io r.state.controller r.state.bag name t (along-running shape steps r is) there
+returns-clause-of_io_queues c shape steps r is name t there = taken-io r.state.controller r.state.bag name t (along-running shape steps r is) there
 
 pub returns-clause-no_admin_commands : goal.returns-clause-no_admin_commands
 returns-clause-no_admin_commands c shape steps r is = admin-none r.state.controller r.state.bag (along-running shape steps r is)
