@@ -1,0 +1,5 @@
+pub mod Geometry
+pub mod Plan
+pub mod Area
+pub mod Device
+pub mod World
