@@ -3,3 +3,5 @@ pub mod Plan
 pub mod Area
 pub mod Device
 pub mod World
+pub mod Seat
+pub mod Step

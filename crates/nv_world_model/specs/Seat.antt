@@ -1,6 +1,6 @@
 -- A guest's seat: what of the world is its private controller. What is done for a guest is done in its seat, as the private controller does
 -- it, and put back (profile).
-use Rattle.std.specs.Prelude.{ℕ, ◌+◌, ◌-◌, ◌/◌, ◌%◌, ◌&&◌, ◌==◌, if◌then◌else◌, Bool, List, [], ◌∷◌, filter, flat_map, length, map, replicate, slice_get, Option, Some, None}
+use Rattle.std.specs.Prelude.{ℕ, ◌+◌, ◌-◌, ◌/◌, ◌%◌, ◌&&◌, ◌==◌, if◌then◌else◌, Bool, false, List, [], ◌∷◌, filter, flat_map, length, map, replicate, slice_get, Option, Some, None}
 use Rattle.std.specs.List.{enumerate_from, list_any, range_with_len}
 use Rattle.nv_entry.specs.Completion.{status_of}
 use Rattle.nv_entry.specs.Range.{blocks_of}
@@ -67,19 +67,93 @@ unfoldable pub units_left : Plan → (left : List ℕ) → List ℕ
 units_left plan left =
     map (λ u. u.0) (filter (λ u. list_any (λ k. k == u.1) left) (enumerate_from 0 (device_numbers plan)))
 
--- a command at work by a plan, with these of the device's units left
-abbrev pub at_work : Plan → (left : List ℕ) → (differed : Bool) → Progress
-at_work (Answer st) left differed = EndedWith st
-at_work (NoData work) left differed = AtWork work (units_left (NoData work) left) differed
-at_work (Direct work) left differed = AtWork work (units_left (Direct work) left) differed
-at_work (Bounced work) left differed = AtWork work (units_left (Bounced work) left) differed
-at_work (Ranged work ranges) left differed = AtWork work (units_left (Ranged work ranges) left) differed
+-- the work of a plan, where it has one
+abbrev pub work_of : Plan → Option Work
+work_of (Answer st) = None
+work_of (NoData work) = Some work
+work_of (Direct work) = Some work
+work_of (Bounced work) = Some work
+work_of (Ranged work ranges) = Some work
+
+-- a command at work with these units left, or one none of which has moved
+abbrev pub with_left : Option Work → (left : List ℕ) → (differed : Bool) → Progress
+with_left None left differed = Unjudged
+with_left (Some work) left differed = AtWork work left differed
+
+abbrev pub unmoved : Option Work → Progress
+unmoved None = Unjudged
+unmoved (Some work) = AtWork work (numbers_of work) false
+
+-- a command that the device holds
+abbrev pub held_progress : Option Held → Plan → Progress
+held_progress None plan = Unjudged
+held_progress (Some h) plan = with_left (work_of plan) (units_left plan h.left) h.differed
 
 -- whether a status tells that a Compare differed: Compare Failure
 abbrev pub tells_difference : StatusField → Bool
 tells_difference st = st.sct == 2 && st.sc == 0x85
 
--- a command that the device holds
-abbrev pub held_progress : Plan → Option Held → Progress
-held_progress plan None = Unjudged
-held_progress plan (Some h) = at_work plan h.left h.differed
+-- a command with that status: all its units have moved, where it was handed on
+abbrev pub ended_progress : Option Plan → StatusField → Progress
+ended_progress None st = EndedWith st
+ended_progress (Some plan) st = with_left (work_of plan) [] (tells_difference st)
+
+-- how far a command is that was handed on, by where it stands; `held` is the device's, `status_at` the status in a slot of the completion ring
+abbrev pub flying_progress : Standing → Plan → Option Held → (status_at : ℕ → StatusField) → Progress
+flying_progress (Queued slot) plan held status_at = unmoved (work_of plan)
+flying_progress InDevice plan held status_at = held_progress held plan
+flying_progress (Answered slot) plan held status_at = ended_progress (Some plan) (status_at slot)
+
+-- the command as the guest's private controller has it, where it is that guest's
+abbrev pub member_of : (number : ℕ) → Command → Progress → Option Member
+member_of number command progress =
+    if command.guest == number then Some (record { queue = command.queue; entry = command.entry; progress = progress }) else None
+
+-- the guest's command in a tag
+abbrev pub member_in : Option Tag → (number : ℕ) → Option Held → (status_at : ℕ → StatusField) → Option Member
+member_in None number held status_at = None
+member_in (Some Free) number held status_at = None
+member_in (Some (Taken command reads)) number held status_at = member_of number command Unjudged
+member_in (Some (Flying command plan standing)) number held status_at =
+    member_of number command (flying_progress standing plan held status_at)
+member_in (Some (Ended command st plan)) number held status_at = member_of number command (ended_progress plan st)
+
+-- what the device holds under an identifier
+abbrev pub held_in : Option DeviceLane → (identifier : ℕ) → Option Held
+held_in None identifier = None
+held_in (Some d) identifier = held_by (slice_get d.held identifier)
+  where
+    held_by : Option (Option Held) → Option Held
+    held_by None = None
+    held_by (Some held) = held
+
+-- the bytes of a slot of a lane's completion ring
+abbrev pub completion_at : Geometry → World → (lane at : ℕ) → List ℕ
+completion_at geometry w lane at = bytes_from w.host (completion_slot geometry.mediator lane at) cqe_size
+
+-- a guest's taken commands, named by lane and tag: 64 times the lane, and the tag
+unfoldable pub members : Geometry → World → (number : ℕ) → Bag
+members geometry w number name =
+    member_in (tag_of w (name / tag_count) (name % tag_count)) number
+    (held_in (slice_get w.device (name / tag_count)) (name % tag_count))
+    (λ at. status_of (completion_at geometry w (name / tag_count) at))
+
+-- ---- the seat
+
+-- the guest's private controller as it stands in the world
+unfoldable pub seat : Geometry → Owner → World → Private
+seat geometry o w =
+    record {
+      memory = image (regions_of o.given) w.host;
+      disk = (λ lba. w.disk (block_at o.given.extent lba));
+      kept = (λ lba. w.kept (block_at o.given.extent lba));
+      controller = o.controller;
+      bag = members geometry w o.number;
+    }
+
+-- the world with a guest's memory, and its controller, as they are now
+abbrev pub with_memory : Owner → (memory : ℕ → ℕ) → World → World
+with_memory o memory w = with_host (put_image (regions_of o.given) memory w.host) w
+
+unfoldable pub put_back : Owner → (memory : ℕ → ℕ) → Controller → World → World
+put_back o memory c w = with_controller o.number c (with_memory o memory w)
