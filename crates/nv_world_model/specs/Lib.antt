@@ -5,3 +5,4 @@ pub mod Device
 pub mod World
 pub mod Seat
 pub mod Step
+pub mod Rows

@@ -4,6 +4,7 @@
 
 mod event;
 mod logged;
+pub mod rows;
 
 pub use event::Event;
 pub use logged::Logged;
