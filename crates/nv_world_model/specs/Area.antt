@@ -1,0 +1,137 @@
+-- The mediator's own area of the host's memory: each lane's submission ring, completion ring, list pages and bounce pages; and what it
+-- writes there for the physical controller. The layout is the project's own (profile); the physical entries are Base Specification 2.0,
+-- "Submission Queue Entry", and NVM Command Set Specification 1.0, "NVM Command Set Commands".
+use Rattle.std.specs.Prelude.{ℕ, ◌+◌, ◌*◌, ◌/◌, ◌%◌, ◌^◌, if◌then◌else◌, List, [], ◌∷◌, ◌++◌, flat_map, length, take}
+use Rattle.std.specs.List.{range_with_len}
+use Rattle.nv_entry.specs.Layout.{bytes_of_dwords, number_bytes}
+use Rattle.nv_entry.specs.Range.{blocks_of, start_of}
+use Rattle.nv_entry.specs.Status.{bit}
+use Rattle.nv_entry.specs.Submission.{deallocate_of, nlb_of, nr_of, opcode_of, slba_of}
+use Rattle.nv_mem.specs.Places.{places_of, total_len}
+use Rattle.nv_ns.specs.BlockRange.{Extent, block_at}
+use Rattle.nv_model.specs.Judge.{Clear, Form, Keep, Manage, Transfer, Work, form_of, is_fua, is_read}
+use Rattle.nv_model.specs.Limits.{page, range_size}
+use Rattle.nv_model.specs.Memory.{gathered, image, stored}
+use Rattle.nv_model.specs.Queue.{cqe_size, sqe_size}
+use Rattle.nv_prp.specs.Built.{built}
+use Rattle.nv_prp.specs.Fits.{host_addresses}
+use Rattle.nv_prp.specs.declared.prps.Prps.{Prps}
+use Rattle.nv_world_model.specs.Geometry.{Guest, regions_of}
+use Rattle.nv_world_model.specs.Plan.{Answer, Bounced, Direct, NoData, Plan, Ranged}
+
+-- ---- where things lie
+
+-- the tags of a lane; they are the physical command identifiers, too
+abbrev pub tag_count : ℕ
+tag_count = 64
+
+-- the slots of each physical ring, which never fills
+abbrev pub ring_size : ℕ
+ring_size = 65
+
+-- the pages of a lane: two for the submission ring, one for the completion ring, and 33 for each tag
+abbrev pub lane_pages : ℕ
+lane_pages = 2115
+
+-- the first byte of a lane, in an area that begins at `mediator`
+abbrev pub lane_start : (mediator lane : ℕ) → ℕ
+lane_start mediator lane = mediator + page * (lane_pages * lane)
+
+-- a slot of the submission ring
+abbrev pub submission_slot : (mediator lane at : ℕ) → ℕ
+submission_slot mediator lane at = lane_start mediator lane + sqe_size * at
+
+-- a slot of the completion ring
+abbrev pub completion_slot : (mediator lane at : ℕ) → ℕ
+completion_slot mediator lane at = lane_start mediator lane + page * 2 + cqe_size * at
+
+-- the list page of a tag
+abbrev pub list_page : (mediator lane tag : ℕ) → ℕ
+list_page mediator lane tag = lane_start mediator lane + page * (3 + 33 * tag)
+
+-- the first of the 32 bounce pages of a tag
+abbrev pub bounce_page : (mediator lane tag : ℕ) → ℕ
+bounce_page mediator lane tag = lane_start mediator lane + page * (4 + 33 * tag)
+
+-- the physical queue pair of a lane
+abbrev pub queue_pair : (lane : ℕ) → ℕ
+queue_pair lane = lane + 1
+
+-- ---- what a physical command transfers
+
+-- the host addresses of a plan's transfer, in its order; `bounce` is the tag's first bounce page
+abbrev pub addresses_of : Plan → Guest → (bounce : ℕ) → List ℕ
+addresses_of (Answer st) guest bounce = []
+addresses_of (NoData work) guest bounce = []
+addresses_of (Direct work) guest bounce = host_addresses (regions_of guest) work.pieces
+addresses_of (Bounced work) guest bounce = range_with_len bounce (total_len work.pieces)
+addresses_of (Ranged work ranges) guest bounce = range_with_len bounce (range_size * length ranges)
+
+-- PRP1, PRP2 and the list that name them
+abbrev pub prps_of : Plan → Guest → (list bounce : ℕ) → Prps
+prps_of plan guest list bounce = built list (addresses_of plan guest bounce)
+
+-- the bytes of the list
+abbrev pub list_bytes : Prps → List ℕ
+list_bytes prps = flat_map (number_bytes 8) (take prps.used prps.list)
+
+-- a range of Dataset Management as the disk has it: attributes 0, the length, and the disk's block
+abbrev pub translated_range : Extent → List ℕ → List ℕ
+translated_range extent range =
+    number_bytes 4 0 ++ number_bytes 4 (blocks_of range) ++ number_bytes 8 (block_at extent (start_of range))
+
+-- the bytes of a source
+abbrev pub source_bytes : Guest → (host : ℕ → ℕ) → Work → List ℕ
+source_bytes guest host work = gathered (image (regions_of guest) host) (places_of work.pieces)
+
+-- what stands in the bounce pages once a plan is submitted: a source, or the ranges
+abbrev pub bounced_bytes : Plan → Guest → (host : ℕ → ℕ) → List ℕ
+bounced_bytes (Answer st) guest host = []
+bounced_bytes (NoData work) guest host = []
+bounced_bytes (Direct work) guest host = []
+bounced_bytes (Bounced work) guest host = if is_read work.opcode then [] else source_bytes guest host work
+bounced_bytes (Ranged work ranges) guest host = flat_map (translated_range guest.extent) ranges
+
+-- ---- the physical entry
+
+-- the dwords of a number of 64 bits
+abbrev pub two_dwords : ℕ → List ℕ
+two_dwords number = (number % 2 ^ 32) ∷ (number / 2 ^ 32) ∷ []
+
+-- CDW10 to CDW12 of a command of that form: the block on the disk with NLB and FUA; or NR and deallocate
+abbrev pub form_dwords : Form → Extent → (entry : List ℕ) → List ℕ
+form_dwords (Transfer dest) extent entry = two_dwords (block_at extent (slba_of entry)) ++ (nlb_of entry + 2 ^ 30 * bit (is_fua entry)) ∷ []
+form_dwords Clear extent entry = two_dwords (block_at extent (slba_of entry)) ++ (nlb_of entry + 2 ^ 30 * bit (is_fua entry)) ∷ []
+form_dwords Manage extent entry = nr_of entry ∷ (4 * deallocate_of entry) ∷ 0 ∷ []
+form_dwords Keep extent entry = 0 ∷ 0 ∷ 0 ∷ []
+
+-- the 64 bytes: the guest's opcode, FUSE and PSDT 0, the tag as command identifier, namespace 1, the PRPs, and CDW10 to CDW12
+unfoldable pub physical_entry : (opcode tag : ℕ) → Prps → (dwords : List ℕ) → List ℕ
+physical_entry opcode tag prps dwords =
+    bytes_of_dwords (
+    (opcode + 2 ^ 16 * tag) ∷ 1 ∷ 0 ∷ 0 ∷ 0 ∷ 0 ∷ two_dwords prps.prp1 ++ two_dwords prps.prp2 ++ dwords ++ 0 ∷ 0 ∷ 0 ∷ []
+    )
+
+-- the form of the work of a plan
+abbrev pub plan_dwords : Plan → Extent → (entry : List ℕ) → List ℕ
+plan_dwords (Answer st) extent entry = form_dwords Keep extent entry
+plan_dwords (NoData work) extent entry = form_dwords (form_of work.opcode) extent entry
+plan_dwords (Direct work) extent entry = form_dwords (form_of work.opcode) extent entry
+plan_dwords (Bounced work) extent entry = form_dwords (form_of work.opcode) extent entry
+plan_dwords (Ranged work ranges) extent entry = form_dwords (form_of work.opcode) extent entry
+
+-- the physical entry of a plan for a guest's command in that tag
+abbrev pub entry_of : Plan → Guest → (entry : List ℕ) → (mediator lane tag : ℕ) → List ℕ
+entry_of plan guest entry mediator lane tag =
+    physical_entry (opcode_of entry) tag
+    (prps_of plan guest (list_page mediator lane tag) (bounce_page mediator lane tag)) (plan_dwords plan guest.extent entry)
+
+-- ---- a submission
+
+-- the host's memory with the list in its page, the source or the ranges in the bounce pages, and the physical entry in that slot
+unfoldable pub written : Plan → Guest → (entry : List ℕ) → (mediator lane tag slot : ℕ) → (host : ℕ → ℕ) → ℕ → ℕ
+written plan guest entry mediator lane tag slot host =
+    (let listed = stored host (list_page mediator lane tag)
+    (list_bytes (prps_of plan guest (list_page mediator lane tag) (bounce_page mediator lane tag))) in
+    let bounced = stored listed (bounce_page mediator lane tag) (bounced_bytes plan guest host) in
+    stored bounced (submission_slot mediator lane slot) (entry_of plan guest entry mediator lane tag))

@@ -1,0 +1,159 @@
+-- A guest's seat: what of the world is its private controller. What is done for a guest is done in its seat, as the private controller does
+-- it, and put back (profile).
+use Rattle.std.specs.Prelude.{ℕ, ◌+◌, ◌-◌, ◌/◌, ◌%◌, ◌&&◌, ◌==◌, if◌then◌else◌, Bool, false, List, [], ◌∷◌, filter, flat_map, length, map, replicate, slice_get, Option, Some, None}
+use Rattle.std.specs.List.{enumerate_from, list_any, range_with_len}
+use Rattle.nv_entry.specs.Completion.{status_of}
+use Rattle.nv_entry.specs.Range.{blocks_of}
+use Rattle.nv_entry.specs.Status.{StatusField}
+use Rattle.nv_mem.specs.GuestMap.{covers_host}
+use Rattle.nv_mem.specs.declared.region.Region.{Region}
+use Rattle.nv_ns.specs.BlockRange.{block_at}
+use Rattle.nv_model.specs.Controller.{Controller}
+use Rattle.nv_model.specs.Judge.{Work}
+use Rattle.nv_model.specs.Memory.{bytes_from, image}
+use Rattle.nv_model.specs.Private.{AtWork, Bag, Private, Progress, Unjudged, Ended as EndedWith, Taken as Member, numbers_of}
+use Rattle.nv_model.specs.Queue.{cqe_size}
+use Rattle.nv_world_model.specs.Area.{completion_slot, tag_count}
+use Rattle.nv_world_model.specs.Device.{DeviceLane, Held}
+use Rattle.nv_world_model.specs.Geometry.{Geometry, Guest, regions_of}
+use Rattle.nv_world_model.specs.Plan.{Answer, Bounced, Direct, NoData, Plan, Ranged}
+use Rattle.nv_world_model.specs.World.{Answered, Command, Ended, Flying, Free, InDevice, Queued, Standing, Tag, Taken, World, tag_of, with_controller, with_host}
+
+-- ---- an image that is put back
+
+-- the guest address that lies at a host address, or none where no region has it
+abbrev pub guest_of : List Region → (host : ℕ) → Option ℕ
+guest_of [] host = None
+guest_of (r ∷ rs) host = if covers_host r host then Some (r.guest + (host - r.host)) else guest_of rs host
+
+-- the byte of a guest's memory, or this one where no guest address is named
+abbrev pub byte_or : (otherwise : ℕ) → (memory : ℕ → ℕ) → Option ℕ → ℕ
+byte_or otherwise memory None = otherwise
+byte_or otherwise memory (Some addr) = memory addr
+
+-- the host's memory with a guest's memory written back to the regions of its map
+unfoldable pub put_image : List Region → (memory host : ℕ → ℕ) → ℕ → ℕ
+put_image regions memory host at = byte_or (host at) memory (guest_of regions at)
+
+-- ---- whose seat
+
+-- a guest of the world: its number, what it was given, and its controller
+pub record Owner : Type 0 where
+  pub number : ℕ
+  pub given : Guest
+  pub controller : Controller
+
+abbrev pub owner_by : (number : ℕ) → Option Guest → Option Controller → Option Owner
+owner_by number None c = None
+owner_by number (Some guest) None = None
+owner_by number (Some guest) (Some c) = Some (record { number = number; given = guest; controller = c })
+
+-- the guest of that number, where there is one
+abbrev pub owner_of : Geometry → World → (number : ℕ) → Option Owner
+owner_of geometry w number = owner_by number (slice_get geometry.guests number) (slice_get w.controllers number)
+
+-- ---- its taken commands
+
+-- the number of the device's unit that each unit of a work stands behind, in their order: a unit of its own, or its range
+abbrev pub device_numbers : Plan → List ℕ
+device_numbers (Answer st) = []
+device_numbers (NoData work) = range_with_len 0 (length work.units)
+device_numbers (Direct work) = range_with_len 0 (length work.units)
+device_numbers (Bounced work) = range_with_len 0 (length work.units)
+device_numbers (Ranged work ranges) = flat_map (λ r. replicate (blocks_of r.1) r.0) (enumerate_from 0 ranges)
+
+-- the numbers of the units of which the device's unit has not moved
+unfoldable pub units_left : Plan → (left : List ℕ) → List ℕ
+units_left plan left =
+    map (λ u. u.0) (filter (λ u. list_any (λ k. k == u.1) left) (enumerate_from 0 (device_numbers plan)))
+
+-- the work of a plan, where it has one
+abbrev pub work_of : Plan → Option Work
+work_of (Answer st) = None
+work_of (NoData work) = Some work
+work_of (Direct work) = Some work
+work_of (Bounced work) = Some work
+work_of (Ranged work ranges) = Some work
+
+-- a command at work with these units left, or one none of which has moved
+abbrev pub with_left : Option Work → (left : List ℕ) → (differed : Bool) → Progress
+with_left None left differed = Unjudged
+with_left (Some work) left differed = AtWork work left differed
+
+abbrev pub unmoved : Option Work → Progress
+unmoved None = Unjudged
+unmoved (Some work) = AtWork work (numbers_of work) false
+
+-- a command that the device holds
+abbrev pub held_progress : Option Held → Plan → Progress
+held_progress None plan = Unjudged
+held_progress (Some h) plan = with_left (work_of plan) (units_left plan h.left) h.differed
+
+-- whether a status tells that a Compare differed: Compare Failure
+abbrev pub tells_difference : StatusField → Bool
+tells_difference st = st.sct == 2 && st.sc == 0x85
+
+-- a command with that status: all its units have moved, where it was handed on
+abbrev pub ended_progress : Option Plan → StatusField → Progress
+ended_progress None st = EndedWith st
+ended_progress (Some plan) st = with_left (work_of plan) [] (tells_difference st)
+
+-- how far a command is that was handed on, by where it stands; `held` is the device's, `status_at` the status in a slot of the completion ring
+abbrev pub flying_progress : Standing → Plan → Option Held → (status_at : ℕ → StatusField) → Progress
+flying_progress (Queued slot) plan held status_at = unmoved (work_of plan)
+flying_progress InDevice plan held status_at = held_progress held plan
+flying_progress (Answered slot) plan held status_at = ended_progress (Some plan) (status_at slot)
+
+-- the command as the guest's private controller has it, where it is that guest's
+abbrev pub member_of : (number : ℕ) → Command → Progress → Option Member
+member_of number command progress =
+    if command.guest == number then Some (record { queue = command.queue; entry = command.entry; progress = progress }) else None
+
+-- the guest's command in a tag
+abbrev pub member_in : Option Tag → (number : ℕ) → Option Held → (status_at : ℕ → StatusField) → Option Member
+member_in None number held status_at = None
+member_in (Some Free) number held status_at = None
+member_in (Some (Taken command reads)) number held status_at = member_of number command Unjudged
+member_in (Some (Flying command plan standing)) number held status_at =
+    member_of number command (flying_progress standing plan held status_at)
+member_in (Some (Ended command st plan)) number held status_at = member_of number command (ended_progress plan st)
+
+-- what the device holds under an identifier
+abbrev pub held_in : Option DeviceLane → (identifier : ℕ) → Option Held
+held_in None identifier = None
+held_in (Some d) identifier = held_by (slice_get d.held identifier)
+  where
+    held_by : Option (Option Held) → Option Held
+    held_by None = None
+    held_by (Some held) = held
+
+-- the bytes of a slot of a lane's completion ring
+abbrev pub completion_at : Geometry → World → (lane at : ℕ) → List ℕ
+completion_at geometry w lane at = bytes_from w.host (completion_slot geometry.mediator lane at) cqe_size
+
+-- a guest's taken commands, named by lane and tag: 64 times the lane, and the tag
+unfoldable pub members : Geometry → World → (number : ℕ) → Bag
+members geometry w number name =
+    member_in (tag_of w (name / tag_count) (name % tag_count)) number
+    (held_in (slice_get w.device (name / tag_count)) (name % tag_count))
+    (λ at. status_of (completion_at geometry w (name / tag_count) at))
+
+-- ---- the seat
+
+-- the guest's private controller as it stands in the world
+unfoldable pub seat : Geometry → Owner → World → Private
+seat geometry o w =
+    record {
+      memory = image (regions_of o.given) w.host;
+      disk = (λ lba. w.disk (block_at o.given.extent lba));
+      kept = (λ lba. w.kept (block_at o.given.extent lba));
+      controller = o.controller;
+      bag = members geometry w o.number;
+    }
+
+-- the world with a guest's memory, and its controller, as they are now
+abbrev pub with_memory : Owner → (memory : ℕ → ℕ) → World → World
+with_memory o memory w = with_host (put_image (regions_of o.given) memory w.host) w
+
+unfoldable pub put_back : Owner → (memory : ℕ → ℕ) → Controller → World → World
+put_back o memory c w = with_controller o.number c (with_memory o memory w)

@@ -1,0 +1,405 @@
+-- What each event does to the world, and how it is answered. An event that names a guest, lane, tag, slot or queue that can't be is ignored
+-- before all else; of the other replies that apply the first in the event's rule stands; and a reply that tells of no change leaves the
+-- world as it was (profile).
+use Rattle.std.specs.Prelude.{ℕ, ◌+◌, Bool, true, false, ◌&&◌, ◌==◌, nat_le, if◌then◌else◌, List, [], ◌∷◌, ◌++◌, slice_get, Option, Some, None}
+use Rattle.std.specs.List.{list_any}
+use Rattle.nv_entry.specs.Completion.{cid_of as completed_cid, status_of}
+use Rattle.nv_entry.specs.Status.{StatusField}
+use Rattle.nv_entry.specs.StatusCode.{done_with}
+use Rattle.nv_entry.specs.Submission.{cid_of}
+use Rattle.nv_entry.specs.declared.status_code.StatusCode.TheVariants.{InternalError, Success}
+use Rattle.nv_mem.specs.GuestMap.{all_mapped}
+use Rattle.nv_mem.specs.Places.{places_of, total_len}
+use Rattle.nv_model.specs.declared.act.Act.{Act}
+use Rattle.nv_model.specs.declared.reply.Reply.{Reply}
+use Rattle.nv_model.specs.declared.reply.Reply.TheVariants as reply
+use Rattle.nv_model.specs.Admin.{AdminStep, NothingToDo, QueueFull, Stepped, admin}
+use Rattle.nv_model.specs.Controller.{Posted, front, is_enabled, post, ran_out, took}
+use Rattle.nv_model.specs.Judge.{Work, is_read}
+use Rattle.nv_model.specs.Limits.{last_queue, part_size}
+use Rattle.nv_model.specs.Memory.{bytes_from, image, scattered, stored}
+use Rattle.nv_model.specs.Private.{Acted, Private, acted, marked}
+use Rattle.nv_model.specs.Queue.{is_empty, next_slot, sqe_size}
+use Rattle.nv_model.specs.Transcript.{Outcome, ReadDone, Settled, Wanted}
+use Rattle.nv_world_model.specs.declared.event.Event.{Event}
+use Rattle.nv_world_model.specs.declared.event.Event.TheVariants as event
+use Rattle.nv_world_model.specs.Area.{bounce_page, ring_size, written}
+use Rattle.nv_world_model.specs.Device.{DeviceLane, Held, completion_posted, completion_written, device_unit, entry_taken, front_entry, held_status, next_phase, rung, unit_gone, with_held}
+use Rattle.nv_world_model.specs.Geometry.{Geometry, regions_of, shape_of}
+use Rattle.nv_world_model.specs.Plan.{Answer, Bounced, Direct, NoData, Plan, Ranged, plan_over}
+use Rattle.nv_world_model.specs.Seat.{Owner, completion_at, owner_of, put_back, seat, with_memory}
+use Rattle.nv_world_model.specs.World.{Answered, Command, Ended, Flying, Free, InDevice, Lane, Queued, Standing, Tag, Taken, World, tag_of, with_controller, with_device, with_host, with_lane, with_tag}
+
+-- the world behind an event, and the reply
+pub record After : Type 0 where
+  pub world : World
+  pub reply : Reply
+
+abbrev pub replied : Reply → World → After
+replied r w = record { world = w; reply = r }
+
+-- ---- what an event names
+
+-- a guest that is there
+abbrev pub for_guest : Option Owner → World → (Owner → After) → After
+for_guest None w more = replied reply.Ignored w
+for_guest (Some o) w more = more o
+
+-- the guest of a command; a command of nobody's is at no point
+abbrev pub for_owner : Option Owner → World → (Owner → After) → After
+for_owner None w more = replied reply.Stale w
+for_owner (Some o) w more = more o
+
+-- a lane that is there
+abbrev pub for_lane : Option Lane → World → (Lane → After) → After
+for_lane None w more = replied reply.Ignored w
+for_lane (Some lane) w more = more lane
+
+-- the device's side of a lane that is there
+abbrev pub for_device : Option DeviceLane → World → (DeviceLane → After) → After
+for_device None w more = replied reply.Ignored w
+for_device (Some d) w more = more d
+
+-- a tag that is Taken
+abbrev pub for_taken : Option Tag → World → (Command → List ReadDone → After) → After
+for_taken None w more = replied reply.Ignored w
+for_taken (Some Free) w more = replied reply.Stale w
+for_taken (Some (Taken command reads)) w more = more command reads
+for_taken (Some (Flying command plan standing)) w more = replied reply.Stale w
+for_taken (Some (Ended command st plan)) w more = replied reply.Stale w
+
+-- a tag that is Ended
+abbrev pub for_ended : Option Tag → World → (Command → StatusField → Option Plan → After) → After
+for_ended None w more = replied reply.Ignored w
+for_ended (Some Free) w more = replied reply.Stale w
+for_ended (Some (Taken command reads)) w more = replied reply.Stale w
+for_ended (Some (Flying command plan standing)) w more = replied reply.Stale w
+for_ended (Some (Ended command st plan)) w more = more command st plan
+
+-- a slot whose command is in the device
+abbrev pub for_held : Option (Option Held) → World → (Held → After) → After
+for_held None w more = replied reply.Ignored w
+for_held (Some None) w more = replied reply.Idle w
+for_held (Some (Some h)) w more = more h
+
+-- ---- a guest's acts
+
+-- only an act that is done changes anything
+abbrev pub act_put_back : Reply → Private → Owner → World → After
+act_put_back reply.Done p o w = replied reply.Done (put_back o p.memory p.controller w)
+act_put_back (reply.Bytes bytes) p o w = replied (reply.Bytes bytes) w
+act_put_back reply.Idle p o w = replied reply.Idle w
+act_put_back reply.Busy p o w = replied reply.Busy w
+act_put_back reply.Held p o w = replied reply.Held w
+act_put_back reply.Stale p o w = replied reply.Stale w
+act_put_back reply.Unmapped p o w = replied reply.Unmapped w
+act_put_back reply.Ignored p o w = replied reply.Ignored w
+act_put_back reply.NoMemory p o w = replied reply.NoMemory w
+
+abbrev pub acted_by : Acted → Owner → World → After
+acted_by done o w = act_put_back done.reply done.state o w
+
+unfoldable pub acted_in : Geometry → Act → Owner → World → After
+acted_in geometry a o w = acted_by (acted (shape_of o.given) a (seat geometry o w)) o w
+
+-- ---- Admin
+
+abbrev pub administered_by : AdminStep → Owner → World → After
+administered_by NothingToDo o w = replied reply.Idle w
+administered_by QueueFull o w = replied reply.Held w
+administered_by (Stepped c memory) o w = replied reply.Done (put_back o memory c w)
+
+unfoldable pub administered_in : Owner → World → After
+administered_in o w =
+    (let shape = shape_of o.given in
+    administered_by (admin shape.mapped shape.blocks o.controller (image (regions_of o.given) w.host)) o w)
+
+-- ---- Take
+
+abbrev pub is_free : Tag → Bool
+is_free Free = true
+is_free (Taken command reads) = false
+is_free (Flying command plan standing) = false
+is_free (Ended command st plan) = false
+
+-- the lowest free tag, of those from number `from` on
+unfoldable pub free_tag : List Tag → (from : ℕ) → Option ℕ
+free_tag [] from = None
+free_tag (t ∷ tags) from = if is_free t then Some from else free_tag tags (from + 1)
+
+-- the entry at that guest address gets a tag, and the queue's head moves on
+unfoldable pub taken_to : (addr queue lane tag : ℕ) → Owner → World → World
+taken_to addr queue lane tag o w =
+    (let entry = bytes_from (image (regions_of o.given) w.host) addr sqe_size in
+    with_tag lane tag (Taken (record { guest = o.number; queue = queue; entry = entry }) [])
+    (with_controller o.number (took o.controller queue) w))
+
+abbrev pub take_tag : Option ℕ → (addr queue lane : ℕ) → Owner → World → After
+take_tag None addr queue lane o w = replied reply.Busy w
+take_tag (Some tag) addr queue lane o w = replied reply.Done (taken_to addr queue lane tag o w)
+
+abbrev pub take_front : Option ℕ → (queue number : ℕ) → Lane → Owner → World → After
+take_front None queue number lane o w = replied reply.Idle w
+take_front (Some addr) queue number lane o w = take_tag (free_tag lane.tags 0) addr queue number o w
+
+-- I/O queues are numbered from 1
+abbrev pub is_io_queue : (queue : ℕ) → Bool
+is_io_queue queue = nat_le 1 queue && nat_le queue last_queue
+
+abbrev pub take_from : (queue number : ℕ) → Lane → Owner → World → After
+take_from queue number lane o w =
+    if is_io_queue queue then take_front (front o.controller queue) queue number lane o w else replied reply.Ignored w
+
+-- ---- List
+
+-- the bytes join the transcript
+unfoldable pub listed : (addr len lane tag : ℕ) → Command → List ReadDone → Owner → World → After
+listed addr len lane tag command reads o w =
+    (let bytes = bytes_from (image (regions_of o.given) w.host) addr len in
+    replied (reply.Bytes bytes) (with_tag lane tag (Taken command (reads ++ record { addr = addr; bytes = bytes } ∷ [])) w))
+
+abbrev pub list_at : (addr len lane tag : ℕ) → Command → List ReadDone → Owner → World → After
+list_at addr len lane tag command reads o w =
+    if all_mapped (regions_of o.given) addr len then
+    (if nat_le 1 len && nat_le len part_size then listed addr len lane tag command reads o w else replied reply.Ignored w)
+    else replied reply.Unmapped w
+
+-- ---- Submit and GiveUp
+
+-- the command ends without a physical one
+unfoldable pub ended_at_once : (lane tag : ℕ) → Command → StatusField → World → World
+ended_at_once lane tag command st w = with_tag lane tag (Ended command st None) w
+
+-- list, source or ranges, and physical entry are written, and the doorbell is rung
+unfoldable pub submitted : (mediator lane tag : ℕ) → Command → Plan → Owner → DeviceLane → World → World
+submitted mediator lane tag command plan o d w =
+    with_tag lane tag (Flying command plan (Queued d.tail))
+    (with_device lane rung (with_host (written plan o.given command.entry mediator lane tag d.tail w.host) w))
+
+abbrev pub carry_out : Plan → (mediator lane tag : ℕ) → Command → Owner → DeviceLane → World → World
+carry_out (Answer st) mediator lane tag command o d w = ended_at_once lane tag command st w
+carry_out (NoData work) mediator lane tag command o d w = submitted mediator lane tag command (NoData work) o d w
+carry_out (Direct work) mediator lane tag command o d w = submitted mediator lane tag command (Direct work) o d w
+carry_out (Bounced work) mediator lane tag command o d w = submitted mediator lane tag command (Bounced work) o d w
+carry_out (Ranged work ranges) mediator lane tag command o d w = submitted mediator lane tag command (Ranged work ranges) o d w
+
+-- a plan that wants more is no plan yet
+abbrev pub submit_by : Outcome Plan → (mediator lane tag : ℕ) → Command → Owner → DeviceLane → World → After
+submit_by (Wanted addr len) mediator lane tag command o d w = replied reply.Stale w
+submit_by (Settled plan) mediator lane tag command o d w = replied reply.Done (carry_out plan mediator lane tag command o d w)
+
+-- ---- the physical controller
+
+-- a tag that was handed on stands there now
+abbrev pub standing_at : Option Tag → Standing → (lane tag : ℕ) → World → World
+standing_at None standing lane tag w = w
+standing_at (Some Free) standing lane tag w = w
+standing_at (Some (Taken command reads)) standing lane tag w = w
+standing_at (Some (Flying command plan before)) standing lane tag w = with_tag lane tag (Flying command plan standing) w
+standing_at (Some (Ended command st plan)) standing lane tag w = w
+
+abbrev pub stands : Standing → (lane tag : ℕ) → World → World
+stands standing lane tag w = standing_at (tag_of w lane tag) standing lane tag w
+
+-- the front entry is taken into the device
+unfoldable pub device_took : (lane : ℕ) → (entry : List ℕ) → World → World
+device_took lane entry w = stands InDevice lane (cid_of entry) (with_device lane (entry_taken entry w.host) w)
+
+abbrev pub device_take : (mediator lane : ℕ) → DeviceLane → World → After
+device_take mediator lane d w =
+    if is_empty d.head d.tail then replied reply.Idle w
+    else replied reply.Done (device_took lane (front_entry mediator lane d w.host) w)
+
+-- a unit moves, over the whole host and disk
+unfoldable pub device_moved : (disk_blocks lane slot number : ℕ) → Held → World → World
+device_moved disk_blocks lane slot number h w =
+    (let m = device_unit number disk_blocks h w.host w.disk w.kept in
+    record (with_device lane (with_held slot (Some (unit_gone number m.differed h))) w) {
+      host = m.memory;
+      disk = m.disk;
+      kept = m.kept;
+    })
+
+abbrev pub device_move : (disk_blocks lane slot number : ℕ) → Held → World → After
+device_move disk_blocks lane slot number h w =
+    if list_any (λ k. k == number) h.left then replied reply.Done (device_moved disk_blocks lane slot number h w)
+    else replied reply.Idle w
+
+-- a physical completion
+unfoldable pub device_posted : (mediator lane slot : ℕ) → StatusField → DeviceLane → World → World
+device_posted mediator lane slot st d w =
+    stands (Answered d.posted) lane slot
+    (with_device lane (completion_posted slot) (with_host (completion_written mediator lane slot st d w.host) w))
+
+abbrev pub device_post : (left : List ℕ) → (mediator lane slot : ℕ) → Held → DeviceLane → World → After
+device_post [] mediator lane slot h d w = replied reply.Done (device_posted mediator lane slot (held_status h) d w)
+device_post (number ∷ left) mediator lane slot h d w = replied reply.Idle w
+
+-- success, whatever the other bits say
+abbrev pub is_success : StatusField → Bool
+is_success st = st.sct == 0 && st.sc == 0
+
+abbrev pub device_fail : (mediator lane slot : ℕ) → StatusField → DeviceLane → World → After
+device_fail mediator lane slot st d w =
+    if is_success st then replied reply.Ignored w else replied reply.Done (device_posted mediator lane slot st d w)
+
+-- a block becomes kept
+unfoldable pub kept_block : (block : ℕ) → World → World
+kept_block block w = record w { kept = marked w.kept block true }
+
+abbrev pub keep : (disk_blocks block : ℕ) → World → After
+keep disk_blocks block w = if nat_le (block + 1) disk_blocks then replied reply.Done (kept_block block w) else replied reply.Idle w
+
+-- ---- Reap
+
+-- the status that the guest gets: a media error as it is, any other failure as Internal Error
+abbrev pub passed_on : StatusField → StatusField
+passed_on st =
+    if is_success st then done_with Success else
+    if st.sct == 2 then st else done_with InternalError
+
+-- a tag that was handed on ends with that status
+abbrev pub ended_at : Option Tag → StatusField → (lane tag : ℕ) → World → World
+ended_at None st lane tag w = w
+ended_at (Some Free) st lane tag w = w
+ended_at (Some (Taken command reads)) st lane tag w = w
+ended_at (Some (Flying command plan standing)) st lane tag w = with_tag lane tag (Ended command (passed_on st) (Some plan)) w
+ended_at (Some (Ended command before plan)) st lane tag w = w
+
+-- the mediator's side of a lane behind one more completion
+abbrev pub completion_read : Lane → Lane
+completion_read lane = record lane { head = next_slot ring_size lane.head; phase = next_phase lane.head lane.phase }
+
+-- the completion ends its tag
+unfoldable pub reaped : (lane : ℕ) → (completion : List ℕ) → World → World
+reaped lane completion w =
+    ended_at (tag_of w lane (completed_cid completion)) (status_of completion) lane (completed_cid completion)
+    (with_lane lane completion_read w)
+
+abbrev pub reap : Geometry → (number : ℕ) → Lane → DeviceLane → World → After
+reap geometry number lane d w =
+    if is_empty lane.head d.posted then replied reply.Idle w
+    else replied reply.Done (reaped number (completion_at geometry w number lane.head) w)
+
+-- ---- Post
+
+-- the bytes of a bounced Read that succeeded reach the guest, place by place in order
+unfoldable pub scattered_to : (bounce : ℕ) → Work → Owner → World → World
+scattered_to bounce work o w =
+    with_memory o (scattered (image (regions_of o.given) w.host) (places_of work.pieces) (bytes_from w.host bounce (total_len work.pieces))) w
+
+abbrev pub delivered : Option Plan → StatusField → (bounce : ℕ) → Owner → World → World
+delivered None st bounce o w = w
+delivered (Some (Answer answer)) st bounce o w = w
+delivered (Some (NoData work)) st bounce o w = w
+delivered (Some (Direct work)) st bounce o w = w
+delivered (Some (Bounced work)) st bounce o w = if is_read work.opcode && is_success st then scattered_to bounce work o w else w
+delivered (Some (Ranged work ranges)) st bounce o w = w
+
+-- the completion stands in the guest's queue, and the tag is free
+unfoldable pub posted_to : Posted → (lane tag : ℕ) → Owner → World → World
+posted_to posted lane tag o w =
+    with_tag lane tag Free
+    (put_back o (stored (image (regions_of o.given) w.host) posted.addr posted.entry) posted.controller w)
+
+-- the command has run out after a reset, and the tag is free
+unfoldable pub ran_out_of : (queue lane tag : ℕ) → Owner → World → World
+ran_out_of queue lane tag o w = with_tag lane tag Free (with_controller o.number (ran_out o.controller queue) w)
+
+-- where the completion queue is full nothing is delivered either
+abbrev pub post_by : Option Posted → Option Plan → StatusField → (bounce lane tag : ℕ) → Owner → World → After
+post_by None plan st bounce lane tag o w = replied reply.Held w
+post_by (Some posted) plan st bounce lane tag o w =
+    replied reply.Done (posted_to posted lane tag o (delivered plan st bounce o w))
+
+abbrev pub post_at : Command → StatusField → Option Plan → (bounce lane tag : ℕ) → Owner → World → After
+post_at command st plan bounce lane tag o w =
+    if is_enabled o.controller
+    then post_by (post o.controller command.queue 0 (cid_of command.entry) st) plan st bounce lane tag o w
+    else replied reply.Done (ran_out_of command.queue lane tag o (delivered plan st bounce o w))
+
+-- ---- the step
+
+-- an event
+unfoldable pub step : Geometry → Event → World → After
+step geometry (event.Guest guest a) w = for_guest (owner_of geometry w guest) w (λ o. acted_in geometry a o w)
+step geometry (event.Admin guest) w = for_guest (owner_of geometry w guest) w (λ o. administered_in o w)
+step geometry (event.Take guest queue lane) w =
+    for_guest (owner_of geometry w guest) w (λ o.
+    for_lane (slice_get w.lanes lane) w (λ l. take_from queue lane l o w))
+step geometry (event.List lane tag addr len) w =
+    for_taken (tag_of w lane tag) w (λ command reads.
+    for_owner (owner_of geometry w command.guest) w (λ o. list_at addr len lane tag command reads o w))
+step geometry (event.Submit lane tag) w =
+    for_taken (tag_of w lane tag) w (λ command reads.
+    for_owner (owner_of geometry w command.guest) w (λ o.
+    for_device (slice_get w.device lane) w (λ d.
+    submit_by (plan_over o.given command.entry reads) geometry.mediator lane tag command o d w)))
+step geometry (event.GiveUp lane tag) w =
+    for_taken (tag_of w lane tag) w (λ command reads.
+    replied reply.Done (ended_at_once lane tag command (done_with InternalError) w))
+step geometry (event.DevTake lane) w =
+    for_device (slice_get w.device lane) w (λ d. device_take geometry.mediator lane d w)
+step geometry (event.DevMove lane slot number) w =
+    for_device (slice_get w.device lane) w (λ d.
+    for_held (slice_get d.held slot) w (λ h. device_move geometry.disk_blocks lane slot number h w))
+step geometry (event.DevPost lane slot) w =
+    for_device (slice_get w.device lane) w (λ d.
+    for_held (slice_get d.held slot) w (λ h. device_post h.left geometry.mediator lane slot h d w))
+step geometry (event.DevFail lane slot st) w =
+    for_device (slice_get w.device lane) w (λ d.
+    for_held (slice_get d.held slot) w (λ h. device_fail geometry.mediator lane slot st d w))
+step geometry (event.Keep block) w = keep geometry.disk_blocks block w
+step geometry (event.Reap lane) w =
+    for_lane (slice_get w.lanes lane) w (λ l.
+    for_device (slice_get w.device lane) w (λ d. reap geometry lane l d w))
+step geometry (event.Post lane tag) w =
+    for_ended (tag_of w lane tag) w (λ command st plan.
+    for_owner (owner_of geometry w command.guest) w (λ o.
+    post_at command st plan (bounce_page geometry.mediator lane tag) lane tag o w))
+
+-- ---- logs
+
+-- the world behind these events, in order
+unfoldable pub replay : Geometry → List Event → World → World
+replay geometry [] w = w
+replay geometry (e ∷ events) w = replay geometry events (step geometry e w).world
+
+-- their replies
+unfoldable pub replies : Geometry → List Event → World → List Reply
+replies geometry [] w = []
+replies geometry (e ∷ events) w = (step geometry e w).reply ∷ replies geometry events (step geometry e w).world
+
+-- ---- what is due
+
+-- whether an event is one that a worker makes only where it is due
+abbrev pub is_due_kind : Event → Bool
+is_due_kind (event.Guest guest a) = false
+is_due_kind (event.Admin guest) = true
+is_due_kind (event.Take guest queue lane) = true
+is_due_kind (event.List lane tag addr len) = false
+is_due_kind (event.Submit lane tag) = false
+is_due_kind (event.GiveUp lane tag) = false
+is_due_kind (event.DevTake lane) = true
+is_due_kind (event.DevMove lane slot number) = true
+is_due_kind (event.DevPost lane slot) = true
+is_due_kind (event.DevFail lane slot st) = false
+is_due_kind (event.Keep block) = false
+is_due_kind (event.Reap lane) = true
+is_due_kind (event.Post lane tag) = true
+
+-- whether a reply is Done
+abbrev pub is_done : Reply → Bool
+is_done reply.Done = true
+is_done (reply.Bytes bytes) = false
+is_done reply.Idle = false
+is_done reply.Busy = false
+is_done reply.Held = false
+is_done reply.Stale = false
+is_done reply.Unmapped = false
+is_done reply.Ignored = false
+is_done reply.NoMemory = false
+
+-- such an event is due where it would be done
+unfoldable pub due : Geometry → Event → World → Bool
+due geometry e w = is_due_kind e && is_done (step geometry e w).reply
