@@ -5,4 +5,6 @@ pub mod Device
 pub mod World
 pub mod Seat
 pub mod Step
+pub mod View
+pub mod Contained
 pub mod Rows
