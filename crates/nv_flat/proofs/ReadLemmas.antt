@@ -122,7 +122,7 @@ compare-all (suc n) i lba m disk kept pieces fua differed within sized enough =
     let at : 512 * i + 512 ≡ 512 * (i + 1) = omega arith in
     let first : Bool = differed || differs (gathered m (take 512 places)) (block_bytes (byte_of_block disk) lba) in
     let whole : (first || differs (gathered m (take (512 * n) (drop (512 * (i + 1)) (places_of pieces)))) rest)
-        ≡ (differed || differs (gathered m (take (512 * suc n) places)) (joined (take (suc n) (drop lba disk)))) =
+    ≡ (differed || differs (gathered m (take (512 * suc n) places)) (joined (take (suc n) (drop lba disk)))) =
     ap (λ (bs : List ℕ). (differed || differs (gathered m (take 512 places)) bs) || differs (gathered m (take (512 * n) (drop (512 * (i + 1)) (places_of pieces)))) rest)
     (block_bytes-list disk lba here)
     ∙ ap (λ (ps : List Place). (differed || differs (gathered m (take 512 places)) block) || differs (gathered m (take (512 * n) ps)) rest)
