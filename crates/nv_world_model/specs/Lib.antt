@@ -7,4 +7,5 @@ pub mod Seat
 pub mod Step
 pub mod View
 pub mod Contained
+pub mod SetUp
 pub mod Rows

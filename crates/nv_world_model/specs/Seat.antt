@@ -119,13 +119,13 @@ member_in (Some (Flying command plan standing)) number held status_at =
 member_in (Some (Ended command st plan)) number held status_at = member_of number command (ended_progress plan st)
 
 -- what the device holds under an identifier
+abbrev pub held_by : Option (Option Held) → Option Held
+held_by None = None
+held_by (Some held) = held
+
 abbrev pub held_in : Option DeviceLane → (identifier : ℕ) → Option Held
 held_in None identifier = None
 held_in (Some d) identifier = held_by (slice_get d.held identifier)
-  where
-    held_by : Option (Option Held) → Option Held
-    held_by None = None
-    held_by (Some held) = held
 
 -- the bytes of a slot of a lane's completion ring
 abbrev pub completion_at : Geometry → World → (lane at : ℕ) → List ℕ

@@ -1,0 +1,94 @@
+-- Which set-ups make a world (profile): guests whose blocks and memory are apart, within the project's limits.
+use Rattle.std.specs.Prelude.{ℕ, ◌+◌, ◌*◌, ◌%◌, Bool, false, not, ◌&&◌, ◌||◌, ◌==◌, nat_le, nat_lt, if◌then◌else◌, List, [], ◌∷◌, length, Option, Some, None}
+use Rattle.std.specs.List.{list_all, list_any}
+use Rattle.nv_mem.specs.GuestMap.{hosts_meet, span_met, spans_meet}
+use Rattle.nv_model.specs.Limits.{page}
+use Rattle.nv_world_model.specs.Area.{lane_pages}
+use Rattle.nv_world_model.specs.Geometry.{Geometry, Guest, regions_of}
+use Rattle.nv_world_model.specs.World.{World, opening_world}
+
+-- a set-up: the sizes of the host's memory and of the lanes, beside what stays as it is
+pub record SetUp : Type 0 where
+  pub host_bytes : ℕ
+  pub lanes : ℕ
+  pub geometry : Geometry
+
+-- why a set-up is refused
+pub data Refusal : Type 0 where
+  TooManyGuests : Refusal
+  RangesMeet : Refusal
+  MapsMeet : Refusal
+  BadSize : Refusal
+
+-- ---- limits
+
+abbrev pub most_guests : ℕ
+most_guests = 16
+
+abbrev pub most_regions : ℕ
+most_regions = 64
+
+abbrev pub most_lanes : ℕ
+most_lanes = 8
+
+abbrev pub most_host_bytes : ℕ
+most_host_bytes = 1073741824
+
+abbrev pub most_disk_blocks : ℕ
+most_disk_blocks = 2097152
+
+-- ---- the checks
+
+-- whether some two of these meet
+abbrev pub any_two : {A : Type 0} → (A → A → Bool) → List A → Bool
+any_two meet [] = false
+any_two meet (x ∷ xs) = list_any (meet x) xs || any_two meet xs
+
+-- whether two guests have a block in common
+abbrev pub blocks_meet : Guest → Guest → Bool
+blocks_meet g h = spans_meet g.extent.base g.extent.blocks h.extent.base h.extent.blocks
+
+-- whether two guests have a byte of the host in common
+abbrev pub maps_meet : Guest → Guest → Bool
+maps_meet g h = hosts_meet (regions_of g) (regions_of h)
+
+-- the bytes of the mediator's area
+abbrev pub area_bytes : SetUp → ℕ
+area_bytes s = page * (lane_pages * s.lanes)
+
+-- whether a guest's memory and the mediator's area have a byte in common
+abbrev pub meets_area : SetUp → Guest → Bool
+meets_area s g = span_met (regions_of g) s.geometry.mediator (area_bytes s)
+
+-- whether a number lies between these two
+abbrev pub between : (low high number : ℕ) → Bool
+between low high number = nat_le low number && nat_le number high
+
+-- whether the host and the mediator's area in it have a size that may be
+abbrev pub host_fits : SetUp → Bool
+host_fits s =
+    s.host_bytes % page == 0 && between page most_host_bytes s.host_bytes && between 1 most_lanes s.lanes
+    && s.geometry.mediator % page == 0 && nat_le (s.geometry.mediator + area_bytes s) s.host_bytes
+
+-- whether a guest has a map that was made for this host, of not too many regions, and at least one block, all on the disk
+abbrev pub guest_fits : SetUp → Guest → Bool
+guest_fits s g =
+    g.memory_map.host_len == s.host_bytes && nat_le (length (regions_of g)) most_regions
+    && nat_le 1 g.extent.blocks && nat_le (g.extent.base + g.extent.blocks) s.geometry.disk_blocks
+
+-- whether all sizes may be
+abbrev pub sizes_fit : SetUp → Bool
+sizes_fit s =
+    host_fits s && between 1 most_disk_blocks s.geometry.disk_blocks && list_all (guest_fits s) s.geometry.guests
+
+-- the first reason that applies, or none
+unfoldable pub refusal_of : SetUp → Option Refusal
+refusal_of s =
+    if nat_lt most_guests (length s.geometry.guests) then Some TooManyGuests else
+    if any_two blocks_meet s.geometry.guests then Some RangesMeet else
+    if any_two maps_meet s.geometry.guests || list_any (meets_area s) s.geometry.guests then Some MapsMeet else
+    if not (sizes_fit s) then Some BadSize else None
+
+-- the world that a set-up makes
+abbrev pub world_at_start : SetUp → World
+world_at_start s = opening_world s.geometry s.lanes
