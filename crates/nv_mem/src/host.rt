@@ -116,7 +116,7 @@ mod tests {
             return false;
         }
         host.load(addr, &mut bytes[..len]);
-        &bytes[..len] == want
+        &bytes[..len] == want && host.bytes(addr, len as u64) == want
     }
 
     // Stores bytes, and says whether the host holds them.

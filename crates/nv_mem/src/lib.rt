@@ -18,6 +18,7 @@
 //! error, and all others pass.
 #![tactic(auto)]
 
+pub use bytes::Bytes;
 pub use guest_map::GuestMap;
 pub use host::Host;
 pub use map_error::MapError;
@@ -26,6 +27,7 @@ pub use piece::Piece;
 pub use places::Places;
 pub use region::Region;
 
+mod bytes;
 pub mod guest_map;
 pub mod host;
 pub mod laws;

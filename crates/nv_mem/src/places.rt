@@ -95,6 +95,7 @@ mod tests {
     ];
 
     fn push_all(places: &mut Places, pieces: &[Piece]) -> Result<(), NoMemory> {
+        places.reserve(pieces.len())?;
         for piece in pieces {
             places.push(*piece)?;
         }

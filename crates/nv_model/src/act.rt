@@ -1,4 +1,4 @@
-use crate::bytes::Bytes;
+use nv_mem::Bytes;
 
 /// What a guest does: it reads and writes its memory, its controller's registers and its doorbells.
 #[derive(Debug, Drop)]

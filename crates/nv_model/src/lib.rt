@@ -2,13 +2,12 @@
 #![tactic(auto)]
 
 mod act;
-mod bytes;
 pub mod laws;
 mod reply;
 pub mod rows;
 mod want;
 
 pub use act::Act;
-pub use bytes::Bytes;
+pub use nv_mem::Bytes;
 pub use reply::Reply;
 pub use want::Want;

@@ -1,4 +1,4 @@
-use crate::bytes::Bytes;
+use nv_mem::Bytes;
 
 /// What an act or an event is answered.
 #[derive(Debug, Drop)]
