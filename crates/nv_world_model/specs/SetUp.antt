@@ -74,7 +74,8 @@ host_fits s =
     s.host_bytes % page == 0 && between page most_host_bytes s.host_bytes && between 1 most_lanes s.lanes
     && s.geometry.mediator % page == 0 && nat_le (s.geometry.mediator + area_bytes s) s.host_bytes
 
--- whether a guest has a map that was made for this host, of not too many regions, at least one block, all on the disk, and a limit that may be
+-- whether a guest has a map that was made for this host, of not too many regions, at least one block, all on the
+-- disk, and a limit that may be
 abbrev pub guest_fits : SetUp → Guest → Bool
 guest_fits s g =
     g.memory_map.host_len == s.host_bytes && nat_le (length (regions_of g)) most_regions
