@@ -1,6 +1,7 @@
--- The mediator's own area of the host's memory: each lane's submission ring, completion ring, list pages and bounce pages; and what it
--- writes there for the physical controller. The layout is the project's own (profile); the physical entries are Base Specification 2.0,
--- "Submission Queue Entry", and NVM Command Set Specification 1.0, "NVM Command Set Commands".
+-- The mediator's own area of the host's memory: each lane's submission ring, completion ring, list pages and bounce
+-- pages; and what it writes there for the physical controller. The layout is the project's own (profile); the
+-- physical entries are Base Specification 2.0, "Submission Queue Entry", and NVM Command Set Specification 1.0, "NVM
+-- Command Set Commands".
 use Rattle.std.specs.Prelude.{ℕ, ◌+◌, ◌*◌, ◌/◌, ◌%◌, ◌^◌, if◌then◌else◌, List, [], ◌∷◌, ◌++◌, flat_map, length, take}
 use Rattle.std.specs.List.{range_with_len}
 use Rattle.nv_entry.specs.Layout.{bytes_of_dwords, number_bytes}
@@ -105,7 +106,8 @@ form_dwords Clear extent entry = two_dwords (block_at extent (slba_of entry)) ++
 form_dwords Manage extent entry = nr_of entry ∷ (4 * deallocate_of entry) ∷ 0 ∷ []
 form_dwords Keep extent entry = 0 ∷ 0 ∷ 0 ∷ []
 
--- the 64 bytes: the guest's opcode, FUSE and PSDT 0, the tag as command identifier, namespace 1, the PRPs, and CDW10 to CDW12
+-- the 64 bytes: the guest's opcode, FUSE and PSDT 0, the tag as command identifier, namespace 1, the PRPs, and CDW10
+-- to CDW12
 unfoldable pub physical_entry : (opcode tag : ℕ) → Prps → (dwords : List ℕ) → List ℕ
 physical_entry opcode tag prps dwords =
     bytes_of_dwords (
@@ -128,7 +130,8 @@ entry_of plan guest entry mediator lane tag =
 
 -- ---- a submission
 
--- the host's memory with the list in its page, the source or the ranges in the bounce pages, and the physical entry in that slot
+-- the host's memory with the list in its page, the source or the ranges in the bounce pages, and the physical entry
+-- in that slot
 unfoldable pub written : Plan → Guest → (entry : List ℕ) → (mediator lane tag slot : ℕ) → (host : ℕ → ℕ) → ℕ → ℕ
 written plan guest entry mediator lane tag slot host =
     (let listed = stored host (list_page mediator lane tag)

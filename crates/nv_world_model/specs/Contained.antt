@@ -1,5 +1,5 @@
--- What an event may change, and what it may depend on: nothing of a guest but its owner's. Isolation between guests is the project's own
--- (profile).
+-- What an event may change, and what it may depend on: nothing of a guest but its owner's. Isolation between guests
+-- is the project's own (profile).
 use Rattle.std.specs.Prelude.{◌≡◌, ◌≢◌, ℕ, Bool, true, false, ◌&&◌, ◌==◌, nat_le, nat_lt, if◌then◌else◌, List, [], ◌∷◌, length, slice_get, Option, Some, None}
 use Rattle.nv_model.specs.declared.reply.Reply.{Reply}
 use Rattle.nv_world_model.specs.declared.event.Event.{Event}
@@ -88,16 +88,18 @@ abbrev pub given_to : Option ℕ → Geometry → Option Guest
 given_to None geometry = None
 given_to (Some number) geometry = slice_get geometry.guests number
 
--- what is left as it was: every other guest's view, but that marks may rise; and each byte and block that is neither the owner's nor the
--- mediator's
+-- what is left as it was: every other guest's view, but that marks may rise; and each byte and block that is neither
+-- the owner's nor the mediator's
 pub record LeavesOthers (geometry : Geometry) (whose : Option ℕ) (w z : World) : Type 0 where
-  pub views : (number : ℕ) (guest : Guest) → slice_get geometry.guests number ≡ Some guest → whose ≢ Some number → IsSameView number guest geometry w z
-  pub marks : (number : ℕ) (guest : Guest) → slice_get geometry.guests number ≡ Some guest → whose ≢ Some number → MarksRise guest w z
+  pub views : (number : ℕ) (guest : Guest) → slice_get geometry.guests number ≡ Some guest → whose ≢ Some number
+      → IsSameView number guest geometry w z
+  pub marks : (number : ℕ) (guest : Guest) → slice_get geometry.guests number ≡ Some guest → whose ≢ Some number
+      → MarksRise guest w z
   pub bytes : (at : ℕ) → in_image_of (given_to whose geometry) at ≡ false → in_area geometry w at ≡ false → w.host at ≡ z.host at
   pub blocks : (at offset : ℕ) → in_extent_of (given_to whose geometry) at ≡ false → w.disk at offset ≡ z.disk at offset
 
--- what is seen of an event depends on its owner's view and the shared numbers alone: in the world cut down to them it has the same reply, and
--- leads to a world that looks alike
+-- what is seen of an event depends on its owner's view and the shared numbers alone: in the world cut down to them it
+-- has the same reply, and leads to a world that looks alike
 pub record ReadsOwn (geometry : Geometry) (e : Event) (w : World) (number : ℕ) (guest : Guest) : Type 0 where
   pub reply : (step geometry e w).reply ≡ (step geometry e (cut number guest geometry w)).reply
   pub alike : IsAlike number guest geometry (step geometry e w).world (step geometry e (cut number guest geometry w)).world
@@ -123,6 +125,7 @@ pub record RaisesOne (block : ℕ) (w z : World) : Type 0 where
 -- an event is contained
 pub record Contained (geometry : Geometry) (e : Event) (w : World) : Type 0 where
   pub others : LeavesOthers geometry (owner e w) w (step geometry e w).world
-  pub own : (number : ℕ) (guest : Guest) → slice_get geometry.guests number ≡ Some guest → owner e w ≡ Some number → ReadsOwn geometry e w number guest
+  pub own : (number : ℕ) (guest : Guest) → slice_get geometry.guests number ≡ Some guest → owner e w ≡ Some number
+      → ReadsOwn geometry e w number guest
   pub keep : (block : ℕ) → e ≡ event.Keep block → RaisesOne block w (step geometry e w).world
   pub dull : is_telling (step geometry e w).reply ≡ false → (step geometry e w).world ≡ w

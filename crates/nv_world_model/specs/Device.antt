@@ -1,6 +1,7 @@
--- The physical controller, lane by lane: it takes entries from a submission ring, moves their units in any order, and posts completions
--- (Base Specification 2.0, "Memory-based Transport Queue Model", "Submission Queue Entry", "Completion Queue Entry"). It finds a command's
--- bytes by PRP over all host addresses. That a real controller acts so is a premise.
+-- The physical controller, lane by lane: it takes entries from a submission ring, moves their units in any order, and
+-- posts completions (Base Specification 2.0, "Memory-based Transport Queue Model", "Submission Queue Entry",
+-- "Completion Queue Entry"). It finds a command's bytes by PRP over all host addresses. That a real controller acts
+-- so is a premise.
 use Rattle.std.specs.Prelude.{ℕ, ◌+◌, ◌*◌, Bool, true, false, not, ◌&&◌, ◌==◌, if◌then◌else◌, List, [], ◌∷◌, drop, replicate, slice_set, take, Option, Some, None}
 use Rattle.std.specs.List.{range_with_len}
 use Rattle.nv_entry.specs.Completion.{completion}
@@ -23,16 +24,16 @@ use Rattle.nv_world_model.specs.Area.{completion_slot, queue_pair, ring_size, su
 
 -- ---- the state
 
--- a command in the device: its entry, where its bytes lie in the host, the numbers of its units that have not moved, and whether a Compare
--- has differed
+-- a command in the device: its entry, where its bytes lie in the host, the numbers of its units that have not moved,
+-- and whether a Compare has differed
 pub record Held : Type 0 where
   pub entry : List ℕ
   pub pieces : List Piece
   pub left : List ℕ
   pub differed : Bool
 
--- a lane: head and tail of its submission ring, the tail as it was rung; the slot of its completion ring that is written next, and the phase
--- tag of this pass; and the commands in the device, by identifier
+-- a lane: head and tail of its submission ring, the tail as it was rung; the slot of its completion ring that is
+-- written next, and the phase tag of this pass; and the commands in the device, by identifier
 pub record DeviceLane : Type 0 where
   pub head : ℕ
   pub tail : ℕ
@@ -108,7 +109,8 @@ entry_taken entry host d =
 abbrev pub range_at : (number : ℕ) → List Piece → (host : ℕ → ℕ) → List ℕ
 range_at number pieces host = gathered host (take range_size (drop (range_size * number) (places_of pieces)))
 
--- what a unit of a command of that form does, as units of the disk's blocks: a unit of Dataset Management is a whole range
+-- what a unit of a command of that form does, as units of the disk's blocks: a unit of Dataset Management is a whole
+-- range
 abbrev pub form_moves : Form → (number disk_blocks : ℕ) → Held → (host : ℕ → ℕ) → List WorkUnit
 form_moves (Transfer dest) number disk_blocks h host = MoveBlock number (slba_of h.entry + number) ∷ []
 form_moves Clear number disk_blocks h host = ClearBlock (slba_of h.entry + number) (is_fua h.entry) ∷ []

@@ -1,5 +1,5 @@
--- What stays as it is while a world runs: where the mediator's own area begins, how large the disk is, and what each guest was given
--- (profile).
+-- What stays as it is while a world runs: where the mediator's own area begins, how large the disk is, and what each
+-- guest was given (profile).
 use Rattle.std.specs.Prelude.{ℕ, List}
 use Rattle.nv_mem.specs.GuestMap.{Mapping, mapped}
 use Rattle.nv_mem.specs.declared.region.Region.{Region}

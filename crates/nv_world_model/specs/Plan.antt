@@ -1,6 +1,6 @@
--- What the mediator does with a command: it answers at once, or hands a physical command on, whose transfer goes to and from the guest's
--- own memory or by way of the mediator's bounce pages. A plan follows from the entry, the bytes that were read of its lists, and what the
--- guest was given, alone (profile).
+-- What the mediator does with a command: it answers at once, or hands a physical command on, whose transfer goes to
+-- and from the guest's own memory or by way of the mediator's bounce pages. A plan follows from the entry, the bytes
+-- that were read of its lists, and what the guest was given, alone (profile).
 use Rattle.std.specs.Prelude.{ℕ, ◌*◌, ◌-◌, Bool, if◌then◌else◌, List, [], ◌++◌, drop, length}
 use Rattle.nv_entry.specs.Status.{StatusField}
 use Rattle.nv_mem.specs.declared.region.Region.{Region}

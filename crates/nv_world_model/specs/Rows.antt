@@ -30,7 +30,8 @@ abbrev pub set_up : Geometry
 set_up =
     record { mediator = 0x400000; disk_blocks = 4096; guests = guest_at 0x100000 1000 ∷ guest_at 0x200000 2000 ∷ [] }
 
--- an enabled controller with queue pair 1: so many completion slots at 12000h, and 16 submission slots at 13000h, of which so many are rung
+-- an enabled controller with queue pair 1: so many completion slots at 12000h, and 16 submission slots at 13000h, of
+-- which so many are rung
 abbrev pub controller_with : (slots rung : ℕ) → Controller
 controller_with slots rung =
     record opening {

@@ -1,5 +1,5 @@
--- A guest's seat: what of the world is its private controller. What is done for a guest is done in its seat, as the private controller does
--- it, and put back (profile).
+-- A guest's seat: what of the world is its private controller. What is done for a guest is done in its seat, as the
+-- private controller does it, and put back (profile).
 use Rattle.std.specs.Prelude.{ℕ, ◌+◌, ◌-◌, ◌/◌, ◌%◌, ◌&&◌, ◌==◌, if◌then◌else◌, Bool, false, List, [], ◌∷◌, filter, flat_map, length, map, replicate, slice_get, Option, Some, None}
 use Rattle.std.specs.List.{enumerate_from, list_any, range_with_len}
 use Rattle.nv_entry.specs.Completion.{status_of}
@@ -54,7 +54,8 @@ owner_of geometry w number = owner_by number (slice_get geometry.guests number) 
 
 -- ---- its taken commands
 
--- the number of the device's unit that each unit of a work stands behind, in their order: a unit of its own, or its range
+-- the number of the device's unit that each unit of a work stands behind, in their order: a unit of its own, or its
+-- range
 abbrev pub device_numbers : Plan → List ℕ
 device_numbers (Answer st) = []
 device_numbers (NoData work) = range_with_len 0 (length work.units)
@@ -98,7 +99,8 @@ abbrev pub ended_progress : Option Plan → StatusField → Progress
 ended_progress None st = EndedWith st
 ended_progress (Some plan) st = with_left (work_of plan) [] (tells_difference st)
 
--- how far a command is that was handed on, by where it stands; `held` is the device's, `status_at` the status in a slot of the completion ring
+-- how far a command is that was handed on, by where it stands; `held` is the device's, `status_at` the status in a
+-- slot of the completion ring
 abbrev pub flying_progress : Standing → Plan → Option Held → (status_at : ℕ → StatusField) → Progress
 flying_progress (Queued slot) plan held status_at = unmoved (work_of plan)
 flying_progress InDevice plan held status_at = held_progress held plan

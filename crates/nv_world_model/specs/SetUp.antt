@@ -37,6 +37,10 @@ most_host_bytes = 1073741824
 abbrev pub most_disk_blocks : ℕ
 most_disk_blocks = 2097152
 
+-- the most descriptors of a list that a guest may be given
+abbrev pub most_limit : ℕ
+most_limit = 4096
+
 -- ---- the checks
 
 -- whether some two of these meet
@@ -70,11 +74,13 @@ host_fits s =
     s.host_bytes % page == 0 && between page most_host_bytes s.host_bytes && between 1 most_lanes s.lanes
     && s.geometry.mediator % page == 0 && nat_le (s.geometry.mediator + area_bytes s) s.host_bytes
 
--- whether a guest has a map that was made for this host, of not too many regions, and at least one block, all on the disk
+-- whether a guest has a map that was made for this host, of not too many regions, at least one block, all on the
+-- disk, and a limit that may be
 abbrev pub guest_fits : SetUp → Guest → Bool
 guest_fits s g =
     g.memory_map.host_len == s.host_bytes && nat_le (length (regions_of g)) most_regions
     && nat_le 1 g.extent.blocks && nat_le (g.extent.base + g.extent.blocks) s.geometry.disk_blocks
+    && between 1 most_limit g.limit
 
 -- whether all sizes may be
 abbrev pub sizes_fit : SetUp → Bool

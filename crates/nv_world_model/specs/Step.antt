@@ -1,6 +1,6 @@
--- What each event does to the world, and how it is answered. An event that names a guest, lane, tag, slot or queue that can't be is ignored
--- before all else; of the other replies that apply the first in the event's rule stands; and a reply that tells of no change leaves the
--- world as it was (profile).
+-- What each event does to the world, and how it is answered. An event that names a guest, lane, tag, slot or queue
+-- that can't be is ignored before all else; of the other replies that apply the first in the event's rule stands; and
+-- a reply that tells of no change leaves the world as it was (profile).
 use Rattle.std.specs.Prelude.{ℕ, ◌+◌, Bool, true, false, ◌&&◌, ◌==◌, nat_le, if◌then◌else◌, List, [], ◌∷◌, ◌++◌, slice_get, Option, Some, None}
 use Rattle.std.specs.List.{list_any}
 use Rattle.nv_entry.specs.Completion.{cid_of as completed_cid, status_of}
@@ -286,7 +286,8 @@ reap geometry number lane d w =
 -- the bytes of a bounced Read that succeeded reach the guest, place by place in order
 unfoldable pub scattered_to : (bounce : ℕ) → Work → Owner → World → World
 scattered_to bounce work o w =
-    with_memory o (scattered (image (regions_of o.given) w.host) (places_of work.pieces) (bytes_from w.host bounce (total_len work.pieces))) w
+    (let bytes = bytes_from w.host bounce (total_len work.pieces) in
+    with_memory o (scattered (image (regions_of o.given) w.host) (places_of work.pieces) bytes) w)
 
 abbrev pub delivered : Option Plan → StatusField → (bounce : ℕ) → Owner → World → World
 delivered None st bounce o w = w

@@ -1,5 +1,6 @@
--- What of the world is a guest's to see: its memory and blocks, its controller, its tags with all that the device and the mediator hold of
--- them; and the numbers that all guests share. Isolation between guests is the project's own (profile).
+-- What of the world is a guest's to see: its memory and blocks, its controller, its tags with all that the device and
+-- the mediator hold of them; and the numbers that all guests share. Isolation between guests is the project's own
+-- (profile).
 use Rattle.std.specs.Prelude.{◌≡◌, ℕ, ◌+◌, ◌*◌, ◌<◌, Bool, true, false, not, ◌&&◌, ◌||◌, ◌==◌, nat_le, nat_lt, if◌then◌else◌, List, [], ◌∷◌, ◌++◌, filter, flat_map, length, map, replicate, slice_get, Option, Some, None, is_some}
 use Rattle.std.specs.List.{enumerate_from, list_any, range_with_len}
 use Rattle.nv_entry.specs.Completion.{status_of}
@@ -142,7 +143,8 @@ in_extent extent at = list_any (λ lba. block_at extent lba == at) (range_with_l
 -- one view, but for the marks
 pub record IsSameView (number : ℕ) (guest : Guest) (geometry : Geometry) (w z : World) : Type 0 where
   pub memory : (addr : ℕ) → image (regions_of guest) w.host addr ≡ image (regions_of guest) z.host addr
-  pub blocks : (lba offset : ℕ) → lba < block_count guest.extent → w.disk (block_at guest.extent lba) offset ≡ z.disk (block_at guest.extent lba) offset
+  pub blocks : (lba offset : ℕ) → lba < block_count guest.extent
+      → w.disk (block_at guest.extent lba) offset ≡ z.disk (block_at guest.extent lba) offset
   pub controller : slice_get w.controllers number ≡ slice_get z.controllers number
   pub tags : (lane tag : ℕ) → own_tag number (tag_of w lane tag) ≡ own_tag number (tag_of z lane tag)
   pub held : (lane tag : ℕ) → own_held number (tag_of w lane tag) (held_in (slice_get w.device lane) tag)

@@ -1,5 +1,5 @@
--- The mediator's world: the host's memory and the disk, the physical controller, the tags of each lane, and each guest's controller. What is
--- not the physical controller's is the project's own (profile).
+-- The mediator's world: the host's memory and the disk, the physical controller, the tags of each lane, and each
+-- guest's controller. What is not the physical controller's is the project's own (profile).
 use Rattle.std.specs.Prelude.{ℕ, Bool, true, false, List, length, replicate, slice_get, slice_set, Option, Some, None}
 use Rattle.nv_entry.specs.Status.{StatusField}
 use Rattle.nv_model.specs.Controller.{Controller, opening}
@@ -17,7 +17,8 @@ pub record Command : Type 0 where
   pub queue : ℕ
   pub entry : List ℕ
 
--- where a command that was handed on stands: in a slot of the submission ring, in the device, or in a slot of the completion ring
+-- where a command that was handed on stands: in a slot of the submission ring, in the device, or in a slot of the
+-- completion ring
 pub data Standing : Type 0 where
   Queued : (slot : ℕ) → Standing
   InDevice : Standing
@@ -33,7 +34,8 @@ pub data Tag : Type 0 where
   -- a command that has ended with a status, and its plan where it was handed on
   Ended : Command → StatusField → Option Plan → Tag
 
--- the mediator's side of a lane: the slot of the completion ring that is read next, the phase tag that it wants there, and the tags
+-- the mediator's side of a lane: the slot of the completion ring that is read next, the phase tag that it wants
+-- there, and the tags
 pub record Lane : Type 0 where
   pub head : ℕ
   pub phase : Bool

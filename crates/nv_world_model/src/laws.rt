@@ -1,0 +1,3 @@
+//! Laws about the definitions, as functions that do nothing: each contract is a law.
+
+pub mod plans;
