@@ -101,8 +101,10 @@ two_dwords number = (number % 2 ^ 32) ∷ (number / 2 ^ 32) ∷ []
 
 -- CDW10 to CDW12 of a command of that form: the block on the disk with NLB and FUA; or NR and deallocate
 abbrev pub form_dwords : Form → Extent → (entry : List ℕ) → List ℕ
-form_dwords (Transfer dest) extent entry = two_dwords (block_at extent (slba_of entry)) ++ (nlb_of entry + 2 ^ 30 * bit (is_fua entry)) ∷ []
-form_dwords Clear extent entry = two_dwords (block_at extent (slba_of entry)) ++ (nlb_of entry + 2 ^ 30 * bit (is_fua entry)) ∷ []
+form_dwords (Transfer dest) extent entry =
+    two_dwords (block_at extent (slba_of entry)) ++ (nlb_of entry + 2 ^ 30 * bit (is_fua entry)) ∷ []
+form_dwords Clear extent entry =
+    two_dwords (block_at extent (slba_of entry)) ++ (nlb_of entry + 2 ^ 30 * bit (is_fua entry)) ∷ []
 form_dwords Manage extent entry = nr_of entry ∷ (4 * deallocate_of entry) ∷ 0 ∷ []
 form_dwords Keep extent entry = 0 ∷ 0 ∷ 0 ∷ []
 

@@ -9,7 +9,7 @@ use Rattle.nv_world_model.specs.Area.{lane_start}
 use Rattle.nv_world_model.specs.Device.{DeviceLane}
 use Rattle.nv_world_model.specs.Geometry.{Geometry, Guest}
 use Rattle.nv_world_model.specs.Step.{step}
-use Rattle.nv_world_model.specs.View.{IsAlike, IsSameView, MarksRise, cut, guest_of_tag, in_extent, in_image}
+use Rattle.nv_world_model.specs.View.{IsAlike, IsSameView, cut, guest_of_tag, in_extent, in_image}
 use Rattle.nv_world_model.specs.World.{Answered, Ended, Flying, Free, InDevice, Lane, Queued, Standing, Tag, Taken, World, tag_of}
 
 -- ---- the owner
@@ -88,21 +88,22 @@ abbrev pub given_to : Option ℕ → Geometry → Option Guest
 given_to None geometry = None
 given_to (Some number) geometry = slice_get geometry.guests number
 
--- what is left as it was: every other guest's view, but that marks may rise; and each byte and block that is neither
--- the owner's nor the mediator's
+-- what is left as it was: every other guest's view; each byte that is neither the owner's nor the mediator's; and each
+-- block that isn't the owner's, but that its mark may rise
 pub record LeavesOthers (geometry : Geometry) (whose : Option ℕ) (w z : World) : Type 0 where
   pub views : (number : ℕ) (guest : Guest) → slice_get geometry.guests number ≡ Some guest → whose ≢ Some number
       → IsSameView number guest geometry w z
-  pub marks : (number : ℕ) (guest : Guest) → slice_get geometry.guests number ≡ Some guest → whose ≢ Some number
-      → MarksRise guest w z
-  pub bytes : (at : ℕ) → in_image_of (given_to whose geometry) at ≡ false → in_area geometry w at ≡ false → w.host at ≡ z.host at
+  pub bytes : (at : ℕ) → in_image_of (given_to whose geometry) at ≡ false → in_area geometry w at ≡ false
+      → w.host at ≡ z.host at
   pub blocks : (at offset : ℕ) → in_extent_of (given_to whose geometry) at ≡ false → w.disk at offset ≡ z.disk at offset
+  pub marks : (at : ℕ) → in_extent_of (given_to whose geometry) at ≡ false → w.kept at ≡ true → z.kept at ≡ true
 
 -- what is seen of an event depends on its owner's view and the shared numbers alone: in the world cut down to them it
 -- has the same reply, and leads to a world that looks alike
 pub record ReadsOwn (geometry : Geometry) (e : Event) (w : World) (number : ℕ) (guest : Guest) : Type 0 where
   pub reply : (step geometry e w).reply ≡ (step geometry e (cut number guest geometry w)).reply
-  pub alike : IsAlike number guest geometry (step geometry e w).world (step geometry e (cut number guest geometry w)).world
+  pub alike : IsAlike number guest geometry
+      (step geometry e w).world (step geometry e (cut number guest geometry w)).world
 
 -- whether a reply tells of a change, or of bytes
 abbrev pub is_telling : Reply → Bool

@@ -125,7 +125,8 @@ moved_by (Some opcode) number disk_blocks h m =
     (block_work opcode h.pieces (has_blocks opcode && is_fua h.entry)) m
 
 -- the same, of a command in the device; whether it differed so far goes on
-unfoldable pub device_unit : (number disk_blocks : ℕ) → Held → (host : ℕ → ℕ) → (disk : ℕ → ℕ → ℕ) → (kept : ℕ → Bool) → Moved
+unfoldable pub device_unit : (number disk_blocks : ℕ) → Held → (host : ℕ → ℕ) → (disk : ℕ → ℕ → ℕ) → (kept : ℕ → Bool)
+    → Moved
 device_unit number disk_blocks h host disk kept =
     moved_by (io_opcode (opcode_of h.entry)) number disk_blocks h
     (record { memory = host; disk = disk; kept = kept; differed = h.differed })

@@ -181,12 +181,14 @@ carry_out (Answer st) mediator lane tag command o d w = ended_at_once lane tag c
 carry_out (NoData work) mediator lane tag command o d w = submitted mediator lane tag command (NoData work) o d w
 carry_out (Direct work) mediator lane tag command o d w = submitted mediator lane tag command (Direct work) o d w
 carry_out (Bounced work) mediator lane tag command o d w = submitted mediator lane tag command (Bounced work) o d w
-carry_out (Ranged work ranges) mediator lane tag command o d w = submitted mediator lane tag command (Ranged work ranges) o d w
+carry_out (Ranged work ranges) mediator lane tag command o d w =
+    submitted mediator lane tag command (Ranged work ranges) o d w
 
 -- a plan that wants more is no plan yet
 abbrev pub submit_by : Outcome Plan → (mediator lane tag : ℕ) → Command → Owner → DeviceLane → World → After
 submit_by (Wanted addr len) mediator lane tag command o d w = replied reply.Stale w
-submit_by (Settled plan) mediator lane tag command o d w = replied reply.Done (carry_out plan mediator lane tag command o d w)
+submit_by (Settled plan) mediator lane tag command o d w =
+    replied reply.Done (carry_out plan mediator lane tag command o d w)
 
 -- ---- the physical controller
 
@@ -248,7 +250,8 @@ unfoldable pub kept_block : (block : ℕ) → World → World
 kept_block block w = record w { kept = marked w.kept block true }
 
 abbrev pub keep : (disk_blocks block : ℕ) → World → After
-keep disk_blocks block w = if nat_le (block + 1) disk_blocks then replied reply.Done (kept_block block w) else replied reply.Idle w
+keep disk_blocks block w =
+    if nat_le (block + 1) disk_blocks then replied reply.Done (kept_block block w) else replied reply.Idle w
 
 -- ---- Reap
 
@@ -294,7 +297,8 @@ delivered None st bounce o w = w
 delivered (Some (Answer answer)) st bounce o w = w
 delivered (Some (NoData work)) st bounce o w = w
 delivered (Some (Direct work)) st bounce o w = w
-delivered (Some (Bounced work)) st bounce o w = if is_read work.opcode && is_success st then scattered_to bounce work o w else w
+delivered (Some (Bounced work)) st bounce o w =
+    if is_read work.opcode && is_success st then scattered_to bounce work o w else w
 delivered (Some (Ranged work ranges)) st bounce o w = w
 
 -- the completion stands in the guest's queue, and the tag is free

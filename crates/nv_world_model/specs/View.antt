@@ -109,7 +109,8 @@ tag_shown (Flying command plan standing) guest held status_at mediator lane tag 
     ++ list_shown plan guest (list_page mediator lane tag) (bounce_page mediator lane tag)
     ++ source_shown plan (bounce_page mediator lane tag)
     ++ read_shown standing plan held status_at (bounce_page mediator lane tag)
-tag_shown (Ended command st plan) guest held status_at mediator lane tag = ended_shown plan st (bounce_page mediator lane tag)
+tag_shown (Ended command st plan) guest held status_at mediator lane tag =
+    ended_shown plan st (bounce_page mediator lane tag)
 
 -- the same of a guest's own tags of a lane
 abbrev pub own_shown : (number : ℕ) → Guest → Geometry → World → (lane : ℕ) → ℕ × Tag → List Span
@@ -151,13 +152,11 @@ pub record IsSameView (number : ℕ) (guest : Guest) (geometry : Geometry) (w z 
       ≡ own_held number (tag_of z lane tag) (held_in (slice_get z.device lane) tag)
   pub area : (addr : ℕ) → lies_in (shown number guest geometry w) addr ≡ true → w.host addr ≡ z.host addr
 
--- the marks of a guest's blocks are the same; or may have risen
+-- the marks of a guest's blocks are the same
 abbrev pub SameMarks : Guest → (w z : World) → Type 0
-SameMarks guest w z = (lba : ℕ) → lba < block_count guest.extent → w.kept (block_at guest.extent lba) ≡ z.kept (block_at guest.extent lba)
-
-abbrev pub MarksRise : Guest → (w z : World) → Type 0
-MarksRise guest w z =
-    (lba : ℕ) → lba < block_count guest.extent → w.kept (block_at guest.extent lba) ≡ true → z.kept (block_at guest.extent lba) ≡ true
+SameMarks guest w z =
+    (lba : ℕ) → lba < block_count guest.extent
+    → w.kept (block_at guest.extent lba) ≡ z.kept (block_at guest.extent lba)
 
 -- ---- the shared numbers
 
@@ -188,7 +187,8 @@ abbrev pub ring_numbers : DeviceLane → RingNumbers
 ring_numbers d = record { head = d.head; tail = d.tail; posted = d.posted; phase = d.phase; slots = length d.held }
 
 unfoldable pub shared_numbers : World → SharedNumbers
-shared_numbers w = record { lanes = map lane_numbers w.lanes; rings = map ring_numbers w.device; guests = length w.controllers }
+shared_numbers w =
+    record { lanes = map lane_numbers w.lanes; rings = map ring_numbers w.device; guests = length w.controllers }
 
 -- a guest can't tell the worlds apart
 pub record IsAlike (number : ℕ) (guest : Guest) (geometry : Geometry) (w z : World) : Type 0 where

@@ -33,8 +33,9 @@ fn printed<C: One>(alloc: Global, parts: &[&[u8]]) -> Result<Vec<u8>, Fault> {
         script.extend_from_slice(part)?;
     }
     let mut input = script.as_slice();
-    perform::<C, &[u8], Vec<u8>>(alloc, Command::Once, &mut input, Vec::new(alloc))
-        .map_err(|failure| failure.fault)
+    perform::<C, &[u8], Vec<u8>>(alloc, Command::Once, &mut input, Vec::new(alloc)).map_err(
+        |failure| failure.fault,
+    )
 }
 
 /// A controller of the kind `C` prints this.
