@@ -1,15 +1,17 @@
 -- Worked examples: runs of the private controller
-use Rattle.std.specs.Prelude.{ℕ, ◌+◌, ◌*◌, ◌-◌, Bool, true, List, [], ◌∷◌, ◌++◌, map, replicate, Option, Some, None, is_some}
+use Rattle.std.specs.Prelude.{ℕ, ◌+◌, ◌*◌, ◌-◌, Bool, true, false, List, [], ◌∷◌, ◌++◌, map, replicate, Option, Some, None, is_some}
 use Rattle.nv_entry.specs.Layout.{number_at, dword}
 use Rattle.nv_entry.specs.Status.{StatusField}
 use Rattle.nv_entry.specs.Completion.{completion}
+use Rattle.nv_model.specs.declared.act.Act.{Act}
 use Rattle.nv_model.specs.declared.act.Act.TheVariants as act
 use Rattle.nv_model.specs.declared.reply.Reply.{Reply}
 use Rattle.nv_model.specs.Memory.{bytes_from}
 use Rattle.nv_model.specs.Controller.{opening}
 use Rattle.nv_model.specs.Private.{Private, Run, Step, ActStep, TakeStep, JudgeStep, MoveStep, PostStep, AdminQueueStep, Taken, Unjudged, no_commands, put, run_of, start}
 use Rattle.nv_model.specs.Carried.{ending_of, judged_then_moved}
-use Rattle.nv_model.specs.Footprint.{Named, footprints}
+use Rattle.nv_model.specs.Footprint.{Destination, Entry, Named, Source, footprints, named_as}
+use Rattle.nv_model.specs.Queue.{SubmissionQueue}
 use Rattle.nv_model.specs.Rows.{command, data_block, first_example, guest, prps}
 
 -- ---- looking at a run
@@ -258,3 +260,19 @@ entry_of (Some t) = t.entry ∷ []
 -- the bytes that each outstanding command names; the names of the taken ones are 0 and 1
 abbrev pub named_bytes : Private → List (List Named)
 named_bytes p = footprints guest p.memory p.controller (entry_of (p.bag 0) ++ entry_of (p.bag 1))
+
+-- what a Read that is not taken and a taken Write name
+abbrev pub read_and_write_named : List (List Named)
+read_and_write_named =
+    (named_as Entry 0x13000 64 ∷ named_as Destination 0x3000 512 ∷ []) ∷ (named_as Source 0x5000 512 ∷ []) ∷ []
+
+-- a store of so many zeros, and a load of so many bytes, at an address
+abbrev pub zeros_stored : (len : ℕ) → (addr : ℕ) → Act
+zeros_stored len addr = act.Store addr (replicate len 0)
+
+abbrev pub bytes_loaded : (len : ℕ) → (addr : ℕ) → Act
+bytes_loaded len addr = act.Load addr len
+
+-- a submission queue of four slots at 13000h from whose last slot on two commands wait
+abbrev pub going_round : SubmissionQueue
+going_round = record { base = 0x13000; size = 4; head = 3; tail = 1; completes_to = 1; closing = false }

@@ -9,6 +9,7 @@ pub mod effects;
 pub mod field_checks;
 pub mod footprints;
 pub mod identify;
+pub mod meetings;
 pub mod one_command;
 pub mod private_runs;
 pub mod prp_lists;

@@ -153,6 +153,14 @@ pub fn write_zeroes_zeroes_its_blocks()
         ≡ Some ((4, true) ∷ (0, false) ∷ (0, false) ∷ (7, true) ∷ []) }
 {}
 
+/// Write Zeroes with FUA makes the blocks of its range kept.
+#[tactic(none)]
+pub fn write_zeroes_with_fua_makes_its_blocks_kept()
+    ensures { after (carried 2) (with_command zeros numbered_blocks (all_marks false) (by_sgl write_zeroes 5 (with_fua 1) one_block))
+        (λ p. block_byte 4 0 p ∷ block_byte 5 0 p ∷ block_byte 6 511 p ∷ block_byte 7 0 p ∷ [])
+        ≡ Some ((4, false) ∷ (0, true) ∷ (0, true) ∷ (7, false) ∷ []) }
+{}
+
 /// Dataset Management with deallocate set zeroes the blocks of its ranges, which are no longer kept.
 #[tactic(none)]
 pub fn deallocate_zeroes_its_blocks()
