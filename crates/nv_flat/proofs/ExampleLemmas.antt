@@ -26,7 +26,7 @@ use Rattle.nv_flat.proofs.RunLemmas.{one-outcome, refused-unchanged}
 -- ---- the Read
 
 abbrev pub reading : Work
-reading = record { opcode = opcode.Read; pieces = Run 0x200 512 ∷ []; units = MoveBlock 0 1 ∷ []; fua = false }
+reading = record { opcode = opcode.Read; pieces = Run 0x200 512 ∷ []; ranges = []; units = MoveBlock 0 1 ∷ []; fua = false }
 
 read-goes : verdict_in (shape_of small) (byte_in small.memory) (read_to_half 1) ≡ Go reading
 unfolding number_at dword qword bits bytes_of_dwords everywhere bytes_from in_memory and_then read_array read_sgl move_units judge
@@ -54,7 +54,7 @@ bytes-of-read st new run addr = ap (λ (m : Moved). m.memory addr) (one-read st 
 -- ---- the Write
 
 abbrev pub writing : Work
-writing = record { opcode = opcode.Write; pieces = Run 0x200 512 ∷ []; units = MoveBlock 0 0 ∷ []; fua = false }
+writing = record { opcode = opcode.Write; pieces = Run 0x200 512 ∷ []; ranges = []; units = MoveBlock 0 0 ∷ []; fua = false }
 
 write-goes : verdict_in (shape_of small) (byte_in small.memory) write_from_half ≡ Go writing
 unfolding number_at dword qword bits bytes_of_dwords everywhere bytes_from in_memory and_then read_array read_sgl move_units judge

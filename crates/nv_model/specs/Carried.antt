@@ -29,7 +29,7 @@ unmoved p = record { memory = p.memory; disk = p.disk; kept = p.kept; differed =
 
 -- what a unit that moves a block needs of a work
 abbrev pub block_work : IoOpcode → List Piece → (fua : Bool) → Work
-block_work opcode pieces fua = record { opcode = opcode; pieces = pieces; units = []; fua = fua }
+block_work opcode pieces fua = record { opcode = opcode; pieces = pieces; ranges = []; units = []; fua = fua }
 
 -- n units that move blocks, from that index of a transfer and that LBA on
 unfoldable pub units_from : (index lba n : ℕ) → List WorkUnit

@@ -34,11 +34,12 @@ pub data WorkUnit : Type 0 where
   -- every block of a namespace of that many becomes kept
   KeepAll : (blocks : ℕ) → WorkUnit
 
--- what a command that is carried out does: where its buffer lies, its units in order of their numbers, and whether its blocks are
--- kept (Force Unit Access)
+-- what a command that is carried out does: where its buffer lies, the ranges that it names, 16 bytes each, if it is a Dataset
+-- Management, its units in order of their numbers, and whether its blocks are kept (Force Unit Access)
 pub record Work : Type 0 where
   pub opcode : IoOpcode
   pub pieces : List Piece
+  pub ranges : List (List ℕ)
   pub units : List WorkUnit
   pub fua : Bool
 
@@ -216,6 +217,7 @@ work_of blocks opcode entry pieces ranges =
     record {
       opcode = opcode;
       pieces = pieces;
+      ranges = ranges;
       units = form_units (form_of opcode) blocks entry ranges;
       fua = has_blocks opcode && is_fua entry;
     }

@@ -161,11 +161,12 @@ pages_from addr (suc count) = addr ∷ pages_from (addr + 0x1000) count
 
 -- a Read that goes
 abbrev pub reads : List Piece → List WorkUnit → Verdict
-reads pieces units = Go (record { opcode = opcode.Read; pieces = pieces; units = units; fua = false })
+reads pieces units = Go (record { opcode = opcode.Read; pieces = pieces; ranges = []; units = units; fua = false })
 
 -- a command without a buffer that goes
 abbrev pub goes_without_buffer : IoOpcode → List WorkUnit → Verdict
-goes_without_buffer code units = Go (record { opcode = code; pieces = []; units = units; fua = false })
+goes_without_buffer code units =
+    Go (record { opcode = code; pieces = []; ranges = []; units = units; fua = false })
 
 -- the last dword of the completion with which a command of identifier 7 is refused, phase tag 1; none where it goes
 abbrev pub refusal : Verdict → Option ℕ
@@ -181,8 +182,9 @@ abbrev pub larger_refusal_in : (ℕ → ℕ) → List ℕ → Option ℕ
 larger_refusal_in memory entry = refusal (verdict_in larger_guest memory entry)
 
 -- Dataset Management that goes
-abbrev pub manages : List Piece → List WorkUnit → Verdict
-manages pieces units = Go (record { opcode = opcode.DatasetManagement; pieces = pieces; units = units; fua = false })
+abbrev pub manages : List Piece → (ranges : List (List ℕ)) → List WorkUnit → Verdict
+manages pieces ranges units =
+    Go (record { opcode = opcode.DatasetManagement; pieces = pieces; ranges = ranges; units = units; fua = false })
 
 -- ---- optional commands
 

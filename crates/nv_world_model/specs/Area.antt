@@ -2,7 +2,7 @@
 -- pages; and what it writes there for the physical controller. The layout is the project's own (profile); the
 -- physical entries are Base Specification 2.0, "Submission Queue Entry", and NVM Command Set Specification 1.0, "NVM
 -- Command Set Commands".
-use Rattle.std.specs.Prelude.{ℕ, ◌+◌, ◌*◌, ◌/◌, ◌%◌, ◌^◌, if◌then◌else◌, List, [], ◌∷◌, ◌++◌, flat_map, length, take}
+use Rattle.std.specs.Prelude.{ℕ, ◌+◌, ◌*◌, ◌/◌, ◌%◌, ◌^◌, if◌then◌else◌, List, [], ◌∷◌, ◌++◌, flat_map, take}
 use Rattle.std.specs.List.{range_with_len}
 use Rattle.nv_entry.specs.Layout.{bytes_of_dwords, number_bytes}
 use Rattle.nv_entry.specs.Range.{blocks_of, start_of}
@@ -10,15 +10,15 @@ use Rattle.nv_entry.specs.Status.{bit}
 use Rattle.nv_entry.specs.Submission.{deallocate_of, nlb_of, nr_of, opcode_of, slba_of}
 use Rattle.nv_mem.specs.Places.{places_of, total_len}
 use Rattle.nv_ns.specs.BlockRange.{Extent, block_at}
-use Rattle.nv_model.specs.Judge.{Clear, Form, Keep, Manage, Transfer, Work, form_of, is_fua, is_read}
-use Rattle.nv_model.specs.Limits.{page, range_size}
+use Rattle.nv_model.specs.Judge.{Clear, Form, Keep, Manage, Transfer, Work, form_of, is_fua}
+use Rattle.nv_model.specs.Limits.{page}
 use Rattle.nv_model.specs.Memory.{gathered, image, stored}
 use Rattle.nv_model.specs.Queue.{cqe_size, sqe_size}
 use Rattle.nv_prp.specs.Built.{built}
 use Rattle.nv_prp.specs.Fits.{host_addresses}
 use Rattle.nv_prp.specs.declared.prps.Prps.{Prps}
 use Rattle.nv_world_model.specs.Geometry.{Guest, regions_of}
-use Rattle.nv_world_model.specs.Plan.{Answer, Bounced, Direct, NoData, Plan, Ranged}
+use Rattle.nv_world_model.specs.Plan.{Answer, Bounced, Direct, NoData, Plan}
 
 -- ---- where things lie
 
@@ -66,7 +66,6 @@ addresses_of (Answer st) guest bounce = []
 addresses_of (NoData work) guest bounce = []
 addresses_of (Direct work) guest bounce = host_addresses (regions_of guest) work.pieces
 addresses_of (Bounced work) guest bounce = range_with_len bounce (total_len work.pieces)
-addresses_of (Ranged work ranges) guest bounce = range_with_len bounce (range_size * length ranges)
 
 -- PRP1, PRP2 and the list that name them
 abbrev pub prps_of : Plan → Guest → (list bounce : ℕ) → Prps
@@ -85,13 +84,18 @@ translated_range extent range =
 abbrev pub source_bytes : Guest → (host : ℕ → ℕ) → Work → List ℕ
 source_bytes guest host work = gathered (image (regions_of guest) host) (places_of work.pieces)
 
--- what stands in the bounce pages once a plan is submitted: a source, or the ranges
+-- what stands in the bounce pages once a command of that form is submitted: a source, or the ranges
+abbrev pub form_bounced : Form → Guest → (host : ℕ → ℕ) → Work → List ℕ
+form_bounced (Transfer dest) guest host work = if dest then [] else source_bytes guest host work
+form_bounced Clear guest host work = []
+form_bounced Manage guest host work = flat_map (translated_range guest.extent) work.ranges
+form_bounced Keep guest host work = []
+
 abbrev pub bounced_bytes : Plan → Guest → (host : ℕ → ℕ) → List ℕ
 bounced_bytes (Answer st) guest host = []
 bounced_bytes (NoData work) guest host = []
 bounced_bytes (Direct work) guest host = []
-bounced_bytes (Bounced work) guest host = if is_read work.opcode then [] else source_bytes guest host work
-bounced_bytes (Ranged work ranges) guest host = flat_map (translated_range guest.extent) ranges
+bounced_bytes (Bounced work) guest host = form_bounced (form_of work.opcode) guest host work
 
 -- ---- the physical entry
 
@@ -122,7 +126,6 @@ plan_dwords (Answer st) extent entry = form_dwords Keep extent entry
 plan_dwords (NoData work) extent entry = form_dwords (form_of work.opcode) extent entry
 plan_dwords (Direct work) extent entry = form_dwords (form_of work.opcode) extent entry
 plan_dwords (Bounced work) extent entry = form_dwords (form_of work.opcode) extent entry
-plan_dwords (Ranged work ranges) extent entry = form_dwords (form_of work.opcode) extent entry
 
 -- the physical entry of a plan for a guest's command in that tag
 abbrev pub entry_of : Plan → Guest → (entry : List ℕ) → (mediator lane tag : ℕ) → List ℕ

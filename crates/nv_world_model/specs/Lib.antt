@@ -7,7 +7,6 @@ pub mod Seat
 pub mod Step
 pub mod View
 pub mod Contained
-pub mod Laws
 pub mod Log
 pub mod SetUp
 pub mod Rows

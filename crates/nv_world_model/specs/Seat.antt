@@ -9,14 +9,14 @@ use Rattle.nv_mem.specs.GuestMap.{covers_host}
 use Rattle.nv_mem.specs.declared.region.Region.{Region}
 use Rattle.nv_ns.specs.BlockRange.{block_at}
 use Rattle.nv_model.specs.Controller.{Controller}
-use Rattle.nv_model.specs.Judge.{Work}
+use Rattle.nv_model.specs.Judge.{Clear, Form, Keep, Manage, Transfer, Work, form_of}
 use Rattle.nv_model.specs.Memory.{bytes_from, image}
 use Rattle.nv_model.specs.Private.{AtWork, Bag, Private, Progress, Unjudged, Ended as EndedWith, Taken as Member, numbers_of}
 use Rattle.nv_model.specs.Queue.{cqe_size}
 use Rattle.nv_world_model.specs.Area.{completion_slot, tag_count}
 use Rattle.nv_world_model.specs.Device.{DeviceLane, Held}
 use Rattle.nv_world_model.specs.Geometry.{Geometry, Guest, regions_of}
-use Rattle.nv_world_model.specs.Plan.{Answer, Bounced, Direct, NoData, Plan, Ranged}
+use Rattle.nv_world_model.specs.Plan.{Answer, Bounced, Direct, NoData, Plan}
 use Rattle.nv_world_model.specs.World.{Answered, Command, Ended, Flying, Free, InDevice, Queued, Standing, Tag, Taken, World, tag_of, with_controller, with_host}
 
 -- ---- an image that is put back
@@ -54,19 +54,19 @@ owner_of geometry w number = owner_by number (slice_get geometry.guests number) 
 
 -- ---- its taken commands
 
--- the number of the device's unit that each unit of a work stands behind, in their order: a unit of its own, or its
--- range
-abbrev pub device_numbers : Plan → List ℕ
-device_numbers (Answer st) = []
-device_numbers (NoData work) = range_with_len 0 (length work.units)
-device_numbers (Direct work) = range_with_len 0 (length work.units)
-device_numbers (Bounced work) = range_with_len 0 (length work.units)
-device_numbers (Ranged work ranges) = flat_map (λ r. replicate (blocks_of r.1) r.0) (enumerate_from 0 ranges)
+-- the number of the device's unit behind each unit of a command of that form, in their order: one of its own, or of a
+-- range all its blocks'
+abbrev pub form_numbers : Form → Work → List ℕ
+form_numbers (Transfer dest) work = numbers_of work
+form_numbers Clear work = numbers_of work
+form_numbers Manage work = flat_map (λ r. replicate (blocks_of r.1) r.0) (enumerate_from 0 work.ranges)
+form_numbers Keep work = numbers_of work
 
--- the numbers of the units of which the device's unit has not moved
-unfoldable pub units_left : Plan → (left : List ℕ) → List ℕ
-units_left plan left =
-    map (λ u. u.0) (filter (λ u. list_any (λ k. k == u.1) left) (enumerate_from 0 (device_numbers plan)))
+-- the numbers of the units whose unit of the device is one of these
+unfoldable pub units_behind : Work → (numbers : List ℕ) → List ℕ
+units_behind work numbers =
+    map (λ u. u.0)
+    (filter (λ u. list_any (λ k. k == u.1) numbers) (enumerate_from 0 (form_numbers (form_of work.opcode) work)))
 
 -- the work of a plan, where it has one
 abbrev pub work_of : Plan → Option Work
@@ -74,12 +74,11 @@ work_of (Answer st) = None
 work_of (NoData work) = Some work
 work_of (Direct work) = Some work
 work_of (Bounced work) = Some work
-work_of (Ranged work ranges) = Some work
 
--- a command at work with these units left, or one none of which has moved
+-- a command at work with these of the device's units left, or one none of which has moved
 abbrev pub with_left : Option Work → (left : List ℕ) → (differed : Bool) → Progress
 with_left None left differed = Unjudged
-with_left (Some work) left differed = AtWork work left differed
+with_left (Some work) left differed = AtWork work (units_behind work left) differed
 
 abbrev pub unmoved : Option Work → Progress
 unmoved None = Unjudged
@@ -88,7 +87,7 @@ unmoved (Some work) = AtWork work (numbers_of work) false
 -- a command that the device holds
 abbrev pub held_progress : Option Held → Plan → Progress
 held_progress None plan = Unjudged
-held_progress (Some h) plan = with_left (work_of plan) (units_left plan h.left) h.differed
+held_progress (Some h) plan = with_left (work_of plan) h.left h.differed
 
 -- whether a status tells that a Compare differed: Compare Failure
 abbrev pub tells_difference : StatusField → Bool

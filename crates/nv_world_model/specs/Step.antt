@@ -26,7 +26,7 @@ use Rattle.nv_world_model.specs.declared.event.Event.TheVariants as event
 use Rattle.nv_world_model.specs.Area.{bounce_page, ring_size, written}
 use Rattle.nv_world_model.specs.Device.{DeviceLane, Held, completion_posted, completion_written, device_unit, entry_taken, front_entry, held_status, next_phase, rung, unit_gone, with_held}
 use Rattle.nv_world_model.specs.Geometry.{Geometry, regions_of, shape_of}
-use Rattle.nv_world_model.specs.Plan.{Answer, Bounced, Direct, NoData, Plan, Ranged, plan_over}
+use Rattle.nv_world_model.specs.Plan.{Answer, Bounced, Direct, NoData, Plan, plan_over}
 use Rattle.nv_world_model.specs.Seat.{Owner, completion_at, owner_of, put_back, seat, with_memory}
 use Rattle.nv_world_model.specs.World.{Answered, Command, Ended, Flying, Free, InDevice, Lane, Queued, Standing, Tag, Taken, World, tag_of, with_controller, with_device, with_host, with_lane, with_tag}
 
@@ -181,8 +181,6 @@ carry_out (Answer st) mediator lane tag command o d w = ended_at_once lane tag c
 carry_out (NoData work) mediator lane tag command o d w = submitted mediator lane tag command (NoData work) o d w
 carry_out (Direct work) mediator lane tag command o d w = submitted mediator lane tag command (Direct work) o d w
 carry_out (Bounced work) mediator lane tag command o d w = submitted mediator lane tag command (Bounced work) o d w
-carry_out (Ranged work ranges) mediator lane tag command o d w =
-    submitted mediator lane tag command (Ranged work ranges) o d w
 
 -- a plan that wants more is no plan yet
 abbrev pub submit_by : Outcome Plan → (mediator lane tag : ℕ) → Command → Owner → DeviceLane → World → After
@@ -299,7 +297,6 @@ delivered (Some (NoData work)) st bounce o w = w
 delivered (Some (Direct work)) st bounce o w = w
 delivered (Some (Bounced work)) st bounce o w =
     if is_read work.opcode && is_success st then scattered_to bounce work o w else w
-delivered (Some (Ranged work ranges)) st bounce o w = w
 
 -- the completion stands in the guest's queue, and the tag is free
 unfoldable pub posted_to : Posted → (lane tag : ℕ) → Owner → World → World

@@ -9,13 +9,13 @@ use Rattle.nv_mem.specs.Places.{total_len}
 use Rattle.nv_ns.specs.BlockRange.{Extent, block_at, block_count}
 use Rattle.nv_model.specs.Controller.{Controller, opening}
 use Rattle.nv_model.specs.Judge.{is_read}
-use Rattle.nv_model.specs.Limits.{block, range_size}
+use Rattle.nv_model.specs.Limits.{block}
 use Rattle.nv_model.specs.Memory.{image}
 use Rattle.nv_model.specs.Queue.{cqe_size, sqe_size}
 use Rattle.nv_world_model.specs.Area.{bounce_page, completion_slot, list_page, prps_of, submission_slot}
 use Rattle.nv_world_model.specs.Device.{DeviceLane, Held}
 use Rattle.nv_world_model.specs.Geometry.{Geometry, Guest, regions_of}
-use Rattle.nv_world_model.specs.Plan.{Answer, Bounced, Direct, NoData, Plan, Ranged}
+use Rattle.nv_world_model.specs.Plan.{Answer, Bounced, Direct, NoData, Plan}
 use Rattle.nv_world_model.specs.Seat.{completion_at, guest_of, held_in}
 use Rattle.nv_world_model.specs.Step.{is_free, is_success}
 use Rattle.nv_world_model.specs.World.{Answered, Command, Ended, Flying, Free, InDevice, Lane, Queued, Standing, Tag, Taken, World, tag_of}
@@ -67,7 +67,6 @@ source_shown (Answer st) bounce = []
 source_shown (NoData work) bounce = []
 source_shown (Direct work) bounce = []
 source_shown (Bounced work) bounce = if is_read work.opcode then [] else (bounce, total_len work.pieces) ∷ []
-source_shown (Ranged work ranges) bounce = (bounce, range_size * length ranges) ∷ []
 
 -- the blocks of a bounced Read but for those units that are left
 abbrev pub units_shown : Plan → (left : List ℕ) → (bounce : ℕ) → List Span
@@ -79,7 +78,6 @@ units_shown (Bounced work) left bounce =
     map (λ k. (bounce + block * k, block))
     (filter (λ k. not (list_any (λ other. other == k) left)) (range_with_len 0 (length work.units)))
     else []
-units_shown (Ranged work ranges) left bounce = []
 
 -- all of them where the command succeeded, and none where it failed
 abbrev pub result_shown : StatusField → Plan → (bounce : ℕ) → List Span

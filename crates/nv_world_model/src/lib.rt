@@ -3,7 +3,6 @@
 #![tactic(auto)]
 
 mod event;
-pub mod laws;
 mod logged;
 pub mod rows;
 

@@ -29,7 +29,7 @@ pub fn examples()
     ensures a_bit_bucket_of_a_compare_names_no_bytes { refusal_in (holding 0x6000 (one_block ++ bit_bucket 512)) (by_sgl compare 5 1 (last_segment 0x6000 32)) ≡ Some 0x801f0007 }
     // A Write whose source holds a Bit Bucket beside all its bytes goes: the bucket is nothing there.
     ensures a_bit_bucket_beside_the_source_of_a_write_is_nothing { verdict_in guest (holding 0x6000 (bit_bucket 512 ++ one_block)) (by_sgl write 5 (with_fua 0) (last_segment 0x6000 32))
-        ≡ Go (record { opcode = opcode.Write; pieces = Run 0x3000 512 ∷ []; units = MoveBlock 0 5 ∷ []; fua = true }) }
+        ≡ Go (record { opcode = opcode.Write; pieces = Run 0x3000 512 ∷ []; ranges = []; units = MoveBlock 0 5 ∷ []; fua = true }) }
     // A Write Zeroes has no buffer, and a unit for each block, which clears it.
     ensures write_zeroes_has_no_buffer { verdict_in guest zeros (by_sgl write_zeroes 5 1 (data_block 0x20000 24))
         ≡ goes_without_buffer opcode.WriteZeroes (ClearBlock 5 false ∷ ClearBlock 6 false ∷ []) }

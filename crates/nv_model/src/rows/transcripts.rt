@@ -61,5 +61,6 @@ pub fn examples()
     ensures the_ranges_are_wanted { outcome_in (manage true 1 (data_block 0x3000 32)) [] ≡ Wanted 0x3000 32 }
     // And settle the verdict.
     ensures the_ranges_settle_the_verdict { outcome_in (manage true 1 (data_block 0x3000 32)) (read_of 0x3000 (block_range 5 2 ++ block_range 0 1) ∷ [])
-        ≡ Settled (manages (Run 0x3000 32 ∷ []) (ClearBlock 5 false ∷ ClearBlock 6 false ∷ ClearBlock 0 false ∷ [])) }
+        ≡ Settled (manages (Run 0x3000 32 ∷ []) (block_range 5 2 ∷ block_range 0 1 ∷ [])
+        (ClearBlock 5 false ∷ ClearBlock 6 false ∷ ClearBlock 0 false ∷ [])) }
 {}

@@ -1,3 +1,0 @@
-//! Laws about the definitions, as functions that do nothing: each contract is a law.
-
-pub mod plans;
