@@ -1,15 +1,14 @@
 -- What an event may change, and what it may depend on: nothing of a guest but its owner's. Isolation between guests
 -- is the project's own (profile).
 use Rattle.std.specs.Prelude.{◌≡◌, ◌≢◌, ℕ, Bool, true, false, ◌&&◌, ◌==◌, nat_le, nat_lt, if◌then◌else◌, List, [], ◌∷◌, length, slice_get, Option, Some, None}
-use Rattle.nv_model.specs.declared.reply.Reply.{Reply}
 use Rattle.nv_world_model.specs.declared.event.Event.{Event}
 use Rattle.nv_world_model.specs.declared.event.Event.TheVariants as event
-use Rattle.nv_model.specs.declared.reply.Reply.TheVariants as reply
 use Rattle.nv_world_model.specs.Area.{lane_start}
 use Rattle.nv_world_model.specs.Device.{DeviceLane}
 use Rattle.nv_world_model.specs.Geometry.{Geometry, Guest}
-use Rattle.nv_world_model.specs.Step.{step}
-use Rattle.nv_world_model.specs.View.{IsAlike, IsSameView, cut, guest_of_tag, in_extent, in_image}
+use Rattle.nv_world_model.specs.Step.{After, is_telling, step}
+use Rattle.nv_world_model.specs.CutDown.{cut}
+use Rattle.nv_world_model.specs.View.{IsAlike, IsSameView, guest_of_tag, in_extent, in_image}
 use Rattle.nv_world_model.specs.World.{Answered, Ended, Flying, Free, InDevice, Lane, Queued, Standing, Tag, Taken, World, tag_of}
 
 -- ---- the owner
@@ -98,24 +97,11 @@ pub record LeavesOthers (geometry : Geometry) (whose : Option ℕ) (w z : World)
   pub blocks : (at offset : ℕ) → in_extent_of (given_to whose geometry) at ≡ false → w.disk at offset ≡ z.disk at offset
   pub marks : (at : ℕ) → in_extent_of (given_to whose geometry) at ≡ false → w.kept at ≡ true → z.kept at ≡ true
 
--- what is seen of an event depends on its owner's view and the shared numbers alone: in the world cut down to them it
+-- what is seen of it depends on the owner's view and the shared numbers alone: done in the world cut down to them it
 -- has the same reply, and leads to a world that looks alike
-pub record ReadsOwn (geometry : Geometry) (e : Event) (w : World) (number : ℕ) (guest : Guest) : Type 0 where
-  pub reply : (step geometry e w).reply ≡ (step geometry e (cut number guest geometry w)).reply
-  pub alike : IsAlike number guest geometry
-      (step geometry e w).world (step geometry e (cut number guest geometry w)).world
-
--- whether a reply tells of a change, or of bytes
-abbrev pub is_telling : Reply → Bool
-is_telling reply.Done = true
-is_telling (reply.Bytes bytes) = true
-is_telling reply.Idle = false
-is_telling reply.Busy = false
-is_telling reply.Held = false
-is_telling reply.Stale = false
-is_telling reply.Unmapped = false
-is_telling reply.Ignored = false
-is_telling reply.NoMemory = false
+pub record ReadsOwn (done : World → After) (geometry : Geometry) (w : World) (number : ℕ) (guest : Guest) : Type 0 where
+  pub reply : (done w).reply ≡ (done (cut number guest geometry w)).reply
+  pub alike : IsAlike number guest geometry (done w).world (done (cut number guest geometry w)).world
 
 -- one block may become kept, and nothing else changes
 pub record RaisesOne (block : ℕ) (w z : World) : Type 0 where
@@ -123,10 +109,15 @@ pub record RaisesOne (block : ℕ) (w z : World) : Type 0 where
   pub marks : (at : ℕ) → (at == block) ≡ false → w.kept at ≡ z.kept at
   pub rises : w.kept block ≡ true → z.kept block ≡ true
 
--- an event is contained
-pub record Contained (geometry : Geometry) (e : Event) (w : World) : Type 0 where
-  pub others : LeavesOthers geometry (owner e w) w (step geometry e w).world
+-- what is done for an event is contained: it leaves all others as they were and reads its owner's alone; a Keep raises
+-- one mark at most; and a reply that tells of no change is told of none
+pub record IsContained (done : World → After) (geometry : Geometry) (e : Event) (w : World) : Type 0 where
+  pub others : LeavesOthers geometry (owner e w) w (done w).world
   pub own : (number : ℕ) (guest : Guest) → slice_get geometry.guests number ≡ Some guest → owner e w ≡ Some number
-      → ReadsOwn geometry e w number guest
-  pub keep : (block : ℕ) → e ≡ event.Keep block → RaisesOne block w (step geometry e w).world
-  pub dull : is_telling (step geometry e w).reply ≡ false → (step geometry e w).world ≡ w
+      → ReadsOwn done geometry w number guest
+  pub keep : (block : ℕ) → e ≡ event.Keep block → RaisesOne block w (done w).world
+  pub dull : is_telling (done w).reply ≡ false → (done w).world ≡ w
+
+-- an event is contained
+abbrev pub Contained : Geometry → Event → World → Type 0
+Contained geometry e w = IsContained (step geometry e) geometry e w

@@ -5,8 +5,13 @@ pub mod Device
 pub mod World
 pub mod Seat
 pub mod Step
-pub mod View
-pub mod Contained
 pub mod Log
 pub mod SetUp
+pub mod View
+pub mod CutDown
+pub mod Contained
+pub mod PrivateSteps
+pub mod Disciplined
+pub mod Agrees
+pub mod Headline
 pub mod Rows

@@ -1,6 +1,6 @@
 -- A guest's seat: what of the world is its private controller. What is done for a guest is done in its seat, as the
 -- private controller does it, and put back (profile).
-use Rattle.std.specs.Prelude.{ℕ, ◌+◌, ◌-◌, ◌/◌, ◌%◌, ◌&&◌, ◌==◌, if◌then◌else◌, Bool, false, List, [], ◌∷◌, filter, flat_map, length, map, replicate, slice_get, Option, Some, None}
+use Rattle.std.specs.Prelude.{ℕ, ◌+◌, ◌-◌, ◌*◌, ◌/◌, ◌%◌, ◌&&◌, ◌==◌, if◌then◌else◌, Bool, false, List, [], ◌∷◌, filter, flat_map, length, map, replicate, slice_get, Option, Some, None}
 use Rattle.std.specs.List.{enumerate_from, list_any, range_with_len}
 use Rattle.nv_entry.specs.Completion.{status_of}
 use Rattle.nv_entry.specs.Range.{blocks_of}
@@ -132,7 +132,11 @@ held_in (Some d) identifier = held_by (slice_get d.held identifier)
 abbrev pub completion_at : Geometry → World → (lane at : ℕ) → List ℕ
 completion_at geometry w lane at = bytes_from w.host (completion_slot geometry.mediator lane at) cqe_size
 
--- a guest's taken commands, named by lane and tag: 64 times the lane, and the tag
+-- the name of the command in a tag
+abbrev pub name_of : (lane tag : ℕ) → ℕ
+name_of lane tag = tag_count * lane + tag
+
+-- a guest's taken commands by their names
 unfoldable pub members : Geometry → World → (number : ℕ) → Bag
 members geometry w number name =
     member_in (tag_of w (name / tag_count) (name % tag_count)) number

@@ -402,6 +402,18 @@ is_done reply.Unmapped = false
 is_done reply.Ignored = false
 is_done reply.NoMemory = false
 
+-- whether a reply tells of a change, or of bytes
+abbrev pub is_telling : Reply → Bool
+is_telling reply.Done = true
+is_telling (reply.Bytes bytes) = true
+is_telling reply.Idle = false
+is_telling reply.Busy = false
+is_telling reply.Held = false
+is_telling reply.Stale = false
+is_telling reply.Unmapped = false
+is_telling reply.Ignored = false
+is_telling reply.NoMemory = false
+
 -- such an event is due where it would be done
 unfoldable pub due : Geometry → Event → World → Bool
 due geometry e w = is_due_kind e && is_done (step geometry e w).reply

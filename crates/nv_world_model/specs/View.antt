@@ -1,13 +1,12 @@
--- What of the world is a guest's to see: its memory and blocks, its controller, its tags with all that the device and
--- the mediator hold of them; and the numbers that all guests share. Isolation between guests is the project's own
--- (profile).
-use Rattle.std.specs.Prelude.{◌≡◌, ℕ, ◌+◌, ◌*◌, ◌<◌, Bool, true, false, not, ◌&&◌, ◌||◌, ◌==◌, nat_le, nat_lt, if◌then◌else◌, List, [], ◌∷◌, ◌++◌, filter, flat_map, length, map, replicate, slice_get, Option, Some, None, is_some}
+-- What of the world is a guest's: its memory and blocks, its controller, its tags with all that the device and the
+-- mediator hold of them; and the numbers that all guests share (profile).
+use Rattle.std.specs.Prelude.{◌≡◌, ℕ, ◌+◌, ◌*◌, ◌<◌, Bool, true, false, not, ◌&&◌, ◌==◌, nat_le, nat_lt, if◌then◌else◌, List, [], ◌∷◌, ◌++◌, filter, flat_map, length, map, slice_get, Option, Some, None, is_some}
 use Rattle.std.specs.List.{enumerate_from, list_any, range_with_len}
 use Rattle.nv_entry.specs.Completion.{status_of}
 use Rattle.nv_entry.specs.Status.{StatusField}
 use Rattle.nv_mem.specs.Places.{total_len}
 use Rattle.nv_ns.specs.BlockRange.{Extent, block_at, block_count}
-use Rattle.nv_model.specs.Controller.{Controller, opening}
+use Rattle.nv_model.specs.Controller.{Controller}
 use Rattle.nv_model.specs.Judge.{is_read}
 use Rattle.nv_model.specs.Limits.{block}
 use Rattle.nv_model.specs.Memory.{image}
@@ -193,38 +192,3 @@ pub record IsAlike (number : ℕ) (guest : Guest) (geometry : Geometry) (w z : W
   pub view : IsSameView number guest geometry w z
   pub marks : SameMarks guest w z
   pub shared : shared_numbers w ≡ shared_numbers z
-
--- ---- the world cut down to a guest's view
-
--- a command of nobody's
-abbrev pub nobodys : (nobody : ℕ) → Command
-nobodys nobody = record { guest = nobody; queue = 0; entry = replicate sqe_size 0 }
-
--- a tag that is neither free nor that guest's is Taken by nobody
-abbrev pub cut_tag : (number nobody : ℕ) → Tag → Tag
-cut_tag number nobody t =
-    if is_free t || is_tag_of number (Some t) then t else Taken (nobodys nobody) []
-
-abbrev pub cut_lane : (number nobody : ℕ) → Lane → Lane
-cut_lane number nobody lane = record lane { tags = map (cut_tag number nobody) lane.tags }
-
--- the device holds that guest's commands alone
-abbrev pub cut_device : (number : ℕ) → World → ℕ × DeviceLane → DeviceLane
-cut_device number w d =
-    record d.1 { held = map (λ h. own_held number (tag_of w d.0 h.0) h.1) (enumerate_from 0 d.1.held) }
-
--- every other controller is as at the start
-abbrev pub cut_controller : (number : ℕ) → ℕ × Controller → Controller
-cut_controller number c = if c.0 == number then c.1 else opening
-
--- the world of this view and these shared numbers, in which all else is as at the start
-unfoldable pub cut : (number : ℕ) → Guest → Geometry → World → World
-cut number guest geometry w =
-    record {
-      host = (λ at. if in_image guest at || lies_in (shown number guest geometry w) at then w.host at else 0);
-      disk = (λ at offset. if in_extent guest.extent at then w.disk at offset else 0);
-      kept = (λ at. in_extent guest.extent at && w.kept at);
-      device = map (cut_device number w) (enumerate_from 0 w.device);
-      lanes = map (cut_lane number (length geometry.guests)) w.lanes;
-      controllers = map (cut_controller number) (enumerate_from 0 w.controllers);
-    }
