@@ -14,4 +14,5 @@ pub mod PrivateSteps
 pub mod Disciplined
 pub mod Agrees
 pub mod Headline
+pub mod Laws
 pub mod Rows

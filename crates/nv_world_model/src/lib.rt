@@ -3,6 +3,7 @@
 #![tactic(auto)]
 
 mod event;
+pub mod laws;
 mod logged;
 pub mod rows;
 

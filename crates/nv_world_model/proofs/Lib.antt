@@ -1,0 +1,2 @@
+pub mod FreeTags
+pub mod Replies

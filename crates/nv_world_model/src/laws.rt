@@ -1,0 +1,4 @@
+//! Laws about the definitions, as functions that do nothing: each contract is a law.
+
+pub mod plans;
+pub mod replies;
