@@ -1,2 +1,4 @@
 pub mod FreeTags
 pub mod Replies
+pub mod Seats
+pub mod SeatSteps

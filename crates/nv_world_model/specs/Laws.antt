@@ -1,8 +1,8 @@
 -- Words of the laws about the world's step
-use Rattle.std.specs.Prelude.{◌≡◌, ℕ, ◌<◌, ◌⊎◌, ◌==◌, Bool, true, false, List, [], ◌∷◌, slice_get, Option, Some, None}
-use Rattle.nv_mem.specs.GuestMap.{IsSound, mapped}
+use Rattle.std.specs.Prelude.{◌≡◌, ℕ, ◌<◌, ◌⊎◌, ◌==◌, Bool, true, false, List, [], ◌∷◌, slice_get, Some, None}
+use Rattle.nv_mem.specs.GuestMap.{mapped}
 use Rattle.nv_model.specs.Memory.{image}
-use Rattle.nv_model.specs.Private.{Private}
+use Rattle.nv_model.specs.Private.{Private, Step, After as PrivateAfter, step as private_step}
 use Rattle.nv_model.specs.declared.act.Act.{Act}
 use Rattle.nv_model.specs.declared.act.Act.TheVariants as act
 use Rattle.nv_model.specs.declared.reply.Reply.{Reply}
@@ -10,9 +10,8 @@ use Rattle.nv_model.specs.declared.reply.Reply.TheVariants as reply
 use Rattle.nv_ns.specs.BlockRange.{block_at}
 use Rattle.nv_world_model.specs.declared.event.Event.{Event}
 use Rattle.nv_world_model.specs.declared.event.Event.TheVariants as event
-use Rattle.nv_world_model.specs.Geometry.{Geometry, Guest, regions_of}
-use Rattle.nv_world_model.specs.Seat.{Owner, guest_of}
-use Rattle.nv_world_model.specs.Step.{After, is_telling}
+use Rattle.nv_world_model.specs.Geometry.{Geometry, Guest, regions_of, shape_of}
+use Rattle.nv_world_model.specs.Seat.{Owner, guest_of, seat}
 use Rattle.nv_world_model.specs.World.{World}
 
 -- ---- replies
@@ -65,3 +64,9 @@ pub record OnlyInSeat (o : Owner) (w z : World) : Type 0 where
   pub bytes : (at : ℕ) → guest_of (regions_of o.given) at ≡ None → z.host at ≡ w.host at
   pub controllers : (other : ℕ) → (other == o.number) ≡ false → slice_get z.controllers other ≡ slice_get w.controllers other
   pub rest : z ≡ record w { host = z.host; controllers = z.controllers }
+
+-- a private step can be made from a guest's seat in w, and leads to its seat in z
+pub record LeadsTo (geometry : Geometry) (o : Owner) (s : Step) (w z : World) : Type 0 where
+  pub after : PrivateAfter
+  pub made : private_step (shape_of o.given) s (seat geometry o w) ≡ Some after
+  pub there : IsSeatOf o.number o.given z after.state

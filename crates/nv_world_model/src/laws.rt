@@ -2,3 +2,4 @@
 
 pub mod plans;
 pub mod replies;
+pub mod seats;
