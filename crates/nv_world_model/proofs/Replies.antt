@@ -254,4 +254,3 @@ step-answers geometry (event.Post lane tag) w =
     ended-answers MayPost w (tag_of w lane tag) _ (inr (inr (inr (inl refl)))) (inr (inl refl))
     (λ c st plan. owner-answers MayPost w (owner_of geometry w c.guest) _ (inr (inl refl))
     (λ o. post_at-answers c st plan (bounce_page geometry.mediator lane tag) lane tag o w))
-

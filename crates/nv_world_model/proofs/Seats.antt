@@ -29,6 +29,7 @@ host_of-apart r (s ∷ rs) addr at apart e =
   where
     in_region : (q : Region) (a : ℕ) → covers q a ≡ true → covers_host q (q.host + (a - q.guest)) ≡ true
     in_region q a is = grind (arith, nat_tests)
+
     in_another : (b : Bool) → covers_host r at ≡ b → covers_host s at ≡ true → b ≡ false
     in_another true is there = let not_there = (All-head (IsApart r) s rs apart).host at is in cc
     in_another false is there = refl
@@ -102,6 +103,10 @@ owner_of-is geometry w number o e =
       given = subst (λ n. slice_get geometry.guests n ≡ Some o.given) found.0 found.1.0;
       controller = subst (λ n. slice_get w.controllers n ≡ Some o.controller) found.0 found.1.1;
     })
+
+-- and the guest of that number
+pub owner_of-number : (geometry : Geometry) (w : World) (number : ℕ) (o : Owner) → owner_of geometry w number ≡ Some o → number ≡ o.number
+owner_of-number geometry w number o e = (owner_by-is number (slice_get geometry.guests number) (slice_get w.controllers number) o e).0
 
 -- ---- seats
 

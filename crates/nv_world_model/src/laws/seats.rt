@@ -1,10 +1,11 @@
 //! What is done for a guest is in its seat exactly what its private controller does, and nothing is done elsewhere.
 
-ghost use Rattle.std.specs.Prelude.{◌≡◌, ℕ, Bool, true, false, List, [], length, slice_get, Option, Some, None};
+ghost use Rattle.std.specs.Prelude.{◌≡◌, ℕ, ◌<◌, true, false, List, length, slice_get, Option, Some, None};
 ghost use Rattle.nv_entry.specs.Status.{StatusField};
+ghost use Rattle.nv_entry.specs.Submission.{cid_of};
 ghost use Rattle.nv_mem.specs.GuestMap.{IsSound, Mapping, host_of, mapped};
 ghost use Rattle.nv_mem.specs.declared.region.Region.{Region};
-ghost use Rattle.nv_model.specs.Controller.{is_enabled, post};
+ghost use Rattle.nv_model.specs.Controller.{front, is_enabled, post};
 ghost use Rattle.nv_model.specs.Memory.{image};
 ghost use Rattle.nv_model.specs.Private.{AdminQueueStep, PostStep, RunOutStep, TakeStep, acted, ending, step as private_step};
 ghost use Rattle.nv_model.specs.declared.act.Act.{Act};
@@ -15,7 +16,7 @@ ghost use Rattle.nv_world_model.specs.Geometry.{Geometry, regions_of, shape_of};
 ghost use Rattle.nv_world_model.specs.Laws.{IsSeatOf, LeadsTo, OnlyInSeat};
 ghost use Rattle.nv_world_model.specs.Plan.{Plan};
 ghost use Rattle.nv_world_model.specs.Seat.{Owner, ended_progress, guest_of, name_of, owner_of, put_image, seat};
-ghost use Rattle.nv_world_model.specs.Step.{delivered, free_tag, is_done, step};
+ghost use Rattle.nv_world_model.specs.Step.{delivered, free_tag, is_done, step, taken_to};
 ghost use Rattle.nv_world_model.specs.World.{Command, Ended, Lane, World, tag_of};
 
 /// A memory that is put back is the guest's image where it is mapped, and nothing else of the host changes.
@@ -48,4 +49,36 @@ pub fn an_admin_step_is_the_private_controllers()
         private_step (shape_of o.given) AdminQueueStep (seat geometry o w) ≡ None }
     ensures only { (geometry : Geometry) (number : ℕ) (o : Owner) (w : World) → owner_of geometry w number ≡ Some o →
         OnlyInSeat o w (step geometry (event.Admin number) w).world }
+{}
+
+/// A take is the private controller's, under the name of the lowest free tag.
+pub fn a_take_is_the_private_controllers()
+    ensures done { (geometry : Geometry) (number queue lane tag : ℕ) (o : Owner) (l : Lane) (w : World) → owner_of geometry w number ≡ Some o →
+        slice_get w.lanes lane ≡ Some l → length l.tags ≡ tag_count → free_tag l.tags 0 ≡ Some tag →
+        (step geometry (event.Take number queue lane) w).reply ≡ reply.Done →
+        LeadsTo geometry o (TakeStep queue (name_of lane tag)) w (step geometry (event.Take number queue lane) w).world }
+    ensures only { (geometry : Geometry) (number queue lane tag : ℕ) (o : Owner) (l : Lane) (w : World) → owner_of geometry w number ≡ Some o →
+        slice_get w.lanes lane ≡ Some l → free_tag l.tags 0 ≡ Some tag →
+        (step geometry (event.Take number queue lane) w).reply ≡ reply.Done →
+        (addr : ℕ) × ((front o.controller queue ≡ Some addr)
+        × ((step geometry (event.Take number queue lane) w).world ≡ taken_to addr queue lane tag o w)) }
+{}
+
+/// A post is the private controller's, behind the delivery of a bounced Read; so is a run-out, after EN fell.
+pub fn a_post_is_the_private_controllers()
+    ensures posted { (geometry : Geometry) (lane tag : ℕ) (command : Command) (st : StatusField) (plan : Option Plan) (o : Owner) (w : World) →
+        tag_of w lane tag ≡ Some (Ended command st plan) → tag < tag_count → owner_of geometry w command.guest ≡ Some o →
+        IsSound o.given.memory_map → ending (ended_progress plan st) ≡ Some st → is_enabled o.controller ≡ true →
+        (step geometry (event.Post lane tag) w).reply ≡ reply.Done →
+        LeadsTo geometry o (PostStep (name_of lane tag)) (delivered plan st (bounce_page geometry.mediator lane tag) o w)
+        (step geometry (event.Post lane tag) w).world }
+    ensures ran_out { (geometry : Geometry) (lane tag : ℕ) (command : Command) (st : StatusField) (plan : Option Plan) (o : Owner) (w : World) →
+        tag_of w lane tag ≡ Some (Ended command st plan) → tag < tag_count → owner_of geometry w command.guest ≡ Some o →
+        IsSound o.given.memory_map → ending (ended_progress plan st) ≡ Some st → is_enabled o.controller ≡ false →
+        LeadsTo geometry o (RunOutStep (name_of lane tag)) (delivered plan st (bounce_page geometry.mediator lane tag) o w)
+        (step geometry (event.Post lane tag) w).world }
+    ensures held { (geometry : Geometry) (lane tag : ℕ) (command : Command) (st : StatusField) (plan : Option Plan) (o : Owner) (w : World) →
+        tag_of w lane tag ≡ Some (Ended command st plan) → owner_of geometry w command.guest ≡ Some o →
+        (step geometry (event.Post lane tag) w).reply ≡ reply.Held →
+        (is_enabled o.controller ≡ true) × (post o.controller command.queue 0 (cid_of command.entry) st ≡ None) }
 {}
