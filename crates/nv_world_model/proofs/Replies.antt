@@ -143,7 +143,7 @@ take_tag-answers (Some tag) addr queue lane o w = done MayTake w (taken_to addr 
 
 take_front-answers : (front : Option ℕ) (queue number : ℕ) (l : Lane) (o : Owner) (w : World) → IsAnswer MayTake w (take_front front queue number l o w)
 take_front-answers None queue number l o w = nothing MayTake w reply.Idle (inr (inl refl))
-take_front-answers (Some addr) queue number l o w = take_tag-answers (free_tag l.tags 0) addr queue number o w
+take_front-answers (Some addr) queue number l o w = take_tag-answers (free_tag l.tags) addr queue number o w
 
 -- what is done with a tag
 abbrev MayList : Reply → Type 0

@@ -18,7 +18,7 @@ use Rattle.nv_world_model.specs.Plan.{Answer, Bounced, Direct, NoData, Plan}
 use Rattle.nv_world_model.specs.Seat.{Owner, ended_progress, members, member_in, name_of, owner_of, put_back, seat, with_memory}
 use Rattle.nv_world_model.specs.Step.{After, delivered, for_ended, for_guest, for_lane, for_owner, free_tag, is_free, is_io_queue, post_at, post_by, posted_to, ran_out_of, replied, scattered_to, step, take_from, take_front, take_tag, taken_to}
 use Rattle.nv_world_model.specs.World.{Command, Ended, Flying, Free, Lane, Tag, Taken, World, tag_of}
-use Rattle.nv_world_model.proofs.FreeTags.{lowest-at}
+use Rattle.nv_world_model.proofs.FreeTags.{free_tag-lowest}
 use Rattle.nv_world_model.proofs.Seats.{IsOwner, image-put_image, owner_of-is, slice_get-set}
 
 -- ---- names
@@ -50,11 +50,11 @@ take_tag-done None addr queue lane tag o w found = cc
 take_tag-done (Some n) addr queue lane tag o w found =
     (let same : n ≡ tag = cc in record { addr = addr; front = refl; world = ap (λ k. taken_to addr queue lane k o w) same })
 
-take-done : (b : Bool) (f : Option ℕ) (queue lane tag : ℕ) (l : Lane) (o : Owner) (w : World) → free_tag l.tags 0 ≡ Some tag
+take-done : (b : Bool) (f : Option ℕ) (queue lane tag : ℕ) (l : Lane) (o : Owner) (w : World) → free_tag l.tags ≡ Some tag
     → (cond b (take_front f queue lane l o w) (replied reply.Ignored w)).reply ≡ reply.Done
     → (b ≡ true) × IsTaken f queue lane tag o w (cond b (take_front f queue lane l o w) (replied reply.Ignored w)).world
 take-done true None queue lane tag l o w found e = cc
-take-done true (Some addr) queue lane tag l o w found e = (refl, take_tag-done (free_tag l.tags 0) addr queue lane tag o w found)
+take-done true (Some addr) queue lane tag l o w found e = (refl, take_tag-done (free_tag l.tags) addr queue lane tag o w found)
 take-done false f queue lane tag l o w found e = cc
 
 -- the event of a guest and a lane that are there
@@ -66,7 +66,7 @@ take-step geometry number queue lane o l w e there =
     ∙ ap (λ x. for_lane x w (λ k. take_from queue lane k o w)) there
 
 pub take-is : (geometry : Geometry) (number queue lane tag : ℕ) (o : Owner) (l : Lane) (w : World) → owner_of geometry w number ≡ Some o → slice_get w.lanes lane ≡ Some l
-    → free_tag l.tags 0 ≡ Some tag → (step geometry (event.Take number queue lane) w).reply ≡ reply.Done
+    → free_tag l.tags ≡ Some tag → (step geometry (event.Take number queue lane) w).reply ≡ reply.Done
     → (is_io_queue queue ≡ true) × IsTaken (front o.controller queue) queue lane tag o w (step geometry (event.Take number queue lane) w).world
 take-is geometry number queue lane tag o l w e there found is_done =
     (let same = take-step geometry number queue lane o l w e there in
@@ -105,9 +105,9 @@ seat-taken geometry addr queue lane tag name o w is =
     }
 
 -- the lowest free tag of a lane is free
-free-there : (tags : List Tag) (tag : ℕ) → free_tag tags 0 ≡ Some tag → (t : Tag) × ((slice_get tags tag ≡ Some t) × (is_free t ≡ true))
+free-there : (tags : List Tag) (tag : ℕ) → free_tag tags ≡ Some tag → (t : Tag) × ((slice_get tags tag ≡ Some t) × (is_free t ≡ true))
 free-there tags tag found =
-    (let at = lowest-at tags tag found in
+    (let at = free_tag-lowest tags tag found in
     let there = slice_get-get_or tags tag Free at.there in
     (get_or tags tag Free, (there, at.free (get_or tags tag Free) there)))
 
@@ -118,12 +118,12 @@ io-queue : (queue : ℕ) → is_io_queue queue ≡ true → nat_lt 0 queue ≡ t
 io-queue queue is = grind (arith, nat_tests)
 
 pub take-leads : (geometry : Geometry) (number queue lane tag : ℕ) (o : Owner) (l : Lane) (w : World) → owner_of geometry w number ≡ Some o → slice_get w.lanes lane ≡ Some l
-    → length l.tags ≡ tag_count → free_tag l.tags 0 ≡ Some tag → (step geometry (event.Take number queue lane) w).reply ≡ reply.Done
+    → length l.tags ≡ tag_count → free_tag l.tags ≡ Some tag → (step geometry (event.Take number queue lane) w).reply ≡ reply.Done
     → LeadsTo geometry o (TakeStep queue (name_of lane tag)) w (step geometry (event.Take number queue lane) w).world
 take-leads geometry number queue lane tag o l w e there count found is_done =
     (let taken = take-is geometry number queue lane tag o l w e there found is_done in
     let t = free-there l.tags tag found in
-    let below : tag < tag_count = subst (λ n. tag < n) count (lowest-at l.tags tag found).there in
+    let below : tag < tag_count = subst (λ n. tag < n) count (free_tag-lowest l.tags tag found).there in
     let unnamed = members-at geometry w o.number lane tag t.0 below (tag_of-lane w lane tag l there ∙ t.1.0) (λ m. is_none m ≡ true) (λ held status_at. free-none t.0 o.number held status_at t.1.1) in
     subst (λ z. LeadsTo geometry o (TakeStep queue (name_of lane tag)) w z) (sym taken.1.world)
     (record {

@@ -54,7 +54,7 @@ taken_as (Some tag) queue lane = TakeStep queue (name_of lane tag) ∷ []
 
 abbrev pub takes : Option Lane → (queue lane : ℕ) → List Step
 takes None queue lane = []
-takes (Some l) queue lane = taken_as (free_tag l.tags 0) queue lane
+takes (Some l) queue lane = taken_as (free_tag l.tags) queue lane
 
 -- an ended command is completed, or runs out after a reset
 abbrev pub leaves : Option Controller → (name : ℕ) → List Step

@@ -2,7 +2,7 @@
 -- that can't be is ignored before all else; of the other replies that apply the first in the event's rule stands; and
 -- a reply that tells of no change leaves the world as it was (profile).
 use Rattle.std.specs.Prelude.{ℕ, ◌+◌, Bool, true, false, ◌&&◌, ◌==◌, nat_le, if◌then◌else◌, List, [], ◌∷◌, ◌++◌, slice_get, Option, Some, None}
-use Rattle.std.specs.List.{list_any}
+use Rattle.std.specs.List.{list_any, position}
 use Rattle.nv_entry.specs.Completion.{cid_of as completed_cid, status_of}
 use Rattle.nv_entry.specs.Status.{StatusField}
 use Rattle.nv_entry.specs.StatusCode.{done_with}
@@ -122,10 +122,9 @@ is_free (Taken command reads) = false
 is_free (Flying command plan standing) = false
 is_free (Ended command st plan) = false
 
--- the lowest free tag, of those from number `from` on
-unfoldable pub free_tag : List Tag → (from : ℕ) → Option ℕ
-free_tag [] from = None
-free_tag (t ∷ tags) from = if is_free t then Some from else free_tag tags (from + 1)
+-- the lowest free tag
+abbrev pub free_tag : List Tag → Option ℕ
+free_tag tags = position is_free tags
 
 -- the entry at that guest address gets a tag, and the queue's head moves on
 unfoldable pub taken_to : (addr queue lane tag : ℕ) → Owner → World → World
@@ -140,7 +139,7 @@ take_tag (Some tag) addr queue lane o w = replied reply.Done (taken_to addr queu
 
 abbrev pub take_front : Option ℕ → (queue number : ℕ) → Lane → Owner → World → After
 take_front None queue number lane o w = replied reply.Idle w
-take_front (Some addr) queue number lane o w = take_tag (free_tag lane.tags 0) addr queue number o w
+take_front (Some addr) queue number lane o w = take_tag (free_tag lane.tags) addr queue number o w
 
 -- I/O queues are numbered from 1
 abbrev pub is_io_queue : (queue : ℕ) → Bool

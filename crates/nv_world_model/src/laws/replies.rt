@@ -21,9 +21,9 @@ pub fn a_take_finds_the_lowest_free_tag()
     ensures busy { (geometry : Geometry) (guest queue lane : ℕ) (w : World) (l : Lane) →
         slice_get w.lanes lane ≡ Some l → (step geometry (event.Take guest queue lane) w).reply ≡ reply.Busy →
         (tag : ℕ) (t : Tag) → slice_get l.tags tag ≡ Some t → is_free t ≡ false }
-    ensures free { (tags : List Tag) (found : ℕ) → free_tag tags 0 ≡ Some found →
+    ensures free { (tags : List Tag) (found : ℕ) → free_tag tags ≡ Some found →
         (t : Tag) → slice_get tags found ≡ Some t → is_free t ≡ true }
-    ensures there { (tags : List Tag) (found : ℕ) → free_tag tags 0 ≡ Some found → found < length tags }
-    ensures lowest { (tags : List Tag) (found : ℕ) → free_tag tags 0 ≡ Some found →
+    ensures there { (tags : List Tag) (found : ℕ) → free_tag tags ≡ Some found → found < length tags }
+    ensures lowest { (tags : List Tag) (found : ℕ) → free_tag tags ≡ Some found →
         (tag : ℕ) (t : Tag) → tag < found → slice_get tags tag ≡ Some t → is_free t ≡ false }
 {}

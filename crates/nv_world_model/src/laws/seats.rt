@@ -54,11 +54,11 @@ pub fn an_admin_step_is_the_private_controllers()
 /// A take is the private controller's, under the name of the lowest free tag.
 pub fn a_take_is_the_private_controllers()
     ensures done { (geometry : Geometry) (number queue lane tag : ℕ) (o : Owner) (l : Lane) (w : World) → owner_of geometry w number ≡ Some o →
-        slice_get w.lanes lane ≡ Some l → length l.tags ≡ tag_count → free_tag l.tags 0 ≡ Some tag →
+        slice_get w.lanes lane ≡ Some l → length l.tags ≡ tag_count → free_tag l.tags ≡ Some tag →
         (step geometry (event.Take number queue lane) w).reply ≡ reply.Done →
         LeadsTo geometry o (TakeStep queue (name_of lane tag)) w (step geometry (event.Take number queue lane) w).world }
     ensures only { (geometry : Geometry) (number queue lane tag : ℕ) (o : Owner) (l : Lane) (w : World) → owner_of geometry w number ≡ Some o →
-        slice_get w.lanes lane ≡ Some l → free_tag l.tags 0 ≡ Some tag →
+        slice_get w.lanes lane ≡ Some l → free_tag l.tags ≡ Some tag →
         (step geometry (event.Take number queue lane) w).reply ≡ reply.Done →
         (addr : ℕ) × ((front o.controller queue ≡ Some addr)
         × ((step geometry (event.Take number queue lane) w).world ≡ taken_to addr queue lane tag o w)) }
