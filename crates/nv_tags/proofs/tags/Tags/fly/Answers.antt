@@ -1,0 +1,14 @@
+use Rattle.std.proofs.Common.{◌≡◌, ◌≢◌, List, ℕ, Some, None, refl, sym, ap, ◌∙◌, subst, arith}
+use Rattle.nv_tags.specs.Tags.{Flying}
+use Rattle.nv_tags.specs.declared.state.TagState.TheVariants as state
+use Rattle.nv_tags.proofs.Slots.{moved-seen, taken-used, there}
+use Rattle.nv_tags.proofs.tags.Tags.fly.Goals as goal
+
+pub listed : goal.listed
+listed c = let below = there c.self.inside.states c.self.inside.claims c.self.invariant c.args.self.now c.self.view_is c.args.tag c.from.result c.from.ensures (taken-used c.args.self.now c.args.tag c.requires.taken) in grind (arith)
+
+pub bounds-self-inside-from : goal.bounds-self-inside-from
+bounds-self-inside-from c = there c.self.inside.states c.self.inside.claims c.self.invariant c.args.self.now c.self.view_is c.args.tag c.from.result c.from.ensures (taken-used c.args.self.now c.args.tag c.requires.taken)
+
+pub returns : goal.returns
+returns c = moved-seen c.self.inside.states c.self.inside.claims c.self.invariant c.args.self.now c.self.view_is c.args.tag c.from.result c.from.ensures Flying state.Flying (λ command. refl) (taken-used c.args.self.now c.args.tag c.requires.taken)

@@ -1,0 +1,15 @@
+//! The tags of a lane: the identifiers that the mediator gives to commands on a physical queue, and whose each of them is.
+//!
+//! A lane has 64 tags, numbered from 0. A tag is free, or it belongs to one command of a guest from the moment that the
+//! command is taken until it is completed for its guest: [`Tags::claim`] gives the lowest free tag, and the command goes
+//! on through [`Tags::fly`] and [`Tags::end`] to [`Tags::release`]. A call changes the tag that it names and no other.
+//! Nothing here takes memory.
+#![tactic(auto)]
+
+mod claim;
+mod state;
+mod tags;
+
+pub use claim::Claim;
+pub use state::TagState;
+pub use tags::{TAG_COUNT, Tags};
