@@ -15,3 +15,4 @@ pub mod Disciplined
 pub mod Agrees
 pub mod Headline
 pub mod Rows
+pub mod RowsWorlds
