@@ -16,3 +16,4 @@ pub mod Agrees
 pub mod Headline
 pub mod Rows
 pub mod RowsWorlds
+pub mod RowsShown

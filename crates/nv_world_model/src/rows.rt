@@ -6,4 +6,6 @@ pub mod going;
 pub mod lists;
 pub mod moving;
 pub mod queues;
+pub mod set_ups;
 pub mod two_guests;
+pub mod views;
