@@ -17,3 +17,4 @@ pub mod Headline
 pub mod Rows
 pub mod RowsWorlds
 pub mod RowsShown
+pub mod RowsSteps
