@@ -18,3 +18,4 @@ pub mod Rows
 pub mod RowsWorlds
 pub mod RowsShown
 pub mod RowsSteps
+pub mod RowsSmall

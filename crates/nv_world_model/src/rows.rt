@@ -1,6 +1,7 @@
 //! Worked examples, computed from the definitions.
 
 pub mod answers;
+pub mod contained;
 pub mod disciplined;
 pub mod failing;
 pub mod going;
