@@ -4,3 +4,4 @@ pub mod Seats
 pub mod SeatSteps
 pub mod SeatTags
 pub mod SeatPosts
+pub mod SmallWorld

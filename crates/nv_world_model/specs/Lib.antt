@@ -16,3 +16,7 @@ pub mod Agrees
 pub mod Headline
 pub mod Laws
 pub mod Rows
+pub mod RowsWorlds
+pub mod RowsShown
+pub mod RowsSteps
+pub mod RowsSmall

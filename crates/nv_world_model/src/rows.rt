@@ -1,5 +1,14 @@
 //! Worked examples, computed from the definitions.
 
+pub mod answers;
+pub mod contained;
+pub mod disciplined;
 pub mod failing;
 pub mod going;
+pub mod lists;
+pub mod moving;
+pub mod private_steps;
+pub mod queues;
+pub mod set_ups;
 pub mod two_guests;
+pub mod views;

@@ -1,0 +1,147 @@
+-- The smallest world of two guests: what holds of each guest, tag and block from its cases, and of images and the world cut down
+use Rattle.std.proofs.Common.{◌≡◌, ◌≢◌, ℕ, zero, suc, ◌+◌, ◌-◌, ◌<◌, Bool, true, false, ◌&&◌, ◌||◌, if◌then◌else◌, nat_le, nat_lt, List, [], ◌∷◌, length, Option, Some, None, is_some, refl, ap, subst, arith, slice_get}
+use Rattle.std.proofs.lemmas.Bool.Decides.{nat_tests}
+use mathlib.Core.Path.{fun_ext}
+use Rattle.nv_mem.specs.GuestMap.{covers, covers_host}
+use Rattle.nv_mem.specs.declared.region.Region.{Region}
+use Rattle.nv_model.specs.Memory.{byte_at_host, image, stored}
+use Rattle.nv_world_model.specs.Contained.{LeavesOthers, ReadsOwn, in_area}
+use Rattle.nv_world_model.specs.CutDown.{cut}
+use Rattle.nv_world_model.specs.Geometry.{Guest, regions_of}
+use Rattle.nv_world_model.specs.RowsSmall.{small, small_first, small_guest, small_second}
+use Rattle.nv_world_model.specs.Seat.{byte_or, guest_of, put_image}
+use Rattle.nv_world_model.specs.Step.{After}
+use Rattle.nv_world_model.specs.View.{IsSameView, in_extent, in_image, lies_in, shown}
+use Rattle.nv_world_model.specs.World.{World}
+
+-- what holds of both guests holds of each guest that is there
+pub each_of_two : (P : ℕ → Guest → Type 0) (g h : Guest) → P 0 g → P 1 h
+    → (number : ℕ) (guest : Guest) → slice_get (g ∷ h ∷ []) number ≡ Some guest → P number guest
+each_of_two P g h p q zero guest e = (let same : g ≡ guest = cc in subst (λ (x : Guest). P 0 x) same p)
+each_of_two P g h p q (suc zero) guest e = (let same : h ≡ guest = cc in subst (λ (x : Guest). P 1 x) same q)
+each_of_two P g h p q (suc (suc n)) guest e = absurd (cc)
+
+-- what holds of both tags of the one lane, and of none, holds of each
+pub each_tag : (P : ℕ → ℕ → Type 0) → P 0 0 → P 0 1 → ((tag : ℕ) → P 0 (suc (suc tag))) → ((lane tag : ℕ) → P (suc lane) tag)
+    → (lane tag : ℕ) → P lane tag
+each_tag P p q none away zero zero = p
+each_tag P p q none away zero (suc zero) = q
+each_tag P p q none away zero (suc (suc tag)) = none tag
+each_tag P p q none away (suc lane) tag = away lane tag
+
+-- what holds of both blocks holds of each
+pub each_block : (P : ℕ → Type 0) → P 0 → P 1 → (lba : ℕ) → lba < 2 → P lba
+each_block P p q zero h = p
+each_block P p q (suc zero) h = q
+each_block P p q (suc (suc lba)) h = absurd (omega arith)
+
+-- ---- images
+
+-- two hosts that agree on a region have one image of it
+pub image-agree : (r : Region) (h k : ℕ → ℕ) → ((at : ℕ) → covers_host r at ≡ true → h at ≡ k at) → (addr : ℕ)
+    → image (r ∷ []) h addr ≡ image (r ∷ []) k addr
+unfolding image
+image-agree r h k each addr = by (covers r addr) refl
+  where
+    by : (b : Bool) → covers r addr ≡ b
+        → byte_at_host h (if b then Some (r.host + (addr - r.guest)) else None) ≡ byte_at_host k (if b then Some (r.host + (addr - r.guest)) else None)
+    by true e = each (r.host + (addr - r.guest)) (grind (arith, nat_tests, e))
+    by false e = refl
+
+-- a guest's bytes stay in the world cut down to it
+pub image-cut : (number host base : ℕ) (w : World)
+    → image (regions_of (small_guest host base)) w.host ≡ image (regions_of (small_guest host base)) (cut number (small_guest host base) small w).host
+unfolding cut
+image-cut number host base w =
+    fun_ext (image-agree (record { guest = 0; host = host; len = 0x200 }) w.host (cut number (small_guest host base) small w).host kept)
+  where
+    kept : (at : ℕ) → covers_host (record { guest = 0; host = host; len = 0x200 }) at ≡ true
+        → w.host at ≡ (cut number (small_guest host base) small w).host at
+    kept at e = rw e refl
+
+-- what is shown to a guest stays, too
+pub area-cut : (number host base : ℕ) (w : World) (at : ℕ) → lies_in (shown number (small_guest host base) small w) at ≡ true
+    → w.host at ≡ (cut number (small_guest host base) small w).host at
+unfolding cut
+area-cut number host base w at h = by (in_image (small_guest host base) at) (lies_in (shown number (small_guest host base) small w) at) h
+  where
+    by : (inside shown : Bool) → shown ≡ true → w.host at ≡ (if inside || shown then w.host at else 0)
+    by true shown e = refl
+    by false true e = refl
+    by false false e = absurd (cc)
+
+-- ---- a memory that is put back
+
+-- no byte outside of an image changes
+pub put-outside : (regions : List Region) (m h : ℕ → ℕ) (at : ℕ) → is_some (guest_of regions at) ≡ false → h at ≡ put_image regions m h at
+unfolding put_image
+put-outside regions m h at e = by (guest_of regions at) e
+  where
+    by : (o : Option ℕ) → is_some o ≡ false → h at ≡ byte_or (h at) m o
+    by None e = refl
+    by (Some addr) e = absurd (cc)
+
+-- the same of an address that another guest's region has
+pub put-apart : (host other : ℕ) (m h : ℕ → ℕ) → other ≡ host + 0x1000 → (addr : ℕ)
+    → image (record { guest = 0; host = other; len = 0x200 } ∷ []) h addr
+    ≡ image (record { guest = 0; host = other; len = 0x200 } ∷ []) (put_image (record { guest = 0; host = host; len = 0x200 } ∷ []) m h) addr
+put-apart host other m h e =
+    image-agree (record { guest = 0; host = other; len = 0x200 }) h (put_image (record { guest = 0; host = host; len = 0x200 } ∷ []) m h) each
+  where
+    each : (at : ℕ) → covers_host (record { guest = 0; host = other; len = 0x200 }) at ≡ true
+        → h at ≡ put_image (record { guest = 0; host = host; len = 0x200 } ∷ []) m h at
+    each at inside =
+        (let outside : covers_host (record { guest = 0; host = host; len = 0x200 }) at ≡ false = grind (arith, nat_tests, inside, e) in
+        put-outside (record { guest = 0; host = host; len = 0x200 } ∷ []) m h at (rw outside refl))
+
+-- what is put back is what the image is then
+pub image-put : (r : Region) (m n h k : ℕ → ℕ) → m ≡ n → (addr : ℕ)
+    → image (r ∷ []) (put_image (r ∷ []) m h) addr ≡ image (r ∷ []) (put_image (r ∷ []) n k) addr
+unfolding image put_image
+image-put r m n h k same addr = image-agree r (put_image (r ∷ []) m h) (put_image (r ∷ []) n k) each addr
+  where
+    each : (at : ℕ) → covers_host r at ≡ true → put_image (r ∷ []) m h at ≡ put_image (r ∷ []) n k at
+    each at inside = rw inside (ap (λ (f : ℕ → ℕ). f (r.guest + (at - r.host))) same)
+
+-- ---- bytes that are stored
+
+-- a byte that isn't stored is as it was
+pub stored-outside : (h : ℕ → ℕ) (addr : ℕ) (bytes : List ℕ) (at : ℕ) → (nat_le addr at && nat_lt at (addr + length bytes)) ≡ false
+    → h at ≡ stored h addr bytes at
+unfolding stored
+stored-outside h addr bytes at e = rw e refl
+
+-- one that is stored is the same whatever was there
+pub stored-inside : (h k : ℕ → ℕ) (addr : ℕ) (bytes : List ℕ) (at : ℕ) → (nat_le addr at && nat_lt at (addr + length bytes)) ≡ true
+    → stored h addr bytes at ≡ stored k addr bytes at
+unfolding stored
+stored-inside h k addr bytes at e = rw e refl
+
+-- one that was the same is the same
+pub stored-same : (h k : ℕ → ℕ) (addr : ℕ) (bytes : List ℕ) (at : ℕ) → h at ≡ k at → stored h addr bytes at ≡ stored k addr bytes at
+unfolding stored
+stored-same h k addr bytes at e = rw e refl
+
+-- ---- contained
+
+-- an event of the first guest leaves others, where it leaves the second's view, and what is neither's
+pub leaves-first : (w z : World) → IsSameView 1 small_second small w z
+    → ((at : ℕ) → in_image small_first at ≡ false → in_area small w at ≡ false → w.host at ≡ z.host at)
+    → ((at offset : ℕ) → in_extent small_first.extent at ≡ false → w.disk at offset ≡ z.disk at offset)
+    → ((at : ℕ) → in_extent small_first.extent at ≡ false → w.kept at ≡ true → z.kept at ≡ true)
+    → LeavesOthers small (Some 0) w z
+leaves-first w z view bytes blocks marks =
+    record {
+      views = each_of_two (λ number guest. Some 0 ≢ Some number → IsSameView number guest small w z) small_first small_second
+        (λ other. absurd (other refl)) (λ other. view);
+      bytes = bytes;
+      blocks = blocks;
+      marks = marks;
+    }
+
+-- and reads its own, where it reads the first guest's
+pub own-first : (done : World → After) (w : World) → ReadsOwn done small w 0 small_first → (number : ℕ) (guest : Guest)
+    → slice_get small.guests number ≡ Some guest → Some 0 ≡ Some number → ReadsOwn done small w number guest
+own-first done w own =
+    each_of_two (λ number guest. Some 0 ≡ Some number → ReadsOwn done small w number guest) small_first small_second
+    (λ is. own) (λ is. absurd (cc))

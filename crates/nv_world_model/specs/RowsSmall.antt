@@ -1,0 +1,87 @@
+-- Worked examples: the smallest world of two guests, in which each kind of event is contained
+use Rattle.std.specs.Prelude.{ℕ, true, false, List, [], ◌∷◌, ◌++◌, replicate, Some, None}
+use Rattle.nv_model.specs.Controller.{Controller, opening}
+use Rattle.nv_model.specs.Memory.{stored}
+use Rattle.nv_model.specs.Queue.{new_completion, new_submission}
+use Rattle.nv_model.specs.Rows.{command, dword0, write_zeroes}
+use Rattle.nv_model.specs.RowsRuns.{admin_entry}
+use Rattle.nv_world_model.specs.declared.event.Event.{Event}
+use Rattle.nv_world_model.specs.declared.event.Event.TheVariants as event
+use Rattle.nv_world_model.specs.Geometry.{Geometry, Guest}
+use Rattle.nv_world_model.specs.Rows.{numbered}
+use Rattle.nv_world_model.specs.Step.{replay}
+use Rattle.nv_world_model.specs.World.{Free, World}
+
+-- a guest with 512 bytes of memory from address 0 on, which lie there in the host, and two blocks from this one on
+abbrev pub small_guest : (host base : ℕ) → Guest
+small_guest host base =
+    record {
+      memory_map = record { host_len = 0x1000000; regions = record { guest = 0; host = host; len = 0x200 } ∷ [] };
+      extent = record { base = base; blocks = 2 };
+      limit = 1;
+    }
+
+abbrev pub small_first : Guest
+small_first = small_guest 0x1000 2
+
+abbrev pub small_second : Guest
+small_second = small_guest 0x2000 4
+
+-- the mediator's area from 10000h on, a disk of eight blocks, and two guests
+abbrev pub small : Geometry
+small = record { mediator = 0x10000; disk_blocks = 8; guests = small_first ∷ small_second ∷ [] }
+
+-- an enabled controller with queue pair 1 and the admin queues, of two slots each: submission slots at 40h and 100h, of which one is rung,
+-- and completion slots at c0h and 180h
+abbrev pub small_controller : Controller
+small_controller =
+    record opening {
+      cc = 0x00460001;
+      ready = true;
+      submission =
+      Some (record (new_submission 0x100 2 0) { tail = 1 }) ∷ Some (record (new_submission 0x40 2 1) { tail = 1 }) ∷ replicate 7 None;
+      completion_queues = Some (new_completion 0x180 2) ∷ Some (new_completion 0xc0 2) ∷ replicate 7 None;
+    }
+
+-- a Write Zeroes of both blocks
+abbrev pub clear_both : List ℕ
+clear_both = command (dword0 write_zeroes 0 0) 1 (replicate 16 0) 0 0 1
+
+-- an Abort with identifier 3
+abbrev pub abort : List ℕ
+abort = admin_entry 0x08 3 0 0 0 0 0
+
+-- a world of one lane of two tags, in which each guest has rung a Write Zeroes, and the first an Abort, too
+abbrev pub small_world : World
+small_world =
+    record {
+      host = stored (stored (stored (λ _. 0) 0x1040 clear_both) 0x1100 abort) 0x2040 clear_both;
+      disk = numbered;
+      kept = (λ _. false);
+      device = record { head = 0; tail = 0; posted = 0; phase = true; held = None ∷ None ∷ [] } ∷ [];
+      lanes = record { head = 0; phase = true; tags = Free ∷ Free ∷ [] } ∷ [];
+      controllers = small_controller ∷ small_controller ∷ [];
+    }
+
+-- the world behind these events, where the second guest's command is handed on in tag 0
+abbrev pub small_behind : List Event → World
+small_behind events = replay small (event.Take 1 1 0 ∷ event.Submit 0 0 ∷ events) small_world
+
+-- what leads to each point of the first guest's command, which is in tag 1
+abbrev pub taken_second : List Event
+taken_second = event.Take 0 1 0 ∷ []
+
+abbrev pub queued_second : List Event
+queued_second = taken_second ++ event.Submit 0 1 ∷ event.DevTake 0 ∷ []
+
+abbrev pub held_second : List Event
+held_second = queued_second ++ event.DevTake 0 ∷ []
+
+abbrev pub moved_second : List Event
+moved_second = held_second ++ event.DevMove 0 1 1 ∷ event.DevMove 0 1 0 ∷ []
+
+abbrev pub posted_second : List Event
+posted_second = moved_second ++ event.DevPost 0 1 ∷ []
+
+abbrev pub ended_second : List Event
+ended_second = posted_second ++ event.Reap 0 ∷ []

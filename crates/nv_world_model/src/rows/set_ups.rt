@@ -1,0 +1,83 @@
+//! Set-ups that make a world, and why others are refused.
+
+ghost use Rattle.std.specs.Prelude.{◌≡◌, [], ◌∷◌, ◌++◌, Some, None};
+ghost use Rattle.nv_world_model.specs.Rows.{guest_at};
+ghost use Rattle.nv_world_model.specs.RowsShown.{disk_refused, first_guest, guest_of_regions, guest_with_limit, guests_refused, refused, second_guest, small_guests};
+ghost use Rattle.nv_world_model.specs.SetUp.{BadSize, MapsMeet, RangesMeet, TooManyGuests};
+
+/// The examples of this module, a clause each.
+#[tactic(none)]
+pub fn examples()
+    // Two guests that are apart.
+    ensures two_guests_apart { guests_refused (first_guest ∷ second_guest ∷ []) ≡ None }
+    // No guest at all.
+    ensures no_guest { guests_refused [] ≡ None }
+    // At most 16 guests.
+    ensures sixteen_guests { guests_refused (small_guests 16) ≡ None }
+    // One more.
+    ensures seventeen_guests { guests_refused (small_guests 17) ≡ Some TooManyGuests }
+    // The second's first block is the first's last.
+    ensures ranges_that_meet { guests_refused (first_guest ∷ guest_at 0x200000 1063 ∷ []) ≡ Some RangesMeet }
+    // It is the one behind that.
+    ensures ranges_side_by_side { guests_refused (first_guest ∷ guest_at 0x200000 1064 ∷ []) ≡ None }
+    // Ranges of the first and the last of three meet.
+    ensures ranges_that_meet_further_on { guests_refused (first_guest ∷ second_guest ∷ guest_at 0x300000 1000 ∷ []) ≡ Some RangesMeet }
+    // The second's first page is the first's last.
+    ensures maps_that_meet { guests_refused (first_guest ∷ guest_at 0x11f000 2000 ∷ []) ≡ Some MapsMeet }
+    // It is the one behind that.
+    ensures maps_side_by_side { guests_refused (first_guest ∷ guest_at 0x120000 2000 ∷ []) ≡ None }
+    // A guest's last page is the first of the mediator's area.
+    ensures a_map_that_meets_the_area { guests_refused (guest_at 0x3e1000 1000 ∷ []) ≡ Some MapsMeet }
+    // The area begins behind it.
+    ensures a_map_before_the_area { guests_refused (guest_at 0x3e0000 1000 ∷ []) ≡ None }
+    // A guest's first page is the last of the area.
+    ensures a_map_at_the_end_of_the_area { guests_refused (guest_at 0xc42000 1000 ∷ []) ≡ Some MapsMeet }
+    // It is the one behind that.
+    ensures a_map_behind_the_area { guests_refused (guest_at 0xc43000 1000 ∷ []) ≡ None }
+    // Eight lanes that end with the host.
+    ensures eight_lanes_fit { refused 0x4618000 8 0x400000 (first_guest ∷ second_guest ∷ []) ≡ None }
+    // A host that is one page shorter.
+    ensures eight_lanes_leave_the_host { refused 0x4617000 8 0x400000 (first_guest ∷ second_guest ∷ []) ≡ Some BadSize }
+    // Two lanes leave the usual host.
+    ensures two_lanes_leave_the_host { refused 0x1000000 2 0x400000 (first_guest ∷ second_guest ∷ []) ≡ Some BadSize }
+    // No lane.
+    ensures no_lane { refused 0x1000000 0 0x400000 (first_guest ∷ []) ≡ Some BadSize }
+    // Nine lanes, in a host that would have them.
+    ensures nine_lanes { refused 0x8000000 9 0x400000 (first_guest ∷ []) ≡ Some BadSize }
+    // An area that does not begin with a page.
+    ensures an_area_within_a_page { refused 0x1000000 1 0x400800 (first_guest ∷ []) ≡ Some BadSize }
+    // A host that does not end with a page.
+    ensures a_host_of_part_of_a_page { refused 0x1000800 1 0x400000 (first_guest ∷ []) ≡ Some BadSize }
+    // The largest host.
+    ensures the_largest_host { refused 0x40000000 1 0x400000 (first_guest ∷ []) ≡ None }
+    // One that is larger.
+    ensures a_host_that_is_too_large { refused 0x40001000 1 0x400000 (first_guest ∷ []) ≡ Some BadSize }
+    // The largest disk, all of it the guest's.
+    ensures the_largest_disk { disk_refused 2097152 0 2097152 ≡ None }
+    // One that is larger.
+    ensures a_disk_that_is_too_large { disk_refused 2097153 0 64 ≡ Some BadSize }
+    // Blocks of a guest that leave the disk.
+    ensures blocks_that_leave_the_disk { disk_refused 4096 4033 64 ≡ Some BadSize }
+    // Blocks that end with it.
+    ensures blocks_that_end_with_the_disk { disk_refused 4096 4032 64 ≡ None }
+    // A guest without blocks.
+    ensures a_guest_without_blocks { disk_refused 4096 1000 0 ≡ Some BadSize }
+    // A guest with the most regions.
+    ensures the_most_regions { guests_refused (guest_of_regions 64 ∷ []) ≡ None }
+    // One more.
+    ensures too_many_regions { guests_refused (guest_of_regions 65 ∷ []) ≡ Some BadSize }
+    // The largest limit of descriptors.
+    ensures the_largest_limit { guests_refused (guest_with_limit 4096 ∷ []) ≡ None }
+    // One that is larger.
+    ensures a_limit_that_is_too_large { guests_refused (guest_with_limit 4097 ∷ []) ≡ Some BadSize }
+    // None at all.
+    ensures a_limit_of_no_descriptors { guests_refused (guest_with_limit 0 ∷ []) ≡ Some BadSize }
+    // Seventeen guests come before their ranges that meet.
+    ensures too_many_guests_come_first { guests_refused (small_guests 16 ++ guest_at 0x200000 0 ∷ []) ≡ Some TooManyGuests }
+    // Ranges that meet come before maps that do.
+    ensures ranges_come_before_maps { guests_refused (first_guest ∷ first_guest ∷ []) ≡ Some RangesMeet }
+    // And before sizes.
+    ensures ranges_come_before_sizes { refused 0x1000000 0 0x400000 (first_guest ∷ guest_at 0x200000 1063 ∷ []) ≡ Some RangesMeet }
+    // Maps that meet come before sizes: nine lanes, whose area reaches a guest.
+    ensures maps_come_before_sizes { refused 0x8000000 9 0x400000 (first_guest ∷ guest_at 0x4e5a000 2000 ∷ []) ≡ Some MapsMeet }
+{}
