@@ -5,7 +5,7 @@ use Rattle.std.proofs.lemmas.List.Elements.{All-head, All-tail}
 use Rattle.std.proofs.lemmas.Bool.{cases_lt}
 use Rattle.std.specs.List.{All, AllPairs, find}
 use Rattle.nv_mem.specs.declared.region.Region.{Region}
-use Rattle.nv_mem.specs.GuestMap.{covers, host_of, IsApart, IsInside, IsContiguous, IsLongestRun}
+use Rattle.nv_mem.specs.GuestMap.{covers, covers_host, guest_of, host_of, IsApart, IsInside, IsContiguous, IsLongestRun}
 
 -- what holds of the first element and each later one
 pub AllPairs-head : {X : Type 0} (R : X → X → Type 0) (x : X) (xs : List X) → AllPairs R (x ∷ xs) → All (R x) xs
@@ -170,3 +170,42 @@ IsLongestRun-one rs addr len h n k m one other =
         ]
       ],
     )
+
+-- ---- the map, and back
+
+-- a host address that is mapped by regions lies in none that is apart from them
+host_of-apart : (r : Region) (rs : List Region) (addr at : ℕ) → All (IsApart r) rs → host_of rs addr ≡ Some at → covers_host r at ≡ false
+host_of-apart r [] addr at apart e = cc
+host_of-apart r (s ∷ rs) addr at apart e =
+    (elim (covers s addr) as (λ b. covers s addr ≡ b → cond b (Some (s.host + (addr - s.guest))) (host_of rs addr) ≡ Some at → covers_host r at ≡ false) [
+      | true ↦ λ is same.
+          let here : s.host + (addr - s.guest) ≡ at = cc in
+          in_another (covers_host r at) refl (subst (λ x. covers_host s x ≡ true) here (in_region s addr is))
+      | false ↦ λ is same. host_of-apart r rs addr at (All-tail (IsApart r) s rs apart) same
+    ]) refl e
+  where
+    in_region : (q : Region) (a : ℕ) → covers q a ≡ true → covers_host q (q.host + (a - q.guest)) ≡ true
+    in_region q a is = grind (arith, nat_tests)
+
+    in_another : (b : Bool) → covers_host r at ≡ b → covers_host s at ≡ true → b ≡ false
+    in_another true is there = let not_there = (All-head (IsApart r) s rs apart).host at is in cc
+    in_another false is there = refl
+
+-- the host address of a guest address leads back to it
+pub guest_of-host : (rs : List Region) (addr at : ℕ) → AllPairs IsApart rs → host_of rs addr ≡ Some at → guest_of rs at ≡ Some addr
+guest_of-host [] addr at apart e = cc
+guest_of-host (r ∷ rs) addr at apart e =
+    (elim (covers r addr) as (λ b. covers r addr ≡ b → cond b (Some (r.host + (addr - r.guest))) (host_of rs addr) ≡ Some at → guest_of (r ∷ rs) at ≡ Some addr) [
+      | true ↦ λ is same.
+          let here : r.host + (addr - r.guest) ≡ at = cc in
+          subst (λ x. guest_of (r ∷ rs) x ≡ Some addr) here (back is)
+      | false ↦ λ is same.
+          let outside : covers_host r at ≡ false = host_of-apart r rs addr at (AllPairs-head IsApart r rs apart) same in
+          rw outside (guest_of-host rs addr at (AllPairs-tail IsApart r rs apart) same)
+    ]) refl e
+  where
+    back : covers r addr ≡ true → guest_of (r ∷ rs) (r.host + (addr - r.guest)) ≡ Some addr
+    back is =
+        (let inside : covers_host r (r.host + (addr - r.guest)) ≡ true = grind (arith, nat_tests) in
+        let place : r.guest + (r.host + (addr - r.guest) - r.host) ≡ addr = grind (arith, nat_tests) in
+        rw inside (ap (λ n. Some n) place))

@@ -29,6 +29,11 @@ host_of (r ∷ rs) addr = if covers r addr then Some (r.host + (addr - r.guest))
 abbrev pub mapped : List Region → ℕ → Bool
 mapped rs addr = is_some (host_of rs addr)
 
+-- the guest address that lies at a host address, or none where no region has it
+abbrev pub guest_of : List Region → ℕ → Option ℕ
+guest_of [] host = None
+guest_of (r ∷ rs) host = if covers_host r host then Some (r.guest + (host - r.host)) else guest_of rs host
+
 -- each of the `len` addresses from `addr` on is mapped; no address is always that
 abbrev pub AllMapped : List Region → ℕ → ℕ → Type 0
 AllMapped rs addr len = (i : ℕ) → i < len → IsTrue (mapped rs (addr + i))

@@ -93,6 +93,23 @@ impl Host {
         let start = addr as usize;
         self.bytes[start..start + bytes.len()].copy_from_slice(bytes);
     }
+
+    /// Copies the `len` bytes from host address `from` on to `to`, and changes no other byte. The two may meet.
+    ///
+    /// The caller knows that both lie in the memory ([`Host::holds`] tests it).
+    pub fn copy(&mut self, from: u64, to: u64, len: u64)
+        requires from { InMemory (length self.old) from len }
+        requires to { InMemory (length self.old) to len }
+        ensures bytes { self.new ≡ after_store self.old to (bytes_at self.old from len) }
+        ensures len { length self.new ≡ length self.old }
+    {
+        if len == 0 {
+            return;
+        }
+        let start = from as usize;
+        self.bytes
+            .copy_within(start..start + len as usize, to as usize);
+    }
 }
 
 // `len` zero bytes.

@@ -17,6 +17,7 @@ pub mod MemoryAlike
 pub mod MemoryLemmas
 pub mod PrpAddressed
 pub mod PrpDecided
+pub mod PutImages
 pub mod QueueCounts
 pub mod QueueOrder
 pub mod QueuesKept

@@ -1,6 +1,6 @@
 -- A guest's memory: the byte at each of its addresses that are there. What lies at the others has no meaning.
 use Rattle.std.specs.Prelude.{ℕ, zero, suc, ◌+◌, ◌-◌, ◌&&◌, nat_le, nat_lt, if◌then◌else◌, List, [], ◌∷◌, length, map, slice_index, Option, Some, None}
-use Rattle.nv_mem.specs.GuestMap.{host_of}
+use Rattle.nv_mem.specs.GuestMap.{guest_of, host_of}
 use Rattle.nv_mem.specs.declared.region.Region.{Region}
 use Rattle.nv_mem.specs.Places.{Place, At, Bucket}
 
@@ -40,3 +40,12 @@ byte_at_host host (Some addr) = host addr
 -- the image of a map's regions: the host's bytes as the guest's memory
 unfoldable pub image : List Region → (host : ℕ → ℕ) → ℕ → ℕ
 image regions host addr = byte_at_host host (host_of regions addr)
+
+-- the byte of a guest's memory, or this one where no guest address is named
+abbrev pub byte_or : (otherwise : ℕ) → (memory : ℕ → ℕ) → Option ℕ → ℕ
+byte_or otherwise memory None = otherwise
+byte_or otherwise memory (Some addr) = memory addr
+
+-- the host's bytes with a guest's memory written back to the map's regions
+unfoldable pub put_image : List Region → (memory host : ℕ → ℕ) → ℕ → ℕ
+put_image regions memory host at = byte_or (host at) memory (guest_of regions at)

@@ -4,6 +4,7 @@ pub mod agreeing;
 pub mod carrying;
 pub mod endings;
 pub mod feeding;
+pub mod images;
 pub mod lists;
 pub mod parts;
 pub mod queues;

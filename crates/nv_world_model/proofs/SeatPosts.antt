@@ -16,7 +16,8 @@ use Rattle.nv_world_model.specs.Plan.{Answer, Bounced, Direct, NoData, Plan}
 use Rattle.nv_world_model.specs.Seat.{Owner, ended_progress, members, name_of, owner_of, put_back, seat, with_memory}
 use Rattle.nv_world_model.specs.Step.{After, delivered, for_ended, for_owner, is_success, post_at, post_by, posted_to, ran_out_of, replied, scattered_to, step}
 use Rattle.nv_world_model.specs.World.{Command, Ended, World, tag_of}
-use Rattle.nv_world_model.proofs.Seats.{IsOwner, image-put_image, owner_of-is, owner_of-number, slice_get-set}
+use Rattle.nv_model.proofs.PutImages.{image-put_image}
+use Rattle.nv_world_model.proofs.Seats.{IsOwner, owner_of-is, owner_of-number, slice_get-set}
 use Rattle.nv_world_model.proofs.SeatTags.{members-at}
 
 -- ---- what is delivered

@@ -19,7 +19,7 @@ use Rattle.nv_world_model.specs.Seat.{Owner, ended_progress, members, member_in,
 use Rattle.nv_world_model.specs.Step.{After, delivered, for_ended, for_guest, for_lane, for_owner, free_tag, is_free, is_io_queue, post_at, post_by, posted_to, ran_out_of, replied, scattered_to, step, take_from, take_front, take_tag, taken_to}
 use Rattle.nv_world_model.specs.World.{Command, Ended, Flying, Free, Lane, Tag, Taken, World, tag_of}
 use Rattle.nv_world_model.proofs.FreeTags.{free_tag-lowest}
-use Rattle.nv_world_model.proofs.Seats.{IsOwner, image-put_image, owner_of-is, slice_get-set}
+use Rattle.nv_world_model.proofs.Seats.{IsOwner, owner_of-is, slice_get-set}
 
 -- ---- names
 

@@ -1,71 +1,14 @@
 -- A guest's seat behind what is done in it.
 use Rattle.std.proofs.Common.{◌≡◌, ℕ, zero, suc, ◌+◌, ◌-◌, ◌<◌, ◌≤◌, Bool, true, false, cond, ◌==◌, List, [], ◌∷◌, set, slice_get, Option, Some, None, is_some, arith, refl, sym, ap, ◌∙◌, subst}
 use Rattle.std.proofs.lemmas.Bool.Decides.{nat_tests}
-use Rattle.std.proofs.lemmas.List.Elements.{All-head, All-tail}
-use Rattle.std.specs.List.{All, AllPairs}
-use Rattle.nv_mem.specs.declared.region.Region.{Region}
-use Rattle.nv_mem.specs.GuestMap.{IsApart, IsSound, covers, covers_host, host_of, mapped}
-use Rattle.nv_mem.proofs.Images.{AllPairs-head, AllPairs-tail}
+use Rattle.nv_mem.specs.GuestMap.{IsSound, guest_of, mapped}
+use Rattle.nv_model.proofs.PutImages.{image-put_image, put_image-elsewhere}
 use Rattle.nv_model.specs.Controller.{Controller}
-use Rattle.nv_model.specs.Memory.{byte_at_host, image}
 use Rattle.nv_model.specs.Private.{Private}
 use Rattle.nv_world_model.specs.Geometry.{Geometry, Guest, regions_of}
 use Rattle.nv_world_model.specs.Laws.{IsSeatOf, OnlyInSeat}
-use Rattle.nv_world_model.specs.Seat.{Owner, byte_or, guest_of, owner_by, owner_of, put_back, put_image, seat}
+use Rattle.nv_world_model.specs.Seat.{Owner, owner_by, owner_of, put_back, seat}
 use Rattle.nv_world_model.specs.World.{World}
-
--- ---- the map, and back
-
--- a host address that is mapped by regions lies in none that is apart from them
-host_of-apart : (r : Region) (rs : List Region) (addr at : ℕ) → All (IsApart r) rs → host_of rs addr ≡ Some at → covers_host r at ≡ false
-host_of-apart r [] addr at apart e = cc
-host_of-apart r (s ∷ rs) addr at apart e =
-    (elim (covers s addr) as (λ b. covers s addr ≡ b → cond b (Some (s.host + (addr - s.guest))) (host_of rs addr) ≡ Some at → covers_host r at ≡ false) [
-      | true ↦ λ is same.
-          let here : s.host + (addr - s.guest) ≡ at = cc in
-          in_another (covers_host r at) refl (subst (λ x. covers_host s x ≡ true) here (in_region s addr is))
-      | false ↦ λ is same. host_of-apart r rs addr at (All-tail (IsApart r) s rs apart) same
-    ]) refl e
-  where
-    in_region : (q : Region) (a : ℕ) → covers q a ≡ true → covers_host q (q.host + (a - q.guest)) ≡ true
-    in_region q a is = grind (arith, nat_tests)
-
-    in_another : (b : Bool) → covers_host r at ≡ b → covers_host s at ≡ true → b ≡ false
-    in_another true is there = let not_there = (All-head (IsApart r) s rs apart).host at is in cc
-    in_another false is there = refl
-
--- the host address of a guest address leads back to it
-pub guest_of-host : (rs : List Region) (addr at : ℕ) → AllPairs IsApart rs → host_of rs addr ≡ Some at → guest_of rs at ≡ Some addr
-guest_of-host [] addr at apart e = cc
-guest_of-host (r ∷ rs) addr at apart e =
-    (elim (covers r addr) as (λ b. covers r addr ≡ b → cond b (Some (r.host + (addr - r.guest))) (host_of rs addr) ≡ Some at → guest_of (r ∷ rs) at ≡ Some addr) [
-      | true ↦ λ is same.
-          let here : r.host + (addr - r.guest) ≡ at = cc in
-          subst (λ x. guest_of (r ∷ rs) x ≡ Some addr) here (back is)
-      | false ↦ λ is same.
-          let outside : covers_host r at ≡ false = host_of-apart r rs addr at (AllPairs-head IsApart r rs apart) same in
-          rw outside (guest_of-host rs addr at (AllPairs-tail IsApart r rs apart) same)
-    ]) refl e
-  where
-    back : covers r addr ≡ true → guest_of (r ∷ rs) (r.host + (addr - r.guest)) ≡ Some addr
-    back is =
-        (let inside : covers_host r (r.host + (addr - r.guest)) ≡ true = grind (arith, nat_tests) in
-        let place : r.guest + (r.host + (addr - r.guest) - r.host) ≡ addr = grind (arith, nat_tests) in
-        rw inside (ap (λ n. Some n) place))
-
--- a memory that is put back is the image
-pub image-put_image : (rs : List Region) (memory host : ℕ → ℕ) (addr : ℕ) → AllPairs IsApart rs → mapped rs addr ≡ true → image rs (put_image rs memory host) addr ≡ memory addr
-unfolding image put_image
-image-put_image rs memory host addr apart there =
-    (elim (host_of rs addr) as (λ o. host_of rs addr ≡ o → is_some o ≡ true → byte_at_host (λ at. byte_or (host at) memory (guest_of rs at)) o ≡ memory addr) [
-      | None ↦ λ e none. cc
-      | Some at ↦ λ e some. rw (guest_of-host rs addr at apart e)
-    ]) refl there
-
--- and the other bytes are as they were
-pub put_image-elsewhere : (rs : List Region) (memory host : ℕ → ℕ) (at : ℕ) → guest_of rs at ≡ None → put_image rs memory host at ≡ host at
-unfolding put_image
-put_image-elsewhere rs memory host at outside = rw outside
 
 -- ---- lists
 

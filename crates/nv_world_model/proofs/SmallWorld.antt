@@ -2,14 +2,13 @@
 use Rattle.std.proofs.Common.{◌≡◌, ◌≢◌, ℕ, zero, suc, ◌+◌, ◌-◌, ◌<◌, Bool, true, false, ◌&&◌, ◌||◌, if◌then◌else◌, nat_le, nat_lt, List, [], ◌∷◌, length, Option, Some, None, is_some, refl, ap, subst, arith, slice_get}
 use Rattle.std.proofs.lemmas.Bool.Decides.{nat_tests}
 use mathlib.Core.Path.{fun_ext}
-use Rattle.nv_mem.specs.GuestMap.{covers, covers_host}
+use Rattle.nv_mem.specs.GuestMap.{covers, covers_host, guest_of}
 use Rattle.nv_mem.specs.declared.region.Region.{Region}
-use Rattle.nv_model.specs.Memory.{byte_at_host, image, stored}
+use Rattle.nv_model.specs.Memory.{byte_at_host, byte_or, image, put_image, stored}
 use Rattle.nv_world_model.specs.Contained.{LeavesOthers, ReadsOwn, in_area}
 use Rattle.nv_world_model.specs.CutDown.{cut}
 use Rattle.nv_world_model.specs.Geometry.{Guest, regions_of}
 use Rattle.nv_world_model.specs.RowsSmall.{small, small_first, small_guest, small_second}
-use Rattle.nv_world_model.specs.Seat.{byte_or, guest_of, put_image}
 use Rattle.nv_world_model.specs.Step.{After}
 use Rattle.nv_world_model.specs.View.{IsSameView, in_extent, in_image, lies_in, shown}
 use Rattle.nv_world_model.specs.World.{World}
@@ -133,7 +132,7 @@ pub leaves-first : (w z : World) → IsSameView 1 small_second small w z
 leaves-first w z view bytes blocks marks =
     record {
       views = each_of_two (λ number guest. Some 0 ≢ Some number → IsSameView number guest small w z) small_first small_second
-        (λ other. absurd (other refl)) (λ other. view);
+          (λ other. absurd (other refl)) (λ other. view);
       bytes = bytes;
       blocks = blocks;
       marks = marks;

@@ -1,6 +1,6 @@
 -- Words of the laws about the world's step
 use Rattle.std.specs.Prelude.{◌≡◌, ℕ, ◌<◌, ◌⊎◌, ◌==◌, Bool, true, false, List, [], ◌∷◌, slice_get, Some, None}
-use Rattle.nv_mem.specs.GuestMap.{mapped}
+use Rattle.nv_mem.specs.GuestMap.{guest_of, mapped}
 use Rattle.nv_model.specs.Memory.{image}
 use Rattle.nv_model.specs.Private.{Private, Step, After as PrivateAfter, step as private_step}
 use Rattle.nv_model.specs.declared.act.Act.{Act}
@@ -11,7 +11,7 @@ use Rattle.nv_ns.specs.BlockRange.{block_at}
 use Rattle.nv_world_model.specs.declared.event.Event.{Event}
 use Rattle.nv_world_model.specs.declared.event.Event.TheVariants as event
 use Rattle.nv_world_model.specs.Geometry.{Geometry, Guest, regions_of, shape_of}
-use Rattle.nv_world_model.specs.Seat.{Owner, guest_of, seat}
+use Rattle.nv_world_model.specs.Seat.{Owner, seat}
 use Rattle.nv_world_model.specs.World.{World}
 
 -- ---- replies

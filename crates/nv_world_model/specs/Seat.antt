@@ -1,16 +1,14 @@
 -- A guest's seat: what of the world is its private controller. What is done for a guest is done in its seat, as the
 -- private controller does it, and put back (profile).
-use Rattle.std.specs.Prelude.{ℕ, ◌+◌, ◌-◌, ◌*◌, ◌/◌, ◌%◌, ◌&&◌, ◌==◌, if◌then◌else◌, Bool, false, List, [], ◌∷◌, filter, flat_map, length, map, replicate, slice_get, Option, Some, None}
+use Rattle.std.specs.Prelude.{ℕ, ◌+◌, ◌*◌, ◌/◌, ◌%◌, ◌&&◌, ◌==◌, if◌then◌else◌, Bool, false, List, [], ◌∷◌, filter, flat_map, length, map, replicate, slice_get, Option, Some, None}
 use Rattle.std.specs.List.{enumerate_from, list_any, range_with_len}
 use Rattle.nv_entry.specs.Completion.{status_of}
 use Rattle.nv_entry.specs.Range.{blocks_of}
 use Rattle.nv_entry.specs.Status.{StatusField}
-use Rattle.nv_mem.specs.GuestMap.{covers_host}
-use Rattle.nv_mem.specs.declared.region.Region.{Region}
 use Rattle.nv_ns.specs.BlockRange.{block_at}
 use Rattle.nv_model.specs.Controller.{Controller}
 use Rattle.nv_model.specs.Judge.{Clear, Form, Keep, Manage, Transfer, Work, form_of}
-use Rattle.nv_model.specs.Memory.{bytes_from, image}
+use Rattle.nv_model.specs.Memory.{bytes_from, image, put_image}
 use Rattle.nv_model.specs.Private.{AtWork, Bag, Private, Progress, Unjudged, Ended as EndedWith, Taken as Member, numbers_of}
 use Rattle.nv_model.specs.Queue.{cqe_size}
 use Rattle.nv_world_model.specs.Area.{completion_slot, tag_count}
@@ -18,22 +16,6 @@ use Rattle.nv_world_model.specs.Device.{DeviceLane, Held}
 use Rattle.nv_world_model.specs.Geometry.{Geometry, Guest, regions_of}
 use Rattle.nv_world_model.specs.Plan.{Answer, Bounced, Direct, NoData, Plan}
 use Rattle.nv_world_model.specs.World.{Answered, Command, Ended, Flying, Free, InDevice, Queued, Standing, Tag, Taken, World, tag_of, with_controller, with_host}
-
--- ---- an image that is put back
-
--- the guest address that lies at a host address, or none where no region has it
-abbrev pub guest_of : List Region → (host : ℕ) → Option ℕ
-guest_of [] host = None
-guest_of (r ∷ rs) host = if covers_host r host then Some (r.guest + (host - r.host)) else guest_of rs host
-
--- the byte of a guest's memory, or this one where no guest address is named
-abbrev pub byte_or : (otherwise : ℕ) → (memory : ℕ → ℕ) → Option ℕ → ℕ
-byte_or otherwise memory None = otherwise
-byte_or otherwise memory (Some addr) = memory addr
-
--- the host's memory with a guest's memory written back to the regions of its map
-unfoldable pub put_image : List Region → (memory host : ℕ → ℕ) → ℕ → ℕ
-put_image regions memory host at = byte_or (host at) memory (guest_of regions at)
 
 -- ---- whose seat
 

@@ -15,7 +15,8 @@ use Rattle.nv_world_model.specs.Area.{bounce_page, completion_slot, list_page, p
 use Rattle.nv_world_model.specs.Device.{DeviceLane, Held}
 use Rattle.nv_world_model.specs.Geometry.{Geometry, Guest, regions_of}
 use Rattle.nv_world_model.specs.Plan.{Answer, Bounced, Direct, NoData, Plan}
-use Rattle.nv_world_model.specs.Seat.{completion_at, guest_of, held_in}
+use Rattle.nv_mem.specs.GuestMap.{guest_of}
+use Rattle.nv_world_model.specs.Seat.{completion_at, held_in}
 use Rattle.nv_world_model.specs.Step.{is_free, is_success}
 use Rattle.nv_world_model.specs.World.{Answered, Command, Ended, Flying, Free, InDevice, Lane, Queued, Standing, Tag, Taken, World, tag_of}
 

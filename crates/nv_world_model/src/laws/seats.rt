@@ -3,10 +3,8 @@
 ghost use Rattle.std.specs.Prelude.{◌≡◌, ℕ, ◌<◌, true, false, List, length, slice_get, Option, Some, None};
 ghost use Rattle.nv_entry.specs.Status.{StatusField};
 ghost use Rattle.nv_entry.specs.Submission.{cid_of};
-ghost use Rattle.nv_mem.specs.GuestMap.{IsSound, Mapping, host_of, mapped};
-ghost use Rattle.nv_mem.specs.declared.region.Region.{Region};
+ghost use Rattle.nv_mem.specs.GuestMap.{IsSound};
 ghost use Rattle.nv_model.specs.Controller.{front, is_enabled, post};
-ghost use Rattle.nv_model.specs.Memory.{image};
 ghost use Rattle.nv_model.specs.Private.{AdminQueueStep, PostStep, RunOutStep, TakeStep, acted, ending, step as private_step};
 ghost use Rattle.nv_model.specs.declared.act.Act.{Act};
 ghost use Rattle.nv_model.specs.declared.reply.Reply.TheVariants as reply;
@@ -15,18 +13,9 @@ ghost use Rattle.nv_world_model.specs.Area.{bounce_page, tag_count};
 ghost use Rattle.nv_world_model.specs.Geometry.{Geometry, regions_of, shape_of};
 ghost use Rattle.nv_world_model.specs.Laws.{IsSeatOf, LeadsTo, OnlyInSeat};
 ghost use Rattle.nv_world_model.specs.Plan.{Plan};
-ghost use Rattle.nv_world_model.specs.Seat.{Owner, ended_progress, guest_of, name_of, owner_of, put_image, seat};
+ghost use Rattle.nv_world_model.specs.Seat.{Owner, ended_progress, name_of, owner_of, seat};
 ghost use Rattle.nv_world_model.specs.Step.{delivered, free_tag, is_done, step, taken_to};
 ghost use Rattle.nv_world_model.specs.World.{Command, Ended, Lane, World, tag_of};
-
-/// A memory that is put back is the guest's image where it is mapped, and nothing else of the host changes.
-pub fn an_image_is_put_back()
-    ensures there { (m : Mapping) (memory host : ℕ → ℕ) (addr : ℕ) → IsSound m → mapped m.regions addr ≡ true →
-        image m.regions (put_image m.regions memory host) addr ≡ memory addr }
-    ensures others { (regions : List Region) (memory host : ℕ → ℕ) (at : ℕ) → guest_of regions at ≡ None →
-        put_image regions memory host at ≡ host at }
-    ensures inverse { (m : Mapping) (addr at : ℕ) → IsSound m → host_of m.regions addr ≡ Some at → guest_of m.regions at ≡ Some addr }
-{}
 
 /// An act has the private controller's reply, and leads to its state.
 pub fn an_act_is_the_private_controllers()

@@ -3,7 +3,7 @@ use Rattle.nv_entry.specs.Layout.{number_at, dword, qword, bits, bytes_of_dwords
 use Rattle.nv_entry.specs.Completion.{completion}
 use Rattle.nv_mem.specs.GuestMap.{everywhere}
 use Rattle.nv_mem.specs.Places.{addresses}
-use Rattle.nv_model.specs.Memory.{bytes_from, stored, gathered, scattered, image}
+use Rattle.nv_model.specs.Memory.{bytes_from, gathered, image, put_image, scattered, stored}
 use Rattle.nv_model.specs.Dialogue.{in_memory, and_then}
 use Rattle.nv_model.specs.Transcript.{first_read, in_transcript}
 use Rattle.nv_model.specs.Sgl.{read_array, read_sgl}
@@ -17,7 +17,7 @@ use Rattle.nv_prp.specs.Built.{built}
 use Rattle.nv_world_model.specs.Plan.{plan_over}
 use Rattle.nv_world_model.specs.Area.{physical_entry, written}
 use Rattle.nv_world_model.specs.Device.{held_of, device_unit, completion_written}
-use Rattle.nv_world_model.specs.Seat.{put_image, units_behind, members, seat, put_back}
+use Rattle.nv_world_model.specs.Seat.{units_behind, members, seat, put_back}
 use Rattle.nv_world_model.specs.Step.{acted_in, administered_in, taken_to, listed, ended_at_once, submitted, device_took, device_moved, device_posted, kept_block, reaped, scattered_to, posted_to, ran_out_of, step, replay, replies}
 use Rattle.nv_model.specs.Admin.{admin_command, admin}
 use Rattle.nv_world_model.specs.World.{opening_world}

@@ -1,5 +1,6 @@
-use Rattle.nv_world_model.proofs.Seats.{guest_of-host, image-put_image, put_image-elsewhere}
-use Rattle.nv_world_model.proofs.laws.seats.an_image_is_put_back.Goals as goal
+use Rattle.nv_mem.proofs.Images.{guest_of-host}
+use Rattle.nv_model.proofs.PutImages.{image-put_image, put_image-elsewhere}
+use Rattle.nv_model.proofs.laws.images.an_image_is_put_back.Goals as goal
 
 pub returns-clause-there : goal.returns-clause-there
 returns-clause-there c = λ m memory host addr sound there. image-put_image m.regions memory host addr sound.apart there
