@@ -1,5 +1,5 @@
 -- Worked examples: a host, a disk and two guests that they start from, and what is looked at
-use Rattle.std.specs.Prelude.{ℕ, ◌+◌, ◌%◌, true, false, List, [], ◌∷◌, ◌++◌, map, slice_set, Some}
+use Rattle.std.specs.Prelude.{ℕ, ◌+◌, ◌%◌, Bool, true, false, List, [], ◌∷◌, ◌++◌, map, slice_set, Some}
 use Rattle.std.specs.List.{range_with_len}
 use Rattle.nv_entry.specs.Layout.{number_at}
 use Rattle.nv_model.specs.Controller.{Controller, no_queues, opening}
@@ -127,3 +127,17 @@ two_at_once =
     event.Take 0 1 0 ∷ event.Take 1 1 0 ∷ event.Submit 0 0 ∷ event.Submit 0 1 ∷ event.DevTake 0 ∷ event.DevTake 0
     ∷ event.DevMove 0 1 0 ∷ event.DevPost 0 1 ∷ event.DevMove 0 0 0 ∷ event.DevPost 0 0
     ∷ event.Reap 0 ∷ event.Reap 0 ∷ event.Post 0 0 ∷ event.Post 0 1 ∷ []
+
+-- ---- rings
+
+-- the same world where both rings of its lane stand at this slot, in a pass with that phase tag
+abbrev pub rings_at : (slot : ℕ) → (phase : Bool) → World → World
+rings_at slot phase w =
+    record w {
+      device = record opening_device_lane { head = slot; tail = slot; posted = slot; phase = phase } ∷ [];
+      lanes = record opening_lane { head = slot; phase = phase } ∷ [];
+    }
+
+-- the slots that device and mediator come to next, and the phase tags of their passes
+abbrev pub positions : World → List (ℕ × Bool)
+positions w = map (λ d. (d.posted, d.phase)) w.device ++ map (λ l. (l.head, l.phase)) w.lanes

@@ -9,6 +9,7 @@ pub mod lists;
 pub mod moving;
 pub mod private_steps;
 pub mod queues;
+pub mod rings;
 pub mod set_ups;
 pub mod two_guests;
 pub mod views;
