@@ -6,12 +6,14 @@ ghost use Rattle.nv_entry.specs.Completion.{completion};
 ghost use Rattle.nv_entry.specs.Status.{StatusField};
 ghost use Rattle.nv_entry.specs.Submission.{cid_of};
 ghost use Rattle.nv_mem.specs.Bytes.{InMemory, after_store, bytes_at};
+ghost use Rattle.nv_model.specs.Limits.{block as block_size};
 ghost use Rattle.nv_flat.specs.Flat.{FitsLimits, Flat, flat};
 ghost use Rattle.nv_flat.specs.One.{IsDone, every_command, is_plain};
 
 use crate::controller::FlatController;
 use nv_entry::{Cqe, Sqe};
 use nv_mem::NoMemory;
+use nv_model::limits::BLOCK_SIZE;
 use std::alloc::Global;
 
 /// A controller of one guest that runs one command at a time, as the guest sees it: memory from address 0 on, and blocks of 512 bytes
@@ -30,7 +32,7 @@ pub trait One: Drop {
     /// A controller with `memory_len` bytes of memory and `blocks` blocks, all zero, and no mark set.
     fn new(alloc: Global, memory_len: u64, blocks: u64) -> Result<Self, NoMemory>
         requires { FitsLimits memory_len blocks }
-        ensures { IfOk result (λ c. seen c ≡ flat (replicate memory_len 0) (replicate blocks (replicate 512 0)) (replicate blocks false)) };
+        ensures { IfOk result (λ c. seen c ≡ flat (replicate memory_len 0) (replicate blocks (replicate block_size 0)) (replicate blocks false)) };
 
     /// Runs one command to its end, as the first command of a fresh queue 1: its completion has head 1 and phase 1.
     ///
@@ -62,11 +64,11 @@ pub trait One: Drop {
     /// Fills a block with a byte. Its mark stays.
     fn paint(&mut self, block: u64, byte: u8)
         requires { block < length (seen self.old).disk }
-        ensures block { seen self.new ≡ flat (seen self.old).memory (slice_set (seen self.old).disk block (replicate 512 byte)) (seen self.old).kept }
+        ensures block { seen self.new ≡ flat (seen self.old).memory (slice_set (seen self.old).disk block (replicate block_size byte)) (seen self.old).kept }
         ensures disk_size { length (seen self.new).disk ≡ length (seen self.old).disk };
 
     /// The bytes of a block.
-    fn block(&self, block: u64) -> &[u8; 512]
+    fn block(&self, block: u64) -> &[u8; BLOCK_SIZE]
         requires { block < length (seen self.now).disk }
         ensures { result.now ≡ slice_index_or (seen self.now).disk block result.now };
 
@@ -123,7 +125,7 @@ impl One for FlatController {
         FlatController::paint(self, block, byte);
     }
 
-    fn block(&self, block: u64) -> &[u8; 512] {
+    fn block(&self, block: u64) -> &[u8; BLOCK_SIZE] {
         FlatController::block(self, block)
     }
 

@@ -1,14 +1,12 @@
-ghost use Rattle.std.specs.Prelude.{◌≡◌, ◌≤◌};
+ghost use Rattle.std.specs.Prelude.{◌≡◌, ◌^◌, ◌≤◌};
 ghost use Rattle.nv_judge.specs.Need.{field_verdict, need_of};
 ghost use Rattle.nv_model.specs.Judge.{command_checks, count_of, has_blocks, has_buffer, is_read, transfer_len};
 ghost use Rattle.nv_model.specs.Reading.{first_failing};
 
 use crate::need::Need;
 use nv_entry::{IoOpcode, Sqe, Status, StatusCode};
+use nv_model::limits::{BLOCK_SIZE, MOST_BLOCKS, RANGE_SIZE};
 use nv_ns::VirtualNs;
-
-/// The most blocks of one transfer: 128 KiB, as MDTS 5 says.
-const MOST_BLOCKS: u32 = 256;
 
 /// The checks of a command's fields in their order: fused operation, opcode, namespace, data pointer, size of the transfer and
 /// block range. `Ok` says what the command needs; `Err` is the refusal by the first check that fails, with DNR set.
@@ -61,7 +59,7 @@ fn need(opcode: IoOpcode, sqe: &Sqe) -> Need
 /// The blocks of a command's LBA range.
 fn block_count(sqe: &Sqe) -> u32
     ensures value { result ≡ count_of sqe.now }
-    ensures fits { result ≤ 65536 }
+    ensures fits { result ≤ 2 ^ 16 }
 {
     u32::from(sqe.nlb()) + 1
 }
@@ -85,8 +83,9 @@ fn transfer_len(opcode: IoOpcode, sqe: &Sqe) -> u32
     ensures { result ≡ transfer_len opcode sqe.now }
 {
     match opcode {
-        IoOpcode::Read | IoOpcode::Write | IoOpcode::Compare => 512 * block_count(sqe),
-        IoOpcode::DatasetManagement => 16 * (u32::from(sqe.nr()) + 1),
+        IoOpcode::Read | IoOpcode::Write | IoOpcode::Compare => BLOCK_SIZE as u32
+            * block_count(sqe),
+        IoOpcode::DatasetManagement => RANGE_SIZE as u32 * (u32::from(sqe.nr()) + 1),
         IoOpcode::Flush | IoOpcode::WriteZeroes => 0,
     }
 }
