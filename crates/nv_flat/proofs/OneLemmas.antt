@@ -82,3 +82,13 @@ outcome-refused false old new entry st run = run
 pub outcome-built : (refused : Bool) (old new : Flat) (entry : List ℕ) (st : StatusField) → IsRun old entry st new → IsOutcome true refused old entry st new
 outcome-built true old new entry st run = run
 outcome-built false old new entry st run = run
+
+-- a command that is carried out ends as a run says
+pub run-built : (refused : Bool) (old new : Flat) (entry : List ℕ) (st : StatusField) → IsOutcome true refused old entry st new → IsRun old entry st new
+run-built false old new entry st run = run
+run-built true old new entry st run = run
+
+-- and so does one whose fields are refused
+pub run-refused : (built : Bool) (old new : Flat) (entry : List ℕ) (st : StatusField) → IsOutcome built true old entry st new → IsRun old entry st new
+run-refused false old new entry st run = run
+run-refused true old new entry st run = run
