@@ -1,3 +1,5 @@
+//! The state of the flat controller: how it is made, shown and changed outside of commands.
+
 ghost use Rattle.std.specs.Prelude.{◌≡◌, ◌+◌, ◌%◌, ◌<◌, ◌≤◌, ◌↔◌, length, replicate, false, IfOk, IsTrue, slice_set};
 ghost use Rattle.std.specs.List.{slice_index_or};
 ghost use Rattle.nv_mem.specs.Bytes.{InMemory, after_store, bytes_at};
@@ -125,7 +127,7 @@ impl FlatController {
     }
 }
 
-/// The map of a guest whose addresses are the memory's own.
+// The map of a guest whose addresses are the memory's own.
 fn identity(alloc: Global, len: u64) -> Result<GuestMap, NoMemory>
     requires pages { len % page ≡ 0 }
     requires some { 0 < len }
@@ -142,7 +144,7 @@ fn identity(alloc: Global, len: u64) -> Result<GuestMap, NoMemory>
     }
 }
 
-/// Blocks of zeros.
+// Blocks of zeros.
 fn zero_blocks(alloc: Global, blocks: usize) -> Result<Vec<[u8; BLOCK_SIZE]>, NoMemory>
     ensures { IfOk result (λ disk. disk.items ≡ replicate blocks (replicate block_size 0)) }
 {
@@ -153,7 +155,7 @@ fn zero_blocks(alloc: Global, blocks: usize) -> Result<Vec<[u8; BLOCK_SIZE]>, No
     Ok(disk)
 }
 
-/// Marks that are clear.
+// Marks that are clear.
 fn clear_marks(alloc: Global, blocks: usize) -> Result<Vec<bool>, NoMemory>
     ensures { IfOk result (λ kept. kept.items ≡ replicate blocks false) }
 {

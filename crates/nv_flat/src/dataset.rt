@@ -49,7 +49,7 @@ impl FlatController {
         }
     }
 
-    /// The same once its list is read, through a buffer of the length of the ranges.
+    // The same once its list is read, through a buffer of the length of the ranges.
     fn manage_ranges(&mut self, sqe: &Sqe, places: &Places, ranges: &mut [u8]) -> Status
         requires in_order { HasFieldsInOrder (length self.old.disk) sqe.now opcode.DatasetManagement (need_of sqe.now opcode.DatasetManagement) }
         requires spelled { list_reading self.old sqe.now (need_of sqe.now opcode.DatasetManagement) ≡ Spells places.now }
@@ -69,7 +69,7 @@ impl FlatController {
         StatusCode::Success.status()
     }
 
-    /// Makes the blocks of the ranges zeros that are not kept.
+    // Makes the blocks of the ranges zeros that are not kept.
     fn deallocate(&mut self, ranges: &[u8])
         requires fit { list_all (range_fits (length self.old.disk)) (ranges_in (length ranges.now / range_size) ranges.now) ≡ true }
         ensures moved { (work : Work) →

@@ -15,7 +15,7 @@ ghost use Rattle.nv_flat.specs.Flat.{Flat, byte_in, byte_of_block, moved_of};
 ghost use Rattle.nv_flat.specs.Laws.{HasRun, IsAnother, IsAsLarge, IsElsewhere, IsMovedInSomeOrder};
 ghost use Rattle.nv_flat.specs.One.{IsDone, IsRun, is_plain, shape_of};
 
-use crate::one_command::One;
+use crate::one::One;
 
 /// Every command has a run.
 pub fn every_command_has_a_run()

@@ -49,7 +49,7 @@ impl FlatController {
         }
     }
 
-    /// Reads the pages that PRP1 and PRP2 name.
+    // Reads the pages that PRP1 and PRP2 name.
     fn read_prp(&self, alloc: Global, sqe: &Sqe, need: Need) -> Result<Listed, NoMemory>
         requires some { 0 < need.bytes }
         requires most { need.bytes ≤ most_bytes }
@@ -68,7 +68,7 @@ impl FlatController {
         unreachable!()
     }
 
-    /// Reads the descriptors of an SGL.
+    // Reads the descriptors of an SGL.
     fn read_sgl(&self, alloc: Global, sqe: &Sqe, need: Need) -> Result<Listed, NoMemory>
         ensures { IfOk result (λ listed. IsListed listed (reading_by pointer.Sgl self.now sqe.now need)) }
     {
@@ -92,7 +92,7 @@ impl FlatController {
     }
 }
 
-/// Feeds a parse of an SGL the bytes that it wants.
+// Feeds a parse of an SGL the bytes that it wants.
 #[inline(always)]
 fn feed_sgl<A: Allocator + Clone>(
     memory: &Host,
@@ -107,7 +107,7 @@ fn feed_sgl<A: Allocator + Clone>(
     parse.feed(memory.bytes(addr, u64::from(len)))
 }
 
-/// Feeds a parse of PRPs the bytes that it wants.
+// Feeds a parse of PRPs the bytes that it wants.
 fn feed_prp(memory: &Host, parse: &mut PrpParse, addr: u64, len: u32)
     requires wanted { want_of (prp_dialogue_of parse.old) ≡ Want.Read addr len }
     requires there { IsPartThere memory.now addr len }

@@ -42,7 +42,7 @@ pub(crate) fn read_blocks(
     }
 }
 
-/// Makes the `count` blocks from `start` on kept.
+// Makes the `count` blocks from `start` on kept.
 fn raise_marks(kept: &mut [bool], start: u64, count: u64)
     requires { start + count ≤ length kept.old }
     ensures { mark_of kept.new ≡ raised true start count (mark_of kept.old) }
@@ -120,7 +120,7 @@ pub(crate) fn clear_blocks(
     }
 }
 
-/// Makes a block zeros, and gives its mark this value.
+// Makes a block zeros, and gives its mark this value.
 fn clear_block(disk: &mut [[u8; BLOCK_SIZE]], kept: &mut [bool], lba: u64, mark: bool)
     requires block { lba < length disk.old }
     requires marks { length kept.old ≡ length disk.old }

@@ -65,7 +65,7 @@ impl FlatController {
         }
     }
 
-    /// Moves the `count` blocks from `slba` on from a buffer, in order.
+    // Moves the `count` blocks from `slba` on from a buffer, in order.
     fn write_blocks(&mut self, places: &Places, slba: u64, count: u64, fua: bool)
         requires in_memory { AreBelow (length self.old.memory) (places_of places.now) }
         requires enough { block_size * count ≤ length (places_of places.now) }
@@ -82,7 +82,7 @@ impl FlatController {
         }
     }
 
-    /// Moves one block from the next places of the buffer.
+    // Moves one block from the next places of the buffer.
     #[inline(always)]
     fn write_block(&mut self, buffer: &mut Buffer, lba: u64, fua: bool)
         requires in_memory { AreBelow (length self.old.memory) buffer.old }

@@ -1,3 +1,5 @@
+//! The checks of a command that look at its fields alone.
+
 ghost use Rattle.std.specs.Prelude.{◌≡◌, ◌^◌, ◌≤◌};
 ghost use Rattle.nv_judge.specs.Need.{field_verdict, need_of};
 ghost use Rattle.nv_model.specs.Judge.{command_checks, count_of, has_blocks, has_buffer, is_read, transfer_len};
@@ -25,7 +27,7 @@ pub fn judge_fields(sqe: &Sqe, ns: &VirtualNs) -> Result<Need, Status>
     }
 }
 
-/// The first check that a command fails once its opcode is known.
+// The first check that a command fails once its opcode is known.
 fn refusal(opcode: IoOpcode, sqe: &Sqe, ns: &VirtualNs) -> Option<StatusCode>
     ensures { result ≡ first_failing (command_checks ns.now.blocks sqe.now opcode) }
 {
@@ -43,7 +45,7 @@ fn refusal(opcode: IoOpcode, sqe: &Sqe, ns: &VirtualNs) -> Option<StatusCode>
     }
 }
 
-/// What a command needs that its fields do not refuse.
+// What a command needs that its fields do not refuse.
 fn need(opcode: IoOpcode, sqe: &Sqe) -> Need
     ensures { result ≡ need_of sqe.now opcode }
 {
@@ -56,7 +58,7 @@ fn need(opcode: IoOpcode, sqe: &Sqe) -> Need
     }
 }
 
-/// The blocks of a command's LBA range.
+// The blocks of a command's LBA range.
 fn block_count(sqe: &Sqe) -> u32
     ensures value { result ≡ count_of sqe.now }
     ensures fits { result ≤ 2 ^ 16 }
@@ -64,21 +66,21 @@ fn block_count(sqe: &Sqe) -> u32
     u32::from(sqe.nlb()) + 1
 }
 
-/// Whether a command reads or writes a buffer.
+// Whether a command reads or writes a buffer.
 fn has_buffer(opcode: IoOpcode) -> bool
     ensures { result ≡ has_buffer opcode }
 {
     !matches!(opcode, IoOpcode::Flush | IoOpcode::WriteZeroes)
 }
 
-/// Whether a command names a range of blocks by SLBA and NLB.
+// Whether a command names a range of blocks by SLBA and NLB.
 fn has_blocks(opcode: IoOpcode) -> bool
     ensures { result ≡ has_blocks opcode }
 {
     !matches!(opcode, IoOpcode::Flush | IoOpcode::DatasetManagement)
 }
 
-/// The length of a command's buffer in bytes.
+// The length of a command's buffer in bytes.
 fn transfer_len(opcode: IoOpcode, sqe: &Sqe) -> u32
     ensures { result ≡ transfer_len opcode sqe.now }
 {

@@ -1,3 +1,5 @@
+//! The check of the ranges that a Dataset Management names.
+
 ghost use Rattle.std.specs.Prelude.{◌≡◌, ◌%◌, length};
 ghost use Rattle.nv_judge.specs.Ranges.{ranges_verdict};
 ghost use Rattle.nv_model.specs.Limits.{range_size};
@@ -30,7 +32,7 @@ pub fn judge_ranges(ranges: &[u8], ns: &VirtualNs) -> Result<(), Status>
 mod tests {
     use super::*;
 
-    /// The bytes of two ranges of Dataset Management.
+    // The bytes of two ranges of Dataset Management.
     fn ranges(dwords: [u32; 8]) -> [u8; 32] {
         let mut bytes = [0; 32];
         for (dword, out) in dwords.iter().zip(bytes.chunks_exact_mut(4)) {

@@ -1,3 +1,5 @@
+//! One region of a memory map, and the size of the pages that it is made of.
+
 ghost use Rattle.std.specs.Prelude.{◌≡◌};
 ghost use Rattle.nv_mem.specs.GuestMap.{spans_meet};
 

@@ -1,3 +1,5 @@
+//! Region pages that are built: for places of a guest, and for a stretch of the host's memory.
+
 ghost use Rattle.std.specs.Prelude.{◌≡◌, ◌+◌, ◌%◌, ◌<◌, ◌≤◌, ◌^◌, All, true, length};
 ghost use Rattle.std.specs.List.{range_with_len};
 ghost use Rattle.nv_mem.specs.GuestMap.{everywhere, mapped};

@@ -1,3 +1,5 @@
+//! Where a parse of region pages stands, and how it goes on slot by slot.
+
 ghost use Rattle.std.specs.Prelude.{◌≡◌, None, Some, ◌+◌, ◌-◌, ◌*◌, ◌/◌, ◌%◌, ◌<◌, ◌≤◌, ◌^◌, [], ℕ, List, true, false, length};
 ghost use Rattle.nv_mem.specs.GuestMap.{mapped};
 ghost use Rattle.nv_mem.specs.declared.piece.Piece.{Piece};

@@ -1,3 +1,5 @@
+//! Whether places can be named by region pages at all.
+
 ghost use Rattle.std.specs.Prelude.{◌≡◌, ◌+◌, ◌%◌, ◌<◌, ◌≤◌, ◌^◌, ℕ, List, ◌++◌, ◌&&◌, All, None, true, length};
 ghost use Rattle.nv_mem.specs.GuestMap.{everywhere, mapped};
 ghost use Rattle.nv_mem.specs.Places.{addresses};

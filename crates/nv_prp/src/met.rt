@@ -1,3 +1,5 @@
+//! What is gathered of a transfer's host addresses while its region pages are built.
+
 ghost use Rattle.std.specs.Prelude.{◌≡◌, ◌+◌, ◌<◌, ◌≤◌, ◌^◌, ◌++◌, [], ◌∷◌, length};
 ghost use Rattle.std.specs.List.{range_with_len};
 ghost use Rattle.nv_model.specs.Limits.{most_bytes};

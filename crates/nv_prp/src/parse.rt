@@ -1,3 +1,5 @@
+//! The parse of region pages: what it wants, what it is fed, and the places in the end.
+
 ghost use Rattle.std.specs.Prelude.{◌≡◌, ◌≢◌, ◌<◌, ◌≤◌, ℕ, length, IfOk};
 ghost use Rattle.nv_mem.specs.GuestMap.{mapped};
 ghost use Rattle.nv_model.specs.Dialogue.{End, and_then};

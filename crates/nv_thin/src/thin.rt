@@ -122,7 +122,7 @@ impl One for Thin {
     }
 }
 
-/// The map of a guest with so much memory.
+// The map of a guest with so much memory.
 fn map_behind(alloc: Global, memory_len: u64) -> Result<GuestMap, NoMemory>
     requires pages { memory_len % page_size ≡ 0 }
     requires some { 0 < memory_len }
@@ -140,7 +140,7 @@ fn map_behind(alloc: Global, memory_len: u64) -> Result<GuestMap, NoMemory>
     }
 }
 
-/// Blocks of zeros.
+// Blocks of zeros.
 fn zero_blocks(alloc: Global, blocks: usize) -> Result<Vec<[u8; BLOCK_SIZE]>, NoMemory>
     ensures { IfOk result (λ disk. disk.items ≡ replicate blocks (replicate block_size 0)) }
 {
@@ -151,7 +151,7 @@ fn zero_blocks(alloc: Global, blocks: usize) -> Result<Vec<[u8; BLOCK_SIZE]>, No
     Ok(disk)
 }
 
-/// Marks that are clear.
+// Marks that are clear.
 fn clear_marks(alloc: Global, blocks: usize) -> Result<Vec<bool>, NoMemory>
     ensures { IfOk result (λ kept. kept.items ≡ replicate blocks false) }
 {

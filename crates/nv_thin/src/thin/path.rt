@@ -61,7 +61,7 @@ impl Thin {
         }
     }
 
-    /// The guest's range of the disk.
+    // The guest's range of the disk.
     fn namespace(&self) -> VirtualNs
         ensures { result ≡ record { base = first_block; blocks = length self.now.disk } }
     {
@@ -69,8 +69,8 @@ impl Thin {
         VirtualNs::new(FIRST_BLOCK, blocks - FIRST_BLOCK)
     }
 
-    /// The refusal of the list of a command whose own descriptor is of the type of a Data Block, for a transfer of some bytes. Where
-    /// there is none, the buffer is that descriptor's one run.
+    // The refusal of the list of a command whose own descriptor is of the type of a Data Block, for a transfer of some bytes. Where
+    // there is none, the buffer is that descriptor's one run.
     fn list_refusal(&self, alloc: Global, sqe: &Sqe, need: Need) -> Result<Option<Status>, NoMemory>
         requires own { type_of (sgl_of sqe.now) ≡ 0 }
         requires some { 0 < need.bytes }
@@ -89,7 +89,7 @@ impl Thin {
         }
     }
 
-    /// Moves the blocks of a Read or Write, whose range starts at this block of the disk, between there and the guest's memory.
+    // Moves the blocks of a Read or Write, whose range starts at this block of the disk, between there and the guest's memory.
     fn move_blocks(&mut self, sqe: &Sqe, need: Need, slba: u64)
         requires translated { slba ≡ first_block + slba_of sqe.now }
         requires counted { need.blocks ≡ count_of sqe.now }
@@ -128,7 +128,7 @@ impl Thin {
     }
 }
 
-/// A Read through the bounce page: the blocks move from the disk to the page, and then the page's bytes to the host address `memory`.
+// A Read through the bounce page: the blocks move from the disk to the page, and then the page's bytes to the host address `memory`.
 fn read_through(
     host: &mut Host,
     disk: &mut [[u8; BLOCK_SIZE]],
@@ -157,7 +157,7 @@ fn read_through(
     bounce::copy(host, PAGE, memory, BLOCK_SIZE as u64 * (u64::from(nlb) + 1));
 }
 
-/// A Write through the bounce page: the bytes from the host address `memory` on come to the page, and then its blocks to the disk.
+// A Write through the bounce page: the bytes from the host address `memory` on come to the page, and then its blocks to the disk.
 fn write_through(
     host: &mut Host,
     disk: &mut [[u8; BLOCK_SIZE]],
@@ -187,7 +187,7 @@ fn write_through(
     physical::carry_out(&entry, host, disk, kept);
 }
 
-/// Whether a command goes: a Read or Write by an SGL whose own descriptor is of the type of a Data Block, of at most one page.
+// Whether a command goes: a Read or Write by an SGL whose own descriptor is of the type of a Data Block, of at most one page.
 fn goes_through(sqe: &Sqe) -> bool
     ensures { result ≡ goes_through sqe.now }
 {

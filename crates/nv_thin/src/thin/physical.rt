@@ -50,7 +50,7 @@ pub(crate) fn entry(opcode: IoOpcode, slba: u64, nlb: u16, fua: bool) -> [u8; 64
     to_bytes(&dwords)
 }
 
-/// The bytes of sixteen dwords.
+// The bytes of sixteen dwords.
 #[tactic(auto, unfolding(nv_entry::specs::Layout::bytes_of_dwords))]
 fn to_bytes(dwords: &[u32; 16]) -> [u8; 64]
     ensures { result ≡ bytes_of_dwords dwords.now }
@@ -88,7 +88,7 @@ pub(crate) fn carry_out(
     }
 }
 
-/// Moves the `count` blocks from `slba` on to the page, in order.
+// Moves the `count` blocks from `slba` on to the page, in order.
 fn read_blocks(
     host: &mut Host,
     disk: &[[u8; BLOCK_SIZE]],
@@ -113,7 +113,7 @@ fn read_blocks(
     }
 }
 
-/// Moves a block to the page, where it is the block of this index of the transfer. A set FUA bit makes it kept.
+// Moves a block to the page, where it is the block of this index of the transfer. A set FUA bit makes it kept.
 fn read_block(
     host: &mut Host,
     disk: &[[u8; BLOCK_SIZE]],
@@ -140,7 +140,7 @@ fn read_block(
     }
 }
 
-/// Moves the `count` blocks from `slba` on from the page, in order.
+// Moves the `count` blocks from `slba` on from the page, in order.
 fn write_blocks(
     host: &Host,
     disk: &mut [[u8; BLOCK_SIZE]],
@@ -164,7 +164,7 @@ fn write_blocks(
     }
 }
 
-/// Moves a block from the page, where it is the block of this index of the transfer. It is kept where the FUA bit is set.
+// Moves a block from the page, where it is the block of this index of the transfer. It is kept where the FUA bit is set.
 fn write_block(
     host: &Host,
     disk: &mut [[u8; BLOCK_SIZE]],
