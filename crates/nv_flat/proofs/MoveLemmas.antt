@@ -8,7 +8,7 @@ use lib.Pointwise.{pointwise}
 use mathlib.Core.Path.{fun_ext}
 use Rattle.std.specs.List.{slice_index_or, range_with_len}
 use Rattle.std.proofs.lemmas.Bool.Decides.{nat_tests}
-use Rattle.nv_entry.specs.declared.opcode.IoOpcode.TheVariants.{Compare, Read, Write}
+use Rattle.nv_entry.specs.declared.opcode.IoOpcode.TheVariants.{Read, Write}
 use Rattle.nv_mem.specs.Places.{Place, places_of}
 use Rattle.nv_mem.specs.declared.piece.Piece.{Piece}
 use Rattle.nv_model.specs.Memory.{gathered, scattered, stored}
@@ -118,24 +118,6 @@ differs-pointwise (x ∷ xs) (y ∷ ys) =
     not-and : (a b : Bool) → not a || not b ≡ not (a && b)
     not-and true b = refl
     not-and false b = refl
-
--- a block that was compared with the buffer is one moved unit
-pub compare-moved : (memory : List ℕ) (disk : List (List ℕ)) (kept marks : List Bool) (places : List Place) (index lba : ℕ) (bytes : List ℕ) (fua unlike : Bool)
-    → length (slice_index_or disk lba []) ≡ 512
-    → bytes ≡ gathered (byte_in memory) (take 512 places)
-    → differs bytes (slice_index_or disk lba []) ≡ unlike
-    → (λ b. slice_index_or marks b false) ≡ marked (λ b. slice_index_or kept b false) lba (slice_index_or kept lba false || fua)
-    → (pieces : List Piece) (differed : Bool) → places ≡ drop (512 * index) (places_of pieces)
-    → moved_of (flat memory disk marks) (differed || unlike)
-    ≡ moved_on (MoveBlock index lba) (block_work Compare pieces fua) (moved_of (flat memory disk kept) differed)
-unfolding moved_of
-compare-moved memory disk kept marks places index lba bytes fua unlike sized gather differ mark pieces differed at =
-    moved (byte_in memory) _ (byte_of_block disk) _ _ _ (differed || unlike) _
-    refl refl mark
-    (ap (λ (b : Bool). differed || b)
-    (sym differ
-    ∙ ap (λ (xs : List ℕ). differs xs (slice_index_or disk lba [])) (gather ∙ ap (λ (ps : List Place). gathered (byte_in memory) (take 512 ps)) at)
-    ∙ ap (differs (gathered (byte_in memory) (take 512 (drop (512 * index) (places_of pieces))))) (sym (block_bytes-list disk lba sized))))
 
 -- marks that stay, or rise, as a set FUA bit says
 pub marks-raised : (kept : List Bool) (lba : ℕ) → lba < length kept

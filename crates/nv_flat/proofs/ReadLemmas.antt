@@ -145,6 +145,24 @@ length-blocks start count n disk within is =
     let taken = length-take-le (start + count - start) (drop start disk) (omega arith) in
     omega arith
 
+-- the bytes of the `count` blocks from `start` on
+pub joined-blocks : (start count : ℕ) (disk : List (List ℕ)) (bytes : List ℕ)
+    → bytes ≡ joined (take (start + count - start) (drop start disk)) → bytes ≡ joined (take count (drop start disk))
+joined-blocks start count disk bytes are =
+    let same : start + count - start ≡ count = omega arith in
+    are ∙ ap (λ (k : ℕ). joined (take k (drop start disk))) same
+
+-- whether a buffer's bytes differ from these
+pub differs-blocks : (m : ℕ → ℕ) (places : List Place) (start count : ℕ) (disk : List (List ℕ)) (bytes : List ℕ) (unlike : Bool)
+    → start + count ≤ length disk → length bytes ≡ length (take (start + count - start) (drop start disk)) * 512
+    → bytes ≡ joined (take (start + count - start) (drop start disk))
+    → unlike ≡ differs (gathered m (take (length bytes) places)) bytes
+    → unlike ≡ differs (gathered m (take (512 * count) places)) (joined (take count (drop start disk)))
+differs-blocks m places start count disk bytes unlike within sized are told =
+    told
+    ∙ ap (λ (n : ℕ). differs (gathered m (take n places)) bytes) (length-blocks start count (length bytes) disk within sized)
+    ∙ ap (differs (gathered m (take (512 * count) places))) (joined-blocks start count disk bytes are)
+
 -- blocks that were compared with the buffer all at once are moved units
 pub compare-moved_all : (memory : List ℕ) (disk : List (List ℕ)) (kept marks : List Bool) (places : List Place) (start count : ℕ) (fua unlike : Bool)
     → start + count ≤ length disk → ((k : ℕ) → k < length disk → length (slice_index_or disk k []) ≡ 512)
