@@ -7,7 +7,7 @@ use nv_entry::{
 use std::fmt::Debug;
 use std::process::Abort;
 
-/// Ends the test where what was found in a case is not what is wanted there.
+// Ends the test where what was found in a case is not what is wanted there.
 fn expect<T: PartialEq + Debug>(rt: &impl Abort, case: &impl Debug, found: &T, want: &T) {
     assert_eq!(rt; found, want, "{case:?}");
 }
@@ -113,7 +113,7 @@ const SUBMISSIONS: [Submission; 4] = [
     },
 ];
 
-/// The bytes with these digits.
+// The bytes with these digits.
 fn bytes_of(digits: (u64, u128, u128, u128, u64)) -> [u8; 64] {
     let (head, metadata, pointer, dwords, rest) = digits;
     let mut bytes = [0; 64];
@@ -228,7 +228,7 @@ fn writes_completions(rt: HostRuntime) {
     expect_completions(&rt, &ENDED);
 }
 
-/// DW0, DW1, SQHD, SQID, CID, SC, SCT and CRD.
+// DW0, DW1, SQHD, SQID, CID, SC, SCT and CRD.
 fn numbers_of(ended: &Cqe) -> [u32; 8] {
     [
         ended.dw0(),

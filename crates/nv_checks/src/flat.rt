@@ -77,7 +77,7 @@ pub(crate) fn put(rt: &impl Abort, controller: &mut FlatController, addr: u64, b
     controller.store(addr, bytes);
 }
 
-/// The 16 bytes of a completion at head 1 of queue 1 that ends in this dword.
+// The 16 bytes of a completion at head 1 of queue 1 that ends in this dword.
 fn completion(last: u32) -> [u8; 16] {
     let mut bytes = [0, 0, 0, 0, 0, 0, 0, 0, 1, 0, 1, 0, 0, 0, 0, 0];
     bytes[12..].copy_from_slice(&last.to_le_bytes());
@@ -96,7 +96,7 @@ pub(crate) fn run(
     Ok(())
 }
 
-/// Whether each of the 512 bytes from an address on is this one.
+// Whether each of the 512 bytes from an address on is this one.
 fn filled(rt: &impl Abort, controller: &FlatController, addr: u64, byte: u8) -> bool {
     let mut bytes = [0; 512];
     assert!(rt; controller.holds(addr, 512));

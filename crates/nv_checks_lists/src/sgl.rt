@@ -60,7 +60,7 @@ pub(crate) struct Guest {
     pub(crate) map: GuestMap,
 }
 
-/// The map of a guest whose memory is mapped to its end, and no further.
+// The map of a guest whose memory is mapped to its end, and no further.
 fn map(alloc: Global) -> Result<GuestMap, Fail> {
     let regions = vec![in alloc;
         Region {
@@ -111,7 +111,7 @@ pub(crate) fn step<A: Allocator + Clone>(
     }
 }
 
-/// Feeds the parse until it ends.
+// Feeds the parse until it ends.
 fn drive<A: Allocator + Clone>(
     parse: &mut SglParse<'_, A>,
     memory: &[u8],
@@ -138,7 +138,7 @@ pub(crate) fn takes_parts<A: Allocator + Clone>(
     Ok(true)
 }
 
-/// How many arrays a chain has.
+// How many arrays a chain has.
 fn arrays<A: Allocator>(chain: &Chain<A>) -> u32 {
     let mut next = Some(chain);
     for count in 0..2000u32 {

@@ -40,7 +40,7 @@ struct Outcome {
     faults: Vec<u8>,
 }
 
-/// Does a command on the flat controller.
+// Does a command on the flat controller.
 fn perform_on_flat<R: Read, W: Write>(
     alloc: Global,
     command: Command<'_>,
@@ -53,7 +53,7 @@ fn perform_on_flat<R: Read, W: Write>(
     }
 }
 
-/// What the program does that was given this command.
+// What the program does that was given this command.
 fn run_on_flat<R: Read>(
     alloc: Global,
     command: Result<Command<'_>, Refusal>,
@@ -81,7 +81,7 @@ fn decode<'a>(name: &str, digits: &'a str) -> Option<Command<'a>> {
     Some(Command::Decode { kind, digits })
 }
 
-/// Ends the test where a case gives something else than is wanted.
+// Ends the test where a case gives something else than is wanted.
 fn same<T: PartialEq + Debug>(rt: &impl Abort, case: &impl Debug, found: &T, want: &T) {
     assert_eq!(rt; found, want, "{case:?}");
 }
@@ -350,8 +350,8 @@ fn writer(alloc: Global, room: usize, flushes: bool) -> FailingWriter {
 /// How many bytes a writer has room for, whether it flushes, and how a command ends then.
 type Written = (usize, bool, Result<(), Fault>);
 
-/// Ends the test where a command ends otherwise, where what was taken is not the front of the whole that there is room for, or where a
-/// command ends well and has not flushed it.
+// Ends the test where a command ends otherwise, where what was taken is not the front of the whole that there is room for, or where a
+// command ends well and has not flushed it.
 fn expect_written(
     rt: &(impl Abort + AllocGlobal),
     command: Command<'_>,
@@ -448,7 +448,7 @@ impl Read for Counted {
     }
 }
 
-/// `decode` reads nothing; a script is read to its end.
+// `decode` reads nothing; a script is read to its end.
 #[test]
 fn reads_for_a_script_alone(rt: HostRuntime) {
     let Some(command) = decode("cqe", DONE) else {
@@ -463,7 +463,7 @@ fn reads_for_a_script_alone(rt: HostRuntime) {
     same(&rt, &"once", &(reader.reads > 0), &true);
 }
 
-/// How the first run ends with a writer for which there is this much room.
+// How the first run ends with a writer for which there is this much room.
 fn status_of_first_run(alloc: Global, room: usize, faults: &mut FailingWriter) -> ExitStatus {
     let mut output = writer(alloc, room, true);
     let ended = run::<FlatController, &[u8], &mut FailingWriter, FailingWriter>(
@@ -476,7 +476,7 @@ fn status_of_first_run(alloc: Global, room: usize, faults: &mut FailingWriter) -
     ExitStatus::of(&ended)
 }
 
-/// A fault is told and flushed; where it cannot be told, the program ends as ever.
+// A fault is told and flushed; where it cannot be told, the program ends as ever.
 #[test]
 fn tells_of_an_output_that_fails(rt: HostRuntime) {
     let mut faults = writer(rt.alloc(), 1000, true);
@@ -570,8 +570,8 @@ impl Write for Page {
     }
 }
 
-/// It passes whichever allocation of the process is refused: the run ends well, or for want of memory, and what it printed is a
-/// beginning of its output.
+// It passes whichever allocation of the process is refused: the run ends well, or for want of memory, and what it printed is a
+// beginning of its output.
 #[test]
 fn a_script_where_memory_is_refused(rt: HostRuntime) {
     let mut output = Page::new();

@@ -224,7 +224,7 @@ memory 4096;blocks 1;;block 1;frob;block 0 0|line 4: out of range
 memory 4096;blocks 1;frob;memory|line 3: unknown word
 ";
 
-/// The script or the fault, printed.
+// The script or the fault, printed.
 fn answer(rt: &impl AllocGlobal, text: &[u8]) -> Result<String, Fail> {
     match parse(rt.alloc(), text) {
         Ok(script) => {
@@ -234,17 +234,17 @@ fn answer(rt: &impl AllocGlobal, text: &[u8]) -> Result<String, Fail> {
     }
 }
 
-/// One text behind another.
+// One text behind another.
 fn joined(alloc: Global, front: &str, back: &str) -> Result<String, AllocError> {
     format!(in alloc; "{front}{back}")
 }
 
-/// Ends the test where a case gives another text than is wanted.
+// Ends the test where a case gives another text than is wanted.
 fn same(rt: &impl Abort, case: &str, found: &str, want: &str) {
     assert!(rt; found == want, "{case:?} gives {found:?}, and not {want:?}");
 }
 
-/// Ends the test where something else comes of the text of a case than is wanted.
+// Ends the test where something else comes of the text of a case than is wanted.
 fn expect(
     rt: &(impl Abort + AllocGlobal),
     case: &str,
@@ -256,7 +256,7 @@ fn expect(
     Ok(())
 }
 
-/// What comes of the script of a row behind a beginning is what the row says behind another.
+// What comes of the script of a row behind a beginning is what the row says behind another.
 fn expect_row(
     rt: &(impl Abort + AllocGlobal),
     beginning: &str,
@@ -270,7 +270,7 @@ fn expect_row(
     expect(rt, row, text.as_bytes(), &want)
 }
 
-/// Each row of these tables is as `expect_row` says.
+// Each row of these tables is as `expect_row` says.
 fn expect_rows(
     rt: &(impl Abort + AllocGlobal),
     beginning: &str,
@@ -328,7 +328,7 @@ fn keeps_bytes_outside_ascii_in_their_words(rt: HostRuntime) -> Result<(), Fail>
     )
 }
 
-/// The opcode, the identifier and the starting LBA of a command.
+// The opcode, the identifier and the starting LBA of a command.
 fn command_of(line: &Line) -> Option<(u8, u16, u64)> {
     match line {
         Line::Command(entry) => Some((entry.opcode(), entry.cid(), entry.slba())),
@@ -336,7 +336,7 @@ fn command_of(line: &Line) -> Option<(u8, u16, u64)> {
     }
 }
 
-/// A command is its entry. Where an allocation is refused, nothing else is said.
+// A command is its entry. Where an allocation is refused, nothing else is said.
 #[test]
 fn reads_a_command(rt: HostRuntime) -> Result<(), Fail> {
     let text = format!(in rt.alloc(); "{SET_UP}cmd {READ}\nstore 0 ab")?;

@@ -45,7 +45,7 @@ impl Env for Process<'_> {
     }
 }
 
-/// Ends the test where a process with these words has others behind its name.
+// Ends the test where a process with these words has others behind its name.
 fn expect_words(rt: &(impl Abort + AllocGlobal), given: &[&[u8]], want: &[&str]) {
     let process = Process {
         words: given,

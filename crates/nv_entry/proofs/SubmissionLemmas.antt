@@ -5,7 +5,8 @@ use Rattle.nv_entry.specs.Layout.{bytes_of_dwords}
 use Rattle.nv_entry.specs.Submission.{sgl_of}
 
 -- dropping i dwords drops their bytes
-pub drop-bytes_of_dwords : (i : ℕ) (ds : List ℕ) → i ≤ length ds → drop (4 * i) (bytes_of_dwords ds) ≡ bytes_of_dwords (drop i ds)
+pub drop-bytes_of_dwords : (i : ℕ) (ds : List ℕ) → i ≤ length ds
+    → drop (4 * i) (bytes_of_dwords ds) ≡ bytes_of_dwords (drop i ds)
 unfolding bytes_of_dwords
 drop-bytes_of_dwords zero ds h = refl
 drop-bytes_of_dwords (suc i) [] h = absurd (omega arith)
@@ -14,7 +15,8 @@ drop-bytes_of_dwords (suc i) (d ∷ ds) h =
     rw e (drop-bytes_of_dwords i ds (omega arith))
 
 -- taking i dwords takes their bytes
-pub take-bytes_of_dwords : (i : ℕ) (ds : List ℕ) → i ≤ length ds → take (4 * i) (bytes_of_dwords ds) ≡ bytes_of_dwords (take i ds)
+pub take-bytes_of_dwords : (i : ℕ) (ds : List ℕ) → i ≤ length ds
+    → take (4 * i) (bytes_of_dwords ds) ≡ bytes_of_dwords (take i ds)
 unfolding bytes_of_dwords
 take-bytes_of_dwords zero ds h = refl
 take-bytes_of_dwords (suc i) [] h = absurd (omega arith)
@@ -31,9 +33,11 @@ drop-at (suc i) [] h = absurd (omega arith)
 drop-at (suc i) (d ∷ ds) h = drop-at i ds (omega arith)
 
 -- dwords 6 to 9 of an entry are its SGL descriptor
-pub sgl_back : (ds : List ℕ) → length ds ≡ 16 → sgl_of (bytes_of_dwords ds) ≡ bytes_of_dwords (slice_index ds 6 ∷ slice_index ds 7 ∷ slice_index ds 8 ∷ slice_index ds 9 ∷ [])
+pub sgl_back : (ds : List ℕ) → length ds ≡ 16
+    → sgl_of (bytes_of_dwords ds) ≡ bytes_of_dwords (slice_index ds 6 ∷ slice_index ds 7 ∷ slice_index ds 8 ∷ slice_index ds 9 ∷ [])
 sgl_back ds sized =
     let dropped = drop-bytes_of_dwords 6 ds (omega arith) in
     let four : take 4 (drop 6 ds) ≡ slice_index ds 6 ∷ slice_index ds 7 ∷ slice_index ds 8 ∷ slice_index ds 9 ∷ [] =
     rw (drop-at 6 ds (omega arith), drop-at 7 ds (omega arith), drop-at 8 ds (omega arith), drop-at 9 ds (omega arith)) refl in
-    ap (take 16) dropped ∙ take-bytes_of_dwords 4 (drop 6 ds) (omega (arith, length-drop 6 ds)) ∙ ap bytes_of_dwords four
+    ap (take 16) dropped ∙ take-bytes_of_dwords 4 (drop 6 ds) (omega (arith, length-drop 6 ds))
+    ∙ ap bytes_of_dwords four

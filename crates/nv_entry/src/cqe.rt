@@ -1,3 +1,5 @@
+//! Completion queue entries: their fields, read from bytes and made.
+
 ghost use Rattle.std.specs.Prelude.{◌≡◌, ◌<◌, ◌↔◌, ◌==◌, IsTrue};
 
 use crate::dwords;

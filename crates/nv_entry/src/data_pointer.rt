@@ -1,3 +1,5 @@
+//! What names the buffer of a command: region pages or a scatter gather list.
+
 ghost use Rattle.std.specs.Prelude.{◌≡◌, ◌<◌};
 
 /// What a command's data pointer holds (PSDT; Base Specification 2.0, "Submission Queue Entry").

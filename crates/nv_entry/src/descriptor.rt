@@ -1,3 +1,5 @@
+//! Descriptors of scatter gather lists: their fields, read from bytes and made.
+
 ghost use Rattle.std.specs.Prelude.{◌≡◌, [], ◌∷◌};
 ghost use Rattle.nv_entry.specs.Layout.{bytes_of_dwords};
 

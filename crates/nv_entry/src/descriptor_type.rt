@@ -1,3 +1,5 @@
+//! The types of SGL descriptors that the mediator knows.
+
 ghost use Rattle.std.specs.Prelude.{◌≡◌};
 
 /// What an SGL descriptor names (Base Specification 2.0, "Scatter Gather List (SGL)").

@@ -1,3 +1,5 @@
+//! The opcodes of I/O commands, both ways: as numbers and as the commands that the mediator knows.
+
 ghost use Rattle.std.specs.Prelude.{◌≡◌};
 ghost use Rattle.nv_entry.specs.Opcode.{admin_code, admin_opcode, io_code, io_opcode};
 

@@ -1,3 +1,5 @@
+//! Ranges of Dataset Management: their fields, read from bytes and made.
+
 ghost use Rattle.std.specs.Prelude.{◌≡◌};
 ghost use Rattle.nv_entry.specs.Range.{attributes_of, blocks_of, start_of};
 

@@ -1,3 +1,5 @@
+//! Submission queue entries: the fields of a command, read from its bytes.
+
 ghost use Rattle.std.specs.Prelude.{◌≡◌, ◌<◌, ◌↔◌, IsTrue};
 ghost use Rattle.nv_entry.specs.Submission.{cdw_of, cid_of, deallocate_of, fua_of, fuse_of, mptr_of, nlb_of, nr_of, nsid_of, opcode_of, prp1_of, prp2_of, psdt_of, sgl_of, slba_of};
 

@@ -1,3 +1,5 @@
+//! The status codes that the mediator gives, by their names, and the statuses that they make.
+
 ghost use Rattle.std.specs.Prelude.{◌≡◌, ◌<◌};
 
 use crate::status::Status;

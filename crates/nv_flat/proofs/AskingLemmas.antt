@@ -27,13 +27,15 @@ AsksAtMost mapped (suc n) (Ask addr unit left next) =
     (0 < left) × (IsMappedFrom mapped addr left × ((bytes : List ℕ) → AsksAtMost mapped n (next bytes)))
 
 -- once more does no harm
-AsksAtMost-more : {A : Type 0} (mapped : ℕ → Bool) (n : ℕ) (d : Dialogue A) → AsksAtMost mapped n d → AsksAtMost mapped (suc n) d
+AsksAtMost-more : {A : Type 0} (mapped : ℕ → Bool) (n : ℕ) (d : Dialogue A) → AsksAtMost mapped n d
+    → AsksAtMost mapped (suc n) d
 AsksAtMost-more mapped n (End value) asks = tt
 AsksAtMost-more mapped zero (Ask addr unit left next) asks = absurd asks
 AsksAtMost-more mapped (suc n) (Ask addr unit left next) asks = (asks.0, (asks.1.0, λ bytes. AsksAtMost-more mapped n (next bytes) (asks.1.1 bytes)))
 
 -- feeding makes it ask no more often
-AsksAtMost-fed : {A : Type 0} (mapped : ℕ → Bool) (n : ℕ) (d : Dialogue A) (bytes : List ℕ) → AsksAtMost mapped n d → AsksAtMost mapped n (fed d bytes)
+AsksAtMost-fed : {A : Type 0} (mapped : ℕ → Bool) (n : ℕ) (d : Dialogue A) (bytes : List ℕ) → AsksAtMost mapped n d
+    → AsksAtMost mapped n (fed d bytes)
 unfolding fed
 AsksAtMost-fed mapped n (End value) bytes asks = tt
 AsksAtMost-fed mapped n (Ask addr unit left next) [] asks = asks
@@ -52,13 +54,15 @@ pub record WantsMore (mapped : ℕ → Bool) (n : ℕ) (d : Dialogue Reading) (a
 
 -- a dialogue that asks, and is fed some bytes
 AsksAtMost-behind : {A : Type 0} (mapped : ℕ → Bool) (n addr unit left : ℕ) (next : List ℕ → Dialogue A) (bytes : List ℕ)
-    → ((given : List ℕ) → AsksAtMost mapped n (next given)) → 0 < length bytes → AsksAtMost mapped n (fed (Ask addr unit left next) bytes)
+    → ((given : List ℕ) → AsksAtMost mapped n (next given)) → 0 < length bytes
+    → AsksAtMost mapped n (fed (Ask addr unit left next) bytes)
 unfolding fed
 AsksAtMost-behind mapped n addr unit left next [] asks more = absurd (omega arith)
 AsksAtMost-behind mapped n addr unit left next (byte ∷ bytes) asks more =
     AsksAtMost-fed mapped n (next (take unit (byte ∷ bytes))) (drop unit (byte ∷ bytes)) (asks (take unit (byte ∷ bytes)))
 
-pub wants-more : (mapped : ℕ → Bool) (n : ℕ) (d : Dialogue Reading) (addr len : ℕ) → AsksAtMost mapped n d → want_of d ≡ want.Read addr len → WantsMore mapped n d addr len
+pub wants-more : (mapped : ℕ → Bool) (n : ℕ) (d : Dialogue Reading) (addr len : ℕ) → AsksAtMost mapped n d
+    → want_of d ≡ want.Read addr len → WantsMore mapped n d addr len
 wants-more mapped n (End (Spells pieces)) addr len asks wanted = (cc)
 wants-more mapped n (End (Faulty code)) addr len asks wanted = (cc)
 wants-more mapped n (End TooLong) addr len asks wanted = (cc)
@@ -80,18 +84,22 @@ wants-more mapped (suc n) (Ask from unit left next) addr len asks wanted =
     }
 
 -- a dialogue that may not ask wants nothing
-pub wants-nothing : (mapped : ℕ → Bool) (d : Dialogue Reading) (addr len : ℕ) → AsksAtMost mapped 0 d → want_of d ≡ want.Read addr len → ⊥
-wants-nothing mapped d addr len asks wanted = let often = (wants-more mapped 0 d addr len asks wanted).often in omega arith
+pub wants-nothing : (mapped : ℕ → Bool) (d : Dialogue Reading) (addr len : ℕ) → AsksAtMost mapped 0 d
+    → want_of d ≡ want.Read addr len → ⊥
+wants-nothing mapped d addr len asks wanted =
+    let often = (wants-more mapped 0 d addr len asks wanted).often in omega arith
 
 -- a dialogue that goes on to its end at once
-pub AsksAtMost-and_then : {A B : Type 0} (mapped : ℕ → Bool) (n : ℕ) (d : Dialogue A) (f : A → B) → AsksAtMost mapped n d → AsksAtMost mapped n (and_then d (λ v. End (f v)))
+pub AsksAtMost-and_then : {A B : Type 0} (mapped : ℕ → Bool) (n : ℕ) (d : Dialogue A) (f : A → B)
+    → AsksAtMost mapped n d → AsksAtMost mapped n (and_then d (λ v. End (f v)))
 unfolding and_then
 AsksAtMost-and_then mapped n (End value) f asks = tt
 AsksAtMost-and_then mapped zero (Ask addr unit left next) f asks = absurd asks
 AsksAtMost-and_then mapped (suc n) (Ask addr unit left next) f asks = (asks.0, (asks.1.0, λ bytes. AsksAtMost-and_then mapped n (next bytes) f (asks.1.1 bytes)))
 
 -- what is mapped in a memory whose addresses are the guest's own lies in it
-pub mapped-inside : (size addr len : ℕ) → 0 < len → IsMappedFrom (mapped (identity_map size).regions) addr len → addr + len ≤ size
+pub mapped-inside : (size addr len : ℕ) → 0 < len → IsMappedFrom (mapped (identity_map size).regions) addr len
+    → addr + len ≤ size
 mapped-inside size addr len some there =
     let last = there (len - 1) (omega arith) in
     let at : addr + (len - 1) < size = below size (addr + (len - 1)) last in
@@ -115,7 +123,8 @@ read_descriptor-often mapped n dest rest pieces follow d each goes =
     AsksAtMost-unless_faulty mapped n (fault_by (kind_of d) mapped rest d) _
     (λ fine. goes (array_by (kind_of d) rest d) (pieces ++ pieces_by (kind_of d) dest d) (array_by-mapped mapped (kind_of d) rest d fine each))
 
-read_array-often : (mapped : ℕ → Bool) (dest : Bool) (budget left from : ℕ) (by_last : Bool) (pieces : List Piece) → IsMappedFrom mapped from (16 * left)
+read_array-often : (mapped : ℕ → Bool) (dest : Bool) (budget left from : ℕ) (by_last : Bool) (pieces : List Piece)
+    → IsMappedFrom mapped from (16 * left)
     → AsksAtMost mapped budget (read_array mapped dest budget left from by_last pieces)
 unfolding read_array
 read_array-often mapped dest budget zero from by_last pieces each = tt
@@ -132,7 +141,8 @@ read_array-often mapped dest (suc budget) (suc left) from by_last pieces each = 
 )
 
 -- a list asks for one descriptor less than it may have at most
-pub read_sgl-often : (mapped : ℕ → Bool) (dest : Bool) (limit : ℕ) (own : List ℕ) → AsksAtMost mapped (limit - 1) (read_sgl mapped dest limit own)
+pub read_sgl-often : (mapped : ℕ → Bool) (dest : Bool) (limit : ℕ) (own : List ℕ)
+    → AsksAtMost mapped (limit - 1) (read_sgl mapped dest limit own)
 unfolding read_sgl
 read_sgl-often mapped dest zero own = tt
 read_sgl-often mapped dest (suc budget) own =
@@ -145,7 +155,8 @@ read_sgl-often mapped dest (suc budget) own =
 -- ---- physical region pages
 
 -- as often as that is no more often than this
-AsksAtMost-weaken : {A : Type 0} (mapped : ℕ → Bool) (more n : ℕ) (d : Dialogue A) → AsksAtMost mapped n d → AsksAtMost mapped (more + n) d
+AsksAtMost-weaken : {A : Type 0} (mapped : ℕ → Bool) (more n : ℕ) (d : Dialogue A) → AsksAtMost mapped n d
+    → AsksAtMost mapped (more + n) d
 AsksAtMost-weaken mapped zero n d asks =
     let e : n ≡ zero + n = omega arith in
     let P : ℕ → Type 0 = λ k. AsksAtMost mapped k d in
@@ -155,18 +166,21 @@ AsksAtMost-weaken mapped (suc more) n d asks =
     let P : ℕ → Type 0 = λ k. AsksAtMost mapped k d in
     subst P e (AsksAtMost-more mapped (more + n) d (AsksAtMost-weaken mapped more n d asks))
 
-AsksAtMost-if : {A : Type 0} (mapped : ℕ → Bool) (n : ℕ) (b : Bool) (x y : Dialogue A) → (b ≡ true → AsksAtMost mapped n x) → (b ≡ false → AsksAtMost mapped n y) → AsksAtMost mapped n (cond b x y)
+AsksAtMost-if : {A : Type 0} (mapped : ℕ → Bool) (n : ℕ) (b : Bool) (x y : Dialogue A)
+    → (b ≡ true → AsksAtMost mapped n x) → (b ≡ false → AsksAtMost mapped n y) → AsksAtMost mapped n (cond b x y)
 AsksAtMost-if mapped n true x y so not_so = so refl
 AsksAtMost-if mapped n false x y so not_so = not_so refl
 
 read_page-often : (mapped : ℕ → Bool) (n bytes : ℕ) (pieces : List Piece) (follow : List Piece → Dialogue Reading) (addr : ℕ)
-    → ((ps : List Piece) → AsksAtMost mapped n (follow ps)) → AsksAtMost mapped n (read_page mapped bytes pieces follow addr)
+    → ((ps : List Piece) → AsksAtMost mapped n (follow ps))
+    → AsksAtMost mapped n (read_page mapped bytes pieces follow addr)
 read_page-often mapped n bytes pieces follow addr goes =
     AsksAtMost-unless_faulty mapped n (entry_fault mapped page addr (min bytes page)) _ (λ fine. goes (pieces ++ run addr (min bytes page)))
 
 -- each page asks for its entry, and for a pointer before it at most
 read_entries-often : (mapped : ℕ → Bool) (pages slots from bytes : ℕ) (pieces : List Piece)
-    → (0 < pages → 0 < slots) → IsMappedFrom mapped from (8 * min slots pages) → AsksAtMost mapped (pages + pages) (read_entries mapped pages slots from bytes pieces)
+    → (0 < pages → 0 < slots) → IsMappedFrom mapped from (8 * min slots pages)
+    → AsksAtMost mapped (pages + pages) (read_entries mapped pages slots from bytes pieces)
 unfolding read_entries
 read_entries-often mapped zero slots from bytes pieces some each = tt
 read_entries-often mapped (suc pages) slots from bytes pieces some each =
@@ -204,9 +218,11 @@ read_entries-often mapped (suc pages) slots from bytes pieces some each =
       ),
     )))
 
-read_prp2-often : (mapped : ℕ → Bool) (pages prp2 bytes : ℕ) (pieces : List Piece) → AsksAtMost mapped (pages + pages) (read_prp2 mapped pages prp2 bytes pieces)
+read_prp2-often : (mapped : ℕ → Bool) (pages prp2 bytes : ℕ) (pieces : List Piece)
+    → AsksAtMost mapped (pages + pages) (read_prp2 mapped pages prp2 bytes pieces)
 read_prp2-often mapped zero prp2 bytes pieces = tt
-read_prp2-often mapped (suc zero) prp2 bytes pieces = read_page-often mapped (1 + 1) bytes pieces (λ ps. End (Spells ps)) prp2 (λ ps. tt)
+read_prp2-often mapped (suc zero) prp2 bytes pieces =
+    read_page-often mapped (1 + 1) bytes pieces (λ ps. End (Spells ps)) prp2 (λ ps. tt)
 read_prp2-often mapped (suc (suc pages)) prp2 bytes pieces =
     AsksAtMost-unless_faulty mapped (suc (suc pages) + suc (suc pages)) (entry_fault mapped 8 prp2 (8 * min (slots_of prp2) (suc (suc pages)))) _ (λ fine.
     let there = entry_fault-mapped mapped 8 prp2 (8 * min (slots_of prp2) (suc (suc pages))) fine in
@@ -214,7 +230,8 @@ read_prp2-often mapped (suc (suc pages)) prp2 bytes pieces =
     read_entries-often mapped (suc (suc pages)) (slots_of prp2) prp2 bytes pieces (λ _. omega arith) there.1)
 
 -- a list of PRPs for 128 KiB asks less often than an SGL may
-pub read_prp-often : (mapped : ℕ → Bool) (prp1 prp2 len : ℕ) → len ≤ 131072 → AsksAtMost mapped 1023 (read_prp mapped prp1 prp2 len)
+pub read_prp-often : (mapped : ℕ → Bool) (prp1 prp2 len : ℕ) → len ≤ 131072
+    → AsksAtMost mapped 1023 (read_prp mapped prp1 prp2 len)
 read_prp-often mapped prp1 prp2 len most =
     AsksAtMost-unless_faulty mapped 1023 (entry_fault mapped 4 prp1 (first_len prp1 len)) _
     (λ fine.

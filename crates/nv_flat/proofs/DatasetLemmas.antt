@@ -41,7 +41,8 @@ pub record IsManaged (f : Flat) (entry : List ℕ) (pieces : List Piece) (bytes 
 pub managed : (f : Flat) (entry : List ℕ) (pieces : List Piece) (bytes memory : List ℕ) (places : List Place) (n : ℕ)
     → HasFieldsInOrder (length f.disk) entry DatasetManagement (need_of entry DatasetManagement)
     → list_reading f entry (need_of entry DatasetManagement) ≡ Spells pieces
-    → memory ≡ f.memory → places ≡ places_of pieces → n ≡ 16 * range_count_of entry → bytes ≡ gathered (byte_in memory) (take n places)
+    → memory ≡ f.memory → places ≡ places_of pieces → n ≡ 16 * range_count_of entry
+    → bytes ≡ gathered (byte_in memory) (take n places)
     → IsManaged f entry pieces bytes
 managed f entry pieces bytes memory places n o read same_memory same_places whole taken =
     let total : length (places_of pieces) ≡ 16 * range_count_of entry = (spelled-usable f entry (need_of entry DatasetManagement) pieces read).total in
@@ -73,20 +74,25 @@ managed-verdict f entry pieces bytes m =
     ∙ ap (λ (n : ℕ). judge_ranges (length f.disk) DatasetManagement entry pieces (ranges_in n bytes)) count
 
 -- the ranges fit, or they don't
-verdict-by_ranges : (all : Bool) (work : Work) (st : StatusField) → ◌≡◌ {A = Result (Unit {0}) StatusField} (cond all (Ok tt) (Err (refused_with LbaOutOfRange))) (Err st)
+verdict-by_ranges : (all : Bool) (work : Work) (st : StatusField)
+    → ◌≡◌ {A = Result (Unit {0}) StatusField} (cond all (Ok tt) (Err (refused_with LbaOutOfRange))) (Err st)
     → cond all (Go work) (Refuse (refused_with LbaOutOfRange)) ≡ Refuse st
 verdict-by_ranges true work st e = (cc)
 verdict-by_ranges false work st e = (cc)
 
-pub ranges-fit : (blocks : ℕ) (bytes : List ℕ) → ranges_verdict blocks bytes ≡ Ok tt → list_all (range_fits blocks) (ranges_in (length bytes / 16) bytes) ≡ true
+pub ranges-fit : (blocks : ℕ) (bytes : List ℕ) → ranges_verdict blocks bytes ≡ Ok tt
+    → list_all (range_fits blocks) (ranges_in (length bytes / 16) bytes) ≡ true
 ranges-fit blocks bytes e = by_test (list_all (range_fits blocks) (ranges_in (length bytes / 16) bytes)) e
   where
-    by_test : (all : Bool) → ◌≡◌ {A = Result (Unit {0}) StatusField} (cond all (Ok tt) (Err (refused_with LbaOutOfRange))) (Ok tt) → all ≡ true
+    by_test : (all : Bool)
+        → ◌≡◌ {A = Result (Unit {0}) StatusField} (cond all (Ok tt) (Err (refused_with LbaOutOfRange))) (Ok tt)
+        → all ≡ true
     by_test true e = refl
     by_test false e = (cc)
 
 -- refused by its ranges
-pub managed-refused : (f : Flat) (entry : List ℕ) (pieces : List Piece) (bytes : List ℕ) (st : StatusField) → IsManaged f entry pieces bytes
+pub managed-refused : (f : Flat) (entry : List ℕ) (pieces : List Piece) (bytes : List ℕ) (st : StatusField)
+    → IsManaged f entry pieces bytes
     → ranges_verdict (length f.disk) bytes ≡ Err st → IsRun f entry st f
 managed-refused f entry pieces bytes st m refused =
     refused-run f entry st
@@ -103,7 +109,8 @@ managed-goes f entry pieces bytes m fit =
     ∙ ap (λ (b : Bool). cond b (Go (work_of (length f.disk) DatasetManagement entry pieces (ranges_in (length bytes / 16) bytes))) (Refuse (refused_with LbaOutOfRange))) fit
 
 -- deallocated
-pub managed-deallocated : (f g : Flat) (entry : List ℕ) (pieces : List Piece) (bytes : List ℕ) → IsManaged f entry pieces bytes
+pub managed-deallocated : (f g : Flat) (entry : List ℕ) (pieces : List Piece) (bytes : List ℕ)
+    → IsManaged f entry pieces bytes
     → list_all (range_fits (length f.disk)) (ranges_in (length bytes / 16) bytes) ≡ true → deallocates entry ≡ true
     → ((work : Work) → moved_of g false ≡ units_moved (range_units true (ranges_in (length bytes / 16) bytes)) work (moved_of f false))
     → IsRun f entry (done_with Success) g
@@ -126,7 +133,8 @@ managed-kept f entry pieces bytes m fit unasked =
 -- a flag that is set exactly where a bit is 1
 pub is-asked : (b : Bool) (n : ℕ) → (IsTrue b ↔ (n ≡ 1)) → (n == 1) ≡ b
 is-asked true n same = eq-eqb n 1 (same.0 refl)
-is-asked false n same = elim (cases_eq n 1) [ inl one ↦ let bad = same.1 one in (cc) | inr other ↦ unlike-eqb n 1 other ]
+is-asked false n same =
+    elim (cases_eq n 1) [ inl one ↦ let bad = same.1 one in (cc) | inr other ↦ unlike-eqb n 1 other ]
   where
     unlike-eqb : (x y : ℕ) → (x ≡ y → ⊥) → (x == y) ≡ false
     unlike-eqb x y unlike = grind (arith, nat_tests)
@@ -143,7 +151,8 @@ pub record IsDeallocating (old : Flat) (all : List ℕ) (f : Flat) (rest : List 
   pub disk_size : length f.disk ≡ length old.disk
 
 -- the first range fits, and the others do
-both-fit : (blocks : ℕ) (rest range more : List ℕ) → range ≡ take 16 rest → more ≡ drop 16 rest → length more + 16 ≡ length rest
+both-fit : (blocks : ℕ) (rest range more : List ℕ) → range ≡ take 16 rest → more ≡ drop 16 rest
+    → length more + 16 ≡ length rest
     → list_all (range_fits blocks) (ranges_in (length rest / 16) rest) ≡ true
     → (range_fits blocks range ≡ true) × (list_all (range_fits blocks) (ranges_in (length more / 16) more) ≡ true)
 both-fit blocks rest range more first others sized fit =
@@ -154,15 +163,18 @@ both-fit blocks rest range more first others sized fit =
     both true b e = (refl, e)
     both false b e = (cc)
 
-pub IsDeallocating-fits : (old : Flat) (all : List ℕ) (f : Flat) (rest range more : List ℕ) → IsDeallocating old all f rest
-    → range ≡ take 16 rest → more ≡ drop 16 rest → length more + 16 ≡ length rest → start_of range + blocks_of range ≤ length f.disk
+pub IsDeallocating-fits : (old : Flat) (all : List ℕ) (f : Flat) (rest range more : List ℕ)
+    → IsDeallocating old all f rest
+    → range ≡ take 16 rest → more ≡ drop 16 rest → length more + 16 ≡ length rest
+    → start_of range + blocks_of range ≤ length f.disk
 IsDeallocating-fits old all f rest range more so_far first others sized =
     let fits = (both-fit (length old.disk) rest range more first others sized so_far.fit).0 in
     let within = range-within (start_of range) (blocks_of range) (length old.disk) fits in
     let size = so_far.disk_size in
     omega arith
 
-pub IsDeallocating-more : (old : Flat) (all : List ℕ) (f g : Flat) (rest range more : List ℕ) → IsDeallocating old all f rest
+pub IsDeallocating-more : (old : Flat) (all : List ℕ) (f g : Flat) (rest range more : List ℕ)
+    → IsDeallocating old all f rest
     → range ≡ take 16 rest → more ≡ drop 16 rest → length more + 16 ≡ length rest
     → moved_of g false ≡ cleared (range_with_len (start_of range) (blocks_of range)) false (moved_of f false)
     → length g.memory ≡ length f.memory → length g.disk ≡ length f.disk → IsDeallocating old all g more
@@ -179,8 +191,11 @@ IsDeallocating-more old all f g rest range more so_far first others sized moved 
       disk_size = disk_size ∙ so_far.disk_size;
     }
 
-pub IsDeallocating-end : (old : Flat) (all : List ℕ) (f : Flat) (rest : List ℕ) → IsDeallocating old all f rest → length rest < 16
-    → (work : Work) → moved_of f false ≡ units_moved (range_units true (ranges_in (length all / 16) all)) work (moved_of old false)
+pub IsDeallocating-end : (old : Flat) (all : List ℕ) (f : Flat) (rest : List ℕ) → IsDeallocating old all f rest
+    → length rest < 16
+    → (work : Work)
+    → moved_of f false ≡ units_moved (range_units true (ranges_in (length all / 16) all)) work (moved_of old false)
 unfolding units_moved range_units
 IsDeallocating-end old all f rest so_far few work =
-    sym (ap (λ (ranges : List (List ℕ)). units_moved (range_units true ranges) work (moved_of f false)) (ranges_in-none rest few)) ∙ so_far.moved work
+    sym (ap (λ (ranges : List (List ℕ)). units_moved (range_units true ranges) work (moved_of f false)) (ranges_in-none rest few))
+    ∙ so_far.moved work

@@ -30,13 +30,15 @@ use Rattle.nv_model.proofs.UnitWords.{units_moved-cleared}
 -- ---- the fields
 
 -- a command that its fields refuse
-pub fields-refused : (f : Flat) (entry : List ℕ) (st : StatusField) → field_verdict (length f.disk) entry ≡ Err st → IsRun f entry st f
+pub fields-refused : (f : Flat) (entry : List ℕ) (st : StatusField) → field_verdict (length f.disk) entry ≡ Err st
+    → IsRun f entry st f
 fields-refused f entry st e =
     let r = field_verdict-err (length f.disk) entry st e in
     refused-run f entry st (verdict-refused (shape_of f) (byte_in f.memory) entry r.0 r.1 ∙ ap Refuse (sym r.2))
 
 -- a command whose fields are in order
-pub in-order : (f : Flat) (entry : List ℕ) (need : Need) (opcode : IoOpcode) → field_verdict (length f.disk) entry ≡ Ok need → io_opcode (opcode_of entry) ≡ Some opcode
+pub in-order : (f : Flat) (entry : List ℕ) (need : Need) (opcode : IoOpcode)
+    → field_verdict (length f.disk) entry ≡ Ok need → io_opcode (opcode_of entry) ≡ Some opcode
     → HasFieldsInOrder (length f.disk) entry opcode need
 in-order f entry need opcode verdict known =
     let ok = field_verdict-ok (length f.disk) entry need verdict in
@@ -47,7 +49,8 @@ in-order f entry need opcode verdict known =
     some-same a b e = (cc)
 
 -- a command whose fields are in order has a known opcode
-pub known-opcode : (f : Flat) (entry : List ℕ) (need : Need) → field_verdict (length f.disk) entry ≡ Ok need → io_opcode (opcode_of entry) ≡ None → ⊥
+pub known-opcode : (f : Flat) (entry : List ℕ) (need : Need) → field_verdict (length f.disk) entry ≡ Ok need
+    → io_opcode (opcode_of entry) ≡ None → ⊥
 known-opcode f entry need verdict unknown =
     let ok = field_verdict-ok (length f.disk) entry need verdict in
     let bad = sym ok.1.1 ∙ unknown in
@@ -56,7 +59,8 @@ known-opcode f entry need verdict unknown =
 -- ---- the list
 
 -- the verdict on a command, once its list is read
-pub list-verdict : (f : Flat) (entry : List ℕ) (opcode : IoOpcode) (need : Need) (reading : Reading) → HasFieldsInOrder (length f.disk) entry opcode need
+pub list-verdict : (f : Flat) (entry : List ℕ) (opcode : IoOpcode) (need : Need) (reading : Reading)
+    → HasFieldsInOrder (length f.disk) entry opcode need
     → has_buffer opcode ≡ true → list_reading f entry need ≡ reading
     → verdict_in (shape_of f) (byte_in f.memory) entry ≡ in_memory (byte_in f.memory) (judge_reading (length f.disk) entry opcode reading)
 list-verdict f entry opcode need reading o buffer read =
@@ -69,7 +73,8 @@ unfolding in_memory
 ended m v = refl
 
 -- a command that its list refuses
-pub list-refused : (f : Flat) (entry : List ℕ) (opcode : IoOpcode) (need : Need) (st : StatusField) → HasFieldsInOrder (length f.disk) entry opcode need
+pub list-refused : (f : Flat) (entry : List ℕ) (opcode : IoOpcode) (need : Need) (st : StatusField)
+    → HasFieldsInOrder (length f.disk) entry opcode need
     → has_buffer opcode ≡ true → refusal_of_reading (list_reading f entry need) ≡ Some st → IsRun f entry st f
 list-refused f entry opcode need st o buffer refused =
     refused-run f entry st
@@ -78,8 +83,10 @@ list-refused f entry opcode need st o buffer refused =
   where
     judged : (blocks : ℕ) (m : ℕ → ℕ) (entry : List ℕ) (opcode : IoOpcode) (reading : Reading) (st : StatusField)
         → refusal_of_reading reading ≡ Some st → in_memory m (judge_reading blocks entry opcode reading) ≡ Refuse st
-    judged blocks m entry opcode (Faulty code) st e = (let same : refused_with code ≡ st = (cc) in ended m (Refuse (refused_with code)) ∙ ap Refuse same)
-    judged blocks m entry opcode TooLong st e = (let same : done_with InternalError ≡ st = (cc) in ended m (Refuse (done_with InternalError)) ∙ ap Refuse same)
+    judged blocks m entry opcode (Faulty code) st e =
+        (let same : refused_with code ≡ st = (cc) in ended m (Refuse (refused_with code)) ∙ ap Refuse same)
+    judged blocks m entry opcode TooLong st e =
+        (let same : done_with InternalError ≡ st = (cc) in ended m (Refuse (done_with InternalError)) ∙ ap Refuse same)
     judged blocks m entry opcode (Spells pieces) st e = (cc)
 
 -- ---- Read, Write and Compare
@@ -114,7 +121,8 @@ goes-with f entry Flush pieces t = (cc)
 goes-with f entry DatasetManagement pieces t = (cc)
 
 -- a Read, Write or Compare whose blocks have moved
-pub transfer-run : (f g : Flat) (entry : List ℕ) (opcode : IoOpcode) (need : Need) (pieces : List Piece) (differed : Bool) → HasFieldsInOrder (length f.disk) entry opcode need
+pub transfer-run : (f g : Flat) (entry : List ℕ) (opcode : IoOpcode) (need : Need) (pieces : List Piece) (differed : Bool)
+    → HasFieldsInOrder (length f.disk) entry opcode need
     → is_transfer opcode ≡ true → list_reading f entry need ≡ Spells pieces
     → moved_of g differed ≡ units_moved (units_from 0 (slba_of entry) need.blocks) (block_work opcode pieces need.fua) (moved_of f false)
     → IsRun f entry (moved_status differed) g
@@ -131,7 +139,8 @@ transfer-run f g entry opcode need pieces differed o t read moved =
 
 -- the same, with the numbers that the code has
 pub transfer-done : (f g : Flat) (entry : List ℕ) (opcode : IoOpcode) (need : Need) (pieces : List Piece) (slba count : ℕ) (result differed : Bool) (st : StatusField)
-    → HasFieldsInOrder (length f.disk) entry opcode need → is_transfer opcode ≡ true → list_reading f entry need ≡ Spells pieces
+    → HasFieldsInOrder (length f.disk) entry opcode need → is_transfer opcode ≡ true
+    → list_reading f entry need ≡ Spells pieces
     → slba ≡ slba_of entry → count ≡ need.blocks → result ≡ differed → st ≡ moved_status differed
     → moved_of g result ≡ units_moved (units_from 0 slba count) (block_work opcode pieces need.fua) (moved_of f false)
     → IsRun f entry st g
@@ -145,7 +154,8 @@ transfer-done f g entry opcode need pieces slba count result differed st o t rea
 -- ---- Write Zeroes and Flush
 
 pub zeroes-run : (f g : Flat) (entry : List ℕ) (need : Need) → HasFieldsInOrder (length f.disk) entry WriteZeroes need
-    → moved_of g false ≡ cleared (range_with_len (slba_of entry) need.blocks) need.fua (moved_of f false) → IsRun f entry (done_with Success) g
+    → moved_of g false ≡ cleared (range_with_len (slba_of entry) need.blocks) need.fua (moved_of f false)
+    → IsRun f entry (done_with Success) g
 zeroes-run f g entry need o moved =
     let Q : Need → Type 0 = λ n. moved_of g false ≡ cleared (range_with_len (slba_of entry) n.blocks) n.fua (moved_of f false) in
     let work : Work = work_of (length f.disk) WriteZeroes entry [] [] in
@@ -154,7 +164,8 @@ zeroes-run f g entry need o moved =
     (subst Q o.needs moved ∙ sym (units_moved-cleared (is_fua entry) (lbas_of entry) work (moved_of f false)))
 
 pub flush-run : (f g : Flat) (entry : List ℕ) (need : Need) → HasFieldsInOrder (length f.disk) entry Flush need
-    → ((work : Work) → moved_of g false ≡ moved_on (KeepAll (length f.disk)) work (moved_of f false)) → IsRun f entry (done_with Success) g
+    → ((work : Work) → moved_of g false ≡ moved_on (KeepAll (length f.disk)) work (moved_of f false))
+    → IsRun f entry (done_with Success) g
 unfolding units_moved
 flush-run f g entry need o moved =
     let work : Work = work_of (length f.disk) Flush entry [] [] in
@@ -168,19 +179,23 @@ pub range-within : (slba count blocks : ℕ) → in_namespace slba count blocks 
 range-within slba count blocks inside = grind (arith, nat_tests)
 
 -- the blocks of a command are there
-pub blocks-within : (blocks : ℕ) (entry : List ℕ) (opcode : IoOpcode) (need : Need) → HasFieldsInOrder blocks entry opcode need → has_blocks opcode ≡ true → slba_of entry + count_of entry ≤ blocks
-blocks-within blocks entry opcode need o ranged = range-within (slba_of entry) (count_of entry) blocks (in-namespace blocks entry opcode o.unrefused o.known ranged)
+pub blocks-within : (blocks : ℕ) (entry : List ℕ) (opcode : IoOpcode) (need : Need)
+    → HasFieldsInOrder blocks entry opcode need → has_blocks opcode ≡ true → slba_of entry + count_of entry ≤ blocks
+blocks-within blocks entry opcode need o ranged =
+    range-within (slba_of entry) (count_of entry) blocks (in-namespace blocks entry opcode o.unrefused o.known ranged)
 
 -- ---- the transfer
 
 -- no transfer is longer than 128 KiB, and each is some bytes
-pub transfer-at_most : (blocks : ℕ) (entry : List ℕ) (opcode : IoOpcode) (need : Need) → HasFieldsInOrder blocks entry opcode need → is_transfer opcode ≡ true → need.bytes ≤ 131072
+pub transfer-at_most : (blocks : ℕ) (entry : List ℕ) (opcode : IoOpcode) (need : Need)
+    → HasFieldsInOrder blocks entry opcode need → is_transfer opcode ≡ true → need.bytes ≤ 131072
 transfer-at_most blocks entry opcode need o t =
     let bytes : need.bytes ≡ 512 * count_of entry = ap (λ (n : Need). n.bytes) o.needs ∙ (transfer-needs entry opcode t).1 in
     let few = count-at_most blocks entry opcode o.unrefused o.known (buffered opcode t).0 (buffered opcode t).1 in
     omega arith
 
-pub transfer-some : (blocks : ℕ) (entry : List ℕ) (opcode : IoOpcode) (need : Need) → HasFieldsInOrder blocks entry opcode need → is_transfer opcode ≡ true → 0 < need.bytes
+pub transfer-some : (blocks : ℕ) (entry : List ℕ) (opcode : IoOpcode) (need : Need)
+    → HasFieldsInOrder blocks entry opcode need → is_transfer opcode ≡ true → 0 < need.bytes
 transfer-some blocks entry opcode need o t =
     let bytes : need.bytes ≡ 512 * count_of entry = ap (λ (n : Need). n.bytes) o.needs ∙ (transfer-needs entry opcode t).1 in
     omega arith

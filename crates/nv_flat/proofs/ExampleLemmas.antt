@@ -26,7 +26,8 @@ use Rattle.nv_flat.proofs.RunLemmas.{one-outcome, refused-unchanged}
 -- ---- the Read
 
 abbrev pub reading : Work
-reading = record { opcode = opcode.Read; pieces = Run 0x200 512 ∷ []; ranges = []; units = MoveBlock 0 1 ∷ []; fua = false }
+reading =
+    record { opcode = opcode.Read; pieces = Run 0x200 512 ∷ []; ranges = []; units = MoveBlock 0 1 ∷ []; fua = false }
 
 read-goes : verdict_in (shape_of small) (byte_in small.memory) (read_to_half 1) ≡ Go reading
 unfolding number_at dword qword bits bytes_of_dwords everywhere bytes_from in_memory and_then read_array read_sgl move_units judge
@@ -42,19 +43,22 @@ pub read-run : IsRun small (read_to_half 1) (done_with Success) block_read
 unfolding units_moved
 read-run = moved-run small block_read (read_to_half 1) reading false read-goes read-moves
 
-pub one-read : (st : StatusField) (new : Flat) → IsRun small (read_to_half 1) st new → (st ≡ done_with Success) × (moved_of new false ≡ moved_of block_read false)
+pub one-read : (st : StatusField) (new : Flat) → IsRun small (read_to_half 1) st new
+    → (st ≡ done_with Success) × (moved_of new false ≡ moved_of block_read false)
 unfolding moved_of
 one-read st new run =
     one-outcome small new (read_to_half 1) st reading (MoveBlock 0 1) (moved_of block_read false) read-goes refl read-moves run
 
-pub bytes-of-read : (st : StatusField) (new : Flat) → IsRun small (read_to_half 1) st new → (addr : ℕ) → slice_index new.memory addr ≡ slice_index block_read.memory addr
+pub bytes-of-read : (st : StatusField) (new : Flat) → IsRun small (read_to_half 1) st new → (addr : ℕ)
+    → slice_index new.memory addr ≡ slice_index block_read.memory addr
 unfolding moved_of byte_in
 bytes-of-read st new run addr = ap (λ (m : Moved). m.memory addr) (one-read st new run).1
 
 -- ---- the Write
 
 abbrev pub writing : Work
-writing = record { opcode = opcode.Write; pieces = Run 0x200 512 ∷ []; ranges = []; units = MoveBlock 0 0 ∷ []; fua = false }
+writing =
+    record { opcode = opcode.Write; pieces = Run 0x200 512 ∷ []; ranges = []; units = MoveBlock 0 0 ∷ []; fua = false }
 
 write-goes : verdict_in (shape_of small) (byte_in small.memory) write_from_half ≡ Go writing
 unfolding number_at dword qword bits bytes_of_dwords everywhere bytes_from in_memory and_then read_array read_sgl move_units judge
@@ -70,7 +74,8 @@ pub write-run : IsRun small write_from_half (done_with Success) block_written
 unfolding units_moved
 write-run = moved-run small block_written write_from_half writing false write-goes write-moves
 
-pub one-write : (st : StatusField) (new : Flat) → IsRun small write_from_half st new → (st ≡ done_with Success) × (moved_of new false ≡ moved_of block_written false)
+pub one-write : (st : StatusField) (new : Flat) → IsRun small write_from_half st new
+    → (st ≡ done_with Success) × (moved_of new false ≡ moved_of block_written false)
 unfolding moved_of
 one-write st new run =
     one-outcome small new write_from_half st writing (MoveBlock 0 0) (moved_of block_written false) write-goes refl write-moves run
@@ -94,5 +99,6 @@ past-refused = refl
 pub past-run : IsRun small (read_to_half 2) (refused_with LbaOutOfRange) small
 past-run = refused-run small (read_to_half 2) (refused_with LbaOutOfRange) past-refused
 
-pub one-refusal : (st : StatusField) (new : Flat) → IsRun small (read_to_half 2) st new → (st ≡ refused_with LbaOutOfRange) × (moved_of new false ≡ moved_of small false)
+pub one-refusal : (st : StatusField) (new : Flat) → IsRun small (read_to_half 2) st new
+    → (st ≡ refused_with LbaOutOfRange) × (moved_of new false ≡ moved_of small false)
 one-refusal st new run = refused-unchanged small new (read_to_half 2) st (refused_with LbaOutOfRange) past-refused run

@@ -5,6 +5,7 @@ use Rattle.nv_mem.specs.GuestMap.{refusal_of}
 use Rattle.nv_flat.specs.Flat.{identity_map}
 
 -- the map is not refused
-pub refusal_of-identity : (len : ℕ) → len % 4096 ≡ 0 → 0 < len → len < 2 ^ 64 → refusal_of len (identity_map len).regions ≡ None
+pub refusal_of-identity : (len : ℕ) → len % 4096 ≡ 0 → 0 < len → len < 2 ^ 64
+    → refusal_of len (identity_map len).regions ≡ None
 unfolding refusal_of
 refusal_of-identity len pages some fits = grind (arith, nat_tests)

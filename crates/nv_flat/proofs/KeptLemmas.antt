@@ -23,7 +23,8 @@ unfolding stored
 stored-elsewhere m at byte addr other = grind (arith, nat_tests)
 
 -- bytes scattered to other places
-scattered-elsewhere : (m : ℕ → ℕ) (places : List Place) (bytes : List ℕ) (addr : ℕ) → All (IsAnother (At addr)) places → scattered m places bytes addr ≡ m addr
+scattered-elsewhere : (m : ℕ → ℕ) (places : List Place) (bytes : List ℕ) (addr : ℕ) → All (IsAnother (At addr)) places
+    → scattered m places bytes addr ≡ m addr
 unfolding scattered
 scattered-elsewhere m [] bytes addr each = refl
 scattered-elsewhere m (place ∷ places) [] addr each = refl
@@ -33,7 +34,8 @@ scattered-elsewhere m (At at ∷ places) (byte ∷ bytes) addr each =
 scattered-elsewhere m (Bucket ∷ places) (byte ∷ bytes) addr each =
     scattered-elsewhere m places bytes addr (All-tail (IsAnother (At addr)) Bucket places each)
 
-block-memory_at : (opcode : IoOpcode) (work : Work) (index lba addr : ℕ) (m : Moved) → All (IsAnother (At addr)) (places_of work.pieces)
+block-memory_at : (opcode : IoOpcode) (work : Work) (index lba addr : ℕ) (m : Moved)
+    → All (IsAnother (At addr)) (places_of work.pieces)
     → (block_moved opcode work index lba m.memory m.disk m.kept).memory addr ≡ m.memory addr
 block-memory_at Read work index lba addr m each =
     scattered-elsewhere m.memory (places_of_block work index) (block_bytes m.disk lba) addr
@@ -53,22 +55,30 @@ block-memory WriteZeroes work index lba m other = refl
 block-memory DatasetManagement work index lba m other = refl
 block-memory Flush work index lba m other = refl
 
-pub units-memory_at : (units : List WorkUnit) (work : Work) (addr : ℕ) (m : Moved) → All (IsAnother (At addr)) (places_of work.pieces)
+pub units-memory_at : (units : List WorkUnit) (work : Work) (addr : ℕ) (m : Moved)
+    → All (IsAnother (At addr)) (places_of work.pieces)
     → (units_moved units work m).memory addr ≡ m.memory addr
 unfolding units_moved
 units-memory_at [] work addr m each = refl
 units-memory_at (MoveBlock index lba ∷ units) work addr m each =
-    units-memory_at units work addr (moved_on (MoveBlock index lba) work m) each ∙ block-memory_at work.opcode work index lba addr m each
-units-memory_at (ClearBlock lba mark ∷ units) work addr m each = units-memory_at units work addr (moved_on (ClearBlock lba mark) work m) each
-units-memory_at (LeaveBlock lba ∷ units) work addr m each = units-memory_at units work addr (moved_on (LeaveBlock lba) work m) each
-units-memory_at (KeepAll blocks ∷ units) work addr m each = units-memory_at units work addr (moved_on (KeepAll blocks) work m) each
+    units-memory_at units work addr (moved_on (MoveBlock index lba) work m) each
+    ∙ block-memory_at work.opcode work index lba addr m each
+units-memory_at (ClearBlock lba mark ∷ units) work addr m each =
+    units-memory_at units work addr (moved_on (ClearBlock lba mark) work m) each
+units-memory_at (LeaveBlock lba ∷ units) work addr m each =
+    units-memory_at units work addr (moved_on (LeaveBlock lba) work m) each
+units-memory_at (KeepAll blocks ∷ units) work addr m each =
+    units-memory_at units work addr (moved_on (KeepAll blocks) work m) each
 
-pub units-memory : (units : List WorkUnit) (work : Work) (m : Moved) → is_read work.opcode ≡ false → (units_moved units work m).memory ≡ m.memory
+pub units-memory : (units : List WorkUnit) (work : Work) (m : Moved) → is_read work.opcode ≡ false
+    → (units_moved units work m).memory ≡ m.memory
 unfolding units_moved
 units-memory [] work m other = refl
 units-memory (MoveBlock index lba ∷ units) work m other =
-    units-memory units work (moved_on (MoveBlock index lba) work m) other ∙ block-memory work.opcode work index lba m other
-units-memory (ClearBlock lba mark ∷ units) work m other = units-memory units work (moved_on (ClearBlock lba mark) work m) other
+    units-memory units work (moved_on (MoveBlock index lba) work m) other
+    ∙ block-memory work.opcode work index lba m other
+units-memory (ClearBlock lba mark ∷ units) work m other =
+    units-memory units work (moved_on (ClearBlock lba mark) work m) other
 units-memory (LeaveBlock lba ∷ units) work m other = units-memory units work (moved_on (LeaveBlock lba) work m) other
 units-memory (KeepAll blocks ∷ units) work m other = units-memory units work (moved_on (KeepAll blocks) work m) other
 
@@ -83,15 +93,19 @@ block-differs WriteZeroes work index lba m other = refl
 block-differs DatasetManagement work index lba m other = refl
 block-differs Flush work index lba m other = refl
 
-pub units-differ : (units : List WorkUnit) (work : Work) (m : Moved) → (work.opcode ≡ Compare → ⊥) → (units_moved units work m).differed ≡ m.differed
+pub units-differ : (units : List WorkUnit) (work : Work) (m : Moved) → (work.opcode ≡ Compare → ⊥)
+    → (units_moved units work m).differed ≡ m.differed
 unfolding units_moved
 units-differ [] work m other = refl
 units-differ (MoveBlock index lba ∷ units) work m other =
     units-differ units work (moved_on (MoveBlock index lba) work m) other
     ∙ ap (λ (b : Bool). m.differed || b) (block-differs work.opcode work index lba m other) ∙ or-false m.differed
-units-differ (ClearBlock lba mark ∷ units) work m other = units-differ units work (moved_on (ClearBlock lba mark) work m) other ∙ or-false m.differed
-units-differ (LeaveBlock lba ∷ units) work m other = units-differ units work (moved_on (LeaveBlock lba) work m) other ∙ or-false m.differed
-units-differ (KeepAll blocks ∷ units) work m other = units-differ units work (moved_on (KeepAll blocks) work m) other ∙ or-false m.differed
+units-differ (ClearBlock lba mark ∷ units) work m other =
+    units-differ units work (moved_on (ClearBlock lba mark) work m) other ∙ or-false m.differed
+units-differ (LeaveBlock lba ∷ units) work m other =
+    units-differ units work (moved_on (LeaveBlock lba) work m) other ∙ or-false m.differed
+units-differ (KeepAll blocks ∷ units) work m other =
+    units-differ units work (moved_on (KeepAll blocks) work m) other ∙ or-false m.differed
 
 -- ---- the disk
 
@@ -107,7 +121,8 @@ not-here lba at x y other =
       | false ↦ λ is. refl
     ]) refl
 
-block-elsewhere : (opcode : IoOpcode) (work : Work) (index at lba : ℕ) (m : Moved) → (at ≡ lba → ⊥) → IsSame lba m (block_moved opcode work index at m.memory m.disk m.kept)
+block-elsewhere : (opcode : IoOpcode) (work : Work) (index at lba : ℕ) (m : Moved) → (at ≡ lba → ⊥)
+    → IsSame lba m (block_moved opcode work index at m.memory m.disk m.kept)
 block-elsewhere Read work index at lba m other = record { bytes = refl; mark = not-here lba at _ (m.kept lba) other }
 block-elsewhere Write work index at lba m other =
     record { bytes = fun_ext (λ offset. not-here lba at _ (m.disk lba offset) other); mark = not-here lba at _ (m.kept lba) other }
@@ -116,19 +131,22 @@ block-elsewhere WriteZeroes work index at lba m other = record { bytes = refl; m
 block-elsewhere DatasetManagement work index at lba m other = record { bytes = refl; mark = refl }
 block-elsewhere Flush work index at lba m other = record { bytes = refl; mark = refl }
 
-unit-elsewhere : (unit : WorkUnit) (work : Work) (lba : ℕ) (m : Moved) → IsElsewhere lba unit → IsSame lba m (moved_on unit work m)
+unit-elsewhere : (unit : WorkUnit) (work : Work) (lba : ℕ) (m : Moved) → IsElsewhere lba unit
+    → IsSame lba m (moved_on unit work m)
 unit-elsewhere (MoveBlock index at) work lba m other =
     let same = block-elsewhere work.opcode work index at lba m other in
     record { bytes = same.bytes; mark = same.mark }
 unit-elsewhere (ClearBlock at mark) work lba m other =
     record { bytes = fun_ext (λ offset. not-here lba at _ (m.disk lba offset) other); mark = not-here lba at mark (m.kept lba) other }
 unit-elsewhere (LeaveBlock at) work lba m other = record { bytes = refl; mark = refl }
-unit-elsewhere (KeepAll blocks) work lba m past = record { bytes = refl; mark = ap (λ (b : Bool). b || m.kept lba) (not-below lba blocks past) }
+unit-elsewhere (KeepAll blocks) work lba m past =
+    record { bytes = refl; mark = ap (λ (b : Bool). b || m.kept lba) (not-below lba blocks past) }
   where
     not-below : (lba blocks : ℕ) → blocks ≤ lba → nat_lt lba blocks ≡ false
     not-below lba blocks past = grind (arith, nat_tests)
 
-pub units-elsewhere : (units : List WorkUnit) (work : Work) (lba : ℕ) (m : Moved) → All (IsElsewhere lba) units → IsSame lba m (units_moved units work m)
+pub units-elsewhere : (units : List WorkUnit) (work : Work) (lba : ℕ) (m : Moved) → All (IsElsewhere lba) units
+    → IsSame lba m (units_moved units work m)
 unfolding units_moved
 units-elsewhere [] work lba m each = record { bytes = refl; mark = refl }
 units-elsewhere (unit ∷ units) work lba m each =
@@ -149,4 +167,5 @@ equal-lists f g large alike =
     ∙ sym (All-get_or (λ (bytes : List ℕ). length bytes ≡ block) g.disk i [] (subst (λ (n : ℕ). i < n) large.disk below) large.blocks_of_other))
     (λ offset. λ within. ap (λ (m : Moved). m.disk i offset) alike)) in
     let kept : f.kept ≡ g.kept = ext_get_or false f.kept g.kept large.kept (λ i. λ below. ap (λ (m : Moved). m.kept i) alike) in
-    ap (λ (bytes : List ℕ). flat bytes f.disk f.kept) memory ∙ ap (λ (blocks : List (List ℕ)). flat g.memory blocks f.kept) disk ∙ ap (flat g.memory g.disk) kept
+    ap (λ (bytes : List ℕ). flat bytes f.disk f.kept) memory
+    ∙ ap (λ (blocks : List (List ℕ)). flat g.memory blocks f.kept) disk ∙ ap (flat g.memory g.disk) kept

@@ -25,21 +25,24 @@ use Rattle.nv_flat.specs.Listed.{IsPartThere, list_dialogue, list_reading, readi
 use Rattle.nv_flat.proofs.AskingLemmas.{AsksAtMost, AsksAtMost-and_then, mapped-inside, read_prp-often, read_sgl-often, wants-more}
 
 -- a dialogue that wants nothing more, by what it wants
-pub reading-fault : (m : ℕ → ℕ) (d : Dialogue Reading) (st : StatusField) → want_of d ≡ want.Fault st → refusal_of_reading (in_memory m d) ≡ Some st
+pub reading-fault : (m : ℕ → ℕ) (d : Dialogue Reading) (st : StatusField) → want_of d ≡ want.Fault st
+    → refusal_of_reading (in_memory m d) ≡ Some st
 unfolding in_memory
 reading-fault m (End (Faulty code)) st wanted = (cc)
 reading-fault m (End TooLong) st wanted = (cc)
 reading-fault m (End (Spells pieces)) st wanted = (cc)
 reading-fault m (Ask addr unit left next) st wanted = (cc)
 
-pub reading-too_long : (m : ℕ → ℕ) (d : Dialogue Reading) → want_of d ≡ want.TooLong → refusal_of_reading (in_memory m d) ≡ Some (done_with InternalError)
+pub reading-too_long : (m : ℕ → ℕ) (d : Dialogue Reading) → want_of d ≡ want.TooLong
+    → refusal_of_reading (in_memory m d) ≡ Some (done_with InternalError)
 unfolding in_memory
 reading-too_long m (End (Faulty code)) wanted = (cc)
 reading-too_long m (End TooLong) wanted = refl
 reading-too_long m (End (Spells pieces)) wanted = (cc)
 reading-too_long m (Ask addr unit left next) wanted = (cc)
 
-pub reading-done : (m : ℕ → ℕ) (d : Dialogue Reading) (pieces : List Piece) → d ≡ End (Spells pieces) → in_memory m d ≡ Spells pieces
+pub reading-done : (m : ℕ → ℕ) (d : Dialogue Reading) (pieces : List Piece) → d ≡ End (Spells pieces)
+    → in_memory m d ≡ Spells pieces
 unfolding in_memory
 reading-done m d pieces is = ap (in_memory m) is
 
@@ -53,7 +56,8 @@ length-bytes_from m addr (suc len) = ap suc (length-bytes_from m (suc addr) len)
 pub reserved-refused : (f : Flat) (entry : List ℕ) (need : Need) → data_pointer (psdt_of entry) ≡ Reserved
     → refusal_of_reading (list_reading f entry need) ≡ Some (refused_with InvalidField)
 unfolding in_memory and_then
-reserved-refused f entry need reserved = ap (λ (p : DataPointer). refusal_of_reading (reading_by p f entry need)) reserved
+reserved-refused f entry need reserved =
+    ap (λ (p : DataPointer). refusal_of_reading (reading_by p f entry need)) reserved
 
 -- what a loop over the parts of a list keeps, whose reading in the memory is this
 pub record IsReading (f : Flat) (reading : Reading) (part : ℕ) (d : Dialogue Reading) : Type 0 where
@@ -85,7 +89,8 @@ IsReading-start_sgl f entry need d map own bytes dialogue same_map same_own same
 -- and of a list of PRPs
 pub IsReading-start_prp : (f : Flat) (entry : List ℕ) (need : Need) (d : Dialogue Reading) (map : Mapping) (prp1 prp2 bytes : ℕ)
     → d ≡ read_prp (mapped map.regions) prp1 prp2 bytes
-    → map ≡ identity_map (length f.memory) → prp1 ≡ prp1_of entry → prp2 ≡ prp2_of entry → bytes ≡ need.bytes → need.bytes ≤ 131072
+    → map ≡ identity_map (length f.memory) → prp1 ≡ prp1_of entry → prp2 ≡ prp2_of entry → bytes ≡ need.bytes
+    → need.bytes ≤ 131072
     → IsReading f (reading_by Prp f entry need) 0 d
 IsReading-start_prp f entry need d map prp1 prp2 bytes dialogue same_map same_prp1 same_prp2 same_bytes most =
     let region : ℕ → Bool = mapped (identity_map (length f.memory)).regions in
@@ -103,14 +108,16 @@ IsReading-start_prp f entry need d map prp1 prp2 bytes dialogue same_map same_pr
     }
 
 -- what is wanted lies in the memory
-pub IsReading-there : (f : Flat) (reading : Reading) (part : ℕ) (d : Dialogue Reading) (addr len : ℕ) → IsReading f reading part d
+pub IsReading-there : (f : Flat) (reading : Reading) (part : ℕ) (d : Dialogue Reading) (addr len : ℕ)
+    → IsReading f reading part d
     → want_of d ≡ want.Read addr len → IsPartThere f.memory addr len
 IsReading-there f reading part d addr len so_far wanted =
     let w = wants-more (mapped (identity_map (length f.memory)).regions) (1023 - part) d addr len so_far.asks wanted in
     record { some = w.some; at_most = w.at_most; inside = mapped-inside (length f.memory) addr len w.some w.there }
 
 -- one more part
-pub IsReading-more : (f : Flat) (reading : Reading) (part : ℕ) (d next : Dialogue Reading) (addr len : ℕ) → IsReading f reading part d
+pub IsReading-more : (f : Flat) (reading : Reading) (part : ℕ) (d next : Dialogue Reading) (addr len : ℕ)
+    → IsReading f reading part d
     → want_of d ≡ want.Read addr len → next ≡ fed d (bytes_from (byte_in f.memory) addr len)
     → in_memory (byte_in f.memory) (fed d (bytes_from (byte_in f.memory) addr len)) ≡ in_memory (byte_in f.memory) d
     → IsReading f reading (part + 1) next

@@ -34,7 +34,8 @@ pub record IsScattered (memory : List ℕ) (places : List Place) (bytes : List �
   pub size : length new ≡ length memory
 
 one-stored : (memory : List ℕ) (addr byte : ℕ) (places : List Place) (bytes : List ℕ) → addr < length memory
-    → IsScattered (after_store memory addr (byte ∷ [])) places bytes → IsScattered memory (At addr ∷ places) (byte ∷ bytes)
+    → IsScattered (after_store memory addr (byte ∷ [])) places bytes
+    → IsScattered memory (At addr ∷ places) (byte ∷ bytes)
 unfolding scattered byte_in
 one-stored memory addr byte places bytes below rest =
     let inside : InMemory (length memory) addr (length (byte ∷ [])) = λ _. (omega arith) in
@@ -44,7 +45,8 @@ one-stored memory addr byte places bytes below rest =
       size = rest.size ∙ length-after_store memory (byte ∷ []) addr inside;
     }
 
-pub scattered-list : (memory : List ℕ) (places : List Place) (bytes : List ℕ) → AreBelow (length memory) places → IsScattered memory places bytes
+pub scattered-list : (memory : List ℕ) (places : List Place) (bytes : List ℕ) → AreBelow (length memory) places
+    → IsScattered memory places bytes
 unfolding scattered
 scattered-list memory [] bytes each = record { new = memory; is = refl; size = refl }
 scattered-list memory (place ∷ places) [] each = record { new = memory; is = refl; size = refl }
@@ -82,7 +84,8 @@ AreBelow-take size n places each =
     AreBelow-front size (take n places) (drop n places) (subst W (sym (take-append-drop n places)) each)
 
 -- a block of a command
-block-made : (opcode : IoOpcode) (work : Work) (index lba : ℕ) (f : Flat) → lba < length f.disk → length f.kept ≡ length f.disk
+block-made : (opcode : IoOpcode) (work : Work) (index lba : ℕ) (f : Flat) → lba < length f.disk
+    → length f.kept ≡ length f.disk
     → AreBelow (length f.memory) (places_of work.pieces)
     → IsMade f (block_moved opcode work index lba (byte_in f.memory) (byte_of_block f.disk) (marks_of f))
 block-made Read work index lba f below sized each =
@@ -145,8 +148,10 @@ unfolding moved_of
 every-mark work f blocks many = ap (λ (m : Moved). m.kept) (keep-all work f.memory f.disk f.kept blocks many)
 
 -- a unit of a command
-unit-made : (work : Work) (unit : WorkUnit) (f : Flat) → IsUnitWithin (length f.disk) unit → length f.kept ≡ length f.disk
-    → AreBelow (length f.memory) (places_of work.pieces) → IsMade f (unit_moved unit work (byte_in f.memory) (byte_of_block f.disk) (marks_of f))
+unit-made : (work : Work) (unit : WorkUnit) (f : Flat) → IsUnitWithin (length f.disk) unit
+    → length f.kept ≡ length f.disk
+    → AreBelow (length f.memory) (places_of work.pieces)
+    → IsMade f (unit_moved unit work (byte_in f.memory) (byte_of_block f.disk) (marks_of f))
 unit-made work (MoveBlock index lba) f below sized each = block-made work.opcode work index lba f below sized each
 unit-made work (ClearBlock lba mark) f below sized each = clear-made lba mark f below sized
 unit-made work (LeaveBlock lba) f below sized each =
@@ -172,10 +177,12 @@ pub record IsLeft (old : Flat) (m : Moved) : Type 0 where
   pub disk_size : length new.disk ≡ length old.disk
   pub marked : length new.kept ≡ length old.kept
 
-units-left : (work : Work) (units : List WorkUnit) (f : Flat) (differed : Bool) → All (IsUnitWithin (length f.disk)) units → length f.kept ≡ length f.disk
+units-left : (work : Work) (units : List WorkUnit) (f : Flat) (differed : Bool)
+    → All (IsUnitWithin (length f.disk)) units → length f.kept ≡ length f.disk
     → AreBelow (length f.memory) (places_of work.pieces) → IsLeft f (units_moved units work (moved_of f differed))
 unfolding units_moved moved_of
-units-left work [] f differed within sized each = record { new = f; is = refl; memory_size = refl; disk_size = refl; marked = refl }
+units-left work [] f differed within sized each =
+    record { new = f; is = refl; memory_size = refl; disk_size = refl; marked = refl }
 units-left work (unit ∷ units) f differed within sized each =
     let one = unit-made work unit f (All-head (IsUnitWithin (length f.disk)) unit units within) sized each in
     let n : Moved = moved_on unit work (moved_of f differed) in
@@ -196,7 +203,8 @@ units-left work (unit ∷ units) f differed within sized each =
 
 -- ---- every command has a run
 
-has-run : (old : Flat) (entry : List ℕ) (verdict : Verdict) → verdict_in (shape_of old) (byte_in old.memory) entry ≡ verdict
+has-run : (old : Flat) (entry : List ℕ) (verdict : Verdict)
+    → verdict_in (shape_of old) (byte_in old.memory) entry ≡ verdict
     → length old.kept ≡ length old.disk → HasRun old entry
 has-run old entry (Refuse st) judged sized =
     record { st = st; new = old; run = refused-run old entry st judged; memory_size = refl; disk_size = refl; marked = refl }

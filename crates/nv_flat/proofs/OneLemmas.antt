@@ -17,13 +17,15 @@ use Rattle.nv_entry.specs.Layout.{bits, bytes_of_dwords}
 use Rattle.std.specs.List.{slice_index_or}
 
 -- a command that is this far, alone
-this_far-alone : (f : Flat) (entry : List ℕ) (t : Taken) (progress : Progress) → this_far 0 t progress (private_of f t) ≡ private_of f (record t { progress = progress })
+this_far-alone : (f : Flat) (entry : List ℕ) (t : Taken) (progress : Progress)
+    → this_far 0 t progress (private_of f t) ≡ private_of f (record t { progress = progress })
 this_far-alone f entry t progress =
     ap (λ (b : Bag). let q : Private = record { memory = byte_in f.memory; disk = byte_of_block f.disk; kept = (λ lba. slice_index_or f.kept lba false); controller = serving; bag = b } in q)
     (put-twice no_commands 0 (Some t) (Some (record t { progress = progress })))
 
 -- a completion has 16 bytes
-length-completion : (dw0 sqhd sqid cid : ℕ) (phase : Bool) (st : StatusField) → length (completion dw0 sqhd sqid cid phase st) ≡ 16
+length-completion : (dw0 sqhd sqid cid : ℕ) (phase : Bool) (st : StatusField)
+    → length (completion dw0 sqhd sqid cid phase st) ≡ 16
 unfolding completion bytes_of_dwords
 length-completion dw0 sqhd sqid cid phase st = refl
 
@@ -35,14 +37,16 @@ slot-holds memory dw0 sqhd sqid cid phase st =
     ∙ bytes_from-stored memory 0 (completion dw0 sqhd sqid cid phase st)
 
 -- where the command has ended, its completion is the next that is posted
-posted-ended : (f : Flat) (shape : Shape) (entry : List ℕ) (progress : Progress) (st : StatusField) → ending progress ≡ Some st
+posted-ended : (f : Flat) (shape : Shape) (entry : List ℕ) (progress : Progress) (st : StatusField)
+    → ending progress ≡ Some st
     → completion_posted shape (private_of f (record { queue = 1; entry = entry; progress = progress })) ≡ Some (completion 0 1 1 (cid_of entry) true st)
 unfolding step post bits
 posted-ended f shape entry progress st ended =
     rw ended (ap (λ (bs : List ℕ). Some bs) (slot-holds (byte_in f.memory) 0 1 1 (cid_of entry) true st))
 
 -- a command that is refused
-pub refused-run : (f : Flat) (entry : List ℕ) (st : StatusField) → verdict_in (shape_of f) (byte_in f.memory) entry ≡ Refuse st → IsRun f entry st f
+pub refused-run : (f : Flat) (entry : List ℕ) (st : StatusField)
+    → verdict_in (shape_of f) (byte_in f.memory) entry ≡ Refuse st → IsRun f entry st f
 refused-run f entry st refused =
     record {
       after = record { queue = 1; entry = entry; progress = Ended st };
@@ -54,7 +58,8 @@ refused-run f entry st refused =
     }
 
 -- a command all of whose units have moved
-pub moved-run : (f g : Flat) (entry : List ℕ) (work : Work) (differed : Bool) → verdict_in (shape_of f) (byte_in f.memory) entry ≡ Go work
+pub moved-run : (f g : Flat) (entry : List ℕ) (work : Work) (differed : Bool)
+    → verdict_in (shape_of f) (byte_in f.memory) entry ≡ Go work
     → moved_of g differed ≡ units_moved work.units work (moved_of f false) → IsRun f entry (moved_status differed) g
 unfolding moved_of
 moved-run f g entry work differed goes moved =
@@ -74,11 +79,25 @@ moved-run f g entry work differed goes moved =
 -- ---- the outcome
 
 -- a command that its fields refuse
-pub outcome-refused : (built : Bool) (old new : Flat) (entry : List ℕ) (st : StatusField) → IsRun old entry st new → IsOutcome built true old entry st new
+pub outcome-refused : (built : Bool) (old new : Flat) (entry : List ℕ) (st : StatusField) → IsRun old entry st new
+    → IsOutcome built true old entry st new
 outcome-refused true old new entry st run = run
 outcome-refused false old new entry st run = run
 
 -- a command that is built
-pub outcome-built : (refused : Bool) (old new : Flat) (entry : List ℕ) (st : StatusField) → IsRun old entry st new → IsOutcome true refused old entry st new
+pub outcome-built : (refused : Bool) (old new : Flat) (entry : List ℕ) (st : StatusField) → IsRun old entry st new
+    → IsOutcome true refused old entry st new
 outcome-built true old new entry st run = run
 outcome-built false old new entry st run = run
+
+-- a command that is carried out ends as a run says
+pub run-built : (refused : Bool) (old new : Flat) (entry : List ℕ) (st : StatusField)
+    → IsOutcome true refused old entry st new → IsRun old entry st new
+run-built false old new entry st run = run
+run-built true old new entry st run = run
+
+-- and so does one whose fields are refused
+pub run-refused : (built : Bool) (old new : Flat) (entry : List ℕ) (st : StatusField)
+    → IsOutcome built true old entry st new → IsRun old entry st new
+run-refused false old new entry st run = run
+run-refused true old new entry st run = run

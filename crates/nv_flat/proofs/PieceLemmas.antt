@@ -51,7 +51,8 @@ buckets-are-below size zero = All-nil (IsBelow size)
 buckets-are-below size (suc n) = All-cons (IsBelow size) Bucket (replicate n Bucket) tt (buckets-are-below size n)
 
 -- a mapped piece lies in a memory whose addresses are the guest's own
-piece-is-below : (size : ℕ) (p : Piece) → IsMappedPiece (mapped (identity_map size).regions) p → AreBelow size (places_of_piece p)
+piece-is-below : (size : ℕ) (p : Piece) → IsMappedPiece (mapped (identity_map size).regions) p
+    → AreBelow size (places_of_piece p)
 piece-is-below size (piece.Run addr len) is =
     addresses-are-below size addr len (λ i below. inside size (addr + i) (everywhere-at (mapped (identity_map size).regions) addr len i is below))
   where
@@ -59,7 +60,8 @@ piece-is-below size (piece.Run addr len) is =
     inside size at is = grind (arith, nat_tests)
 piece-is-below size (piece.Bucket len) is = buckets-are-below size len
 
-pub pieces-are-below : (size : ℕ) (pieces : List Piece) → All (IsMappedPiece (mapped (identity_map size).regions)) pieces → AreBelow size (places_of pieces)
+pub pieces-are-below : (size : ℕ) (pieces : List Piece)
+    → All (IsMappedPiece (mapped (identity_map size).regions)) pieces → AreBelow size (places_of pieces)
 pieces-are-below size [] each = All-nil (IsBelow size)
 pieces-are-below size (p ∷ pieces) each =
     All-append (IsBelow size) (places_of_piece p) (places_of pieces)
@@ -68,12 +70,15 @@ pieces-are-below size (p ∷ pieces) each =
 
 -- ---- of the transfer's length
 
-sized-spells : (len : ℕ) (reading : Reading) (pieces : List Piece) → sized len reading ≡ Spells pieces → (reading ≡ Spells pieces) × (total_len pieces ≡ len)
+sized-spells : (len : ℕ) (reading : Reading) (pieces : List Piece) → sized len reading ≡ Spells pieces
+    → (reading ≡ Spells pieces) × (total_len pieces ≡ len)
 sized-spells len (Faulty code) pieces e = (cc)
 sized-spells len TooLong pieces e = (cc)
 sized-spells len (Spells ps) pieces e = by_test (total_len ps == len) refl e
   where
-    by_test : (same : Bool) → (total_len ps == len) ≡ same → cond same (Spells ps) (Faulty SglLengthInvalid) ≡ Spells pieces → (Spells ps ≡ Spells pieces) × (total_len pieces ≡ len)
+    by_test : (same : Bool) → (total_len ps == len) ≡ same
+        → cond same (Spells ps) (Faulty SglLengthInvalid) ≡ Spells pieces
+        → (Spells ps ≡ Spells pieces) × (total_len pieces ≡ len)
     by_test true is e =
         let same : ps ≡ pieces = (cc) in
         (e, ap total_len (sym same) ∙ eqb-true (total_len ps) len is)
@@ -107,7 +112,8 @@ pieces_by-runs (Some Segment) d = All-nil IsRunPiece
 pieces_by-runs (Some LastSegment) d = All-nil IsRunPiece
 
 read_descriptor-runs : (mapped : ℕ → Bool) (rest : Array) (pieces : List Piece) (follow : Array → List Piece → Dialogue Reading) (d : List ℕ)
-    → All IsRunPiece pieces → ((a : Array) (ps : List Piece) → All IsRunPiece ps → EndsIn (OfPieces (λ ps. All IsRunPiece ps)) (follow a ps))
+    → All IsRunPiece pieces
+    → ((a : Array) (ps : List Piece) → All IsRunPiece ps → EndsIn (OfPieces (λ ps. All IsRunPiece ps)) (follow a ps))
     → EndsIn (OfPieces (λ ps. All IsRunPiece ps)) (read_descriptor mapped false rest pieces follow d)
 read_descriptor-runs mapped rest pieces follow d so_far goes =
     EndsIn-unless_faulty (λ ps. All IsRunPiece ps) (fault_by (kind_of d) mapped rest d) _
@@ -115,7 +121,8 @@ read_descriptor-runs mapped rest pieces follow d so_far goes =
     (All-append IsRunPiece pieces (pieces_by (kind_of d) false d) so_far (pieces_by-runs (kind_of d) d)))
 
 read_array-runs : (mapped : ℕ → Bool) (budget left from : ℕ) (by_last : Bool) (pieces : List Piece)
-    → All IsRunPiece pieces → EndsIn (OfPieces (λ ps. All IsRunPiece ps)) (read_array mapped false budget left from by_last pieces)
+    → All IsRunPiece pieces
+    → EndsIn (OfPieces (λ ps. All IsRunPiece ps)) (read_array mapped false budget left from by_last pieces)
 unfolding read_array
 read_array-runs mapped budget zero from by_last pieces so_far = so_far
 read_array-runs mapped zero (suc left) from by_last pieces so_far = tt
@@ -124,7 +131,8 @@ read_array-runs mapped (suc budget) (suc left) from by_last pieces so_far =
     (λ a ps. read_array mapped false budget a.left a.from a.by_last ps) d so_far
     (λ a ps there. read_array-runs mapped budget a.left a.from a.by_last ps there)
 
-read_sgl-runs : (mapped : ℕ → Bool) (limit : ℕ) (own : List ℕ) → EndsIn (OfPieces (λ ps. All IsRunPiece ps)) (read_sgl mapped false limit own)
+read_sgl-runs : (mapped : ℕ → Bool) (limit : ℕ) (own : List ℕ)
+    → EndsIn (OfPieces (λ ps. All IsRunPiece ps)) (read_sgl mapped false limit own)
 unfolding read_sgl
 read_sgl-runs mapped zero own = tt
 read_sgl-runs mapped (suc budget) own =
@@ -134,14 +142,16 @@ read_sgl-runs mapped (suc budget) own =
 
 -- each piece of a list of PRPs is a run
 read_page-runs : (mapped : ℕ → Bool) (bytes : ℕ) (pieces : List Piece) (follow : List Piece → Dialogue Reading) (addr : ℕ)
-    → All IsRunPiece pieces → ((ps : List Piece) → All IsRunPiece ps → EndsIn (OfPieces (λ ps. All IsRunPiece ps)) (follow ps))
+    → All IsRunPiece pieces
+    → ((ps : List Piece) → All IsRunPiece ps → EndsIn (OfPieces (λ ps. All IsRunPiece ps)) (follow ps))
     → EndsIn (OfPieces (λ ps. All IsRunPiece ps)) (read_page mapped bytes pieces follow addr)
 read_page-runs mapped bytes pieces follow addr so_far goes =
     EndsIn-unless_faulty (λ ps. All IsRunPiece ps) (entry_fault mapped page addr (min bytes page)) _
     (λ fine. goes (pieces ++ run addr (min bytes page)) (All-append IsRunPiece pieces (run addr (min bytes page)) so_far (run-is-run addr (min bytes page))))
 
 read_entries-runs : (mapped : ℕ → Bool) (pages slots from bytes : ℕ) (pieces : List Piece)
-    → All IsRunPiece pieces → EndsIn (OfPieces (λ ps. All IsRunPiece ps)) (read_entries mapped pages slots from bytes pieces)
+    → All IsRunPiece pieces
+    → EndsIn (OfPieces (λ ps. All IsRunPiece ps)) (read_entries mapped pages slots from bytes pieces)
 unfolding read_entries
 read_entries-runs mapped zero slots from bytes pieces so_far = so_far
 read_entries-runs mapped (suc pages) slots from bytes pieces so_far =
@@ -155,12 +165,14 @@ read_entries-runs mapped (suc pages) slots from bytes pieces so_far =
 read_prp2-runs : (mapped : ℕ → Bool) (pages prp2 bytes : ℕ) (pieces : List Piece)
     → All IsRunPiece pieces → EndsIn (OfPieces (λ ps. All IsRunPiece ps)) (read_prp2 mapped pages prp2 bytes pieces)
 read_prp2-runs mapped zero prp2 bytes pieces so_far = so_far
-read_prp2-runs mapped (suc zero) prp2 bytes pieces so_far = read_page-runs mapped bytes pieces (λ ps. End (Spells ps)) prp2 so_far (λ ps there. there)
+read_prp2-runs mapped (suc zero) prp2 bytes pieces so_far =
+    read_page-runs mapped bytes pieces (λ ps. End (Spells ps)) prp2 so_far (λ ps there. there)
 read_prp2-runs mapped (suc (suc pages)) prp2 bytes pieces so_far =
     EndsIn-unless_faulty (λ ps. All IsRunPiece ps) (entry_fault mapped 8 prp2 (8 * min (slots_of prp2) (suc (suc pages)))) _
     (λ _. read_entries-runs mapped (suc (suc pages)) (slots_of prp2) prp2 bytes pieces so_far)
 
-read_prp-runs : (mapped : ℕ → Bool) (prp1 prp2 len : ℕ) → EndsIn (OfPieces (λ ps. All IsRunPiece ps)) (read_prp mapped prp1 prp2 len)
+read_prp-runs : (mapped : ℕ → Bool) (prp1 prp2 len : ℕ)
+    → EndsIn (OfPieces (λ ps. All IsRunPiece ps)) (read_prp mapped prp1 prp2 len)
 read_prp-runs mapped prp1 prp2 len =
     EndsIn-unless_faulty (λ ps. All IsRunPiece ps) (entry_fault mapped 4 prp1 (first_len prp1 len)) _
     (λ _. read_prp2-runs mapped (pages_of (len - first_len prp1 len)) prp2 (len - first_len prp1 len) (run prp1 (first_len prp1 len)) (run-is-run prp1 (first_len prp1 len)))
@@ -192,7 +204,8 @@ pub record AreUsable (f : Flat) (need : Need) (pieces : List Piece) : Type 0 whe
   pub total : length (places_of pieces) ≡ need.bytes
   pub runs : need.dest ≡ false → All IsRunPiece pieces
 
-pub spelled-usable : (f : Flat) (entry : List ℕ) (need : Need) (pieces : List Piece) → list_reading f entry need ≡ Spells pieces → AreUsable f need pieces
+pub spelled-usable : (f : Flat) (entry : List ℕ) (need : Need) (pieces : List Piece)
+    → list_reading f entry need ≡ Spells pieces → AreUsable f need pieces
 unfolding in_memory
 spelled-usable f entry need pieces spelled =
     let map : ℕ → Bool = mapped (identity_map (length f.memory)).regions in
@@ -219,4 +232,5 @@ read_source-gathered m (piece.Run addr len ∷ pieces) bytes each =
     ∙ append_assoc bytes (bytes_from m addr len) (gathered m (places_of pieces))
     ∙ ap (λ (front : List ℕ). bytes ++ (front ++ gathered m (places_of pieces))) (sym (gathered-addresses m addr len))
     ∙ ap (λ (all : List ℕ). bytes ++ all) (sym (gathered-append m (addresses addr len) (places_of pieces)))
-read_source-gathered m (piece.Bucket len ∷ pieces) bytes each = absurd (All-head IsRunPiece (piece.Bucket len) pieces each)
+read_source-gathered m (piece.Bucket len ∷ pieces) bytes each =
+    absurd (All-head IsRunPiece (piece.Bucket len) pieces each)

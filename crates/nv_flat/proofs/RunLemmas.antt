@@ -35,7 +35,8 @@ refused-unchanged old new entry st refusal refused run =
 
 -- a command that goes
 pub units-moved : (old new : Flat) (entry : List ℕ) (st : StatusField) (work : Work)
-    → verdict_in (shape_of old) (byte_in old.memory) entry ≡ Go work → IsRun old entry st new → IsMovedInSomeOrder old work st new
+    → verdict_in (shape_of old) (byte_in old.memory) entry ≡ Go work → IsRun old entry st new
+    → IsMovedInSomeOrder old work st new
 unfolding moved_of
 units-moved old new entry st work goes run =
     let t : Taken = newly_taken entry in
@@ -53,7 +54,8 @@ units-moved old new entry st work goes run =
 -- ---- orders
 
 -- what each of the units has, each of them has in any order
-pub All-order : (P : WorkUnit → Type 0) (order units : List WorkUnit) → IsOrderOf order units → All P units → All P order
+pub All-order : (P : WorkUnit → Type 0) (order units : List WorkUnit) → IsOrderOf order units → All P units
+    → All P order
 All-order P [] units is each = All-nil P
 All-order P (unit ∷ order) units (place, (found, rest)) each =
     All-cons P unit order (here (slice_get-has P units place each))

@@ -15,7 +15,8 @@ pub record IsMoving (work : Work) (slba count : ℕ) (all : List Place) (old : F
   pub disk_size : length f.disk ≡ length old.disk
 
 -- before the first block
-pub IsMoving-start : (work : Work) (slba count : ℕ) (all : List Place) (old : Flat) → IsMoving work slba count all old 0 old false all
+pub IsMoving-start : (work : Work) (slba count : ℕ) (all : List Place) (old : Flat)
+    → IsMoving work slba count all old 0 old false all
 IsMoving-start work slba count all old =
     let e : slba + 0 ≡ slba = omega arith in
     let n : count - 0 ≡ count = omega arith in
@@ -56,7 +57,8 @@ IsMoving-end work slba count all old index f differed buffer so_far past =
 
 -- enough is left for a block
 pub IsMoving-enough : (work : Work) (slba count : ℕ) (all : List Place) (old : Flat) (index : ℕ) (f : Flat) (differed : Bool) (buffer : List Place)
-    → IsMoving work slba count all old index f differed buffer → index < count → 512 * count ≤ length all → 512 ≤ length buffer
+    → IsMoving work slba count all old index f differed buffer → index < count → 512 * count ≤ length all
+    → 512 ≤ length buffer
 IsMoving-enough work slba count all old index f differed buffer so_far below enough =
     let len : length buffer ≡ length all - 512 * index = ap length so_far.left ∙ length-drop (512 * index) all in
     omega arith

@@ -22,12 +22,14 @@ use Rattle.nv_entry.specs.declared.opcode.IoOpcode.TheVariants.{Flush, Write, Re
 -- ---- the fields
 
 -- an opcode that is unknown is refused
-unknown-refused : (fused : Bool) (blocks : ℕ) (entry : List ℕ) → cond fused (Some InvalidField) (refusal_by_opcode blocks entry None) ≡ None → ⊥
+unknown-refused : (fused : Bool) (blocks : ℕ) (entry : List ℕ)
+    → cond fused (Some InvalidField) (refusal_by_opcode blocks entry None) ≡ None → ⊥
 unknown-refused true blocks entry e = (cc)
 unknown-refused false blocks entry e = (cc)
 
 -- where the fields do not refuse, the opcode is known
-known-unless-refused : (blocks : ℕ) (entry : List ℕ) → field_refusal blocks entry ≡ None → io_opcode (opcode_of entry) ≡ None → ⊥
+known-unless-refused : (blocks : ℕ) (entry : List ℕ) → field_refusal blocks entry ≡ None
+    → io_opcode (opcode_of entry) ≡ None → ⊥
 known-unless-refused blocks entry none unknown =
     let P : Option IoOpcode → Type 0 = λ o. cond (not (fuse_of entry == 0)) (Some InvalidField) (refusal_by_opcode blocks entry o) ≡ None in
     unknown-refused (not (fuse_of entry == 0)) blocks entry (subst P unknown none)
@@ -41,13 +43,15 @@ verdict_by-err None None entry st known e = absurd (known refl refl)
 verdict_by-err None (Some opcode) entry st known e = (cc)
 
 pub field_verdict-err : (blocks : ℕ) (entry : List ℕ) (st : StatusField)
-    → field_verdict blocks entry ≡ Err st → (code : StatusCode) × (field_refusal blocks entry ≡ Some code) × (st ≡ refused_with code)
+    → field_verdict blocks entry ≡ Err st
+    → (code : StatusCode) × (field_refusal blocks entry ≡ Some code) × (st ≡ refused_with code)
 field_verdict-err blocks entry st e =
     verdict_by-err (field_refusal blocks entry) (io_opcode (opcode_of entry)) entry st (known-unless-refused blocks entry) e
 
 -- a command that the fields do not refuse
 verdict_by-ok : (refusal : Option StatusCode) (opcode : Option IoOpcode) (entry : List ℕ) (need : Need)
-    → verdict_by refusal opcode entry ≡ Ok need → (refusal ≡ None) × ((known : IoOpcode) × (opcode ≡ Some known) × (need ≡ need_of entry known))
+    → verdict_by refusal opcode entry ≡ Ok need
+    → (refusal ≡ None) × ((known : IoOpcode) × (opcode ≡ Some known) × (need ≡ need_of entry known))
 verdict_by-ok (Some code) opcode entry need e = (cc)
 verdict_by-ok None None entry need e = (cc)
 verdict_by-ok None (Some known) entry need e = (refl, (known, refl, (cc)))
@@ -55,7 +59,8 @@ verdict_by-ok None (Some known) entry need e = (refl, (known, refl, (cc)))
 pub field_verdict-ok : (blocks : ℕ) (entry : List ℕ) (need : Need)
     → field_verdict blocks entry ≡ Ok need
     → (field_refusal blocks entry ≡ None) × ((known : IoOpcode) × (io_opcode (opcode_of entry) ≡ Some known) × (need ≡ need_of entry known))
-field_verdict-ok blocks entry need e = verdict_by-ok (field_refusal blocks entry) (io_opcode (opcode_of entry)) entry need e
+field_verdict-ok blocks entry need e =
+    verdict_by-ok (field_refusal blocks entry) (io_opcode (opcode_of entry)) entry need e
 
 -- ---- the verdict
 
@@ -111,7 +116,8 @@ verdict-unlisted shape memory entry opcode none known buffer =
 
 -- the checks of a command whose range is not in the namespace fail
 range-checked : (namespace buffer both inside : Bool)
-    → first_failing ((namespace, InvalidNamespace) ∷ (buffer, InvalidField) ∷ (both, InvalidField) ∷ (not inside, LbaOutOfRange) ∷ []) ≡ None → inside ≡ true
+    → first_failing ((namespace, InvalidNamespace) ∷ (buffer, InvalidField) ∷ (both, InvalidField) ∷ (not inside, LbaOutOfRange) ∷ []) ≡ None
+    → inside ≡ true
 range-checked true buffer both inside e = (cc)
 range-checked false true both inside e = (cc)
 range-checked false false true inside e = (cc)
@@ -125,7 +131,8 @@ not-fused false rest e = e
 
 -- a command over blocks that its fields do not refuse names blocks of the namespace
 pub in-namespace : (blocks : ℕ) (entry : List ℕ) (opcode : IoOpcode) → field_refusal blocks entry ≡ None
-    → io_opcode (opcode_of entry) ≡ Some opcode → has_blocks opcode ≡ true → in_namespace (slba_of entry) (count_of entry) blocks ≡ true
+    → io_opcode (opcode_of entry) ≡ Some opcode → has_blocks opcode ≡ true
+    → in_namespace (slba_of entry) (count_of entry) blocks ≡ true
 in-namespace blocks entry opcode none known ranged =
     let checked = not-fused (not (fuse_of entry == 0)) (refusal_by_opcode blocks entry (io_opcode (opcode_of entry))) none in
     let P : Option IoOpcode → Type 0 = λ o. refusal_by_opcode blocks entry o ≡ None in
@@ -137,14 +144,16 @@ in-namespace blocks entry opcode none known ranged =
 
 -- a transfer has at most 256 blocks
 few-checked : (namespace buffer many inside : Bool)
-    → first_failing ((namespace, InvalidNamespace) ∷ (buffer, InvalidField) ∷ (many, InvalidField) ∷ (inside, LbaOutOfRange) ∷ []) ≡ None → many ≡ false
+    → first_failing ((namespace, InvalidNamespace) ∷ (buffer, InvalidField) ∷ (many, InvalidField) ∷ (inside, LbaOutOfRange) ∷ []) ≡ None
+    → many ≡ false
 few-checked true buffer many inside e = (cc)
 few-checked false true many inside e = (cc)
 few-checked false false true inside e = (cc)
 few-checked false false false inside e = refl
 
 pub count-at_most : (blocks : ℕ) (entry : List ℕ) (opcode : IoOpcode) → field_refusal blocks entry ≡ None
-    → io_opcode (opcode_of entry) ≡ Some opcode → has_buffer opcode ≡ true → has_blocks opcode ≡ true → count_of entry ≤ 256
+    → io_opcode (opcode_of entry) ≡ Some opcode → has_buffer opcode ≡ true → has_blocks opcode ≡ true
+    → count_of entry ≤ 256
 count-at_most blocks entry opcode none known buffer ranged =
     let checked = not-fused (not (fuse_of entry == 0)) (refusal_by_opcode blocks entry (io_opcode (opcode_of entry))) none in
     let P : Option IoOpcode → Type 0 = λ o. refusal_by_opcode blocks entry o ≡ None in

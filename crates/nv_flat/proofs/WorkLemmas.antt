@@ -20,7 +20,8 @@ use Rattle.nv_flat.specs.Flat.{flat, moved_of}
 use Rattle.nv_flat.specs.Transfer.{is_transfer}
 
 -- the units of a Read, Write or Compare move block after block
-pub units_moved-transfer : (blocks : ℕ) (opcode : IoOpcode) (entry : List ℕ) (pieces : List Piece) (m : Moved) → is_transfer opcode ≡ true
+pub units_moved-transfer : (blocks : ℕ) (opcode : IoOpcode) (entry : List ℕ) (pieces : List Piece) (m : Moved)
+    → is_transfer opcode ≡ true
     → units_moved (work_of blocks opcode entry pieces []).units (work_of blocks opcode entry pieces []) m
     ≡ units_moved (units_from 0 (slba_of entry) (count_of entry)) (block_work opcode pieces (has_blocks opcode && is_fua entry)) m
 units_moved-transfer blocks opcode entry pieces m t =
@@ -29,7 +30,8 @@ units_moved-transfer blocks opcode entry pieces m t =
     ∙ ap (λ (us : List WorkUnit). units_moved us (block_work opcode pieces (has_blocks opcode && is_fua entry)) m)
     (transfer-units opcode t ∙ move_units-range (slba_of entry) (count_of entry))
   where
-    transfer-units : (opcode : IoOpcode) → is_transfer opcode ≡ true → form_units (form_of opcode) blocks entry [] ≡ move_units (lbas_of entry)
+    transfer-units : (opcode : IoOpcode) → is_transfer opcode ≡ true
+        → form_units (form_of opcode) blocks entry [] ≡ move_units (lbas_of entry)
     transfer-units Read t = refl
     transfer-units Write t = refl
     transfer-units Compare t = refl
@@ -58,13 +60,15 @@ ranges-kept work (range ∷ ranges) m =
     ∙ ranges-kept work ranges m
 
 -- every block kept
-pub keep-all : (work : Work) (memory : List ℕ) (disk : List (List ℕ)) (kept : List Bool) (blocks : ℕ) → length kept ≡ blocks
+pub keep-all : (work : Work) (memory : List ℕ) (disk : List (List ℕ)) (kept : List Bool) (blocks : ℕ)
+    → length kept ≡ blocks
     → moved_of (flat memory disk (replicate blocks true)) false ≡ moved_on (KeepAll blocks) work (moved_of (flat memory disk kept) false)
 unfolding moved_of
 keep-all work memory disk kept blocks sized =
     ap (λ (k : ℕ → Bool). let r : Moved = record (moved_of (flat memory disk kept) false) { kept = k } in r) (fun_ext (λ lba. marks lba))
   where
-    marks : (lba : ℕ) → slice_index_or (replicate blocks true) lba false ≡ nat_lt lba blocks || slice_index_or kept lba false
+    marks : (lba : ℕ)
+        → slice_index_or (replicate blocks true) lba false ≡ nat_lt lba blocks || slice_index_or kept lba false
     marks lba =
         elim (cases_lt lba blocks) [
           | inl below ↦ let all = get_or-replicate blocks lba true false below in grind (arith, nat_tests, all)
@@ -77,4 +81,5 @@ keep-all work memory disk kept blocks sized =
 
 -- as many marks in the place of those that were there
 pub refilled : (n : ℕ) (new old : List Bool) → length new ≡ n → take n (new ++ drop (length new) old) ≡ new
-refilled n new old sized = ap (λ (k : ℕ). take k (new ++ drop (length new) old)) (sym sized) ∙ take-append_seam new (drop (length new) old)
+refilled n new old sized =
+    ap (λ (k : ℕ). take k (new ++ drop (length new) old)) (sym sized) ∙ take-append_seam new (drop (length new) old)

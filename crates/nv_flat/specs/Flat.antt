@@ -2,6 +2,7 @@
 use Rattle.std.specs.Prelude.{◌≡◌, ℕ, ◌%◌, ◌<◌, ◌≤◌, Bool, false, List, [], ◌∷◌, slice_index, length}
 use Rattle.std.specs.List.{slice_index_or}
 use Rattle.nv_mem.specs.GuestMap.{Mapping}
+use Rattle.nv_model.specs.Limits.{largest_memory, largest_namespace, page}
 use Rattle.nv_model.specs.Private.{Moved}
 
 pub record Flat : Type 0 where
@@ -42,8 +43,8 @@ pub record IsWhole (memory : List ℕ) (map : Mapping) (disk : List (List ℕ)) 
 
 -- a flat controller may have this much memory and so many blocks (profile)
 pub record FitsLimits (memory_len blocks : ℕ) : Type 0 where
-  pub pages : memory_len % 4096 ≡ 0
+  pub pages : memory_len % page ≡ 0
   pub some_memory : 0 < memory_len
-  pub most_memory : memory_len ≤ 16777216
+  pub most_memory : memory_len ≤ largest_memory
   pub some_blocks : 0 < blocks
-  pub most_blocks : blocks ≤ 65536
+  pub most_blocks : blocks ≤ largest_namespace

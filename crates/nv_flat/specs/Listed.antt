@@ -10,7 +10,7 @@ use Rattle.nv_judge.specs.declared.need.Need.{Need}
 use Rattle.nv_mem.specs.GuestMap.{mapped}
 use Rattle.nv_model.specs.Dialogue.{Dialogue, End, and_then, in_memory}
 use Rattle.nv_model.specs.Judge.{read_by, sized}
-use Rattle.nv_model.specs.Limits.{most_descriptors}
+use Rattle.nv_model.specs.Limits.{most_descriptors, part_size}
 use Rattle.nv_model.specs.Reading.{Reading, Faulty, TooLong, Spells}
 use Rattle.nv_flat.specs.Flat.{Flat, byte_in, identity_map}
 use Rattle.nv_flat.specs.declared.lists.Listed.{Listed}
@@ -40,8 +40,8 @@ abbrev pub IsListed : Listed → Reading → Type 0
 IsListed (Refused st) reading = refusal_of_reading reading ≡ Some st
 IsListed (Named places) reading = reading ≡ Spells places
 
--- some bytes of a list lie in the memory, 4,096 at most
+-- some bytes of a list lie in the memory, a part of it at most
 pub record IsPartThere (memory : List ℕ) (addr len : ℕ) : Type 0 where
   pub some : 0 < len
-  pub at_most : len ≤ 4096
+  pub at_most : len ≤ part_size
   pub inside : addr + len ≤ length memory

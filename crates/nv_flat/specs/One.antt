@@ -1,5 +1,5 @@
 -- One command on the flat controller
-use Rattle.std.specs.Prelude.{◌≡◌, ℕ, Bool, true, false, not, ◌&&◌, ◌==◌, nat_le, List, ◌∷◌, length, replicate, Option, Some, None, is_none}
+use Rattle.std.specs.Prelude.{◌≡◌, ℕ, ◌/◌, Bool, true, false, not, ◌&&◌, ◌==◌, nat_le, List, ◌∷◌, length, replicate, Option, Some, None, is_none}
 use Rattle.std.specs.List.{slice_index_or}
 use Rattle.nv_entry.specs.Opcode.{io_opcode}
 use Rattle.nv_entry.specs.Status.{StatusField}
@@ -15,7 +15,7 @@ use Rattle.nv_model.specs.Memory.{bytes_from}
 use Rattle.nv_model.specs.Queue.{cqe_size}
 use Rattle.nv_model.specs.Controller.{Controller}
 use Rattle.nv_model.specs.Judge.{count_of, field_refusal}
-use Rattle.nv_model.specs.Limits.{most_descriptors}
+use Rattle.nv_model.specs.Limits.{block, most_descriptors, page}
 use Rattle.nv_model.specs.Private.{After, PostStep, Private, Shape, Taken, Unjudged, no_commands, put, step}
 use Rattle.nv_model.specs.Carried.{IsCarriedOut}
 use Rattle.nv_judge.specs.declared.need.Need.{Need}
@@ -80,6 +80,10 @@ pub record IsRun (old : Flat) (entry : List ℕ) (st : StatusField) (new : Flat)
   pub carried : IsCarriedOut (shape_of old) (private_of old (newly_taken entry)) 0 (newly_taken entry) st (private_of new after)
   pub posted : completion_posted (shape_of old) (private_of new after) ≡ Some (completion 0 1 1 (cid_of entry) true st)
 
+-- the most blocks of a command that every controller carries out: they fill a page
+abbrev pub most_plain_blocks : ℕ
+most_plain_blocks = page / block
+
 -- a Read or a Write of at most 8 blocks, by a scatter gather list whose own descriptor is of the type of a Data Block: every controller
 -- carries these out
 abbrev pub is_read_or_write : Option IoOpcode → Bool
@@ -93,7 +97,7 @@ is_read_or_write None = false
 
 abbrev pub is_plain : List ℕ → Bool
 is_plain entry =
-    is_read_or_write (io_opcode (opcode_of entry)) && not (psdt_of entry == 0) && type_of (sgl_of entry) == 0 && nat_le (count_of entry) 8
+    is_read_or_write (io_opcode (opcode_of entry)) && not (psdt_of entry == 0) && type_of (sgl_of entry) == 0 && nat_le (count_of entry) most_plain_blocks
 
 -- every command is carried out
 abbrev pub every_command : List ℕ → Bool

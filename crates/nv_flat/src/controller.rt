@@ -1,10 +1,13 @@
+//! The state of the flat controller: how it is made, shown and changed outside of commands.
+
 ghost use Rattle.std.specs.Prelude.{◌≡◌, ◌+◌, ◌%◌, ◌<◌, ◌≤◌, ◌↔◌, length, replicate, false, IfOk, IsTrue, slice_set};
 ghost use Rattle.std.specs.List.{slice_index_or};
 ghost use Rattle.nv_mem.specs.Bytes.{InMemory, after_store, bytes_at};
+ghost use Rattle.nv_model.specs.Limits.{block as block_size, page};
 ghost use Rattle.nv_flat.specs.Flat.{FitsLimits, flat, identity_map};
 
-use crate::moves::BLOCK;
-use nv_mem::{GuestMap, Host, NoMemory, Region};
+use nv_mem::{GuestMap, Host, NoMemory, PAGE_SIZE, Region};
+use nv_model::limits::{BLOCK_SIZE, LARGEST_MEMORY, LARGEST_NAMESPACE};
 use std::alloc::Global;
 use std::marker::Model;
 
@@ -13,15 +16,9 @@ use std::marker::Model;
 pub struct FlatController {
     pub(crate) memory: Host,
     pub(crate) map: GuestMap,
-    pub(crate) disk: Vec<[u8; BLOCK]>,
+    pub(crate) disk: Vec<[u8; BLOCK_SIZE]>,
     pub(crate) kept: Vec<bool>,
 }
-
-/// The most memory of a flat controller: 16 MiB.
-const MOST_MEMORY: u64 = 16_777_216;
-
-/// The most blocks of a flat controller.
-const MOST_BLOCKS: u64 = 65_536;
 
 impl Model for FlatController {
     ghost use Rattle.nv_flat.specs.Flat.{Flat, IsWhole, flat};
@@ -39,17 +36,17 @@ impl FlatController {
     pub fn fits(memory_len: u64, blocks: u64) -> bool
         ensures { IsTrue result ↔ FitsLimits memory_len blocks }
     {
-        memory_len % 4096 == 0
+        memory_len % PAGE_SIZE == 0
             && 0 < memory_len
-            && memory_len <= MOST_MEMORY
+            && memory_len <= LARGEST_MEMORY
             && 0 < blocks
-            && blocks <= MOST_BLOCKS
+            && blocks <= LARGEST_NAMESPACE
     }
 
     /// A controller with `memory_len` bytes of memory and `blocks` blocks, all zero, and no mark set.
     pub fn new(alloc: Global, memory_len: u64, blocks: u64) -> Result<Self, NoMemory>
         requires { FitsLimits memory_len blocks }
-        ensures { IfOk result (λ c. c ≡ flat (replicate memory_len 0) (replicate blocks (replicate 512 0)) (replicate blocks false)) }
+        ensures { IfOk result (λ c. c ≡ flat (replicate memory_len 0) (replicate blocks (replicate block_size 0)) (replicate blocks false)) }
     {
         let memory = Host::new(alloc, memory_len)?;
         let map = identity(alloc, memory_len)?;
@@ -91,14 +88,14 @@ impl FlatController {
     /// Fills a block with a byte. Its mark stays.
     pub fn paint(&mut self, block: u64, byte: u8)
         requires { block < length self.old.disk }
-        ensures block { self.new ≡ flat self.old.memory (slice_set self.old.disk block (replicate 512 byte)) self.old.kept }
+        ensures block { self.new ≡ flat self.old.memory (slice_set self.old.disk block (replicate block_size byte)) self.old.kept }
         ensures disk_size { length self.new.disk ≡ length self.old.disk }
     {
-        self.disk[block as usize] = [byte; BLOCK];
+        self.disk[block as usize] = [byte; BLOCK_SIZE];
     }
 
     /// The bytes of a block.
-    pub fn block(&self, block: u64) -> &[u8; BLOCK]
+    pub fn block(&self, block: u64) -> &[u8; BLOCK_SIZE]
         requires { block < length self.now.disk }
         ensures { result.now ≡ slice_index_or self.now.disk block result.now }
     {
@@ -130,9 +127,9 @@ impl FlatController {
     }
 }
 
-/// The map of a guest whose addresses are the memory's own.
+// The map of a guest whose addresses are the memory's own.
 fn identity(alloc: Global, len: u64) -> Result<GuestMap, NoMemory>
-    requires pages { len % 4096 ≡ 0 }
+    requires pages { len % page ≡ 0 }
     requires some { 0 < len }
     ensures { IfOk result (λ map. map ≡ identity_map len) }
 {
@@ -147,18 +144,18 @@ fn identity(alloc: Global, len: u64) -> Result<GuestMap, NoMemory>
     }
 }
 
-/// Blocks of zeros.
-fn zero_blocks(alloc: Global, blocks: usize) -> Result<Vec<[u8; BLOCK]>, NoMemory>
-    ensures { IfOk result (λ disk. disk.items ≡ replicate blocks (replicate 512 0)) }
+// Blocks of zeros.
+fn zero_blocks(alloc: Global, blocks: usize) -> Result<Vec<[u8; BLOCK_SIZE]>, NoMemory>
+    ensures { IfOk result (λ disk. disk.items ≡ replicate blocks (replicate block_size 0)) }
 {
     let mut disk = Vec::with_capacity(alloc, blocks)?;
     for _block in 0..blocks {
-        disk.push([0; BLOCK])?;
+        disk.push([0; BLOCK_SIZE])?;
     }
     Ok(disk)
 }
 
-/// Marks that are clear.
+// Marks that are clear.
 fn clear_marks(alloc: Global, blocks: usize) -> Result<Vec<bool>, NoMemory>
     ensures { IfOk result (λ kept. kept.items ≡ replicate blocks false) }
 {

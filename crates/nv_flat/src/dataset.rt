@@ -5,6 +5,7 @@ ghost use Rattle.std.specs.List.{list_all};
 ghost use Rattle.nv_entry.specs.declared.opcode.IoOpcode.TheVariants as opcode;
 ghost use Rattle.nv_model.specs.Judge.{Work, range_count_of, range_fits, range_units, ranges_in};
 ghost use Rattle.nv_model.specs.Carried.{units_moved};
+ghost use Rattle.nv_model.specs.Limits.{range_size};
 ghost use Rattle.nv_judge.specs.Need.{need_of};
 ghost use Rattle.nv_model.specs.Reading.{Spells};
 ghost use Rattle.nv_flat.specs.Flat.{moved_of};
@@ -17,11 +18,12 @@ use crate::lists::Listed;
 use nv_entry::{Range, Sqe, Status, StatusCode};
 use nv_judge::{Need, judge_ranges};
 use nv_mem::{NoMemory, Places};
+use nv_model::limits::RANGE_SIZE;
 use nv_ns::VirtualNs;
 use std::alloc::Global;
 
-/// The most bytes of the ranges: 256 of 16 bytes each.
-const MOST_BYTES: usize = 4096;
+/// The most bytes of the ranges: there are at most 256.
+const MOST_BYTES: usize = 256 * RANGE_SIZE;
 
 impl FlatController {
     /// Runs a Dataset Management: where each of its ranges lies in the namespace, their blocks are deallocated if it asks for that.
@@ -37,7 +39,7 @@ impl FlatController {
         ensures disk_size { length self.new.disk ≡ length self.old.disk }
         ensures err { OnErr result (self.new ≡ self.old) }
     {
-        let len = 16 * (usize::from(sqe.nr()) + 1);
+        let len = RANGE_SIZE * (usize::from(sqe.nr()) + 1);
         match self.read_list(alloc, sqe, need)? {
             Listed::Refused(status) => Ok(status),
             Listed::Named(places) => {
@@ -47,11 +49,11 @@ impl FlatController {
         }
     }
 
-    /// The same once its list is read, through a buffer of the length of the ranges.
+    // The same once its list is read, through a buffer of the length of the ranges.
     fn manage_ranges(&mut self, sqe: &Sqe, places: &Places, ranges: &mut [u8]) -> Status
         requires in_order { HasFieldsInOrder (length self.old.disk) sqe.now opcode.DatasetManagement (need_of sqe.now opcode.DatasetManagement) }
         requires spelled { list_reading self.old sqe.now (need_of sqe.now opcode.DatasetManagement) ≡ Spells places.now }
-        requires whole { length ranges.old ≡ 16 * range_count_of sqe.now }
+        requires whole { length ranges.old ≡ range_size * range_count_of sqe.now }
         ensures run { IsRun self.old sqe.now result self.new }
         ensures memory_size { length self.new.memory ≡ length self.old.memory }
         ensures disk_size { length self.new.disk ≡ length self.old.disk }
@@ -67,16 +69,16 @@ impl FlatController {
         StatusCode::Success.status()
     }
 
-    /// Makes the blocks of the ranges zeros that are not kept.
+    // Makes the blocks of the ranges zeros that are not kept.
     fn deallocate(&mut self, ranges: &[u8])
-        requires fit { list_all (range_fits (length self.old.disk)) (ranges_in (length ranges.now / 16) ranges.now) ≡ true }
+        requires fit { list_all (range_fits (length self.old.disk)) (ranges_in (length ranges.now / range_size) ranges.now) ≡ true }
         ensures moved { (work : Work) →
-            moved_of self.new false ≡ units_moved (range_units true (ranges_in (length ranges.now / 16) ranges.now)) work (moved_of self.old false) }
+            moved_of self.new false ≡ units_moved (range_units true (ranges_in (length ranges.now / range_size) ranges.now)) work (moved_of self.old false) }
         ensures memory_size { length self.new.memory ≡ length self.old.memory }
         ensures disk_size { length self.new.disk ≡ length self.old.disk }
     {
         let mut rest = ranges;
-        while let Some((range, more)) = rest.split_first_chunk::<16>() {
+        while let Some((range, more)) = rest.split_first_chunk::<RANGE_SIZE>() {
             let range = Range::of(range);
             self.clear(range.start(), u64::from(range.blocks()), false);
             rest = more;

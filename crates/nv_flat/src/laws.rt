@@ -1,18 +1,21 @@
 //! What the theorem of one command says: laws about its definition, as functions that do nothing. Each contract is a law.
 
-ghost use Rattle.std.specs.Prelude.{◌≡◌, [], ◌∷◌, All, List, ℕ, false, length};
+ghost use Rattle.std.specs.Prelude.{◌≡◌, [], ◌∷◌, All, Bool, List, None, Some, ℕ, false, length, true};
 ghost use Rattle.std.specs.List.{slice_index_or};
 ghost use Rattle.nv_entry.specs.Status.{StatusField};
 ghost use Rattle.nv_entry.specs.StatusCode.{done_with};
 ghost use Rattle.nv_entry.specs.declared.opcode.IoOpcode.TheVariants as opcode;
-ghost use Rattle.nv_entry.specs.declared.status_code.StatusCode.TheVariants.{Success};
+ghost use Rattle.nv_entry.specs.declared.status_code.StatusCode.{StatusCode};
+ghost use Rattle.nv_entry.specs.declared.status_code.StatusCode.TheVariants.{InternalError, Success};
 ghost use Rattle.nv_mem.specs.Places.{At, places_of};
-ghost use Rattle.nv_model.specs.Judge.{Go, Refuse, Work, WorkUnit, is_read};
+ghost use Rattle.nv_model.specs.Judge.{Go, Refuse, Work, WorkUnit, field_refusal, is_read};
 ghost use Rattle.nv_model.specs.Private.{Moved, moved_status, verdict_in};
 ghost use Rattle.nv_model.specs.Carried.{moved_on, units_moved};
 ghost use Rattle.nv_flat.specs.Flat.{Flat, byte_in, byte_of_block, moved_of};
 ghost use Rattle.nv_flat.specs.Laws.{HasRun, IsAnother, IsAsLarge, IsElsewhere, IsMovedInSomeOrder};
-ghost use Rattle.nv_flat.specs.One.{IsRun, shape_of};
+ghost use Rattle.nv_flat.specs.One.{IsDone, IsRun, is_plain, shape_of};
+
+use crate::one::One;
 
 /// Every command has a run.
 pub fn every_command_has_a_run()
@@ -75,4 +78,22 @@ pub fn a_block_of_no_unit_stays()
 /// Two controllers of the same sizes are equal where a private controller sees the same of both.
 pub fn what_is_seen_is_all()
     ensures { (f g : Flat) → IsAsLarge f g → moved_of f false ≡ moved_of g false → f ≡ g }
+{}
+
+/// Every controller carries out the plain commands: each of them ends as a run says.
+pub fn a_plain_command_ends_as_a_run<C: One>()
+    ensures { (old new : Flat) (entry : List ℕ) (st : StatusField) → is_plain entry ≡ true → IsDone C.built old entry st new → IsRun old entry st new }
+{}
+
+/// A command whose fields are refused ends as a run says, whatever a controller carries out.
+pub fn a_command_with_refused_fields_ends_as_a_run()
+    ensures { (built : List ℕ → Bool) (old new : Flat) (entry : List ℕ) (st : StatusField) (refusal : StatusCode) →
+        field_refusal (length old.disk) entry ≡ Some refusal → IsDone built old entry st new → IsRun old entry st new }
+{}
+
+/// A command that a controller leaves out, and whose fields are in order, ends with Internal Error and changes nothing.
+pub fn a_command_that_is_left_out_changes_nothing()
+    ensures { (built : List ℕ → Bool) (old new : Flat) (entry : List ℕ) (st : StatusField) →
+        built entry ≡ false → field_refusal (length old.disk) entry ≡ None → IsDone built old entry st new →
+        (st ≡ done_with InternalError) × (new ≡ old) }
 {}

@@ -2,6 +2,7 @@
 #![tactic(auto)]
 
 mod buffer;
+mod carrying_out;
 mod controller;
 mod dataset;
 pub mod examples;
@@ -9,8 +10,7 @@ pub mod laws;
 mod lists;
 mod moves;
 mod one;
-mod one_command;
 mod transfer;
 
 pub use controller::FlatController;
-pub use one_command::One;
+pub use one::One;

@@ -1,6 +1,7 @@
 //! Lists of commands, read in the controller's own memory.
 
 ghost use Rattle.std.specs.Prelude.{◌≡◌, ◌<◌, ◌≤◌, IfOk, OnOk, length};
+ghost use Rattle.nv_model.specs.Limits.{most_bytes};
 ghost use Rattle.nv_model.specs.Memory.{bytes_from};
 ghost use Rattle.nv_model.specs.Transcript.{fed};
 ghost use Rattle.nv_sgl.specs.Parse.{dialogue_of};
@@ -16,6 +17,7 @@ use nv_entry::{DataPointer, Sqe, Status, StatusCode};
 use nv_judge::Need;
 use nv_mem::{Host, NoMemory, Places};
 use nv_model::Want;
+use nv_model::limits::MOST_DESCRIPTORS;
 use nv_prp::PrpParse;
 use nv_sgl::SglParse;
 use std::alloc::{Allocator, Global};
@@ -27,8 +29,8 @@ pub(crate) enum Listed {
     Named(Places),
 }
 
-/// The most descriptors of an SGL, and so the most parts in which a list is read: those of PRPs have fewer slots.
-const MOST_PARTS: u32 = 1024;
+/// The most parts in which a list is read: as many as an SGL has descriptors, since those of PRPs have fewer slots.
+const MOST_PARTS: u32 = MOST_DESCRIPTORS;
 
 /// How many bytes of memory are taken for the descriptors of a list at first.
 const FIRST_ROOM: usize = 4000;
@@ -37,7 +39,7 @@ impl FlatController {
     /// Reads the list of a command, for the transfer that it needs.
     pub(crate) fn read_list(&self, alloc: Global, sqe: &Sqe, need: Need) -> Result<Listed, NoMemory>
         requires some { 0 < need.bytes }
-        requires most { need.bytes ≤ 131072 }
+        requires most { need.bytes ≤ most_bytes }
         ensures { IfOk result (λ listed. IsListed listed (list_reading self.now sqe.now need)) }
     {
         match sqe.data_pointer() {
@@ -47,10 +49,10 @@ impl FlatController {
         }
     }
 
-    /// Reads the pages that PRP1 and PRP2 name.
+    // Reads the pages that PRP1 and PRP2 name.
     fn read_prp(&self, alloc: Global, sqe: &Sqe, need: Need) -> Result<Listed, NoMemory>
         requires some { 0 < need.bytes }
-        requires most { need.bytes ≤ 131072 }
+        requires most { need.bytes ≤ most_bytes }
         ensures { IfOk result (λ listed. IsListed listed (reading_by pointer.Prp self.now sqe.now need)) }
     {
         let mut parse = PrpParse::new(&self.map, sqe.prp1(), sqe.prp2(), u64::from(need.bytes));
@@ -66,7 +68,7 @@ impl FlatController {
         unreachable!()
     }
 
-    /// Reads the descriptors of an SGL.
+    // Reads the descriptors of an SGL.
     fn read_sgl(&self, alloc: Global, sqe: &Sqe, need: Need) -> Result<Listed, NoMemory>
         ensures { IfOk result (λ listed. IsListed listed (reading_by pointer.Sgl self.now sqe.now need)) }
     {
@@ -90,7 +92,7 @@ impl FlatController {
     }
 }
 
-/// Feeds a parse of an SGL the bytes that it wants.
+// Feeds a parse of an SGL the bytes that it wants.
 #[inline(always)]
 fn feed_sgl<A: Allocator + Clone>(
     memory: &Host,
@@ -105,7 +107,7 @@ fn feed_sgl<A: Allocator + Clone>(
     parse.feed(memory.bytes(addr, u64::from(len)))
 }
 
-/// Feeds a parse of PRPs the bytes that it wants.
+// Feeds a parse of PRPs the bytes that it wants.
 fn feed_prp(memory: &Host, parse: &mut PrpParse, addr: u64, len: u32)
     requires wanted { want_of (prp_dialogue_of parse.old) ≡ Want.Read addr len }
     requires there { IsPartThere memory.now addr len }

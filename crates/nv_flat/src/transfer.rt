@@ -5,6 +5,7 @@ ghost use Rattle.nv_mem.specs.Places.{places_of};
 ghost use Rattle.nv_mem.specs.declared.piece.Piece.{Piece};
 ghost use Rattle.nv_model.specs.Judge.{MoveBlock};
 ghost use Rattle.nv_model.specs.Carried.{block_work, moved_on, units_from, units_moved};
+ghost use Rattle.nv_model.specs.Limits.{block as block_size};
 ghost use Rattle.nv_flat.specs.Buffer.{AreBelow};
 ghost use Rattle.nv_flat.specs.Flat.{moved_of};
 ghost use Rattle.nv_flat.specs.Transfer.{is_transfer};
@@ -27,7 +28,7 @@ impl FlatController {
     ) -> bool
         requires transfer { is_transfer opcode ≡ true }
         requires in_memory { AreBelow (length self.old.memory) (places_of places.now) }
-        requires enough { 512 * count ≤ length (places_of places.now) }
+        requires enough { block_size * count ≤ length (places_of places.now) }
         requires blocks { slba + count ≤ length self.old.disk }
         ensures moved { moved_of self.new result ≡ units_moved (units_from 0 slba count) (block_work opcode places.now fua) (moved_of self.old false) }
         ensures memory_size { length self.new.memory ≡ length self.old.memory }
@@ -64,10 +65,10 @@ impl FlatController {
         }
     }
 
-    /// Moves the `count` blocks from `slba` on from a buffer, in order.
+    // Moves the `count` blocks from `slba` on from a buffer, in order.
     fn write_blocks(&mut self, places: &Places, slba: u64, count: u64, fua: bool)
         requires in_memory { AreBelow (length self.old.memory) (places_of places.now) }
-        requires enough { 512 * count ≤ length (places_of places.now) }
+        requires enough { block_size * count ≤ length (places_of places.now) }
         requires blocks { slba + count ≤ length self.old.disk }
         ensures moved { moved_of self.new false ≡ units_moved (units_from 0 slba count) (block_work IoOpcode.Write places.now fua) (moved_of self.old false) }
         ensures memory_size { length self.new.memory ≡ length self.old.memory }
@@ -81,17 +82,17 @@ impl FlatController {
         }
     }
 
-    /// Moves one block from the next places of the buffer.
+    // Moves one block from the next places of the buffer.
     #[inline(always)]
     fn write_block(&mut self, buffer: &mut Buffer, lba: u64, fua: bool)
         requires in_memory { AreBelow (length self.old.memory) buffer.old }
-        requires enough { 512 ≤ length buffer.old }
+        requires enough { block_size ≤ length buffer.old }
         requires block { lba < length self.old.disk }
-        ensures moved { (index : ℕ) (pieces : List Piece) → buffer.old ≡ drop (512 * index) (places_of pieces) →
+        ensures moved { (index : ℕ) (pieces : List Piece) → buffer.old ≡ drop (block_size * index) (places_of pieces) →
             moved_of self.new false ≡ moved_on (MoveBlock index lba) (block_work IoOpcode.Write pieces fua) (moved_of self.old false) }
         ensures memory_size { length self.new.memory ≡ length self.old.memory }
         ensures disk_size { length self.new.disk ≡ length self.old.disk }
-        ensures rest { buffer.new ≡ drop 512 buffer.old }
+        ensures rest { buffer.new ≡ drop block_size buffer.old }
     {
         moves::write_block(
             &self.memory,

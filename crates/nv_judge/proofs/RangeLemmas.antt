@@ -10,7 +10,8 @@ use Rattle.nv_model.specs.Judge.{range_fits, ranges_in}
 use Rattle.nv_judge.specs.Ranges.{ranges_verdict}
 
 -- one more range in front
-pub ranges_in-more : (bytes range more : List ℕ) → range ≡ take 16 bytes → more ≡ drop 16 bytes → length more + 16 ≡ length bytes
+pub ranges_in-more : (bytes range more : List ℕ) → range ≡ take 16 bytes → more ≡ drop 16 bytes
+    → length more + 16 ≡ length bytes
     → ranges_in (length bytes / 16) bytes ≡ range ∷ ranges_in (length more / 16) more
 unfolding ranges_in
 ranges_in-more bytes range more first rest sized =
@@ -34,14 +35,16 @@ pub ranges_verdict-none : (blocks : ℕ) (bytes : List ℕ) → length bytes < 1
 unfolding verdict_on
 ranges_verdict-none blocks bytes few = sym (ap (verdict_on blocks) (ranges_in-none bytes few))
 
-pub ranges_verdict-fits : (blocks : ℕ) (bytes range more : List ℕ) → range ≡ take 16 bytes → more ≡ drop 16 bytes → length more + 16 ≡ length bytes
+pub ranges_verdict-fits : (blocks : ℕ) (bytes range more : List ℕ) → range ≡ take 16 bytes → more ≡ drop 16 bytes
+    → length more + 16 ≡ length bytes
     → range_fits blocks range ≡ true → ranges_verdict blocks more ≡ ranges_verdict blocks bytes
 unfolding verdict_on
 ranges_verdict-fits blocks bytes range more first rest sized fits =
     sym (ap (verdict_on blocks) (ranges_in-more bytes range more first rest sized)
     ∙ ap (λ (b : Bool). cond (b && list_all (range_fits blocks) (ranges_in (length more / 16) more)) (Ok tt) (Err (refused_with LbaOutOfRange))) fits)
 
-pub ranges_verdict-leaves : (blocks : ℕ) (bytes range more : List ℕ) → range ≡ take 16 bytes → more ≡ drop 16 bytes → length more + 16 ≡ length bytes
+pub ranges_verdict-leaves : (blocks : ℕ) (bytes range more : List ℕ) → range ≡ take 16 bytes → more ≡ drop 16 bytes
+    → length more + 16 ≡ length bytes
     → range_fits blocks range ≡ false → Err (refused_with LbaOutOfRange) ≡ ranges_verdict blocks bytes
 unfolding verdict_on
 ranges_verdict-leaves blocks bytes range more first rest sized leaves =
@@ -49,7 +52,8 @@ ranges_verdict-leaves blocks bytes range more first rest sized leaves =
     ∙ ap (λ (b : Bool). cond (b && list_all (range_fits blocks) (ranges_in (length more / 16) more)) (Ok tt) (Err (refused_with LbaOutOfRange))) leaves)
 
 -- a range is in the namespace exactly where it has a disk block
-pub translated-is_some : (ns : Extent) (slba count : ℕ) (some : Bool) → is_some (translated ns slba count) ≡ some → in_namespace slba count ns.blocks ≡ some
+pub translated-is_some : (ns : Extent) (slba count : ℕ) (some : Bool) → is_some (translated ns slba count) ≡ some
+    → in_namespace slba count ns.blocks ≡ some
 translated-is_some ns slba count some e = is_some-if (in_namespace slba count ns.blocks) some e
   where
     is_some-if : (inside some : Bool) → is_some (cond inside (Some (ns.base + slba)) None) ≡ some → inside ≡ some

@@ -7,8 +7,9 @@ use Rattle.nv_entry.specs.Status.{StatusField}
 use Rattle.nv_entry.specs.StatusCode.{refused_with}
 use Rattle.nv_entry.specs.declared.status_code.StatusCode.TheVariants.{LbaOutOfRange}
 use Rattle.nv_model.specs.Judge.{range_fits, ranges_in}
+use Rattle.nv_model.specs.Limits.{range_size}
 
--- the ranges in these bytes, 16 bytes each, must lie in a namespace of `blocks` blocks
+-- the ranges in these bytes must lie in a namespace of `blocks` blocks
 abbrev pub ranges_verdict : (blocks : ℕ) → List ℕ → Result (Unit {0}) StatusField
 ranges_verdict blocks bytes =
-    if list_all (range_fits blocks) (ranges_in (length bytes / 16) bytes) then Ok tt else Err (refused_with LbaOutOfRange)
+    if list_all (range_fits blocks) (ranges_in (length bytes / range_size) bytes) then Ok tt else Err (refused_with LbaOutOfRange)

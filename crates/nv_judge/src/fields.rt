@@ -1,14 +1,14 @@
-ghost use Rattle.std.specs.Prelude.{◌≡◌, ◌≤◌};
+//! The checks of a command that look at its fields alone.
+
+ghost use Rattle.std.specs.Prelude.{◌≡◌, ◌^◌, ◌≤◌};
 ghost use Rattle.nv_judge.specs.Need.{field_verdict, need_of};
 ghost use Rattle.nv_model.specs.Judge.{command_checks, count_of, has_blocks, has_buffer, is_read, transfer_len};
 ghost use Rattle.nv_model.specs.Reading.{first_failing};
 
 use crate::need::Need;
 use nv_entry::{IoOpcode, Sqe, Status, StatusCode};
+use nv_model::limits::{BLOCK_SIZE, MOST_BLOCKS, RANGE_SIZE};
 use nv_ns::VirtualNs;
-
-/// The most blocks of one transfer: 128 KiB, as MDTS 5 says.
-const MOST_BLOCKS: u32 = 256;
 
 /// The checks of a command's fields in their order: fused operation, opcode, namespace, data pointer, size of the transfer and
 /// block range. `Ok` says what the command needs; `Err` is the refusal by the first check that fails, with DNR set.
@@ -27,7 +27,7 @@ pub fn judge_fields(sqe: &Sqe, ns: &VirtualNs) -> Result<Need, Status>
     }
 }
 
-/// The first check that a command fails once its opcode is known.
+// The first check that a command fails once its opcode is known.
 fn refusal(opcode: IoOpcode, sqe: &Sqe, ns: &VirtualNs) -> Option<StatusCode>
     ensures { result ≡ first_failing (command_checks ns.now.blocks sqe.now opcode) }
 {
@@ -45,7 +45,7 @@ fn refusal(opcode: IoOpcode, sqe: &Sqe, ns: &VirtualNs) -> Option<StatusCode>
     }
 }
 
-/// What a command needs that its fields do not refuse.
+// What a command needs that its fields do not refuse.
 fn need(opcode: IoOpcode, sqe: &Sqe) -> Need
     ensures { result ≡ need_of sqe.now opcode }
 {
@@ -58,35 +58,36 @@ fn need(opcode: IoOpcode, sqe: &Sqe) -> Need
     }
 }
 
-/// The blocks of a command's LBA range.
+// The blocks of a command's LBA range.
 fn block_count(sqe: &Sqe) -> u32
     ensures value { result ≡ count_of sqe.now }
-    ensures fits { result ≤ 65536 }
+    ensures fits { result ≤ 2 ^ 16 }
 {
     u32::from(sqe.nlb()) + 1
 }
 
-/// Whether a command reads or writes a buffer.
+// Whether a command reads or writes a buffer.
 fn has_buffer(opcode: IoOpcode) -> bool
     ensures { result ≡ has_buffer opcode }
 {
     !matches!(opcode, IoOpcode::Flush | IoOpcode::WriteZeroes)
 }
 
-/// Whether a command names a range of blocks by SLBA and NLB.
+// Whether a command names a range of blocks by SLBA and NLB.
 fn has_blocks(opcode: IoOpcode) -> bool
     ensures { result ≡ has_blocks opcode }
 {
     !matches!(opcode, IoOpcode::Flush | IoOpcode::DatasetManagement)
 }
 
-/// The length of a command's buffer in bytes.
+// The length of a command's buffer in bytes.
 fn transfer_len(opcode: IoOpcode, sqe: &Sqe) -> u32
     ensures { result ≡ transfer_len opcode sqe.now }
 {
     match opcode {
-        IoOpcode::Read | IoOpcode::Write | IoOpcode::Compare => 512 * block_count(sqe),
-        IoOpcode::DatasetManagement => 16 * (u32::from(sqe.nr()) + 1),
+        IoOpcode::Read | IoOpcode::Write | IoOpcode::Compare => BLOCK_SIZE as u32
+            * block_count(sqe),
+        IoOpcode::DatasetManagement => RANGE_SIZE as u32 * (u32::from(sqe.nr()) + 1),
         IoOpcode::Flush | IoOpcode::WriteZeroes => 0,
     }
 }

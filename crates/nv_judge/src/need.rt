@@ -1,3 +1,5 @@
+//! What the checks of a command's fields say that it needs.
+
 /// What a command that its fields do not refuse needs: 0 or false where it has no such thing.
 #[derive(Clone, Copy, Debug, PartialEq, Eq)]
 pub struct Need {

@@ -1,17 +1,21 @@
+//! The check of the ranges that a Dataset Management names.
+
 ghost use Rattle.std.specs.Prelude.{◌≡◌, ◌%◌, length};
 ghost use Rattle.nv_judge.specs.Ranges.{ranges_verdict};
+ghost use Rattle.nv_model.specs.Limits.{range_size};
 
 use nv_entry::{Range, Status, StatusCode};
+use nv_model::limits::RANGE_SIZE;
 use nv_ns::VirtualNs;
 
 /// The check of the ranges of Dataset Management, 16 bytes each, in their order: each must lie in the namespace. `Err` is the
 /// refusal, with DNR set.
 pub fn judge_ranges(ranges: &[u8], ns: &VirtualNs) -> Result<(), Status>
-    requires { length ranges.now % 16 ≡ 0 }
+    requires { length ranges.now % range_size ≡ 0 }
     ensures { result ≡ ranges_verdict ns.now.blocks ranges.now }
 {
     let mut rest = ranges;
-    while let Some((range, more)) = rest.split_first_chunk::<16>() {
+    while let Some((range, more)) = rest.split_first_chunk::<RANGE_SIZE>() {
         let range = Range::of(range);
         if ns
             .translate(range.start(), u64::from(range.blocks()))
@@ -28,7 +32,7 @@ pub fn judge_ranges(ranges: &[u8], ns: &VirtualNs) -> Result<(), Status>
 mod tests {
     use super::*;
 
-    /// The bytes of two ranges of Dataset Management.
+    // The bytes of two ranges of Dataset Management.
     fn ranges(dwords: [u32; 8]) -> [u8; 32] {
         let mut bytes = [0; 32];
         for (dword, out) in dwords.iter().zip(bytes.chunks_exact_mut(4)) {
@@ -58,7 +62,7 @@ mod tests {
                 Err(StatusCode::LbaOutOfRange.refused())
             };
             let bytes = ranges(dwords);
-            assert!(rt; bytes.len() % 16 == 0);
+            assert!(rt; bytes.len() % RANGE_SIZE == 0);
             assert_eq!(rt; judge_ranges(&bytes, &ns), want, "{dwords:?}");
         }
     }

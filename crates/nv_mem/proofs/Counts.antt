@@ -45,7 +45,8 @@ pub overlap-zero : (r : Region) (addr : ℕ) → overlap r addr 0 ≡ 0
 overlap-zero r addr = omega arith
 
 -- a sum of sums, term by term
-sum_by-plus : {X : Type 0} (f g h : X → ℕ) (xs : List X) → ((x : X) → h x ≡ f x + g x) → sum_by h xs ≡ sum_by f xs + sum_by g xs
+sum_by-plus : {X : Type 0} (f g h : X → ℕ) (xs : List X) → ((x : X) → h x ≡ f x + g x)
+    → sum_by h xs ≡ sum_by f xs + sum_by g xs
 sum_by-plus f g h [] each = refl
 sum_by-plus f g h (x ∷ xs) each =
     let rest = sum_by-plus f g h xs each in
@@ -61,7 +62,8 @@ sum_by-none f (x ∷ xs) none =
     rw (sum_by-cons f x xs) (omega (arith, head, rest))
 
 -- one address is in one region at most, and in one exactly where it is mapped
-count_by-covers : (rs : List Region) (addr : ℕ) → AllPairs IsApart rs → sum_by (λ r. cond (covers r addr) 1 0) rs ≡ cond (mapped rs addr) 1 0
+count_by-covers : (rs : List Region) (addr : ℕ) → AllPairs IsApart rs
+    → sum_by (λ r. cond (covers r addr) 1 0) rs ≡ cond (mapped rs addr) 1 0
 count_by-covers [] addr apart = refl
 count_by-covers (r ∷ rs) addr apart =
     let rest = count_by-covers rs addr (AllPairs-tail IsApart r rs apart) in
@@ -75,7 +77,8 @@ count_by-covers (r ∷ rs) addr apart =
     ]) refl)
 
 -- one more address counts where it is mapped
-covered_of-suc : (rs : List Region) (addr n : ℕ) → AllPairs IsApart rs → covered_of rs addr (suc n) ≡ covered_of rs addr n + cond (mapped rs (addr + n)) 1 0
+covered_of-suc : (rs : List Region) (addr n : ℕ) → AllPairs IsApart rs
+    → covered_of rs addr (suc n) ≡ covered_of rs addr n + cond (mapped rs (addr + n)) 1 0
 unfolding covered_of
 covered_of-suc rs addr n apart =
     sum_by-plus (λ r. overlap r addr n) (λ r. cond (covers r (addr + n)) 1 0) (λ r. overlap r addr (suc n)) rs (λ r. overlap-suc r addr n)
@@ -96,7 +99,8 @@ covered_of-le rs addr (suc n) apart =
     omega (arith, step, rest, one)
 
 -- and all of them exactly where all are mapped
-pub covered_of-all : (rs : List Region) (addr n : ℕ) → AllPairs IsApart rs → eqb (covered_of rs addr n) n ≡ all_mapped rs addr n
+pub covered_of-all : (rs : List Region) (addr n : ℕ) → AllPairs IsApart rs
+    → eqb (covered_of rs addr n) n ≡ all_mapped rs addr n
 unfolding everywhere
 covered_of-all rs addr zero apart = eq-eqb (covered_of rs addr 0) 0 (covered_of-zero rs addr)
 covered_of-all rs addr (suc n) apart =

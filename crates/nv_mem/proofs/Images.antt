@@ -41,7 +41,8 @@ host_of-uncovered (r ∷ rs) addr none =
     [ true ↦ λ e. cc | false ↦ λ e. host_of-uncovered rs addr e ]) none
 
 -- the address is in a region, and the later ones are apart from it
-pub covers-shift : (r : Region) (addr i : ℕ) → covers r addr ≡ true → i < r.len - (addr - r.guest) → covers r (addr + i) ≡ true
+pub covers-shift : (r : Region) (addr i : ℕ) → covers r addr ≡ true → i < r.len - (addr - r.guest)
+    → covers r (addr + i) ≡ true
 covers-shift r addr i covered below = grind (arith, nat_tests)
 
 -- an address of a region is in none that is apart from it
@@ -51,19 +52,24 @@ covers-apart s r addr apart covered =
     [ true ↦ λ is. let e = apart.guest addr is in cc | false ↦ λ is. refl ]) refl
 
 -- the first region decides an address that it covers
-pub host_of-covered : (r : Region) (rs : List Region) (addr : ℕ) → covers r addr ≡ true → host_of (r ∷ rs) addr ≡ Some (r.host + (addr - r.guest))
+pub host_of-covered : (r : Region) (rs : List Region) (addr : ℕ) → covers r addr ≡ true
+    → host_of (r ∷ rs) addr ≡ Some (r.host + (addr - r.guest))
 host_of-covered r rs addr covered = rw covered
 
 -- and the later ones any other
-pub host_of-other : (r : Region) (rs : List Region) (addr : ℕ) → covers r addr ≡ false → host_of (r ∷ rs) addr ≡ host_of rs addr
+pub host_of-other : (r : Region) (rs : List Region) (addr : ℕ) → covers r addr ≡ false
+    → host_of (r ∷ rs) addr ≡ host_of rs addr
 host_of-other r rs addr uncovered = rw uncovered
 
 -- a region that covers two addresses keeps their distance
-pub offset_more : (r : Region) (addr i : ℕ) → covers r addr ≡ true → r.host + (addr + i - r.guest) ≡ r.host + (addr - r.guest) + i
+pub offset_more : (r : Region) (addr i : ℕ) → covers r addr ≡ true
+    → r.host + (addr + i - r.guest) ≡ r.host + (addr - r.guest) + i
 offset_more r addr i covered = grind (arith, nat_tests)
 
 -- from a covered address to the end of its region the map is one run
-pub host_of-front : (rs : List Region) (r : Region) (addr i : ℕ) → AllPairs IsApart rs → find (λ s. covers s addr) rs ≡ Some r → i < r.len - (addr - r.guest) → host_of rs (addr + i) ≡ Some (r.host + (addr - r.guest) + i)
+pub host_of-front : (rs : List Region) (r : Region) (addr i : ℕ) → AllPairs IsApart rs
+    → find (λ s. covers s addr) rs ≡ Some r → i < r.len - (addr - r.guest)
+    → host_of rs (addr + i) ≡ Some (r.host + (addr - r.guest) + i)
 host_of-front [] r addr i apart found below = cc
 host_of-front (s ∷ rs) r addr i apart found below =
     (elim (covers s addr) as (λ b. covers s addr ≡ b → cond b (Some s) (find (λ q. covers q addr) rs) ≡ Some r → host_of (s ∷ rs) (addr + i) ≡ Some (r.host + (addr - r.guest) + i)) [
@@ -80,14 +86,16 @@ host_of-front (s ∷ rs) r addr i apart found below =
     ]) refl found
 
 -- a mapped address is in some region, and lies as far in the host's part as in the guest's
-pub host_of-found : (rs : List Region) (addr host : ℕ) → host_of rs addr ≡ Some host → (r : Region) × (find (λ s. covers s addr) rs ≡ Some r) × (r.host + (addr - r.guest) ≡ host)
+pub host_of-found : (rs : List Region) (addr host : ℕ) → host_of rs addr ≡ Some host
+    → (r : Region) × (find (λ s. covers s addr) rs ≡ Some r) × (r.host + (addr - r.guest) ≡ host)
 host_of-found [] addr host is = cc
 host_of-found (s ∷ rs) addr host is =
     (elim (covers s addr) as (λ b. cond b (Some (s.host + (addr - s.guest))) (host_of rs addr) ≡ Some host → (r : Region) × (cond b (Some s) (find (λ q. covers q addr) rs) ≡ Some r) × (r.host + (addr - r.guest) ≡ host))
     [ true ↦ λ e. (s, refl, cc) | false ↦ λ e. host_of-found rs addr host e ]) is
 
 -- a mapped address lies inside the host
-pub host_of-inside : (host_len : ℕ) (rs : List Region) (addr host : ℕ) → All (IsInside host_len) rs → host_of rs addr ≡ Some host → host < host_len
+pub host_of-inside : (host_len : ℕ) (rs : List Region) (addr host : ℕ) → All (IsInside host_len) rs
+    → host_of rs addr ≡ Some host → host < host_len
 host_of-inside host_len rs addr host inside is =
     let found = host_of-found rs addr host is in
     let r : Region = found.0 in
@@ -98,7 +106,8 @@ host_of-inside host_len rs addr host inside is =
     grind (arith, nat_tests)
 
 -- and below 2 to the 64
-pub host_of-high : (host_len : ℕ) (rs : List Region) (addr : ℕ) → All (IsInside host_len) rs → 2 ^ 64 ≤ addr → host_of rs addr ≡ None
+pub host_of-high : (host_len : ℕ) (rs : List Region) (addr : ℕ) → All (IsInside host_len) rs → 2 ^ 64 ≤ addr
+    → host_of rs addr ≡ None
 host_of-high host_len [] addr inside high = refl
 host_of-high host_len (r ∷ rs) addr inside high =
     let within : IsInside host_len r = All-head (IsInside host_len) r rs inside in
@@ -109,18 +118,22 @@ host_of-high host_len (r ∷ rs) addr inside high =
 -- ---- runs
 
 -- the run from a covered address to the end of its region
-pub IsContiguous-front : (rs : List Region) (r : Region) (addr : ℕ) → AllPairs IsApart rs → find (λ s. covers s addr) rs ≡ Some r → IsContiguous rs addr (r.host + (addr - r.guest)) (r.len - (addr - r.guest))
+pub IsContiguous-front : (rs : List Region) (r : Region) (addr : ℕ) → AllPairs IsApart rs
+    → find (λ s. covers s addr) rs ≡ Some r
+    → IsContiguous rs addr (r.host + (addr - r.guest)) (r.len - (addr - r.guest))
 IsContiguous-front rs r addr apart found =
     let covered : covers r addr ≡ true = find-passes (λ s. covers s addr) rs r found in
     record { nonempty = grind (arith, nat_tests); contiguous = λ i below. host_of-front rs r addr i apart found below }
 
 -- a front of a run is a run
-pub IsContiguous-take : (rs : List Region) (addr host n k : ℕ) → IsContiguous rs addr host n → 0 < k → k ≤ n → IsContiguous rs addr host k
+pub IsContiguous-take : (rs : List Region) (addr host n k : ℕ) → IsContiguous rs addr host n → 0 < k → k ≤ n
+    → IsContiguous rs addr host k
 IsContiguous-take rs addr host n k run some within =
     record { nonempty = some; contiguous = λ i below. run.contiguous i (omega arith) }
 
 -- a run and the front of another that goes on where it ends
-pub IsContiguous-append : (rs : List Region) (addr host n m k : ℕ) → IsContiguous rs addr host n → IsContiguous rs (addr + n) (host + n) m → k ≤ m → IsContiguous rs addr host (n + k)
+pub IsContiguous-append : (rs : List Region) (addr host n m k : ℕ) → IsContiguous rs addr host n
+    → IsContiguous rs (addr + n) (host + n) m → k ≤ m → IsContiguous rs addr host (n + k)
 IsContiguous-append rs addr host n m k run next within = record {
   nonempty = let some = run.nonempty in omega arith;
   contiguous = λ i below.
@@ -135,25 +148,29 @@ IsContiguous-append rs addr host n m k run next within = record {
 }
 
 -- a run ends inside the host
-pub IsContiguous-inside : (host_len : ℕ) (rs : List Region) (addr host n : ℕ) → All (IsInside host_len) rs → IsContiguous rs addr host n → host + n ≤ host_len
+pub IsContiguous-inside : (host_len : ℕ) (rs : List Region) (addr host n : ℕ) → All (IsInside host_len) rs
+    → IsContiguous rs addr host n → host + n ≤ host_len
 IsContiguous-inside host_len rs addr host n inside run =
     let some : 0 < n = run.nonempty in
     let last = host_of-inside host_len rs (addr + (n - 1)) (host + (n - 1)) inside (run.contiguous (n - 1) (omega arith)) in
     omega (arith, last)
 
 -- the region that is found for an address has it
-pub found-covers : (rs : List Region) (addr : ℕ) (r : Region) → find (λ s. covers s addr) rs ≡ Some r → (r.guest ≤ addr) × (addr - r.guest < r.len)
+pub found-covers : (rs : List Region) (addr : ℕ) (r : Region) → find (λ s. covers s addr) rs ≡ Some r
+    → (r.guest ≤ addr) × (addr - r.guest < r.len)
 found-covers rs addr r found =
     let covered : covers r addr ≡ true = find-passes (λ s. covers s addr) rs r found in
     (grind (arith, nat_tests), grind (arith, nat_tests))
 
 -- and ends inside the host
-pub found-inside : (host_len : ℕ) (rs : List Region) (addr : ℕ) (r : Region) → All (IsInside host_len) rs → find (λ s. covers s addr) rs ≡ Some r → r.host + r.len ≤ host_len
+pub found-inside : (host_len : ℕ) (rs : List Region) (addr : ℕ) (r : Region) → All (IsInside host_len) rs
+    → find (λ s. covers s addr) rs ≡ Some r → r.host + r.len ≤ host_len
 found-inside host_len rs addr r inside found =
     let within : IsInside host_len r = All-find (IsInside host_len) (λ s. covers s addr) rs r inside found in within.host
 
 -- the longest run is one
-pub IsLongestRun-one : (rs : List Region) (addr len h n k m : ℕ) → IsLongestRun rs addr len h n → IsLongestRun rs addr len k m → (h ≡ k) × (n ≡ m)
+pub IsLongestRun-one : (rs : List Region) (addr len h n k m : ℕ) → IsLongestRun rs addr len h n
+    → IsLongestRun rs addr len k m → (h ≡ k) × (n ≡ m)
 IsLongestRun-one rs addr len h n k m one other =
     let at_h : host_of rs (addr + 0) ≡ Some (h + 0) = one.run.contiguous 0 one.run.nonempty in
     let at_k : host_of rs (addr + 0) ≡ Some (k + 0) = other.run.contiguous 0 other.run.nonempty in

@@ -5,5 +5,6 @@ use Rattle.nv_mem.specs.declared.region.Region.{Region}
 use Rattle.nv_mem.specs.GuestMap.{regions_meet, any_two_meet}
 
 -- the step of the search for two that meet
-pub any_two_meet_drop : (rs : List Region) (i : ℕ) (d : Region) → i < length rs → any_two_meet (drop i rs) ≡ (list_any (regions_meet (get_or rs i d)) (drop (i + 1) rs) || any_two_meet (drop (i + 1) rs))
+pub any_two_meet_drop : (rs : List Region) (i : ℕ) (d : Region) → i < length rs
+    → any_two_meet (drop i rs) ≡ (list_any (regions_meet (get_or rs i d)) (drop (i + 1) rs) || any_two_meet (drop (i + 1) rs))
 any_two_meet_drop rs i d below = rw (add-one, drop-cons rs i d)

@@ -19,7 +19,8 @@ IsPaged-tested r passed = record { guest = grind (arith, nat_tests); host = grin
 
 -- and the other way round
 pub is_paged-true : (r : Region) → IsPaged r → is_paged r ≡ true
-is_paged-true r paged = let g = paged.guest in let h = paged.host in let l = paged.len in let n = paged.nonempty in grind (arith, nat_tests)
+is_paged-true r paged =
+    let g = paged.guest in let h = paged.host in let l = paged.len in let n = paged.nonempty in grind (arith, nat_tests)
 
 -- a region that passes the test is inside
 pub IsInside-tested : (host_len : ℕ) (r : Region) → is_inside host_len r ≡ true → IsInside host_len r
@@ -36,7 +37,8 @@ pub IsApart-tested : (r s : Region) → regions_meet r s ≡ false → IsApart r
 IsApart-tested r s clear = record { guest = λ addr covered. grind (arith, nat_tests); host = λ host covered. grind (arith, nat_tests) }
 
 -- spans that meet have their later start in common
-spans_meet-at : (a m b n : ℕ) → spans_meet a m b n ≡ true → (a ≤ max a b) × (max a b < a + m) × (b ≤ max a b) × (max a b < b + n)
+spans_meet-at : (a m b n : ℕ) → spans_meet a m b n ≡ true
+    → (a ≤ max a b) × (max a b < a + m) × (b ≤ max a b) × (max a b < b + n)
 spans_meet-at a m b n meet = (omega arith, grind (arith, nat_tests), omega arith, grind (arith, nat_tests))
 
 -- an address between the ends of a region is in it
@@ -107,19 +109,24 @@ any_two_meet-apart (r ∷ rs) apart =
 -- ---- the verdict
 
 -- the three tests, where none of the three refusals applies
-verdict-None : (paged meet inside : Bool) → cond (not paged) (Some Unaligned) (cond meet (Some Overlap) (cond (not inside) (Some OutsideHost) None)) ≡ None → (paged ≡ true) × (meet ≡ false) × (inside ≡ true)
+verdict-None : (paged meet inside : Bool)
+    → cond (not paged) (Some Unaligned) (cond meet (Some Overlap) (cond (not inside) (Some OutsideHost) None)) ≡ None
+    → (paged ≡ true) × (meet ≡ false) × (inside ≡ true)
 verdict-None true false true none = (refl, refl, refl)
 verdict-None true false false none = cc
 verdict-None true true inside none = cc
 verdict-None false meet inside none = cc
 
 -- the three tests of a list that is not refused
-pub refusal_of-None : (host_len : ℕ) (rs : List Region) → refusal_of host_len rs ≡ None → (list_all is_paged rs ≡ true) × (any_two_meet rs ≡ false) × (list_all (is_inside host_len) rs ≡ true)
+pub refusal_of-None : (host_len : ℕ) (rs : List Region) → refusal_of host_len rs ≡ None
+    → (list_all is_paged rs ≡ true) × (any_two_meet rs ≡ false) × (list_all (is_inside host_len) rs ≡ true)
 unfolding refusal_of
-refusal_of-None host_len rs none = verdict-None (list_all is_paged rs) (any_two_meet rs) (list_all (is_inside host_len) rs) none
+refusal_of-None host_len rs none =
+    verdict-None (list_all is_paged rs) (any_two_meet rs) (list_all (is_inside host_len) rs) none
 
 -- a list that is not refused is sound
-pub IsSound-tested : (host_len : ℕ) (rs : List Region) → refusal_of host_len rs ≡ None → IsSound (record { host_len = host_len; regions = rs })
+pub IsSound-tested : (host_len : ℕ) (rs : List Region) → refusal_of host_len rs ≡ None
+    → IsSound (record { host_len = host_len; regions = rs })
 IsSound-tested host_len rs none =
     let tests = refusal_of-None host_len rs none in
     record {

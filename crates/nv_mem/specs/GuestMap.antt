@@ -1,6 +1,7 @@
 -- What a guest's memory map means. Guest memory maps are no part of NVM Express: they are the hypervisor's, so all of this file is profile.
 use Rattle.std.specs.Prelude.{◌≡◌, ◌≢◌, ℕ, zero, suc, ◌+◌, ◌-◌, ◌%◌, ◌^◌, ◌<◌, ◌≤◌, Bool, true, false, not, ◌&&◌, ◌||◌, ◌==◌, nat_le, nat_lt, min, max, if◌then◌else◌, IsTrue, Option, Some, None, is_some, List, [], ◌∷◌, All, AllPairs, sum_by}
 use Rattle.std.specs.List.{list_all, list_any}
+use Rattle.nv_mem.specs.Page.{page_size}
 use Rattle.nv_mem.specs.declared.region.Region.{Region}
 use Rattle.nv_mem.specs.declared.map_error.MapError.{MapError}
 use Rattle.nv_mem.specs.declared.map_error.MapError.TheVariants.{Unaligned, Overlap, OutsideHost}
@@ -72,11 +73,11 @@ InImage rs host = (addr : ℕ) × (host_of rs addr ≡ Some host)
 
 -- ---- which lists of regions are a map
 
--- the region is made of whole pages of 4,096 bytes, at least one
+-- the region is made of whole pages, at least one
 pub record IsPaged (r : Region) : Type 0 where
-  pub guest : r.guest % 4096 ≡ 0
-  pub host : r.host % 4096 ≡ 0
-  pub len : r.len % 4096 ≡ 0
+  pub guest : r.guest % page_size ≡ 0
+  pub host : r.host % page_size ≡ 0
+  pub len : r.len % page_size ≡ 0
   pub nonempty : 0 < r.len
 
 -- the regions share no guest address and no host address
@@ -99,7 +100,7 @@ pub record IsSound (m : Mapping) : Type 0 where
 
 -- whether the region is made of whole pages, at least one
 abbrev pub is_paged : Region → Bool
-is_paged r = r.guest % 4096 == 0 && r.host % 4096 == 0 && r.len % 4096 == 0 && nat_lt 0 r.len
+is_paged r = r.guest % page_size == 0 && r.host % page_size == 0 && r.len % page_size == 0 && nat_lt 0 r.len
 
 -- whether `m` addresses from `a` on and `n` from `b` on have one in common: the later start is before the earlier end
 abbrev pub spans_meet : ℕ → ℕ → ℕ → ℕ → Bool

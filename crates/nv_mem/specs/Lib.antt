@@ -1,3 +1,4 @@
 pub mod Bytes
 pub mod GuestMap
+pub mod Page
 pub mod Places

@@ -1,3 +1,5 @@
+//! Bytes as a value of their own, for the acts and replies of the crates above.
+
 ghost use Rattle.std.specs.Prelude.{◌≡◌};
 
 use std::marker::Model;

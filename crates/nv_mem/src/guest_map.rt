@@ -1,3 +1,5 @@
+//! A guest's memory map: which lists of regions are one, and what it answers about addresses.
+
 ghost use Rattle.std.specs.Prelude.{◌≡◌, ◌≢◌, ℕ, ◌+◌, ◌<◌, ◌≤◌, ◌↔◌, IsTrue, IfOk, IfSome, MatchOption};
 ghost use Rattle.std.specs.Result.{result_err};
 

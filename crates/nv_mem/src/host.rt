@@ -1,3 +1,5 @@
+//! The host's memory, read and written in ranges.
+
 ghost use Rattle.std.specs.Prelude.{◌≡◌, ℕ, List, [], length, replicate, ◌↔◌, IfOk, IsTrue};
 ghost use Rattle.nv_mem.specs.Bytes.{InMemory, bytes_at, after_store};
 

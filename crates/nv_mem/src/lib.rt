@@ -25,7 +25,7 @@ pub use map_error::MapError;
 pub use no_memory::NoMemory;
 pub use piece::Piece;
 pub use places::Places;
-pub use region::Region;
+pub use region::{PAGE_SIZE, Region};
 
 mod bytes;
 pub mod guest_map;

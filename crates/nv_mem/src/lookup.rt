@@ -1,4 +1,4 @@
-// What a list of regions has of an address or a range of addresses.
+//! What a list of regions has of an address or a range of addresses.
 ghost use Rattle.std.specs.Prelude.{◌≡◌, ◌≤◌};
 ghost use Rattle.std.specs.List.{find, list_any};
 ghost use Rattle.nv_mem.specs.GuestMap.{covered_of, covers, hosts_meet, span_met};

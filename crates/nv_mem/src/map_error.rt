@@ -1,3 +1,5 @@
+//! Why a list of regions is refused.
+
 use thiserror::Error;
 
 /// Why a list of regions is no map, lowest number first.

@@ -1,3 +1,5 @@
+//! The one answer to a refused growth, and what turns into it.
+
 ghost use Rattle.std.specs.Prelude.{◌≡◌};
 
 use std::alloc::{AllocError, AllocFailed};

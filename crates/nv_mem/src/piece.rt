@@ -1,3 +1,5 @@
+//! One piece of a list of places.
+
 /// Part of a list of places, as the guest's list named it.
 #[derive(Clone, Copy, Debug, PartialEq, Eq)]
 pub enum Piece {

@@ -1,3 +1,5 @@
+//! Lists of places, made piece by piece.
+
 ghost use Rattle.std.specs.Prelude.{◌≡◌, List, [], ◌∷◌, ◌++◌, IfOk, OnOk, OnErr};
 
 use crate::no_memory::NoMemory;

@@ -1,4 +1,4 @@
-// Why a list of regions is refused as a map.
+//! Why a list of regions is refused as a map.
 ghost use Rattle.std.specs.Prelude.{◌≡◌};
 ghost use Rattle.std.specs.List.{list_all, list_any};
 ghost use Rattle.nv_mem.specs.GuestMap.{any_two_meet, is_inside, is_paged, refusal_of, regions_meet};

@@ -1,5 +1,10 @@
+//! One region of a memory map, and the size of the pages that it is made of.
+
 ghost use Rattle.std.specs.Prelude.{◌≡◌};
 ghost use Rattle.nv_mem.specs.GuestMap.{spans_meet};
+
+/// How many bytes a memory page has.
+pub const PAGE_SIZE: u64 = 4096;
 
 /// `len` bytes of a guest's memory, from guest address `guest` on, that lie in the host's memory
 /// from host address `host` on.
@@ -16,11 +21,14 @@ pub struct Region {
 impl Region {
     ghost use Rattle.nv_mem.specs.GuestMap.{covers, overlap, is_paged, is_inside, regions_meet};
 
-    /// Whether both addresses and the length are multiples of 4,096, and the length is not 0.
+    /// Whether both addresses and the length are multiples of [`PAGE_SIZE`], and the length is not 0.
     pub(crate) fn is_paged(&self) -> bool
         ensures { result ≡ is_paged self.now }
     {
-        self.guest % 4096 == 0 && self.host % 4096 == 0 && self.len % 4096 == 0 && 0 < self.len
+        self.guest % PAGE_SIZE == 0
+            && self.host % PAGE_SIZE == 0
+            && self.len % PAGE_SIZE == 0
+            && 0 < self.len
     }
 
     /// Whether the region lies in a host of `host_len` bytes and in the 64 bits of a guest's

@@ -46,7 +46,8 @@ new_size size fine =
     let high : nat_le (size + 1) 1024 ≡ true = le-leb (size + 1) 1024 (omega arith) in
     rw (low, high) refl
 
-new_queue_checks-size : (there : Bool) (entry : List ℕ) (others : List (Bool × StatusCode)) → first_failing (new_queue_checks there entry ++ others) ≡ None
+new_queue_checks-size : (there : Bool) (entry : List ℕ) (others : List (Bool × StatusCode))
+    → first_failing (new_queue_checks there entry ++ others) ≡ None
     → (size_fits (qsize entry + 1) ≡ true) × (first_failing others ≡ None)
 new_queue_checks-size there entry others fine =
     let third : List (Bool × StatusCode) = (contiguous entry == 0, code.InvalidField) ∷ others in
@@ -55,13 +56,16 @@ new_queue_checks-size there entry others fine =
     let last = first_failing-none (qsize entry == 0 || nat_lt most_slots (qsize entry + 1)) code.InvalidQueueSize third behind in
     (new_size (qsize entry) last.0, (first_failing-none (contiguous entry == 0) code.InvalidField others last.1).1)
 
-place_checks-mapped : (mapped : ℕ → Bool) (slot : ℕ) (entry : List ℕ) → first_failing (place_checks mapped slot entry) ≡ None → everywhere mapped (prp1_of entry) (slot * (qsize entry + 1)) ≡ true
+place_checks-mapped : (mapped : ℕ → Bool) (slot : ℕ) (entry : List ℕ)
+    → first_failing (place_checks mapped slot entry) ≡ None
+    → everywhere mapped (prp1_of entry) (slot * (qsize entry + 1)) ≡ true
 place_checks-mapped mapped slot entry fine =
     let second : List (Bool × StatusCode) = (not (everywhere mapped (prp1_of entry) (slot * (qsize entry + 1))), code.DataTransferError) ∷ [] in
     let behind = (first_failing-none (not (prp1_of entry % 4096 == 0)) code.PrpOffsetInvalid second fine).1 in
     not-false _ (first_failing-none (not (everywhere mapped (prp1_of entry) (slot * (qsize entry + 1)))) code.DataTransferError [] behind).0
 
-completes_to_checks-none : (c : Controller) (entry : List ℕ) (others : List (Bool × StatusCode)) → first_failing (completes_to_checks c entry ++ others) ≡ None → first_failing others ≡ None
+completes_to_checks-none : (c : Controller) (entry : List ℕ) (others : List (Bool × StatusCode))
+    → first_failing (completes_to_checks c entry ++ others) ≡ None → first_failing others ≡ None
 completes_to_checks-none c entry others fine =
     let second : List (Bool × StatusCode) = (is_none (completion_queue c (completion_id entry)), code.CompletionQueueInvalid) ∷ others in
     let behind = (first_failing-none (completion_id entry == 0 || nat_lt last_queue (completion_id entry)) code.InvalidQueueIdentifier second fine).1 in
@@ -71,11 +75,13 @@ module _ (mapped : ℕ → Bool) (P : SubmissionQueue → Type 0) (Q : Completio
   -- ---- admin commands
 
   -- refused, or done
-  checked-kept : (o : Option StatusCode) (c : Controller) (memory : ℕ → ℕ) (done : AdminEffect) → QueuesHave P Q c → (o ≡ None → DoneHas P Q done) → DoneHas P Q (checked o c memory done)
+  checked-kept : (o : Option StatusCode) (c : Controller) (memory : ℕ → ℕ) (done : AdminEffect) → QueuesHave P Q c
+      → (o ≡ None → DoneHas P Q done) → DoneHas P Q (checked o c memory done)
   checked-kept None c memory done order goes = goes refl
   checked-kept (Some why) c memory done order goes = order
 
-  create_submission-kept : (entry : List ℕ) (c : Controller) (memory : ℕ → ℕ) → QueuesHave P Q c → DoneHas P Q (create_submission mapped entry c memory)
+  create_submission-kept : (entry : List ℕ) (c : Controller) (memory : ℕ → ℕ) → QueuesHave P Q c
+      → DoneHas P Q (create_submission mapped entry c memory)
   create_submission-kept entry c memory order =
       checked-kept _ c memory _ order (λ fine.
       let size = new_queue_checks-size (is_some (submission_queue c (qid entry))) entry (completes_to_checks c entry ++ place_checks mapped sqe_size entry) fine in
@@ -83,7 +89,8 @@ module _ (mapped : ℕ → Bool) (P : SubmissionQueue → Type 0) (Q : Completio
       QueuesHave-with_submission mapped P Q closed c (qid entry) (Some (new_submission (prp1_of entry) (qsize entry + 1) (completion_id entry))) order
       (closed.new_submission (prp1_of entry) (qsize entry + 1) (completion_id entry) size.0 there))
 
-  create_completion-kept : (entry : List ℕ) (c : Controller) (memory : ℕ → ℕ) → QueuesHave P Q c → DoneHas P Q (create_completion mapped entry c memory)
+  create_completion-kept : (entry : List ℕ) (c : Controller) (memory : ℕ → ℕ) → QueuesHave P Q c
+      → DoneHas P Q (create_completion mapped entry c memory)
   create_completion-kept entry c memory order =
       checked-kept _ c memory _ order (λ fine.
       let size = new_queue_checks-size (is_some (completion_queue c (qid entry))) entry (place_checks mapped cqe_size entry) fine in
@@ -91,11 +98,13 @@ module _ (mapped : ℕ → Bool) (P : SubmissionQueue → Type 0) (Q : Completio
       QueuesHave-with_completion mapped P Q closed c (qid entry) (Some (new_completion (prp1_of entry) (qsize entry + 1))) order
       (closed.new_completion (prp1_of entry) (qsize entry + 1) size.0 there))
 
-  delete_completion-kept : (entry : List ℕ) (c : Controller) (memory : ℕ → ℕ) → QueuesHave P Q c → DoneHas P Q (delete_completion entry c memory)
+  delete_completion-kept : (entry : List ℕ) (c : Controller) (memory : ℕ → ℕ) → QueuesHave P Q c
+      → DoneHas P Q (delete_completion entry c memory)
   delete_completion-kept entry c memory order =
       checked-kept _ c memory _ order (λ fine. QueuesHave-with_completion mapped P Q closed c (qid entry) None order tt)
 
-  delete_found-kept : (found : Option SubmissionQueue) (entry : List ℕ) (c : Controller) (memory : ℕ → ℕ) → QueuesHave P Q c → submission_queue c (qid entry) ≡ found → DoneHas P Q (delete_found found entry c memory)
+  delete_found-kept : (found : Option SubmissionQueue) (entry : List ℕ) (c : Controller) (memory : ℕ → ℕ)
+      → QueuesHave P Q c → submission_queue c (qid entry) ≡ found → DoneHas P Q (delete_found found entry c memory)
   delete_found-kept None entry c memory order is = order
   delete_found-kept (Some q) entry c memory order is =
       by_test (DoneHas P Q) (slice_index c.taken (qid entry) == 0) _ _
@@ -103,20 +112,25 @@ module _ (mapped : ℕ → Bool) (P : SubmissionQueue → Type 0) (Q : Completio
       (λ _. QueuesHave-same mapped P Q closed (with_submission c (qid entry) (Some (record q { closing = true }))) _
       (QueuesHave-with_submission mapped P Q closed c (qid entry) (Some (record q { closing = true })) order (closed.closing q (submission_queue-has mapped P Q closed c (qid entry) q order is))) refl refl)
 
-  delete_submission-kept : (entry : List ℕ) (c : Controller) (memory : ℕ → ℕ) → QueuesHave P Q c → DoneHas P Q (delete_submission entry c memory)
+  delete_submission-kept : (entry : List ℕ) (c : Controller) (memory : ℕ → ℕ) → QueuesHave P Q c
+      → DoneHas P Q (delete_submission entry c memory)
   delete_submission-kept entry c memory order =
       by_test (DoneHas P Q) (qid entry == 0) _ _ (λ _. order) (λ _. delete_found-kept (submission_queue c (qid entry)) entry c memory order refl)
 
-  identified-kept : (bytes : List ℕ) (reading : Reading) (c : Controller) (memory : ℕ → ℕ) → QueuesHave P Q c → DoneHas P Q (identified bytes reading c memory)
+  identified-kept : (bytes : List ℕ) (reading : Reading) (c : Controller) (memory : ℕ → ℕ) → QueuesHave P Q c
+      → DoneHas P Q (identified bytes reading c memory)
   identified-kept bytes (Spells pieces) c memory order = order
   identified-kept bytes (Faulty why) c memory order = order
   identified-kept bytes TooLong c memory order = order
 
-  identify_by-kept : (what : Shown) (entry : List ℕ) (c : Controller) (memory : ℕ → ℕ) → QueuesHave P Q c → DoneHas P Q (identify_by what mapped entry c memory)
+  identify_by-kept : (what : Shown) (entry : List ℕ) (c : Controller) (memory : ℕ → ℕ) → QueuesHave P Q c
+      → DoneHas P Q (identify_by what mapped entry c memory)
   identify_by-kept (Hidden why) entry c memory order = order
-  identify_by-kept (Structure bytes) entry c memory order = identified-kept bytes (identify_reading mapped entry) c memory order
+  identify_by-kept (Structure bytes) entry c memory order =
+      identified-kept bytes (identify_reading mapped entry) c memory order
 
-  done_by-kept : (opcode : AdminOpcode) (blocks : ℕ) (entry : List ℕ) (c : Controller) (memory : ℕ → ℕ) → QueuesHave P Q c → DoneHas P Q (done_by opcode mapped blocks entry c memory)
+  done_by-kept : (opcode : AdminOpcode) (blocks : ℕ) (entry : List ℕ) (c : Controller) (memory : ℕ → ℕ)
+      → QueuesHave P Q c → DoneHas P Q (done_by opcode mapped blocks entry c memory)
   done_by-kept DeleteIoSubmissionQueue blocks entry c memory order = delete_submission-kept entry c memory order
   done_by-kept CreateIoSubmissionQueue blocks entry c memory order = create_submission-kept entry c memory order
   done_by-kept GetLogPage blocks entry c memory order = order
@@ -125,52 +139,62 @@ module _ (mapped : ℕ → Bool) (P : SubmissionQueue → Type 0) (Q : Completio
   done_by-kept Identify blocks entry c memory order = identify_by-kept (shown blocks entry) entry c memory order
   done_by-kept Abort blocks entry c memory order = order
   done_by-kept SetFeatures blocks entry c memory order = checked-kept _ c memory _ order (λ fine. order)
-  done_by-kept GetFeatures blocks entry c memory order = by_test (DoneHas P Q) (selector entry == number_of_queues) _ _ (λ _. order) (λ _. order)
+  done_by-kept GetFeatures blocks entry c memory order =
+      by_test (DoneHas P Q) (selector entry == number_of_queues) _ _ (λ _. order) (λ _. order)
   done_by-kept AsynchronousEventRequest blocks entry c memory order =
       by_test (DoneHas P Q) (nat_lt c.held_requests most_requests) _ _ (λ _. QueuesHave-same mapped P Q closed c _ order refl refl) (λ _. order)
 
-  done_with_opcode-kept : (opcode : Option AdminOpcode) (blocks : ℕ) (entry : List ℕ) (c : Controller) (memory : ℕ → ℕ) → QueuesHave P Q c → DoneHas P Q (done_with_opcode opcode mapped blocks entry c memory)
+  done_with_opcode-kept : (opcode : Option AdminOpcode) (blocks : ℕ) (entry : List ℕ) (c : Controller) (memory : ℕ → ℕ)
+      → QueuesHave P Q c → DoneHas P Q (done_with_opcode opcode mapped blocks entry c memory)
   done_with_opcode-kept None blocks entry c memory order = order
   done_with_opcode-kept (Some opcode) blocks entry c memory order =
       by_test (DoneHas P Q) (psdt_of entry == 0) _ _ (λ _. done_by-kept opcode blocks entry c memory order) (λ _. order)
 
-  admin_command-kept : (blocks : ℕ) (entry : List ℕ) (c : Controller) (memory : ℕ → ℕ) → QueuesHave P Q c → DoneHas P Q (admin_command mapped blocks entry c memory)
+  admin_command-kept : (blocks : ℕ) (entry : List ℕ) (c : Controller) (memory : ℕ → ℕ) → QueuesHave P Q c
+      → DoneHas P Q (admin_command mapped blocks entry c memory)
   unfolding admin_command
   admin_command-kept blocks entry c memory order =
       by_test (DoneHas P Q) (fuse_of entry == 0) _ _ (λ _. done_with_opcode-kept (admin_opcode (opcode_of entry)) blocks entry c memory order) (λ _. order)
 
   -- ---- admin steps
 
-  with_completion_posted-kept : (o : Option Posted) (memory : ℕ → ℕ) → HaveBehind P Q o → AdminHas P Q (with_completion_posted o memory)
+  with_completion_posted-kept : (o : Option Posted) (memory : ℕ → ℕ) → HaveBehind P Q o
+      → AdminHas P Q (with_completion_posted o memory)
   with_completion_posted-kept None memory order = tt
   with_completion_posted-kept (Some p) memory order = order
 
-  with_answer-kept : (answer : Option (ℕ × StatusField)) (cid : ℕ) (c : Controller) (memory : ℕ → ℕ) → QueuesHave P Q c → AdminHas P Q (with_answer answer cid c memory)
+  with_answer-kept : (answer : Option (ℕ × StatusField)) (cid : ℕ) (c : Controller) (memory : ℕ → ℕ) → QueuesHave P Q c
+      → AdminHas P Q (with_answer answer cid c memory)
   with_answer-kept None cid c memory order = order
-  with_answer-kept (Some answer) cid c memory order = with_completion_posted-kept (post c 0 answer.0 cid answer.1) memory (post-kept mapped P Q closed c 0 answer.0 cid answer.1 order)
+  with_answer-kept (Some answer) cid c memory order =
+      with_completion_posted-kept (post c 0 answer.0 cid answer.1) memory (post-kept mapped P Q closed c 0 answer.0 cid answer.1 order)
 
   stepped-kept : (done : AdminEffect) (cid : ℕ) → DoneHas P Q done → AdminHas P Q (stepped done cid)
   stepped-kept done cid order = with_answer-kept done.answer cid done.controller done.memory order
 
-  front_command-kept : (at : Option ℕ) (blocks : ℕ) (c : Controller) (memory : ℕ → ℕ) → QueuesHave P Q c → AdminHas P Q (front_command at mapped blocks c memory)
+  front_command-kept : (at : Option ℕ) (blocks : ℕ) (c : Controller) (memory : ℕ → ℕ) → QueuesHave P Q c
+      → AdminHas P Q (front_command at mapped blocks c memory)
   front_command-kept None blocks c memory order = tt
   front_command-kept (Some addr) blocks c memory order =
       by_test (AdminHas P Q) (is_queue_full (completion_queue c 0)) _ _ (λ _. tt)
       (λ _. stepped-kept (admin_command mapped blocks (bytes_from memory addr sqe_size) (took c 0) memory) (cid_of (bytes_from memory addr sqe_size))
       (admin_command-kept blocks (bytes_from memory addr sqe_size) (took c 0) memory (took-kept mapped P Q closed c 0 order)))
 
-  finish_deletion-kept : (d : Deletion) (c : Controller) (memory : ℕ → ℕ) → QueuesHave P Q c → AdminHas P Q (finish_deletion d c memory)
+  finish_deletion-kept : (d : Deletion) (c : Controller) (memory : ℕ → ℕ) → QueuesHave P Q c
+      → AdminHas P Q (finish_deletion d c memory)
   finish_deletion-kept d c memory order =
       by_test (AdminHas P Q) (not (slice_index c.taken d.queue == 0)) _ _ (λ _. tt) (λ _.
       by_test (AdminHas P Q) (is_queue_full (completion_queue c 0)) _ _ (λ _. tt) (λ _.
       stepped-kept (answered 0 (record (with_submission c d.queue None) { deletion = None }) memory) d.cid
       (QueuesHave-same mapped P Q closed (with_submission c d.queue None) _ (QueuesHave-with_submission mapped P Q closed c d.queue None order tt) refl refl)))
 
-  admin_ready-kept : (waiting : Option Deletion) (blocks : ℕ) (c : Controller) (memory : ℕ → ℕ) → QueuesHave P Q c → AdminHas P Q (admin_ready waiting mapped blocks c memory)
+  admin_ready-kept : (waiting : Option Deletion) (blocks : ℕ) (c : Controller) (memory : ℕ → ℕ) → QueuesHave P Q c
+      → AdminHas P Q (admin_ready waiting mapped blocks c memory)
   admin_ready-kept (Some d) blocks c memory order = finish_deletion-kept d c memory order
   admin_ready-kept None blocks c memory order = front_command-kept (front c 0) blocks c memory order
 
-  pub admin-kept : (blocks : ℕ) (c : Controller) (memory : ℕ → ℕ) → QueuesHave P Q c → AdminHas P Q (admin mapped blocks c memory)
+  pub admin-kept : (blocks : ℕ) (c : Controller) (memory : ℕ → ℕ) → QueuesHave P Q c
+      → AdminHas P Q (admin mapped blocks c memory)
   unfolding admin
   admin-kept blocks c memory order =
       by_test (AdminHas P Q) (is_ready c) _ _ (λ _. admin_ready-kept c.deletion blocks c memory order) (λ _. tt)

@@ -9,7 +9,8 @@ use Rattle.nv_model.specs.Private.{Shape}
 use Rattle.nv_model.specs.Laws.{AgreeAt, AgreeOn}
 
 -- memories that agree on the bytes give the same bytes
-pub bytes_from-agree : (memory other : ℕ → ℕ) (addr len : ℕ) → AgreeAt memory other (addr, len) → bytes_from memory addr len ≡ bytes_from other addr len
+pub bytes_from-agree : (memory other : ℕ → ℕ) (addr len : ℕ) → AgreeAt memory other (addr, len)
+    → bytes_from memory addr len ≡ bytes_from other addr len
 unfolding bytes_from
 bytes_from-agree memory other addr zero agree = refl
 bytes_from-agree memory other addr (suc len) agree =
@@ -20,7 +21,8 @@ bytes_from-agree memory other addr (suc len) agree =
     rw (first, rest) refl
 
 -- a dialogue ends in the same value
-pub in_memory-agree : {A : Type 0} (memory other : ℕ → ℕ) (d : Dialogue A) → AgreeOn memory other (asked memory d) → in_memory other d ≡ in_memory memory d
+pub in_memory-agree : {A : Type 0} (memory other : ℕ → ℕ) (d : Dialogue A) → AgreeOn memory other (asked memory d)
+    → in_memory other d ≡ in_memory memory d
 unfolding in_memory asked
 in_memory-agree memory other (End value) agree = refl
 in_memory-agree memory other (Ask addr unit left next) agree =
@@ -28,7 +30,8 @@ in_memory-agree memory other (Ask addr unit left next) agree =
     rw (← same) (in_memory-agree memory other (next (bytes_from memory addr unit)) (All-tail (AgreeAt memory other) (addr, unit) _ agree))
 
 -- and asks for the same
-pub asked-agree : {A : Type 0} (memory other : ℕ → ℕ) (d : Dialogue A) → AgreeOn memory other (asked memory d) → asked other d ≡ asked memory d
+pub asked-agree : {A : Type 0} (memory other : ℕ → ℕ) (d : Dialogue A) → AgreeOn memory other (asked memory d)
+    → asked other d ≡ asked memory d
 unfolding asked
 asked-agree memory other (End value) agree = refl
 asked-agree memory other (Ask addr unit left next) agree =
@@ -37,6 +40,7 @@ asked-agree memory other (Ask addr unit left next) agree =
 
 -- and so a command names the same bytes
 pub io_named-agree : (shape : Shape) (memory other : ℕ → ℕ) (entry : List ℕ)
-    → AgreeOn memory other (asked memory (judge shape.mapped shape.limit shape.blocks entry)) → io_named shape other entry ≡ io_named shape memory entry
+    → AgreeOn memory other (asked memory (judge shape.mapped shape.limit shape.blocks entry))
+    → io_named shape other entry ≡ io_named shape memory entry
 io_named-agree shape memory other entry agree =
     rw (asked-agree memory other (judge shape.mapped shape.limit shape.blocks entry) agree, in_memory-agree memory other (judge shape.mapped shape.limit shape.blocks entry) agree) refl

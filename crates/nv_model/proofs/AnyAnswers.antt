@@ -22,7 +22,8 @@ MayEndIn-has P (End end) value ends may = subst P may ends
 MayEndIn-has P (Ask addr unit left next) value ends may = MayEndIn-has P (next may.0) value (ends may.0) may.1.1
 
 -- where all that is asked for is mapped, so is each question
-pub MayAsk-mapped : {A : Type 0} (mapped : ℕ → Bool) (d : Dialogue A) (addr unit left : ℕ) → AsksIn mapped d → MayAsk d addr unit left
+pub MayAsk-mapped : {A : Type 0} (mapped : ℕ → Bool) (d : Dialogue A) (addr unit left : ℕ) → AsksIn mapped d
+    → MayAsk d addr unit left
     → IsMappedFrom mapped addr left × (unit ≤ left)
 MayAsk-mapped mapped (End end) addr unit left asks may = absurd may
 MayAsk-mapped mapped (Ask at count rest next) addr unit left asks (inl same) =
@@ -46,7 +47,8 @@ in_memory-may memory (Ask addr unit left next) =
     (bytes_from memory addr unit, (length-bytes_from memory addr unit, in_memory-may memory (next (bytes_from memory addr unit))))
 
 -- and what is asked for there may be asked for
-pub asked-may : {A : Type 0} (memory : ℕ → ℕ) (d : Dialogue A) → All (λ (s : ℕ × ℕ). (left : ℕ) × MayAsk d s.0 s.1 left) (asked memory d)
+pub asked-may : {A : Type 0} (memory : ℕ → ℕ) (d : Dialogue A)
+    → All (λ (s : ℕ × ℕ). (left : ℕ) × MayAsk d s.0 s.1 left) (asked memory d)
 unfolding asked
 asked-may memory (End end) = All-nil (λ (s : ℕ × ℕ). (left : ℕ) × MayAsk (End end) s.0 s.1 left)
 asked-may memory (Ask addr unit left next) =
@@ -89,7 +91,8 @@ settled-may (Ask addr unit left next) from [] reads value uses settled =
 
 -- what it wants may be asked for
 pub wanted-may : {A : Type 0} (d : Dialogue A) (from : ℕ) (buffer : List ℕ) (reads : List ReadDone) (at len : ℕ)
-    → UsesUp from (length buffer) d → in_transcript d buffer reads ≡ Wanted at len → (unit : ℕ) × ((left : ℕ) × ((len ≡ part left) × MayAsk d at unit left))
+    → UsesUp from (length buffer) d → in_transcript d buffer reads ≡ Wanted at len
+    → (unit : ℕ) × ((left : ℕ) × ((len ≡ part left) × MayAsk d at unit left))
 unfolding in_transcript
 wanted-may (End end) from buffer reads at len uses wanted = cc
 wanted-may (Ask addr unit left next) from (byte ∷ buffer) reads at len uses wanted =
@@ -135,7 +138,8 @@ LeadsOn-behind addr unit left next bytes behind many leads =
     }
 
 -- what is left of a part is fed
-pub fed-leads : {A : Type 0} (d : Dialogue A) (from : ℕ) (bytes : List ℕ) → UsesUp from (length bytes) d → LeadsOn d (fed d bytes)
+pub fed-leads : {A : Type 0} (d : Dialogue A) (from : ℕ) (bytes : List ℕ) → UsesUp from (length bytes) d
+    → LeadsOn d (fed d bytes)
 unfolding fed
 fed-leads (End end) from bytes uses = record { ends = λ value may. may; asks = λ addr unit left may. may; parts = tt }
 fed-leads (Ask addr unit left next) from [] uses =
@@ -147,10 +151,13 @@ fed-leads (Ask addr unit left next) from (byte ∷ bytes) uses =
     (fed-leads (next (take unit all)) (addr + unit) (drop unit all) behind.1)
 
 -- a new part is fed
-pub fed_part-leads : {A : Type 0} (d : Dialogue A) (bytes : List ℕ) → AsksInParts d → IsPartFor d bytes → LeadsOn d (fed d bytes)
+pub fed_part-leads : {A : Type 0} (d : Dialogue A) (bytes : List ℕ) → AsksInParts d → IsPartFor d bytes
+    → LeadsOn d (fed d bytes)
 unfolding fed
-fed_part-leads (End end) bytes uses whole = record { ends = λ value may. may; asks = λ addr unit left may. may; parts = tt }
-fed_part-leads (Ask addr unit left next) [] uses whole = record { ends = λ value may. may; asks = λ at count rest may. may; parts = uses }
+fed_part-leads (End end) bytes uses whole =
+    record { ends = λ value may. may; asks = λ addr unit left may. may; parts = tt }
+fed_part-leads (Ask addr unit left next) [] uses whole =
+    record { ends = λ value may. may; asks = λ at count rest may. may; parts = uses }
 fed_part-leads (Ask addr unit left next) (byte ∷ bytes) uses whole =
     let all : List ℕ = byte ∷ bytes in
     let behind = uses-next 0 0 addr unit left next all uses whole in
@@ -158,7 +165,8 @@ fed_part-leads (Ask addr unit left next) (byte ∷ bytes) uses whole =
     (fed-leads (next (take unit all)) (addr + unit) (drop unit all) behind.1)
 
 -- what is still wanted where it asks in a memory
-pub still_wanted-may : {A : Type 0} (memory : ℕ → ℕ) (d : Dialogue A) → All (λ (s : ℕ × ℕ). (unit : ℕ) × MayAsk d s.0 unit s.1) (still_wanted memory d)
+pub still_wanted-may : {A : Type 0} (memory : ℕ → ℕ) (d : Dialogue A)
+    → All (λ (s : ℕ × ℕ). (unit : ℕ) × MayAsk d s.0 unit s.1) (still_wanted memory d)
 unfolding still_wanted
 still_wanted-may memory (End end) = All-nil (λ (s : ℕ × ℕ). (unit : ℕ) × MayAsk (End end) s.0 unit s.1)
 still_wanted-may memory (Ask addr unit left next) =
@@ -172,6 +180,7 @@ still_wanted-may memory (Ask addr unit left next) =
 -- ---- the verdict
 
 -- what each verdict that goes says, whatever answers
-pub end-sound : (mapped : ℕ → Bool) (limit blocks : ℕ) (entry : List ℕ) (work : Work) → MayEndIn (judge mapped limit blocks entry) (Go work) → IsSoundWork mapped blocks entry work
+pub end-sound : (mapped : ℕ → Bool) (limit blocks : ℕ) (entry : List ℕ) (work : Work)
+    → MayEndIn (judge mapped limit blocks entry) (Go work) → IsSoundWork mapped blocks entry work
 end-sound mapped limit blocks entry work may =
     MayEndIn-has (IfGo (IsSoundWork mapped blocks entry)) (judge mapped limit blocks entry) (Go work) (judge-sound mapped limit blocks entry) may

@@ -14,7 +14,8 @@ pub put-here : (bag : Bag) (name : ℕ) (member : Option Taken) → put bag name
 put-here bag name member = rw (eq-eqb name name refl) refl
 
 -- under other names nothing has changed
-pub put-elsewhere : (bag : Bag) (name : ℕ) (member : Option Taken) (at : ℕ) → (at ≡ name → ⊥) → put bag name member at ≡ bag at
+pub put-elsewhere : (bag : Bag) (name : ℕ) (member : Option Taken) (at : ℕ) → (at ≡ name → ⊥)
+    → put bag name member at ≡ bag at
 put-elsewhere bag name member at other =
     (elim (at == name) as (λ b. (at == name) ≡ b → cond b member (bag at) ≡ bag at) [
       | true ↦ λ is. absurd (other (eqb-true at name is))
@@ -22,7 +23,8 @@ put-elsewhere bag name member at other =
     ]) refl
 
 -- what is put last under a name stays
-pub put-twice : (bag : Bag) (name : ℕ) (first last : Option Taken) → put (put bag name first) name last ≡ put bag name last
+pub put-twice : (bag : Bag) (name : ℕ) (first last : Option Taken)
+    → put (put bag name first) name last ≡ put bag name last
 put-twice bag name first last = fun_ext (λ at. twice (at == name) (bag at))
   where
     twice : (b : Bool) (before : Option Taken) → cond b last (cond b first before) ≡ cond b last before
@@ -62,7 +64,8 @@ others-first start n =
     rw same (others-absent start (range_with_len (start + 1) n) (range-absent start (start + 1) n (omega arith)))
 
 -- and its unit
-pub unit_left-first : (work : Work) (start n : ℕ) → unit_left work (range_with_len start (suc n)) start ≡ slice_get work.units start
+pub unit_left-first : (work : Work) (start n : ℕ)
+    → unit_left work (range_with_len start (suc n)) start ≡ slice_get work.units start
 unit_left-first work start n = let same : (start == start) ≡ true = eq-eqb start start refl in rw same refl
 
 -- no number stands among these twice
@@ -74,7 +77,8 @@ or-none : (a b : Bool) → (a || b) ≡ false → (a ≡ false) × (b ≡ false)
 or-none true b bad = cc
 or-none false b none = (refl, none)
 
-absent-others : (k number : ℕ) (left : List ℕ) → list_any (λ j. j == k) left ≡ false → list_any (λ j. j == k) (others number left) ≡ false
+absent-others : (k number : ℕ) (left : List ℕ) → list_any (λ j. j == k) left ≡ false
+    → list_any (λ j. j == k) (others number left) ≡ false
 absent-others k number [] absent = refl
 absent-others k number (j ∷ left) absent =
     (elim (j == number) as (λ gone. list_any (λ i. i == k) (cond (not gone) (j ∷ others number left) (others number left)) ≡ false) [
@@ -113,7 +117,8 @@ unfolding numbered
 numbered-none units = refl
 
 -- the units of all numbers are all units
-numbered-from : (units rest : List WorkUnit) (start : ℕ) → ((i : ℕ) → i < length rest → slice_get units (start + i) ≡ slice_get rest i)
+numbered-from : (units rest : List WorkUnit) (start : ℕ)
+    → ((i : ℕ) → i < length rest → slice_get units (start + i) ≡ slice_get rest i)
     → numbered units (range_with_len start (length rest)) ≡ rest
 unfolding numbered
 numbered-from units [] start each = refl
@@ -127,7 +132,8 @@ numbered-from units (unit ∷ rest) start each =
     ) refl
 
 pub numbered-all : (units : List WorkUnit) → numbered units (range_with_len 0 (length units)) ≡ units
-numbered-all units = numbered-from units units 0 (λ i below. let same : 0 + i ≡ i = omega arith in ap (slice_get units) same)
+numbered-all units =
+    numbered-from units units 0 (λ i below. let same : 0 + i ≡ i = omega arith in ap (slice_get units) same)
 
 -- where the unit of a number that is left stands among those that are, and which are left without it
 pub record StandsAt (units : List WorkUnit) (left : List ℕ) (number : ℕ) (unit : WorkUnit) : Type 0 where
@@ -146,7 +152,8 @@ stands_first units k left unit is absent =
       rest = rw (is, same, others-absent k left absent) refl;
     }
 
-stands_behind : (units : List WorkUnit) (k number : ℕ) (left : List ℕ) (unit : WorkUnit) → (k == number) ≡ false → (o : Option WorkUnit)
+stands_behind : (units : List WorkUnit) (k number : ℕ) (left : List ℕ) (unit : WorkUnit) → (k == number) ≡ false
+    → (o : Option WorkUnit)
     → slice_get units k ≡ o → StandsAt units left number unit → StandsAt units (k ∷ left) number unit
 unfolding numbered
 stands_behind units k number left unit unlike None is behind =

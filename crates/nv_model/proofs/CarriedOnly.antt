@@ -32,7 +32,8 @@ module _ (shape : Shape) (name : ℕ) (t : Taken) (p : Private) where
 
   -- ---- the steps that can't be made
 
-  step-judge_again : (work : Work) (left : List ℕ) (m : Moved) → step shape (JudgeStep name) (at_work name t work left m p) ≡ None
+  step-judge_again : (work : Work) (left : List ℕ) (m : Moved)
+      → step shape (JudgeStep name) (at_work name t work left m p) ≡ None
   unfolding step
   step-judge_again work left m = rw same refl
 
@@ -40,7 +41,8 @@ module _ (shape : Shape) (name : ℕ) (t : Taken) (p : Private) where
   unfolding step
   step-judge_ended st = rw same refl
 
-  step-move_ended : (st : StatusField) (number : ℕ) → step shape (MoveStep name number) (this_far name t (Ended st) p) ≡ None
+  step-move_ended : (st : StatusField) (number : ℕ)
+      → step shape (MoveStep name number) (this_far name t (Ended st) p) ≡ None
   unfolding step
   step-move_ended st number = rw same refl
 
@@ -67,8 +69,10 @@ module _ (shape : Shape) (name : ℕ) (t : Taken) (p : Private) where
   AtEnd P r = (st : StatusField) → ending_of (r.state.bag name) ≡ Some st → P st r.state
 
   -- one unit, and those behind it
-  one_more : (work : Work) (left : List ℕ) (m : Moved) (number : ℕ) (unit : WorkUnit) → StandsAt work.units left number unit
-      → (st : StatusField) (q : Private) → MovedFrom work (others number left) (moved_on unit work m) st q → MovedFrom work left m st q
+  one_more : (work : Work) (left : List ℕ) (m : Moved) (number : ℕ) (unit : WorkUnit)
+      → StandsAt work.units left number unit
+      → (st : StatusField) (q : Private) → MovedFrom work (others number left) (moved_on unit work m) st q
+      → MovedFrom work left m st q
   unfolding units_moved
   one_more work left m number unit at st q rest =
       record {
@@ -101,10 +105,12 @@ module _ (shape : Shape) (name : ℕ) (t : Taken) (p : Private) where
       (λ r ends st is. one_more work left m number unit (stands_at work.units left number unit distinct there.0 there.1) st r.state (ends st is)) (rest unit)))
 
   -- a run of the command's own steps, once it is at work
-  moves-end : (work : Work) (steps : List Step) (left : List ℕ) (m : Moved) → IsDistinct left → list_all (is_own_step name) steps ≡ true
+  moves-end : (work : Work) (steps : List Step) (left : List ℕ) (m : Moved) → IsDistinct left
+      → list_all (is_own_step name) steps ≡ true
       → IfSome (run_of shape steps (at_work name t work left m p)) (AtEnd (MovedFrom work left m))
   unfolding run_of
-  moves-end work [] left m distinct own = λ st is. none_left work left m st (sym (ending_of-this_far name t (AtWork work left m.differed) p) ∙ is)
+  moves-end work [] left m distinct own =
+      λ st is. none_left work left m st (sym (ending_of-this_far name t (AtWork work left m.differed) p) ∙ is)
   moves-end work (JudgeStep other ∷ steps) left m distinct own =
       let named_so = eqb-true other name (and-true _ _ own).0 in
       subst (λ (n : ℕ). IfSome (further (step shape (JudgeStep n) (at_work name t work left m p)) (λ q. run_of shape steps q)) (AtEnd (MovedFrom work left m)))
@@ -127,7 +133,8 @@ module _ (shape : Shape) (name : ℕ) (t : Taken) (p : Private) where
   refused-end : (told : StatusField) (steps : List Step) → list_all (is_own_step name) steps ≡ true
       → IfSome (run_of shape steps (this_far name t (Ended told) p)) (AtEnd (λ st q. (st ≡ told) × (q ≡ this_far name t (Ended told) p)))
   unfolding run_of
-  refused-end told [] own = λ st is. (let e : Some told ≡ Some st = sym (ending_of-this_far name t (Ended told) p) ∙ is in cc, refl)
+  refused-end told [] own =
+      λ st is. (let e : Some told ≡ Some st = sym (ending_of-this_far name t (Ended told) p) ∙ is in cc, refl)
   refused-end told (JudgeStep other ∷ steps) own =
       let named_so = eqb-true other name (and-true _ _ own).0 in
       subst (λ (n : ℕ). IfSome (further (step shape (JudgeStep n) (this_far name t (Ended told) p)) (λ q. run_of shape steps q)) (AtEnd (λ st q. (st ≡ told) × (q ≡ this_far name t (Ended told) p))))
@@ -183,18 +190,21 @@ module _ (shape : Shape) (name : ℕ) (t : Taken) (p : Private) where
   run-end (KeepStep lba ∷ steps) own = cc
 
   -- what carries a command out ends as its verdict says
-  carried-end : (q : Private) (st : StatusField) → IsCarriedOut shape p name t st q → EndOf (verdict_in shape p.memory t.entry) st q
+  carried-end : (q : Private) (st : StatusField) → IsCarriedOut shape p name t st q
+      → EndOf (verdict_in shape p.memory t.entry) st q
   carried-end q st c =
       let from = unjudged-is name t p c.there c.unjudged in
       let there = subst (λ (s : Private). IfSome (run_of shape c.steps s) (AtEnd (EndOf (verdict_in shape p.memory t.entry)))) from (run-end c.steps c.own) in
       let ends = subst (λ (o : Option Run). IfSome o (AtEnd (EndOf (verdict_in shape p.memory t.entry)))) c.runs there in
       ends st c.ended
 
-  pub refused-only : (q : Private) (st told : StatusField) → IsCarriedOut shape p name t st q → verdict_in shape p.memory t.entry ≡ Refuse told
+  pub refused-only : (q : Private) (st told : StatusField) → IsCarriedOut shape p name t st q
+      → verdict_in shape p.memory t.entry ≡ Refuse told
       → (st ≡ told) × (q ≡ this_far name t (Ended told) p)
   refused-only q st told c refused = subst (λ (v : Verdict). EndOf v st q) refused (carried-end q st c)
 
-  pub moved-only : (q : Private) (work : Work) (st : StatusField) → IsCarriedOut shape p name t st q → verdict_in shape p.memory t.entry ≡ Go work → HasMoved p name t work st q
+  pub moved-only : (q : Private) (work : Work) (st : StatusField) → IsCarriedOut shape p name t st q
+      → verdict_in shape p.memory t.entry ≡ Go work → HasMoved p name t work st q
   moved-only q work st c goes =
       let end : MovedFrom work (numbers_of work) (unmoved p) st q = subst (λ (v : Verdict). EndOf v st q) goes (carried-end q st c) in
       record {

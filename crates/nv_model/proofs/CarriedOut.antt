@@ -30,7 +30,8 @@ step-judge shape name t p =
     (put-twice p.bag name (Some (record t { progress = Unjudged })) (Some (record t { progress = progress_of (verdict_in shape p.memory t.entry) }))))
 
 -- units in two parts
-pub units_moved-append : (first rest : List WorkUnit) (work : Work) (m : Moved) → units_moved (first ++ rest) work m ≡ units_moved rest work (units_moved first work m)
+pub units_moved-append : (first rest : List WorkUnit) (work : Work) (m : Moved)
+    → units_moved (first ++ rest) work m ≡ units_moved rest work (units_moved first work m)
 unfolding units_moved
 units_moved-append [] rest work m = refl
 units_moved-append (unit ∷ first) rest work m = units_moved-append first rest work (moved_on unit work m)
@@ -51,7 +52,8 @@ run_of-moves shape name t work p (unit ∷ units) start m each =
     rw (step-move shape name t work (range_with_len start (suc (length units))) start unit m p found, others-first start (length units), rest) refl
 
 -- the steps are the command's own
-own-moves : (name start units : ℕ) → list_all (is_own_step name) (map (MoveStep name) (range_with_len start units)) ≡ true
+own-moves : (name start units : ℕ)
+    → list_all (is_own_step name) (map (MoveStep name) (range_with_len start units)) ≡ true
 own-moves name start zero = refl
 own-moves name start (suc units) =
     let same : (name == name) ≡ true = eq-eqb name name refl in
@@ -79,17 +81,20 @@ unfolding run_of
 run_of-judged shape name t p st refused = rw (step-judge shape name t p, refused) refl
 
 -- a state in which the command is not judged
-pub unjudged-is : (name : ℕ) (t : Taken) (p : Private) → p.bag name ≡ Some t → t.progress ≡ Unjudged → this_far name t Unjudged p ≡ p
+pub unjudged-is : (name : ℕ) (t : Taken) (p : Private) → p.bag name ≡ Some t → t.progress ≡ Unjudged
+    → this_far name t Unjudged p ≡ p
 unjudged-is name t p there unjudged =
     let whole : record t { progress = Unjudged } ≡ t = ap (λ (g : Progress). record t { progress = g }) (sym unjudged) in
     ap (λ (b : Bag). record p { bag = b }) (put-same p.bag name (Some (record t { progress = Unjudged })) (there ∙ ap (λ (u : Taken). Some u) (sym whole)))
 
 -- a command that is this far has ended so
-pub ending_of-this_far : (name : ℕ) (t : Taken) (progress : Progress) (p : Private) → ending_of ((this_far name t progress p).bag name) ≡ ending progress
+pub ending_of-this_far : (name : ℕ) (t : Taken) (progress : Progress) (p : Private)
+    → ending_of ((this_far name t progress p).bag name) ≡ ending progress
 ending_of-this_far name t progress p = ap ending_of (put-here p.bag name (Some (record t { progress = progress })))
 
 -- a command that goes: judging it, and moving its units in order, is a run
-pub units_in_order : (shape : Shape) (p : Private) (name : ℕ) (t : Taken) (work : Work) → p.bag name ≡ Some t → t.progress ≡ Unjudged
+pub units_in_order : (shape : Shape) (p : Private) (name : ℕ) (t : Taken) (work : Work) → p.bag name ≡ Some t
+    → t.progress ≡ Unjudged
     → verdict_in shape p.memory t.entry ≡ Go work
     → run_of shape (judged_then_moved name (length work.units)) p ≡ Some (record { state = all_moved name t work p; seen = [] })
 units_in_order shape p name t work there unjudged goes =
@@ -97,7 +102,8 @@ units_in_order shape p name t work there unjudged goes =
     (unjudged-is name t p there unjudged) (run_of-judged_then_moved shape name t p work goes)
 
 -- a command that is refused: judging it is a run
-pub refusal_alone : (shape : Shape) (p : Private) (name : ℕ) (t : Taken) (st : StatusField) → p.bag name ≡ Some t → t.progress ≡ Unjudged
+pub refusal_alone : (shape : Shape) (p : Private) (name : ℕ) (t : Taken) (st : StatusField) → p.bag name ≡ Some t
+    → t.progress ≡ Unjudged
     → verdict_in shape p.memory t.entry ≡ Refuse st
     → run_of shape (judged_then_moved name 0) p ≡ Some (record { state = this_far name t (Ended st) p; seen = [] })
 refusal_alone shape p name t st there unjudged refused =
@@ -105,7 +111,8 @@ refusal_alone shape p name t st there unjudged refused =
     (unjudged-is name t p there unjudged) (run_of-judged shape name t p st refused)
 
 -- the one and the other carry the command out
-pub IsCarriedOut-moved : (shape : Shape) (p : Private) (name : ℕ) (t : Taken) (work : Work) → p.bag name ≡ Some t → t.progress ≡ Unjudged
+pub IsCarriedOut-moved : (shape : Shape) (p : Private) (name : ℕ) (t : Taken) (work : Work) → p.bag name ≡ Some t
+    → t.progress ≡ Unjudged
     → verdict_in shape p.memory t.entry ≡ Go work
     → IsCarriedOut shape p name t (moved_status (units_moved work.units work (unmoved p)).differed) (all_moved name t work p)
 IsCarriedOut-moved shape p name t work there unjudged goes =
@@ -118,7 +125,8 @@ IsCarriedOut-moved shape p name t work there unjudged goes =
       ended = ending_of-this_far name t (AtWork work [] (units_moved work.units work (unmoved p)).differed) p;
     }
 
-pub IsCarriedOut-refused : (shape : Shape) (p : Private) (name : ℕ) (t : Taken) (st : StatusField) → p.bag name ≡ Some t → t.progress ≡ Unjudged
+pub IsCarriedOut-refused : (shape : Shape) (p : Private) (name : ℕ) (t : Taken) (st : StatusField) → p.bag name ≡ Some t
+    → t.progress ≡ Unjudged
     → verdict_in shape p.memory t.entry ≡ Refuse st
     → IsCarriedOut shape p name t st (this_far name t (Ended st) p)
 IsCarriedOut-refused shape p name t st there unjudged refused =

@@ -11,7 +11,8 @@ use Rattle.nv_model.proofs.Bags.{put-elsewhere, put-here}
 -- ---- counts below a bound
 
 -- past the bound nothing is counted
-count-beyond : (bag : Bag) (queue bound n : ℕ) → bound ≤ n → ((name : ℕ) → bound ≤ name → bag name ≡ None) → count_below bag queue n ≡ count_below bag queue bound
+count-beyond : (bag : Bag) (queue bound n : ℕ) → bound ≤ n → ((name : ℕ) → bound ≤ name → bag name ≡ None)
+    → count_below bag queue n ≡ count_below bag queue bound
 count-beyond bag queue bound zero past none = let same : 0 ≡ bound = omega arith in ap (count_below bag queue) same
 count-beyond bag queue bound (suc n) past none =
     elim (cases_lt n bound) [
@@ -20,7 +21,8 @@ count-beyond bag queue bound (suc n) past none =
     ]
 
 -- what is put under a name past the bound is not counted
-count-put-beyond : (bag : Bag) (name : ℕ) (member : Option Taken) (queue n : ℕ) → n ≤ name → count_below (put bag name member) queue n ≡ count_below bag queue n
+count-put-beyond : (bag : Bag) (name : ℕ) (member : Option Taken) (queue n : ℕ) → n ≤ name
+    → count_below (put bag name member) queue n ≡ count_below bag queue n
 count-put-beyond bag name member queue zero past = refl
 count-put-beyond bag name member queue (suc n) past =
     let other : n ≡ name → ⊥ = λ same. omega arith in
@@ -71,7 +73,8 @@ counted-put taken after bag name member counted changed =
     }
 
 -- a command that is taken counts
-pub counted-some : (taken : List ℕ) (bag : Bag) (name : ℕ) (t : Taken) → AreCounted taken bag → bag name ≡ Some t → 0 < slice_index taken t.queue
+pub counted-some : (taken : List ℕ) (bag : Bag) (name : ℕ) (t : Taken) → AreCounted taken bag → bag name ≡ Some t
+    → 0 < slice_index taken t.queue
 counted-some taken bag name t counted is =
     elim (cases_lt name counted.bound) [
       | inl below ↦
@@ -86,7 +89,8 @@ counted-some taken bag name t counted is =
 -- ---- counts of a queue
 
 -- one more, where a queue's count rises
-pub index-more : (taken : List ℕ) (queue y : ℕ) → queue < length taken → slice_index (set taken queue (slice_index taken queue + 1)) y ≡ slice_index taken y + bit (queue == y)
+pub index-more : (taken : List ℕ) (queue y : ℕ) → queue < length taken
+    → slice_index (set taken queue (slice_index taken queue + 1)) y ≡ slice_index taken y + bit (queue == y)
 index-more taken queue y below =
     elim (cases_eq y queue) [
       | inl same ↦
@@ -115,16 +119,19 @@ index-less taken queue y below some =
 -- ---- any command
 
 -- where some are counted, a command is taken
-count-member : (bag : Bag) (name queue rest : ℕ) (o : Option Taken) → bag name ≡ o → 0 < one_of queue o + rest → (0 < rest → HasTaken bag) → HasTaken bag
+count-member : (bag : Bag) (name queue rest : ℕ) (o : Option Taken) → bag name ≡ o → 0 < one_of queue o + rest
+    → (0 < rest → HasTaken bag) → HasTaken bag
 count-member bag name queue rest (Some t) is some below = record { name = name; command = t; is_there = is }
 count-member bag name queue rest None is some below = below (omega arith)
 
 count-has : (bag : Bag) (queue n : ℕ) → 0 < count_below bag queue n → HasTaken bag
 count-has bag queue zero some = absurd (omega arith)
-count-has bag queue (suc n) some = count-member bag n queue (count_below bag queue n) (bag n) refl some (λ below. count-has bag queue n below)
+count-has bag queue (suc n) some =
+    count-member bag n queue (count_below bag queue n) (bag n) refl some (λ below. count-has bag queue n below)
 
 -- so it is where a queue's count is not zero
-pub counted-has : (taken : List ℕ) (bag : Bag) (queue : ℕ) → AreCounted taken bag → 0 < slice_index taken queue → HasTaken bag
+pub counted-has : (taken : List ℕ) (bag : Bag) (queue : ℕ) → AreCounted taken bag → 0 < slice_index taken queue
+    → HasTaken bag
 counted-has taken bag queue counted some =
     let whole = counted.count queue in
     count-has bag queue counted.bound (omega arith)

@@ -8,4 +8,5 @@ pub in_memory-and_then : {A B : Type 0} (memory : ℕ → ℕ) (d : Dialogue A) 
     → in_memory memory (and_then d more) ≡ in_memory memory (more (in_memory memory d))
 unfolding in_memory and_then
 in_memory-and_then memory (End value) more = refl
-in_memory-and_then memory (Ask addr unit left next) more = in_memory-and_then memory (next (bytes_from memory addr unit)) more
+in_memory-and_then memory (Ask addr unit left next) more =
+    in_memory-and_then memory (next (bytes_from memory addr unit)) more

@@ -12,7 +12,8 @@ EndsIn P (End value) = P value
 EndsIn P (Ask addr unit left next) = (bytes : List ℕ) → EndsIn P (next bytes)
 
 -- so has the end in a memory
-pub in_memory-ends : {A : Type 0} (P : A → Type 0) (memory : ℕ → ℕ) (d : Dialogue A) → EndsIn P d → P (in_memory memory d)
+pub in_memory-ends : {A : Type 0} (P : A → Type 0) (memory : ℕ → ℕ) (d : Dialogue A) → EndsIn P d
+    → P (in_memory memory d)
 unfolding in_memory
 in_memory-ends P memory (End value) ends = ends
 in_memory-ends P memory (Ask addr unit left next) ends = in_memory-ends P memory (next _) (ends _)
@@ -30,7 +31,8 @@ EndsIn-any (End value) = tt
 EndsIn-any (Ask addr unit left next) = λ bytes. EndsIn-any (next bytes)
 
 -- a dialogue that goes by a test
-pub EndsIn-if : {A : Type 0} (P : A → Type 0) (b : Bool) (x y : Dialogue A) → (b ≡ true → EndsIn P x) → (b ≡ false → EndsIn P y) → EndsIn P (cond b x y)
+pub EndsIn-if : {A : Type 0} (P : A → Type 0) (b : Bool) (x y : Dialogue A) → (b ≡ true → EndsIn P x)
+    → (b ≡ false → EndsIn P y) → EndsIn P (cond b x y)
 EndsIn-if P true x y so not_so = so refl
 EndsIn-if P false x y so not_so = not_so refl
 

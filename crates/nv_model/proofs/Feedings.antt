@@ -21,18 +21,22 @@ taken-nil (End value) = refl
 taken-nil (Ask addr unit left next) = refl
 
 -- a dialogue that goes on to its end at once is fed as it is
-pub fed-and_then : {A B : Type 0} (d : Dialogue A) (f : A → B) (bytes : List ℕ) → fed (and_then d (λ v. End (f v))) bytes ≡ and_then (fed d bytes) (λ v. End (f v))
+pub fed-and_then : {A B : Type 0} (d : Dialogue A) (f : A → B) (bytes : List ℕ)
+    → fed (and_then d (λ v. End (f v))) bytes ≡ and_then (fed d bytes) (λ v. End (f v))
 unfolding fed and_then
 fed-and_then (End value) f bytes = refl
 fed-and_then (Ask addr unit left next) f [] = refl
-fed-and_then (Ask addr unit left next) f (byte ∷ bytes) = fed-and_then (next (take unit (byte ∷ bytes))) f (drop unit (byte ∷ bytes))
+fed-and_then (Ask addr unit left next) f (byte ∷ bytes) =
+    fed-and_then (next (take unit (byte ∷ bytes))) f (drop unit (byte ∷ bytes))
 
 -- and takes the same units
-pub taken-and_then : {A B : Type 0} (d : Dialogue A) (f : A → B) (bytes : List ℕ) → units_fed (and_then d (λ v. End (f v))) bytes ≡ units_fed d bytes
+pub taken-and_then : {A B : Type 0} (d : Dialogue A) (f : A → B) (bytes : List ℕ)
+    → units_fed (and_then d (λ v. End (f v))) bytes ≡ units_fed d bytes
 unfolding units_fed and_then
 taken-and_then (End value) f bytes = refl
 taken-and_then (Ask addr unit left next) f [] = refl
-taken-and_then (Ask addr unit left next) f (byte ∷ bytes) = ap (λ units. take unit (byte ∷ bytes) ∷ units) (taken-and_then (next (take unit (byte ∷ bytes))) f (drop unit (byte ∷ bytes)))
+taken-and_then (Ask addr unit left next) f (byte ∷ bytes) =
+    ap (λ units. take unit (byte ∷ bytes) ∷ units) (taken-and_then (next (take unit (byte ∷ bytes))) f (drop unit (byte ∷ bytes)))
 
 -- ---- bytes of a memory
 
@@ -57,7 +61,8 @@ drop-bytes_from m addr (suc n) k =
     rw more (drop-bytes_from m (suc addr) n k ∙ ap (λ (a : ℕ). bytes_from m a k) at)
 
 -- one that asks takes a unit of bytes, if there are any
-pub fed-some : {A : Type 0} (m : ℕ → ℕ) (from : ℕ) (addr unit left : ℕ) (next : List ℕ → Dialogue A) (n : ℕ) → 0 < n → fed (Ask addr unit left next) (bytes_from m from n) ≡ fed (next (take unit (bytes_from m from n))) (drop unit (bytes_from m from n))
+pub fed-some : {A : Type 0} (m : ℕ → ℕ) (from : ℕ) (addr unit left : ℕ) (next : List ℕ → Dialogue A) (n : ℕ) → 0 < n
+    → fed (Ask addr unit left next) (bytes_from m from n) ≡ fed (next (take unit (bytes_from m from n))) (drop unit (bytes_from m from n))
 unfolding fed bytes_from
 fed-some m from addr unit left next zero some = absurd (omega arith)
 fed-some m from addr unit left next (suc n) some = refl
@@ -65,7 +70,8 @@ fed-some m from addr unit left next (suc n) some = refl
 -- ---- and its end in a memory
 
 -- the end of a dialogue that goes on to its end at once
-pub in_memory-end : {A B : Type 0} (m : ℕ → ℕ) (d : Dialogue A) (f : A → B) → in_memory m (and_then d (λ v. End (f v))) ≡ f (in_memory m d)
+pub in_memory-end : {A B : Type 0} (m : ℕ → ℕ) (d : Dialogue A) (f : A → B)
+    → in_memory m (and_then d (λ v. End (f v))) ≡ f (in_memory m d)
 unfolding in_memory and_then
 in_memory-end m (End value) f = refl
 in_memory-end m (Ask addr unit left next) f = in_memory-end m (next (bytes_from m addr unit)) f
@@ -79,7 +85,8 @@ pub KeepsEnd-nil : (m : ℕ → ℕ) (d : Dialogue Reading) → KeepsEnd m d []
 KeepsEnd-nil m d = record { same = ap (in_memory m) (fed-nil d) }
 
 -- what a fault ends does
-pub KeepsEnd-fault : (m : ℕ → ℕ) (fault : Option StatusCode) (d : Dialogue Reading) (bytes : List ℕ) → (fault ≡ None → KeepsEnd m d bytes) → KeepsEnd m (unless_faulty fault d) bytes
+pub KeepsEnd-fault : (m : ℕ → ℕ) (fault : Option StatusCode) (d : Dialogue Reading) (bytes : List ℕ)
+    → (fault ≡ None → KeepsEnd m d bytes) → KeepsEnd m (unless_faulty fault d) bytes
 unfolding fed
 KeepsEnd-fault m (Some code) d bytes keeps = record { same = refl }
 KeepsEnd-fault m None d bytes keeps = keeps refl
@@ -87,8 +94,10 @@ KeepsEnd-fault m None d bytes keeps = keeps refl
 -- ---- in a transcript
 
 -- what is left of a part that a transcript met is fed
-pub in_transcript-fed : {A : Type 0} (d : Dialogue A) (bytes : List ℕ) (reads : List ReadDone) → in_transcript d bytes reads ≡ in_transcript (fed d bytes) [] reads
+pub in_transcript-fed : {A : Type 0} (d : Dialogue A) (bytes : List ℕ) (reads : List ReadDone)
+    → in_transcript d bytes reads ≡ in_transcript (fed d bytes) [] reads
 unfolding in_transcript fed
 in_transcript-fed (End value) bytes reads = refl
 in_transcript-fed (Ask addr unit left next) [] reads = refl
-in_transcript-fed (Ask addr unit left next) (byte ∷ bytes) reads = in_transcript-fed (next (take unit (byte ∷ bytes))) (drop unit (byte ∷ bytes)) reads
+in_transcript-fed (Ask addr unit left next) (byte ∷ bytes) reads =
+    in_transcript-fed (next (take unit (byte ∷ bytes))) (drop unit (byte ∷ bytes)) reads

@@ -42,14 +42,16 @@ UsesUpTo P from rest (Ask addr unit left next) =
     × ((bytes : List ℕ) → length bytes ≡ unit → UsesUpTo P (addr + unit) (in_hand rest left - unit) (next bytes))
 
 -- whatever the ends have
-pub UsesUp-to : {A : Type 0} (P : ℕ → A → Type 0) (from rest : ℕ) (d : Dialogue A) → UsesUpTo P from rest d → UsesUp from rest d
+pub UsesUp-to : {A : Type 0} (P : ℕ → A → Type 0) (from rest : ℕ) (d : Dialogue A) → UsesUpTo P from rest d
+    → UsesUp from rest d
 UsesUp-to P from rest (End value) uses = tt
 UsesUp-to P from rest (Ask addr unit left next) uses =
     (uses.0, uses.1, λ bytes many. UsesUp-to P (addr + unit) (in_hand rest left - unit) (next bytes) (uses.2 bytes many))
 
 -- one dialogue behind another, which begins with what is left of the part
 UsesUp-and_then : {A B : Type 0} (P : ℕ → A → Type 0) (Q : A → Type 0) (R : ℕ → B → Type 0) (from rest : ℕ) (d : Dialogue A) (more : A → Dialogue B)
-    → UsesUpTo P from rest d → EndsIn Q d → ((at n : ℕ) (value : A) → P n value → Q value → UsesUpTo R at n (more value))
+    → UsesUpTo P from rest d → EndsIn Q d
+    → ((at n : ℕ) (value : A) → P n value → Q value → UsesUpTo R at n (more value))
     → UsesUpTo R from rest (and_then d more)
 unfolding and_then
 UsesUp-and_then P Q R from rest (End value) more uses ends goes = goes from rest value uses ends
@@ -118,7 +120,8 @@ array_by-part mapped (Some LastSegment) a d from rest fine left_over =
     let names = segment_fault-names mapped a d fine in IsPartOf-none from rest _ (omega arith)
 
 read_descriptor-part : (mapped : ℕ → Bool) (dest : Bool) (a : Array) (pieces : List Piece) (follow : Array → List Piece → Dialogue Reading) (d : List ℕ) (from rest : ℕ)
-    → IsPartOf from rest a → ((b : Array) (ps : List Piece) → IsPartOf from rest b → UsesUpTo IsUsedUp from rest (follow b ps))
+    → IsPartOf from rest a
+    → ((b : Array) (ps : List Piece) → IsPartOf from rest b → UsesUpTo IsUsedUp from rest (follow b ps))
     → UsesUpTo IsUsedUp from rest (read_descriptor mapped dest a pieces follow d)
 read_descriptor-part mapped dest a pieces follow d from rest left_over goes =
     UsesUp-unless_faulty from rest (fault_by (kind_of d) mapped a d) _
@@ -140,7 +143,8 @@ read_array-part mapped dest (suc budget) (suc left) from by_last pieces at rest 
           (λ a ps there. read_array-part mapped dest budget a.left a.from a.by_last ps (from + 16) (in_hand rest (16 * suc left) - 16) there),
     )
 
-pub read_sgl-part : (mapped : ℕ → Bool) (dest : Bool) (limit : ℕ) (own : List ℕ) → UsesUpTo IsUsedUp 0 0 (read_sgl mapped dest limit own)
+pub read_sgl-part : (mapped : ℕ → Bool) (dest : Bool) (limit : ℕ) (own : List ℕ)
+    → UsesUpTo IsUsedUp 0 0 (read_sgl mapped dest limit own)
 unfolding read_sgl
 read_sgl-part mapped dest zero own = tt
 read_sgl-part mapped dest (suc budget) own =
@@ -150,7 +154,8 @@ read_sgl-part mapped dest (suc budget) own =
 -- ---- physical region pages
 
 read_page-part : (mapped : ℕ → Bool) (bytes : ℕ) (pieces : List Piece) (follow : List Piece → Dialogue Reading) (addr from rest : ℕ)
-    → ((ps : List Piece) → UsesUpTo IsUsedUp from rest (follow ps)) → UsesUpTo IsUsedUp from rest (read_page mapped bytes pieces follow addr)
+    → ((ps : List Piece) → UsesUpTo IsUsedUp from rest (follow ps))
+    → UsesUpTo IsUsedUp from rest (read_page mapped bytes pieces follow addr)
 read_page-part mapped bytes pieces follow addr from rest goes =
     UsesUp-unless_faulty from rest (entry_fault mapped page addr (min bytes page)) _ (λ fine. goes (pieces ++ run addr (min bytes page)))
 
@@ -163,7 +168,8 @@ pub record IsPartOfSlots (at rest pages slots from : ℕ) : Type 0 where
   pub page_full : slots ≤ 512
 
 read_entries-part : (mapped : ℕ → Bool) (pages slots from bytes : ℕ) (pieces : List Piece) (at rest : ℕ)
-    → IsPartOfSlots at rest pages slots from → UsesUpTo IsUsedUp at rest (read_entries mapped pages slots from bytes pieces)
+    → IsPartOfSlots at rest pages slots from
+    → UsesUpTo IsUsedUp at rest (read_entries mapped pages slots from bytes pieces)
 unfolding read_entries
 read_entries-part mapped zero slots from bytes pieces at rest left_over = omega arith
 read_entries-part mapped (suc pages) slots from bytes pieces at rest left_over =
@@ -199,9 +205,11 @@ read_entries-part mapped (suc pages) slots from bytes pieces at rest left_over =
           })),
     ))
 
-read_prp2-part : (mapped : ℕ → Bool) (pages prp2 bytes : ℕ) (pieces : List Piece) → UsesUpTo IsUsedUp 0 0 (read_prp2 mapped pages prp2 bytes pieces)
+read_prp2-part : (mapped : ℕ → Bool) (pages prp2 bytes : ℕ) (pieces : List Piece)
+    → UsesUpTo IsUsedUp 0 0 (read_prp2 mapped pages prp2 bytes pieces)
 read_prp2-part mapped zero prp2 bytes pieces = refl
-read_prp2-part mapped (suc zero) prp2 bytes pieces = read_page-part mapped bytes pieces (λ ps. End (Spells ps)) prp2 0 0 (λ ps. refl)
+read_prp2-part mapped (suc zero) prp2 bytes pieces =
+    read_page-part mapped bytes pieces (λ ps. End (Spells ps)) prp2 0 0 (λ ps. refl)
 read_prp2-part mapped (suc (suc pages)) prp2 bytes pieces =
     UsesUp-unless_faulty 0 0 (entry_fault mapped 8 prp2 (8 * min (slots_of prp2) (suc (suc pages)))) _ (λ fine.
     let aligned : prp2 % 8 ≡ 0 = (entry_fault-mapped mapped 8 prp2 (8 * min (slots_of prp2) (suc (suc pages))) fine).0 in
@@ -240,9 +248,11 @@ read_source-part (Run addr len ∷ pieces) bytes from few =
       λ more many. subst (λ (n : ℕ). UsesUpTo (λ rest _. rest ≡ 0) (addr + len) n (read_source pieces (bytes ++ more))) (sym none)
           (read_source-part pieces (bytes ++ more) (addr + len) (All-tail IsShort (Run addr len) pieces few)),
     )
-read_source-part (Bucket len ∷ pieces) bytes from few = read_source-part pieces bytes from (All-tail IsShort (Bucket len) pieces few)
+read_source-part (Bucket len ∷ pieces) bytes from few =
+    read_source-part pieces bytes from (All-tail IsShort (Bucket len) pieces few)
 
-read_source-used : (pieces : List Piece) (from rest : ℕ) → rest ≡ 0 → total_len pieces ≤ 4096 → UsesUpTo (λ n _. n ≡ 0) from rest (read_source pieces [])
+read_source-used : (pieces : List Piece) (from rest : ℕ) → rest ≡ 0 → total_len pieces ≤ 4096
+    → UsesUpTo (λ n _. n ≡ 0) from rest (read_source pieces [])
 read_source-used pieces from rest used few =
     subst (λ (n : ℕ). UsesUpTo (λ m _. m ≡ 0) from n (read_source pieces [])) (sym used) (read_source-part pieces [] from (short-each pieces few))
 
@@ -252,7 +262,8 @@ read_source-used pieces from rest used few =
 abbrev Any : {A : Type 0} → ℕ → A → Type 0
 Any rest value = ⊤
 
-read_by-part : (pointer : DataPointer) (mapped : ℕ → Bool) (limit : ℕ) (dest : Bool) (len : ℕ) (entry : List ℕ) → UsesUpTo IsUsedUp 0 0 (read_by pointer mapped limit dest len entry)
+read_by-part : (pointer : DataPointer) (mapped : ℕ → Bool) (limit : ℕ) (dest : Bool) (len : ℕ) (entry : List ℕ)
+    → UsesUpTo IsUsedUp 0 0 (read_by pointer mapped limit dest len entry)
 read_by-part Prp mapped limit dest len entry = read_prp-part mapped (prp1_of entry) (prp2_of entry) len
 read_by-part Sgl mapped limit dest len entry = read_sgl-part mapped dest limit (sgl_of entry)
 read_by-part Reserved mapped limit dest len entry = tt
@@ -273,7 +284,8 @@ ranged-short : (opcode : IoOpcode) (entry : List ℕ) → form_of opcode ≡ Man
 ranged-short opcode entry form = rw form (ranges-short entry)
 
 judge_buffer-part : (form : Form) (blocks : ℕ) (opcode : IoOpcode) (entry : List ℕ) (pieces : List Piece) (from rest : ℕ)
-    → IsUsedUp rest (Spells pieces) → (form ≡ Manage → total_len pieces ≤ 4096) → UsesUpTo Any from rest (judge_buffer form blocks opcode entry pieces)
+    → IsUsedUp rest (Spells pieces) → (form ≡ Manage → total_len pieces ≤ 4096)
+    → UsesUpTo Any from rest (judge_buffer form blocks opcode entry pieces)
 judge_buffer-part (Transfer dest) blocks opcode entry pieces from rest used short = tt
 judge_buffer-part Clear blocks opcode entry pieces from rest used short = tt
 judge_buffer-part Manage blocks opcode entry pieces from rest used short =
@@ -282,14 +294,16 @@ judge_buffer-part Manage blocks opcode entry pieces from rest used short =
 judge_buffer-part Keep blocks opcode entry pieces from rest used short = tt
 
 judge_reading-part : (mapped : ℕ → Bool) (blocks : ℕ) (entry : List ℕ) (opcode : IoOpcode) (reading : Reading) (from rest : ℕ)
-    → IsUsedUp rest reading → OfPieces (AreOfLen mapped (transfer_len opcode entry)) reading → UsesUpTo Any from rest (judge_reading blocks entry opcode reading)
+    → IsUsedUp rest reading → OfPieces (AreOfLen mapped (transfer_len opcode entry)) reading
+    → UsesUpTo Any from rest (judge_reading blocks entry opcode reading)
 judge_reading-part mapped blocks entry opcode (Faulty code) from rest used there = tt
 judge_reading-part mapped blocks entry opcode TooLong from rest used there = tt
 judge_reading-part mapped blocks entry opcode (Spells pieces) from rest used there =
     judge_buffer-part (form_of opcode) blocks opcode entry pieces from rest used
     (λ form. let short = ranged-short opcode entry form in let total = there.total in omega arith)
 
-judge_by-part : (opcode : Option IoOpcode) (mapped : ℕ → Bool) (limit blocks : ℕ) (entry : List ℕ) → UsesUpTo Any 0 0 (judge_by opcode mapped limit blocks entry)
+judge_by-part : (opcode : Option IoOpcode) (mapped : ℕ → Bool) (limit blocks : ℕ) (entry : List ℕ)
+    → UsesUpTo Any 0 0 (judge_by opcode mapped limit blocks entry)
 judge_by-part None mapped limit blocks entry = tt
 judge_by-part (Some opcode) mapped limit blocks entry =
     let list = read_by (data_pointer (psdt_of entry)) mapped limit (is_read opcode) (transfer_len opcode entry) entry in
@@ -302,24 +316,33 @@ judge_by-part (Some opcode) mapped limit blocks entry =
     (λ at n reading used there. judge_reading-part mapped blocks entry opcode reading at n used there))
     (λ _. judge_buffer-part (form_of opcode) blocks opcode entry [] 0 0 refl (λ _. omega arith))
 
-judge_fields-part : (refusal : Option StatusCode) (mapped : ℕ → Bool) (limit blocks : ℕ) (entry : List ℕ) → UsesUpTo Any 0 0 (judge_fields refusal mapped limit blocks entry)
+judge_fields-part : (refusal : Option StatusCode) (mapped : ℕ → Bool) (limit blocks : ℕ) (entry : List ℕ)
+    → UsesUpTo Any 0 0 (judge_fields refusal mapped limit blocks entry)
 judge_fields-part (Some code) mapped limit blocks entry = tt
 judge_fields-part None mapped limit blocks entry = judge_by-part (io_opcode (opcode_of entry)) mapped limit blocks entry
 
-judge-part : (mapped : ℕ → Bool) (limit blocks : ℕ) (entry : List ℕ) → UsesUpTo Any 0 0 (judge mapped limit blocks entry)
+judge-part : (mapped : ℕ → Bool) (limit blocks : ℕ) (entry : List ℕ)
+    → UsesUpTo Any 0 0 (judge mapped limit blocks entry)
 unfolding judge
 judge-part mapped limit blocks entry = judge_fields-part (field_refusal blocks entry) mapped limit blocks entry
 
 -- ---- they ask in parts
 
-pub read_sgl-in_parts : (mapped : ℕ → Bool) (dest : Bool) (limit : ℕ) (own : List ℕ) → AsksInParts (read_sgl mapped dest limit own)
-read_sgl-in_parts mapped dest limit own = UsesUp-to IsUsedUp 0 0 (read_sgl mapped dest limit own) (read_sgl-part mapped dest limit own)
+pub read_sgl-in_parts : (mapped : ℕ → Bool) (dest : Bool) (limit : ℕ) (own : List ℕ)
+    → AsksInParts (read_sgl mapped dest limit own)
+read_sgl-in_parts mapped dest limit own =
+    UsesUp-to IsUsedUp 0 0 (read_sgl mapped dest limit own) (read_sgl-part mapped dest limit own)
 
 pub read_prp-in_parts : (mapped : ℕ → Bool) (prp1 prp2 len : ℕ) → AsksInParts (read_prp mapped prp1 prp2 len)
-read_prp-in_parts mapped prp1 prp2 len = UsesUp-to IsUsedUp 0 0 (read_prp mapped prp1 prp2 len) (read_prp-part mapped prp1 prp2 len)
+read_prp-in_parts mapped prp1 prp2 len =
+    UsesUp-to IsUsedUp 0 0 (read_prp mapped prp1 prp2 len) (read_prp-part mapped prp1 prp2 len)
 
-pub read_source-in_parts : (pieces : List Piece) (bytes : List ℕ) → All (λ p. piece_len p ≤ 4096) pieces → AsksInParts (read_source pieces bytes)
-read_source-in_parts pieces bytes few = UsesUp-to (λ rest _. rest ≡ 0) 0 0 (read_source pieces bytes) (read_source-part pieces bytes 0 few)
+pub read_source-in_parts : (pieces : List Piece) (bytes : List ℕ) → All (λ p. piece_len p ≤ 4096) pieces
+    → AsksInParts (read_source pieces bytes)
+read_source-in_parts pieces bytes few =
+    UsesUp-to (λ rest _. rest ≡ 0) 0 0 (read_source pieces bytes) (read_source-part pieces bytes 0 few)
 
-pub judge-in_parts : (mapped : ℕ → Bool) (limit blocks : ℕ) (entry : List ℕ) → AsksInParts (judge mapped limit blocks entry)
-judge-in_parts mapped limit blocks entry = UsesUp-to Any 0 0 (judge mapped limit blocks entry) (judge-part mapped limit blocks entry)
+pub judge-in_parts : (mapped : ℕ → Bool) (limit blocks : ℕ) (entry : List ℕ)
+    → AsksInParts (judge mapped limit blocks entry)
+judge-in_parts mapped limit blocks entry =
+    UsesUp-to Any 0 0 (judge mapped limit blocks entry) (judge-part mapped limit blocks entry)

@@ -21,7 +21,8 @@ in_transcript-nil (End value) = refl
 in_transcript-nil (Ask addr unit left next) = refl
 
 -- the first read is given
-in_transcript-cons : {A : Type 0} (d : Dialogue A) (r : ReadDone) (rs : List ReadDone) → in_transcript d [] (r ∷ rs) ≡ in_transcript (given d r) [] rs
+in_transcript-cons : {A : Type 0} (d : Dialogue A) (r : ReadDone) (rs : List ReadDone)
+    → in_transcript d [] (r ∷ rs) ≡ in_transcript (given d r) [] rs
 unfolding in_transcript first_read
 in_transcript-cons (End value) r rs = refl
 in_transcript-cons (Ask addr unit left next) r rs =
@@ -33,13 +34,15 @@ in_transcript-cons (Ask addr unit left next) r rs =
     ])
 
 -- and so each of them
-pub in_transcript-given : {A : Type 0} (d : Dialogue A) (reads : List ReadDone) → in_transcript d [] reads ≡ standing (given_all d reads)
+pub in_transcript-given : {A : Type 0} (d : Dialogue A) (reads : List ReadDone)
+    → in_transcript d [] reads ≡ standing (given_all d reads)
 unfolding given_all
 in_transcript-given d [] = in_transcript-nil d
 in_transcript-given d (r ∷ rs) = in_transcript-cons d r rs ∙ in_transcript-given (given d r) rs
 
 -- some reads and then others
-pub in_transcript-append : {A : Type 0} (d : Dialogue A) (reads more : List ReadDone) → in_transcript d [] (reads ++ more) ≡ in_transcript (given_all d reads) [] more
+pub in_transcript-append : {A : Type 0} (d : Dialogue A) (reads more : List ReadDone)
+    → in_transcript d [] (reads ++ more) ≡ in_transcript (given_all d reads) [] more
 unfolding given_all
 in_transcript-append d [] more = refl
 in_transcript-append d (r ∷ rs) more = in_transcript-cons d r (rs ++ more) ∙ in_transcript-append (given d r) rs more
@@ -60,16 +63,19 @@ pub in_transcript-settled : {A : Type 0} (d : Dialogue A) (reads more : List Rea
     → in_transcript d [] reads ≡ Settled value → in_transcript d [] (reads ++ more) ≡ Settled value
 in_transcript-settled d reads more value settled =
     let over = standing-settled (given_all d reads) value (sym (in_transcript-given d reads) ∙ settled) in
-    in_transcript-append d reads more ∙ ap (λ e. in_transcript e [] more) over ∙ in_transcript-given (End value) more ∙ ap standing (given_all-end value more)
+    in_transcript-append d reads more ∙ ap (λ e. in_transcript e [] more) over ∙ in_transcript-given (End value) more
+    ∙ ap standing (given_all-end value more)
 
 -- ---- the reads that were met
 
 -- what is left of a part is fed
-reads_met-fed : {A : Type 0} (d : Dialogue A) (bytes : List ℕ) (reads : List ReadDone) → reads_met d bytes reads ≡ reads_met (fed d bytes) [] reads
+reads_met-fed : {A : Type 0} (d : Dialogue A) (bytes : List ℕ) (reads : List ReadDone)
+    → reads_met d bytes reads ≡ reads_met (fed d bytes) [] reads
 unfolding reads_met fed
 reads_met-fed (End value) bytes reads = refl
 reads_met-fed (Ask addr unit left next) [] reads = refl
-reads_met-fed (Ask addr unit left next) (byte ∷ bytes) reads = reads_met-fed (next (take unit (byte ∷ bytes))) (drop unit (byte ∷ bytes)) reads
+reads_met-fed (Ask addr unit left next) (byte ∷ bytes) reads =
+    reads_met-fed (next (take unit (byte ∷ bytes))) (drop unit (byte ∷ bytes)) reads
 
 reads_met-nil : {A : Type 0} (d : Dialogue A) → reads_met d [] [] ≡ []
 unfolding reads_met first_read
@@ -77,7 +83,8 @@ reads_met-nil (End value) = refl
 reads_met-nil (Ask addr unit left next) = refl
 
 -- the first, where it meets what is wanted, and those behind it
-reads_met-cons : {A : Type 0} (d : Dialogue A) (r : ReadDone) (rs : List ReadDone) → reads_met d [] (r ∷ rs) ≡ reads_met d [] (r ∷ []) ++ reads_met (given d r) [] rs
+reads_met-cons : {A : Type 0} (d : Dialogue A) (r : ReadDone) (rs : List ReadDone)
+    → reads_met d [] (r ∷ rs) ≡ reads_met d [] (r ∷ []) ++ reads_met (given d r) [] rs
 unfolding reads_met first_read
 reads_met-cons (End value) r rs = refl
 reads_met-cons (Ask addr unit left next) r rs =
@@ -95,7 +102,8 @@ reads_met-cons (Ask addr unit left next) r rs =
     ])
 
 -- those of some reads and then others
-pub reads_met-append : {A : Type 0} (d : Dialogue A) (reads more : List ReadDone) → reads_met d [] (reads ++ more) ≡ reads_met d [] reads ++ reads_met (given_all d reads) [] more
+pub reads_met-append : {A : Type 0} (d : Dialogue A) (reads more : List ReadDone)
+    → reads_met d [] (reads ++ more) ≡ reads_met d [] reads ++ reads_met (given_all d reads) [] more
 unfolding given_all
 reads_met-append d [] more = ap (λ (found : List ReadDone). found ++ reads_met d [] more) (sym (reads_met-nil d))
 reads_met-append d (r ∷ rs) more =
@@ -121,7 +129,8 @@ given-leads (Ask addr unit left next) r uses =
     ]) refl
 
 -- and so are all of them
-pub given_all-leads : {A : Type 0} (d : Dialogue A) (reads : List ReadDone) → AsksInParts d → LeadsOn d (given_all d reads)
+pub given_all-leads : {A : Type 0} (d : Dialogue A) (reads : List ReadDone) → AsksInParts d
+    → LeadsOn d (given_all d reads)
 unfolding given_all
 given_all-leads d [] uses = record { ends = λ v may. may; asks = λ addr unit left may. may; parts = uses }
 given_all-leads d (r ∷ rs) uses =
@@ -136,10 +145,13 @@ given_all-leads d (r ∷ rs) uses =
 -- ---- reads in a memory
 
 -- each is the memory's
-reads_in-whole : {A : Type 0} (memory : ℕ → ℕ) (d : Dialogue A) (buffer : List ℕ) → All (λ (r : ReadDone). r.bytes ≡ bytes_from memory r.addr (length r.bytes)) (reads_in memory d buffer)
+reads_in-whole : {A : Type 0} (memory : ℕ → ℕ) (d : Dialogue A) (buffer : List ℕ)
+    → All (λ (r : ReadDone). r.bytes ≡ bytes_from memory r.addr (length r.bytes)) (reads_in memory d buffer)
 unfolding reads_in
-reads_in-whole memory (End value) buffer = All-nil (λ (r : ReadDone). r.bytes ≡ bytes_from memory r.addr (length r.bytes))
-reads_in-whole memory (Ask addr unit left next) (byte ∷ buffer) = reads_in-whole memory (next (take unit (byte ∷ buffer))) (drop unit (byte ∷ buffer))
+reads_in-whole memory (End value) buffer =
+    All-nil (λ (r : ReadDone). r.bytes ≡ bytes_from memory r.addr (length r.bytes))
+reads_in-whole memory (Ask addr unit left next) (byte ∷ buffer) =
+    reads_in-whole memory (next (take unit (byte ∷ buffer))) (drop unit (byte ∷ buffer))
 reads_in-whole memory (Ask addr unit left next) [] =
     let bytes = bytes_from memory addr (part left) in
     let same : bytes ≡ bytes_from memory addr (length bytes) = ap (bytes_from memory addr) (sym (length-bytes_from memory addr (part left))) in
@@ -147,10 +159,12 @@ reads_in-whole memory (Ask addr unit left next) [] =
     (reads_in-whole memory (next (take unit bytes)) (drop unit bytes))
 
 -- and they settle some value
-reads_in-settle : {A : Type 0} (memory : ℕ → ℕ) (d : Dialogue A) (buffer : List ℕ) → (value : A) × (in_transcript d buffer (reads_in memory d buffer) ≡ Settled value)
+reads_in-settle : {A : Type 0} (memory : ℕ → ℕ) (d : Dialogue A) (buffer : List ℕ)
+    → (value : A) × (in_transcript d buffer (reads_in memory d buffer) ≡ Settled value)
 unfolding in_transcript first_read reads_in
 reads_in-settle memory (End value) buffer = (value, refl)
-reads_in-settle memory (Ask addr unit left next) (byte ∷ buffer) = reads_in-settle memory (next (take unit (byte ∷ buffer))) (drop unit (byte ∷ buffer))
+reads_in-settle memory (Ask addr unit left next) (byte ∷ buffer) =
+    reads_in-settle memory (next (take unit (byte ∷ buffer))) (drop unit (byte ∷ buffer))
 reads_in-settle memory (Ask addr unit left next) [] =
     let bytes = bytes_from memory addr (part left) in
     let later = reads_in-settle memory (next (take unit bytes)) (drop unit bytes) in
@@ -161,7 +175,8 @@ reads_in-settle memory (Ask addr unit left next) [] =
     )
 
 -- that of the memory
-pub reads_in-settled : {A : Type 0} (memory : ℕ → ℕ) (d : Dialogue A) → AsksInParts d → in_transcript d [] (reads_in memory d []) ≡ Settled (in_memory memory d)
+pub reads_in-settled : {A : Type 0} (memory : ℕ → ℕ) (d : Dialogue A) → AsksInParts d
+    → in_transcript d [] (reads_in memory d []) ≡ Settled (in_memory memory d)
 reads_in-settled memory d parts =
     let some = reads_in-settle memory d [] in
     let reads = reads_in memory d [] in

@@ -49,7 +49,9 @@ IfGo P (Go work) = P work
 -- ---- the buffer
 
 -- a list of the right length
-sized-of_len : (mapped : ℕ → Bool) (len : ℕ) (reading : Reading) → OfPieces (λ pieces. All (IsMappedPiece mapped) pieces) reading → OfPieces (AreOfLen mapped len) (sized len reading)
+sized-of_len : (mapped : ℕ → Bool) (len : ℕ) (reading : Reading)
+    → OfPieces (λ pieces. All (IsMappedPiece mapped) pieces) reading
+    → OfPieces (AreOfLen mapped len) (sized len reading)
 sized-of_len mapped len (Faulty code) each = tt
 sized-of_len mapped len TooLong each = tt
 sized-of_len mapped len (Spells pieces) each =
@@ -59,7 +61,8 @@ sized-of_len mapped len (Spells pieces) each =
     ]) refl
 
 -- a weaker end
-OfPieces-mapped : (mapped : ℕ → Bool) (len : ℕ) (reading : Reading) → OfPieces (AreOfLen mapped len) reading → OfPieces (λ pieces. All (IsMappedPiece mapped) pieces) reading
+OfPieces-mapped : (mapped : ℕ → Bool) (len : ℕ) (reading : Reading) → OfPieces (AreOfLen mapped len) reading
+    → OfPieces (λ pieces. All (IsMappedPiece mapped) pieces) reading
 OfPieces-mapped mapped len (Faulty code) each = tt
 OfPieces-mapped mapped len TooLong each = tt
 OfPieces-mapped mapped len (Spells pieces) each = each.mapped_each
@@ -110,7 +113,8 @@ work_of-sound mapped blocks entry opcode pieces ranges is there fine many fit =
 judge_ranges-sound : (mapped : ℕ → Bool) (blocks : ℕ) (entry : List ℕ) (opcode : IoOpcode) (pieces : List Piece) (ranges : List (List ℕ))
     → io_opcode (opcode_of entry) ≡ Some opcode → AreOfLen mapped (transfer_len opcode entry) pieces
     → (has_blocks opcode && not (in_namespace (slba_of entry) (count_of entry) blocks)) ≡ false
-    → length ranges ≡ range_count_of entry → IfGo (IsSoundWork mapped blocks entry) (judge_ranges blocks opcode entry pieces ranges)
+    → length ranges ≡ range_count_of entry
+    → IfGo (IsSoundWork mapped blocks entry) (judge_ranges blocks opcode entry pieces ranges)
 judge_ranges-sound mapped blocks entry opcode pieces ranges is there fine many =
     (elim (list_all (range_fits blocks) ranges) as (λ b. list_all (range_fits blocks) ranges ≡ b →
     IfGo (IsSoundWork mapped blocks entry) (cond b (Go (work_of blocks opcode entry pieces ranges)) (Refuse (refused_with LbaOutOfRange)))) [
@@ -120,7 +124,8 @@ judge_ranges-sound mapped blocks entry opcode pieces ranges is there fine many =
 
 -- a command whose buffer is of the right length
 judge_buffer-sound : (form : Form) (mapped : ℕ → Bool) (blocks : ℕ) (entry : List ℕ) (opcode : IoOpcode) (pieces : List Piece)
-    → form_of opcode ≡ form → io_opcode (opcode_of entry) ≡ Some opcode → AreOfLen mapped (transfer_len opcode entry) pieces
+    → form_of opcode ≡ form → io_opcode (opcode_of entry) ≡ Some opcode
+    → AreOfLen mapped (transfer_len opcode entry) pieces
     → (has_blocks opcode && not (in_namespace (slba_of entry) (count_of entry) blocks)) ≡ false
     → EndsIn (IfGo (IsSoundWork mapped blocks entry)) (judge_buffer form blocks opcode entry pieces)
 judge_buffer-sound (Transfer dest) mapped blocks entry opcode pieces form is there fine =
@@ -146,7 +151,8 @@ judge_reading-sound mapped blocks entry opcode (Spells pieces) is fine there =
     judge_buffer-sound (form_of opcode) mapped blocks entry opcode pieces refl is there fine
 
 -- the checks of the fields leave the range of blocks in the namespace
-refusal_by_opcode-none : (blocks : ℕ) (entry : List ℕ) (opcode : IoOpcode) → refusal_by_opcode blocks entry (Some opcode) ≡ None
+refusal_by_opcode-none : (blocks : ℕ) (entry : List ℕ) (opcode : IoOpcode)
+    → refusal_by_opcode blocks entry (Some opcode) ≡ None
     → (has_blocks opcode && not (in_namespace (slba_of entry) (count_of entry) blocks)) ≡ false
 refusal_by_opcode-none blocks entry opcode none =
     let range : List (Bool × StatusCode) = (has_blocks opcode && not (in_namespace (slba_of entry) (count_of entry) blocks), LbaOutOfRange) ∷ [] in
@@ -175,7 +181,8 @@ judge_by-sound mapped limit blocks entry (Some opcode) is none =
 
 -- refused by its fields, or judged further
 judge_fields-sound : (mapped : ℕ → Bool) (limit blocks : ℕ) (entry : List ℕ) (refusal : Option StatusCode)
-    → field_refusal blocks entry ≡ refusal → EndsIn (IfGo (IsSoundWork mapped blocks entry)) (judge_fields refusal mapped limit blocks entry)
+    → field_refusal blocks entry ≡ refusal
+    → EndsIn (IfGo (IsSoundWork mapped blocks entry)) (judge_fields refusal mapped limit blocks entry)
 judge_fields-sound mapped limit blocks entry (Some code) is = tt
 judge_fields-sound mapped limit blocks entry None is =
     judge_by-sound mapped limit blocks entry (io_opcode (opcode_of entry)) refl
@@ -185,7 +192,8 @@ judge_fields-sound mapped limit blocks entry None is =
     ]) is)
 
 -- what each verdict that goes says, in any memory
-pub judge-sound : (mapped : ℕ → Bool) (limit blocks : ℕ) (entry : List ℕ) → EndsIn (IfGo (IsSoundWork mapped blocks entry)) (judge mapped limit blocks entry)
+pub judge-sound : (mapped : ℕ → Bool) (limit blocks : ℕ) (entry : List ℕ)
+    → EndsIn (IfGo (IsSoundWork mapped blocks entry)) (judge mapped limit blocks entry)
 unfolding judge
 judge-sound mapped limit blocks entry = judge_fields-sound mapped limit blocks entry (field_refusal blocks entry) refl
 
@@ -197,7 +205,8 @@ verdict-sound mapped limit blocks entry memory work goes =
 -- ---- places
 
 -- each address of a mapped run is mapped
-pub everywhere-at : (mapped : ℕ → Bool) (addr len i : ℕ) → everywhere mapped addr len ≡ true → i < len → mapped (addr + i) ≡ true
+pub everywhere-at : (mapped : ℕ → Bool) (addr len i : ℕ) → everywhere mapped addr len ≡ true → i < len
+    → mapped (addr + i) ≡ true
 unfolding everywhere
 everywhere-at mapped addr zero i is below = absurd (omega arith)
 everywhere-at mapped addr (suc len) i is below =
@@ -213,14 +222,16 @@ All-range P start (suc n) each =
     All-cons P start (range_with_len (start + 1) n) (subst P here (each 0 (omega arith)))
     (All-range P (start + 1) n (λ i below. let next : start + suc i ≡ start + 1 + i = omega arith in subst P next (each (suc i) (omega arith))))
 
-IsMappedPlace-piece : (mapped : ℕ → Bool) (p : Piece) → IsMappedPiece mapped p → All (IsMappedPlace mapped) (places_of_piece p)
+IsMappedPlace-piece : (mapped : ℕ → Bool) (p : Piece) → IsMappedPiece mapped p
+    → All (IsMappedPlace mapped) (places_of_piece p)
 unfolding addresses
 IsMappedPlace-piece mapped (piece.Run addr len) is =
     All-map (IsMappedPlace mapped) At (range_with_len addr len) (All-range (λ at. mapped at ≡ true) addr len (λ i below. everywhere-at mapped addr len i is below))
 IsMappedPlace-piece mapped (piece.Bucket len) is = All-replicate (IsMappedPlace mapped) len Bucket tt
 
 -- the places of mapped pieces are mapped addresses and buckets
-pub IsMappedPlace-pieces : (mapped : ℕ → Bool) (pieces : List Piece) → All (IsMappedPiece mapped) pieces → All (IsMappedPlace mapped) (places_of pieces)
+pub IsMappedPlace-pieces : (mapped : ℕ → Bool) (pieces : List Piece) → All (IsMappedPiece mapped) pieces
+    → All (IsMappedPlace mapped) (places_of pieces)
 IsMappedPlace-pieces mapped [] each = All-nil (IsMappedPlace mapped)
 IsMappedPlace-pieces mapped (p ∷ ps) each =
     All-append (IsMappedPlace mapped) (places_of_piece p) (places_of ps)
@@ -229,11 +240,14 @@ IsMappedPlace-pieces mapped (p ∷ ps) each =
 -- ---- lists
 
 -- what a list spells in a memory has what all its ends have
-pub pieces-ends : (P : List Piece → Type 0) (memory : ℕ → ℕ) (d : Dialogue Reading) (pieces : List Piece) → EndsIn (OfPieces P) d → in_memory memory d ≡ Spells pieces → P pieces
-pieces-ends P memory d pieces ends spells = subst (λ (r : Reading). OfPieces P r) spells (in_memory-ends (OfPieces P) memory d ends)
+pub pieces-ends : (P : List Piece → Type 0) (memory : ℕ → ℕ) (d : Dialogue Reading) (pieces : List Piece)
+    → EndsIn (OfPieces P) d → in_memory memory d ≡ Spells pieces → P pieces
+pieces-ends P memory d pieces ends spells =
+    subst (λ (r : Reading). OfPieces P r) spells (in_memory-ends (OfPieces P) memory d ends)
 
 -- nothing is asked for where PRP2 is no pointer to a list
-asked-read_prp2 : (mapped : ℕ → Bool) (memory : ℕ → ℕ) (pages prp2 bytes : ℕ) (pieces : List Piece) → pages ≤ 1 → asked memory (read_prp2 mapped pages prp2 bytes pieces) ≡ []
+asked-read_prp2 : (mapped : ℕ → Bool) (memory : ℕ → ℕ) (pages prp2 bytes : ℕ) (pieces : List Piece) → pages ≤ 1
+    → asked memory (read_prp2 mapped pages prp2 bytes pieces) ≡ []
 unfolding asked
 asked-read_prp2 mapped memory zero prp2 bytes pieces few = refl
 asked-read_prp2 mapped memory (suc zero) prp2 bytes pieces few =
@@ -241,7 +255,8 @@ asked-read_prp2 mapped memory (suc zero) prp2 bytes pieces few =
 asked-read_prp2 mapped memory (suc (suc pages)) prp2 bytes pieces few = absurd (omega arith)
 
 -- so it is with the bytes of a page
-pub asked-page : (mapped : ℕ → Bool) (memory : ℕ → ℕ) (prp1 prp2 : ℕ) → asked memory (read_prp mapped prp1 prp2 4096) ≡ []
+pub asked-page : (mapped : ℕ → Bool) (memory : ℕ → ℕ) (prp1 prp2 : ℕ)
+    → asked memory (read_prp mapped prp1 prp2 4096) ≡ []
 unfolding asked
 asked-page mapped memory prp1 prp2 =
     let few : pages_of (4096 - first_len prp1 4096) ≤ 1 = omega arith in
@@ -251,7 +266,8 @@ asked-page mapped memory prp1 prp2 =
     ])
 
 -- and its reading is the same in all memories
-pub in_memory-page : (mapped : ℕ → Bool) (memory other : ℕ → ℕ) (prp1 prp2 : ℕ) → in_memory other (read_prp mapped prp1 prp2 4096) ≡ in_memory memory (read_prp mapped prp1 prp2 4096)
+pub in_memory-page : (mapped : ℕ → Bool) (memory other : ℕ → ℕ) (prp1 prp2 : ℕ)
+    → in_memory other (read_prp mapped prp1 prp2 4096) ≡ in_memory memory (read_prp mapped prp1 prp2 4096)
 in_memory-page mapped memory other prp1 prp2 =
     in_memory-agree memory other (read_prp mapped prp1 prp2 4096)
     (subst (λ (spans : List (ℕ × ℕ)). AgreeOn memory other spans) (sym (asked-page mapped memory prp1 prp2)) (All-nil (AgreeAt memory other)))

@@ -41,7 +41,8 @@ scattered-append m (At addr ∷ xs) ys (b ∷ bs) cs e =
 scattered-append m (Bucket ∷ xs) ys (b ∷ bs) cs e = scattered-append m xs ys bs cs (omega arith)
 
 -- a byte in front, and then the others behind it, at each address
-stored-cons_at : (m : ℕ → ℕ) (addr b : ℕ) (bs : List ℕ) (at : ℕ) → stored (stored m addr (b ∷ [])) (suc addr) bs at ≡ stored m addr (b ∷ bs) at
+stored-cons_at : (m : ℕ → ℕ) (addr b : ℕ) (bs : List ℕ) (at : ℕ)
+    → stored (stored m addr (b ∷ [])) (suc addr) bs at ≡ stored m addr (b ∷ bs) at
 unfolding stored
 stored-cons_at m addr b bs at = grind (arith, nat_tests, get_or_front b bs)
   where
@@ -49,7 +50,8 @@ stored-cons_at m addr b bs at = grind (arith, nat_tests, get_or_front b bs)
     get_or_front b bs zero h = absurd (omega arith)
     get_or_front b bs (suc k) h = ap (λ (n : ℕ). get_or bs n 0) (omega arith)
 
-stored-cons : (m : ℕ → ℕ) (addr b : ℕ) (bs : List ℕ) → stored (stored m addr (b ∷ [])) (suc addr) bs ≡ stored m addr (b ∷ bs)
+stored-cons : (m : ℕ → ℕ) (addr b : ℕ) (bs : List ℕ)
+    → stored (stored m addr (b ∷ [])) (suc addr) bs ≡ stored m addr (b ∷ bs)
 stored-cons m addr b bs = fun_ext (stored-cons_at m addr b bs)
 
 -- nothing is stored
@@ -61,7 +63,8 @@ pub stored-nil : (m : ℕ → ℕ) (addr : ℕ) → stored m addr [] ≡ m
 stored-nil m addr = fun_ext (stored-nil_at m addr)
 
 -- scattering to consecutive addresses is storing
-pub scattered-addresses : (m : ℕ → ℕ) (addr : ℕ) (bytes : List ℕ) → scattered m (addresses addr (length bytes)) bytes ≡ stored m addr bytes
+pub scattered-addresses : (m : ℕ → ℕ) (addr : ℕ) (bytes : List ℕ)
+    → scattered m (addresses addr (length bytes)) bytes ≡ stored m addr bytes
 unfolding scattered addresses
 scattered-addresses m addr [] = sym (stored-nil m addr)
 scattered-addresses m addr (b ∷ bs) =
@@ -78,7 +81,8 @@ scattered-buckets m (suc n) (b ∷ bs) = scattered-buckets m n bs
 -- ---- a memory that is a list of bytes
 
 -- reading consecutive bytes of a list
-pub bytes_from-list : (memory : List ℕ) (addr n : ℕ) → addr + n ≤ length memory → bytes_from (λ a. slice_index memory a) addr n ≡ take n (drop addr memory)
+pub bytes_from-list : (memory : List ℕ) (addr n : ℕ) → addr + n ≤ length memory
+    → bytes_from (λ a. slice_index memory a) addr n ≡ take n (drop addr memory)
 unfolding bytes_from
 bytes_from-list memory addr zero h = refl
 bytes_from-list memory addr (suc n) h =
@@ -114,7 +118,8 @@ stored-list memory addr bytes h = fun_ext (stored-list_at memory addr bytes h)
 
 -- ---- what was stored is read back
 
-bytes_from-each : (memory : ℕ → ℕ) (addr : ℕ) (bytes : List ℕ) → ((i : ℕ) → i < length bytes → memory (addr + i) ≡ slice_index bytes i)
+bytes_from-each : (memory : ℕ → ℕ) (addr : ℕ) (bytes : List ℕ)
+    → ((i : ℕ) → i < length bytes → memory (addr + i) ≡ slice_index bytes i)
     → bytes_from memory addr (length bytes) ≡ bytes
 unfolding bytes_from
 bytes_from-each memory addr [] each = refl
@@ -127,7 +132,8 @@ bytes_from-each memory addr (byte ∷ bytes) each =
           (λ i below. let next : suc addr + i ≡ addr + suc i = omega arith in ap memory next ∙ each (suc i) (omega arith)),
     ) refl
 
-stored-at_offset : (memory : ℕ → ℕ) (addr : ℕ) (bytes : List ℕ) (i : ℕ) → i < length bytes → stored memory addr bytes (addr + i) ≡ slice_index bytes i
+stored-at_offset : (memory : ℕ → ℕ) (addr : ℕ) (bytes : List ℕ) (i : ℕ) → i < length bytes
+    → stored memory addr bytes (addr + i) ≡ slice_index bytes i
 unfolding stored
 stored-at_offset memory addr bytes i below =
     let offset : addr + i - addr ≡ i = omega arith in
@@ -135,5 +141,7 @@ stored-at_offset memory addr bytes i below =
     grind (arith, nat_tests, same)
 
 -- bytes that are stored are read back from where they were stored
-pub bytes_from-stored : (memory : ℕ → ℕ) (addr : ℕ) (bytes : List ℕ) → bytes_from (stored memory addr bytes) addr (length bytes) ≡ bytes
-bytes_from-stored memory addr bytes = bytes_from-each (stored memory addr bytes) addr bytes (stored-at_offset memory addr bytes)
+pub bytes_from-stored : (memory : ℕ → ℕ) (addr : ℕ) (bytes : List ℕ)
+    → bytes_from (stored memory addr bytes) addr (length bytes) ≡ bytes
+bytes_from-stored memory addr bytes =
+    bytes_from-each (stored memory addr bytes) addr bytes (stored-at_offset memory addr bytes)

@@ -33,16 +33,19 @@ places_of-append : (ps qs : List Piece) → places_of (ps ++ qs) ≡ places_of p
 places_of-append ps qs = flat_map-append places_of_piece ps qs
 
 -- a place in a run of addresses
-addresses-at : (addr len i : ℕ) (rest : List Place) → i < len → slice_get (addresses addr len ++ rest) i ≡ Some (At (addr + i))
+addresses-at : (addr len i : ℕ) (rest : List Place) → i < len
+    → slice_get (addresses addr len ++ rest) i ≡ Some (At (addr + i))
 unfolding addresses
 addresses-at addr zero i rest below = absurd (omega arith)
-addresses-at addr (suc len) zero rest below = let here : addr ≡ addr + 0 = omega arith in ap (λ (a : ℕ). Some (At a)) here
+addresses-at addr (suc len) zero rest below =
+    let here : addr ≡ addr + 0 = omega arith in ap (λ (a : ℕ). Some (At a)) here
 addresses-at addr (suc len) (suc i) rest below =
     let next : addr + 1 + i ≡ addr + suc i = omega arith in
     addresses-at (addr + 1) len i rest (omega arith) ∙ ap (λ (a : ℕ). Some (At a)) next
 
 -- a place behind it
-addresses-behind : (addr len i : ℕ) (rest : List Place) → slice_get (addresses addr len ++ rest) (len + i) ≡ slice_get rest i
+addresses-behind : (addr len i : ℕ) (rest : List Place)
+    → slice_get (addresses addr len ++ rest) (len + i) ≡ slice_get rest i
 unfolding addresses
 addresses-behind addr zero i rest = let same : 0 + i ≡ i = omega arith in ap (slice_get rest) same
 addresses-behind addr (suc len) i rest =
@@ -57,7 +60,8 @@ runs_of f zero bytes = []
 runs_of f (suc pages) bytes = run (f 0) (min bytes page) ++ runs_of (λ i. f (suc i)) pages (bytes - page)
 
 -- the same entries give the same runs
-runs_of-same : (f g : ℕ → ℕ) (pages bytes : ℕ) → ((i : ℕ) → i < pages → f i ≡ g i) → runs_of f pages bytes ≡ runs_of g pages bytes
+runs_of-same : (f g : ℕ → ℕ) (pages bytes : ℕ) → ((i : ℕ) → i < pages → f i ≡ g i)
+    → runs_of f pages bytes ≡ runs_of g pages bytes
 unfolding runs_of
 runs_of-same f g zero bytes same = refl
 runs_of-same f g (suc pages) bytes same =
@@ -75,13 +79,15 @@ runs_of-at f (suc pages) bytes i below fit =
     let n = min bytes page in
     let rest = places_of (runs_of (λ j. f (suc j)) pages (bytes - page)) in
     let split : places_of (run (f 0) n ++ runs_of (λ j. f (suc j)) pages (bytes - page)) ≡ addresses (f 0) n ++ rest =
-    places_of-append (run (f 0) n) (runs_of (λ j. f (suc j)) pages (bytes - page)) ∙ ap (λ (ps : List Place). ps ++ rest) (places_of-run (f 0) n) in
+    places_of-append (run (f 0) n) (runs_of (λ j. f (suc j)) pages (bytes - page))
+    ∙ ap (λ (ps : List Place). ps ++ rest) (places_of-run (f 0) n) in
     ap (λ (ps : List Place). slice_get ps i) split
     ∙ elim (cases_lt i 4096) [
       | inl here ↦
           let first : i / 4096 ≡ 0 = omega arith in
           let low : i % 4096 ≡ i = omega arith in
-          addresses-at (f 0) n i rest (omega arith) ∙ ap (λ (a : ℕ). Some (At (f 0 + a))) (sym low) ∙ ap (λ (k : ℕ). Some (At (f k + i % 4096))) (sym first)
+          addresses-at (f 0) n i rest (omega arith) ∙ ap (λ (a : ℕ). Some (At (f 0 + a))) (sym low)
+          ∙ ap (λ (k : ℕ). Some (At (f k + i % 4096))) (sym first)
       | inr behind ↦
           let whole : n + (i - 4096) ≡ i = omega arith in
           let next : suc ((i - 4096) / 4096) ≡ i / 4096 = omega arith in
@@ -96,12 +102,15 @@ runs_of-at f (suc pages) bytes i below fit =
 -- ---- slots
 
 -- the first entry stands at the pointer, but for one slot where more are to come
-slot_of-first : (memory : ℕ → ℕ) (times pointer entries : ℕ) → (slots_of pointer ≡ 1 → entries ≤ 1) → 0 < slots_of pointer → slot_of memory times pointer entries 0 ≡ pointer
+slot_of-first : (memory : ℕ → ℕ) (times pointer entries : ℕ) → (slots_of pointer ≡ 1 → entries ≤ 1)
+    → 0 < slots_of pointer → slot_of memory times pointer entries 0 ≡ pointer
 unfolding slot_of
 slot_of-first memory zero pointer entries one some = omega arith
-slot_of-first memory (suc times) pointer entries one some = rw (stands entries (slots_of pointer) one some) (omega arith)
+slot_of-first memory (suc times) pointer entries one some =
+    rw (stands entries (slots_of pointer) one some) (omega arith)
   where
-    stands : (entries slots : ℕ) → (slots ≡ 1 → entries ≤ 1) → 0 < slots → (nat_le entries slots || nat_lt 0 (slots - 1)) ≡ true
+    stands : (entries slots : ℕ) → (slots ≡ 1 → entries ≤ 1) → 0 < slots
+        → (nat_le entries slots || nat_lt 0 (slots - 1)) ≡ true
     stands entries slots one some = grind (arith, nat_tests)
 
 -- each other one stands where the list from the next slot on has it
@@ -168,7 +177,8 @@ read_page-spells mapped memory bytes pieces follow addr out rest spells goes =
     goes behind ∙ append_assoc pieces (run addr (min bytes page)) rest
 
 -- a dialogue that goes by a test
-spells-if : {G : Type 0} (memory : ℕ → ℕ) (b : Bool) (x y : Dialogue Reading) (out : List Piece) → in_memory memory (cond b x y) ≡ Spells out
+spells-if : {G : Type 0} (memory : ℕ → ℕ) (b : Bool) (x y : Dialogue Reading) (out : List Piece)
+    → in_memory memory (cond b x y) ≡ Spells out
     → (b ≡ true → in_memory memory x ≡ Spells out → G) → (b ≡ false → in_memory memory y ≡ Spells out → G) → G
 spells-if memory true x y out spells so not_so = so refl spells
 spells-if memory false x y out spells so not_so = not_so refl spells
@@ -196,7 +206,8 @@ runs_of-first memory pages bytes pieces out f g addr first others is =
 
 -- the entries of the last pages name their runs
 read_entries-runs : (mapped : ℕ → Bool) (memory : ℕ → ℕ) (times pages slots from bytes : ℕ) (pieces out : List Piece)
-    → IsNextSlot times pages slots from → in_memory memory (read_entries mapped pages slots from bytes pieces) ≡ Spells out
+    → IsNextSlot times pages slots from
+    → in_memory memory (read_entries mapped pages slots from bytes pieces) ≡ Spells out
     → out ≡ pieces ++ runs_of (λ i. slot_at memory (slot_of memory times from pages i)) pages bytes
 unfolding read_entries in_memory runs_of
 read_entries-runs mapped memory times zero slots from bytes pieces out next spells =
@@ -242,7 +253,8 @@ read_entries-runs mapped memory times (suc pages) slots from bytes pieces out ne
 -- ---- PRP1 and PRP2
 
 -- an entry of a list
-entry_of-list : (memory : ℕ → ℕ) (prp2 last i : ℕ) → 1 < last → slot_at memory (slot_of memory last prp2 last i) ≡ entry_of memory prp2 last (suc i)
+entry_of-list : (memory : ℕ → ℕ) (prp2 last i : ℕ) → 1 < last
+    → slot_at memory (slot_of memory last prp2 last i) ≡ entry_of memory prp2 last (suc i)
 entry_of-list memory prp2 last i some =
     let more : (last == 1) ≡ false = grind (arith, nat_tests) in
     let same : suc i - 1 ≡ i = omega arith in
@@ -286,7 +298,8 @@ read_prp-at mapped memory prp1 prp2 len out i spells below =
     let runs = runs_of entry n bytes in
     let is : out ≡ run prp1 first ++ runs = read_prp2-runs mapped memory n prp2 bytes (run prp1 first) out fine.1 in
     let split : places_of out ≡ addresses prp1 first ++ places_of runs =
-    ap (λ (ps : List Piece). places_of ps) is ∙ places_of-append (run prp1 first) runs ∙ ap (λ (ps : List Place). ps ++ places_of runs) (places_of-run prp1 first) in
+    ap (λ (ps : List Piece). places_of ps) is ∙ places_of-append (run prp1 first) runs
+    ∙ ap (λ (ps : List Place). ps ++ places_of runs) (places_of-run prp1 first) in
     let last : n ≡ last_page prp1 len = last_page-counts prp1 len (omega arith) in
     ap (λ (ps : List Place). slice_get ps i) split
     ∙ elim (cases_lt (prp1 % 4096 + i) 4096) [

@@ -28,7 +28,8 @@ decided mapped (e ∷ es) more = unless (entry_fault_of mapped e) (decided mappe
 
 -- the first with a fault decides
 decided-faulty : (mapped : ℕ → Bool) (es : List PrpEntry) (more : Reading) (i : ℕ) (e : PrpEntry) (code : StatusCode)
-    → slice_get es i ≡ Some e → entry_fault_of mapped e ≡ Some code → All (IsFaultlessEntry mapped) (take i es) → decided mapped es more ≡ Faulty code
+    → slice_get es i ≡ Some e → entry_fault_of mapped e ≡ Some code → All (IsFaultlessEntry mapped) (take i es)
+    → decided mapped es more ≡ Faulty code
 decided-faulty mapped [] more i e code at is before = cc
 decided-faulty mapped (first ∷ es) more zero e code at is before =
     let same : first ≡ e = cc in
@@ -39,11 +40,13 @@ decided-faulty mapped (first ∷ es) more (suc i) e code at is before =
     ∙ decided-faulty mapped es more i e code at is (All-tail (IsFaultlessEntry mapped) first _ before)
 
 -- and none without a fault
-decided-fine : (mapped : ℕ → Bool) (es : List PrpEntry) (more : Reading) → All (IsFaultlessEntry mapped) es → decided mapped es more ≡ more
+decided-fine : (mapped : ℕ → Bool) (es : List PrpEntry) (more : Reading) → All (IsFaultlessEntry mapped) es
+    → decided mapped es more ≡ more
 decided-fine mapped [] more each = refl
 decided-fine mapped (first ∷ es) more each =
     let fine = All-head (IsFaultlessEntry mapped) first es each in
-    ap (λ (c : Option StatusCode). unless c (decided mapped es more)) fine ∙ decided-fine mapped es more (All-tail (IsFaultlessEntry mapped) first es each)
+    ap (λ (c : Option StatusCode). unless c (decided mapped es more)) fine
+    ∙ decided-fine mapped es more (All-tail (IsFaultlessEntry mapped) first es each)
 
 -- ---- a list
 
@@ -55,7 +58,8 @@ if-false : (b : Bool) (x y : List PrpEntry) → b ≡ false → cond b x y ≡ y
 if-false b x y is = rw is refl
 
 -- entries that stand before the last slot of a page, and those that it points to
-list_entries-past : (memory : ℕ → ℕ) (times pointer entries bytes here : ℕ) → here ≡ slots_of pointer - 1 → slots_of pointer < entries
+list_entries-past : (memory : ℕ → ℕ) (times pointer entries bytes here : ℕ) → here ≡ slots_of pointer - 1
+    → slots_of pointer < entries
     → list_entries memory (suc times) pointer entries bytes
     ≡ entries_at memory pointer here bytes
     ++ list_pointer page (slot_at memory (pointer + 8 * here)) (entries - here)
@@ -78,7 +82,8 @@ list_entries-all memory (suc times) pointer entries bytes few =
     if-true (nat_le entries (slots_of pointer)) (entries_at memory pointer entries bytes) _ yes'
 
 -- the first entry of a list stands at its pointer, but for one slot where more are to come
-list_entries-first : (memory : ℕ → ℕ) (times pointer entries bytes : ℕ) → 0 < slots_of pointer → (slots_of pointer ≡ 1 → entries ≡ 0)
+list_entries-first : (memory : ℕ → ℕ) (times pointer entries bytes : ℕ) → 0 < slots_of pointer
+    → (slots_of pointer ≡ 1 → entries ≡ 0)
     → list_entries memory times pointer (suc entries) bytes ≡ page_entry (slot_at memory pointer) bytes ∷ list_entries memory times (pointer + 8) entries (bytes - page)
 unfolding list_entries entries_at
 list_entries-first memory zero pointer entries bytes some one = refl
@@ -106,9 +111,11 @@ list_entries-first memory (suc times) pointer entries bytes some one =
     ]
   where
     several : (slots entries : ℕ) → 0 < slots → (slots ≡ 1 → entries ≡ 0) → slots < suc entries → 1 < slots
-    several slots entries some one past = (elim (eq-or-lt_of_le some) [ inl single ↦ (let none = one (sym single) in absurd (omega arith)) | inr two ↦ two ])
+    several slots entries some one past =
+        (elim (eq-or-lt_of_le some) [ inl single ↦ (let none = one (sym single) in absurd (omega arith)) | inr two ↦ two ])
 
-    fits : (slots entries fewer : ℕ) → 0 < slots → (slots ≡ 1 → entries ≡ 0) → suc entries ≤ slots → (1 < slots → slots ≡ suc fewer) → entries ≤ fewer
+    fits : (slots entries fewer : ℕ) → 0 < slots → (slots ≡ 1 → entries ≡ 0) → suc entries ≤ slots
+        → (1 < slots → slots ≡ suc fewer) → entries ≤ fewer
     fits slots entries fewer some one all less =
         (elim (eq-or-lt_of_le some) [ inl single ↦ (let none = one (sym single) in omega arith) | inr two ↦ (let same = less two in omega arith) ])
 
@@ -146,17 +153,20 @@ unless_faulty-decided mapped memory e es more goes =
     ]) refl
 
 -- the same entries
-Decide-same : (mapped : ℕ → Bool) (es fs : List PrpEntry) (reading : Reading) → es ≡ fs → Decide mapped fs reading → Decide mapped es reading
+Decide-same : (mapped : ℕ → Bool) (es fs : List PrpEntry) (reading : Reading) → es ≡ fs → Decide mapped fs reading
+    → Decide mapped es reading
 Decide-same mapped es fs reading same so = subst (λ (gs : List PrpEntry). Decide mapped gs reading) (sym same) so
 
 -- a dialogue that goes by a test
 Decide-if : (mapped : ℕ → Bool) (memory : ℕ → ℕ) (es : List PrpEntry) (b : Bool) (x y : Dialogue Reading)
-    → (b ≡ true → Decide mapped es (in_memory memory x)) → (b ≡ false → Decide mapped es (in_memory memory y)) → Decide mapped es (in_memory memory (cond b x y))
+    → (b ≡ true → Decide mapped es (in_memory memory x)) → (b ≡ false → Decide mapped es (in_memory memory y))
+    → Decide mapped es (in_memory memory (cond b x y))
 Decide-if mapped memory es true x y so not_so = so refl
 Decide-if mapped memory es false x y so not_so = not_so refl
 
 -- a list pointer that is not a page's start has the same fault, whatever is needed there
-pointer_fault : (mapped : ℕ → Bool) (addr n : ℕ) → entry_fault mapped page addr (8 * min (page / 8) n) ≡ entry_fault_of mapped (list_pointer page addr n)
+pointer_fault : (mapped : ℕ → Bool) (addr n : ℕ)
+    → entry_fault mapped page addr (8 * min (page / 8) n) ≡ entry_fault_of mapped (list_pointer page addr n)
 pointer_fault mapped addr n =
     (elim (addr % page == 0) as (λ b. (addr % page == 0) ≡ b
     → cond (not b) (Some PrpOffsetInvalid) (first_failing ((not (everywhere mapped addr (8 * min (page / 8) n)), DataTransferError) ∷ []))
@@ -249,15 +259,18 @@ read_prp-decided mapped memory prp1 prp2 len some =
 
 -- ---- the laws
 
-pub read_prp-faulty : (mapped : ℕ → Bool) (memory : ℕ → ℕ) (prp1 prp2 len i : ℕ) (e : PrpEntry) (code : StatusCode) → 0 < len
+pub read_prp-faulty : (mapped : ℕ → Bool) (memory : ℕ → ℕ) (prp1 prp2 len i : ℕ) (e : PrpEntry) (code : StatusCode)
+    → 0 < len
     → slice_get (transfer_entries memory prp1 prp2 len) i ≡ Some e → entry_fault_of mapped e ≡ Some code
-    → All (IsFaultlessEntry mapped) (take i (transfer_entries memory prp1 prp2 len)) → in_memory memory (read_prp mapped prp1 prp2 len) ≡ Faulty code
+    → All (IsFaultlessEntry mapped) (take i (transfer_entries memory prp1 prp2 len))
+    → in_memory memory (read_prp mapped prp1 prp2 len) ≡ Faulty code
 read_prp-faulty mapped memory prp1 prp2 len i e code some at is before =
     let both = read_prp-decided mapped memory prp1 prp2 len some in
     both.1 ∙ decided-faulty mapped (transfer_entries memory prp1 prp2 len) (Spells both.0) i e code at is before
 
 pub read_prp-spells : (mapped : ℕ → Bool) (memory : ℕ → ℕ) (prp1 prp2 len : ℕ) → 0 < len
-    → All (IsFaultlessEntry mapped) (transfer_entries memory prp1 prp2 len) → (pieces : List Piece) × (in_memory memory (read_prp mapped prp1 prp2 len) ≡ Spells pieces)
+    → All (IsFaultlessEntry mapped) (transfer_entries memory prp1 prp2 len)
+    → (pieces : List Piece) × (in_memory memory (read_prp mapped prp1 prp2 len) ≡ Spells pieces)
 read_prp-spells mapped memory prp1 prp2 len some each =
     let both = read_prp-decided mapped memory prp1 prp2 len some in
     (both.0, both.1 ∙ decided-fine mapped (transfer_entries memory prp1 prp2 len) (Spells both.0) each)

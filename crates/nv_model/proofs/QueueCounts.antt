@@ -25,7 +25,8 @@ ahead-some size head tail order apart =
     ]
 
 -- and one less is from the slot behind the head
-pub ahead-taken : (size head tail : ℕ) → IsInOrder size head tail → (head ≡ tail → ⊥) → ahead size (next_slot size head) tail + 1 ≡ ahead size head tail
+pub ahead-taken : (size head tail : ℕ) → IsInOrder size head tail → (head ≡ tail → ⊥)
+    → ahead size (next_slot size head) tail + 1 ≡ ahead size head tail
 ahead-taken size head tail order apart =
     let head_below = order.head_is_slot in
     let tail_below = order.tail_is_slot in
@@ -46,7 +47,8 @@ ahead-taken size head tail order apart =
     ]
 
 -- a queue is full where one slot alone is left
-pub full-ahead : (size head tail : ℕ) → IsInOrder size head tail → is_full size head tail ≡ true → ahead size head tail ≡ size - 1
+pub full-ahead : (size head tail : ℕ) → IsInOrder size head tail → is_full size head tail ≡ true
+    → ahead size head tail ≡ size - 1
 full-ahead size head tail order full =
     let at : head ≡ next_slot size tail = eqb-true head (next_slot size tail) full in
     let tail_below = order.tail_is_slot in
@@ -63,7 +65,8 @@ full-ahead size head tail order full =
           rw (here, ahead-up size 0 tail (omega arith) tail_below) (omega arith)
     ]
 
-pub ahead-full : (size head tail : ℕ) → IsInOrder size head tail → ahead size head tail ≡ size - 1 → is_full size head tail ≡ true
+pub ahead-full : (size head tail : ℕ) → IsInOrder size head tail → ahead size head tail ≡ size - 1
+    → is_full size head tail ≡ true
 ahead-full size head tail order most =
     (elim (is_full size head tail) as (λ b. is_full size head tail ≡ b → b ≡ true) [
       | true ↦ λ _. refl
@@ -75,7 +78,8 @@ ahead-full size head tail order most =
     ]) refl
 
 -- a new head on the way to the tail parts the way
-pub ahead-parts : (size head at tail : ℕ) → IsInOrder size head tail → at < size → ahead size head at ≤ ahead size head tail
+pub ahead-parts : (size head at tail : ℕ) → IsInOrder size head tail → at < size
+    → ahead size head at ≤ ahead size head tail
     → ahead size at tail + ahead size head at ≡ ahead size head tail
 ahead-parts size head at tail order at_below on_the_way =
     let head_below = order.head_is_slot in
@@ -112,7 +116,8 @@ front_of-waits q addr found same =
       | false ↦ λ bad. (let none : None ≡ Some addr = rw empty at bad in cc)
     ]) found
 
-pub front-waits : (c : Controller) (y addr : ℕ) (q : SubmissionQueue) → submission_queue c y ≡ Some q → front c y ≡ Some addr → q.head ≡ q.tail → ⊥
+pub front-waits : (c : Controller) (y addr : ℕ) (q : SubmissionQueue) → submission_queue c y ≡ Some q
+    → front c y ≡ Some addr → q.head ≡ q.tail → ⊥
 unfolding front
 front-waits c y addr q is found =
     (elim (is_ready c) as (λ b. cond b (front_of (submission_queue c y)) None ≡ Some addr → q.head ≡ q.tail → ⊥) [
@@ -121,7 +126,8 @@ front-waits c y addr q is found =
     ]) found
 
 -- the queue behind a take
-pub took-behind : (c : Controller) (y : ℕ) (q : SubmissionQueue) → submission_queue c y ≡ Some q → submission_queue (took c y) y ≡ Some (front_taken q)
+pub took-behind : (c : Controller) (y : ℕ) (q : SubmissionQueue) → submission_queue c y ≡ Some q
+    → submission_queue (took c y) y ≡ Some (front_taken q)
 unfolding took
 took-behind c y q is =
     subst (λ (o : Option SubmissionQueue). submission_queue (took_of o c y) y ≡ Some (front_taken q)) (sym is)
@@ -139,7 +145,8 @@ pub head_rung-acknowledges : (c after : Controller) (y head : ℕ) (q : Completi
 head_rung-acknowledges c after y head q order is rung =
     (elim (nat_lt head q.size && nat_le (ahead q.size q.head head) (ahead q.size q.head q.tail))
     as (λ b. (nat_lt head q.size && nat_le (ahead q.size q.head head) (ahead q.size q.head q.tail)) ≡ b
-    → cond b (Some (with_completion c y (Some (record q { head = head })))) None ≡ Some after → Acknowledges q y after) [
+    → cond b (Some (with_completion c y (Some (record q { head = head })))) None ≡ Some after
+    → Acknowledges q y after) [
       | true ↦ λ fits done.
           let both = and-true (nat_lt head q.size) (nat_le (ahead q.size q.head head) (ahead q.size q.head q.tail)) fits in
           let same : with_completion c y (Some (record q { head = head })) ≡ after = cc in

@@ -43,7 +43,8 @@ pub ahead-round : (size head tail : ℕ) → tail < head → head < size → ahe
 ahead-round size head tail round below = mod-eq_of_lt (omega arith)
 
 -- the next slot is one further, unless it is the head
-pub ahead-next : (size head tail : ℕ) → IsInOrder size head tail → is_full size head tail ≡ false → ahead size head (next_slot size tail) ≡ ahead size head tail + 1
+pub ahead-next : (size head tail : ℕ) → IsInOrder size head tail → is_full size head tail ≡ false
+    → ahead size head (next_slot size tail) ≡ ahead size head tail + 1
 ahead-next size head tail order free =
     let some = order.at_least in
     let head_below = order.head_is_slot in
@@ -80,7 +81,8 @@ size_fits-bounds size fits =
 -- ---- what each change keeps
 
 -- a head or a tail that is a slot
-IsInOrder-at : (size head tail from to : ℕ) → IsInOrder size head tail → from < size → to < size → IsInOrder size from to
+IsInOrder-at : (size head tail from to : ℕ) → IsInOrder size head tail → from < size → to < size
+    → IsInOrder size from to
 IsInOrder-at size head tail from to order head_below tail_below =
     record { at_least = order.at_least; at_most = order.at_most; head_is_slot = head_below; tail_is_slot = tail_below }
 

@@ -34,15 +34,21 @@ there-below [] y there = cc
 there-below (x ∷ xs) zero there = omega arith
 there-below (x ∷ xs) (suc y) there = let behind = there-below xs y there in omega arith
 
-more-counts : (c : Controller) (queue y : ℕ) → 0 < queue → queue < length c.taken → slice_index (taken_more c queue) y ≡ slice_index c.taken y + bit (queue == y)
-more-counts c queue y io below = let e : (queue == 0) ≡ false = grind (arith, nat_tests) in rw e (index-more c.taken queue y below)
+more-counts : (c : Controller) (queue y : ℕ) → 0 < queue → queue < length c.taken
+    → slice_index (taken_more c queue) y ≡ slice_index c.taken y + bit (queue == y)
+more-counts c queue y io below =
+    let e : (queue == 0) ≡ false = grind (arith, nat_tests) in rw e (index-more c.taken queue y below)
 
-less-counts : (c : Controller) (queue y : ℕ) → 0 < queue → queue < length c.taken → 0 < slice_index c.taken queue → slice_index (taken_less c queue) y + bit (queue == y) ≡ slice_index c.taken y
-less-counts c queue y io below some = let e : (queue == 0) ≡ false = grind (arith, nat_tests) in rw e (index-less c.taken queue y below some)
+less-counts : (c : Controller) (queue y : ℕ) → 0 < queue → queue < length c.taken → 0 < slice_index c.taken queue
+    → slice_index (taken_less c queue) y + bit (queue == y) ≡ slice_index c.taken y
+less-counts c queue y io below some =
+    let e : (queue == 0) ≡ false = grind (arith, nat_tests) in rw e (index-less c.taken queue y below some)
 
 -- a bag with something else of an I/O queue, or nothing, under a name
-put-of_io : (bag : Bag) (name : ℕ) (member : Option Taken) → ((at : ℕ) → IfSome (bag at) IsOfIoQueue) → IfSome member IsOfIoQueue → (at : ℕ) → IfSome (put bag name member at) IsOfIoQueue
-put-of_io bag name member each there at = by_test (λ o. IfSome o IsOfIoQueue) (at == name) member (bag at) (λ _. there) (λ _. each at)
+put-of_io : (bag : Bag) (name : ℕ) (member : Option Taken) → ((at : ℕ) → IfSome (bag at) IsOfIoQueue)
+    → IfSome member IsOfIoQueue → (at : ℕ) → IfSome (put bag name member at) IsOfIoQueue
+put-of_io bag name member each there at =
+    by_test (λ o. IfSome o IsOfIoQueue) (at == name) member (bag at) (λ _. there) (λ _. each at)
 
 -- ---- what keeps a controller and a bag consistent
 
@@ -56,7 +62,8 @@ behind-running c d bag was behind =
     }
 
 -- a command goes on
-progress-running : (c : Controller) (bag : Bag) (name : ℕ) (t : Taken) (progress : Progress) → IsConsistent c bag → bag name ≡ Some t
+progress-running : (c : Controller) (bag : Bag) (name : ℕ) (t : Taken) (progress : Progress) → IsConsistent c bag
+    → bag name ≡ Some t
     → IsConsistent c (put bag name (Some (record t { progress = progress })))
 progress-running c bag name t progress was is =
     record {
@@ -66,7 +73,8 @@ progress-running c bag name t progress was is =
     }
 
 -- a command is taken
-took-running : (c : Controller) (bag : Bag) (queue name addr : ℕ) (entry : List ℕ) → IsConsistent c bag → 0 < queue → bag name ≡ None → front c queue ≡ Some addr
+took-running : (c : Controller) (bag : Bag) (queue name addr : ℕ) (entry : List ℕ) → IsConsistent c bag → 0 < queue
+    → bag name ≡ None → front c queue ≡ Some addr
     → IsConsistent (took c queue) (put bag name (Some (record { queue = queue; entry = entry; progress = Unjudged })))
 took-running c bag queue name addr entry was io none found =
     let may = front-may c queue addr found in
@@ -83,7 +91,8 @@ took-running c bag queue name addr entry was io none found =
     }
 
 -- a command leaves
-left-running : (c d : Controller) (bag : Bag) (name : ℕ) (t : Taken) → IsConsistent c bag → bag name ≡ Some t → IsTogether d → d.taken ≡ taken_less c t.queue
+left-running : (c d : Controller) (bag : Bag) (name : ℕ) (t : Taken) → IsConsistent c bag → bag name ≡ Some t
+    → IsTogether d → d.taken ≡ taken_less c t.queue
     → IsConsistent d (put bag name None)
 left-running c d bag name t was is together taken =
     let io = subst (λ o. IfSome o IsOfIoQueue) is (was.of_io_queues name) in
@@ -100,7 +109,8 @@ left-running c d bag name t was is together taken =
 -- ---- steps
 
 module _ (shape : Shape) where
-  controlled-running : (o : Option Controller) (p : Private) → IsRunning p → IfSome o (IsBehind p.controller) → IsRunning (controlled o p).state
+  controlled-running : (o : Option Controller) (p : Private) → IsRunning p → IfSome o (IsBehind p.controller)
+      → IsRunning (controlled o p).state
   controlled-running None p was change = was
   controlled-running (Some c) p was change = behind-running p.controller c p.bag was change
 
@@ -109,14 +119,18 @@ module _ (shape : Shape) where
   register_replied-running (Some value) p was = was
 
   acted-running : (a : Act) (p : Private) → IsRunning p → IsRunning (acted shape a p).state
-  acted-running (act.Store addr bytes) p was = by_test (λ (a : Acted). IsRunning a.state) (everywhere shape.mapped addr (length bytes)) _ _ (λ _. was) (λ _. was)
-  acted-running (act.Load addr len) p was = by_test (λ (a : Acted). IsRunning a.state) (everywhere shape.mapped addr len) _ _ (λ _. was) (λ _. was)
+  acted-running (act.Store addr bytes) p was =
+      by_test (λ (a : Acted). IsRunning a.state) (everywhere shape.mapped addr (length bytes)) _ _ (λ _. was) (λ _. was)
+  acted-running (act.Load addr len) p was =
+      by_test (λ (a : Acted). IsRunning a.state) (everywhere shape.mapped addr len) _ _ (λ _. was) (λ _. was)
   acted-running (act.RegRead offset) p was = register_replied-running (reg_read p.controller offset) p was
   acted-running (act.RegWrite offset value) p was =
       controlled-running (reg_write shape.mapped p.controller offset value) p was (reg_write-together shape.mapped p.controller offset value was.together)
-  acted-running (act.Doorbell offset value) p was = controlled-running (doorbell p.controller offset value) p was (doorbell-together p.controller offset value was.together)
+  acted-running (act.Doorbell offset value) p was =
+      controlled-running (doorbell p.controller offset value) p was (doorbell-together p.controller offset value was.together)
 
-  taken_at-running : (at : Option ℕ) (queue name : ℕ) (p : Private) → IsRunning p → may_take queue name p ≡ true → front p.controller queue ≡ at → AfterRuns (taken_at at queue name p)
+  taken_at-running : (at : Option ℕ) (queue name : ℕ) (p : Private) → IsRunning p → may_take queue name p ≡ true
+      → front p.controller queue ≡ at → AfterRuns (taken_at at queue name p)
   taken_at-running None queue name p was may found = tt
   taken_at-running (Some addr) queue name p was may found =
       let both = and-true (nat_lt 0 queue) (is_none (p.bag name)) may in
@@ -126,49 +140,62 @@ module _ (shape : Shape) where
       nothing None is = refl
       nothing (Some t) is = cc
 
-  judged_at-running : (progress : Progress) (name : ℕ) (t : Taken) (p : Private) → IsRunning p → p.bag name ≡ Some t → AfterRuns (judged_at progress shape name t p)
-  judged_at-running Unjudged name t p was is = progress-running p.controller p.bag name t (progress_of (verdict_in shape p.memory t.entry)) was is
+  judged_at-running : (progress : Progress) (name : ℕ) (t : Taken) (p : Private) → IsRunning p → p.bag name ≡ Some t
+      → AfterRuns (judged_at progress shape name t p)
+  judged_at-running Unjudged name t p was is =
+      progress-running p.controller p.bag name t (progress_of (verdict_in shape p.memory t.entry)) was is
   judged_at-running (Ended st) name t p was is = tt
   judged_at-running (AtWork work left differed) name t p was is = tt
 
-  given_up_at-running : (progress : Progress) (name : ℕ) (t : Taken) (p : Private) → IsRunning p → p.bag name ≡ Some t → AfterRuns (given_up_at progress name t p)
-  given_up_at-running Unjudged name t p was is = progress-running p.controller p.bag name t (Ended (done_with InternalError)) was is
+  given_up_at-running : (progress : Progress) (name : ℕ) (t : Taken) (p : Private) → IsRunning p → p.bag name ≡ Some t
+      → AfterRuns (given_up_at progress name t p)
+  given_up_at-running Unjudged name t p was is =
+      progress-running p.controller p.bag name t (Ended (done_with InternalError)) was is
   given_up_at-running (Ended st) name t p was is = tt
   given_up_at-running (AtWork work left differed) name t p was is = tt
 
-  unit_done-running : (o : Option WorkUnit) (left : List ℕ) (work : Work) (differed : Bool) (name : ℕ) (t : Taken) (p : Private) → IsRunning p → p.bag name ≡ Some t
+  unit_done-running : (o : Option WorkUnit) (left : List ℕ) (work : Work) (differed : Bool) (name : ℕ) (t : Taken) (p : Private)
+      → IsRunning p → p.bag name ≡ Some t
       → AfterRuns (unit_done o left work differed name t p)
   unit_done-running None left work differed name t p was is = tt
   unit_done-running (Some unit) left work differed name t p was is = progress-running p.controller p.bag name t _ was is
 
-  moved_at-running : (progress : Progress) (number name : ℕ) (t : Taken) (p : Private) → IsRunning p → p.bag name ≡ Some t → AfterRuns (moved_at progress number name t p)
+  moved_at-running : (progress : Progress) (number name : ℕ) (t : Taken) (p : Private) → IsRunning p
+      → p.bag name ≡ Some t → AfterRuns (moved_at progress number name t p)
   moved_at-running Unjudged number name t p was is = tt
   moved_at-running (Ended st) number name t p was is = tt
-  moved_at-running (AtWork work left differed) number name t p was is = unit_done-running (unit_left work left number) (others number left) work differed name t p was is
+  moved_at-running (AtWork work left differed) number name t p was is =
+      unit_done-running (unit_left work left number) (others number left) work differed name t p was is
 
-  posted_at-running : (o : Option Posted) (name : ℕ) (t : Taken) (p : Private) → IsRunning p → p.bag name ≡ Some t → IfSome o (IsPosted p.controller t.queue) → AfterRuns (posted_at o name p)
+  posted_at-running : (o : Option Posted) (name : ℕ) (t : Taken) (p : Private) → IsRunning p → p.bag name ≡ Some t
+      → IfSome o (IsPosted p.controller t.queue) → AfterRuns (posted_at o name p)
   posted_at-running None name t p was is posts = tt
-  posted_at-running (Some r) name t p was is posts = left-running p.controller r.controller p.bag name t was is posts.0 posts.1
+  posted_at-running (Some r) name t p was is posts =
+      left-running p.controller r.controller p.bag name t was is posts.0 posts.1
 
-  completed_at-running : (o : Option StatusField) (name : ℕ) (t : Taken) (p : Private) → IsRunning p → p.bag name ≡ Some t → AfterRuns (completed_at o name t p)
+  completed_at-running : (o : Option StatusField) (name : ℕ) (t : Taken) (p : Private) → IsRunning p
+      → p.bag name ≡ Some t → AfterRuns (completed_at o name t p)
   completed_at-running None name t p was is = tt
   completed_at-running (Some st) name t p was is =
       by_test AfterRuns (is_enabled p.controller) _ _
       (λ on. posted_at-running (post p.controller t.queue 0 (cid_of t.entry) st) name t p was is (post-together p.controller t.queue 0 (cid_of t.entry) st on was.together)) (λ _. tt)
 
-  run_out_at-running : (o : Option StatusField) (name : ℕ) (t : Taken) (p : Private) → IsRunning p → p.bag name ≡ Some t → AfterRuns (run_out_at o name t p)
+  run_out_at-running : (o : Option StatusField) (name : ℕ) (t : Taken) (p : Private) → IsRunning p → p.bag name ≡ Some t
+      → AfterRuns (run_out_at o name t p)
   run_out_at-running None name t p was is = tt
   run_out_at-running (Some st) name t p was is =
       by_test AfterRuns (is_enabled p.controller) _ _ (λ _. tt)
       (λ out. let behind = ran_out-together p.controller t.queue out was.together in
       left-running p.controller (ran_out p.controller t.queue) p.bag name t was is behind.0 behind.1)
 
-  administered-running : (a : AdminStep) (p : Private) → IsRunning p → IsAdminBehind p.controller a → AfterRuns (administered a p)
+  administered-running : (a : AdminStep) (p : Private) → IsRunning p → IsAdminBehind p.controller a
+      → AfterRuns (administered a p)
   administered-running NothingToDo p was change = tt
   administered-running QueueFull p was change = tt
   administered-running (Stepped c memory) p was change = behind-running p.controller c p.bag was change
 
-  with_taken-running : (bag : Bag) (name : ℕ) (o : Option Taken) (change : Taken → Option After) → bag name ≡ o → ((t : Taken) → bag name ≡ Some t → AfterRuns (change t)) → AfterRuns (with_taken o change)
+  with_taken-running : (bag : Bag) (name : ℕ) (o : Option Taken) (change : Taken → Option After) → bag name ≡ o
+      → ((t : Taken) → bag name ≡ Some t → AfterRuns (change t)) → AfterRuns (with_taken o change)
   with_taken-running bag name None change is each = tt
   with_taken-running bag name (Some t) change is each = each t is
 
@@ -178,27 +205,36 @@ module _ (shape : Shape) where
   step-running (ActStep a) p was = acted-running a p was
   step-running (TakeStep queue name) p was =
       by_test AfterRuns (may_take queue name p) _ _ (λ may. taken_at-running (front p.controller queue) queue name p was may refl) (λ _. tt)
-  step-running (JudgeStep name) p was = with_taken-running p.bag name (p.bag name) _ refl (λ t is. judged_at-running t.progress name t p was is)
-  step-running (MoveStep name number) p was = with_taken-running p.bag name (p.bag name) _ refl (λ t is. moved_at-running t.progress number name t p was is)
-  step-running (GiveUpStep name) p was = with_taken-running p.bag name (p.bag name) _ refl (λ t is. given_up_at-running t.progress name t p was is)
-  step-running (PostStep name) p was = with_taken-running p.bag name (p.bag name) _ refl (λ t is. completed_at-running (ending t.progress) name t p was is)
-  step-running (RunOutStep name) p was = with_taken-running p.bag name (p.bag name) _ refl (λ t is. run_out_at-running (ending t.progress) name t p was is)
+  step-running (JudgeStep name) p was =
+      with_taken-running p.bag name (p.bag name) _ refl (λ t is. judged_at-running t.progress name t p was is)
+  step-running (MoveStep name number) p was =
+      with_taken-running p.bag name (p.bag name) _ refl (λ t is. moved_at-running t.progress number name t p was is)
+  step-running (GiveUpStep name) p was =
+      with_taken-running p.bag name (p.bag name) _ refl (λ t is. given_up_at-running t.progress name t p was is)
+  step-running (PostStep name) p was =
+      with_taken-running p.bag name (p.bag name) _ refl (λ t is. completed_at-running (ending t.progress) name t p was is)
+  step-running (RunOutStep name) p was =
+      with_taken-running p.bag name (p.bag name) _ refl (λ t is. run_out_at-running (ending t.progress) name t p was is)
   step-running AdminQueueStep p was =
       administered-running (admin shape.mapped shape.blocks p.controller p.memory) p was (admin-together shape.mapped shape.blocks p.controller p.memory was.together)
   step-running (KeepStep lba) p was = by_test AfterRuns (nat_lt lba shape.blocks) _ _ (λ _. was) (λ _. tt)
 
   -- ---- runs
 
-  further-running : (o : Option After) (steps : List Step) → AfterRuns o → ((q : Private) → IsRunning q → IfSome (run_of shape steps q) (λ r. IsRunning r.state))
+  further-running : (o : Option After) (steps : List Step) → AfterRuns o
+      → ((q : Private) → IsRunning q → IfSome (run_of shape steps q) (λ r. IsRunning r.state))
       → IfSome (further o (λ q. run_of shape steps q)) (λ r. IsRunning r.state)
   further-running None steps was rest = tt
-  further-running (Some a) steps was rest = further-state (λ q. IsRunning q) a (run_of shape steps a.state) (rest a.state was)
+  further-running (Some a) steps was rest =
+      further-state (λ q. IsRunning q) a (run_of shape steps a.state) (rest a.state was)
 
   -- and so does each run
-  pub run_of-running : (steps : List Step) (p : Private) → IsRunning p → IfSome (run_of shape steps p) (λ r. IsRunning r.state)
+  pub run_of-running : (steps : List Step) (p : Private) → IsRunning p
+      → IfSome (run_of shape steps p) (λ r. IsRunning r.state)
   unfolding run_of
   run_of-running [] p was = was
-  run_of-running (s ∷ steps) p was = further-running (step shape s p) steps (step-running s p was) (λ q there. run_of-running steps q there)
+  run_of-running (s ∷ steps) p was =
+      further-running (step shape s p) steps (step-running s p was) (λ q there. run_of-running steps q there)
 
 -- it holds at the start
 pub start-running : IsRunning start
@@ -217,4 +253,5 @@ start-running =
 
 -- it holds along every run from the start
 pub along-running : AlongEveryRun IsRunning
-along-running shape steps r is = subst (λ (o : Option Run). IfSome o (λ e. IsRunning e.state)) is (run_of-running shape steps start start-running)
+along-running shape steps r is =
+    subst (λ (o : Option Run). IfSome o (λ e. IsRunning e.state)) is (run_of-running shape steps start start-running)

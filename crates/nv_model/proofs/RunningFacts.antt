@@ -25,12 +25,14 @@ found (Some a) there = record { value = a; is = refl }
 -- ---- counts
 
 -- a taken command's queue
-pub taken-io : (c : Controller) (bag : Bag) (name : ℕ) (t : Taken) → IsConsistent c bag → bag name ≡ Some t → IsOfIoQueue t
+pub taken-io : (c : Controller) (bag : Bag) (name : ℕ) (t : Taken) → IsConsistent c bag → bag name ≡ Some t
+    → IsOfIoQueue t
 taken-io c bag name t was is = subst (λ o. IfSome o IsOfIoQueue) is (was.of_io_queues name)
 
 one_of-admin : (o : Option Taken) → IfSome o IsOfIoQueue → one_of 0 o ≡ 0
 one_of-admin None io = refl
-one_of-admin (Some t) io = let some = io.0 in let differ : (t.queue == 0) ≡ false = grind (arith, nat_tests) in rw differ refl
+one_of-admin (Some t) io =
+    let some = io.0 in let differ : (t.queue == 0) ≡ false = grind (arith, nat_tests) in rw differ refl
 
 count-admin : (bag : Bag) (n : ℕ) → ((name : ℕ) → IfSome (bag name) IsOfIoQueue) → count_below bag 0 n ≡ 0
 count-admin bag zero io = refl
@@ -41,7 +43,8 @@ pub admin-none : (c : Controller) (bag : Bag) → IsConsistent c bag → slice_i
 admin-none c bag was = sym (was.counted.count 0) ∙ count-admin bag was.counted.bound was.of_io_queues
 
 -- where none is counted, none is taken
-none-member : (c : Controller) (bag : Bag) (name : ℕ) (o : Option Taken) → IsConsistent c bag → running c ≡ 0 → bag name ≡ o → o ≡ None
+none-member : (c : Controller) (bag : Bag) (name : ℕ) (o : Option Taken) → IsConsistent c bag → running c ≡ 0
+    → bag name ≡ o → o ≡ None
 none-member c bag name None was none is = refl
 none-member c bag name (Some t) was none is =
     let some = counted-some c.taken bag name t was.counted is in
@@ -65,14 +68,19 @@ none-counted c bag was none =
 
 -- ---- queues
 
-pub submission-there : (c : Controller) (bag : Bag) (name : ℕ) (t : Taken) → IsConsistent c bag → is_enabled c ≡ true → bag name ≡ Some t → IsSome (submission_queue c t.queue)
-submission-there c bag name t was on is = was.together.taken_there on t.queue (counted-some c.taken bag name t was.counted is)
+pub submission-there : (c : Controller) (bag : Bag) (name : ℕ) (t : Taken) → IsConsistent c bag → is_enabled c ≡ true
+    → bag name ≡ Some t → IsSome (submission_queue c t.queue)
+submission-there c bag name t was on is =
+    was.together.taken_there on t.queue (counted-some c.taken bag name t was.counted is)
 
-pub completion-there : (c : Controller) (bag : Bag) (y : ℕ) (q : SubmissionQueue) → IsConsistent c bag → submission_queue c y ≡ Some q → IsSome (completion_queue c q.completes_to)
-completion-there c bag y q was is = subst (λ o. IfSome o (λ (s : SubmissionQueue). IsSome (completion_queue c s.completes_to))) is (was.together.completes y)
+pub completion-there : (c : Controller) (bag : Bag) (y : ℕ) (q : SubmissionQueue) → IsConsistent c bag
+    → submission_queue c y ≡ Some q → IsSome (completion_queue c q.completes_to)
+completion-there c bag y q was is =
+    subst (λ o. IfSome o (λ (s : SubmissionQueue). IsSome (completion_queue c s.completes_to))) is (was.together.completes y)
 
 -- while EN is 0 no queue is there
-pub none-there : (c : Controller) (bag : Bag) (y : ℕ) → IsConsistent c bag → is_enabled c ≡ false → (submission_queue c y ≡ None) × (completion_queue c y ≡ None)
+pub none-there : (c : Controller) (bag : Bag) (y : ℕ) → IsConsistent c bag → is_enabled c ≡ false
+    → (submission_queue c y ≡ None) × (completion_queue c y ≡ None)
 none-there c bag y was out =
     let none = was.together.none_there out in (
       ap (λ (qs : List (Option SubmissionQueue)). queue_of (slice_get qs y)) none.0 ∙ none-of queue_count y,
@@ -81,11 +89,13 @@ none-there c bag y was out =
 
 -- ---- RDY
 
-pub taken-ready : (c : Controller) (bag : Bag) (name : ℕ) (t : Taken) → IsConsistent c bag → bag name ≡ Some t → c.ready ≡ true
+pub taken-ready : (c : Controller) (bag : Bag) (name : ℕ) (t : Taken) → IsConsistent c bag → bag name ≡ Some t
+    → c.ready ≡ true
 taken-ready c bag name t was is = was.together.taken_ready t.queue (counted-some c.taken bag name t was.counted is)
 
 -- while EN is 0, RDY is 1 exactly where a command is taken
-pub ready-taken : (c : Controller) (bag : Bag) → IsConsistent c bag → is_enabled c ≡ false → (c.ready ≡ true) ↔ HasTaken bag
+pub ready-taken : (c : Controller) (bag : Bag) → IsConsistent c bag → is_enabled c ≡ false
+    → (c.ready ≡ true) ↔ HasTaken bag
 ready-taken c bag was out = (
   λ up. some-taken c bag was (was.together.ready_taken out up),
   λ one. taken-ready c bag one.name one.command was one.is_there,
@@ -94,25 +104,29 @@ ready-taken c bag was out = (
 -- ---- completions
 
 -- a completion where both queues are there
-post-is : (c : Controller) (y dw0 cid : ℕ) (st : StatusField) (q : SubmissionQueue) (cq : CompletionQueue) → submission_queue c y ≡ Some q → completion_queue c q.completes_to ≡ Some cq
+post-is : (c : Controller) (y dw0 cid : ℕ) (st : StatusField) (q : SubmissionQueue) (cq : CompletionQueue)
+    → submission_queue c y ≡ Some q → completion_queue c q.completes_to ≡ Some cq
     → post c y dw0 cid st ≡ post_to (Some cq) c q y dw0 cid st
 unfolding post
 post-is c y dw0 cid st q cq from to =
-    ap (λ (o : Option SubmissionQueue). post_from o c y dw0 cid st) from ∙ ap (λ (o : Option CompletionQueue). post_to o c q y dw0 cid st) to
+    ap (λ (o : Option SubmissionQueue). post_from o c y dw0 cid st) from
+    ∙ ap (λ (o : Option CompletionQueue). post_to o c q y dw0 cid st) to
 
 if-none : {A : Type 0} (b : Bool) (a : A) → (cond b None (Some a) ≡ None) ↔ (b ≡ true)
 if-none true a = (λ _. refl, λ _. refl)
 if-none false a = (λ is. cc, λ is. cc)
 
 -- it can't be posted exactly where the completion queue is full
-pub post-full : (c : Controller) (y dw0 cid : ℕ) (st : StatusField) (q : SubmissionQueue) (cq : CompletionQueue) → submission_queue c y ≡ Some q → completion_queue c q.completes_to ≡ Some cq
+pub post-full : (c : Controller) (y dw0 cid : ℕ) (st : StatusField) (q : SubmissionQueue) (cq : CompletionQueue)
+    → submission_queue c y ≡ Some q → completion_queue c q.completes_to ≡ Some cq
     → (post c y dw0 cid st ≡ None) ↔ (is_full cq.size cq.head cq.tail ≡ true)
 post-full c y dw0 cid st q cq from to =
     subst (λ (o : Option Posted). (o ≡ None) ↔ (is_full cq.size cq.head cq.tail ≡ true)) (sym (post-is c y dw0 cid st q cq from to))
     (if-none (is_full cq.size cq.head cq.tail) _)
 
 -- the step that posts it
-step-post : (shape : Shape) (p : Private) (name : ℕ) (t : Taken) (st : StatusField) → is_enabled p.controller ≡ true → p.bag name ≡ Some t → ending t.progress ≡ Some st
+step-post : (shape : Shape) (p : Private) (name : ℕ) (t : Taken) (st : StatusField) → is_enabled p.controller ≡ true
+    → p.bag name ≡ Some t → ending t.progress ≡ Some st
     → step shape (PostStep name) p ≡ posted_at (post p.controller t.queue 0 (cid_of t.entry) st) name p
 unfolding step
 step-post shape p name t st on is ends =
@@ -120,17 +134,20 @@ step-post shape p name t st on is ends =
     ∙ ap (λ (o : Option StatusField). completed_at o name t p) ends
     ∙ ap (λ (b : Bool). cond b (posted_at (post p.controller t.queue 0 (cid_of t.entry) st) name p) None) on
 
-posted-if : (b : Bool) (r : Posted) (name : ℕ) (p : Private) → IsSome (posted_at (cond b None (Some r)) name p) ↔ (b ≡ false)
+posted-if : (b : Bool) (r : Posted) (name : ℕ) (p : Private)
+    → IsSome (posted_at (cond b None (Some r)) name p) ↔ (b ≡ false)
 posted-if true r name p = (λ is. cc, λ is. cc)
 posted-if false r name p = (λ _. refl, λ _. refl)
 
 -- can be made exactly where it is not
 pub post_step-free : (shape : Shape) (p : Private) (name : ℕ) (t : Taken) (st : StatusField) (q : SubmissionQueue) (cq : CompletionQueue)
-    → is_enabled p.controller ≡ true → p.bag name ≡ Some t → ending t.progress ≡ Some st → submission_queue p.controller t.queue ≡ Some q → completion_queue p.controller q.completes_to ≡ Some cq
+    → is_enabled p.controller ≡ true → p.bag name ≡ Some t → ending t.progress ≡ Some st
+    → submission_queue p.controller t.queue ≡ Some q → completion_queue p.controller q.completes_to ≡ Some cq
     → IsSome (step shape (PostStep name) p) ↔ (is_full cq.size cq.head cq.tail ≡ false)
 post_step-free shape p name t st q cq on is ends from to =
     let whole : step shape (PostStep name) p ≡ posted_at (post_to (Some cq) p.controller q t.queue 0 (cid_of t.entry) st) name p =
-    step-post shape p name t st on is ends ∙ ap (λ (o : Option Posted). posted_at o name p) (post-is p.controller t.queue 0 (cid_of t.entry) st q cq from to) in
+    step-post shape p name t st on is ends
+    ∙ ap (λ (o : Option Posted). posted_at o name p) (post-is p.controller t.queue 0 (cid_of t.entry) st q cq from to) in
     subst (λ (o : Option After). IsSome o ↔ (is_full cq.size cq.head cq.tail ≡ false)) (sym whole)
     (posted-if (is_full cq.size cq.head cq.tail) _ name p)
 
@@ -145,16 +162,20 @@ ran_out-cc : (c : Controller) (y : ℕ) → is_enabled (ran_out c y) ≡ is_enab
 unfolding ran_out
 ran_out-cc c y = refl
 
-run_out_at-has : (o : Option StatusField) (name : ℕ) (t : Taken) (p : Private) → IfSome (run_out_at o name t p) (HasRunOut p name)
+run_out_at-has : (o : Option StatusField) (name : ℕ) (t : Taken) (p : Private)
+    → IfSome (run_out_at o name t p) (HasRunOut p name)
 run_out_at-has None name t p = tt
 run_out_at-has (Some st) name t p =
     by_test (λ o. IfSome o (HasRunOut p name)) (is_enabled p.controller) _ _ (λ _. tt)
     (λ out. record { out = ran_out-cc p.controller t.queue ∙ out; bag = refl })
 
-with_taken-has : (o : Option Taken) (name : ℕ) (p : Private) → IfSome (with_taken o (λ t. run_out_at (ending t.progress) name t p)) (HasRunOut p name)
+with_taken-has : (o : Option Taken) (name : ℕ) (p : Private)
+    → IfSome (with_taken o (λ t. run_out_at (ending t.progress) name t p)) (HasRunOut p name)
 with_taken-has None name p = tt
 with_taken-has (Some t) name p = run_out_at-has (ending t.progress) name t p
 
-pub step-runs_out : (shape : Shape) (name : ℕ) (p : Private) (a : After) → step shape (RunOutStep name) p ≡ Some a → HasRunOut p name a
+pub step-runs_out : (shape : Shape) (name : ℕ) (p : Private) (a : After) → step shape (RunOutStep name) p ≡ Some a
+    → HasRunOut p name a
 unfolding step
-step-runs_out shape name p a is = subst (λ (o : Option After). IfSome o (HasRunOut p name)) is (with_taken-has (p.bag name) name p)
+step-runs_out shape name p a is =
+    subst (λ (o : Option After). IfSome o (HasRunOut p name)) is (with_taken-has (p.bag name) name p)

@@ -27,7 +27,8 @@ unless None more = more
 abbrev reading_of : (ℕ → Bool) → Bool → (budget : ℕ) → List Member → List Piece → Reading
 reading_of mapped dest budget [] pieces = Spells pieces
 reading_of mapped dest zero (m ∷ ms) pieces = TooLong
-reading_of mapped dest (suc budget) (m ∷ ms) pieces = unless (fault_of mapped m) (reading_of mapped dest budget ms (pieces ++ member_pieces dest m))
+reading_of mapped dest (suc budget) (m ∷ ms) pieces =
+    unless (fault_of mapped m) (reading_of mapped dest budget ms (pieces ++ member_pieces dest m))
 
 -- the first of what is left of an array
 abbrev ahead : (ℕ → ℕ) → (left from : ℕ) → Bool → Option Member
@@ -41,7 +42,8 @@ pub record Names (rest : Array) (d : List ℕ) : Type 0 where
   pub last : rest.left ≡ 0
   pub some : 0 < length_of d / 16
 
-pub segment_fault-names : (mapped : ℕ → Bool) (rest : Array) (d : List ℕ) → segment_fault mapped rest d ≡ None → Names rest d
+pub segment_fault-names : (mapped : ℕ → Bool) (rest : Array) (d : List ℕ) → segment_fault mapped rest d ≡ None
+    → Names rest d
 segment_fault-names mapped rest d fine =
     let five : List (Bool × StatusCode) = (not (everywhere mapped (address_of d) (length_of d)), DataTransferError) ∷ [] in
     let four : List (Bool × StatusCode) = (not (address_of d % 8 == 0), InvalidSglSegment) ∷ five in
@@ -56,7 +58,8 @@ segment_fault-names mapped rest d fine =
     whole n is = grind (arith, nat_tests)
 
 -- of an array in which some are left, one is ahead
-ahead-some : (memory : ℕ → ℕ) (left from : ℕ) (by_last : Bool) → 0 < left → Some (member_at memory from (left - 1) by_last) ≡ ahead memory left from by_last
+ahead-some : (memory : ℕ → ℕ) (left from : ℕ) (by_last : Bool) → 0 < left
+    → Some (member_at memory from (left - 1) by_last) ≡ ahead memory left from by_last
 ahead-some memory zero from by_last some = absurd (omega arith)
 ahead-some memory (suc left) from by_last some = ap (λ (n : ℕ). Some (member_at memory from n by_last)) (omega arith)
 
@@ -79,7 +82,8 @@ last-goes : (left : ℕ) (x y : Option Member) → left ≡ 0 → cond (nat_lt 0
 last-goes left x y last = rw last refl
 
 -- behind a faultless descriptor the sequence goes on with what is read there
-behind-ahead : (mapped : ℕ → Bool) (memory : ℕ → ℕ) (kind : Option DescriptorType) (rest : Array) (d : List ℕ) → fault_by kind mapped rest d ≡ None
+behind-ahead : (mapped : ℕ → Bool) (memory : ℕ → ℕ) (kind : Option DescriptorType) (rest : Array) (d : List ℕ)
+    → fault_by kind mapped rest d ≡ None
     → cond (nat_lt 0 rest.left) (Some (member_at memory rest.from (rest.left - 1) rest.by_last)) (named_by kind memory d)
     ≡ ahead memory (array_by kind rest d).left (array_by kind rest d).from (array_by kind rest d).by_last
 behind-ahead mapped memory None rest d fine = ahead-left memory rest.left rest.from rest.by_last
@@ -141,7 +145,8 @@ read_sgl-sequence mapped dest memory (suc budget) own =
 
 -- the first fault
 reading_of-faulty : (mapped : ℕ → Bool) (dest : Bool) (memory : ℕ → ℕ) (n : ℕ) (o : Option Member) (pieces : List Piece) (i : ℕ) (m : Member) (code : StatusCode)
-    → slice_get (members_from mapped memory n o) i ≡ Some m → fault_of mapped m ≡ Some code → All (IsFaultless mapped) (take i (members_from mapped memory n o))
+    → slice_get (members_from mapped memory n o) i ≡ Some m → fault_of mapped m ≡ Some code
+    → All (IsFaultless mapped) (take i (members_from mapped memory n o))
     → reading_of mapped dest n (members_from mapped memory (suc n) o) pieces ≡ Faulty code
 unfolding members_from
 reading_of-faulty mapped dest memory zero o pieces i m code at is before = cc
@@ -184,21 +189,24 @@ reading_of-spells mapped dest memory (suc n) (Some first) pieces each many =
 -- ---- the laws
 
 pub read_sgl-faulty : (mapped : ℕ → Bool) (dest : Bool) (limit : ℕ) (own : List ℕ) (memory : ℕ → ℕ) (i : ℕ) (m : Member) (code : StatusCode)
-    → slice_get (first_members mapped memory own limit) i ≡ Some m → fault_of mapped m ≡ Some code → All (IsFaultless mapped) (take i (first_members mapped memory own limit))
+    → slice_get (first_members mapped memory own limit) i ≡ Some m → fault_of mapped m ≡ Some code
+    → All (IsFaultless mapped) (take i (first_members mapped memory own limit))
     → in_memory memory (read_sgl mapped dest limit own) ≡ Faulty code
 read_sgl-faulty mapped dest limit own memory i m code at is before =
     read_sgl-sequence mapped dest memory limit own
     ∙ reading_of-faulty mapped dest memory limit (Some (record { descriptor = own; rest = behind_own })) [] i m code at is before
 
 pub read_sgl-too_long : (mapped : ℕ → Bool) (dest : Bool) (limit : ℕ) (own : List ℕ) (memory : ℕ → ℕ)
-    → All (IsFaultless mapped) (first_members mapped memory own limit) → length (first_members mapped memory own (suc limit)) ≡ suc limit
+    → All (IsFaultless mapped) (first_members mapped memory own limit)
+    → length (first_members mapped memory own (suc limit)) ≡ suc limit
     → in_memory memory (read_sgl mapped dest limit own) ≡ TooLong
 read_sgl-too_long mapped dest limit own memory each many =
     read_sgl-sequence mapped dest memory limit own
     ∙ reading_of-too_long mapped dest memory limit (Some (record { descriptor = own; rest = behind_own })) [] each many
 
 pub read_sgl-spells : (mapped : ℕ → Bool) (dest : Bool) (limit : ℕ) (own : List ℕ) (memory : ℕ → ℕ)
-    → All (IsFaultless mapped) (first_members mapped memory own limit) → length (first_members mapped memory own (suc limit)) ≤ limit
+    → All (IsFaultless mapped) (first_members mapped memory own limit)
+    → length (first_members mapped memory own (suc limit)) ≤ limit
     → in_memory memory (read_sgl mapped dest limit own) ≡ Spells (flat_map (member_pieces dest) (first_members mapped memory own limit))
 read_sgl-spells mapped dest limit own memory each many =
     read_sgl-sequence mapped dest memory limit own

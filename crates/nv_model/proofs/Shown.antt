@@ -32,14 +32,16 @@ take-shown memory addr (suc unit) (byte ∷ bytes) fit each =
 
 -- the unit that is taken of what a read shows
 pub unit-shown : (memory : ℕ → ℕ) (addr unit : ℕ) (spans : List (ℕ × ℕ)) (bytes : List ℕ) → unit ≤ length bytes
-    → ShowsOn memory ((addr, unit) ∷ spans) (record { addr = addr; bytes = bytes }) → take unit bytes ≡ bytes_from memory addr unit
+    → ShowsOn memory ((addr, unit) ∷ spans) (record { addr = addr; bytes = bytes })
+    → take unit bytes ≡ bytes_from memory addr unit
 unit-shown memory addr unit spans bytes fit shows =
     let here = All-head (ShowsAt memory (record { addr = addr; bytes = bytes })) (addr, unit) spans shows in
     take-shown memory addr unit bytes fit (λ i below. here i (omega arith) (omega arith) (omega arith))
 
 -- what is left of it shows the memory, too
 ShowsAt-drop : (memory : ℕ → ℕ) (addr unit : ℕ) (span : ℕ × ℕ) (bytes : List ℕ) → unit ≤ length bytes
-    → ShowsAt memory (record { addr = addr; bytes = bytes }) span → ShowsAt memory (record { addr = addr + unit; bytes = drop unit bytes }) span
+    → ShowsAt memory (record { addr = addr; bytes = bytes }) span
+    → ShowsAt memory (record { addr = addr + unit; bytes = drop unit bytes }) span
 ShowsAt-drop memory addr unit span bytes fit shows = λ i below low high.
     let many = length-drop unit bytes in
     let at : addr + (unit + i) ≡ addr + unit + i = omega arith in
@@ -64,7 +66,8 @@ shown-fewer memory span spans reads shown =
 -- ---- reads that meet a want
 
 -- a read that is found has the length
-pub first_read-length : (addr len : ℕ) (reads : List ReadDone) (found : List ℕ × List ReadDone) → first_read addr len reads ≡ Some found → length found.0 ≡ len
+pub first_read-length : (addr len : ℕ) (reads : List ReadDone) (found : List ℕ × List ReadDone)
+    → first_read addr len reads ≡ Some found → length found.0 ≡ len
 unfolding first_read
 first_read-length addr len [] found is = cc
 first_read-length addr len (r ∷ reads) found is =
@@ -134,14 +137,16 @@ in_transcript-shown memory (Ask addr unit left next) from [] reads value uses sh
 -- ---- transcripts
 
 -- no bytes show nothing else
-ShowsOn-nil : (memory : ℕ → ℕ) (addr : ℕ) (spans : List (ℕ × ℕ)) → ShowsOn memory spans (record { addr = addr; bytes = [] })
+ShowsOn-nil : (memory : ℕ → ℕ) (addr : ℕ) (spans : List (ℕ × ℕ))
+    → ShowsOn memory spans (record { addr = addr; bytes = [] })
 ShowsOn-nil memory addr [] = All-nil (ShowsAt memory (record { addr = addr; bytes = [] }))
 ShowsOn-nil memory addr (span ∷ spans) =
     All-cons (ShowsAt memory (record { addr = addr; bytes = [] })) span spans (λ i below low high. absurd (omega arith)) (ShowsOn-nil memory addr spans)
 
 -- from the start on
 pub settled-in_memory : {A : Type 0} (memory : ℕ → ℕ) (d : Dialogue A) (reads : List ReadDone) (value : A)
-    → AsksInParts d → All (ShowsOn memory (asked memory d)) (reads_met d [] reads) → in_transcript d [] reads ≡ Settled value → in_memory memory d ≡ value
+    → AsksInParts d → All (ShowsOn memory (asked memory d)) (reads_met d [] reads)
+    → in_transcript d [] reads ≡ Settled value → in_memory memory d ≡ value
 settled-in_memory memory d reads value parts shown settled =
     in_transcript-shown memory d 0 [] reads value parts (ShowsOn-nil memory 0 (asked memory d)) shown settled
 
@@ -152,7 +157,8 @@ unfolding first_read
 first_read-all P addr len [] found each is = cc
 first_read-all P addr len (r ∷ reads) found each is =
     (elim (r.addr == addr && length r.bytes == len) as (λ b. (r.addr == addr && length r.bytes == len) ≡ b
-    → cond b (Some (r.bytes, reads)) (first_read addr len reads) ≡ Some found → P (record { addr = addr; bytes = found.0 }) × All P found.1) [
+    → cond b (Some (r.bytes, reads)) (first_read addr len reads) ≡ Some found
+    → P (record { addr = addr; bytes = found.0 }) × All P found.1) [
       | true ↦ λ both same.
           let at : addr ≡ r.addr = sym (eqb-true r.addr addr (and-true (r.addr == addr) (length r.bytes == len) both).0) in
           let this : found ≡ (r.bytes, reads) = cc in
@@ -161,10 +167,12 @@ first_read-all P addr len (r ∷ reads) found each is =
     ]) refl is
 
 -- so have the reads that were met
-pub reads_met-all : {A : Type 0} (P : ReadDone → Type 0) (d : Dialogue A) (buffer : List ℕ) (reads : List ReadDone) → All P reads → All P (reads_met d buffer reads)
+pub reads_met-all : {A : Type 0} (P : ReadDone → Type 0) (d : Dialogue A) (buffer : List ℕ) (reads : List ReadDone)
+    → All P reads → All P (reads_met d buffer reads)
 unfolding reads_met
 reads_met-all P (End value) buffer reads each = All-nil P
-reads_met-all P (Ask addr unit left next) (byte ∷ buffer) reads each = reads_met-all P (next (take unit (byte ∷ buffer))) (drop unit (byte ∷ buffer)) reads each
+reads_met-all P (Ask addr unit left next) (byte ∷ buffer) reads each =
+    reads_met-all P (next (take unit (byte ∷ buffer))) (drop unit (byte ∷ buffer)) reads each
 reads_met-all P (Ask addr unit left next) [] reads each =
     (elim (first_read addr (part left) reads) as (λ o. first_read addr (part left) reads ≡ o
     → All P (met_behind addr o (λ bytes rest. reads_met (next (take unit bytes)) (drop unit bytes) rest))) [
@@ -175,7 +183,8 @@ reads_met-all P (Ask addr unit left next) [] reads each =
     ]) refl
 
 -- the byte of a memory where it stands
-bytes_from-at : (memory : ℕ → ℕ) (addr len i : ℕ) → i < len → slice_index (bytes_from memory addr len) i ≡ memory (addr + i)
+bytes_from-at : (memory : ℕ → ℕ) (addr len i : ℕ) → i < len
+    → slice_index (bytes_from memory addr len) i ≡ memory (addr + i)
 unfolding bytes_from
 bytes_from-at memory addr zero i below = absurd (omega arith)
 bytes_from-at memory addr (suc len) zero below = ap memory (omega arith)
@@ -184,7 +193,8 @@ bytes_from-at memory addr (suc len) (suc i) below =
     bytes_from-at memory (suc addr) len i (omega arith) ∙ ap memory next
 
 -- a read whose bytes are the memory's shows it wherever it is asked
-pub ShowsOn-whole : (memory : ℕ → ℕ) (spans : List (ℕ × ℕ)) (r : ReadDone) → r.bytes ≡ bytes_from memory r.addr (length r.bytes) → ShowsOn memory spans r
+pub ShowsOn-whole : (memory : ℕ → ℕ) (spans : List (ℕ × ℕ)) (r : ReadDone)
+    → r.bytes ≡ bytes_from memory r.addr (length r.bytes) → ShowsOn memory spans r
 ShowsOn-whole memory [] r whole = All-nil (ShowsAt memory r)
 ShowsOn-whole memory (span ∷ spans) r whole =
     All-cons (ShowsAt memory r) span spans

@@ -51,7 +51,8 @@ AreMapped-pieces_by mapped dest (Some LastSegment) rest d fine = All-nil (IsMapp
 
 -- a descriptor, and what follows
 read_descriptor-mapped : (mapped : ℕ → Bool) (dest : Bool) (rest : Array) (pieces : List Piece) (follow : Array → List Piece → Dialogue Reading) (d : List ℕ)
-    → AreMapped mapped pieces → ((a : Array) (ps : List Piece) → AreMapped mapped ps → EndsIn (OfPieces (AreMapped mapped)) (follow a ps))
+    → AreMapped mapped pieces
+    → ((a : Array) (ps : List Piece) → AreMapped mapped ps → EndsIn (OfPieces (AreMapped mapped)) (follow a ps))
     → EndsIn (OfPieces (AreMapped mapped)) (read_descriptor mapped dest rest pieces follow d)
 read_descriptor-mapped mapped dest rest pieces follow d so_far goes =
     EndsIn-unless_faulty (AreMapped mapped) (fault_by (kind_of d) mapped rest d) _
@@ -60,7 +61,8 @@ read_descriptor-mapped mapped dest rest pieces follow d so_far goes =
 
 -- arrays
 read_array-mapped : (mapped : ℕ → Bool) (dest : Bool) (budget left from : ℕ) (by_last : Bool) (pieces : List Piece)
-    → AreMapped mapped pieces → EndsIn (OfPieces (AreMapped mapped)) (read_array mapped dest budget left from by_last pieces)
+    → AreMapped mapped pieces
+    → EndsIn (OfPieces (AreMapped mapped)) (read_array mapped dest budget left from by_last pieces)
 unfolding read_array
 read_array-mapped mapped dest budget zero from by_last pieces so_far = so_far
 read_array-mapped mapped dest zero (suc left) from by_last pieces so_far = tt
@@ -98,14 +100,16 @@ pub record AreOfLen (mapped : ℕ → Bool) (len : ℕ) (pieces : List Piece) : 
   pub total : total_len pieces ≡ len
 
 -- an entry without a fault is mapped
-entry_fault-none : (mapped : ℕ → Bool) (alignment addr len : ℕ) → entry_fault mapped alignment addr len ≡ None → everywhere mapped addr len ≡ true
+entry_fault-none : (mapped : ℕ → Bool) (alignment addr len : ℕ) → entry_fault mapped alignment addr len ≡ None
+    → everywhere mapped addr len ≡ true
 entry_fault-none mapped alignment addr len fine =
     let behind = (first_failing-none (not (addr % alignment == 0)) PrpOffsetInvalid ((not (everywhere mapped addr len), DataTransferError) ∷ []) fine).1 in
     not-false _ (first_failing-none (not (everywhere mapped addr len)) DataTransferError [] behind).0
 
 -- one more run
 AreOfLen-run : (mapped : ℕ → Bool) (len : ℕ) (pieces : List Piece) (addr more : ℕ)
-    → AreOfLen mapped len pieces → everywhere mapped addr more ≡ true → AreOfLen mapped (len + more) (pieces ++ run addr more)
+    → AreOfLen mapped len pieces → everywhere mapped addr more ≡ true
+    → AreOfLen mapped (len + more) (pieces ++ run addr more)
 AreOfLen-run mapped len pieces addr more so_far is =
     record {
       mapped_each = All-append (IsMappedPiece mapped) pieces (run addr more) so_far.mapped_each (AreMapped-run mapped addr more is);
@@ -157,7 +161,8 @@ pub pages_of-fit : (bytes : ℕ) → bytes ≤ pages_of bytes * 4096
 pages_of-fit bytes = omega arith
 
 -- each run that PRP1 and PRP2 spell is mapped, and they are as long as the transfer
-pub read_prp-of_len : (mapped : ℕ → Bool) (prp1 prp2 len : ℕ) → EndsIn (OfPieces (AreOfLen mapped len)) (read_prp mapped prp1 prp2 len)
+pub read_prp-of_len : (mapped : ℕ → Bool) (prp1 prp2 len : ℕ)
+    → EndsIn (OfPieces (AreOfLen mapped len)) (read_prp mapped prp1 prp2 len)
 read_prp-of_len mapped prp1 prp2 len =
     let none : AreOfLen mapped 0 [] = record { mapped_each = All-nil (IsMappedPiece mapped); total = refl } in
     EndsIn-unless_faulty (AreOfLen mapped len) (entry_fault mapped 4 prp1 (first_len prp1 len)) _
@@ -172,7 +177,8 @@ functions-agree : {A B : Type 0} (f g : A → B) → ((a : A) → f a ≡ g a) �
 functions-agree f g same = λ i. λ a. same a i
 
 -- where each end has the transfer's length, none is faulty for its length
-sized-kept : (len : ℕ) (d : Dialogue Reading) → EndsIn (OfPieces (λ pieces. total_len pieces ≡ len)) d → and_then d (λ reading. End (sized len reading)) ≡ d
+sized-kept : (len : ℕ) (d : Dialogue Reading) → EndsIn (OfPieces (λ pieces. total_len pieces ≡ len)) d
+    → and_then d (λ reading. End (sized len reading)) ≡ d
 unfolding and_then
 sized-kept len (End (Faulty code)) ends = refl
 sized-kept len (End TooLong) ends = refl
@@ -183,17 +189,20 @@ sized-kept len (Ask addr unit left next) ends =
     (functions-agree (λ bytes. and_then (next bytes) (λ reading. End (sized len reading))) next (λ bytes. sized-kept len (next bytes) (ends bytes)))
 
 -- what holds of the ends holds of them in other words
-EndsIn-weaker : {A : Type 0} (P Q : A → Type 0) (d : Dialogue A) → ((value : A) → P value → Q value) → EndsIn P d → EndsIn Q d
+EndsIn-weaker : {A : Type 0} (P Q : A → Type 0) (d : Dialogue A) → ((value : A) → P value → Q value) → EndsIn P d
+    → EndsIn Q d
 EndsIn-weaker P Q (End value) so ends = so value ends
 EndsIn-weaker P Q (Ask addr unit left next) so ends = λ bytes. EndsIn-weaker P Q (next bytes) so (ends bytes)
 
-OfPieces-total : (mapped : ℕ → Bool) (len : ℕ) (reading : Reading) → OfPieces (AreOfLen mapped len) reading → OfPieces (λ pieces. total_len pieces ≡ len) reading
+OfPieces-total : (mapped : ℕ → Bool) (len : ℕ) (reading : Reading) → OfPieces (AreOfLen mapped len) reading
+    → OfPieces (λ pieces. total_len pieces ≡ len) reading
 OfPieces-total mapped len (Faulty code) of_len = tt
 OfPieces-total mapped len TooLong of_len = tt
 OfPieces-total mapped len (Spells pieces) of_len = of_len.total
 
 -- so it is with PRP1 and PRP2
-pub read_prp-sized : (mapped : ℕ → Bool) (prp1 prp2 len : ℕ) → and_then (read_prp mapped prp1 prp2 len) (λ reading. End (sized len reading)) ≡ read_prp mapped prp1 prp2 len
+pub read_prp-sized : (mapped : ℕ → Bool) (prp1 prp2 len : ℕ)
+    → and_then (read_prp mapped prp1 prp2 len) (λ reading. End (sized len reading)) ≡ read_prp mapped prp1 prp2 len
 read_prp-sized mapped prp1 prp2 len =
     sized-kept len (read_prp mapped prp1 prp2 len)
     (EndsIn-weaker (OfPieces (AreOfLen mapped len)) (OfPieces (λ pieces. total_len pieces ≡ len)) (read_prp mapped prp1 prp2 len) (OfPieces-total mapped len) (read_prp-of_len mapped prp1 prp2 len))

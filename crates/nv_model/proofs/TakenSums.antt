@@ -46,7 +46,8 @@ sum-zero xs y none = let all = index-sum xs y in let zero_is = eqb-true (sum xs)
 -- ---- a number that changes
 
 -- where one number rises, the others that are not zero were not
-pub index-of-more : (P : ℕ → Type 0) (xs : List ℕ) (at y : ℕ) → P at → (0 < slice_index xs y → P y) → 0 < slice_index (set xs at (slice_index xs at + 1)) y → P y
+pub index-of-more : (P : ℕ → Type 0) (xs : List ℕ) (at y : ℕ) → P at → (0 < slice_index xs y → P y)
+    → 0 < slice_index (set xs at (slice_index xs at + 1)) y → P y
 index-of-more P [] at y here there some = there some
 index-of-more P (x ∷ xs) zero zero here there some = here
 index-of-more P (x ∷ xs) zero (suc y) here there some = there some
@@ -54,7 +55,8 @@ index-of-more P (x ∷ xs) (suc at) zero here there some = there some
 index-of-more P (x ∷ xs) (suc at) (suc y) here there some = index-of-more (λ n. P (suc n)) xs at y here there some
 
 -- where one falls, those that are not zero were not
-pub index-of-less : (xs : List ℕ) (at y : ℕ) → 0 < slice_index (set xs at (slice_index xs at - 1)) y → 0 < slice_index xs y
+pub index-of-less : (xs : List ℕ) (at y : ℕ) → 0 < slice_index (set xs at (slice_index xs at - 1)) y
+    → 0 < slice_index xs y
 index-of-less [] at y some = some
 index-of-less (x ∷ xs) zero zero some = omega arith
 index-of-less (x ∷ xs) zero (suc y) some = some

@@ -16,18 +16,22 @@ queue_of-set-has P [] at o y here there = there
 queue_of-set-has P (x ∷ xs) zero o zero here there = here refl
 queue_of-set-has P (x ∷ xs) zero o (suc y) here there = there
 queue_of-set-has P (x ∷ xs) (suc at) o zero here there = there
-queue_of-set-has P (x ∷ xs) (suc at) o (suc y) here there = queue_of-set-has P xs at o y (λ same. here (ap suc same)) there
+queue_of-set-has P (x ∷ xs) (suc at) o (suc y) here there =
+    queue_of-set-has P xs at o y (λ same. here (ap suc same)) there
 
 -- what is there stays there, where another queue is put
-pub there-put : {Q : Type 0} (xs : List (Option Q)) (at : ℕ) (q : Q) (y : ℕ) → IsSome (queue_of (slice_get xs y)) → IsSome (queue_of (slice_get (set xs at (Some q)) y))
+pub there-put : {Q : Type 0} (xs : List (Option Q)) (at : ℕ) (q : Q) (y : ℕ) → IsSome (queue_of (slice_get xs y))
+    → IsSome (queue_of (slice_get (set xs at (Some q)) y))
 there-put xs at q y there = queue_of-set-has (λ o. IsSome o) xs at (Some q) y (λ _. refl) there
 
 -- or where a queue of another number goes
-pub there-gone : {Q : Type 0} (xs : List (Option Q)) (at y : ℕ) → (y ≡ at → ⊥) → IsSome (queue_of (slice_get xs y)) → IsSome (queue_of (slice_get (set xs at None) y))
+pub there-gone : {Q : Type 0} (xs : List (Option Q)) (at y : ℕ) → (y ≡ at → ⊥) → IsSome (queue_of (slice_get xs y))
+    → IsSome (queue_of (slice_get (set xs at None) y))
 there-gone xs at y other there = queue_of-set-has (λ o. IsSome o) xs at None y (λ same. absurd (other same)) there
 
 -- a number that a queue is put under, where there is such a number, has it
-pub put-there : {Q : Type 0} (xs : List (Option Q)) (at : ℕ) (q : Q) → at < length xs → IsSome (queue_of (slice_get (set xs at (Some q)) at))
+pub put-there : {Q : Type 0} (xs : List (Option Q)) (at : ℕ) (q : Q) → at < length xs
+    → IsSome (queue_of (slice_get (set xs at (Some q)) at))
 put-there [] at q below = absurd (omega arith)
 put-there (x ∷ xs) zero q below = refl
 put-there (x ∷ xs) (suc at) q below = put-there xs at q (omega arith)
@@ -44,10 +48,12 @@ if_some-mapped None each there = tt
 if_some-mapped (Some a) each there = each a there
 
 -- where no submission queue uses a completion queue, each uses another
-pub uses-none : (y : ℕ) (xs : List (Option SubmissionQueue)) (z : ℕ) → list_any (uses y) xs ≡ false → IfSome (queue_of (slice_get xs z)) (λ q. q.completes_to ≡ y → ⊥)
+pub uses-none : (y : ℕ) (xs : List (Option SubmissionQueue)) (z : ℕ) → list_any (uses y) xs ≡ false
+    → IfSome (queue_of (slice_get xs z)) (λ q. q.completes_to ≡ y → ⊥)
 uses-none y [] z none = tt
 uses-none y (None ∷ xs) zero none = tt
-uses-none y (Some q ∷ xs) zero none = λ same. (let e : (q.completes_to == y) ≡ true = eq-eqb q.completes_to y same in let bad : (true || list_any (uses y) xs) ≡ false = rw e at none in cc)
+uses-none y (Some q ∷ xs) zero none =
+    λ same. (let e : (q.completes_to == y) ≡ true = eq-eqb q.completes_to y same in let bad : (true || list_any (uses y) xs) ≡ false = rw e at none in cc)
 uses-none y (None ∷ xs) (suc z) none = uses-none y xs z none
 uses-none y (Some q ∷ xs) (suc z) none = uses-none y xs z (second (q.completes_to == y) (list_any (uses y) xs) none)
   where
@@ -64,7 +70,8 @@ off false passes fails = cc
 
 module _ (enabled ready : Bool) (ss : List (Option SubmissionQueue)) (cs : List (Option CompletionQueue)) (taken : List ℕ) (deletion : Option Deletion) (on : enabled ≡ true) where
   -- a submission queue whose completion queue is there is put
-  pub submission-put : (y : ℕ) (q : SubmissionQueue) → IsSome (queue_of (slice_get cs q.completes_to)) → GoTogether enabled ready ss cs taken deletion
+  pub submission-put : (y : ℕ) (q : SubmissionQueue) → IsSome (queue_of (slice_get cs q.completes_to))
+      → GoTogether enabled ready ss cs taken deletion
       → GoTogether enabled ready (set ss y (Some q)) cs taken deletion
   submission-put y q to g =
       record {
@@ -81,7 +88,8 @@ module _ (enabled ready : Bool) (ss : List (Option SubmissionQueue)) (cs : List 
       }
 
   -- a completion queue is put
-  pub completion-put : (y : ℕ) (q : CompletionQueue) → GoTogether enabled ready ss cs taken deletion → GoTogether enabled ready ss (set cs y (Some q)) taken deletion
+  pub completion-put : (y : ℕ) (q : CompletionQueue) → GoTogether enabled ready ss cs taken deletion
+      → GoTogether enabled ready ss (set cs y (Some q)) taken deletion
   completion-put y q g =
       record {
         submission_count = g.submission_count;
@@ -97,7 +105,8 @@ module _ (enabled ready : Bool) (ss : List (Option SubmissionQueue)) (cs : List 
       }
 
   -- an I/O submission queue without taken commands goes, and no deletion waits
-  pub submission-gone : (y : ℕ) → 0 < y → slice_index taken y ≡ 0 → GoTogether enabled ready ss cs taken deletion → GoTogether enabled ready (set ss y None) cs taken None
+  pub submission-gone : (y : ℕ) → 0 < y → slice_index taken y ≡ 0 → GoTogether enabled ready ss cs taken deletion
+      → GoTogether enabled ready (set ss y None) cs taken None
   submission-gone y io idle g =
       record {
         submission_count = length-set ss y None ∙ g.submission_count;
@@ -113,7 +122,8 @@ module _ (enabled ready : Bool) (ss : List (Option SubmissionQueue)) (cs : List 
       }
 
   -- an I/O completion queue that no submission queue uses goes
-  pub completion-gone : (y : ℕ) → 0 < y → list_any (uses y) ss ≡ false → GoTogether enabled ready ss cs taken deletion → GoTogether enabled ready ss (set cs y None) taken deletion
+  pub completion-gone : (y : ℕ) → 0 < y → list_any (uses y) ss ≡ false → GoTogether enabled ready ss cs taken deletion
+      → GoTogether enabled ready ss (set cs y None) taken deletion
   completion-gone y io unused g =
       record {
         submission_count = g.submission_count;
@@ -128,13 +138,15 @@ module _ (enabled ready : Bool) (ss : List (Option SubmissionQueue)) (cs : List 
         deletion_there = g.deletion_there;
       }
     where
-      both : (o : Option SubmissionQueue) → IfSome o (λ q. q.completes_to ≡ y → ⊥) → IfSome o (λ q. IsSome (queue_of (slice_get cs q.completes_to)))
+      both : (o : Option SubmissionQueue) → IfSome o (λ q. q.completes_to ≡ y → ⊥)
+          → IfSome o (λ q. IsSome (queue_of (slice_get cs q.completes_to)))
           → IfSome o (λ q. IsSome (queue_of (slice_get (set cs y None) q.completes_to)))
       both None other there = tt
       both (Some q) other there = there-gone cs y q.completes_to other there
 
   -- other counts, of queues that are there, while RDY is 1
-  pub taken-put : (after : List ℕ) → length after ≡ queue_count → ((y : ℕ) → 0 < slice_index after y → IsSome (queue_of (slice_get ss y)) × (ready ≡ true))
+  pub taken-put : (after : List ℕ) → length after ≡ queue_count
+      → ((y : ℕ) → 0 < slice_index after y → IsSome (queue_of (slice_get ss y)) × (ready ≡ true))
       → GoTogether enabled ready ss cs taken deletion → GoTogether enabled ready ss cs after deletion
   taken-put after count each g =
       record {
@@ -151,7 +163,8 @@ module _ (enabled ready : Bool) (ss : List (Option SubmissionQueue)) (cs : List 
       }
 
   -- a deletion that names an I/O queue that is there waits
-  pub deletion-put : (d : Deletion) → 0 < d.queue → IsSome (queue_of (slice_get ss d.queue)) → GoTogether enabled ready ss cs taken deletion
+  pub deletion-put : (d : Deletion) → 0 < d.queue → IsSome (queue_of (slice_get ss d.queue))
+      → GoTogether enabled ready ss cs taken deletion
       → GoTogether enabled ready ss cs taken (Some d)
   deletion-put d io there g =
       record {

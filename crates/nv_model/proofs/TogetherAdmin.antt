@@ -51,7 +51,8 @@ none-some : {A : Type 0} (o : Option A) → is_none o ≡ false → IsSome o
 none-some None bad = cc
 none-some (Some a) is = refl
 
-new_queue_checks-behind : (there : Bool) (entry : List ℕ) (others : List (Bool × StatusCode)) → first_failing (new_queue_checks there entry ++ others) ≡ None → first_failing others ≡ None
+new_queue_checks-behind : (there : Bool) (entry : List ℕ) (others : List (Bool × StatusCode))
+    → first_failing (new_queue_checks there entry ++ others) ≡ None → first_failing others ≡ None
 new_queue_checks-behind there entry others fine =
     let third : List (Bool × StatusCode) = (contiguous entry == 0, code.InvalidField) ∷ others in
     let second : List (Bool × StatusCode) = (qsize entry == 0 || nat_lt most_slots (qsize entry + 1), code.InvalidQueueSize) ∷ third in
@@ -59,7 +60,8 @@ new_queue_checks-behind there entry others fine =
     let two = (first_failing-none (qsize entry == 0 || nat_lt most_slots (qsize entry + 1)) code.InvalidQueueSize third one).1 in
     (first_failing-none (contiguous entry == 0) code.InvalidField others two).1
 
-completes_to_checks-there : (c : Controller) (entry : List ℕ) (others : List (Bool × StatusCode)) → first_failing (completes_to_checks c entry ++ others) ≡ None
+completes_to_checks-there : (c : Controller) (entry : List ℕ) (others : List (Bool × StatusCode))
+    → first_failing (completes_to_checks c entry ++ others) ≡ None
     → IsSome (completion_queue c (completion_id entry))
 completes_to_checks-there c entry others fine =
     let second : List (Bool × StatusCode) = (is_none (completion_queue c (completion_id entry)), code.CompletionQueueInvalid) ∷ others in
@@ -70,10 +72,12 @@ completes_to_checks-there c entry others fine =
 
 module _ (mapped : ℕ → Bool) (entry : List ℕ) (c : Controller) (memory : ℕ → ℕ) (on : is_enabled c ≡ true) (idle : c.deletion ≡ None) (g : IsTogether c) where
   -- nothing changes
-  unchanged : (answer : Option (ℕ × StatusField)) (behind : ℕ → ℕ) → IsDone c.taken (record { controller = c; memory = behind; answer = answer })
+  unchanged : (answer : Option (ℕ × StatusField)) (behind : ℕ → ℕ)
+      → IsDone c.taken (record { controller = c; memory = behind; answer = answer })
   unchanged answer behind = record { together = g; same = refl; on = on }
 
-  checked-together : (o : Option StatusCode) (done : AdminEffect) → (o ≡ None → IsDone c.taken done) → IsDone c.taken (checked o c memory done)
+  checked-together : (o : Option StatusCode) (done : AdminEffect) → (o ≡ None → IsDone c.taken done)
+      → IsDone c.taken (checked o c memory done)
   checked-together None done goes = goes refl
   checked-together (Some why) done goes = unchanged _ memory
 
@@ -83,7 +87,8 @@ module _ (mapped : ℕ → Bool) (entry : List ℕ) (c : Controller) (memory : �
       let behind = new_queue_checks-behind (is_some (submission_queue c (qid entry))) entry (completes_to_checks c entry ++ place_checks mapped sqe_size entry) fine in
       let there = completes_to_checks-there c entry (place_checks mapped sqe_size entry) behind in
       record {
-        together = submission-put (is_enabled c) c.ready c.submission c.completion_queues c.taken c.deletion on (qid entry)
+        together =
+            submission-put (is_enabled c) c.ready c.submission c.completion_queues c.taken c.deletion on (qid entry)
             (new_submission (prp1_of entry) (qsize entry + 1) (completion_id entry)) there g;
         same = refl;
         on = on;
@@ -111,12 +116,14 @@ module _ (mapped : ℕ → Bool) (entry : List ℕ) (c : Controller) (memory : �
         on = on;
       })
 
-  delete_found-together : (found : Option SubmissionQueue) → submission_queue c (qid entry) ≡ found → 0 < qid entry → IsDone c.taken (delete_found found entry c memory)
+  delete_found-together : (found : Option SubmissionQueue) → submission_queue c (qid entry) ≡ found → 0 < qid entry
+      → IsDone c.taken (delete_found found entry c memory)
   delete_found-together None is io = unchanged _ memory
   delete_found-together (Some q) is io =
       by_test (IsDone c.taken) (slice_index c.taken (qid entry) == 0) _ _
       (λ none. record {
-        together = subst (λ (d : Option Deletion). GoTogether (is_enabled c) c.ready (set c.submission (qid entry) None) c.completion_queues c.taken d) (sym idle)
+        together =
+            subst (λ (d : Option Deletion). GoTogether (is_enabled c) c.ready (set c.submission (qid entry) None) c.completion_queues c.taken d) (sym idle)
             (submission-gone (is_enabled c) c.ready c.submission c.completion_queues c.taken c.deletion on (qid entry) io (eqb-true (slice_index c.taken (qid entry)) 0 none) g);
         same = refl;
         on = on;
@@ -155,11 +162,13 @@ module _ (mapped : ℕ → Bool) (entry : List ℕ) (c : Controller) (memory : �
   done_by-together Identify blocks = identify_by-together (shown blocks entry)
   done_by-together Abort blocks = unchanged _ memory
   done_by-together SetFeatures blocks = checked-together _ _ (λ fine. unchanged _ memory)
-  done_by-together GetFeatures blocks = by_test (IsDone c.taken) (selector entry == number_of_queues) _ _ (λ _. unchanged _ memory) (λ _. unchanged _ memory)
+  done_by-together GetFeatures blocks =
+      by_test (IsDone c.taken) (selector entry == number_of_queues) _ _ (λ _. unchanged _ memory) (λ _. unchanged _ memory)
   done_by-together AsynchronousEventRequest blocks =
       by_test (IsDone c.taken) (nat_lt c.held_requests most_requests) _ _ (λ _. record { together = g; same = refl; on = on }) (λ _. unchanged _ memory)
 
-  done_with_opcode-together : (opcode : Option AdminOpcode) (blocks : ℕ) → IsDone c.taken (done_with_opcode opcode mapped blocks entry c memory)
+  done_with_opcode-together : (opcode : Option AdminOpcode) (blocks : ℕ)
+      → IsDone c.taken (done_with_opcode opcode mapped blocks entry c memory)
   done_with_opcode-together None blocks = unchanged _ memory
   done_with_opcode-together (Some opcode) blocks =
       by_test (IsDone c.taken) (psdt_of entry == 0) _ _ (λ _. done_by-together opcode blocks) (λ _. unchanged _ memory)
@@ -172,17 +181,20 @@ module _ (mapped : ℕ → Bool) (entry : List ℕ) (c : Controller) (memory : �
 -- ---- admin steps
 
 -- an answer is posted, behind a command that took nothing
-answer-together : (taken : List ℕ) (d : Controller) (o : Option Posted) (memory : ℕ → ℕ) → d.taken ≡ taken → IfSome o (IsPosted d 0) → (c : Controller) → c.taken ≡ taken
+answer-together : (taken : List ℕ) (d : Controller) (o : Option Posted) (memory : ℕ → ℕ) → d.taken ≡ taken
+    → IfSome o (IsPosted d 0) → (c : Controller) → c.taken ≡ taken
     → IsAdminBehind c (with_completion_posted o memory)
 answer-together taken d None memory same is c was = tt
 answer-together taken d (Some r) memory same is c was = (is.0, is.1 ∙ same ∙ sym was)
 
-with_answer-together : (c : Controller) (done : AdminEffect) (answer : Option (ℕ × StatusField)) (cid : ℕ) → IsDone c.taken done → IsAdminBehind c (with_answer answer cid done.controller done.memory)
+with_answer-together : (c : Controller) (done : AdminEffect) (answer : Option (ℕ × StatusField)) (cid : ℕ)
+    → IsDone c.taken done → IsAdminBehind c (with_answer answer cid done.controller done.memory)
 with_answer-together c done None cid is = (is.together, is.same)
 with_answer-together c done (Some answer) cid is =
     answer-together c.taken done.controller (post done.controller 0 answer.0 cid answer.1) done.memory is.same (post-together done.controller 0 answer.0 cid answer.1 is.on is.together) c refl
 
-stepped-together : (c : Controller) (done : AdminEffect) (cid : ℕ) → IsDone c.taken done → IsAdminBehind c (stepped done cid)
+stepped-together : (c : Controller) (done : AdminEffect) (cid : ℕ) → IsDone c.taken done
+    → IsAdminBehind c (stepped done cid)
 stepped-together c done cid is = with_answer-together c done done.answer cid is
 
 -- what took changes
@@ -190,11 +202,13 @@ took-keeps : (c : Controller) (y : ℕ) → (is_enabled (took c y) ≡ is_enable
 unfolding took
 took-keeps c y = by_queue (submission_queue c y)
   where
-    by_queue : (o : Option SubmissionQueue) → (is_enabled (took_of o c y) ≡ is_enabled c) × ((took_of o c y).deletion ≡ c.deletion)
+    by_queue : (o : Option SubmissionQueue)
+        → (is_enabled (took_of o c y) ≡ is_enabled c) × ((took_of o c y).deletion ≡ c.deletion)
     by_queue None = (refl, refl)
     by_queue (Some q) = (refl, refl)
 
-front_command-together : (mapped : ℕ → Bool) (at : Option ℕ) (blocks : ℕ) (c : Controller) (memory : ℕ → ℕ) → c.deletion ≡ None → IsTogether c → front c 0 ≡ at
+front_command-together : (mapped : ℕ → Bool) (at : Option ℕ) (blocks : ℕ) (c : Controller) (memory : ℕ → ℕ)
+    → c.deletion ≡ None → IsTogether c → front c 0 ≡ at
     → IsAdminBehind c (front_command at mapped blocks c memory)
 front_command-together mapped None blocks c memory idle g is = tt
 front_command-together mapped (Some addr) blocks c memory idle g is =
@@ -208,26 +222,31 @@ front_command-together mapped (Some addr) blocks c memory idle g is =
     stepped-together c (admin_command mapped blocks entry (took c 0) memory) (cid_of entry)
     (record { together = done.together; same = done.same ∙ taken.1; on = done.on }))
 
-finish_deletion-together : (d : Deletion) (c : Controller) (memory : ℕ → ℕ) → is_enabled c ≡ true → 0 < d.queue → IsTogether c → IsAdminBehind c (finish_deletion d c memory)
+finish_deletion-together : (d : Deletion) (c : Controller) (memory : ℕ → ℕ) → is_enabled c ≡ true → 0 < d.queue
+    → IsTogether c → IsAdminBehind c (finish_deletion d c memory)
 finish_deletion-together d c memory on io g =
     by_test (IsAdminBehind c) (not (slice_index c.taken d.queue == 0)) _ _ (λ _. tt) (λ none.
     by_test (IsAdminBehind c) (is_queue_full (completion_queue c 0)) _ _ (λ _. tt) (λ _.
     stepped-together c (answered 0 (record (with_submission c d.queue None) { deletion = None }) memory) d.cid
     (record {
-      together = submission-gone (is_enabled c) c.ready c.submission c.completion_queues c.taken c.deletion on d.queue io
+      together =
+          submission-gone (is_enabled c) c.ready c.submission c.completion_queues c.taken c.deletion on d.queue io
           (eqb-true (slice_index c.taken d.queue) 0 (not-false (slice_index c.taken d.queue == 0) none)) g;
       same = refl;
       on = on;
     })))
 
-admin_ready-together : (mapped : ℕ → Bool) (waiting : Option Deletion) (blocks : ℕ) (c : Controller) (memory : ℕ → ℕ) → is_enabled c ≡ true → IsTogether c → c.deletion ≡ waiting
+admin_ready-together : (mapped : ℕ → Bool) (waiting : Option Deletion) (blocks : ℕ) (c : Controller) (memory : ℕ → ℕ)
+    → is_enabled c ≡ true → IsTogether c → c.deletion ≡ waiting
     → IsAdminBehind c (admin_ready waiting mapped blocks c memory)
 admin_ready-together mapped (Some d) blocks c memory on g is =
     let named = subst (λ o. IfSome o (λ (w : Deletion). (0 < w.queue) × IsSome (submission_queue c w.queue))) is g.deletion_there in
     finish_deletion-together d c memory on named.0 g
-admin_ready-together mapped None blocks c memory on g is = front_command-together mapped (front c 0) blocks c memory is g refl
+admin_ready-together mapped None blocks c memory on g is =
+    front_command-together mapped (front c 0) blocks c memory is g refl
 
-pub admin-together : (mapped : ℕ → Bool) (blocks : ℕ) (c : Controller) (memory : ℕ → ℕ) → IsTogether c → IsAdminBehind c (admin mapped blocks c memory)
+pub admin-together : (mapped : ℕ → Bool) (blocks : ℕ) (c : Controller) (memory : ℕ → ℕ) → IsTogether c
+    → IsAdminBehind c (admin mapped blocks c memory)
 unfolding admin
 admin-together mapped blocks c memory g =
     by_test (IsAdminBehind c) (is_ready c) _ _

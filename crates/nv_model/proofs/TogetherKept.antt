@@ -16,8 +16,10 @@ abbrev pub IsBehind : Controller → Controller → Type 0
 IsBehind c d = IsTogether d × (d.taken ≡ c.taken)
 
 -- the queue that was found has what the queues of that number have
-completes-found : (c : Controller) (y : ℕ) (q : SubmissionQueue) → IsTogether c → submission_queue c y ≡ Some q → IsSome (completion_queue c q.completes_to)
-completes-found c y q g is = subst (λ o. IfSome o (λ (s : SubmissionQueue). IsSome (completion_queue c s.completes_to))) is (g.completes y)
+completes-found : (c : Controller) (y : ℕ) (q : SubmissionQueue) → IsTogether c → submission_queue c y ≡ Some q
+    → IsSome (completion_queue c q.completes_to)
+completes-found c y q g is =
+    subst (λ o. IfSome o (λ (s : SubmissionQueue). IsSome (completion_queue c s.completes_to))) is (g.completes y)
 
 -- ---- registers
 
@@ -41,7 +43,8 @@ opening-together =
       deletion_there = tt;
     }
 
-reset-together : (was : Bool) (c : Controller) → With was c → GoTogether false (reset c).ready (reset c).submission (reset c).completion_queues c.taken None
+reset-together : (was : Bool) (c : Controller) → With was c
+    → GoTogether false (reset c).ready (reset c).submission (reset c).completion_queues c.taken None
 reset-together was c g =
     record {
       submission_count = refl;
@@ -58,7 +61,8 @@ reset-together was c g =
     }
 
 -- EN rises while no command is taken; RDY is 0 then
-enabled-together : (c : Controller) (up : Bool) → (sum c.taken == 0) ≡ true → (up ≡ true → c.ready ≡ true) → GoTogether false c.ready c.submission c.completion_queues c.taken c.deletion
+enabled-together : (c : Controller) (up : Bool) → (sum c.taken == 0) ≡ true → (up ≡ true → c.ready ≡ true)
+    → GoTogether false c.ready c.submission c.completion_queues c.taken c.deletion
     → GoTogether true up c.submission c.completion_queues c.taken c.deletion
 enabled-together c up none was g =
     record {
@@ -76,7 +80,8 @@ enabled-together c up none was g =
 
 -- RDY rises with the admin queues
 ready-put : (ss : List (Option SubmissionQueue)) (cs : List (Option CompletionQueue)) (taken : List ℕ) (deletion : Option Deletion)
-    → IsSome (queue_of (slice_get ss 0)) → IsSome (queue_of (slice_get cs 0)) → GoTogether true false ss cs taken deletion → GoTogether true true ss cs taken deletion
+    → IsSome (queue_of (slice_get ss 0)) → IsSome (queue_of (slice_get cs 0))
+    → GoTogether true false ss cs taken deletion → GoTogether true true ss cs taken deletion
 ready-put ss cs taken deletion submission completion g =
     record {
       submission_count = g.submission_count;
@@ -96,7 +101,8 @@ first-number : (n : ℕ) → n ≡ queue_count → 0 < n
 first-number n is = omega arith
 
 -- the admin queues are made
-admin-together : (c : Controller) (sq : SubmissionQueue) (cq : CompletionQueue) → sq.completes_to ≡ 0 → (sum c.taken == 0) ≡ true
+admin-together : (c : Controller) (sq : SubmissionQueue) (cq : CompletionQueue) → sq.completes_to ≡ 0
+    → (sum c.taken == 0) ≡ true
     → GoTogether false c.ready c.submission c.completion_queues c.taken c.deletion
     → GoTogether true true (set c.submission 0 (Some sq)) (set c.completion_queues 0 (Some cq)) c.taken c.deletion
 admin-together c sq cq to none g =
@@ -108,10 +114,12 @@ admin-together c sq cq to none g =
     (subst (λ (y : ℕ). IsSome (queue_of (slice_get (set c.completion_queues 0 (Some cq)) y))) (sym to) completes) one in
     ready-put (set c.submission 0 (Some sq)) (set c.completion_queues 0 (Some cq)) c.taken c.deletion submits completes two
 
-cc_written-together : (mapped : ℕ → Bool) (was now : Bool) (c : Controller) (value : ℕ) → (bits value 0 0 == 1) ≡ now → With was c → IfSome (cc_written was now mapped c value) (IsBehind c)
+cc_written-together : (mapped : ℕ → Bool) (was now : Bool) (c : Controller) (value : ℕ) → (bits value 0 0 == 1) ≡ now
+    → With was c → IfSome (cc_written was now mapped c value) (IsBehind c)
 cc_written-together mapped true true c value is g = (subst (λ (e : Bool). With e c) (sym is) g, refl)
 cc_written-together mapped false false c value is g = (subst (λ (e : Bool). With e c) (sym is) g, refl)
-cc_written-together mapped true false c value is g = (subst (λ (e : Bool). With e (reset c)) (sym is) (reset-together true c g), refl)
+cc_written-together mapped true false c value is g =
+    (subst (λ (e : Bool). With e (reset c)) (sym is) (reset-together true c g), refl)
 cc_written-together mapped false true c value is g =
     by_test (λ o. IfSome o (IsBehind c)) (running c == 0) _ _
     (λ none. by_test (IsBehind c) (can_enable mapped (record c { cc = value })) _ _
@@ -125,7 +133,8 @@ cc_written-together mapped false true c value is g =
     (λ _. (subst (λ (e : Bool). With e c) (sym is) (enabled-together c c.ready none (λ up. up) g), refl)))
     (λ _. tt)
 
-admin_register_written-together : (c : Controller) (offset value : ℕ) → IsTogether c → IfSome (admin_register_written c offset value) (IsBehind c)
+admin_register_written-together : (c : Controller) (offset value : ℕ) → IsTogether c
+    → IfSome (admin_register_written c offset value) (IsBehind c)
 admin_register_written-together c offset value g =
     by_test (λ o. IfSome o (IsBehind c)) (is_enabled c) _ _ (λ _. tt) (λ _.
     by_test (λ o. IfSome o (IsBehind c)) (offset == 0x24) _ _ (λ _. (g, refl)) (λ _.
@@ -134,7 +143,8 @@ admin_register_written-together c offset value g =
     by_test (λ o. IfSome o (IsBehind c)) (offset == 0x30) _ _ (λ _. (g, refl)) (λ _.
     by_test (λ o. IfSome o (IsBehind c)) (offset == 0x34) _ _ (λ _. (g, refl)) (λ _. tt))))))
 
-pub reg_write-together : (mapped : ℕ → Bool) (c : Controller) (offset value : ℕ) → IsTogether c → IfSome (reg_write mapped c offset value) (IsBehind c)
+pub reg_write-together : (mapped : ℕ → Bool) (c : Controller) (offset value : ℕ) → IsTogether c
+    → IfSome (reg_write mapped c offset value) (IsBehind c)
 unfolding reg_write
 reg_write-together mapped c offset value g =
     by_test (λ o. IfSome o (IsBehind c)) (offset == 0x14) _ _
@@ -143,26 +153,30 @@ reg_write-together mapped c offset value g =
 
 -- ---- doorbells
 
-tail_rung-together : (found : Option SubmissionQueue) (c : Controller) (y tail : ℕ) → is_enabled c ≡ true → IsTogether c → submission_queue c y ≡ found → IfSome (tail_rung found c y tail) (IsBehind c)
+tail_rung-together : (found : Option SubmissionQueue) (c : Controller) (y tail : ℕ) → is_enabled c ≡ true → IsTogether c
+    → submission_queue c y ≡ found → IfSome (tail_rung found c y tail) (IsBehind c)
 tail_rung-together None c y tail on g is = tt
 tail_rung-together (Some q) c y tail on g is =
     by_test (λ o. IfSome o (IsBehind c)) (not q.closing && nat_lt tail q.size) _ _
     (λ _. (submission-put (is_enabled c) c.ready c.submission c.completion_queues c.taken c.deletion on y (record q { tail = tail }) (completes-found c y q g is) g, refl))
     (λ _. tt)
 
-head_rung-together : (found : Option CompletionQueue) (c : Controller) (y head : ℕ) → is_enabled c ≡ true → IsTogether c → IfSome (head_rung found c y head) (IsBehind c)
+head_rung-together : (found : Option CompletionQueue) (c : Controller) (y head : ℕ) → is_enabled c ≡ true → IsTogether c
+    → IfSome (head_rung found c y head) (IsBehind c)
 head_rung-together None c y head on g = tt
 head_rung-together (Some q) c y head on g =
     by_test (λ o. IfSome o (IsBehind c)) (nat_lt head q.size && nat_le (ahead q.size q.head head) (ahead q.size q.head q.tail)) _ _
     (λ _. (completion-put (is_enabled c) c.ready c.submission c.completion_queues c.taken c.deletion on y (record q { head = head }) g, refl))
     (λ _. tt)
 
-rung-together : (c : Controller) (y in_pair value : ℕ) → is_enabled c ≡ true → IsTogether c → IfSome (rung c y in_pair value) (IsBehind c)
+rung-together : (c : Controller) (y in_pair value : ℕ) → is_enabled c ≡ true → IsTogether c
+    → IfSome (rung c y in_pair value) (IsBehind c)
 rung-together c y in_pair value on g =
     by_test (λ o. IfSome o (IsBehind c)) (in_pair == 0) _ _ (λ _. tail_rung-together (submission_queue c y) c y value on g refl) (λ _.
     by_test (λ o. IfSome o (IsBehind c)) (in_pair == 4) _ _ (λ _. head_rung-together (completion_queue c y) c y value on g) (λ _. tt))
 
-pub doorbell-together : (c : Controller) (offset value : ℕ) → IsTogether c → IfSome (doorbell c offset value) (IsBehind c)
+pub doorbell-together : (c : Controller) (offset value : ℕ) → IsTogether c
+    → IfSome (doorbell c offset value) (IsBehind c)
 unfolding doorbell
 doorbell-together c offset value g =
     by_test (λ o. IfSome o (IsBehind c)) (is_ready c && nat_le 0x1000 offset) _ _
@@ -194,9 +208,11 @@ front-may c y addr found = by_ready (is_ready c) refl found
         record { on = both.0; up = both.1; there = front_of-there (submission_queue c y) addr there }
     by_ready false is bad = cc
 
-took_of-together : (found : Option SubmissionQueue) (c : Controller) (y : ℕ) → MayTake c y → IsTogether c → submission_queue c y ≡ found
+took_of-together : (found : Option SubmissionQueue) (c : Controller) (y : ℕ) → MayTake c y → IsTogether c
+    → submission_queue c y ≡ found
     → IsTogether (took_of found c y) × ((took_of found c y).taken ≡ taken_more c y)
-took_of-together None c y may g is = let bad : IsSome {T = SubmissionQueue} None = subst (λ (o : Option SubmissionQueue). IsSome o) is may.there in cc
+took_of-together None c y may g is =
+    let bad : IsSome {T = SubmissionQueue} None = subst (λ (o : Option SubmissionQueue). IsSome o) is may.there in cc
 took_of-together (Some q) c y may g is =
     let front = submission-put (is_enabled c) c.ready c.submission c.completion_queues c.taken c.deletion may.on y (front_taken q) (completes-found c y q g is) g in (
       by_test (λ (taken : List ℕ). GoTogether (is_enabled c) c.ready (set c.submission y (Some (front_taken q))) c.completion_queues taken c.deletion) (y == 0) _ _
@@ -211,7 +227,8 @@ took_of-together (Some q) c y may g is =
       refl,
     )
 
-pub took-together : (c : Controller) (y : ℕ) → MayTake c y → IsTogether c → IsTogether (took c y) × ((took c y).taken ≡ taken_more c y)
+pub took-together : (c : Controller) (y : ℕ) → MayTake c y → IsTogether c
+    → IsTogether (took c y) × ((took c y).taken ≡ taken_more c y)
 unfolding took
 took-together c y may g = took_of-together (submission_queue c y) c y may g refl
 
@@ -232,7 +249,8 @@ less-some c y z =
 abbrev pub IsPosted : Controller → ℕ → Posted → Type 0
 IsPosted c y r = IsTogether r.controller × (r.controller.taken ≡ taken_less c y) × (r.controller.deletion ≡ c.deletion)
 
-post_to-together : (found : Option CompletionQueue) (c : Controller) (q : SubmissionQueue) (y dw0 cid : ℕ) (st : StatusField) → is_enabled c ≡ true → IsTogether c
+post_to-together : (found : Option CompletionQueue) (c : Controller) (q : SubmissionQueue) (y dw0 cid : ℕ) (st : StatusField)
+    → is_enabled c ≡ true → IsTogether c
     → IfSome (post_to found c q y dw0 cid st) (IsPosted c y)
 post_to-together None c q y dw0 cid st on g = tt
 post_to-together (Some cq) c q y dw0 cid st on g =
@@ -245,12 +263,15 @@ post_to-together (Some cq) c q y dw0 cid st on g =
       refl,
     ))
 
-post_from-together : (found : Option SubmissionQueue) (c : Controller) (y dw0 cid : ℕ) (st : StatusField) → is_enabled c ≡ true → IsTogether c
+post_from-together : (found : Option SubmissionQueue) (c : Controller) (y dw0 cid : ℕ) (st : StatusField)
+    → is_enabled c ≡ true → IsTogether c
     → IfSome (post_from found c y dw0 cid st) (IsPosted c y)
 post_from-together None c y dw0 cid st on g = tt
-post_from-together (Some q) c y dw0 cid st on g = post_to-together (completion_queue c q.completes_to) c q y dw0 cid st on g
+post_from-together (Some q) c y dw0 cid st on g =
+    post_to-together (completion_queue c q.completes_to) c q y dw0 cid st on g
 
-pub post-together : (c : Controller) (y dw0 cid : ℕ) (st : StatusField) → is_enabled c ≡ true → IsTogether c → IfSome (post c y dw0 cid st) (IsPosted c y)
+pub post-together : (c : Controller) (y dw0 cid : ℕ) (st : StatusField) → is_enabled c ≡ true → IsTogether c
+    → IfSome (post c y dw0 cid st) (IsPosted c y)
 unfolding post
 post-together c y dw0 cid st on g = post_from-together (submission_queue c y) c y dw0 cid st on g
 
@@ -273,7 +294,8 @@ ran_out-with c y g count =
       deletion_there = g.deletion_there;
     }
 
-pub ran_out-together : (c : Controller) (y : ℕ) → is_enabled c ≡ false → IsTogether c → IsTogether (ran_out c y) × ((ran_out c y).taken ≡ taken_less c y)
+pub ran_out-together : (c : Controller) (y : ℕ) → is_enabled c ≡ false → IsTogether c
+    → IsTogether (ran_out c y) × ((ran_out c y).taken ≡ taken_less c y)
 unfolding ran_out
 ran_out-together c y is g = (
   subst (λ (e : Bool). GoTogether e (c.ready && not (sum (taken_less c y) == 0)) c.submission c.completion_queues (taken_less c y) c.deletion) (sym is)

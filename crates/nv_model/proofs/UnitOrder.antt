@@ -27,7 +27,8 @@ same_parts m n d e k l x y same_memory same_disk same_marks same_differed =
     ∙ ap (λ (z : Bool). let r : Moved = record { memory = n; disk = e; kept = l; differed = z } in r) same_differed
 
 -- what is written at two places, in either order
-swapped : {A : Type 0} (at one other : ℕ) (x y z : A) → (one ≡ other → ⊥) → cond (at == one) x (cond (at == other) y z) ≡ cond (at == other) y (cond (at == one) x z)
+swapped : {A : Type 0} (at one other : ℕ) (x y z : A) → (one ≡ other → ⊥)
+    → cond (at == one) x (cond (at == other) y z) ≡ cond (at == other) y (cond (at == one) x z)
 swapped at one other x y z apart =
     (elim (at == one) as (λ p. (at == one) ≡ p → cond p x (cond (at == other) y z) ≡ cond (at == other) y (cond p x z)) [
       | true ↦ λ is.
@@ -79,7 +80,8 @@ block_on opcode work index lba m =
     (let n = block_moved opcode work index lba m.memory m.disk m.kept in
     record { memory = n.memory; disk = n.disk; kept = n.kept; differed = m.differed || n.differed })
 
-blocks-commute : (opcode : IoOpcode) (work : Work) (i a j b : ℕ) (m : Moved) → form_is_read (form_of opcode) ≡ false → (a ≡ b → ⊥)
+blocks-commute : (opcode : IoOpcode) (work : Work) (i a j b : ℕ) (m : Moved) → form_is_read (form_of opcode) ≡ false
+    → (a ≡ b → ⊥)
     → block_on opcode work i a (block_on opcode work j b m) ≡ block_on opcode work j b (block_on opcode work i a m)
 blocks-commute Read work i a j b m other apart = cc
 blocks-commute Write work i a j b m other apart =
@@ -111,8 +113,10 @@ clears-commute work a b mark = λ m.
     both false false x z = refl
 
 -- likewise where their marks are the same
-cleared-commute : (work : Work) (a b : ℕ) (one other : Bool) → one ≡ other → Commute work (ClearBlock a one) (ClearBlock b other)
-cleared-commute work a b one other same = subst (λ (mark : Bool). Commute work (ClearBlock a one) (ClearBlock b mark)) same (clears-commute work a b one)
+cleared-commute : (work : Work) (a b : ℕ) (one other : Bool) → one ≡ other
+    → Commute work (ClearBlock a one) (ClearBlock b other)
+cleared-commute work a b one other same =
+    subst (λ (mark : Bool). Commute work (ClearBlock a one) (ClearBlock b mark)) same (clears-commute work a b one)
 
 -- a block that stays as it is
 leave-commutes : (work : Work) (lba : ℕ) (unit : WorkUnit) → Commute work (LeaveBlock lba) unit
@@ -126,7 +130,8 @@ leave-commutes work lba unit = λ m.
     or-none false = refl
 
 -- two units of one command that is no Read
-units-commute : (work : Work) (entry : List ℕ) (form : Form) (u v : WorkUnit) → form_is_read (form_of work.opcode) ≡ false
+units-commute : (work : Work) (entry : List ℕ) (form : Form) (u v : WorkUnit)
+    → form_is_read (form_of work.opcode) ≡ false
     → IsUnitOf form entry u → IsUnitOf form entry v → Commute work u v
 units-commute work entry (Transfer dest) (MoveBlock i a) (MoveBlock j b) other one two = λ m.
     elim (cases_eq i j) [
@@ -142,15 +147,18 @@ units-commute work entry (Transfer dest) (MoveBlock i a) (KeepAll all) other one
 units-commute work entry (Transfer dest) (ClearBlock a mark) v other one two = absurd one
 units-commute work entry (Transfer dest) (LeaveBlock a) v other one two = absurd one
 units-commute work entry (Transfer dest) (KeepAll all) v other one two = absurd one
-units-commute work entry Clear (ClearBlock a mark) (ClearBlock b also) other one two = cleared-commute work a b mark also (one ∙ sym two)
+units-commute work entry Clear (ClearBlock a mark) (ClearBlock b also) other one two =
+    cleared-commute work a b mark also (one ∙ sym two)
 units-commute work entry Clear (ClearBlock a mark) (MoveBlock j b) other one two = absurd two
 units-commute work entry Clear (ClearBlock a mark) (LeaveBlock b) other one two = absurd two
 units-commute work entry Clear (ClearBlock a mark) (KeepAll all) other one two = absurd two
 units-commute work entry Clear (MoveBlock i a) v other one two = absurd one
 units-commute work entry Clear (LeaveBlock a) v other one two = absurd one
 units-commute work entry Clear (KeepAll all) v other one two = absurd one
-units-commute work entry Manage (ClearBlock a mark) (ClearBlock b also) other one two = cleared-commute work a b mark also (one ∙ sym two)
-units-commute work entry Manage (ClearBlock a mark) (LeaveBlock b) other one two = λ m. sym (leave-commutes work b (ClearBlock a mark) m)
+units-commute work entry Manage (ClearBlock a mark) (ClearBlock b also) other one two =
+    cleared-commute work a b mark also (one ∙ sym two)
+units-commute work entry Manage (ClearBlock a mark) (LeaveBlock b) other one two =
+    λ m. sym (leave-commutes work b (ClearBlock a mark) m)
 units-commute work entry Manage (ClearBlock a mark) (MoveBlock j b) other one two = absurd two
 units-commute work entry Manage (ClearBlock a mark) (KeepAll all) other one two = absurd two
 units-commute work entry Manage (LeaveBlock a) v other one two = leave-commutes work a v
@@ -168,7 +176,8 @@ units-commute work entry Keep (LeaveBlock a) v other one two = absurd one
 -- ---- any order
 
 -- a unit may move before those that stand in front of it
-moves-first : (work : Work) (entry : List ℕ) (form : Form) (units : List WorkUnit) (place : ℕ) (unit : WorkUnit) (m : Moved) → form_is_read (form_of work.opcode) ≡ false
+moves-first : (work : Work) (entry : List ℕ) (form : Form) (units : List WorkUnit) (place : ℕ) (unit : WorkUnit) (m : Moved)
+    → form_is_read (form_of work.opcode) ≡ false
     → IsUnitOf form entry unit → All (IsUnitOf form entry) units → slice_get units place ≡ Some unit
     → units_moved units work m ≡ units_moved (remove units place) work (moved_on unit work m)
 unfolding units_moved
@@ -181,7 +190,8 @@ moves-first work entry form (first ∷ units) (suc place) unit m other own each 
     moves-first work entry form units place unit (moved_on first work m) other own (All-tail (IsUnitOf form entry) first units each) found
     ∙ ap (units_moved (remove units place) work) (units-commute work entry form unit first other own of_first m)
 
-pub any-order : (work : Work) (entry : List ℕ) (form : Form) (order units : List WorkUnit) (m : Moved) → form_is_read (form_of work.opcode) ≡ false
+pub any-order : (work : Work) (entry : List ℕ) (form : Form) (order units : List WorkUnit) (m : Moved)
+    → form_is_read (form_of work.opcode) ≡ false
     → All (IsUnitOf form entry) units → IsOrderOf order units → units_moved order work m ≡ units_moved units work m
 unfolding units_moved
 any-order work entry form [] units m other each none = ap (λ (us : List WorkUnit). units_moved us work m) (sym none)
@@ -192,4 +202,5 @@ any-order work entry form (unit ∷ order) units m other each (place, (found, re
     ∙ sym (moves-first work entry form units place unit m other own each found)
   where
     own : IsUnitOf form entry unit
-    own = subst (λ (o : Option WorkUnit). IfSome o (IsUnitOf form entry)) found (slice_get-has (IsUnitOf form entry) units place each)
+    own =
+        subst (λ (o : Option WorkUnit). IfSome o (IsUnitOf form entry)) found (slice_get-has (IsUnitOf form entry) units place each)

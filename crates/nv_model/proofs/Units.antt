@@ -36,7 +36,8 @@ IsUnitOf Keep entry (KeepAll all) = ⊤
 
 -- ---- ranges of numbers
 
-All-enumerate_from : (P : ℕ → Type 0) (n : ℕ) (xs : List ℕ) → All P xs → All (λ (p : ℕ × ℕ). P p.1) (enumerate_from n xs)
+All-enumerate_from : (P : ℕ → Type 0) (n : ℕ) (xs : List ℕ) → All P xs
+    → All (λ (p : ℕ × ℕ). P p.1) (enumerate_from n xs)
 All-enumerate_from P n [] each = All-nil (λ (p : ℕ × ℕ). P p.1)
 All-enumerate_from P n (x ∷ xs) each =
     All-cons (λ (p : ℕ × ℕ). P p.1) (n, x) (enumerate_from (n + 1) xs) (All-head P x xs each) (All-enumerate_from P (n + 1) xs (All-tail P x xs each))
@@ -48,7 +49,8 @@ range-below blocks start (suc n) fit =
     All-cons (λ lba. lba < blocks) start (range_with_len (start + 1) n) (omega arith) (range-below blocks (start + 1) n (omega arith))
 
 -- the blocks of a range in the namespace
-in_namespace-below : (blocks start n : ℕ) → in_namespace start n blocks ≡ true → All (λ lba. lba < blocks) (range_with_len start n)
+in_namespace-below : (blocks start n : ℕ) → in_namespace start n blocks ≡ true
+    → All (λ lba. lba < blocks) (range_with_len start n)
 in_namespace-below blocks start n is =
     let inside = InNamespace-tested start n blocks is in
     range-below blocks start n (omega arith)
@@ -56,25 +58,29 @@ in_namespace-below blocks start n is =
 -- ---- units of blocks
 
 -- each moves a block of the namespace
-move_units-within : (blocks : ℕ) (lbas : List ℕ) → All (λ lba. lba < blocks) lbas → All (IsUnitWithin blocks) (move_units lbas)
+move_units-within : (blocks : ℕ) (lbas : List ℕ) → All (λ lba. lba < blocks) lbas
+    → All (IsUnitWithin blocks) (move_units lbas)
 unfolding move_units
 move_units-within blocks lbas each =
     All-map (IsUnitWithin blocks) (λ (p : ℕ × ℕ). MoveBlock p.0 p.1) (enumerate_from 0 lbas) (All-enumerate_from (λ lba. lba < blocks) 0 lbas each)
 
 -- or clears one
-clear_units-within : (blocks : ℕ) (mark : Bool) (lbas : List ℕ) → All (λ lba. lba < blocks) lbas → All (IsUnitWithin blocks) (clear_units mark lbas)
+clear_units-within : (blocks : ℕ) (mark : Bool) (lbas : List ℕ) → All (λ lba. lba < blocks) lbas
+    → All (IsUnitWithin blocks) (clear_units mark lbas)
 unfolding clear_units
 clear_units-within blocks mark lbas each = All-map (IsUnitWithin blocks) (λ (lba : ℕ). ClearBlock lba mark) lbas each
 
 -- the units of one range in the namespace
-one_range_units-within : (deallocate : Bool) (blocks : ℕ) (range : List ℕ) → range_fits blocks range ≡ true → All (IsUnitWithin blocks) (one_range_units deallocate range)
+one_range_units-within : (deallocate : Bool) (blocks : ℕ) (range : List ℕ) → range_fits blocks range ≡ true
+    → All (IsUnitWithin blocks) (one_range_units deallocate range)
 one_range_units-within true blocks range fit =
     clear_units-within blocks false (range_with_len (start_of range) (blocks_of range)) (in_namespace-below blocks (start_of range) (blocks_of range) fit)
 one_range_units-within false blocks range fit =
     All-map (IsUnitWithin blocks) LeaveBlock (range_with_len (start_of range) (blocks_of range)) (in_namespace-below blocks (start_of range) (blocks_of range) fit)
 
 -- those of ranges in the namespace
-pub range_units-within : (deallocate : Bool) (blocks : ℕ) (ranges : List (List ℕ)) → list_all (range_fits blocks) ranges ≡ true
+pub range_units-within : (deallocate : Bool) (blocks : ℕ) (ranges : List (List ℕ))
+    → list_all (range_fits blocks) ranges ≡ true
     → All (IsUnitWithin blocks) (range_units deallocate ranges)
 unfolding range_units
 range_units-within deallocate blocks [] fit = All-nil (IsUnitWithin blocks)
@@ -85,14 +91,16 @@ range_units-within deallocate blocks (range ∷ ranges) fit =
 
 -- the units of a command, where its range of blocks, or each of its ranges, is in the namespace
 pub form_units-within : (form : Form) (blocks : ℕ) (entry : List ℕ) (ranges : List (List ℕ))
-    → (form_has_blocks form && not (in_namespace (slba_of entry) (count_of entry) blocks)) ≡ false → list_all (range_fits blocks) ranges ≡ true
+    → (form_has_blocks form && not (in_namespace (slba_of entry) (count_of entry) blocks)) ≡ false
+    → list_all (range_fits blocks) ranges ≡ true
     → All (IsUnitWithin blocks) (form_units form blocks entry ranges)
 form_units-within (Transfer dest) blocks entry ranges fine fit =
     move_units-within blocks (lbas_of entry) (in_namespace-below blocks (slba_of entry) (count_of entry) (not-false _ fine))
 form_units-within Clear blocks entry ranges fine fit =
     clear_units-within blocks (is_fua entry) (lbas_of entry) (in_namespace-below blocks (slba_of entry) (count_of entry) (not-false _ fine))
 form_units-within Manage blocks entry ranges fine fit = range_units-within (deallocates entry) blocks ranges fit
-form_units-within Keep blocks entry ranges fine fit = All-cons (IsUnitWithin blocks) (KeepAll blocks) [] refl (All-nil (IsUnitWithin blocks))
+form_units-within Keep blocks entry ranges fine fit =
+    All-cons (IsUnitWithin blocks) (KeepAll blocks) [] refl (All-nil (IsUnitWithin blocks))
 
 -- ---- each of them is the command's
 
@@ -112,17 +120,21 @@ clear_units-own entry (lba ∷ lbas) =
 deallocated-own : (entry : List ℕ) (lbas : List ℕ) → All (IsUnitOf Manage entry) (clear_units false lbas)
 unfolding clear_units
 deallocated-own entry [] = All-nil (IsUnitOf Manage entry)
-deallocated-own entry (lba ∷ lbas) = All-cons (IsUnitOf Manage entry) (ClearBlock lba false) (clear_units false lbas) refl (deallocated-own entry lbas)
+deallocated-own entry (lba ∷ lbas) =
+    All-cons (IsUnitOf Manage entry) (ClearBlock lba false) (clear_units false lbas) refl (deallocated-own entry lbas)
 
 left-own : (entry : List ℕ) (lbas : List ℕ) → All (IsUnitOf Manage entry) (map LeaveBlock lbas)
 left-own entry [] = All-nil (IsUnitOf Manage entry)
-left-own entry (lba ∷ lbas) = All-cons (IsUnitOf Manage entry) (LeaveBlock lba) (map LeaveBlock lbas) tt (left-own entry lbas)
+left-own entry (lba ∷ lbas) =
+    All-cons (IsUnitOf Manage entry) (LeaveBlock lba) (map LeaveBlock lbas) tt (left-own entry lbas)
 
-one_range_units-own : (entry : List ℕ) (deallocate : Bool) (range : List ℕ) → All (IsUnitOf Manage entry) (one_range_units deallocate range)
+one_range_units-own : (entry : List ℕ) (deallocate : Bool) (range : List ℕ)
+    → All (IsUnitOf Manage entry) (one_range_units deallocate range)
 one_range_units-own entry true range = deallocated-own entry (range_with_len (start_of range) (blocks_of range))
 one_range_units-own entry false range = left-own entry (range_with_len (start_of range) (blocks_of range))
 
-range_units-own : (entry : List ℕ) (deallocate : Bool) (ranges : List (List ℕ)) → All (IsUnitOf Manage entry) (range_units deallocate ranges)
+range_units-own : (entry : List ℕ) (deallocate : Bool) (ranges : List (List ℕ))
+    → All (IsUnitOf Manage entry) (range_units deallocate ranges)
 unfolding range_units
 range_units-own entry deallocate [] = All-nil (IsUnitOf Manage entry)
 range_units-own entry deallocate (range ∷ ranges) =
@@ -130,12 +142,15 @@ range_units-own entry deallocate (range ∷ ranges) =
     (one_range_units-own entry deallocate range) (range_units-own entry deallocate ranges)
 
 -- each unit of a command is one of its form
-pub form_units-own : (form : Form) (blocks : ℕ) (entry : List ℕ) (ranges : List (List ℕ)) → All (IsUnitOf form entry) (form_units form blocks entry ranges)
+pub form_units-own : (form : Form) (blocks : ℕ) (entry : List ℕ) (ranges : List (List ℕ))
+    → All (IsUnitOf form entry) (form_units form blocks entry ranges)
 unfolding move_units
-form_units-own (Transfer dest) blocks entry ranges = move_units-own entry dest 0 (slba_of entry) (count_of entry) (omega arith)
+form_units-own (Transfer dest) blocks entry ranges =
+    move_units-own entry dest 0 (slba_of entry) (count_of entry) (omega arith)
 form_units-own Clear blocks entry ranges = clear_units-own entry (lbas_of entry)
 form_units-own Manage blocks entry ranges = range_units-own entry (deallocates entry) ranges
-form_units-own Keep blocks entry ranges = All-cons (IsUnitOf Keep entry) (KeepAll blocks) [] tt (All-nil (IsUnitOf Keep entry))
+form_units-own Keep blocks entry ranges =
+    All-cons (IsUnitOf Keep entry) (KeepAll blocks) [] tt (All-nil (IsUnitOf Keep entry))
 
 -- ---- how many there are, and which
 
@@ -145,7 +160,8 @@ length-ranges_in zero bytes = refl
 length-ranges_in (suc n) bytes = ap (λ (k : ℕ). suc k) (length-ranges_in n (drop 16 bytes))
 
 -- the unit of a block that moves
-move_unit-at : (start n k i : ℕ) → i < n → slice_get (map (λ p. MoveBlock p.0 p.1) (enumerate_from k (range_with_len start n))) i ≡ Some (MoveBlock (k + i) (start + i))
+move_unit-at : (start n k i : ℕ) → i < n
+    → slice_get (map (λ p. MoveBlock p.0 p.1) (enumerate_from k (range_with_len start n))) i ≡ Some (MoveBlock (k + i) (start + i))
 move_unit-at start zero k i below = absurd (omega arith)
 move_unit-at start (suc n) k zero below =
     let same : k + 0 ≡ k = omega arith in
@@ -156,17 +172,21 @@ move_unit-at start (suc n) k (suc i) below =
     let also : start + suc i ≡ start + 1 + i = omega arith in
     rw (same, also) (move_unit-at (start + 1) n (k + 1) i (omega arith))
 
-pub move_units-at : (start n i : ℕ) → i < n → slice_get (move_units (range_with_len start n)) i ≡ Some (MoveBlock i (start + i))
+pub move_units-at : (start n i : ℕ) → i < n
+    → slice_get (move_units (range_with_len start n)) i ≡ Some (MoveBlock i (start + i))
 unfolding move_units
-move_units-at start n i below = let none : 0 + i ≡ i = omega arith in move_unit-at start n 0 i below ∙ ap (λ (j : ℕ). Some (MoveBlock j (start + i))) none
+move_units-at start n i below =
+    let none : 0 + i ≡ i = omega arith in move_unit-at start n 0 i below ∙ ap (λ (j : ℕ). Some (MoveBlock j (start + i))) none
 
 pub length-move_units : (start n : ℕ) → length (move_units (range_with_len start n)) ≡ n
 unfolding move_units
 length-move_units start n =
-    length-map (enumerate_from 0 (range_with_len start n)) (λ (p : ℕ × ℕ). MoveBlock p.0 p.1) ∙ length-enumerate_from 0 (range_with_len start n) ∙ length-range_with_len start n
+    length-map (enumerate_from 0 (range_with_len start n)) (λ (p : ℕ × ℕ). MoveBlock p.0 p.1)
+    ∙ length-enumerate_from 0 (range_with_len start n) ∙ length-range_with_len start n
 
 -- the unit of a block that is cleared
-pub clear_units-at : (mark : Bool) (start n i : ℕ) → i < n → slice_get (clear_units mark (range_with_len start n)) i ≡ Some (ClearBlock (start + i) mark)
+pub clear_units-at : (mark : Bool) (start n i : ℕ) → i < n
+    → slice_get (clear_units mark (range_with_len start n)) i ≡ Some (ClearBlock (start + i) mark)
 unfolding clear_units
 clear_units-at mark start zero i below = absurd (omega arith)
 clear_units-at mark start (suc n) zero below = let also : start + 0 ≡ start = omega arith in rw also refl
@@ -176,4 +196,5 @@ clear_units-at mark start (suc n) (suc i) below =
 
 pub length-clear_units : (mark : Bool) (start n : ℕ) → length (clear_units mark (range_with_len start n)) ≡ n
 unfolding clear_units
-length-clear_units mark start n = length-map (range_with_len start n) (λ (lba : ℕ). ClearBlock lba mark) ∙ length-range_with_len start n
+length-clear_units mark start n =
+    length-map (range_with_len start n) (λ (lba : ℕ). ClearBlock lba mark) ∙ length-range_with_len start n

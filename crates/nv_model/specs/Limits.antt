@@ -1,6 +1,7 @@
 -- The sizes and limits of the project, each under one name. Blocks of 512 bytes and pages of 4 KiB are the only formats (NVM Command Set
 -- Specification 1.0, "LBA Format"; Base Specification 2.0, "Controller Configuration", MPS); the others are the project's own (profile).
 use Rattle.std.specs.Prelude.{ℕ, ◌*◌}
+use Rattle.nv_mem.specs.Page.{page_size}
 
 -- the bytes of a logical block
 abbrev pub block : ℕ
@@ -8,7 +9,7 @@ block = 512
 
 -- the bytes of a memory page
 abbrev pub page : ℕ
-page = 4096
+page = page_size
 
 -- the bytes of a range of Dataset Management
 abbrev pub range_size : ℕ
@@ -41,3 +42,11 @@ last_queue = 8
 -- the most event requests that are held, as AERL says
 abbrev pub most_requests : ℕ
 most_requests = 4
+
+-- the most bytes of the memory of a controller that serves one guest alone
+abbrev pub largest_memory : ℕ
+largest_memory = 16777216
+
+-- the most blocks of its namespace
+abbrev pub largest_namespace : ℕ
+largest_namespace = 65536

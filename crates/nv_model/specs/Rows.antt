@@ -36,11 +36,11 @@ holding addr bytes = stored zeros addr bytes
 
 -- a guest with a memory of 20000h bytes, a namespace of 64 blocks and at most 1,024 descriptors in a list
 abbrev pub guest : Shape
-guest = record { mapped = guest_memory; blocks = 64; limit = 1024 }
+guest = record { mapped = guest_memory; blocks = 64; limit = most_descriptors }
 
 -- a guest with a memory of 40000h bytes and a namespace of 256 blocks
 abbrev pub larger_guest : Shape
-larger_guest = record { mapped = below 0x40000; blocks = 256; limit = 1024 }
+larger_guest = record { mapped = below 0x40000; blocks = 256; limit = most_descriptors }
 
 -- ---- lists
 
@@ -70,7 +70,7 @@ one_block = data_block 0x3000 512
 
 -- the list of an SGL descriptor that is a command's own, whose buffer is a destination
 abbrev pub sgl_in : (ℕ → ℕ) → List ℕ → Reading
-sgl_in memory own = in_memory memory (read_sgl guest_memory true 1024 own)
+sgl_in memory own = in_memory memory (read_sgl guest_memory true most_descriptors own)
 
 -- the same, of which at most `limit` descriptors are read
 abbrev pub sgl_within : (limit : ℕ) → (ℕ → ℕ) → List ℕ → Reading

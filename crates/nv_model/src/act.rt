@@ -1,3 +1,5 @@
+//! The acts of a guest, as values that a run can be told by.
+
 use nv_mem::Bytes;
 
 /// What a guest does: it reads and writes its memory, its controller's registers and its doorbells.

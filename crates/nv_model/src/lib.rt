@@ -3,6 +3,7 @@
 
 mod act;
 pub mod laws;
+pub mod limits;
 mod reply;
 pub mod rows;
 mod want;

@@ -1,3 +1,5 @@
+//! The replies to acts and events.
+
 use nv_mem::Bytes;
 
 /// What an act or an event is answered.

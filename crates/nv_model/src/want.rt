@@ -1,3 +1,5 @@
+//! What a reading answers that is fed part by part.
+
 use nv_entry::Status;
 
 /// What a parse wants next, or how it ended.

@@ -1,3 +1,5 @@
+//! A guest's namespace: which blocks of the disk are its own, in numbers that never wrap.
+
 ghost use Rattle.std.specs.Prelude.{◌≡◌, ℕ, ◌+◌, ◌^◌, ◌<◌, ◌↔◌, IsTrue, SomeIff};
 ghost use Rattle.nv_ns.specs.BlockRange.{Extent, InNamespace, block_at, block_count, translated};
 

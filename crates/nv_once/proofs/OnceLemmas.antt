@@ -9,8 +9,10 @@ use Rattle.nv_script.specs.OnceLine.{is_there, value_of}
 use Rattle.nv_once.specs.Once.{HasSizes, IsThere}
 
 -- each line names bytes and blocks of a controller of the script's sizes
-pub IsThere-in_range : (controller : Flat) (memory blocks : ℕ) (lines : List Line) (k : ℕ) (line : Line) → HasSizes controller memory blocks
-    → AllPass (is_there (record { memory = memory; blocks = blocks })) (map value_of lines) → k < length lines → line ≡ get_or lines k line → IsThere controller (value_of line)
+pub IsThere-in_range : (controller : Flat) (memory blocks : ℕ) (lines : List Line) (k : ℕ) (line : Line)
+    → HasSizes controller memory blocks
+    → AllPass (is_there (record { memory = memory; blocks = blocks })) (map value_of lines) → k < length lines
+    → line ≡ get_or lines k line → IsThere controller (value_of line)
 IsThere-in_range controller memory blocks lines k line sizes there below at =
     let named : get_or (map value_of lines) k (value_of line) ≡ value_of line = get_or-map value_of lines k line (value_of line) below ∙ ap value_of (sym at) in
     let here : is_there (record { memory = memory; blocks = blocks }) (get_or (map value_of lines) k (value_of line)) ≡ true = there k (value_of line) (omega (arith, length-map lines value_of)) in

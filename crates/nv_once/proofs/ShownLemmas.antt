@@ -45,8 +45,10 @@ take-sum (suc n) k (x ∷ xs) =
     rw e (ap (λ ys. x ∷ ys) (take-sum n k xs))
 
 -- bytes are those of their parts
-pub bytes_at-append : (memory : List ℕ) (addr n k : ℕ) → bytes_at memory addr (n + k) ≡ bytes_at memory addr n ++ bytes_at memory (addr + n) k
-bytes_at-append memory addr n k = take-sum n k (drop addr memory) ∙ ap (λ xs. take n (drop addr memory) ++ take k xs) (drop-drop n addr memory)
+pub bytes_at-append : (memory : List ℕ) (addr n k : ℕ)
+    → bytes_at memory addr (n + k) ≡ bytes_at memory addr n ++ bytes_at memory (addr + n) k
+bytes_at-append memory addr n k =
+    take-sum n k (drop addr memory) ∙ ap (λ xs. take n (drop addr memory) ++ take k xs) (drop-drop n addr memory)
 
 -- bytes stored behind bytes that were stored
 pub after_store-append : (memory xs ys : List ℕ) (addr : ℕ) → addr + length xs ≤ length memory
@@ -58,7 +60,8 @@ after_store-append memory xs ys addr inside =
     let kept : take (addr + length xs) (front ++ back) ≡ front = subst (λ n. take n (front ++ back) ≡ front) seam (take-append_seam front back) in
     let rest : drop (addr + length xs + length ys) (front ++ back) ≡ drop (addr + length (xs ++ ys)) memory =
     let sum : addr + length xs + length ys ≡ addr + length (xs ++ ys) = simp length-append (omega arith) in
-    ap (λ n. drop (n + length ys) (front ++ back)) (sym seam) ∙ drop-append-add front back (length ys) ∙ drop-drop (length ys) (addr + length xs) memory
+    ap (λ n. drop (n + length ys) (front ++ back)) (sym seam) ∙ drop-append-add front back (length ys)
+    ∙ drop-drop (length ys) (addr + length xs) memory
     ∙ ap (λ n. drop n memory) sum
     in
     ap (λ zs. zs ++ ys ++ drop (addr + length xs + length ys) (front ++ back)) kept
@@ -69,7 +72,8 @@ after_store-append memory xs ys addr inside =
 
 -- one more line behind lines
 pub AreShown-then : (built : List ℕ → Bool) (first between last : Flat) (lines : List LineValue) (line : LineValue) (xs ys : List ℕ)
-    → AreShown built first lines xs between → IsShown built between line ys last → AreShown built first (lines ++ line ∷ []) (xs ++ ys) last
+    → AreShown built first lines xs between → IsShown built between line ys last
+    → AreShown built first (lines ++ line ∷ []) (xs ++ ys) last
 unfolding AreShown
 AreShown-then built first between last [] line xs ys (none, same) one =
     (ys, [], last, subst (λ c. IsShown built c line ys last) same one, (refl, refl), ap (λ zs. zs ++ ys) none ∙ sym (append-nil ys))

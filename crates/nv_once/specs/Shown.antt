@@ -6,6 +6,7 @@ use Rattle.nv_entry.specs.Completion.{completion}
 use Rattle.nv_entry.specs.Status.{StatusField}
 use Rattle.nv_entry.specs.Submission.{cid_of}
 use Rattle.nv_mem.specs.Bytes.{after_store, bytes_at}
+use Rattle.nv_model.specs.Limits.{block as block_size}
 use Rattle.nv_flat.specs.Flat.{Flat, flat}
 use Rattle.nv_flat.specs.One.{IsDone}
 use Rattle.nv_script.specs.OnceLine.{LineValue, Store, Fill, Paint, Command, Dump, Block}
@@ -16,7 +17,7 @@ use Rattle.nv_once.specs.Printed.{dump_line, hex_line}
 abbrev pub IsShown : (built : List ℕ → Bool) → (old : Flat) → LineValue → (printed : List ℕ) → (new : Flat) → Type 0
 IsShown built old (Store addr bytes) printed new = (printed ≡ []) × (new ≡ flat (after_store old.memory addr bytes) old.disk old.kept)
 IsShown built old (Fill addr len byte) printed new = (printed ≡ []) × (new ≡ flat (after_store old.memory addr (replicate len byte)) old.disk old.kept)
-IsShown built old (Paint block byte) printed new = (printed ≡ []) × (new ≡ flat old.memory (slice_set old.disk block (replicate 512 byte)) old.kept)
+IsShown built old (Paint block byte) printed new = (printed ≡ []) × (new ≡ flat old.memory (slice_set old.disk block (replicate block_size byte)) old.kept)
 IsShown built old (Command entry) printed new =
     (st : StatusField) × IsDone built old entry st new × (printed ≡ hex_line (completion 0 1 1 (cid_of entry) true st))
 IsShown built old (Dump addr len) printed new = (printed ≡ dump_line (bytes_at old.memory addr len)) × (new ≡ old)
@@ -31,7 +32,7 @@ AreShown built old (line ∷ lines) printed new =
 
 -- a controller as a script begins with it: all zeros, and no mark set
 abbrev pub fresh : ScriptValue → Flat
-fresh script = flat (replicate script.sizes.memory 0) (replicate script.sizes.blocks (replicate 512 0)) (replicate script.sizes.blocks false)
+fresh script = flat (replicate script.sizes.memory 0) (replicate script.sizes.blocks (replicate block_size 0)) (replicate script.sizes.blocks false)
 
 -- what a script prints on a controller that carries these commands out
 abbrev pub IsPrinted : (built : List ℕ → Bool) → ScriptValue → (printed : List ℕ) → Type 0

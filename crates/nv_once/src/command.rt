@@ -86,7 +86,7 @@ pub fn perform<C: One, R: Read, W: Write + Drop>(
     }
 }
 
-/// Reads what a command needs.
+// Reads what a command needs.
 fn prepare<R: Read>(alloc: Global, command: Command<'_>, input: &mut R) -> Result<Job, Fault>
     ensures ok { IfOk result (IsJobOf command.entry (R.remaining input.old)) }
     ensures err { IfErr result (IsFaultOf command.entry (R.remaining input.old)) }
@@ -114,7 +114,7 @@ fn prepare<R: Read>(alloc: Global, command: Command<'_>, input: &mut R) -> Resul
     }
 }
 
-/// Does what is left to do, and gives the output back.
+// Does what is left to do, and gives the output back.
 fn carry_out<C: One, W: Write + Drop>(alloc: Global, job: &Job, output: W) -> Result<W, Fault>
     requires { IsPrintable job.now }
     ensures ok { IfOk result (λ written. PrintsJob C.built job.now (W.contents output) (W.contents written)) }
@@ -131,7 +131,7 @@ fn carry_out<C: One, W: Write + Drop>(alloc: Global, job: &Job, output: W) -> Re
     Ok(written)
 }
 
-/// Prints what is left to do.
+// Prints what is left to do.
 fn print<C: One, W: Write>(alloc: Global, job: &Job, output: &mut W) -> Result<(), Fault>
     requires { IsPrintable job.now }
     ensures ok { OnOk result (PrintsJob C.built job.now (W.contents output.old) (W.contents output.new)) }

@@ -1,3 +1,5 @@
+//! The kinds of entries that can be decoded.
+
 ghost use Rattle.std.specs.Prelude.{◌≡◌, ◌↔◌, codes};
 
 /// Which entry `decode` reads.

@@ -1,3 +1,5 @@
+//! The exit statuses of the program, by their names.
+
 ghost use Rattle.std.specs.Prelude.{◌≡◌, MatchResult};
 ghost use Rattle.nv_once.specs.Fault.{status_of};
 

@@ -36,6 +36,7 @@ pub fn command_of<'a, G: Grammar, S: AsStr>(
     G::command(alloc, words)
 }
 
+// Whether a word begins with a dash.
 fn begins_with_dash(word: &str) -> bool
     ensures { IsTrue result ↔ (slice_get word.now 0 ≡ Some 45) }
 {

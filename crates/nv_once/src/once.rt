@@ -29,7 +29,7 @@ pub fn read<R: Read>(alloc: Global, input: &mut R) -> Result<Script, Fault>
     Ok(script)
 }
 
-/// The whole input.
+// The whole input.
 fn read_all<R: Read>(alloc: Global, input: &mut R) -> Result<Vec<u8>, Fault>
     ensures ok { IfOk result (λ text. IfSome (R.remaining input.old) (λ bytes. text.items ≡ bytes)) }
     ensures err { IfErr result IsInput }
@@ -55,7 +55,7 @@ pub fn run<C: One, W: Write>(alloc: Global, script: &Script, output: &mut W) -> 
     Ok(())
 }
 
-/// Runs one line.
+// Runs one line.
 fn run_line<C: One, W: Write>(
     alloc: Global,
     controller: &mut C,
@@ -81,7 +81,7 @@ fn run_line<C: One, W: Write>(
     Ok(())
 }
 
-/// Stores so many equal bytes from an address on.
+// Stores so many equal bytes from an address on.
 fn fill<C: One>(controller: &mut C, addr: u64, len: u64, byte: u8)
     requires { InMemory (length (C.seen controller.old).memory) addr len }
     ensures bytes { let old = C.seen controller.old in C.seen controller.new ≡ flat (after_store old.memory addr (replicate len byte)) old.disk old.kept }
@@ -90,7 +90,7 @@ fn fill<C: One>(controller: &mut C, addr: u64, len: u64, byte: u8)
     fill_by(controller, addr, len, byte, &[byte; CHUNK]);
 }
 
-/// Stores so many equal bytes from an address on, a chunk of them at a time.
+// Stores so many equal bytes from an address on, a chunk of them at a time.
 fn fill_by<C: One>(controller: &mut C, addr: u64, len: u64, byte: u8, chunk: &[u8])
     requires inside { InMemory (length (C.seen controller.old).memory) addr len }
     requires equal { chunk.now ≡ replicate CHUNK byte }
@@ -107,7 +107,7 @@ fn fill_by<C: One>(controller: &mut C, addr: u64, len: u64, byte: u8, chunk: &[u
     }
 }
 
-/// Prints so many bytes from an address on as a line, or `-` where they are none.
+// Prints so many bytes from an address on as a line, or `-` where they are none.
 fn dump<C: One, W: Write>(controller: &C, addr: u64, len: u64, output: &mut W) -> Result<(), Fault>
     requires { InMemory (length (C.seen controller.now).memory) addr len }
     ensures ok { OnOk result (Appends (W.contents output.old) (W.contents output.new) (dump_line (bytes_at (C.seen controller.now).memory addr len))) }
@@ -120,7 +120,7 @@ fn dump<C: One, W: Write>(controller: &C, addr: u64, len: u64, output: &mut W) -
     end_line(output)
 }
 
-/// Prints so many bytes from an address on as hexadecimal digits.
+// Prints so many bytes from an address on as hexadecimal digits.
 fn dump_bytes<C: One, W: Write>(
     controller: &C,
     addr: u64,

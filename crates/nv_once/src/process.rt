@@ -41,7 +41,7 @@ pub fn run<C: One, R: Read, W: Write + Drop, E: Write>(
     ended
 }
 
-/// Tells of the fault with which a command ended, if it did. Where that cannot be told, nobody is left to tell of it.
+// Tells of the fault with which a command ended, if it did. Where that cannot be told, nobody is left to tell of it.
 fn tell<W, E: Write>(ended: &Result<W, Failure<W>>, faults: &mut E)
     ensures { OnOk ended.now (faults.new ≡ faults.old) }
 {

@@ -53,7 +53,8 @@ unfolding met_more
 met_more-grows m xs = met_by-grows m.first m.entries xs
 
 -- so there is room for the first of them where there is for all
-pub met_more-room : (m : Met) (xs ys : List ℕ) → length (met_more m (xs ++ ys)).entries ≤ 32 → length (met_more m xs).entries ≤ 32
+pub met_more-room : (m : Met) (xs ys : List ℕ) → length (met_more m (xs ++ ys)).entries ≤ 32
+    → length (met_more m xs).entries ≤ 32
 met_more-room m xs ys room =
     let grows = met_more-grows (met_more m xs) ys in
     let count = ap (λ (n : Met). length n.entries) (met_more-append m xs ys) in
@@ -93,8 +94,10 @@ pub record Rows (regions : List Region) (start : Met) (addr len done : ℕ) (now
   pub rest : met_more now (hosts_of regions (addresses (addr + done) (len - done))) ≡ met_more start (hosts_of regions (addresses addr len))
 
 -- there is room for the next row
-pub Rows-room : (regions : List Region) (start : Met) (addr len done : ℕ) (now : Met) (host n : ℕ) → Rows regions start addr len done now → done < len
-    → IsLongestRun regions (addr + done) (len - done) host n → length (met_more start (hosts_of regions (addresses addr len))).entries ≤ 32
+pub Rows-room : (regions : List Region) (start : Met) (addr len done : ℕ) (now : Met) (host n : ℕ)
+    → Rows regions start addr len done now → done < len
+    → IsLongestRun regions (addr + done) (len - done) host n
+    → length (met_more start (hosts_of regions (addresses addr len))).entries ≤ 32
     → length (met_more now (range_with_len host n)).entries ≤ 32
 Rows-room regions start addr len done now host n rows below longest room =
     met_more-room now (range_with_len host n) (hosts_of regions (addresses (addr + (done + n)) (len - (done + n))))
@@ -102,8 +105,10 @@ Rows-room regions start addr len done now host n rows below longest room =
     (sym rows.rest ∙ ap (met_more now) (hosts_of-run regions addr len done host n below longest)) room)
 
 -- behind it
-pub Rows-next : (regions : List Region) (start : Met) (addr len done : ℕ) (now next : Met) (host n : ℕ) → Rows regions start addr len done now → done < len
-    → IsLongestRun regions (addr + done) (len - done) host n → next ≡ met_more now (range_with_len host n) → Rows regions start addr len (done + n) next
+pub Rows-next : (regions : List Region) (start : Met) (addr len done : ℕ) (now next : Met) (host n : ℕ)
+    → Rows regions start addr len done now → done < len
+    → IsLongestRun regions (addr + done) (len - done) host n → next ≡ met_more now (range_with_len host n)
+    → Rows regions start addr len (done + n) next
 Rows-next regions start addr len done now next host n rows below longest is =
     let more : List ℕ = hosts_of regions (addresses (addr + (done + n)) (len - (done + n))) in
     let fits = longest.within in
@@ -117,7 +122,8 @@ Rows-next regions start addr len done now next host n rows below longest is =
     }
 
 -- behind the last
-pub Rows-end : (regions : List Region) (start : Met) (addr len done : ℕ) (now : Met) → Rows regions start addr len done now → len ≤ done
+pub Rows-end : (regions : List Region) (start : Met) (addr len done : ℕ) (now : Met)
+    → Rows regions start addr len done now → len ≤ done
     → now ≡ met_more start (hosts_of regions (addresses addr len))
 Rows-end regions start addr len done now rows over =
     let none : len - done ≡ 0 = omega arith in
@@ -133,7 +139,8 @@ pub record Pieces (regions : List Region) (pieces : List Piece) (i : ℕ) (all :
   pub most : total_len (drop i pieces) ≤ 131072
 
 -- there is room for the next piece
-pub Pieces-room : (regions : List Region) (pieces : List Piece) (i : ℕ) (all : List ℕ) (now : Met) (d p : Piece) → Pieces regions pieces i all now
+pub Pieces-room : (regions : List Region) (pieces : List Piece) (i : ℕ) (all : List ℕ) (now : Met) (d p : Piece)
+    → Pieces regions pieces i all now
     → i < length pieces → get_or pieces i d ≡ p → fit_prp all ≡ true → length all ≤ 131072
     → length (met_more now (hosts_of regions (places_of_piece p))).entries ≤ 32
 Pieces-room regions pieces i all now d p so_far below is fit most =
@@ -142,8 +149,10 @@ Pieces-room regions pieces i all now d p so_far below is fit most =
     (sym so_far.rest ∙ ap (met_more now) (host_addresses-at regions pieces i d p below is)) (met-room all fit most))
 
 -- behind it
-pub Pieces-next : (regions : List Region) (pieces : List Piece) (i : ℕ) (all : List ℕ) (now next : Met) (d p : Piece) → Pieces regions pieces i all now
-    → i < length pieces → get_or pieces i d ≡ p → next ≡ met_more now (hosts_of regions (places_of_piece p)) → Pieces regions pieces (i + 1) all next
+pub Pieces-next : (regions : List Region) (pieces : List Piece) (i : ℕ) (all : List ℕ) (now next : Met) (d p : Piece)
+    → Pieces regions pieces i all now
+    → i < length pieces → get_or pieces i d ≡ p → next ≡ met_more now (hosts_of regions (places_of_piece p))
+    → Pieces regions pieces (i + 1) all next
 Pieces-next regions pieces i all now next d p so_far below is met =
     let count = total_len-at pieces i d p below is in
     let most = so_far.most in
@@ -157,11 +166,13 @@ Pieces-next regions pieces i all now next d p so_far below is met =
     }
 
 -- nothing is met of a bucket
-pub met-bucket : (regions : List Region) (now : Met) (len : ℕ) → now ≡ met_more now (hosts_of regions (places_of_piece (piece.Bucket len)))
+pub met-bucket : (regions : List Region) (now : Met) (len : ℕ)
+    → now ≡ met_more now (hosts_of regions (places_of_piece (piece.Bucket len)))
 met-bucket regions now len = sym (ap (met_more now) (hosts_of-buckets regions len) ∙ met_more-none now)
 
 -- behind the last
-pub Pieces-end : (regions : List Region) (pieces : List Piece) (i : ℕ) (all : List ℕ) (now : Met) → Pieces regions pieces i all now → length pieces ≤ i
+pub Pieces-end : (regions : List Region) (pieces : List Piece) (i : ℕ) (all : List ℕ) (now : Met)
+    → Pieces regions pieces i all now → length pieces ≤ i
     → now ≡ met_more nothing_met all
 Pieces-end regions pieces i all now so_far past =
     sym (met_more-none now) ∙ ap (met_more now) (sym (host_addresses-none regions pieces i past)) ∙ so_far.rest

@@ -27,7 +27,8 @@ reading-faulty mapped c runs code fault more is same =
 
 -- where it is sound, the entries are read
 pub reading-fine : (mapped : ℕ → Bool) (c : Cursor) (runs : List Piece) (fault : Option StatusCode) (more : Dialogue Reading)
-    → c.fault ≡ None → None ≡ fault → read_entries mapped c.pages c.slots c.from c.bytes runs ≡ more → reading_from mapped c runs ≡ unless_faulty fault more
+    → c.fault ≡ None → None ≡ fault → read_entries mapped c.pages c.slots c.from c.bytes runs ≡ more
+    → reading_from mapped c runs ≡ unless_faulty fault more
 unfolding reading_from
 reading-fine mapped c runs fault more is same reads =
     ap (λ (f : Option StatusCode). unless_faulty f (read_entries mapped c.pages c.slots c.from c.bytes runs)) is
@@ -35,7 +36,8 @@ reading-fine mapped c runs fault more is same reads =
     ∙ ap (λ (f : Option StatusCode). unless_faulty f more) same
 
 -- where no pages are left, the runs are spelt
-pub reading-end : (mapped : ℕ → Bool) (c : Cursor) (runs : List Piece) → c.fault ≡ None → c.pages ≡ 0 → reading_from mapped c runs ≡ End (Spells runs)
+pub reading-end : (mapped : ℕ → Bool) (c : Cursor) (runs : List Piece) → c.fault ≡ None → c.pages ≡ 0
+    → reading_from mapped c runs ≡ End (Spells runs)
 unfolding reading_from read_entries
 reading-end mapped c runs sound none = rw (sound, none) refl
 
@@ -142,13 +144,15 @@ pub record Progress (mapped : ℕ → Bool) (start : Cursor) (bytes : List ℕ) 
   pub same : length rest ≡ length bytes → now ≡ start
 
 -- before the first slot
-pub Progress-start : (mapped : ℕ → Bool) (start : Cursor) (bytes : List ℕ) (those : List Piece) → IsInRange start those → length bytes % 8 ≡ 0
+pub Progress-start : (mapped : ℕ → Bool) (start : Cursor) (bytes : List ℕ) (those : List Piece) → IsInRange start those
+    → length bytes % 8 ≡ 0
     → Progress mapped start bytes those start bytes those
 Progress-start mapped start bytes those in_range whole =
     record { dialogue = refl; in_range = in_range; whole = whole; within = omega arith; less = λ less. absurd (omega arith); same = λ _. refl }
 
 -- less is left than before a step, and so than at the start
-Less-by : (rest whole next now start : ℕ) → rest ≤ whole → next < now → (rest < whole → now < start) → (rest ≡ whole → now ≡ start) → next < start
+Less-by : (rest whole next now start : ℕ) → rest ≤ whole → next < now → (rest < whole → now < start)
+    → (rest ≡ whole → now ≡ start) → next < start
 Less-by rest whole next now start within step less same =
     elim (cases_lt rest whole) [
       | inl some ↦ let before = less some in omega arith
@@ -157,8 +161,10 @@ Less-by rest whole next now start within step less same =
 
 -- one slot further
 pub Progress-step : (mapped : ℕ → Bool) (start : Cursor) (bytes : List ℕ) (those : List Piece) (now : Cursor) (rest : List ℕ) (these : List Piece) (slot : List ℕ) (value : ℕ) (more : List ℕ) (next : Cursor) (new : List Piece)
-    → Progress mapped start bytes those now rest these → is_asking now ≡ true → slot ≡ take 8 rest → more ≡ drop 8 rest → length more + 8 ≡ length rest
-    → value ≡ number_at slot 0 8 → reading_from mapped next new ≡ read_slot mapped now these value → IsInRange next new → ahead next < ahead now
+    → Progress mapped start bytes those now rest these → is_asking now ≡ true → slot ≡ take 8 rest → more ≡ drop 8 rest
+    → length more + 8 ≡ length rest
+    → value ≡ number_at slot 0 8 → reading_from mapped next new ≡ read_slot mapped now these value → IsInRange next new
+    → ahead next < ahead now
     → Progress mapped start bytes those next more new
 Progress-step mapped start bytes those now [] these slot value more next new progress asking is_slot is_more less is_value reads in_range fewer = absurd (omega arith)
 Progress-step mapped start bytes those now (byte ∷ rest) these slot value more next new progress asking is_slot is_more less is_value reads in_range fewer =
@@ -177,18 +183,21 @@ Progress-step mapped start bytes those now (byte ∷ rest) these slot value more
     }
 
 -- nothing more is asked
-ended_by : (mapped : ℕ → Bool) (fault : Option StatusCode) (pages slots from bytes : ℕ) (runs : List Piece) (more : List ℕ) → (is_none fault && nat_lt 0 pages) ≡ false
+ended_by : (mapped : ℕ → Bool) (fault : Option StatusCode) (pages slots from bytes : ℕ) (runs : List Piece) (more : List ℕ)
+    → (is_none fault && nat_lt 0 pages) ≡ false
     → fed (unless_faulty fault (read_entries mapped pages slots from bytes runs)) more ≡ unless_faulty fault (read_entries mapped pages slots from bytes runs)
 unfolding fed read_entries
 ended_by mapped (Some code) pages slots from bytes runs more is = refl
 ended_by mapped None zero slots from bytes runs more is = refl
 ended_by mapped None (suc pages) slots from bytes runs more is = absurd (grind (arith, nat_tests))
 
-pub reading-ended : (mapped : ℕ → Bool) (c : Cursor) (runs : List Piece) (more : List ℕ) → is_asking c ≡ false → fed (reading_from mapped c runs) more ≡ reading_from mapped c runs
+pub reading-ended : (mapped : ℕ → Bool) (c : Cursor) (runs : List Piece) (more : List ℕ) → is_asking c ≡ false
+    → fed (reading_from mapped c runs) more ≡ reading_from mapped c runs
 unfolding reading_from
 reading-ended mapped c runs more is = ended_by mapped c.fault c.pages c.slots c.from c.bytes runs more is
 
 -- nothing is left of the part
-pub reading-unfed : (mapped : ℕ → Bool) (c : Cursor) (runs : List Piece) (rest : List ℕ) → length rest % 8 ≡ 0 → length rest < 8 → fed (reading_from mapped c runs) rest ≡ reading_from mapped c runs
+pub reading-unfed : (mapped : ℕ → Bool) (c : Cursor) (runs : List Piece) (rest : List ℕ) → length rest % 8 ≡ 0
+    → length rest < 8 → fed (reading_from mapped c runs) rest ≡ reading_from mapped c runs
 reading-unfed mapped c runs [] whole few = fed-nil (reading_from mapped c runs)
 reading-unfed mapped c runs (byte ∷ rest) whole few = absurd (omega arith)

@@ -18,7 +18,8 @@ drop-more (x ∷ xs) (suc k) n is =
     ap (λ (j : ℕ). drop j (x ∷ xs)) next ∙ drop-more xs k n is
 
 -- one more entry in front of the zeros
-pub IsFilled-push : (used : ℕ) (list : List ℕ) (entry : ℕ) → IsFilled used list → used < 32 → IsFilled (used + 1) (slice_set list used entry)
+pub IsFilled-push : (used : ℕ) (list : List ℕ) (entry : ℕ) → IsFilled used list → used < 32
+    → IsFilled (used + 1) (slice_set list used entry)
 IsFilled-push used list entry filled room =
     let more : 32 - used ≡ suc (32 - (used + 1)) = omega arith in
     let behind : used < used + 1 = omega arith in
@@ -37,7 +38,8 @@ pub starts-skipped : (k from len : ℕ) → (0 < k → 0 < from % 4096) → from
 starts-skipped zero from len within fits =
     let at : from ≡ from + zero = omega arith in
     let left : len ≡ len - zero = omega arith in
-    ap (λ (a : ℕ). filter starts_page (range_with_len a len)) at ∙ ap (λ (n : ℕ). filter starts_page (range_with_len (from + zero) n)) left
+    ap (λ (a : ℕ). filter starts_page (range_with_len a len)) at
+    ∙ ap (λ (n : ℕ). filter starts_page (range_with_len (from + zero) n)) left
 starts-skipped (suc k) from zero within fits =
     let none : 0 ≡ zero - suc k = omega arith in
     ap (λ (n : ℕ). filter starts_page (range_with_len (from + suc k) n)) none
@@ -75,7 +77,8 @@ pub record Row (start : Met) (from len skipped : ℕ) (now : Met) : Type 0 where
   pub within : skipped ≤ len + 4096
 
 -- at the first page's start
-pub Row-start : (start : Met) (from len skipped : ℕ) → skipped ≡ (4096 - from % 4096) % 4096 → Row start from len skipped start
+pub Row-start : (start : Met) (from len skipped : ℕ) → skipped ≡ (4096 - from % 4096) % 4096
+    → Row start from len skipped start
 Row-start start from len skipped is =
     record {
       first = refl;
@@ -114,7 +117,8 @@ met-same f g xs ys first entries =
     ap (λ (h : Option ℕ). met_of h xs) first ∙ ap (met_of g) entries
 
 -- behind the row
-pub Row-end : (start : Met) (from len skipped : ℕ) (now : Met) → Row start from len skipped now → len ≤ skipped → now ≡ met_later start (range_with_len from len)
+pub Row-end : (start : Met) (from len skipped : ℕ) (now : Met) → Row start from len skipped now → len ≤ skipped
+    → now ≡ met_later start (range_with_len from len)
 Row-end start from len skipped now row over =
     let none : len - skipped ≡ 0 = omega arith in
     let all : now.entries ≡ start.entries ++ filter starts_page (range_with_len from len) =
@@ -130,7 +134,8 @@ Row-room start from len skipped now row more room =
     let some : 0 < len - skipped = omega arith in
     let rest : List ℕ = filter starts_page (range_with_len (from + skipped + 4096) (len - skipped - 4096)) in
     let split : now.entries ++ (from + skipped) ∷ rest ≡ start.entries ++ filter starts_page (range_with_len from len) =
-    ap (λ (xs : List ℕ). now.entries ++ xs) (sym (starts-next (from + skipped) (len - skipped) row.at_start some)) ∙ row.entries in
+    ap (λ (xs : List ℕ). now.entries ++ xs) (sym (starts-next (from + skipped) (len - skipped) row.at_start some))
+    ∙ row.entries in
     let count = ap (λ (xs : List ℕ). length xs) split in
     let parts = length-append now.entries ((from + skipped) ∷ rest) in
     let one : length ((from + skipped) ∷ rest) ≡ suc (length rest) = refl in
@@ -139,7 +144,8 @@ Row-room start from len skipped now row more room =
 -- ---- a row
 
 -- a row behind the first address
-pub met_more-later : (m : Met) (first : ℕ) (addresses : List ℕ) → m.first ≡ Some first → met_more m addresses ≡ met_later m addresses
+pub met_more-later : (m : Met) (first : ℕ) (addresses : List ℕ) → m.first ≡ Some first
+    → met_more m addresses ≡ met_later m addresses
 unfolding met_more
 met_more-later m first addresses is =
     let all : List ℕ = m.entries ++ filter starts_page addresses in

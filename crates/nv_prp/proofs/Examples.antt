@@ -21,7 +21,8 @@ two_pages = record { guest = 0; host = 0x100000; len = 0x2000 } ∷ []
 
 -- three pages are left, with this many slots to the end of the list page
 abbrev at_slots : ℕ → Parse
-at_slots slots = record { regions = two_pages; fault = None; pages = 3; slots = slots; from = 0x1000; bytes = 12288; runs = [] }
+at_slots slots =
+    record { regions = two_pages; fault = None; pages = 3; slots = slots; from = 0x1000; bytes = 12288; runs = [] }
 
 needed_slots : want_of (dialogue_of (at_slots 512)) ≡ want.Read 0x1000 24
 unfolding dialogue_of read_entries

@@ -20,14 +20,16 @@ use Rattle.nv_prp.specs.Fits.{fit_behind, host_address, host_addresses, hosts_of
 -- ---- host addresses of a run
 
 -- an address of a run that is mapped has a host address
-pub mapped-none : (regions : List Region) (addr len i : ℕ) → everywhere (mapped regions) addr len ≡ true → i < len → host_of regions (addr + i) ≡ None → ⊥
+pub mapped-none : (regions : List Region) (addr len i : ℕ) → everywhere (mapped regions) addr len ≡ true → i < len
+    → host_of regions (addr + i) ≡ None → ⊥
 mapped-none regions addr len i all below none =
     let is : is_some (host_of regions (addr + i)) ≡ true = AllMapped-tested regions addr len all i below in
     let not : is_some (host_of regions (addr + i)) ≡ is_some {T = ℕ} None = ap (λ (o : Option ℕ). is_some o) none in
     cc
 
 -- so it is below 2 to the 64
-pub mapped-below : (m : Mapping) (addr len i : ℕ) → IsSound m → everywhere (mapped m.regions) addr len ≡ true → i < len → addr + i < 2 ^ 64
+pub mapped-below : (m : Mapping) (addr len i : ℕ) → IsSound m → everywhere (mapped m.regions) addr len ≡ true → i < len
+    → addr + i < 2 ^ 64
 mapped-below m addr len i sound all below =
     elim (cases_lt (addr + i) (2 ^ 64)) [
       | inl fits ↦ fits
@@ -35,7 +37,8 @@ mapped-below m addr len i sound all below =
     ]
 
 -- addresses in a row in the host, and those behind them
-hosts_of-row : (regions : List Region) (addr host n m : ℕ) → ((i : ℕ) → i < n → host_of regions (addr + i) ≡ Some (host + i))
+hosts_of-row : (regions : List Region) (addr host n m : ℕ)
+    → ((i : ℕ) → i < n → host_of regions (addr + i) ≡ Some (host + i))
     → hosts_of regions (addresses addr (n + m)) ≡ range_with_len host n ++ hosts_of regions (addresses (addr + n) m)
 unfolding hosts_of addresses
 hosts_of-row regions addr host zero m row =
@@ -58,14 +61,16 @@ hosts_of-row regions addr host (suc n) m row =
     ∙ ap (λ (a : ℕ). range_with_len host (suc n) ++ hosts_of regions (addresses a m)) end
 
 -- the host addresses of places one behind the other
-pub hosts_of-append : (regions : List Region) (ps qs : List Place) → hosts_of regions (ps ++ qs) ≡ hosts_of regions ps ++ hosts_of regions qs
+pub hosts_of-append : (regions : List Region) (ps qs : List Place)
+    → hosts_of regions (ps ++ qs) ≡ hosts_of regions ps ++ hosts_of regions qs
 unfolding hosts_of
 hosts_of-append regions ps qs = flat_map-append (host_address regions) ps qs
 
 -- ---- lists
 
 -- the pieces from an index on
-at_index : (pieces : List Piece) (i : ℕ) (d : Piece) → i < length pieces → drop i pieces ≡ get_or pieces i d ∷ drop (i + 1) pieces
+at_index : (pieces : List Piece) (i : ℕ) (d : Piece) → i < length pieces
+    → drop i pieces ≡ get_or pieces i d ∷ drop (i + 1) pieces
 at_index pieces i d below =
     let next : suc i ≡ i + 1 = omega arith in
     drop-cons pieces i d below ∙ ap (λ (k : ℕ). get_or pieces i d ∷ drop k pieces) next
@@ -95,7 +100,8 @@ fit_behind-row end host (suc n) rest =
     ∙ ap (λ (a : ℕ). fit_behind (Some a) rest) at)
 
 -- the next row of a run, and what is behind it
-pub hosts_of-run : (regions : List Region) (addr len done host n : ℕ) → done < len → IsLongestRun regions (addr + done) (len - done) host n
+pub hosts_of-run : (regions : List Region) (addr len done host n : ℕ) → done < len
+    → IsLongestRun regions (addr + done) (len - done) host n
     → hosts_of regions (addresses (addr + done) (len - done)) ≡ range_with_len host n ++ hosts_of regions (addresses (addr + (done + n)) (len - (done + n)))
 hosts_of-run regions addr len done host n below longest =
     let within = longest.within in
@@ -106,7 +112,8 @@ hosts_of-run regions addr len done host n below longest =
     ∙ ap (λ (a : ℕ). range_with_len host n ++ hosts_of regions (addresses a (len - (done + n)))) at
 
 -- whether it fits, and then what is behind it
-pub fit_behind-run : (regions : List Region) (end : Option ℕ) (addr len done host n : ℕ) (rest : List ℕ) → done < len → IsLongestRun regions (addr + done) (len - done) host n
+pub fit_behind-run : (regions : List Region) (end : Option ℕ) (addr len done host n : ℕ) (rest : List ℕ) → done < len
+    → IsLongestRun regions (addr + done) (len - done) host n
     → fit_behind end (hosts_of regions (addresses (addr + done) (len - done)) ++ rest)
     ≡ (may_follow end host && fit_behind (Some (host + n)) (hosts_of regions (addresses (addr + (done + n)) (len - (done + n))) ++ rest))
 fit_behind-run regions end addr len done host n rest below longest =
@@ -120,13 +127,16 @@ fit_behind-run regions end addr len done host n rest below longest =
     ∙ ap (λ (k : ℕ). may_follow end host && fit_behind (Some (host + k)) more) (sym one)
 
 -- a run of no bytes has no host addresses
-pub hosts_of-none : (regions : List Region) (addr len : ℕ) (rest : List ℕ) → len ≡ 0 → hosts_of regions (addresses addr len) ++ rest ≡ rest
+pub hosts_of-none : (regions : List Region) (addr len : ℕ) (rest : List ℕ) → len ≡ 0
+    → hosts_of regions (addresses addr len) ++ rest ≡ rest
 unfolding hosts_of addresses
 hosts_of-none regions addr len rest none = rw none refl
 
 -- a run that is there ends in the host
-pub run-inside : (m : Mapping) (addr len host n : ℕ) → IsSound m → IsLongestRun m.regions addr len host n → host + n ≤ m.host_len
-run-inside m addr len host n sound longest = IsContiguous-inside m.host_len m.regions addr host n sound.inside longest.run
+pub run-inside : (m : Mapping) (addr len host n : ℕ) → IsSound m → IsLongestRun m.regions addr len host n
+    → host + n ≤ m.host_len
+run-inside m addr len host n sound longest =
+    IsContiguous-inside m.host_len m.regions addr host n sound.inside longest.run
 
 -- ---- piece by piece
 
@@ -142,7 +152,8 @@ places_fit-run regions old new pieces i d addr len fit below is fits =
     ∙ ap (λ (b : Bool). list_all is_run rest && b) (fits (host_addresses regions rest))
 
 -- the host addresses of a piece, and of those behind it
-pub host_addresses-at : (regions : List Region) (pieces : List Piece) (i : ℕ) (d p : Piece) → i < length pieces → get_or pieces i d ≡ p
+pub host_addresses-at : (regions : List Region) (pieces : List Piece) (i : ℕ) (d p : Piece) → i < length pieces
+    → get_or pieces i d ≡ p
     → host_addresses regions (drop i pieces) ≡ hosts_of regions (places_of_piece p) ++ host_addresses regions (drop (i + 1) pieces)
 host_addresses-at regions pieces i d p below is =
     ap (host_addresses regions) (at_index pieces i d below ∙ ap (λ (q : Piece). q ∷ drop (i + 1) pieces) is)
@@ -174,7 +185,8 @@ length-hosts_of regions (p ∷ ps) =
     omega arith
 
 -- nor than bytes
-pub length-host_addresses : (regions : List Region) (pieces : List Piece) → length (host_addresses regions pieces) ≤ total_len pieces
+pub length-host_addresses : (regions : List Region) (pieces : List Piece)
+    → length (host_addresses regions pieces) ≤ total_len pieces
 length-host_addresses regions pieces =
     let hosts = length-hosts_of regions (places_of pieces) in
     let places = length-places_of pieces in
@@ -185,7 +197,8 @@ some-one : (o : Option ℕ) → is_some o ≡ true → length (option_to_list o)
 some-one (Some host) is = refl
 some-one None is = absurd (cc)
 
-length-mapped : (regions : List Region) (addr len : ℕ) → ((i : ℕ) → i < len → is_some (host_of regions (addr + i)) ≡ true)
+length-mapped : (regions : List Region) (addr len : ℕ)
+    → ((i : ℕ) → i < len → is_some (host_of regions (addr + i)) ≡ true)
     → length (hosts_of regions (addresses addr len)) ≡ len
 unfolding hosts_of addresses
 length-mapped regions addr zero all = refl
@@ -199,7 +212,8 @@ length-mapped regions addr (suc len) all =
     let count = length-append (option_to_list (host_of regions addr)) (hosts_of regions (addresses (addr + 1) len)) in
     omega arith
 
-pub length-mapped_runs : (regions : List Region) (pieces : List Piece) → All (IsMappedPiece (mapped regions)) pieces → list_all is_run pieces ≡ true
+pub length-mapped_runs : (regions : List Region) (pieces : List Piece) → All (IsMappedPiece (mapped regions)) pieces
+    → list_all is_run pieces ≡ true
     → length (host_addresses regions pieces) ≡ total_len pieces
 unfolding hosts_of
 length-mapped_runs regions [] all runs = refl
@@ -220,7 +234,8 @@ hosts_of-buckets regions zero = refl
 hosts_of-buckets regions (suc len) = hosts_of-buckets regions len
 
 -- no pieces have none
-pub host_addresses-none : (regions : List Region) (pieces : List Piece) (i : ℕ) → length pieces ≤ i → host_addresses regions (drop i pieces) ≡ []
+pub host_addresses-none : (regions : List Region) (pieces : List Piece) (i : ℕ) → length pieces ≤ i
+    → host_addresses regions (drop i pieces) ≡ []
 unfolding hosts_of
 host_addresses-none regions pieces i past = ap (host_addresses regions) (drop-past pieces i past)
 
@@ -231,7 +246,8 @@ places_fit-bucket regions old pieces i d len below is =
     ap (places_fit_behind regions old) (at_index pieces i d below ∙ ap (λ (p : Piece). p ∷ drop (i + 1) pieces) is)
 
 -- no pieces fit behind others
-pub places_fit-none : (regions : List Region) (old : Option ℕ) (pieces : List Piece) (i : ℕ) → length pieces ≤ i → places_fit_behind regions old (drop i pieces) ≡ is_some old
+pub places_fit-none : (regions : List Region) (old : Option ℕ) (pieces : List Piece) (i : ℕ) → length pieces ≤ i
+    → places_fit_behind regions old (drop i pieces) ≡ is_some old
 unfolding hosts_of fit_behind
 places_fit-none regions old pieces i past = ap (places_fit_behind regions old) (drop-past pieces i past)
 

@@ -47,7 +47,8 @@ pub starts-not : (addr : ℕ) → 0 < addr % 4096 → starts_page addr ≡ false
 starts-not addr is = grind (arith, nat_tests)
 
 -- one more address within a page
-Paged-within : (addr : ℕ) (addresses : List ℕ) → 0 < addr % 4096 → Paged (addr + 1) addresses → Paged addr (addr ∷ addresses)
+Paged-within : (addr : ℕ) (addresses : List ℕ) → 0 < addr % 4096 → Paged (addr + 1) addresses
+    → Paged addr (addr ∷ addresses)
 Paged-within addr addresses within rest =
     let room : room_from addr ≡ suc (room_from (addr + 1)) = omega arith in
     let es : List ℕ = filter starts_page addresses in
@@ -65,7 +66,8 @@ Paged-within addr addresses within rest =
     }
 
 -- one more page
-Paged-page : (end addr : ℕ) (addresses : List ℕ) → end % 4096 ≡ 0 → addr % 4096 ≡ 0 → Paged (addr + 1) addresses → Paged end (addr ∷ addresses)
+Paged-page : (end addr : ℕ) (addresses : List ℕ) → end % 4096 ≡ 0 → addr % 4096 ≡ 0 → Paged (addr + 1) addresses
+    → Paged end (addr ∷ addresses)
 Paged-page end addr addresses at_end at_start rest =
     let none : room_from end ≡ 0 = omega arith in
     let room : room_from (addr + 1) ≡ 4095 = omega arith in

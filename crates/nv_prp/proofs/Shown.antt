@@ -39,15 +39,18 @@ fed-entries : (m : ℕ → ℕ) (mapped : ℕ → Bool) (pages slots from bytes 
     → fed (read_entries mapped (suc pages) slots from bytes runs) (bytes_from m from (suc n))
     ≡ fed (behind_slot mapped pages slots from bytes runs (number_at (take 8 (bytes_from m from (suc n))) 0 8)) (drop 8 (bytes_from m from (suc n)))
 unfolding bytes_from
-fed-entries m mapped pages slots from bytes runs n = read_entries-fed mapped pages slots from bytes runs (m from) (bytes_from m (suc from) n)
+fed-entries m mapped pages slots from bytes runs n =
+    read_entries-fed mapped pages slots from bytes runs (m from) (bytes_from m (suc from) n)
 
 -- behind a slot, where feeding does behind an entry
-KeepsEnd-if : (m : ℕ → ℕ) (b : Bool) (x y : Dialogue Reading) (bytes : List ℕ) → (b ≡ true → KeepsEnd m x bytes) → (b ≡ false → KeepsEnd m y bytes) → KeepsEnd m (cond b x y) bytes
+KeepsEnd-if : (m : ℕ → ℕ) (b : Bool) (x y : Dialogue Reading) (bytes : List ℕ) → (b ≡ true → KeepsEnd m x bytes)
+    → (b ≡ false → KeepsEnd m y bytes) → KeepsEnd m (cond b x y) bytes
 KeepsEnd-if m true x y bytes so not_so = so refl
 KeepsEnd-if m false x y bytes so not_so = not_so refl
 
 -- slots of a list page that are there are read as they would be asked for
-KeepsEnd-entries : (m : ℕ → ℕ) (mapped : ℕ → Bool) (n pages slots from bytes : ℕ) (runs : List Piece) → n ≤ slots → n ≤ pages
+KeepsEnd-entries : (m : ℕ → ℕ) (mapped : ℕ → Bool) (n pages slots from bytes : ℕ) (runs : List Piece) → n ≤ slots
+    → n ≤ pages
     → KeepsEnd m (read_entries mapped pages slots from bytes runs) (bytes_from m from (8 * n))
 KeepsEnd-entries m mapped zero pages slots from bytes runs within needed = KeepsEnd-none m _ from zero refl
 KeepsEnd-entries m mapped (suc n) zero slots from bytes runs within needed = absurd (omega arith)

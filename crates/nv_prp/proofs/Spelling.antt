@@ -47,16 +47,19 @@ paged_runs (entry ∷ entries) bytes = run entry (min bytes page) ++ paged_runs 
 -- a page entry that is not refused
 unrefused : (m : ℕ → ℕ) (alignment addr len : ℕ) (d : Dialogue Reading) → addr % alignment ≡ 0
     → in_memory m (unless_faulty (entry_fault all alignment addr len) d) ≡ in_memory m d
-unrefused m alignment addr len d aligned = ap (λ (f : Option StatusCode). in_memory m (unless_faulty f d)) (entry-fine alignment addr len aligned)
+unrefused m alignment addr len d aligned =
+    ap (λ (f : Option StatusCode). in_memory m (unless_faulty f d)) (entry-fine alignment addr len aligned)
 
 no_pointer : (slots more : ℕ) → suc more ≤ slots → (slots == 1 && nat_lt 0 more) ≡ false
 no_pointer slots more fits = grind (arith, nat_tests)
 
 -- the entries of a list that has a slot for each
-read_entries-spelt : (m : ℕ → ℕ) (entries : List ℕ) (slots from bytes : ℕ) (pieces : List Piece) → ArePages entries → length entries ≤ slots → HoldsNumbers m from entries
+read_entries-spelt : (m : ℕ → ℕ) (entries : List ℕ) (slots from bytes : ℕ) (pieces : List Piece) → ArePages entries
+    → length entries ≤ slots → HoldsNumbers m from entries
     → in_memory m (read_entries all (length entries) slots from bytes pieces) ≡ Spells (pieces ++ paged_runs entries bytes)
 unfolding in_memory read_entries HoldsNumbers
-read_entries-spelt m [] slots from bytes pieces aligned fits holds = ap (λ (ps : List Piece). Spells ps) (sym (append-nil pieces))
+read_entries-spelt m [] slots from bytes pieces aligned fits holds =
+    ap (λ (ps : List Piece). Spells ps) (sym (append-nil pieces))
 read_entries-spelt m (entry ∷ entries) slots from bytes pieces (page_more _ _ starts aligned) fits holds =
     let more : List Piece = pieces ++ run entry (min bytes page) in
     in_memory-entries m all (length entries) slots from bytes pieces
@@ -72,12 +75,14 @@ read_entries-spelt m (entry ∷ entries) slots from bytes pieces (page_more _ _ 
     ∙ ap (λ (ps : List Piece). Spells ps) (append_assoc pieces (run entry (min bytes page)) (paged_runs entries (bytes - page)))
 
 -- what PRP2 names
-read_prp2-spelt : (m : ℕ → ℕ) (list_page pages : ℕ) (entries : List ℕ) (bytes : ℕ) (pieces : List Piece) → pages ≡ length entries → ArePages entries → length entries ≤ 512
+read_prp2-spelt : (m : ℕ → ℕ) (list_page pages : ℕ) (entries : List ℕ) (bytes : ℕ) (pieces : List Piece)
+    → pages ≡ length entries → ArePages entries → length entries ≤ 512
     → list_page % 4096 ≡ 0 → HoldsNumbers m list_page (listed entries)
     → in_memory m (read_prp2 all pages (prp2_by list_page entries) bytes pieces) ≡ Spells (pieces ++ paged_runs entries bytes)
 unfolding in_memory
 read_prp2-spelt m list_page pages [] bytes pieces count aligned fits starts holds =
-    ap (λ (n : ℕ). in_memory m (read_prp2 all n 0 bytes pieces)) count ∙ ap (λ (ps : List Piece). Spells ps) (sym (append-nil pieces))
+    ap (λ (n : ℕ). in_memory m (read_prp2 all n 0 bytes pieces)) count
+    ∙ ap (λ (ps : List Piece). Spells ps) (sym (append-nil pieces))
 read_prp2-spelt m list_page pages (entry ∷ []) bytes pieces count (page_more _ _ at aligned) fits starts holds =
     ap (λ (n : ℕ). in_memory m (read_prp2 all n entry bytes pieces)) count
     ∙ unrefused m page entry (min bytes page) (End (Spells (pieces ++ run entry (min bytes page)))) at
@@ -98,7 +103,9 @@ read_prp2-spelt m list_page pages (entry ∷ next ∷ entries) bytes pieces coun
 places_of-run : (addr len : ℕ) → places_of (run addr len) ≡ map At (range_with_len addr len)
 unfolding addresses
 places_of-run addr zero = refl
-places_of-run addr (suc len) = ap (λ (ps : List Piece). places_of ps) (run-some addr (suc len) (omega arith)) ∙ append-nil (map At (range_with_len addr (suc len)))
+places_of-run addr (suc len) =
+    ap (λ (ps : List Piece). places_of ps) (run-some addr (suc len) (omega arith))
+    ∙ append-nil (map At (range_with_len addr (suc len)))
 
 places_of-append : (ps qs : List Piece) → places_of (ps ++ qs) ≡ places_of ps ++ places_of qs
 places_of-append ps qs = flat_map-append places_of_piece ps qs
@@ -115,7 +122,8 @@ places_of-paged (entry ∷ entries) bytes =
 -- ---- what is built spells the addresses
 
 -- a list of addresses that is not empty
-built-spells-some : (m : ℕ → ℕ) (list_page addr : ℕ) (addresses : List ℕ) → fit_behind None (addr ∷ addresses) ≡ true → suc (length addresses) ≤ 131072 → list_page % 4096 ≡ 0
+built-spells-some : (m : ℕ → ℕ) (list_page addr : ℕ) (addresses : List ℕ) → fit_behind None (addr ∷ addresses) ≡ true
+    → suc (length addresses) ≤ 131072 → list_page % 4096 ≡ 0
     → HoldsNumbers m list_page (listed (filter starts_page addresses))
     → SpellsAddresses (addr ∷ addresses) (in_memory m (read_prp all addr (prp2_by list_page (filter starts_page addresses)) (suc (length addresses))))
 unfolding fit_behind
@@ -144,8 +152,10 @@ built-spells-some m list_page addr addresses fit most starts holds =
     ∙ ap (λ (xs : List ℕ). map At (addr ∷ xs)) (sym paged_so.rows) in
     subst (SpellsAddresses (addr ∷ addresses)) (sym read) places
 
-pub built-spells : (m : ℕ → ℕ) (list_page : ℕ) (addresses : List ℕ) → fit_prp addresses ≡ true → length addresses ≤ 131072 → list_page % 4096 ≡ 0
-    → HoldsList m list_page (built list_page addresses) → SpellsAddresses addresses (reading_of m (built list_page addresses) (length addresses))
+pub built-spells : (m : ℕ → ℕ) (list_page : ℕ) (addresses : List ℕ) → fit_prp addresses ≡ true
+    → length addresses ≤ 131072 → list_page % 4096 ≡ 0
+    → HoldsList m list_page (built list_page addresses)
+    → SpellsAddresses addresses (reading_of m (built list_page addresses) (length addresses))
 unfolding built in_memory everywhere
 built-spells m list_page [] fit most starts holds = refl
 built-spells m list_page (addr ∷ addresses) fit most starts holds =
@@ -153,8 +163,10 @@ built-spells m list_page (addr ∷ addresses) fit most starts holds =
     (subst (HoldsNumbers m list_page) (take-append_seam (listed (filter starts_page addresses)) (replicate (32 - length (listed (filter starts_page addresses))) 0)) holds)
 
 -- behind the list stand zeros
-zeros_by : (numbers : List ℕ) → padded numbers ≡ take (length numbers) (padded numbers) ++ replicate (32 - length numbers) 0
-zeros_by numbers = ap (λ (ns : List ℕ). ns ++ replicate (32 - length numbers) 0) (sym (take-append_seam numbers (replicate (32 - length numbers) 0)))
+zeros_by : (numbers : List ℕ)
+    → padded numbers ≡ take (length numbers) (padded numbers) ++ replicate (32 - length numbers) 0
+zeros_by numbers =
+    ap (λ (ns : List ℕ). ns ++ replicate (32 - length numbers) 0) (sym (take-append_seam numbers (replicate (32 - length numbers) 0)))
 
 pub built-zeros : (list_page : ℕ) (addresses : List ℕ)
     → (built list_page addresses).list ≡ take (built list_page addresses).used (built list_page addresses).list ++ replicate (32 - (built list_page addresses).used) 0

@@ -1,6 +1,6 @@
 -- Where a parse stands between two slots of a list: Base Specification 2.0, "Physical Region Page Entry and List" (PRP list: the
 -- last slot of a list page points to the next one where more than one page is left)
-use Rattle.std.specs.Prelude.{ℕ, ◌+◌, ◌-◌, ◌*◌, ◌^◌, ◌<◌, ◌≤◌, min, Bool, ◌&&◌, ◌==◌, nat_lt, if◌then◌else◌, is_none, List, length}
+use Rattle.std.specs.Prelude.{ℕ, ◌+◌, ◌-◌, ◌*◌, ◌/◌, ◌^◌, ◌<◌, ◌≤◌, min, Bool, ◌&&◌, ◌==◌, nat_lt, if◌then◌else◌, is_none, List, length}
 use Rattle.nv_mem.specs.declared.piece.Piece.{Piece}
 use Rattle.nv_mem.specs.declared.region.Region.{Region}
 use Rattle.nv_model.specs.Dialogue.{Dialogue}
@@ -29,7 +29,7 @@ is_at_pointer c = c.slots == 1 && nat_lt 0 (c.pages - 1)
 -- what is read where the next slot is a pointer
 abbrev pub read_pointer : (ℕ → Bool) → Cursor → List Piece → ℕ → Dialogue Reading
 read_pointer mapped c runs pointer =
-    unless_faulty (entry_fault mapped page pointer (8 * min 512 c.pages)) (read_entries mapped c.pages 512 pointer c.bytes runs)
+    unless_faulty (entry_fault mapped page pointer (8 * min (page / 8) c.pages)) (read_entries mapped c.pages (page / 8) pointer c.bytes runs)
 
 -- what is read where it is the entry of the next page
 abbrev pub read_entry : (ℕ → Bool) → Cursor → List Piece → ℕ → Dialogue Reading
@@ -43,10 +43,10 @@ read_slot mapped c runs value = if is_at_pointer c then read_pointer mapped c ru
 -- the list page ends at 2 to the 64 at the latest, the pages left hold the bytes left, and there is room for their runs
 pub record IsInRange (c : Cursor) (runs : List Piece) : Type 0 where
   pub list : c.from + 8 * c.slots ≤ 2 ^ 64
-  pub slots : c.slots ≤ 512
+  pub slots : c.slots ≤ page / 8
   pub slot : 0 < c.pages → 0 < c.slots
-  pub bytes : c.bytes ≤ 4096 * c.pages
-  pub pages : 4096 * c.pages < c.bytes + 4096
+  pub bytes : c.bytes ≤ page * c.pages
+  pub pages : page * c.pages < c.bytes + page
   pub room : length runs + c.pages ≤ 33
 
 -- the parse that stands there

@@ -1,8 +1,11 @@
+//! Region pages that are built: for places of a guest, and for a stretch of the host's memory.
+
 ghost use Rattle.std.specs.Prelude.{◌≡◌, ◌+◌, ◌%◌, ◌<◌, ◌≤◌, ◌^◌, All, true, length};
 ghost use Rattle.std.specs.List.{range_with_len};
 ghost use Rattle.nv_mem.specs.GuestMap.{everywhere, mapped};
 ghost use Rattle.nv_mem.specs.Places.{addresses, total_len};
 ghost use Rattle.nv_model.specs.Laws.{IsMappedPiece};
+ghost use Rattle.nv_model.specs.Limits.{most_bytes, page};
 ghost use Rattle.nv_prp.specs.Built.{built};
 ghost use Rattle.nv_prp.specs.Fits.{host_addresses, hosts_of, places_fit};
 ghost use Rattle.nv_prp.specs.Met.{met_more};
@@ -16,8 +19,8 @@ use nv_mem::{GuestMap, Piece, Places};
 pub fn build(map: &GuestMap, places: &Places, list_page: u64) -> Prps
     requires mapped { All (IsMappedPiece (mapped map.now.regions)) places.now }
     requires fit { places_fit map.now.regions places.now ≡ true }
-    requires most { total_len places.now ≤ 131072 }
-    requires list { list_page % 4096 ≡ 0 }
+    requires most { total_len places.now ≤ most_bytes }
+    requires list { list_page % page ≡ 0 }
     ensures { result ≡ built list_page (host_addresses map.now.regions places.now) }
 {
     let mut met = Met::nothing();
@@ -33,10 +36,10 @@ pub fn build(map: &GuestMap, places: &Places, list_page: u64) -> Prps
 /// What names `len` bytes of the host, 1 to 131,072, in a row from `addr`, which is a page's start.
 pub fn build_run(addr: u64, len: u64, list_page: u64) -> Prps
     requires some { 0 < len }
-    requires most { len ≤ 131072 }
-    requires start { addr % 4096 ≡ 0 }
+    requires most { len ≤ most_bytes }
+    requires start { addr % page ≡ 0 }
     requires inside { addr + len < 2 ^ 64 }
-    requires list { list_page % 4096 ≡ 0 }
+    requires list { list_page % page ≡ 0 }
     ensures { result ≡ built list_page (range_with_len addr len) }
 {
     let mut met = Met::nothing();
@@ -47,7 +50,7 @@ pub fn build_run(addr: u64, len: u64, list_page: u64) -> Prps
 // Adds the host addresses of a run.
 fn add_run(map: &GuestMap, addr: u64, len: u64, met: &mut Met)
     requires mapped { everywhere (mapped map.now.regions) addr len ≡ true }
-    requires most { len ≤ 131072 }
+    requires most { len ≤ most_bytes }
     requires room { length (met_more met.old (hosts_of map.now.regions (addresses addr len))).entries ≤ 32 }
     ensures { met.new ≡ met_more met.old (hosts_of map.now.regions (addresses addr len)) }
 {

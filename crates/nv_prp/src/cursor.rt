@@ -1,6 +1,9 @@
+//! Where a parse of region pages stands, and how it goes on slot by slot.
+
 ghost use Rattle.std.specs.Prelude.{◌≡◌, None, Some, ◌+◌, ◌-◌, ◌*◌, ◌/◌, ◌%◌, ◌<◌, ◌≤◌, ◌^◌, [], ℕ, List, true, false, length};
 ghost use Rattle.nv_mem.specs.GuestMap.{mapped};
 ghost use Rattle.nv_mem.specs.declared.piece.Piece.{Piece};
+ghost use Rattle.nv_model.specs.Limits.{most_bytes, page};
 ghost use Rattle.nv_model.specs.Prp.{entry_fault, pages_of, read_prp, read_prp2};
 ghost use Rattle.nv_model.specs.Transcript.{fed};
 ghost use Rattle.nv_prp.specs.Cursor.{ahead, is_asking, is_at_pointer, reading_from, read_entry, read_pointer, read_slot, IsInRange};
@@ -8,13 +11,10 @@ ghost use Rattle.nv_prp.specs.Cursor.{ahead, is_asking, is_at_pointer, reading_f
 use crate::runs::Runs;
 use byteorder::{ByteOrder, LittleEndian};
 use nv_entry::StatusCode;
-use nv_mem::{GuestMap, Piece};
-
-/// The size of a memory page.
-const PAGE: u64 = 4096;
+use nv_mem::{GuestMap, PAGE_SIZE, Piece};
 
 /// How many slots a whole list page has.
-const SLOTS: u32 = 512;
+const SLOTS: u32 = PAGE_SIZE as u32 / 8;
 
 /// Where a parse stands between two slots.
 #[derive(Clone, Copy)]
@@ -35,12 +35,12 @@ impl Cursor {
     /// Behind PRP1 and PRP2 of a transfer of `need` bytes. The runs that they name are added.
     pub fn start(map: &GuestMap, prp1: u64, prp2: u64, need: u64, runs: &mut Runs) -> Self
         requires some { 0 < need }
-        requires most { need ≤ 131072 }
+        requires most { need ≤ most_bytes }
         requires none { runs.old ≡ [] }
         ensures dialogue { reading_from (mapped map.now.regions) result runs.new ≡ read_prp (mapped map.now.regions) prp1 prp2 need }
         ensures in_range { IsInRange result runs.new }
     {
-        let len = need.min(PAGE - prp1 % PAGE);
+        let len = need.min(PAGE_SIZE - prp1 % PAGE_SIZE);
         match fault_of(map, 4, prp1, len) {
             Some(code) => Cursor::at_end(Some(code)),
             None => {
@@ -65,13 +65,13 @@ impl Cursor {
 
     // Behind PRP2, where `bytes` bytes are left behind PRP1's page.
     fn behind_prp1(map: &GuestMap, prp2: u64, bytes: u64, runs: &mut Runs) -> Self
-        requires most { bytes ≤ 131072 }
+        requires most { bytes ≤ most_bytes }
         requires one { length runs.old ≡ 1 }
         ensures dialogue { reading_from (mapped map.now.regions) result runs.new
             ≡ read_prp2 (mapped map.now.regions) (pages_of bytes) prp2 bytes runs.old }
         ensures in_range { IsInRange result runs.new }
     {
-        let pages = ((bytes + (PAGE - 1)) / PAGE) as u32;
+        let pages = ((bytes + (PAGE_SIZE - 1)) / PAGE_SIZE) as u32;
         if pages == 0 {
             Cursor::at_end(None)
         } else if pages == 1 {
@@ -92,13 +92,13 @@ impl Cursor {
     fn at_list(map: &GuestMap, prp2: u64, pages: u32, bytes: u64) -> Self
         requires pages { 1 < pages }
         requires most { pages ≤ 32 }
-        requires bytes { bytes ≤ 4096 * pages }
-        requires full { 4096 * pages < bytes + 4096 }
+        requires bytes { bytes ≤ page * pages }
+        requires full { page * pages < bytes + page }
         ensures dialogue { (runs : List Piece) → reading_from (mapped map.now.regions) result runs
             ≡ read_prp2 (mapped map.now.regions) pages prp2 bytes runs }
         ensures in_range { (runs : List Piece) → length runs ≡ 1 → IsInRange result runs }
     {
-        let slots = ((PAGE - prp2 % PAGE) / 8) as u32;
+        let slots = ((PAGE_SIZE - prp2 % PAGE_SIZE) / 8) as u32;
         match fault_of(map, 8, prp2, u64::from(8 * slots.min(pages))) {
             Some(code) => Cursor::at_end(Some(code)),
             None => Cursor {
@@ -150,7 +150,12 @@ impl Cursor {
         ensures in_range { (runs : List Piece) → IsInRange self runs → IsInRange result runs }
         ensures progress { ahead result < ahead self }
     {
-        match fault_of(map, PAGE, pointer, u64::from(8 * SLOTS.min(self.pages))) {
+        match fault_of(
+            map,
+            PAGE_SIZE,
+            pointer,
+            u64::from(8 * SLOTS.min(self.pages)),
+        ) {
             Some(code) => Cursor {
                 fault: Some(code),
                 ..self
@@ -174,8 +179,8 @@ impl Cursor {
         ensures in_range { IsInRange result runs.new }
         ensures progress { ahead result < ahead self }
     {
-        let len = self.bytes.min(PAGE);
-        match fault_of(map, PAGE, addr, len) {
+        let len = self.bytes.min(PAGE_SIZE);
+        match fault_of(map, PAGE_SIZE, addr, len) {
             Some(code) => Cursor {
                 fault: Some(code),
                 ..self

@@ -1,13 +1,12 @@
+//! Whether places can be named by region pages at all.
+
 ghost use Rattle.std.specs.Prelude.{◌≡◌, ◌+◌, ◌%◌, ◌<◌, ◌≤◌, ◌^◌, ℕ, List, ◌++◌, ◌&&◌, All, None, true, length};
 ghost use Rattle.nv_mem.specs.GuestMap.{everywhere, mapped};
 ghost use Rattle.nv_mem.specs.Places.{addresses};
 ghost use Rattle.nv_model.specs.Laws.{IsMappedPiece};
 ghost use Rattle.nv_prp.specs.Fits.{fit_behind, hosts_of, may_follow, places_fit};
 
-use nv_mem::{GuestMap, Piece, Places};
-
-/// The size of a memory page.
-const PAGE: u64 = 4096;
+use nv_mem::{GuestMap, PAGE_SIZE, Piece, Places};
 
 /// Whether a transfer can name these places by PRP: no bucket is among them, they have at least one byte, the host address of the
 /// first byte is a multiple of 4, and each later one is the one before plus 1, or is a page start after a page end. It takes time by
@@ -58,6 +57,6 @@ fn may_follow(end: Option<u64>, host: u64) -> bool
 {
     match end {
         None => host % 4 == 0,
-        Some(end) => host == end || end % PAGE == 0 && host % PAGE == 0,
+        Some(end) => host == end || end % PAGE_SIZE == 0 && host % PAGE_SIZE == 0,
     }
 }

@@ -7,6 +7,7 @@ ghost use Rattle.nv_mem.specs.declared.piece.Piece.{Piece};
 ghost use Rattle.nv_mem.specs.declared.region.Region.{Region};
 ghost use Rattle.nv_model.specs.Dialogue.{in_memory};
 ghost use Rattle.nv_model.specs.Laws.{IsMappedPiece};
+ghost use Rattle.nv_model.specs.Limits.{most_bytes, page};
 ghost use Rattle.nv_model.specs.Memory.{bytes_from};
 ghost use Rattle.nv_model.specs.Transcript.{fed};
 ghost use Rattle.nv_model.specs.Want.{want_of};
@@ -27,7 +28,7 @@ pub fn built_prps_spell_the_addresses()
     ensures zeros { (list_page : ℕ) (addresses : List ℕ) → let p = built list_page addresses in
         p.list ≡ take p.used p.list ++ replicate (32 - p.used) 0 }
     ensures spells { (memory : ℕ → ℕ) (list_page : ℕ) (addresses : List ℕ) →
-        fit_prp addresses ≡ true → length addresses ≤ 131072 → list_page % 4096 ≡ 0 →
+        fit_prp addresses ≡ true → length addresses ≤ most_bytes → list_page % page ≡ 0 →
         HoldsList memory list_page (built list_page addresses) →
         SpellsAddresses addresses (reading_of memory (built list_page addresses) (length addresses)) }
 {}

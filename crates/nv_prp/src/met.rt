@@ -1,11 +1,12 @@
+//! What is gathered of a transfer's host addresses while its region pages are built.
+
 ghost use Rattle.std.specs.Prelude.{◌≡◌, ◌+◌, ◌<◌, ◌≤◌, ◌^◌, ◌++◌, [], ◌∷◌, length};
 ghost use Rattle.std.specs.List.{range_with_len};
+ghost use Rattle.nv_model.specs.Limits.{most_bytes};
 
 use crate::prps::Prps;
+use nv_mem::PAGE_SIZE;
 use std::marker::Model;
-
-/// The size of a memory page.
-const PAGE: u64 = 4096;
 
 /// How many entries the list of a transfer has at most.
 const MOST: usize = 32;
@@ -46,7 +47,7 @@ impl Met {
     /// Adds `len` addresses in a row.
     pub fn add_row(&mut self, from: u64, len: u64)
         requires some { 0 < len }
-        requires most { len ≤ 131072 }
+        requires most { len ≤ most_bytes }
         requires inside { from + len < 2 ^ 64 }
         requires room { length (met_more self.old (range_with_len from len)).entries ≤ 32 }
         ensures { self.new ≡ met_more self.old (range_with_len from len) }
@@ -62,15 +63,15 @@ impl Met {
 
     // Adds the page starts of `len` addresses in a row.
     fn add_later(&mut self, from: u64, len: u64)
-        requires most { len ≤ 131072 }
+        requires most { len ≤ most_bytes }
         requires inside { from + len < 2 ^ 64 }
         requires room { length (met_later self.old (range_with_len from len)).entries ≤ 32 }
         ensures { self.new ≡ met_later self.old (range_with_len from len) }
     {
-        let mut skipped = (PAGE - from % PAGE) % PAGE;
+        let mut skipped = (PAGE_SIZE - from % PAGE_SIZE) % PAGE_SIZE;
         while skipped < len {
             self.push(from + skipped);
-            skipped += PAGE;
+            skipped += PAGE_SIZE;
         }
     }
 

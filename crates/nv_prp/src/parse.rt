@@ -1,7 +1,10 @@
+//! The parse of region pages: what it wants, what it is fed, and the places in the end.
+
 ghost use Rattle.std.specs.Prelude.{◌≡◌, ◌≢◌, ◌<◌, ◌≤◌, ℕ, length, IfOk};
 ghost use Rattle.nv_mem.specs.GuestMap.{mapped};
 ghost use Rattle.nv_model.specs.Dialogue.{End, and_then};
 ghost use Rattle.nv_model.specs.Judge.{sized};
+ghost use Rattle.nv_model.specs.Limits.{most_bytes};
 ghost use Rattle.nv_model.specs.Prp.{read_prp};
 ghost use Rattle.nv_model.specs.Reading.{Spells};
 
@@ -42,7 +45,7 @@ impl<'a> PrpParse<'a> {
     /// nothing.
     pub fn new(map: &'a GuestMap, prp1: u64, prp2: u64, need: u64) -> Self
         requires some { 0 < need }
-        requires most { need ≤ 131072 }
+        requires most { need ≤ most_bytes }
         ensures dialogue { dialogue_of result ≡ read_prp (mapped map.now.regions) prp1 prp2 need }
         ensures sized { dialogue_of result ≡
             and_then (read_prp (mapped map.now.regions) prp1 prp2 need) (λ reading. End (sized need reading)) }

@@ -1,3 +1,5 @@
+//! What names a transfer by region pages.
+
 /// A transfer by PRP: its PRP1 and PRP2, and the entries of the list to which PRP2 points where it has one.
 #[derive(Clone, Copy, Debug, PartialEq, Eq)]
 pub struct Prps {

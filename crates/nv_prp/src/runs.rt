@@ -1,3 +1,5 @@
+//! The runs that were read of region pages, in an array that is large enough for every transfer.
+
 ghost use Rattle.std.specs.Prelude.{◌≡◌, ◌<◌, ◌≤◌, ◌++◌, [], ◌∷◌, length, OnOk};
 
 use nv_mem::{NoMemory, Piece, Places};

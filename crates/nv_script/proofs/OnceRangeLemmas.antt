@@ -24,7 +24,8 @@ use Rattle.nv_script.specs.OnceWords.{lines_of, words_of}
 -- ---- steps
 
 -- both steps of two gave a value
-steps : {E A B : Type 0} (r : Result A E) (f : A → Result B E) (y : B) → (r >>= f) ≡ Ok y → (x : A) × (r ≡ Ok x) × (f x ≡ Ok y)
+steps : {E A B : Type 0} (r : Result A E) (f : A → Result B E) (y : B) → (r >>= f) ≡ Ok y
+    → (x : A) × (r ≡ Ok x) × (f x ≡ Ok y)
 steps (Ok x) f y h = (x, refl, h)
 steps (Err e) f y h = cc
 
@@ -38,14 +39,16 @@ line_tested sizes value line h =
     let t = tested (is_there sizes value) value line OutOfRange h in
     ap (is_there sizes) (sym t.1) ∙ t.0
 
-there_always : (sizes : Sizes) (entry : List ℕ) (line : LineValue) → (let made : Result LineValue FaultKind = Ok (value.Command entry) in made ≡ Ok line) → is_there sizes line ≡ true
+there_always : (sizes : Sizes) (entry : List ℕ) (line : LineValue)
+    → (let made : Result LineValue FaultKind = Ok (value.Command entry) in made ≡ Ok line) → is_there sizes line ≡ true
 there_always sizes entry (value.Command e) h = refl
 there_always sizes entry line h = cc
 
 -- ---- a line
 
 -- what a line names is there
-line_of-there : (sizes : Sizes) (k : Keyword) (words : List (List ℕ)) (line : LineValue) → line_of sizes k words ≡ Ok line → is_there sizes line ≡ true
+line_of-there : (sizes : Sizes) (k : Keyword) (words : List (List ℕ)) (line : LineValue)
+    → line_of sizes k words ≡ Ok line → is_there sizes line ≡ true
 line_of-there sizes Store (addr ∷ digits ∷ []) line h =
     let a = steps (number_of addr) _ line h in
     let b = steps (bytes_of digits) _ line a.2 in
@@ -85,7 +88,8 @@ block_count-right word count h =
     let t = tested (is_block_count n.0) n.0 count BadNumber n.2 in
     ap is_block_count (sym t.1) ∙ t.0
 
-first_time-right : (o : Option ℕ) (size : Result ℕ FaultKind) (n : ℕ) → first_time o size ≡ Ok n → (o ≡ None) × (size ≡ Ok n)
+first_time-right : (o : Option ℕ) (size : Result ℕ FaultKind) (n : ℕ) → first_time o size ≡ Ok n
+    → (o ≡ None) × (size ≡ Ok n)
 first_time-right None size n h = (refl, h)
 first_time-right (Some before) size n h = cc
 
@@ -100,7 +104,8 @@ record IsKept (p : Progress) : Type 0 where
   blocks : IfSome p.blocks (λ count. is_block_count count ≡ true)
   lines : AreThere (both p.memory p.blocks) p.lines
 
-no_lines : (memory blocks : Option ℕ) (lines : List LineValue) → (memory ≡ None) ⊎ (blocks ≡ None) → AreThere (both memory blocks) lines → lines ≡ []
+no_lines : (memory blocks : Option ℕ) (lines : List LineValue) → (memory ≡ None) ⊎ (blocks ≡ None)
+    → AreThere (both memory blocks) lines → lines ≡ []
 no_lines None None lines open_still there = there
 no_lines None (Some n) lines open_still there = there
 no_lines (Some m) None lines open_still there = there
@@ -111,7 +116,8 @@ none_there : (sizes : Option Sizes) (lines : List LineValue) → lines ≡ [] �
 none_there None lines e = e
 none_there (Some s) lines e = rw e (All-nil (λ line. is_there s line ≡ true))
 
-one_more_there : (o : Option Sizes) (sizes : Sizes) (lines : List LineValue) (line : LineValue) → o ≡ Some sizes → is_there sizes line ≡ true → AreThere o lines → AreThere o (lines ++ line ∷ [])
+one_more_there : (o : Option Sizes) (sizes : Sizes) (lines : List LineValue) (line : LineValue) → o ≡ Some sizes
+    → is_there sizes line ≡ true → AreThere o lines → AreThere o (lines ++ line ∷ [])
 one_more_there None sizes lines line e h there = cc
 one_more_there (Some s) sizes lines line e h there =
     let same : s ≡ sizes = cc in
@@ -124,7 +130,8 @@ known_sizes (Some s) kind sizes h = cc
 
 -- ---- steps keep it
 
-after_memory-kept : (p q : Progress) (word : List ℕ) → IsKept p → (first_time p.memory (memory_size word) >>= λ size. Ok (record p { memory = Some size })) ≡ Ok q → IsKept q
+after_memory-kept : (p q : Progress) (word : List ℕ) → IsKept p
+    → (first_time p.memory (memory_size word) >>= λ size. Ok (record p { memory = Some size })) ≡ Ok q → IsKept q
 after_memory-kept p q word kept h =
     let a = steps (first_time p.memory (memory_size word)) _ q h in
     let first = first_time-right p.memory (memory_size word) a.0 a.1 in
@@ -136,7 +143,8 @@ after_memory-kept p q word kept h =
     } in
     subst IsKept made next
 
-after_blocks-kept : (p q : Progress) (word : List ℕ) → IsKept p → (first_time p.blocks (block_count word) >>= λ count. Ok (record p { blocks = Some count })) ≡ Ok q → IsKept q
+after_blocks-kept : (p q : Progress) (word : List ℕ) → IsKept p
+    → (first_time p.blocks (block_count word) >>= λ count. Ok (record p { blocks = Some count })) ≡ Ok q → IsKept q
 after_blocks-kept p q word kept h =
     let a = steps (first_time p.blocks (block_count word)) _ q h in
     let first = first_time-right p.blocks (block_count word) a.0 a.1 in
@@ -148,7 +156,8 @@ after_blocks-kept p q word kept h =
     } in
     subst IsKept made next
 
-after_body-kept : (p q : Progress) (k : Keyword) (words : List (List ℕ)) → IsKept p → after_body p k words ≡ Ok q → IsKept q
+after_body-kept : (p q : Progress) (k : Keyword) (words : List (List ℕ)) → IsKept p → after_body p k words ≡ Ok q
+    → IsKept q
 after_body-kept p q k words kept h =
     let a = steps (ok_or (sizes_in p) OutOfPlace) _ q h in
     let l = steps (line_of a.0 k words) _ q a.2 in
@@ -160,7 +169,8 @@ after_body-kept p q k words kept h =
     } in
     subst IsKept made next
 
-after_keyword-kept : (p q : Progress) (k : Keyword) (words : List (List ℕ)) → IsKept p → after_keyword p k words ≡ Ok q → IsKept q
+after_keyword-kept : (p q : Progress) (k : Keyword) (words : List (List ℕ)) → IsKept p → after_keyword p k words ≡ Ok q
+    → IsKept q
 unfolding after_keyword
 after_keyword-kept p q Memory (word ∷ []) kept h = after_memory-kept p q word kept h
 after_keyword-kept p q Blocks (word ∷ []) kept h = after_blocks-kept p q word kept h
@@ -187,7 +197,8 @@ after_lines-kept n p q (line ∷ lines) kept h =
 
 -- ---- the whole script
 
-in_range_of : (memory blocks : Option ℕ) (lines : List LineValue) (sizes : Sizes) → both memory blocks ≡ Some sizes → IfSome memory (λ size. is_memory_size size ≡ true) → IfSome blocks (λ count. is_block_count count ≡ true)
+in_range_of : (memory blocks : Option ℕ) (lines : List LineValue) (sizes : Sizes) → both memory blocks ≡ Some sizes
+    → IfSome memory (λ size. is_memory_size size ≡ true) → IfSome blocks (λ count. is_block_count count ≡ true)
     → AreThere (both memory blocks) lines → IsInRange (record { sizes = sizes; lines = lines })
 in_range_of (Some m) (Some n) lines sizes e right_m right_n there =
     let same : record { memory = m; blocks = n } ≡ sizes = cc in
@@ -197,7 +208,8 @@ in_range_of None None lines sizes e right_m right_n there = cc
 in_range_of None (Some n) lines sizes e right_m right_n there = cc
 in_range_of (Some m) None lines sizes e right_m right_n there = cc
 
-finished-in_range : (n : ℕ) (p : Progress) (script : ScriptValue) → IsKept p → finished n p ≡ Ok script → IsInRange script
+finished-in_range : (n : ℕ) (p : Progress) (script : ScriptValue) → IsKept p → finished n p ≡ Ok script
+    → IsInRange script
 finished-in_range n p script kept h =
     let a = steps (on_line n (ok_or (sizes_in p) OutOfPlace)) _ script h in
     let known = known_sizes (sizes_in p) OutOfPlace a.0 (on_line-right n (ok_or (sizes_in p) OutOfPlace) a.0 a.1) in
@@ -213,7 +225,8 @@ script_of-in_range text script h =
     finished-in_range (length (lines_of text)) a.0 script (after_lines-kept 1 nothing a.0 (lines_of text) start a.1) a.2
 
 -- and so is what was parsed
-pub IsInRange-parsed : (text : List ℕ) (r : Result Script ScriptFault) → MatchResult r (λ script. script_of text ≡ Ok (script_value script)) (λ e. (e ≡ fault.NoMemory) ⊎ (script_of text ≡ Err e))
+pub IsInRange-parsed : (text : List ℕ) (r : Result Script ScriptFault)
+    → MatchResult r (λ script. script_of text ≡ Ok (script_value script)) (λ e. (e ≡ fault.NoMemory) ⊎ (script_of text ≡ Err e))
     → IfOk r (λ script. IsInRange (script_value script))
 IsInRange-parsed text (Ok script) h = script_of-in_range text (script_value script) h
 IsInRange-parsed text (Err e) h = tt

@@ -25,7 +25,8 @@ use Rattle.nv_script.specs.OnceScript.{Progress, sizes_in, first_time, after_bod
 -- ---- counts
 
 -- the first of what is left, taken
-pub drop-next : (xs ys : List (List ℕ)) (x : List ℕ) (n : ℕ) → drop n xs ≡ x ∷ ys → (n + 1 ≤ length xs) × (drop (n + 1) xs ≡ ys)
+pub drop-next : (xs ys : List (List ℕ)) (x : List ℕ) (n : ℕ) → drop n xs ≡ x ∷ ys
+    → (n + 1 ≤ length xs) × (drop (n + 1) xs ≡ ys)
 drop-next [] ys x zero e = cc
 drop-next [] ys x (suc n) e = cc
 drop-next (z ∷ xs) ys x zero e = (omega arith, (cc))
@@ -63,7 +64,8 @@ count_check-right found wanted h =
 -- ---- the set-up
 
 -- one word
-one-word : (words : List (List ℕ)) (word : List ℕ) (rest : List (List ℕ)) → words ≡ word ∷ rest → length words ≡ 1 → words ≡ word ∷ []
+one-word : (words : List (List ℕ)) (word : List ℕ) (rest : List (List ℕ)) → words ≡ word ∷ rest → length words ≡ 1
+    → words ≡ word ∷ []
 one-word words word [] e h = e
 one-word words word (other ∷ rest) e h = absurd (let h' = rw e at h in omega (arith, h'))
 
@@ -75,43 +77,52 @@ new-size : (o : Option ℕ) (size : Result ℕ FaultKind) → is_some o ≡ fals
 new-size None size h = refl
 new-size (Some before) size h = cc
 
-memory-one : (p : Progress) (word : List ℕ) → after_keyword p Memory (word ∷ []) ≡ (first_time p.memory (memory_size word) >>= λ size. Ok (record p { memory = Some size }))
+memory-one : (p : Progress) (word : List ℕ)
+    → after_keyword p Memory (word ∷ []) ≡ (first_time p.memory (memory_size word) >>= λ size. Ok (record p { memory = Some size }))
 unfolding after_keyword
 memory-one p word = refl
 
-blocks-one : (p : Progress) (word : List ℕ) → after_keyword p Blocks (word ∷ []) ≡ (first_time p.blocks (block_count word) >>= λ count. Ok (record p { blocks = Some count }))
+blocks-one : (p : Progress) (word : List ℕ)
+    → after_keyword p Blocks (word ∷ []) ≡ (first_time p.blocks (block_count word) >>= λ count. Ok (record p { blocks = Some count }))
 unfolding after_keyword
 blocks-one p word = refl
 
 -- a second size of the memory
-pub memory-late : (p : Progress) (k : Keyword) (words : List (List ℕ)) → k ≡ Memory → length words ≡ arguments_of k → is_some p.memory ≡ true → after_keyword p k words ≡ Err OutOfPlace
+pub memory-late : (p : Progress) (k : Keyword) (words : List (List ℕ)) → k ≡ Memory → length words ≡ arguments_of k
+    → is_some p.memory ≡ true → after_keyword p k words ≡ Err OutOfPlace
 memory-late p k [] e h late = absurd (let h' = rw e at h in omega (arith, h'))
 memory-late p k (word ∷ []) e h late = rw (e, memory-one p word, late-size p.memory (memory_size word) late) refl
 memory-late p k (word ∷ other ∷ rest) e h late = absurd (let h' = rw e at h in omega (arith, h'))
 
 -- the size of the memory
-pub memory-new : (p : Progress) (k : Keyword) (words : List (List ℕ)) (word : List ℕ) (rest : List (List ℕ)) (size : Result ℕ FaultKind) → k ≡ Memory → length words ≡ arguments_of k → words ≡ word ∷ rest
-    → is_some p.memory ≡ false → size ≡ memory_size word → after_keyword p k words ≡ (size >>= λ s. Ok (record p { memory = Some s }))
+pub memory-new : (p : Progress) (k : Keyword) (words : List (List ℕ)) (word : List ℕ) (rest : List (List ℕ)) (size : Result ℕ FaultKind)
+    → k ≡ Memory → length words ≡ arguments_of k → words ≡ word ∷ rest
+    → is_some p.memory ≡ false → size ≡ memory_size word
+    → after_keyword p k words ≡ (size >>= λ s. Ok (record p { memory = Some s }))
 memory-new p k words word rest size e h w new made =
     let h' = rw e at h in
     rw (one-word words word rest w h', e, memory-one p word, new-size p.memory (memory_size word) new, ← made) refl
 
 -- a second number of blocks
-pub blocks-late : (p : Progress) (k : Keyword) (words : List (List ℕ)) → k ≡ Blocks → length words ≡ arguments_of k → is_some p.blocks ≡ true → after_keyword p k words ≡ Err OutOfPlace
+pub blocks-late : (p : Progress) (k : Keyword) (words : List (List ℕ)) → k ≡ Blocks → length words ≡ arguments_of k
+    → is_some p.blocks ≡ true → after_keyword p k words ≡ Err OutOfPlace
 blocks-late p k [] e h late = absurd (let h' = rw e at h in omega (arith, h'))
 blocks-late p k (word ∷ []) e h late = rw (e, blocks-one p word, late-size p.blocks (block_count word) late) refl
 blocks-late p k (word ∷ other ∷ rest) e h late = absurd (let h' = rw e at h in omega (arith, h'))
 
 -- the number of blocks
-pub blocks-new : (p : Progress) (k : Keyword) (words : List (List ℕ)) (word : List ℕ) (rest : List (List ℕ)) (count : Result ℕ FaultKind) → k ≡ Blocks → length words ≡ arguments_of k → words ≡ word ∷ rest
-    → is_some p.blocks ≡ false → count ≡ block_count word → after_keyword p k words ≡ (count >>= λ n. Ok (record p { blocks = Some n }))
+pub blocks-new : (p : Progress) (k : Keyword) (words : List (List ℕ)) (word : List ℕ) (rest : List (List ℕ)) (count : Result ℕ FaultKind)
+    → k ≡ Blocks → length words ≡ arguments_of k → words ≡ word ∷ rest
+    → is_some p.blocks ≡ false → count ≡ block_count word
+    → after_keyword p k words ≡ (count >>= λ n. Ok (record p { blocks = Some n }))
 blocks-new p k words word rest count e h w new made =
     let h' = rw e at h in
     rw (one-word words word rest w h', e, blocks-one p word, new-size p.blocks (block_count word) new, ← made) refl
 
 -- ---- behind the set-up
 
-pub after_keyword-body : (p : Progress) (k : Keyword) (words : List (List ℕ)) → (k ≡ Memory → ⊥) → (k ≡ Blocks → ⊥) → after_keyword p k words ≡ after_body p k words
+pub after_keyword-body : (p : Progress) (k : Keyword) (words : List (List ℕ)) → (k ≡ Memory → ⊥) → (k ≡ Blocks → ⊥)
+    → after_keyword p k words ≡ after_body p k words
 unfolding after_keyword
 after_keyword-body p Memory words m b = absurd (m refl)
 after_keyword-body p Blocks words m b = absurd (b refl)
@@ -129,73 +140,92 @@ pub after_line-none : (p : Progress) (words : List (List ℕ)) → words ≡ [] 
 unfolding after_line
 after_line-none p words e = rw e refl
 
-pub after_line-unknown : (p : Progress) (words : List (List ℕ)) (first : List ℕ) (rest : List (List ℕ)) (kind : FaultKind) → words ≡ first ∷ rest
+pub after_line-unknown : (p : Progress) (words : List (List ℕ)) (first : List ℕ) (rest : List (List ℕ)) (kind : FaultKind)
+    → words ≡ first ∷ rest
     → ok_or (keyword_of first) UnknownWord ≡ Err kind → after_line p words ≡ Err kind
 unfolding after_line
 after_line-unknown p words first rest kind e unknown = rw (e, unknown) refl
 
-pub after_line-miscounted : (p : Progress) (words : List (List ℕ)) (first : List ℕ) (rest : List (List ℕ)) (k : Keyword) (kind : FaultKind) → words ≡ first ∷ rest
-    → ok_or (keyword_of first) UnknownWord ≡ Ok k → count_check (length rest) (arguments_of k) ≡ Err kind → after_line p words ≡ Err kind
+pub after_line-miscounted : (p : Progress) (words : List (List ℕ)) (first : List ℕ) (rest : List (List ℕ)) (k : Keyword) (kind : FaultKind)
+    → words ≡ first ∷ rest
+    → ok_or (keyword_of first) UnknownWord ≡ Ok k → count_check (length rest) (arguments_of k) ≡ Err kind
+    → after_line p words ≡ Err kind
 unfolding after_line
 after_line-miscounted p words first rest k kind e known wrong = rw (e, known, wrong) refl
 
-pub after_line-known : (p : Progress) (words : List (List ℕ)) (first : List ℕ) (rest : List (List ℕ)) (k : Keyword) (u : Unit {0}) → words ≡ first ∷ rest
-    → ok_or (keyword_of first) UnknownWord ≡ Ok k → count_check (length rest) (arguments_of k) ≡ Ok u → after_line p words ≡ after_keyword p k rest
+pub after_line-known : (p : Progress) (words : List (List ℕ)) (first : List ℕ) (rest : List (List ℕ)) (k : Keyword) (u : Unit {0})
+    → words ≡ first ∷ rest
+    → ok_or (keyword_of first) UnknownWord ≡ Ok k → count_check (length rest) (arguments_of k) ≡ Ok u
+    → after_line p words ≡ after_keyword p k rest
 unfolding after_line
 after_line-known p words first rest k u e known right = rw (e, known, right) refl
 
 -- ---- refusals
 
-refuses-step : {A B : Type 0} (answer : Result A FaultKind) (g : A → Result B FaultKind) (refusal : LineFault) → Refuses answer refusal → Refuses (answer >>= g) refusal
+refuses-step : {A B : Type 0} (answer : Result A FaultKind) (g : A → Result B FaultKind) (refusal : LineFault)
+    → Refuses answer refusal → Refuses (answer >>= g) refusal
 refuses-step answer g (Faulty kind) h = rw h refl
 refuses-step answer g NoMemory h = tt
 
 -- a line before the set-up is whole
-pub body-unset : (p : Progress) (k : Keyword) (words : List (List ℕ)) (kind : FaultKind) → (k ≡ Memory → ⊥) → (k ≡ Blocks → ⊥)
+pub body-unset : (p : Progress) (k : Keyword) (words : List (List ℕ)) (kind : FaultKind) → (k ≡ Memory → ⊥)
+    → (k ≡ Blocks → ⊥)
     → ok_or (sizes_in p) OutOfPlace ≡ Err kind → after_keyword p k words ≡ Err kind
 body-unset p k words kind m b unset = after_keyword-body p k words m b ∙ rw unset refl
 
 -- a line that is refused
-pub body-refused : (p : Progress) (k : Keyword) (words : List (List ℕ)) (sizes : Sizes) (refusal : LineFault) → (k ≡ Memory → ⊥) → (k ≡ Blocks → ⊥)
-    → ok_or (sizes_in p) OutOfPlace ≡ Ok sizes → Refuses (line_of sizes k words) refusal → Refuses (after_keyword p k words) refusal
+pub body-refused : (p : Progress) (k : Keyword) (words : List (List ℕ)) (sizes : Sizes) (refusal : LineFault)
+    → (k ≡ Memory → ⊥) → (k ≡ Blocks → ⊥)
+    → ok_or (sizes_in p) OutOfPlace ≡ Ok sizes → Refuses (line_of sizes k words) refusal
+    → Refuses (after_keyword p k words) refusal
 body-refused p k words sizes refusal m b set h =
     rw (after_keyword-body p k words m b, set) (refuses-step (line_of sizes k words) _ refusal h)
 
 -- a line that is read
-pub body-read : (p : Progress) (k : Keyword) (words : List (List ℕ)) (sizes : Sizes) (old new : List Line) (line : Line) → (k ≡ Memory → ⊥) → (k ≡ Blocks → ⊥)
-    → ok_or (sizes_in p) OutOfPlace ≡ Ok sizes → line_of sizes k words ≡ Ok (value_of line) → p.lines ≡ map value_of old → new ≡ old ++ line ∷ []
+pub body-read : (p : Progress) (k : Keyword) (words : List (List ℕ)) (sizes : Sizes) (old new : List Line) (line : Line)
+    → (k ≡ Memory → ⊥) → (k ≡ Blocks → ⊥)
+    → ok_or (sizes_in p) OutOfPlace ≡ Ok sizes → line_of sizes k words ≡ Ok (value_of line) → p.lines ≡ map value_of old
+    → new ≡ old ++ line ∷ []
     → after_keyword p k words ≡ Ok (record p { lines = map value_of new })
 body-read p k words sizes old new line m b set made before after =
     let pushed : p.lines ++ value_of line ∷ [] ≡ map value_of new = sym (ap (map value_of) after ∙ map-append value_of old (line ∷ []) ∙ ap (λ (xs : List LineValue). xs ++ value_of line ∷ []) (sym before)) in
-    after_keyword-body p k words m b ∙ rw (set, made) (ap (λ (xs : List LineValue). Ok (record p { lines = xs })) pushed)
+    after_keyword-body p k words m b
+    ∙ rw (set, made) (ap (λ (xs : List LineValue). Ok (record p { lines = xs })) pushed)
 
 -- ---- a script
 
 -- the next line
-next-line : (n i : ℕ) (p : Progress) (lines : List (List ℕ)) (line : List ℕ) → (i < length lines) × (line ≡ get_or lines i line)
+next-line : (n i : ℕ) (p : Progress) (lines : List (List ℕ)) (line : List ℕ)
+    → (i < length lines) × (line ≡ get_or lines i line)
     → after_lines n p (drop i lines) ≡ (on_line n (after_line p (words_of line)) >>= λ next. after_lines (n + 1) next (drop (i + 1) lines))
 unfolding after_lines
 next-line n i p lines line h =
     rw (drop_more lines i line h.0, ← h.1) refl
 
 -- a line that is read
-pub after_lines-read : (n i : ℕ) (p next : Progress) (lines : List (List ℕ)) (line : List ℕ) → (i < length lines) × (line ≡ get_or lines i line)
-    → after_line p (words_of line) ≡ Ok next → after_lines n p (drop i lines) ≡ after_lines (n + 1) next (drop (i + 1) lines)
+pub after_lines-read : (n i : ℕ) (p next : Progress) (lines : List (List ℕ)) (line : List ℕ)
+    → (i < length lines) × (line ≡ get_or lines i line)
+    → after_line p (words_of line) ≡ Ok next
+    → after_lines n p (drop i lines) ≡ after_lines (n + 1) next (drop (i + 1) lines)
 after_lines-read n i p next lines line h read = next-line n i p lines line h ∙ rw read refl
 
 -- a line that is faulty
-pub after_lines-faulty : (n i : ℕ) (p : Progress) (lines : List (List ℕ)) (line : List ℕ) (kind : FaultKind) → (i < length lines) × (line ≡ get_or lines i line)
+pub after_lines-faulty : (n i : ℕ) (p : Progress) (lines : List (List ℕ)) (line : List ℕ) (kind : FaultKind)
+    → (i < length lines) × (line ≡ get_or lines i line)
     → after_line p (words_of line) ≡ Err kind → after_lines n p (drop i lines) ≡ Err (fault.Line n kind)
 after_lines-faulty n i p lines line kind h faulty = next-line n i p lines line h ∙ rw faulty refl
 
 -- behind the last line
-pub after_lines-end : (n i : ℕ) (p : Progress) (lines : List (List ℕ)) → length lines ≤ i → after_lines n p (drop i lines) ≡ Ok p
+pub after_lines-end : (n i : ℕ) (p : Progress) (lines : List (List ℕ)) → length lines ≤ i
+    → after_lines n p (drop i lines) ≡ Ok p
 unfolding after_lines
 after_lines-end n i p lines h = rw (drop_all i lines h) refl
 
 -- the fault of a script is that of its first faulty line
-pub script_of-refused : (n i : ℕ) (p : Progress) (text line : List ℕ) (refusal : LineFault) → (i < length (lines_of text)) × (line ≡ get_or (lines_of text) i line)
-    → after_lines n p (drop i (lines_of text)) ≡ after_lines 1 nothing (lines_of text) → Refuses (after_line p (words_of line)) refusal
+pub script_of-refused : (n i : ℕ) (p : Progress) (text line : List ℕ) (refusal : LineFault)
+    → (i < length (lines_of text)) × (line ≡ get_or (lines_of text) i line)
+    → after_lines n p (drop i (lines_of text)) ≡ after_lines 1 nothing (lines_of text)
+    → Refuses (after_line p (words_of line)) refusal
     → (fault_on n refusal ≡ fault.NoMemory) ⊎ (script_of text ≡ Err (fault_on n refusal))
 unfolding script_of
 script_of-refused n i p text line (Faulty kind) h kept refused =
@@ -204,7 +234,8 @@ script_of-refused n i p text line (Faulty kind) h kept refused =
 script_of-refused n i p text line NoMemory h kept refused = inl refl
 
 -- a script whose lines were all read
-script_of-read : (n : ℕ) (p : Progress) (text : List ℕ) → n ≡ length (lines_of text) → after_lines (n + 1) p (drop n (lines_of text)) ≡ after_lines 1 nothing (lines_of text)
+script_of-read : (n : ℕ) (p : Progress) (text : List ℕ) → n ≡ length (lines_of text)
+    → after_lines (n + 1) p (drop n (lines_of text)) ≡ after_lines 1 nothing (lines_of text)
     → script_of text ≡ finished n p
 unfolding script_of
 script_of-read n p text whole kept =
@@ -212,7 +243,8 @@ script_of-read n p text whole kept =
     rw (read, ← whole) refl
 
 -- and what comes of it
-pub script_of-finished : (n : ℕ) (p : Progress) (text : List ℕ) (r : Result Script ScriptFault) → n ≡ length (lines_of text)
+pub script_of-finished : (n : ℕ) (p : Progress) (text : List ℕ) (r : Result Script ScriptFault)
+    → n ≡ length (lines_of text)
     → after_lines (n + 1) p (drop n (lines_of text)) ≡ after_lines 1 nothing (lines_of text)
     → MatchResult r (λ script. finished n p ≡ Ok (script_value script)) (λ e. finished n p ≡ Err e)
     → MatchResult r (λ script. script_of text ≡ Ok (script_value script)) (λ e. (e ≡ fault.NoMemory) ⊎ (script_of text ≡ Err e))

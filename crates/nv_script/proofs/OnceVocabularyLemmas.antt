@@ -10,7 +10,8 @@ module _ {K : Type 0} where
   abbrev pub row_of : Bor (List ℕ) × K → List ℕ × K
   row_of row = (row.0.now, row.1)
 
-  lookup-find-at : (t : Bool) (row : Bor (List ℕ) × K) (found : Option (Bor (List ℕ) × K)) (others : Option K) → option_map (λ r. r.1) found ≡ others
+  lookup-find-at : (t : Bool) (row : Bor (List ℕ) × K) (found : Option (Bor (List ℕ) × K)) (others : Option K)
+      → option_map (λ r. r.1) found ≡ others
       → option_map (λ (r : Bor (List ℕ) × K). r.1) (cond t (Some row) found) ≡ cond t (Some row.1) others
   lookup-find-at true row found others e = refl
   lookup-find-at false row found others e = e
@@ -25,6 +26,7 @@ module _ {K : Type 0} where
       → lookup (λ name. bytes_eq name word) (map row_of rows) ≡ None
   lookup-none word rows e = sym (lookup-find word rows) ∙ ap (option_map (λ (r : Bor (List ℕ) × K). r.1)) e
 
-  pub lookup-some : (word : List ℕ) (rows : List (Bor (List ℕ) × K)) (row : Bor (List ℕ) × K) → find (λ row. bytes_eq row.0.now word) rows ≡ Some row
+  pub lookup-some : (word : List ℕ) (rows : List (Bor (List ℕ) × K)) (row : Bor (List ℕ) × K)
+      → find (λ row. bytes_eq row.0.now word) rows ≡ Some row
       → lookup (λ name. bytes_eq name word) (map row_of rows) ≡ Some row.1
   lookup-some word rows row e = sym (lookup-find word rows) ∙ ap (option_map (λ (r : Bor (List ℕ) × K). r.1)) e

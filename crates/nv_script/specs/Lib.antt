@@ -1,6 +1,7 @@
 pub mod OnceFault
 pub mod OnceWords
 pub mod OnceNumber
+pub mod OnceLimits
 pub mod OnceVocabulary
 pub mod OnceSizes
 pub mod OnceLine

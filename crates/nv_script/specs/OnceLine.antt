@@ -8,6 +8,7 @@ use Rattle.nv_script.specs.declared.once.line.Line.TheVariants as line
 use Rattle.nv_script.specs.declared.once.vocabulary.Keyword.{Keyword}
 use Rattle.nv_script.specs.declared.once.vocabulary.Keyword.TheVariants as keyword
 use Rattle.nv_script.specs.OnceFault.{◌>>=◌}
+use Rattle.nv_script.specs.OnceLimits.{longest_fill}
 use Rattle.nv_script.specs.OnceNumber.{bytes_of, entry_of, number_of, number_up_to}
 
 -- what a line does: bytes are put into the memory, a block is made of equal bytes, a command is done, bytes or a block are shown
@@ -53,7 +54,7 @@ line_of sizes keyword.Store (addr ∷ digits ∷ []) = do
   if_there sizes (Store a bytes)
 line_of sizes keyword.Fill (addr ∷ len ∷ byte ∷ []) = do
   a ← number_of addr
-  n ← number_up_to 131072 len
+  n ← number_up_to longest_fill len
   b ← number_up_to 255 byte
   if_there sizes (Fill a n b)
 line_of sizes keyword.Paint (block ∷ byte ∷ []) = do

@@ -3,15 +3,16 @@ use Rattle.std.specs.Prelude.{ℕ, ◌%◌, ◌==◌, ◌&&◌, nat_le, Bool, Li
 use Rattle.nv_script.specs.declared.once.fault.FaultKind.{FaultKind}
 use Rattle.nv_script.specs.declared.once.fault.FaultKind.TheVariants.{BadNumber}
 use Rattle.nv_script.specs.OnceFault.{◌>>=◌}
+use Rattle.nv_script.specs.OnceLimits.{largest_memory, largest_namespace, page}
 use Rattle.nv_script.specs.OnceNumber.{number_of}
 
--- whether a memory may have this size: 4,096 bytes to 16,777,216, in steps of 4,096 (profile)
+-- whether a memory may have this size: whole pages, at least one
 abbrev pub is_memory_size : ℕ → Bool
-is_memory_size size = nat_le 4096 size && nat_le size 16777216 && size % 4096 == 0
+is_memory_size size = nat_le page size && nat_le size largest_memory && size % page == 0
 
--- whether there may be so many blocks: 1 to 65,536 (profile)
+-- whether there may be so many blocks: at least one
 abbrev pub is_block_count : ℕ → Bool
-is_block_count count = nat_le 1 count && nat_le count 65536
+is_block_count count = nat_le 1 count && nat_le count largest_namespace
 
 -- the size of the memory that a word writes
 abbrev pub memory_size : List ℕ → Result ℕ FaultKind

@@ -5,7 +5,8 @@ use Rattle.nv_mem.proofs.Images.{host_of-high}
 use Rattle.nv_mem.specs.GuestMap.{Mapping, IsSound, AllMapped, host_of}
 
 -- addresses that are mapped, at least one, end at 2 to the 64 at the latest
-pub AllMapped-end : (m : Mapping) (addr len : ℕ) → IsSound m → AllMapped m.regions addr len → 0 < len → addr + len ≤ 2 ^ 64
+pub AllMapped-end : (m : Mapping) (addr len : ℕ) → IsSound m → AllMapped m.regions addr len → 0 < len
+    → addr + len ≤ 2 ^ 64
 AllMapped-end m addr len sound all some =
     elim (cases_lt (2 ^ 64) (addr + len)) [
       | inl high ↦

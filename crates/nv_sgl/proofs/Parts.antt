@@ -21,12 +21,17 @@ abbrev pub past : Cursor → Cursor
 past c = record c { from = c.from + 16; left = c.left - 1; budget = c.budget - 1 }
 
 -- two that are faulty alike, and read alike where they aren't
-unless_faulty-same : (f g : Option StatusCode) (x y : Dialogue Reading) → f ≡ g → (f ≡ None → x ≡ y) → unless_faulty f x ≡ unless_faulty g y
-unless_faulty-same (Some code) g x y same alike = let P : Option StatusCode → Type 0 = λ h. unless_faulty (Some code) x ≡ unless_faulty h y in subst P same refl
-unless_faulty-same None g x y same alike = let P : Option StatusCode → Type 0 = λ h. unless_faulty None x ≡ unless_faulty h y in subst P same (alike refl)
+unless_faulty-same : (f g : Option StatusCode) (x y : Dialogue Reading) → f ≡ g → (f ≡ None → x ≡ y)
+    → unless_faulty f x ≡ unless_faulty g y
+unless_faulty-same (Some code) g x y same alike =
+    let P : Option StatusCode → Type 0 = λ h. unless_faulty (Some code) x ≡ unless_faulty h y in subst P same refl
+unless_faulty-same None g x y same alike =
+    let P : Option StatusCode → Type 0 = λ h. unless_faulty None x ≡ unless_faulty h y in subst P same (alike refl)
 
 -- what is read behind a descriptor
-pub reading_from-behind : (mapped : ℕ → Bool) (dest : Bool) (rest : Cursor) (d : List ℕ) (to : Cursor) (before : List Piece) → StandsBehind mapped dest rest d to → reading_from mapped dest to (before ++ pieces_by (kind_of d) dest d) ≡ read_descriptor mapped dest (array_at rest) before (λ a ps. read_array mapped dest rest.budget a.left a.from a.by_last ps) d
+pub reading_from-behind : (mapped : ℕ → Bool) (dest : Bool) (rest : Cursor) (d : List ℕ) (to : Cursor) (before : List Piece)
+    → StandsBehind mapped dest rest d to
+    → reading_from mapped dest to (before ++ pieces_by (kind_of d) dest d) ≡ read_descriptor mapped dest (array_at rest) before (λ a ps. read_array mapped dest rest.budget a.left a.from a.by_last ps) d
 unfolding reading_from
 reading_from-behind mapped dest rest d to before behind =
     unless_faulty-same to.fault (fault_by (kind_of d) mapped (array_at rest) d) _ _ behind.fault (λ sound.
@@ -34,24 +39,32 @@ reading_from-behind mapped dest rest d to before behind =
     ∙ ap (λ (n : ℕ). let a : Array = array_by (kind_of d) (array_at rest) d in read_array mapped dest n a.left a.from a.by_last (before ++ pieces_by (kind_of d) dest d)) behind.budget)
 
 -- an array with descriptors left asks for the next one
-read_array-fed : (mapped : ℕ → Bool) (dest : Bool) (budget left from : ℕ) (by_last : Bool) (before : List Piece) (byte : ℕ) (bytes : List ℕ) → fed (read_array mapped dest (suc budget) (suc left) from by_last before) (byte ∷ bytes) ≡ fed (read_descriptor mapped dest (record { from = from + 16; left = left; by_last = by_last }) before (λ a ps. read_array mapped dest budget a.left a.from a.by_last ps) (take 16 (byte ∷ bytes))) (drop 16 (byte ∷ bytes))
+read_array-fed : (mapped : ℕ → Bool) (dest : Bool) (budget left from : ℕ) (by_last : Bool) (before : List Piece) (byte : ℕ) (bytes : List ℕ)
+    → fed (read_array mapped dest (suc budget) (suc left) from by_last before) (byte ∷ bytes) ≡ fed (read_descriptor mapped dest (record { from = from + 16; left = left; by_last = by_last }) before (λ a ps. read_array mapped dest budget a.left a.from a.by_last ps) (take 16 (byte ∷ bytes))) (drop 16 (byte ∷ bytes))
 unfolding fed read_array
 read_array-fed mapped dest budget left from by_last before byte bytes = refl
 
 -- and takes it
-read_array-taken : (mapped : ℕ → Bool) (dest : Bool) (budget left from : ℕ) (by_last : Bool) (before : List Piece) (byte : ℕ) (bytes : List ℕ) → units_fed (read_array mapped dest (suc budget) (suc left) from by_last before) (byte ∷ bytes) ≡ take 16 (byte ∷ bytes) ∷ units_fed (read_descriptor mapped dest (record { from = from + 16; left = left; by_last = by_last }) before (λ a ps. read_array mapped dest budget a.left a.from a.by_last ps) (take 16 (byte ∷ bytes))) (drop 16 (byte ∷ bytes))
+read_array-taken : (mapped : ℕ → Bool) (dest : Bool) (budget left from : ℕ) (by_last : Bool) (before : List Piece) (byte : ℕ) (bytes : List ℕ)
+    → units_fed (read_array mapped dest (suc budget) (suc left) from by_last before) (byte ∷ bytes) ≡ take 16 (byte ∷ bytes) ∷ units_fed (read_descriptor mapped dest (record { from = from + 16; left = left; by_last = by_last }) before (λ a ps. read_array mapped dest budget a.left a.from a.by_last ps) (take 16 (byte ∷ bytes))) (drop 16 (byte ∷ bytes))
 unfolding units_fed read_array
 read_array-taken mapped dest budget left from by_last before byte bytes = refl
 
 -- from a cursor that asks, the next descriptor leads to the cursor behind it
-reading_from-fed : (mapped : ℕ → Bool) (dest : Bool) (now next : Cursor) (before : List Piece) (byte : ℕ) (bytes : List ℕ) → now.fault ≡ None → now.left ≡ suc (now.left - 1) → now.budget ≡ suc (now.budget - 1) → StandsBehind mapped dest (past now) (take 16 (byte ∷ bytes)) next → fed (reading_from mapped dest now before) (byte ∷ bytes) ≡ fed (reading_from mapped dest next (before ++ pieces_by (kind_of (take 16 (byte ∷ bytes))) dest (take 16 (byte ∷ bytes)))) (drop 16 (byte ∷ bytes))
+reading_from-fed : (mapped : ℕ → Bool) (dest : Bool) (now next : Cursor) (before : List Piece) (byte : ℕ) (bytes : List ℕ)
+    → now.fault ≡ None → now.left ≡ suc (now.left - 1) → now.budget ≡ suc (now.budget - 1)
+    → StandsBehind mapped dest (past now) (take 16 (byte ∷ bytes)) next
+    → fed (reading_from mapped dest now before) (byte ∷ bytes) ≡ fed (reading_from mapped dest next (before ++ pieces_by (kind_of (take 16 (byte ∷ bytes))) dest (take 16 (byte ∷ bytes)))) (drop 16 (byte ∷ bytes))
 unfolding reading_from
 reading_from-fed mapped dest now next before byte bytes sound left budget behind =
     rw (sound, left, budget)
     (read_array-fed mapped dest (now.budget - 1) (now.left - 1) now.from now.by_last before byte bytes
     ∙ ap (λ (d : Dialogue Reading). fed d (drop 16 (byte ∷ bytes))) (sym (reading_from-behind mapped dest (past now) (take 16 (byte ∷ bytes)) next before behind)))
 
-reading_from-taken : (mapped : ℕ → Bool) (dest : Bool) (now next : Cursor) (before : List Piece) (byte : ℕ) (bytes : List ℕ) → now.fault ≡ None → now.left ≡ suc (now.left - 1) → now.budget ≡ suc (now.budget - 1) → StandsBehind mapped dest (past now) (take 16 (byte ∷ bytes)) next → units_fed (reading_from mapped dest now before) (byte ∷ bytes) ≡ take 16 (byte ∷ bytes) ∷ units_fed (reading_from mapped dest next (before ++ pieces_by (kind_of (take 16 (byte ∷ bytes))) dest (take 16 (byte ∷ bytes)))) (drop 16 (byte ∷ bytes))
+reading_from-taken : (mapped : ℕ → Bool) (dest : Bool) (now next : Cursor) (before : List Piece) (byte : ℕ) (bytes : List ℕ)
+    → now.fault ≡ None → now.left ≡ suc (now.left - 1) → now.budget ≡ suc (now.budget - 1)
+    → StandsBehind mapped dest (past now) (take 16 (byte ∷ bytes)) next
+    → units_fed (reading_from mapped dest now before) (byte ∷ bytes) ≡ take 16 (byte ∷ bytes) ∷ units_fed (reading_from mapped dest next (before ++ pieces_by (kind_of (take 16 (byte ∷ bytes))) dest (take 16 (byte ∷ bytes)))) (drop 16 (byte ∷ bytes))
 unfolding reading_from
 reading_from-taken mapped dest now next before byte bytes sound left budget behind =
     rw (sound, left, budget)
@@ -73,41 +86,52 @@ record Asks (fault : Option StatusCode) (left budget : ℕ) : Type 0 where
   more : left ≡ suc (left - 1)
   may : budget ≡ suc (budget - 1)
 
-asks_by : (fault : Option StatusCode) (left budget : ℕ) → (is_none fault && nat_lt 0 left && nat_lt 0 budget) ≡ true → Asks fault left budget
+asks_by : (fault : Option StatusCode) (left budget : ℕ) → (is_none fault && nat_lt 0 left && nat_lt 0 budget) ≡ true
+    → Asks fault left budget
 asks_by (Some code) left budget is = absurd (cc)
 asks_by None left budget is = record { sound = refl; more = grind (arith, nat_tests); may = grind (arith, nat_tests) }
 
-ended_by : (mapped : ℕ → Bool) (dest : Bool) (fault : Option StatusCode) (budget left from : ℕ) (by_last : Bool) (before : List Piece) (bytes : List ℕ) → (is_none fault && nat_lt 0 left && nat_lt 0 budget) ≡ false → HasEnded (unless_faulty fault (read_array mapped dest budget left from by_last before)) bytes
+ended_by : (mapped : ℕ → Bool) (dest : Bool) (fault : Option StatusCode) (budget left from : ℕ) (by_last : Bool) (before : List Piece) (bytes : List ℕ)
+    → (is_none fault && nat_lt 0 left && nat_lt 0 budget) ≡ false
+    → HasEnded (unless_faulty fault (read_array mapped dest budget left from by_last before)) bytes
 unfolding fed units_fed read_array
 ended_by mapped dest (Some code) budget left from by_last before bytes is = record { fed = refl; taken = refl }
 ended_by mapped dest None budget zero from by_last before bytes is = record { fed = refl; taken = refl }
 ended_by mapped dest None zero (suc left) from by_last before bytes is = record { fed = refl; taken = refl }
 ended_by mapped dest None (suc budget) (suc left) from by_last before bytes is = absurd (not_asking left budget is)
 
-pub ended : (mapped : ℕ → Bool) (dest : Bool) (c : Cursor) (before : List Piece) (bytes : List ℕ) → is_asking c ≡ false → HasEnded (reading_from mapped dest c before) bytes
+pub ended : (mapped : ℕ → Bool) (dest : Bool) (c : Cursor) (before : List Piece) (bytes : List ℕ) → is_asking c ≡ false
+    → HasEnded (reading_from mapped dest c before) bytes
 unfolding reading_from
 ended mapped dest c before bytes is = ended_by mapped dest c.fault c.budget c.left c.from c.by_last before bytes is
 
 -- how far a part was read: what is left of it leads from here to where the whole leads from the start
 pub record Progress (mapped : ℕ → Bool) (dest : Bool) (start : Cursor) (bytes : List ℕ) (those : List (List ℕ)) (now : Cursor) (rest : List ℕ) (these : List (List ℕ)) : Type 0 where
-  pub dialogue : (before : List Piece) → fed (reading_from mapped dest now (before ++ pieces_of dest these)) rest ≡ fed (reading_from mapped dest start (before ++ pieces_of dest those)) bytes
-  pub blocks : (before : List Piece) → these ++ units_fed (reading_from mapped dest now (before ++ pieces_of dest these)) rest ≡ those ++ units_fed (reading_from mapped dest start (before ++ pieces_of dest those)) bytes
+  pub dialogue : (before : List Piece)
+      → fed (reading_from mapped dest now (before ++ pieces_of dest these)) rest ≡ fed (reading_from mapped dest start (before ++ pieces_of dest those)) bytes
+  pub blocks : (before : List Piece)
+      → these ++ units_fed (reading_from mapped dest now (before ++ pieces_of dest these)) rest ≡ those ++ units_fed (reading_from mapped dest start (before ++ pieces_of dest those)) bytes
   pub total : now.total + total_len (pieces_of dest those) ≡ start.total + total_len (pieces_of dest these)
   pub in_range : IsInRange now
   pub whole : length rest % 16 ≡ 0
 
 -- before the first descriptor
-pub Progress-start : (mapped : ℕ → Bool) (dest : Bool) (start : Cursor) (bytes : List ℕ) (those : List (List ℕ)) → IsInRange start → length bytes % 16 ≡ 0 → Progress mapped dest start bytes those start bytes those
+pub Progress-start : (mapped : ℕ → Bool) (dest : Bool) (start : Cursor) (bytes : List ℕ) (those : List (List ℕ))
+    → IsInRange start → length bytes % 16 ≡ 0 → Progress mapped dest start bytes those start bytes those
 Progress-start mapped dest start bytes those in_range whole =
     record { dialogue = λ before. refl; blocks = λ before. refl; total = refl; in_range = in_range; whole = whole }
 
 -- the pieces of one more descriptor
-pieces_of-more : (dest : Bool) (before : List Piece) (these : List (List ℕ)) (d : List ℕ) → before ++ pieces_of dest (these ++ d ∷ []) ≡ (before ++ pieces_of dest these) ++ pieces_by (kind_of d) dest d
+pieces_of-more : (dest : Bool) (before : List Piece) (these : List (List ℕ)) (d : List ℕ)
+    → before ++ pieces_of dest (these ++ d ∷ []) ≡ (before ++ pieces_of dest these) ++ pieces_by (kind_of d) dest d
 unfolding pieces_of
 pieces_of-more dest before these d = sym (flat_map_more (λ e. pieces_by (kind_of e) dest e) before these d)
 
 -- one descriptor further
-pub Progress-step : (mapped : ℕ → Bool) (dest : Bool) (start : Cursor) (bytes : List ℕ) (those : List (List ℕ)) (now : Cursor) (rest : List ℕ) (these : List (List ℕ)) (next : Cursor) → Progress mapped dest start bytes those now rest these → is_asking now ≡ true → 16 ≤ length rest → StandsBehind mapped dest (past now) (take 16 rest) next → IsInRange next → Progress mapped dest start bytes those next (drop 16 rest) (these ++ take 16 rest ∷ [])
+pub Progress-step : (mapped : ℕ → Bool) (dest : Bool) (start : Cursor) (bytes : List ℕ) (those : List (List ℕ)) (now : Cursor) (rest : List ℕ) (these : List (List ℕ)) (next : Cursor)
+    → Progress mapped dest start bytes those now rest these → is_asking now ≡ true → 16 ≤ length rest
+    → StandsBehind mapped dest (past now) (take 16 rest) next → IsInRange next
+    → Progress mapped dest start bytes those next (drop 16 rest) (these ++ take 16 rest ∷ [])
 Progress-step mapped dest start bytes those now [] these next progress asking some behind in_range = absurd (omega arith)
 Progress-step mapped dest start bytes those now (byte ∷ rest) these next progress asking some behind in_range =
     let d : List ℕ = take 16 (byte ∷ rest) in
@@ -125,14 +149,18 @@ Progress-step mapped dest start bytes those now (byte ∷ rest) these next progr
           ∙ progress.blocks before;
       total =
           let more : total_len (pieces_of dest (these ++ d ∷ [])) ≡ total_len (pieces_of dest these) + total_len (pieces_by (kind_of d) dest d) =
-          ap total_len (pieces_of-more dest [] these d) ∙ sum_by-append piece_len (pieces_of dest these) (pieces_by (kind_of d) dest d) in
+          ap total_len (pieces_of-more dest [] these d)
+          ∙ sum_by-append piece_len (pieces_of dest these) (pieces_by (kind_of d) dest d) in
           omega (arith, more, behind.total, progress.total);
       in_range = in_range;
       whole = let count = length-drop 16 (byte ∷ rest) in let whole = progress.whole in omega arith;
     }
 
 -- nothing more is asked, or nothing is left
-pub Progress-end : (mapped : ℕ → Bool) (dest : Bool) (start : Cursor) (bytes : List ℕ) (those : List (List ℕ)) (now : Cursor) (rest : List ℕ) (these : List (List ℕ)) → Progress mapped dest start bytes those now rest these → ((before : List Piece) → HasEnded (reading_from mapped dest now before) rest) → ReadsPart mapped dest start bytes those now these
+pub Progress-end : (mapped : ℕ → Bool) (dest : Bool) (start : Cursor) (bytes : List ℕ) (those : List (List ℕ)) (now : Cursor) (rest : List ℕ) (these : List (List ℕ))
+    → Progress mapped dest start bytes those now rest these
+    → ((before : List Piece) → HasEnded (reading_from mapped dest now before) rest)
+    → ReadsPart mapped dest start bytes those now these
 Progress-end mapped dest start bytes those now rest these progress ended = record {
   dialogue = λ before. sym (ended (before ++ pieces_of dest these)).fed ∙ progress.dialogue before;
   blocks = λ before.
@@ -144,12 +172,17 @@ Progress-end mapped dest start bytes those now rest these progress ended = recor
 }
 
 -- less than one descriptor is left: nothing is
-pub none_left : (mapped : ℕ → Bool) (dest : Bool) (now : Cursor) (rest : List ℕ) (before : List Piece) → length rest % 16 ≡ 0 → length rest < 16 → HasEnded (reading_from mapped dest now before) rest
-none_left mapped dest now [] before whole few = record { fed = fed-nil (reading_from mapped dest now before); taken = taken-nil (reading_from mapped dest now before) }
+pub none_left : (mapped : ℕ → Bool) (dest : Bool) (now : Cursor) (rest : List ℕ) (before : List Piece)
+    → length rest % 16 ≡ 0 → length rest < 16 → HasEnded (reading_from mapped dest now before) rest
+none_left mapped dest now [] before whole few =
+    record { fed = fed-nil (reading_from mapped dest now before); taken = taken-nil (reading_from mapped dest now before) }
 none_left mapped dest now (byte ∷ rest) before whole few = absurd (omega arith)
 
 -- one descriptor further, in the names of the code
-pub Progress-next : (mapped : ℕ → Bool) (dest : Bool) (start : Cursor) (bytes : List ℕ) (those : List (List ℕ)) (now : Cursor) (rest : List ℕ) (these : List (List ℕ)) (skipped next : Cursor) (d more : List ℕ) (news : List (List ℕ)) → Progress mapped dest start bytes those now rest these → is_asking now ≡ true → 16 ≤ length rest → skipped ≡ past now → d ≡ take 16 rest → more ≡ drop 16 rest → news ≡ these ++ d ∷ [] → StandsBehind mapped dest skipped d next → IsInRange next → Progress mapped dest start bytes those next more news
+pub Progress-next : (mapped : ℕ → Bool) (dest : Bool) (start : Cursor) (bytes : List ℕ) (those : List (List ℕ)) (now : Cursor) (rest : List ℕ) (these : List (List ℕ)) (skipped next : Cursor) (d more : List ℕ) (news : List (List ℕ))
+    → Progress mapped dest start bytes those now rest these → is_asking now ≡ true → 16 ≤ length rest
+    → skipped ≡ past now → d ≡ take 16 rest → more ≡ drop 16 rest → news ≡ these ++ d ∷ []
+    → StandsBehind mapped dest skipped d next → IsInRange next → Progress mapped dest start bytes those next more news
 Progress-next mapped dest start bytes those now rest these skipped next d more news progress asking some is_past is_first is_rest is_more behind in_range =
     let behind_first : StandsBehind mapped dest (past now) (take 16 rest) next =
     let P : List ℕ → Type 0 = λ e. StandsBehind mapped dest (past now) e next in

@@ -25,7 +25,8 @@ unfolding bytes_from
 KeepsEnd-last m d from n none = rw none (KeepsEnd-nil m d)
 
 -- a Segment with no fault is last in its array
-none_behind : (b c : Bool) (x y : StatusCode) (o : Option StatusCode) → (if b then Some x else if not c then Some y else o) ≡ None → c ≡ true
+none_behind : (b c : Bool) (x y : StatusCode) (o : Option StatusCode)
+    → (if b then Some x else if not c then Some y else o) ≡ None → c ≡ true
 none_behind true c x y o none = cc
 none_behind false true x y o none = refl
 none_behind false false x y o none = cc
@@ -36,7 +37,10 @@ segment-last mapped rest d none =
     grind (arith, nat_tests)
 
 -- behind a descriptor, where feeding does in the rest of the array
-KeepsEnd-behind : (m : ℕ → ℕ) (mapped : ℕ → Bool) (dest : Bool) (kind : Option DescriptorType) (budget n : ℕ) (rest : Array) (pieces : List Piece) (d : List ℕ) → n ≤ rest.left → ((ps : List Piece) → KeepsEnd m (read_array mapped dest budget rest.left rest.from rest.by_last ps) (bytes_from m rest.from (16 * n))) → KeepsEnd m (unless_faulty (fault_by kind mapped rest d) (let a : Array = array_by kind rest d in read_array mapped dest budget a.left a.from a.by_last (pieces ++ pieces_by kind dest d))) (bytes_from m rest.from (16 * n))
+KeepsEnd-behind : (m : ℕ → ℕ) (mapped : ℕ → Bool) (dest : Bool) (kind : Option DescriptorType) (budget n : ℕ) (rest : Array) (pieces : List Piece) (d : List ℕ)
+    → n ≤ rest.left
+    → ((ps : List Piece) → KeepsEnd m (read_array mapped dest budget rest.left rest.from rest.by_last ps) (bytes_from m rest.from (16 * n)))
+    → KeepsEnd m (unless_faulty (fault_by kind mapped rest d) (let a : Array = array_by kind rest d in read_array mapped dest budget a.left a.from a.by_last (pieces ++ pieces_by kind dest d))) (bytes_from m rest.from (16 * n))
 unfolding fed
 KeepsEnd-behind m mapped dest None budget n rest pieces d within keeps = record { same = refl }
 KeepsEnd-behind m mapped dest (Some DataBlock) budget n rest pieces d within keeps =
@@ -48,7 +52,8 @@ KeepsEnd-behind m mapped dest (Some LastSegment) budget n rest pieces d within k
     KeepsEnd-fault m (fault_by (Some LastSegment) mapped rest d) _ _ (λ none. KeepsEnd-last m _ rest.from n (let last = segment-last mapped rest d none in omega arith))
 
 -- descriptors of an array that are there are read as they would be asked for
-KeepsEnd-array : (m : ℕ → ℕ) (mapped : ℕ → Bool) (dest : Bool) (n budget left from : ℕ) (by_last : Bool) (pieces : List Piece) → n ≤ left → KeepsEnd m (read_array mapped dest budget left from by_last pieces) (bytes_from m from (16 * n))
+KeepsEnd-array : (m : ℕ → ℕ) (mapped : ℕ → Bool) (dest : Bool) (n budget left from : ℕ) (by_last : Bool) (pieces : List Piece)
+    → n ≤ left → KeepsEnd m (read_array mapped dest budget left from by_last pieces) (bytes_from m from (16 * n))
 unfolding fed in_memory read_array
 KeepsEnd-array m mapped dest zero budget left from by_last pieces within = KeepsEnd-last m _ from zero refl
 KeepsEnd-array m mapped dest (suc n) budget zero from by_last pieces within = absurd (omega arith)
@@ -72,7 +77,8 @@ KeepsEnd-array m mapped dest (suc n) (suc budget) (suc left) from by_last pieces
     }
 
 -- a parse, too
-KeepsEnd-list : (m : ℕ → ℕ) (p : Parse) (addr len : ℕ) → IsPart p.ahead.left p.ahead.from addr len → KeepsEnd m (list_ahead p) (bytes_from m addr len)
+KeepsEnd-list : (m : ℕ → ℕ) (p : Parse) (addr len : ℕ) → IsPart p.ahead.left p.ahead.from addr len
+    → KeepsEnd m (list_ahead p) (bytes_from m addr len)
 unfolding list_ahead
 KeepsEnd-list m p addr len part =
     let P : ℕ → Type 0 = λ a. KeepsEnd m (list_ahead p) (bytes_from m a len) in
@@ -88,7 +94,8 @@ KeepsEnd-list m p addr len part =
     m (mapped p.regions) p.dest part.count p.budget p.ahead.left p.ahead.from p.ahead.by_last (pieces_in p.dest p.chain) part.within)))
 
 -- feeding a parse what a memory shows at what it wants leaves its end in this memory as it is
-pub in_memory-fed : (m : ℕ → ℕ) (p : Parse) (addr len : ℕ) → want_of (dialogue_of p) ≡ want.Read addr len → in_memory m (fed (dialogue_of p) (bytes_from m addr len)) ≡ in_memory m (dialogue_of p)
+pub in_memory-fed : (m : ℕ → ℕ) (p : Parse) (addr len : ℕ) → want_of (dialogue_of p) ≡ want.Read addr len
+    → in_memory m (fed (dialogue_of p) (bytes_from m addr len)) ≡ in_memory m (dialogue_of p)
 unfolding dialogue_of
 in_memory-fed m p addr len wanted =
     ap (in_memory m) (fed-and_then (list_ahead p) (sized p.need) (bytes_from m addr len))

@@ -1,3 +1,5 @@
+//! The descriptors that were read of a list, kept array by array, and the places that they name.
+
 ghost use Rattle.std.specs.Prelude.{◌≡◌, ◌%◌, [], ◌∷◌, ◌++◌, true, false, length, IfOk, OnErr, OnOk, MatchOption};
 ghost use Rattle.nv_mem.specs.GuestMap.{mapped};
 ghost use Rattle.nv_sgl.specs.Chain.{pieces_of};

@@ -1,3 +1,5 @@
+//! Where a parse of a scatter gather list stands, and how it goes on descriptor by descriptor.
+
 ghost use Rattle.std.specs.Prelude.{◌≡◌, false, None, Some, ◌+◌, ◌-◌, ◌*◌, ◌<◌, ◌≤◌, ◌^◌, ◌%◌, IsTrue, IfOk, OnErr, true, length, option_to_list};
 ghost use Rattle.nv_entry.specs.Descriptor.{address_of, kind_of, length_of};
 ghost use Rattle.nv_mem.specs.GuestMap.{mapped, all_mapped};

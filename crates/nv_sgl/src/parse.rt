@@ -1,7 +1,10 @@
+//! The parse of a scatter gather list: what it wants, what it is fed, and the places in the end.
+
 ghost use Rattle.std.specs.Prelude.{◌≡◌, [], ◌∷◌, ℕ, ◌<◌, length, IfOk, OnErr, OnOk};
 ghost use Rattle.nv_mem.specs.GuestMap.{mapped};
 ghost use Rattle.nv_model.specs.Dialogue.{End, and_then};
 ghost use Rattle.nv_model.specs.Judge.{sized};
+ghost use Rattle.nv_model.specs.Limits.{most_descriptors};
 ghost use Rattle.nv_model.specs.Reading.{Spells};
 ghost use Rattle.nv_model.specs.Sgl.{read_sgl};
 
@@ -10,14 +13,12 @@ use crate::cursor::Cursor;
 use nv_entry::{Descriptor, StatusCode};
 use nv_mem::{GuestMap, NoMemory, Places};
 use nv_model::Want;
+use nv_model::limits::{MOST_DESCRIPTORS, PART_SIZE};
 use std::alloc::{Allocator, Global};
 use std::marker::Model;
 
-/// How many descriptors of a list may be read, the command's own among them.
-const LIMIT: u32 = 1024;
-
-/// How many descriptors of an array are wanted at once, at most: 4,096 bytes.
-const PART: u32 = 256;
+/// How many descriptors of an array are wanted at once, at most.
+const PART: u32 = PART_SIZE / 16;
 
 /// The reading of a list, part by part. It never looks at the guest's memory itself: it says which bytes it wants, and is fed them.
 #[derive(Drop)]
@@ -57,10 +58,10 @@ impl<'a, A: Allocator + Clone> SglParse<'a, A> {
         need: u64,
     ) -> Result<Self, NoMemory>
         ensures dialogue { IfOk result (λ parse. dialogue_of parse ≡
-            and_then (read_sgl (mapped map.now.regions) dest 1024 first) (λ reading. End (sized need reading))) }
+            and_then (read_sgl (mapped map.now.regions) dest most_descriptors first) (λ reading. End (sized need reading))) }
         ensures chain { IfOk result (λ parse. parse.chain ≡ (first ∷ []) ∷ []) }
     {
-        Self::with_limit(heap, map, first, dest, need, LIMIT)
+        Self::with_limit(heap, map, first, dest, need, MOST_DESCRIPTORS)
     }
 
     // The same with another limit on descriptors.
@@ -157,7 +158,7 @@ impl<'a, A: Allocator + Clone> SglParse<'a, A> {
         ensures { IfOk result (λ places. dialogue_of self.now ≡ End (Spells places)) }
     {
         let mut places = Places::new(alloc);
-        places.reserve(LIMIT.saturating_sub(self.cursor.budget) as usize)?;
+        places.reserve(MOST_DESCRIPTORS.saturating_sub(self.cursor.budget) as usize)?;
         self.chain.push_pieces(self.dest, &mut places)?;
         Ok(places)
     }

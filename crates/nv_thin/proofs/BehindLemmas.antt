@@ -33,7 +33,8 @@ sizes host map disk kept v seen b =
     }
 
 -- parts as large as before fit, where the blocks before the guest's are the same
-pub behind-same : (host host' : List ℕ) (map : Mapping) (disk disk' : List (List ℕ)) (kept kept' : List Bool) → IsBehind host map disk kept
+pub behind-same : (host host' : List ℕ) (map : Mapping) (disk disk' : List (List ℕ)) (kept kept' : List Bool)
+    → IsBehind host map disk kept
     → length host' ≡ length host → length disk' ≡ length disk → length kept' ≡ length kept
     → bytes_at host' 0 4096 ≡ bytes_at host 0 4096 → bytes_at host' 8192 126976 ≡ bytes_at host 8192 126976
     → take 1000 disk' ≡ take 1000 disk → take 1000 kept' ≡ take 1000 kept → IsBehind host' map disk' kept'
@@ -52,14 +53,17 @@ behind-same host host' map disk disk' kept kept' b hosts disks marks list_same o
     }
 
 -- a store leaves what lies apart from it
-pub store-apart : (new memory bytes : List ℕ) (at addr n : ℕ) → new ≡ after_store memory at bytes → at + length bytes ≤ length memory
+pub store-apart : (new memory bytes : List ℕ) (at addr n : ℕ) → new ≡ after_store memory at bytes
+    → at + length bytes ≤ length memory
     → (addr + n ≤ at) ⊎ (at + length bytes ≤ addr) → bytes_at new addr n ≡ bytes_at memory addr n
 store-apart new memory bytes at addr n stored inside apart =
     ap (λ m. bytes_at m addr n) stored ∙ bytes_at-after_store_other memory bytes at addr n (λ some. inside) apart
 
 -- and so does one inside a page
-pub page-apart : (new memory bytes : List ℕ) (at page addr n : ℕ) → new ≡ after_store memory at bytes → at + length bytes ≤ length memory
-    → page ≤ at → at + length bytes ≤ page + 4096 → (addr + n ≤ page) ⊎ (page + 4096 ≤ addr) → bytes_at new addr n ≡ bytes_at memory addr n
+pub page-apart : (new memory bytes : List ℕ) (at page addr n : ℕ) → new ≡ after_store memory at bytes
+    → at + length bytes ≤ length memory
+    → page ≤ at → at + length bytes ≤ page + 4096 → (addr + n ≤ page) ⊎ (page + 4096 ≤ addr)
+    → bytes_at new addr n ≡ bytes_at memory addr n
 page-apart new memory bytes at page addr n stored inside low high apart =
     store-apart new memory bytes at addr n stored inside (elim apart [ inl before ↦ inl (omega (arith, low, before)) | inr behind ↦ inr (omega (arith, high, behind)) ])
 
@@ -74,7 +78,8 @@ zeros-at addr n size inside = ap (take n) (drop-replicate addr size 0) ∙ take-
 -- the parts as they are made
 pub behind-new : (host : List ℕ) (map : Mapping) (disk : List (List ℕ)) (kept : List Bool) (memory_len blocks : ℕ)
     → host ≡ replicate (135168 + memory_len) 0 → map ≡ map_behind (135168 + memory_len)
-    → disk ≡ replicate (1000 + blocks) (replicate 512 0) → kept ≡ replicate (1000 + blocks) false → IsBehind host map disk kept
+    → disk ≡ replicate (1000 + blocks) (replicate 512 0) → kept ≡ replicate (1000 + blocks) false
+    → IsBehind host map disk kept
 behind-new host map disk kept memory_len blocks host_is map_is disk_is kept_is =
     let hosts : length host ≡ 135168 + memory_len = ap length host_is ∙ length-replicate (135168 + memory_len) 0 in
     let disks : length disk ≡ 1000 + blocks = ap length disk_is ∙ length-replicate (1000 + blocks) (replicate 512 0) in

@@ -63,7 +63,8 @@ abbrev dwords_of : (opcode slba nlb : ℕ) → (fua : Bool) → List ℕ
 dwords_of opcode slba nlb fua =
     opcode ∷ 1 ∷ 0 ∷ 0 ∷ 0 ∷ 0 ∷ bounce_page ∷ 0 ∷ 0 ∷ 0 ∷ (slba % 2 ^ 32) ∷ (slba / 2 ^ 32) ∷ (nlb + cond fua (2 ^ 30) 0) ∷ 0 ∷ 0 ∷ 0 ∷ []
 
-dwords_of-fit : (opcode slba nlb : ℕ) (fua : Bool) → opcode < 256 → slba < 2 ^ 64 → nlb < 65536 → FitDwords (dwords_of opcode slba nlb fua)
+dwords_of-fit : (opcode slba nlb : ℕ) (fua : Bool) → opcode < 256 → slba < 2 ^ 64 → nlb < 65536
+    → FitDwords (dwords_of opcode slba nlb fua)
 dwords_of-fit opcode slba nlb fua byte wide fits =
     let low : slba % 2 ^ 32 < 2 ^ 32 = omega arith in
     let high : slba / 2 ^ 32 < 2 ^ 32 = omega arith in

@@ -32,7 +32,8 @@ use Rattle.nv_flat.proofs.VerdictLemmas.{verdict-listed}
 -- ---- its places
 
 -- part of consecutive addresses
-pub take-drop-addresses : (addr len at n : ℕ) → at + n ≤ len → take n (drop at (addresses addr len)) ≡ addresses (addr + at) n
+pub take-drop-addresses : (addr len at n : ℕ) → at + n ≤ len
+    → take n (drop at (addresses addr len)) ≡ addresses (addr + at) n
 take-drop-addresses addr len at n within =
     ap (λ (ps : List Place). take n (drop at ps)) (run-split addr len at (omega arith))
     ∙ ap (take n) (behind (addresses addr at) (addresses (addr + at) (len - at)) at (length-addresses addr at))
@@ -46,7 +47,8 @@ take-drop-addresses addr len at n within =
     front xs ys k many = ap (λ (i : ℕ). take i (xs ++ ys)) (sym many) ∙ take-append_seam xs ys
 
 -- bytes that a buffer of one run gets from one of its places on
-pub scattered-block : (memory : List ℕ) (addr len at : ℕ) (bytes : List ℕ) → addr + len ≤ length memory → length bytes ≡ 512 → at + 512 ≤ len
+pub scattered-block : (memory : List ℕ) (addr len at : ℕ) (bytes : List ℕ) → addr + len ≤ length memory
+    → length bytes ≡ 512 → at + 512 ≤ len
     → byte_in (after_store memory (addr + at) bytes) ≡ scattered (byte_in memory) (drop at (places_of (Run addr len ∷ []))) bytes
 scattered-block memory addr len at bytes inside sized within =
     scattered-run memory (addr + at) bytes (omega arith)
@@ -63,7 +65,8 @@ gathered-block memory addr len at n inside within =
     ∙ ap (λ (ps : List Place). gathered (byte_in memory) (take n (drop at ps))) (sym (append-nil (addresses addr len)))
 
 -- what lies wholly in the memory ends before its end
-pub everywhere-identity : (size addr len : ℕ) → 0 < len → everywhere (mapped (identity_map size).regions) addr len ≡ true → addr + len ≤ size
+pub everywhere-identity : (size addr len : ℕ) → 0 < len
+    → everywhere (mapped (identity_map size).regions) addr len ≡ true → addr + len ≤ size
 unfolding everywhere
 everywhere-identity size addr zero some inside = absurd (omega arith)
 everywhere-identity size addr (suc n) some inside = grind (arith, nat_tests)
@@ -92,9 +95,11 @@ own-mapped mapped dest budget own false e =
     inl (DataTransferError, ap (λ (b : Bool). unless_faulty (first_failing ((not b, DataTransferError) ∷ [])) (read_array mapped dest budget 0 0 false (run (address_of own) (length_of own)))) e)
 
 -- a descriptor of the type of a Data Block, whose subtype is Address or another
-own-kind : (mapped : ℕ → Bool) (dest : Bool) (budget : ℕ) (own : List ℕ) (addressed : Bool) → OwnBlock mapped dest budget own (cond addressed (Some DataBlock) None)
+own-kind : (mapped : ℕ → Bool) (dest : Bool) (budget : ℕ) (own : List ℕ) (addressed : Bool)
+    → OwnBlock mapped dest budget own (cond addressed (Some DataBlock) None)
 unfolding OwnBlock
-own-kind mapped dest budget own true = own-mapped mapped dest budget own (everywhere mapped (address_of own) (length_of own)) refl
+own-kind mapped dest budget own true =
+    own-mapped mapped dest budget own (everywhere mapped (address_of own) (length_of own)) refl
 own-kind mapped dest budget own false = inl (SglTypeInvalid, refl)
 
 -- the reading of a descriptor whose type is that of a Data Block: a fault, or its run
@@ -116,20 +121,23 @@ not-fused false rest e = e
 
 -- the checks of a command whose data pointer is reserved fail
 pointer-checked : (namespace reserved both inside : Bool)
-    → first_failing ((namespace, InvalidNamespace) ∷ (reserved, InvalidField) ∷ (both, InvalidField) ∷ (inside, LbaOutOfRange) ∷ []) ≡ None → reserved ≡ false
+    → first_failing ((namespace, InvalidNamespace) ∷ (reserved, InvalidField) ∷ (both, InvalidField) ∷ (inside, LbaOutOfRange) ∷ []) ≡ None
+    → reserved ≡ false
 pointer-checked true reserved both inside e = (cc)
 pointer-checked false true both inside e = (cc)
 pointer-checked false false both inside e = refl
 
 -- what PSDT announces where it is neither that of PRPs nor reserved
-pointer-other : (prp reserved : Bool) → not prp ≡ true → reserved ≡ false → cond prp Prp (cond reserved Reserved Sgl) ≡ Sgl
+pointer-other : (prp reserved : Bool) → not prp ≡ true → reserved ≡ false
+    → cond prp Prp (cond reserved Reserved Sgl) ≡ Sgl
 pointer-other true reserved other free = (cc)
 pointer-other false true other free = (cc)
 pointer-other false false other free = refl
 
 -- a command with a buffer that its fields do not refuse, and that does not use PRPs, uses an SGL
 pub uses-sgl : (blocks : ℕ) (entry : List ℕ) (opcode : IoOpcode) → field_refusal blocks entry ≡ None
-    → io_opcode (opcode_of entry) ≡ Some opcode → has_buffer opcode ≡ true → not (psdt_of entry == 0) ≡ true → data_pointer (psdt_of entry) ≡ Sgl
+    → io_opcode (opcode_of entry) ≡ Some opcode → has_buffer opcode ≡ true → not (psdt_of entry == 0) ≡ true
+    → data_pointer (psdt_of entry) ≡ Sgl
 uses-sgl blocks entry opcode none known buffer other =
     let checked = not-fused (not (fuse_of entry == 0)) (refusal_by_opcode blocks entry (io_opcode (opcode_of entry))) none in
     let P : Option IoOpcode → Type 0 = λ o. refusal_by_opcode blocks entry o ≡ None in
@@ -142,7 +150,8 @@ uses-sgl blocks entry opcode none known buffer other =
 
 -- the verdict on a command whose list is an SGL
 pub verdict-sgl : (shape : Shape) (memory : ℕ → ℕ) (entry : List ℕ) (opcode : IoOpcode) (reading : Reading)
-    → field_refusal shape.blocks entry ≡ None → io_opcode (opcode_of entry) ≡ Some opcode → has_buffer opcode ≡ true → data_pointer (psdt_of entry) ≡ Sgl
+    → field_refusal shape.blocks entry ≡ None → io_opcode (opcode_of entry) ≡ Some opcode → has_buffer opcode ≡ true
+    → data_pointer (psdt_of entry) ≡ Sgl
     → in_memory memory (and_then (read_sgl shape.mapped (is_read opcode) shape.limit (sgl_of entry)) (λ r. End (sized (transfer_len opcode entry) r))) ≡ reading
     → verdict_in shape memory entry ≡ in_memory memory (judge_reading shape.blocks entry opcode reading)
 verdict-sgl shape memory entry opcode reading none known buffer pointer read =

@@ -35,7 +35,8 @@ get_or-bytes_from m a (suc n) zero below = ap m (omega arith)
 get_or-bytes_from m a (suc n) (suc i) below = get_or-bytes_from m (suc a) n i (omega arith) ∙ ap m (omega arith)
 
 -- bytes that agree one by one
-bytes_from-alike : (f g : ℕ → ℕ) (a b n : ℕ) → ((i : ℕ) → i < n → f (a + i) ≡ g (b + i)) → bytes_from f a n ≡ bytes_from g b n
+bytes_from-alike : (f g : ℕ → ℕ) (a b n : ℕ) → ((i : ℕ) → i < n → f (a + i) ≡ g (b + i))
+    → bytes_from f a n ≡ bytes_from g b n
 unfolding bytes_from
 bytes_from-alike f g a b zero alike = refl
 bytes_from-alike f g a b (suc n) alike =
@@ -44,24 +45,29 @@ bytes_from-alike f g a b (suc n) alike =
     ap (λ (x : ℕ). x ∷ bytes_from f (suc a) n) here ∙ ap (λ (xs : List ℕ). g b ∷ xs) rest
 
 -- a byte that was stored, and one that was not
-stored-there : (m : ℕ → ℕ) (addr : ℕ) (bytes : List ℕ) (at i : ℕ) → at ≡ addr + i → i < length bytes → stored m addr bytes at ≡ slice_index bytes i
+stored-there : (m : ℕ → ℕ) (addr : ℕ) (bytes : List ℕ) (at i : ℕ) → at ≡ addr + i → i < length bytes
+    → stored m addr bytes at ≡ slice_index bytes i
 unfolding stored
 stored-there m addr bytes at i e below =
     let same : at - addr ≡ i = omega arith in
     let byte = ap (λ (n : ℕ). slice_index bytes n) same in
     grind (arith, nat_tests, byte)
 
-stored-elsewhere : (m : ℕ → ℕ) (addr : ℕ) (bytes : List ℕ) (at : ℕ) → (at < addr) ⊎ (addr + length bytes ≤ at) → stored m addr bytes at ≡ m at
+stored-elsewhere : (m : ℕ → ℕ) (addr : ℕ) (bytes : List ℕ) (at : ℕ) → (at < addr) ⊎ (addr + length bytes ≤ at)
+    → stored m addr bytes at ≡ m at
 unfolding stored
 stored-elsewhere m addr bytes at other =
     elim other [ inl low ↦ grind (arith, nat_tests) | inr behind ↦ grind (arith, nat_tests) ]
 
 -- a byte that was copied, and one that was not
-copied-there : (m : ℕ → ℕ) (from to n at i : ℕ) → at ≡ to + i → i < n → stored m to (bytes_from m from n) at ≡ m (from + i)
+copied-there : (m : ℕ → ℕ) (from to n at i : ℕ) → at ≡ to + i → i < n
+    → stored m to (bytes_from m from n) at ≡ m (from + i)
 copied-there m from to n at i e below =
-    stored-there m to (bytes_from m from n) at i e (omega (arith, length-bytes_from m from n)) ∙ get_or-bytes_from m from n i below
+    stored-there m to (bytes_from m from n) at i e (omega (arith, length-bytes_from m from n))
+    ∙ get_or-bytes_from m from n i below
 
-copied-elsewhere : (m : ℕ → ℕ) (from to n at : ℕ) → (at < to) ⊎ (to + n ≤ at) → stored m to (bytes_from m from n) at ≡ m at
+copied-elsewhere : (m : ℕ → ℕ) (from to n at : ℕ) → (at < to) ⊎ (to + n ≤ at)
+    → stored m to (bytes_from m from n) at ≡ m at
 copied-elsewhere m from to n at other =
     let sized = length-bytes_from m from n in
     stored-elsewhere m to (bytes_from m from n) at (elim other [ inl low ↦ inl low | inr behind ↦ inr (omega (arith, sized)) ])
@@ -113,8 +119,10 @@ moved_of-copied host disk kept differed from to n source destination =
 eqb-shift : (base a b : ℕ) → (base + a == base + b) ≡ (a == b)
 eqb-shift base a b = elim (cases_eq a b) [ inl same ↦ grind (arith, nat_tests) | inr other ↦ grind (arith, nat_tests) ]
 
-marked-behind : (kept : ℕ → Bool) (base lba : ℕ) (mark : Bool) → (λ (l : ℕ). marked kept (base + lba) mark (base + l)) ≡ marked (λ (l : ℕ). kept (base + l)) lba mark
-marked-behind kept base lba mark = fun_ext (λ l. ap (λ (b : Bool). cond b mark (kept (base + l))) (eqb-shift base l lba))
+marked-behind : (kept : ℕ → Bool) (base lba : ℕ) (mark : Bool)
+    → (λ (l : ℕ). marked kept (base + lba) mark (base + l)) ≡ marked (λ (l : ℕ). kept (base + l)) lba mark
+marked-behind kept base lba mark =
+    fun_ext (λ l. ap (λ (b : Bool). cond b mark (kept (base + l))) (eqb-shift base l lba))
 
 written-behind : (disk : ℕ → ℕ → ℕ) (base lba : ℕ) (bytes : List ℕ)
     → (λ (l : ℕ). block_written disk (base + lba) bytes (base + l)) ≡ block_written (λ (l : ℕ). disk (base + l)) lba bytes
@@ -122,9 +130,11 @@ written-behind disk base lba bytes =
     fun_ext (λ l. fun_ext (λ at. ap (λ (b : Bool). cond b (stored (λ _. 0) 0 bytes at) (disk (base + l) at)) (eqb-shift base l lba)))
 
 -- where a block of a run lies
-unit-places : (addr len k : ℕ) → 512 * k + 512 ≤ len → take 512 (drop (512 * k) (places_of (Run addr len ∷ []))) ≡ addresses (addr + 512 * k) 512
+unit-places : (addr len k : ℕ) → 512 * k + 512 ≤ len
+    → take 512 (drop (512 * k) (places_of (Run addr len ∷ []))) ≡ addresses (addr + 512 * k) 512
 unit-places addr len k within =
-    ap (λ (ps : List Place). take 512 (drop (512 * k) ps)) (append-nil (addresses addr len)) ∙ take-drop-addresses addr len (512 * k) 512 within
+    ap (λ (ps : List Place). take 512 (drop (512 * k) ps)) (append-nil (addresses addr len))
+    ∙ take-drop-addresses addr len (512 * k) 512 within
 
 unit-scattered : (m : ℕ → ℕ) (addr len k : ℕ) (bytes : List ℕ) → length bytes ≡ 512 → 512 * k + 512 ≤ len
     → scattered m (take 512 (drop (512 * k) (places_of (Run addr len ∷ [])))) bytes ≡ stored m (addr + 512 * k) bytes
@@ -141,7 +151,8 @@ unit-gathered m addr len k within =
 -- ---- a Read: the blocks move to the page, and the page's bytes are copied behind them
 
 -- one more block on the page is one more block of the copy
-read_step-at : (m : ℕ → ℕ) (offset page addr k : ℕ) (bytes : List ℕ) → length bytes ≡ 512 → page + 512 * (k + 1) ≤ offset → (a : ℕ)
+read_step-at : (m : ℕ → ℕ) (offset page addr k : ℕ) (bytes : List ℕ) → length bytes ≡ 512
+    → page + 512 * (k + 1) ≤ offset → (a : ℕ)
     → stored (stored m (page + 512 * k) bytes) (offset + addr) (bytes_from (stored m (page + 512 * k) bytes) page (512 * (k + 1))) (offset + a)
     ≡ stored (λ x. stored m (offset + addr) (bytes_from m page (512 * k)) (offset + x)) (addr + 512 * k) bytes a
 read_step-at m offset page addr k bytes sized room a =
@@ -177,7 +188,8 @@ read_step-at m offset page addr k bytes sized room a =
 abbrev pub run_work : IoOpcode → (addr len : ℕ) → (fua : Bool) → Work
 run_work opcode addr len fua = block_work opcode (Run addr len ∷ []) fua
 
-read-step : (offset base page addr len k lba : ℕ) (fua : Bool) (m : Moved) → page + 4096 ≤ offset → k < 8 → 512 * k + 512 ≤ len
+read-step : (offset base page addr len k lba : ℕ) (fua : Bool) (m : Moved) → page + 4096 ≤ offset → k < 8
+    → 512 * k + 512 ≤ len
     → behind offset base (copied page (offset + addr) (512 * (k + 1)) (moved_on (MoveBlock k (base + lba)) (run_work Read page 4096 fua) m))
     ≡ moved_on (MoveBlock k lba) (run_work Read addr len fua) (behind offset base (copied page (offset + addr) (512 * k) m))
 read-step offset base page addr len k lba fua m room below within =
@@ -193,7 +205,8 @@ read-step offset base page addr len k lba fua m room below within =
     refl
     (marked-behind m.kept base lba (m.kept (base + lba) || fua))
 
-reads-from : (offset base page addr len k lba n : ℕ) (fua : Bool) (m : Moved) → page + 4096 ≤ offset → k + n ≤ 8 → 512 * (k + n) ≤ len
+reads-from : (offset base page addr len k lba n : ℕ) (fua : Bool) (m : Moved) → page + 4096 ≤ offset → k + n ≤ 8
+    → 512 * (k + n) ≤ len
     → behind offset base (copied page (offset + addr) (512 * (k + n)) (units_moved (units_from k (base + lba) n) (run_work Read page 4096 fua) m))
     ≡ units_moved (units_from k lba n) (run_work Read addr len fua) (behind offset base (copied page (offset + addr) (512 * k) m))
 unfolding units_from units_moved
@@ -210,7 +223,8 @@ reads-from offset base page addr len k lba (suc n) fua m room below within =
     ∙ ap (units_moved (units_from (k + 1) (lba + 1) n) (run_work Read addr len fua)) (read-step offset base page addr len k lba fua m room (omega arith) (omega arith))
 
 -- a Read through the page is the guest's own
-pub reads-through : (offset base page addr len lba n : ℕ) (fua : Bool) (m : Moved) → page + 4096 ≤ offset → n ≤ 8 → 512 * n ≤ len
+pub reads-through : (offset base page addr len lba n : ℕ) (fua : Bool) (m : Moved) → page + 4096 ≤ offset → n ≤ 8
+    → 512 * n ≤ len
     → behind offset base (copied page (offset + addr) (512 * n) (units_moved (units_from 0 (base + lba) n) (run_work Read page 4096 fua) m))
     ≡ units_moved (units_from 0 lba n) (run_work Read addr len fua) (behind offset base m)
 unfolding bytes_from
@@ -254,12 +268,14 @@ writes-from offset base page addr len k lba (suc n) fua m below within alike =
     ∙ ap (units_moved (units_from (k + 1) (lba + 1) n) (run_work Write addr len fua)) (write-step offset base page addr len k lba fua m (omega arith) (omega arith) here)
 
 -- bytes copied before the offset are not seen
-behind-copied : (offset base page from n : ℕ) (m : Moved) → page + n ≤ offset → behind offset base (copied from page n m) ≡ behind offset base m
+behind-copied : (offset base page from n : ℕ) (m : Moved) → page + n ≤ offset
+    → behind offset base (copied from page n m) ≡ behind offset base m
 behind-copied offset base page from n m room =
     same-moved _ _ _ _ _ _ m.differed (fun_ext (λ a. copied-elsewhere m.memory from page n (offset + a) (inr (omega arith)))) refl refl
 
 -- a Write through the page is the guest's own
-pub writes-through : (offset base page addr len lba n : ℕ) (fua : Bool) (m : Moved) → page + 4096 ≤ offset → n ≤ 8 → 512 * n ≤ len
+pub writes-through : (offset base page addr len lba n : ℕ) (fua : Bool) (m : Moved) → page + 4096 ≤ offset → n ≤ 8
+    → 512 * n ≤ len
     → behind offset base (units_moved (units_from 0 (base + lba) n) (run_work Write page 4096 fua) (copied (offset + addr) page (512 * n) m))
     ≡ units_moved (units_from 0 lba n) (run_work Write addr len fua) (behind offset base m)
 writes-through offset base page addr len lba n fua m room below within =

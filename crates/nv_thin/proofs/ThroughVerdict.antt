@@ -44,7 +44,8 @@ own_reading f entry need =
     (and_then (read_sgl (mapped (identity_map (length f.memory)).regions) need.dest 1024 (sgl_of entry)) (λ reading. End (sized need.bytes reading)))
 
 -- a command that its fields refuse
-pub done-refused : (f : Flat) (entry : List ℕ) (st : StatusField) → field_verdict (length f.disk) entry ≡ Err st → IsDone goes_through f entry st f
+pub done-refused : (f : Flat) (entry : List ℕ) (st : StatusField) → field_verdict (length f.disk) entry ≡ Err st
+    → IsDone goes_through f entry st f
 done-refused f entry st e =
     let r = field_verdict-err (length f.disk) entry st e in
     let verdict = verdict-refused (shape_of f) (byte_in f.memory) entry r.0 r.1 ∙ ap Refuse (sym r.2) in
@@ -70,7 +71,8 @@ both-true true false e = (cc)
 both-true false true e = (cc)
 both-true false false e = (cc)
 
-pub transfer-of : (f : Flat) (entry : List ℕ) (need : Need) → field_verdict (length f.disk) entry ≡ Ok need → goes_through entry ≡ true
+pub transfer-of : (f : Flat) (entry : List ℕ) (need : Need) → field_verdict (length f.disk) entry ≡ Ok need
+    → goes_through entry ≡ true
     → (opcode : IoOpcode) × IsTransfer f entry need opcode
 transfer-of f entry need verdict built =
     let ok = field_verdict-ok (length f.disk) entry need verdict in
@@ -91,7 +93,8 @@ transfer-of f entry need verdict built =
     )
 
 -- a Read or Write has a buffer and blocks
-pub buffered : (opcode : IoOpcode) → is_read_or_write (Some opcode) ≡ true → (has_buffer opcode ≡ true) × (has_blocks opcode ≡ true)
+pub buffered : (opcode : IoOpcode) → is_read_or_write (Some opcode) ≡ true
+    → (has_buffer opcode ≡ true) × (has_blocks opcode ≡ true)
 buffered Read e = (refl, refl)
 buffered Write e = (refl, refl)
 buffered Flush e = (cc)
@@ -100,7 +103,8 @@ buffered WriteZeroes e = (cc)
 buffered DatasetManagement e = (cc)
 
 -- the verdict on it, once its list is read
-transfer-verdict : (f : Flat) (entry : List ℕ) (need : Need) (opcode : IoOpcode) (reading : Reading) → IsTransfer f entry need opcode
+transfer-verdict : (f : Flat) (entry : List ℕ) (need : Need) (opcode : IoOpcode) (reading : Reading)
+    → IsTransfer f entry need opcode
     → own_reading f entry need ≡ reading
     → verdict_in (shape_of f) (byte_in f.memory) entry ≡ in_memory (byte_in f.memory) (judge_reading (length f.disk) entry opcode reading)
 transfer-verdict f entry need opcode reading t read =
@@ -121,7 +125,8 @@ done-faulty f entry need code st verdict built read status =
     subst P (sym built) (outcome-built (not (is_none (field_refusal (length f.disk) entry))) f f entry st (refused-run f entry st refused))
 
 -- the work of a Read or Write
-goes-with : (f : Flat) (entry : List ℕ) (opcode : IoOpcode) (pieces : List Piece) → is_read_or_write (Some opcode) ≡ true
+goes-with : (f : Flat) (entry : List ℕ) (opcode : IoOpcode) (pieces : List Piece)
+    → is_read_or_write (Some opcode) ≡ true
     → in_memory (byte_in f.memory) (judge_reading (length f.disk) entry opcode (Spells pieces)) ≡ Go (work_of (length f.disk) opcode entry pieces [])
 unfolding in_memory
 goes-with f entry Read pieces t = refl
@@ -132,7 +137,8 @@ goes-with f entry Flush pieces t = (cc)
 goes-with f entry DatasetManagement pieces t = (cc)
 
 -- the units of a Read or Write, in order
-transferred : (blocks : ℕ) (entry : List ℕ) (opcode : IoOpcode) (pieces : List Piece) (m : Moved) → is_read_or_write (Some opcode) ≡ true
+transferred : (blocks : ℕ) (entry : List ℕ) (opcode : IoOpcode) (pieces : List Piece) (m : Moved)
+    → is_read_or_write (Some opcode) ≡ true
     → units_moved (work_of blocks opcode entry pieces []).units (work_of blocks opcode entry pieces []) m
     ≡ units_moved (units_from 0 (slba_of entry) (count_of entry)) (block_work (cond (is_read opcode) Read Write) pieces (has_blocks opcode && fua_of entry == 1)) m
 transferred blocks entry Read pieces m t = units_moved-transfer blocks Read entry pieces m refl
@@ -143,7 +149,8 @@ transferred blocks entry WriteZeroes pieces m t = (cc)
 transferred blocks entry DatasetManagement pieces m t = (cc)
 
 -- the blocks that a Read or Write needs
-blocks-needed : (entry : List ℕ) (opcode : IoOpcode) → is_read_or_write (Some opcode) ≡ true → (need_of entry opcode).blocks ≡ count_of entry
+blocks-needed : (entry : List ℕ) (opcode : IoOpcode) → is_read_or_write (Some opcode) ≡ true
+    → (need_of entry opcode).blocks ≡ count_of entry
 blocks-needed entry Read t = refl
 blocks-needed entry Write t = refl
 blocks-needed entry Flush t = (cc)
@@ -184,8 +191,10 @@ record IsSized (a l bytes addr len : ℕ) : Type 0 where
   transfer : l ≡ bytes
 
 -- where the bytes are none, or another number than the transfer's, they spell no run
-sized-run_by : (none sized_so : Bool) (a l bytes addr len : ℕ) → (l == 0) ≡ none → (total_len (cond none [] (piece.Run a l ∷ [])) == bytes) ≡ sized_so
-    → cond sized_so (Spells (cond none [] (piece.Run a l ∷ []))) (Faulty SglLengthInvalid) ≡ Spells (piece.Run addr len ∷ []) → IsSized a l bytes addr len
+sized-run_by : (none sized_so : Bool) (a l bytes addr len : ℕ) → (l == 0) ≡ none
+    → (total_len (cond none [] (piece.Run a l ∷ [])) == bytes) ≡ sized_so
+    → cond sized_so (Spells (cond none [] (piece.Run a l ∷ []))) (Faulty SglLengthInvalid) ≡ Spells (piece.Run addr len ∷ [])
+    → IsSized a l bytes addr len
 sized-run_by true true a l bytes addr len is_none is_sized e = (cc)
 sized-run_by none false a l bytes addr len is_none is_sized e = (cc)
 sized-run_by false true a l bytes addr len is_none is_sized e =
@@ -197,7 +206,8 @@ sized-run_by false true a l bytes addr len is_none is_sized e =
       transfer = grind (arith, nat_tests);
     }
 
-sized-run : (a l bytes addr len : ℕ) → sized bytes (Spells (run a l)) ≡ Spells (piece.Run addr len ∷ []) → IsSized a l bytes addr len
+sized-run : (a l bytes addr len : ℕ) → sized bytes (Spells (run a l)) ≡ Spells (piece.Run addr len ∷ [])
+    → IsSized a l bytes addr len
 sized-run a l bytes addr len e = sized-run_by (l == 0) (total_len (run a l) == bytes) a l bytes addr len refl refl e
 
 -- what a Read or Write needs
@@ -257,7 +267,8 @@ sized-ends_by : (none sized_so : Bool) (own : List ℕ) (bytes : ℕ) → 0 < by
     → OwnEnds (End (cond sized_so (Spells (cond none [] (piece.Run (address_of own) (length_of own) ∷ []))) (Faulty SglLengthInvalid))) own
 unfolding OwnEnds
 sized-ends_by none false own bytes some is_none is_sized = inl (SglLengthInvalid, refl)
-sized-ends_by true true own bytes some is_none is_sized = absurd (let same : 0 ≡ bytes = grind (arith, nat_tests) in omega arith)
+sized-ends_by true true own bytes some is_none is_sized =
+    absurd (let same : 0 ≡ bytes = grind (arith, nat_tests) in omega arith)
 sized-ends_by false true own bytes some is_none is_sized = inr refl
 
 pub own-ends : (mapped : ℕ → Bool) (dest : Bool) (own : List ℕ) (bytes : ℕ) → type_of own ≡ 0 → 0 < bytes
@@ -274,20 +285,23 @@ own-ends mapped dest own bytes block some =
     ]
 
 -- a command that is built transfers some bytes
-pub some-bytes : (f : Flat) (entry : List ℕ) (need : Need) → field_verdict (length f.disk) entry ≡ Ok need → goes_through entry ≡ true → 0 < need.bytes
+pub some-bytes : (f : Flat) (entry : List ℕ) (need : Need) → field_verdict (length f.disk) entry ≡ Ok need
+    → goes_through entry ≡ true → 0 < need.bytes
 some-bytes f entry need verdict built =
     let t = transfer-of f entry need verdict built in
     let bytes : need.bytes ≡ 512 * count_of entry = ap (λ (n : Need). n.bytes) t.1.needs ∙ (transfer-needs entry t.0 t.1.transfers).1 in
     omega (arith, bytes)
 
 -- the type of its own descriptor is that of a Data Block
-pub own-type : (f : Flat) (entry : List ℕ) (need : Need) → field_verdict (length f.disk) entry ≡ Ok need → goes_through entry ≡ true → type_of (sgl_of entry) ≡ 0
+pub own-type : (f : Flat) (entry : List ℕ) (need : Need) → field_verdict (length f.disk) entry ≡ Ok need
+    → goes_through entry ≡ true → type_of (sgl_of entry) ≡ 0
 own-type f entry need verdict built = (transfer-of f entry need verdict built).1.own
 
 -- ---- what a parse of it says
 
 -- a fault
-pub ends-fault : (m : ℕ → ℕ) (d : Dialogue Reading) (own : List ℕ) (st : StatusField) → OwnEnds d own → want_of d ≡ want.Fault st
+pub ends-fault : (m : ℕ → ℕ) (d : Dialogue Reading) (own : List ℕ) (st : StatusField) → OwnEnds d own
+    → want_of d ≡ want.Fault st
     → (code : StatusCode) × ((in_memory m d ≡ Faulty code) × (st ≡ refused_with code))
 unfolding OwnEnds in_memory
 ends-fault m d own st ends wanted =
@@ -324,10 +338,12 @@ ends-otherwise d own wanted ends is other =
 
 -- the dialogue that a parse of a command's own descriptor leads
 abbrev pub own_dialogue : (dest : Bool) → Mapping → List ℕ → (bytes : ℕ) → Dialogue Reading
-own_dialogue dest map own bytes = and_then (read_sgl (mapped map.regions) dest 1024 own) (λ reading. End (sized bytes reading))
+own_dialogue dest map own bytes =
+    and_then (read_sgl (mapped map.regions) dest 1024 own) (λ reading. End (sized bytes reading))
 
 -- the same map, descriptor and length make the same dialogue
-pub same-dialogue : (dest : Bool) (m n : Mapping) (own d : List ℕ) (bytes b : ℕ) → m ≡ n → own ≡ d → bytes ≡ b → own_dialogue dest m own bytes ≡ own_dialogue dest n d b
+pub same-dialogue : (dest : Bool) (m n : Mapping) (own d : List ℕ) (bytes b : ℕ) → m ≡ n → own ≡ d → bytes ≡ b
+    → own_dialogue dest m own bytes ≡ own_dialogue dest n d b
 same-dialogue dest m n own d bytes b same_map same_own same_bytes =
     ap (λ (x : Mapping). own_dialogue dest x own bytes) same_map
     ∙ ap (λ (x : List ℕ). own_dialogue dest n x bytes) same_own
@@ -340,7 +356,8 @@ mapped-some : (b : Bool) (x y : ℕ) → is_some (cond b (Some x) None) ≡ is_s
 mapped-some true x y = refl
 mapped-some false x y = refl
 
-mapped-behind : (size len : ℕ) → size - 135168 ≡ len → mapped (map_behind size).regions ≡ mapped (identity_map len).regions
+mapped-behind : (size len : ℕ) → size - 135168 ≡ len
+    → mapped (map_behind size).regions ≡ mapped (identity_map len).regions
 mapped-behind size len e =
     ap (λ (n : ℕ). mapped (record { guest = 0; host = 135168; len = n } ∷ [])) e
     ∙ fun_ext (λ addr. mapped-some (nat_le 0 addr && nat_lt addr (0 + len)) (135168 + (addr - 0)) (0 + (addr - 0)))
@@ -356,7 +373,8 @@ dialogue-behind dest map size len own d bytes b same_map room same_own same_byte
 -- ---- a command that does not go, and the place of one that does
 
 pub done-not_through : (f : Flat) (entry : List ℕ) (need : Need) (st : StatusField)
-    → field_verdict (length f.disk) entry ≡ Ok need → goes_through entry ≡ false → st ≡ done_with InternalError → IsDone goes_through f entry st f
+    → field_verdict (length f.disk) entry ≡ Ok need → goes_through entry ≡ false → st ≡ done_with InternalError
+    → IsDone goes_through f entry st f
 done-not_through f entry need st verdict other status =
     let none = (field_verdict-ok (length f.disk) entry need verdict).0 in
     let P : Bool → Type 0 = λ b. IsOutcome b (not (is_none (field_refusal (length f.disk) entry))) f entry st f in
@@ -368,7 +386,8 @@ pub record IsCounted (entry : List ℕ) (need : Need) : Type 0 where
   pub count : need.blocks ≡ count_of entry
   pub few : need.blocks ≤ 8
 
-pub counted : (f : Flat) (entry : List ℕ) (need : Need) → field_verdict (length f.disk) entry ≡ Ok need → goes_through entry ≡ true → IsCounted entry need
+pub counted : (f : Flat) (entry : List ℕ) (need : Need) → field_verdict (length f.disk) entry ≡ Ok need
+    → goes_through entry ≡ true → IsCounted entry need
 counted f entry need verdict built =
     let t = transfer-of f entry need verdict built in
     let count : need.blocks ≡ count_of entry = ap (λ (n : Need). n.blocks) t.1.needs ∙ (transfer-needs entry t.0 t.1.transfers).0 in
@@ -377,7 +396,8 @@ counted f entry need verdict built =
 -- its range lies in the namespace, so it is translated
 pub translated-through : (ns : Extent) (f : Flat) (entry : List ℕ) (need : Need) (slba count : ℕ)
     → ns ≡ record { base = 1000; blocks = length f.disk } → slba ≡ slba_of entry → count ≡ need.blocks
-    → field_verdict (length f.disk) entry ≡ Ok need → goes_through entry ≡ true → translated ns slba count ≡ Some (1000 + slba_of entry)
+    → field_verdict (length f.disk) entry ≡ Ok need → goes_through entry ≡ true
+    → translated ns slba count ≡ Some (1000 + slba_of entry)
 translated-through ns f entry need slba count same_ns same_slba same_count verdict built =
     let t = transfer-of f entry need verdict built in
     let range = in-namespace (length f.disk) entry t.0 t.1.unrefused t.1.known (buffered t.0 t.1.transfers).1 in

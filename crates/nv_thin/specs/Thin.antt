@@ -11,6 +11,7 @@ use Rattle.nv_mem.specs.GuestMap.{Mapping}
 use Rattle.nv_mem.specs.declared.piece.Piece.TheVariants.{Run}
 use Rattle.nv_model.specs.Carried.{block_work, units_from, units_moved}
 use Rattle.nv_model.specs.Judge.{count_of}
+use Rattle.nv_model.specs.Limits.{block as block_size, page as page_size}
 use Rattle.nv_model.specs.Memory.{bytes_from, stored}
 use Rattle.nv_model.specs.Private.{Moved}
 use Rattle.nv_flat.specs.One.{is_plain}
@@ -54,8 +55,8 @@ pub record IsBehind (host : List ℕ) (map : Mapping) (disk : List (List ℕ)) (
   pub range : first_block ≤ length disk
   pub marked : length kept ≡ length disk
   pub list_page : bytes_at host 0 bounce_page ≡ replicate bounce_page 0
-  pub other_pages : bytes_at host (bounce_page + 4096) 126976 ≡ replicate 126976 0
-  pub blocks_before : take first_block disk ≡ replicate first_block (replicate 512 0)
+  pub other_pages : bytes_at host (bounce_page + page_size) (guest_start - (bounce_page + page_size)) ≡ replicate (guest_start - (bounce_page + page_size)) 0
+  pub blocks_before : take first_block disk ≡ replicate first_block (replicate block_size 0)
   pub marks_before : take first_block kept ≡ replicate first_block false
 
 -- `count` bytes copied from one address of a memory to another
@@ -92,9 +93,9 @@ pub record IsPhysical (opcode : IoOpcode) (slba count : ℕ) (fua : Bool) (entry
 -- what the disk does of an entry whose page is at PRP1: the blocks that it names move between the disk and the page, in order
 abbrev pub carried : Option IoOpcode → List ℕ → Moved → Moved
 carried (Some Read) entry m =
-    units_moved (units_from 0 (slba_of entry) (count_of entry)) (block_work Read (Run (prp1_of entry) 4096 ∷ []) (fua_of entry == 1)) m
+    units_moved (units_from 0 (slba_of entry) (count_of entry)) (block_work Read (Run (prp1_of entry) page_size ∷ []) (fua_of entry == 1)) m
 carried (Some Write) entry m =
-    units_moved (units_from 0 (slba_of entry) (count_of entry)) (block_work Write (Run (prp1_of entry) 4096 ∷ []) (fua_of entry == 1)) m
+    units_moved (units_from 0 (slba_of entry) (count_of entry)) (block_work Write (Run (prp1_of entry) page_size ∷ []) (fua_of entry == 1)) m
 carried (Some Compare) entry m = m
 carried (Some WriteZeroes) entry m = m
 carried (Some Flush) entry m = m

@@ -5,6 +5,7 @@
 //! show it: [`Thin`] meets the promise of [`One`] that the flat controller meets.
 
 ghost use Rattle.std.specs.Prelude.{◌≡◌, ◌+◌, ◌%◌, ◌^◌, ◌<◌, length, replicate, false, IfOk};
+ghost use Rattle.nv_model.specs.Limits.{block as block_size, page as page_size};
 ghost use Rattle.nv_thin.specs.Thin.{goes_through, guest_start, map_behind};
 
 mod bounce;
@@ -13,10 +14,10 @@ mod physical;
 #[cfg(test)]
 mod scripts;
 
-use crate::thin::physical::BLOCK;
 use nv_entry::{Cqe, Sqe};
 use nv_flat::{FlatController, One};
 use nv_mem::{GuestMap, Host, NoMemory, Region};
+use nv_model::limits::BLOCK_SIZE;
 use std::alloc::Global;
 use std::marker::Model;
 
@@ -31,7 +32,7 @@ const FIRST_BLOCK: u64 = 1_000;
 pub struct Thin {
     host: Host,
     map: GuestMap,
-    disk: Vec<[u8; BLOCK]>,
+    disk: Vec<[u8; BLOCK_SIZE]>,
     kept: Vec<bool>,
 }
 
@@ -98,10 +99,10 @@ impl One for Thin {
 
     fn paint(&mut self, block: u64, byte: u8) {
         let _size = self.disk.len();
-        self.disk[(FIRST_BLOCK + block) as usize] = [byte; BLOCK];
+        self.disk[(FIRST_BLOCK + block) as usize] = [byte; BLOCK_SIZE];
     }
 
-    fn block(&self, block: u64) -> &[u8; 512] {
+    fn block(&self, block: u64) -> &[u8; BLOCK_SIZE] {
         let _size = self.disk.len();
         &self.disk[(FIRST_BLOCK + block) as usize]
     }
@@ -121,9 +122,9 @@ impl One for Thin {
     }
 }
 
-/// The map of a guest with so much memory.
+// The map of a guest with so much memory.
 fn map_behind(alloc: Global, memory_len: u64) -> Result<GuestMap, NoMemory>
-    requires pages { memory_len % 4096 ≡ 0 }
+    requires pages { memory_len % page_size ≡ 0 }
     requires some { 0 < memory_len }
     requires fits { memory_len < 2 ^ 63 }
     ensures { IfOk result (λ map. map ≡ map_behind (guest_start + memory_len)) }
@@ -139,18 +140,18 @@ fn map_behind(alloc: Global, memory_len: u64) -> Result<GuestMap, NoMemory>
     }
 }
 
-/// Blocks of zeros.
-fn zero_blocks(alloc: Global, blocks: usize) -> Result<Vec<[u8; BLOCK]>, NoMemory>
-    ensures { IfOk result (λ disk. disk.items ≡ replicate blocks (replicate 512 0)) }
+// Blocks of zeros.
+fn zero_blocks(alloc: Global, blocks: usize) -> Result<Vec<[u8; BLOCK_SIZE]>, NoMemory>
+    ensures { IfOk result (λ disk. disk.items ≡ replicate blocks (replicate block_size 0)) }
 {
     let mut disk = Vec::with_capacity(alloc, blocks)?;
     for _block in 0..blocks {
-        disk.push([0; BLOCK])?;
+        disk.push([0; BLOCK_SIZE])?;
     }
     Ok(disk)
 }
 
-/// Marks that are clear.
+// Marks that are clear.
 fn clear_marks(alloc: Global, blocks: usize) -> Result<Vec<bool>, NoMemory>
     ensures { IfOk result (λ kept. kept.items ≡ replicate blocks false) }
 {

@@ -32,7 +32,7 @@ const KIND: &str = "KIND";
 
 const HEX: &str = "HEX";
 
-/// The subcommands and their arguments.
+// The subcommands and their arguments.
 fn grammar<'a>(alloc: Global) -> Result<clap::Command<'a>, AllocError> {
     plain(alloc, "nvmed")
         .no_binary_name(true)
@@ -42,20 +42,21 @@ fn grammar<'a>(alloc: Global) -> Result<clap::Command<'a>, AllocError> {
         .subcommand(plain(alloc, ONCE))
 }
 
+// What stands behind `decode`.
 fn decode_grammar<'a>(alloc: Global) -> Result<clap::Command<'a>, AllocError> {
     plain(alloc, DECODE)
         .arg(Arg::new(alloc, KIND).required(true))?
         .arg(Arg::new(alloc, HEX).required(true))
 }
 
-/// A command of this name with no flags of its own.
+// A command of this name with no flags of its own.
 fn plain<'a>(alloc: Global, name: &'a str) -> clap::Command<'a> {
     clap::Command::new(alloc, name)
         .disable_help_flag(true)
         .disable_version_flag(true)
 }
 
-/// The command of what stands behind `decode`, or `None` where its KIND is none.
+// The command of what stands behind `decode`, or `None` where its KIND is none.
 fn decode_command<'a>(found: &ArgMatches<'a>) -> Option<Command<'a>> {
     let kind = EntryKind::named(found.get_str(KIND)?)?;
     let digits = found.get_str(HEX)?;

@@ -154,7 +154,7 @@ const CASES: &[Case] = &[
     },
 ];
 
-/// A prepared controller whose memory holds these bytes.
+// A prepared controller whose memory holds these bytes.
 fn holding(
     rt: &impl Abort,
     alloc: Global,
@@ -238,7 +238,7 @@ fn refuses_without_a_move(rt: HostRuntime) -> Result<(), Fail> {
     check(&rt, rt.alloc(), REFUSED)
 }
 
-/// Block 5 is kept or not, and all others are kept.
+// Block 5 is kept or not, and all others are kept.
 fn others_are_kept(rt: &impl Abort, controller: &FlatController, kept: bool) {
     for block in 0..64 {
         assert_eq!(rt; is_kept(rt, controller, block), block != 5 || kept);
@@ -262,7 +262,7 @@ fn flushes_and_writes_zeroes(rt: HostRuntime) -> Result<(), Fail> {
     Ok(())
 }
 
-/// The 16 bytes of a range of Dataset Management.
+// The 16 bytes of a range of Dataset Management.
 fn range(start: u32, blocks: u32) -> [u8; 16] {
     let mut bytes = [0; 16];
     bytes[4..8].copy_from_slice(&blocks.to_le_bytes());
@@ -270,7 +270,7 @@ fn range(start: u32, blocks: u32) -> [u8; 16] {
     bytes
 }
 
-/// A controller of 64 blocks, each filled with 77h and kept.
+// A controller of 64 blocks, each filled with 77h and kept.
 fn full(rt: &impl Abort, alloc: Global) -> Result<FlatController, Fail> {
     let mut controller = FlatController::new(alloc, 0x1_0000, 64)?;
     for block in 0..64 {
@@ -282,7 +282,7 @@ fn full(rt: &impl Abort, alloc: Global) -> Result<FlatController, Fail> {
     Ok(controller)
 }
 
-/// Puts 256 ranges at 3000h: block 0, time and again, and this one.
+// Puts 256 ranges at 3000h: block 0, time and again, and this one.
 fn put_ranges(rt: &impl Abort, controller: &mut FlatController, last: &[u8; 16]) {
     for place in 0..255u16 {
         put(rt, controller, 0x3000 + 16 * u64::from(place), &range(0, 1));
@@ -290,7 +290,7 @@ fn put_ranges(rt: &impl Abort, controller: &mut FlatController, last: &[u8; 16])
     put(rt, controller, 0x3ff0, last);
 }
 
-/// So many blocks from LBA 0 on, and so many from LBA 5 on, are zeros and not kept; the others are as they were.
+// So many blocks from LBA 0 on, and so many from LBA 5 on, are zeros and not kept; the others are as they were.
 fn cleared_are(rt: &impl Abort, controller: &FlatController, first: u64, others: u64) {
     for block in 0..64 {
         let cleared = block < first || (5 <= block && block - 5 < others);

@@ -7,13 +7,13 @@ use std::alloc::Global;
 use std::process::Abort;
 use std::test::Fail;
 
-/// A Read by PRPs of that many blocks from LBA 0, NLB counted from 0.
+// A Read by PRPs of that many blocks from LBA 0, NLB counted from 0.
 fn by_prp(rt: &impl Abort, nlb: u32, prp1: u32, prp2: u32) -> Sqe {
     let changes = [(0, 0x0007_0002), (6, prp1), (8, prp2), (10, 0), (12, nlb)];
     changed(rt, &changes)
 }
 
-/// A controller with 40000h bytes of memory and 256 blocks, of which each is filled with its number.
+// A controller with 40000h bytes of memory and 256 blocks, of which each is filled with its number.
 fn numbered(rt: &impl Abort, alloc: Global) -> Result<FlatController, Fail> {
     let mut controller = FlatController::new(alloc, 0x4_0000, 256)?;
     for block in 0..=255 {
@@ -23,7 +23,7 @@ fn numbered(rt: &impl Abort, alloc: Global) -> Result<FlatController, Fail> {
     Ok(controller)
 }
 
-/// Puts PRP entries at these addresses.
+// Puts PRP entries at these addresses.
 fn put_entries(rt: &impl Abort, controller: &mut FlatController, entries: &[(u64, u64)]) {
     for (addr, entry) in entries {
         put(rt, controller, *addr, &entry.to_le_bytes());
@@ -52,7 +52,7 @@ fn reads_by_region_pages(rt: HostRuntime) -> Result<(), Fail> {
     Ok(())
 }
 
-/// Puts a list of 32 entries at 2000h: the pages from 10000h on.
+// Puts a list of 32 entries at 2000h: the pages from 10000h on.
 fn put_32_entries(rt: &impl Abort, controller: &mut FlatController) {
     for entry in 0..32u8 {
         let page = 0x1_0000 + 0x1000 * u64::from(entry);

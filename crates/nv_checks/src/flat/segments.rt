@@ -23,7 +23,7 @@ const LAST_SEGMENT: u32 = 0x3000_0000;
 
 const UNKNOWN: u32 = 0x4000_0000;
 
-/// Puts a descriptor into memory.
+// Puts a descriptor into memory.
 fn put_descriptor(
     rt: &impl Abort,
     controller: &mut FlatController,
@@ -37,7 +37,7 @@ fn put_descriptor(
     put(rt, controller, at, &bytes);
 }
 
-/// A prepared controller with these descriptors at 6000h.
+// A prepared controller with these descriptors at 6000h.
 fn with_array(rt: &impl Abort, alloc: Global, rows: &[Row]) -> Result<FlatController, Fail> {
     let mut controller = prepared(rt, alloc)?;
     let mut at = 0x6000u64;
@@ -48,7 +48,7 @@ fn with_array(rt: &impl Abort, alloc: Global, rows: &[Row]) -> Result<FlatContro
     Ok(controller)
 }
 
-/// A command of two blocks from LBA 5 through the two descriptors at 6000h, that a Last Segment names.
+// A command of two blocks from LBA 5 through the two descriptors at 6000h, that a Last Segment names.
 fn through_last_segment(rt: &impl Abort, first_dword: u32) -> Sqe {
     let changes = [
         (0, first_dword),
@@ -100,7 +100,7 @@ fn discards_into_a_bit_bucket(rt: HostRuntime) -> Result<(), Fail> {
 /// Where the pieces of one block lie, and the first byte of the block that each has: 100, 300 and 112 bytes.
 const PARTS: [(u64, u8, usize); 3] = [(0x3000, 0, 100), (0x4001, 100, 300), (0x5002, 144, 112)];
 
-/// `len` bytes that count up from this one, and begin again behind 255.
+// `len` bytes that count up from this one, and begin again behind 255.
 fn counting(rt: &impl Abort, from: u8, len: usize, out: &mut [u8; 512]) {
     assert!(rt; len <= 512);
     let mut next = from;
@@ -110,7 +110,7 @@ fn counting(rt: &impl Abort, from: u8, len: usize, out: &mut [u8; 512]) {
     }
 }
 
-/// Puts the counting bytes of one block into its pieces.
+// Puts the counting bytes of one block into its pieces.
 fn put_parts(rt: &impl Abort, controller: &mut FlatController) {
     for (addr, from, len) in PARTS {
         let mut bytes = [0; 512];
@@ -120,7 +120,7 @@ fn put_parts(rt: &impl Abort, controller: &mut FlatController) {
     }
 }
 
-/// A command on block 5 through three pieces that part inside the block, of which the middle one has this kind.
+// A command on block 5 through three pieces that part inside the block, of which the middle one has this kind.
 fn through_parts(
     rt: &impl Abort,
     controller: &mut FlatController,
@@ -134,7 +134,7 @@ fn through_parts(
     changed(rt, &changes)
 }
 
-/// A prepared controller whose block 5 was written from the three pieces.
+// A prepared controller whose block 5 was written from the three pieces.
 fn written_by_parts(rt: &impl Abort, alloc: Global) -> Result<FlatController, Fail> {
     let mut controller = prepared(rt, alloc)?;
     put_parts(rt, &mut controller);
@@ -171,7 +171,7 @@ fn compares_pieces_that_part_inside_a_block(rt: HostRuntime) -> Result<(), Fail>
     Ok(())
 }
 
-/// Whether so many bytes that count up from this one stand at an address, and zeros behind them: 512 bytes.
+// Whether so many bytes that count up from this one stand at an address, and zeros behind them: 512 bytes.
 fn counting_at(
     rt: &impl Abort,
     controller: &FlatController,
@@ -231,8 +231,8 @@ fn answers_faulty_lists(rt: HostRuntime) -> Result<(), Fail> {
     Ok(())
 }
 
-/// Puts 1,024 descriptors at 8000h: Data Blocks of no bytes, but for that of this number (from 1 on) with 512 bytes, and one of an
-/// unknown type (none for 0).
+// Puts 1,024 descriptors at 8000h: Data Blocks of no bytes, but for that of this number (from 1 on) with 512 bytes, and one of an
+// unknown type (none for 0).
 fn put_array(rt: &impl Abort, controller: &mut FlatController, whole: u32, unknown: u32) {
     for place in 0..1024u32 {
         let number = place + 1;

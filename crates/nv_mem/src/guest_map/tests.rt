@@ -1,3 +1,5 @@
+//! Tests of memory maps: what is refused, what is held, and the longest runs.
+
 use super::*;
 use std::process::Abort;
 use std::test::Fail;

@@ -10,6 +10,7 @@ ghost use Rattle.nv_model.specs.Dialogue.{Dialogue, asked, in_memory};
 ghost use Rattle.nv_model.specs.Endings.{IsPartFor, MayAsk, MayEndIn};
 ghost use Rattle.nv_model.specs.Judge.{Verdict, Work, Go, Manage, form_of, form_units, judge, range_count_of, range_fits, transfer_len};
 ghost use Rattle.nv_model.specs.Laws.{IsMappedPiece, IsMappedPlace, IsMappedSpan, IsUnitWithin, still_wanted};
+ghost use Rattle.nv_model.specs.Limits.{part_size};
 ghost use Rattle.nv_model.specs.Parts.{AsksInParts};
 ghost use Rattle.nv_model.specs.Prp.{read_prp};
 ghost use Rattle.nv_model.specs.Reading.{Spells};
@@ -74,7 +75,7 @@ pub fn mapped_memory_is_asked_for_whatever_answers()
 /// So what a transcript still wants of a command's lists is mapped, and at most 4,096 bytes.
 pub fn mapped_memory_is_wanted_of_a_transcript()
     ensures { (mapped : ℕ → Bool) (limit blocks : ℕ) (entry : List ℕ) (reads : List ReadDone) (addr len : ℕ) →
-        in_transcript (judge mapped limit blocks entry) [] reads ≡ Wanted addr len → IsMappedSpan mapped (addr, len) × (len ≤ 4096) }
+        in_transcript (judge mapped limit blocks entry) [] reads ≡ Wanted addr len → IsMappedSpan mapped (addr, len) × (len ≤ part_size) }
 {}
 
 /// Whatever answers, the work of a verdict that goes is that of the command's opcode.

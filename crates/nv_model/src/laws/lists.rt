@@ -10,6 +10,7 @@ ghost use Rattle.nv_model.specs.Sgl.{read_sgl};
 ghost use Rattle.nv_model.specs.Prp.{read_prp};
 ghost use Rattle.nv_model.specs.Admin.{identify_reading};
 ghost use Rattle.nv_model.specs.Laws.{IsMappedPiece, IsMappedSpan};
+ghost use Rattle.nv_model.specs.Limits.{page};
 
 /// Each run that a scatter gather list spells is mapped wholly, and so is each that PRP1 and PRP2 spell.
 pub fn lists_spell_mapped_runs()
@@ -41,7 +42,7 @@ pub fn region_pages_are_sized()
 
 /// The 4,096 bytes of Identify need no list: nothing is read in memory, and so their reading is the same in every memory.
 pub fn identify_reads_no_list()
-    ensures nothing { (mapped : ℕ → Bool) (memory : ℕ → ℕ) (prp1 prp2 : ℕ) → asked memory (read_prp mapped prp1 prp2 4096) ≡ [] }
+    ensures nothing { (mapped : ℕ → Bool) (memory : ℕ → ℕ) (prp1 prp2 : ℕ) → asked memory (read_prp mapped prp1 prp2 page) ≡ [] }
     ensures in_any_memory { (mapped : ℕ → Bool) (memory : ℕ → ℕ) (entry : List ℕ) →
-        in_memory memory (read_prp mapped (prp1_of entry) (prp2_of entry) 4096) ≡ identify_reading mapped entry }
+        in_memory memory (read_prp mapped (prp1_of entry) (prp2_of entry) page) ≡ identify_reading mapped entry }
 {}

@@ -3,6 +3,7 @@ ghost use Rattle.std.specs.Prelude.{ℕ, ◌≤◌, Bool, List, All};
 ghost use Rattle.nv_mem.specs.Places.{piece_len};
 ghost use Rattle.nv_mem.specs.declared.piece.Piece.{Piece};
 ghost use Rattle.nv_model.specs.Judge.{judge, read_source};
+ghost use Rattle.nv_model.specs.Limits.{part_size};
 ghost use Rattle.nv_model.specs.Parts.{AsksInParts};
 ghost use Rattle.nv_model.specs.Prp.{read_prp};
 ghost use Rattle.nv_model.specs.Sgl.{read_sgl};
@@ -11,7 +12,7 @@ ghost use Rattle.nv_model.specs.Sgl.{read_sgl};
 pub fn lists_are_asked_for_in_parts()
     ensures scatter_gather { (mapped : ℕ → Bool) (dest : Bool) (limit : ℕ) (own : List ℕ) → AsksInParts (read_sgl mapped dest limit own) }
     ensures region_pages { (mapped : ℕ → Bool) (prp1 prp2 len : ℕ) → AsksInParts (read_prp mapped prp1 prp2 len) }
-    ensures source { (pieces : List Piece) (bytes : List ℕ) → All (λ piece. piece_len piece ≤ 4096) pieces → AsksInParts (read_source pieces bytes) }
+    ensures source { (pieces : List Piece) (bytes : List ℕ) → All (λ piece. piece_len piece ≤ part_size) pieces → AsksInParts (read_source pieces bytes) }
 {}
 
 /// And so is all that judging a command asks for.

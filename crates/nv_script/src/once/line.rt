@@ -33,7 +33,7 @@ pub enum Line {
 /// The most bytes that one `fill` line writes.
 const FILL_MAX: u64 = 131_072;
 
-/// Whether so many bytes from an address on lie in a memory of this size. For no bytes any address will do.
+// Whether so many bytes from an address on lie in a memory of this size. For no bytes any address will do.
 fn is_in(memory: u64, addr: u64, len: u64) -> bool
     ensures { result ≡ lies_in memory addr len }
 {
@@ -69,6 +69,7 @@ pub fn make_line(
     }
 }
 
+// The line `store`, made of its words.
 fn store(alloc: Global, sizes: Sizes, addr: &[u8], digits: &[u8]) -> Result<Line, LineFault>
     ensures { let line = line_of sizes keyword.Store (addr.now ∷ digits.now ∷ [])
         in MatchResult result (λ made. line ≡ Ok (value_of made)) (Refuses line) }
@@ -81,6 +82,7 @@ fn store(alloc: Global, sizes: Sizes, addr: &[u8], digits: &[u8]) -> Result<Line
     Ok(Line::Store { addr, bytes })
 }
 
+// The line `fill`, made of its words.
 fn fill(sizes: Sizes, addr: &[u8], len: &[u8], value: &[u8]) -> Result<Line, LineFault>
     ensures { let line = line_of sizes keyword.Fill (addr.now ∷ len.now ∷ value.now ∷ [])
         in MatchResult result (λ made. line ≡ Ok (value_of made)) (Refuses line) }
@@ -94,6 +96,7 @@ fn fill(sizes: Sizes, addr: &[u8], len: &[u8], value: &[u8]) -> Result<Line, Lin
     Ok(Line::Fill { addr, len, byte })
 }
 
+// The line `paint`, made of its words.
 fn paint(sizes: Sizes, place: &[u8], value: &[u8]) -> Result<Line, LineFault>
     ensures { let line = line_of sizes keyword.Paint (place.now ∷ value.now ∷ [])
         in MatchResult result (λ made. line ≡ Ok (value_of made)) (Refuses line) }
@@ -106,6 +109,7 @@ fn paint(sizes: Sizes, place: &[u8], value: &[u8]) -> Result<Line, LineFault>
     Ok(Line::Paint { block, byte })
 }
 
+// The line `cmd`, made of its word.
 fn command(sizes: Sizes, digits: &[u8]) -> Result<Line, LineFault>
     ensures { let line = line_of sizes keyword.Cmd (digits.now ∷ [])
         in MatchResult result (λ made. line ≡ Ok (value_of made)) (Refuses line) }
@@ -113,6 +117,7 @@ fn command(sizes: Sizes, digits: &[u8]) -> Result<Line, LineFault>
     Ok(Line::Command(entry(digits)?))
 }
 
+// The line `dump`, made of its words.
 fn dump(sizes: Sizes, addr: &[u8], len: &[u8]) -> Result<Line, LineFault>
     ensures { let line = line_of sizes keyword.Dump (addr.now ∷ len.now ∷ [])
         in MatchResult result (λ made. line ≡ Ok (value_of made)) (Refuses line) }
@@ -125,6 +130,7 @@ fn dump(sizes: Sizes, addr: &[u8], len: &[u8]) -> Result<Line, LineFault>
     Ok(Line::Dump { addr, len })
 }
 
+// The line `block`, made of its word.
 fn block(sizes: Sizes, place: &[u8]) -> Result<Line, LineFault>
     ensures { let line = line_of sizes keyword.Block (place.now ∷ [])
         in MatchResult result (λ made. line ≡ Ok (value_of made)) (Refuses line) }

@@ -8,7 +8,7 @@ use hex::{FromHex, FromHexError};
 use nv_entry::Sqe;
 use std::alloc::Global;
 
-/// The number that these digits spell, or `None` where they are none, are not all digits, or spell one beyond 64 bits.
+// The number that these digits spell, or `None` where they are none, are not all digits, or spell one beyond 64 bits.
 fn spelled_number(digits: &[u8], base: u32) -> Option<u64>
     requires least { 2 ≤ base }
     requires most { base ≤ 36 }
@@ -34,6 +34,7 @@ pub fn number(word: &[u8]) -> Result<u64, FaultKind>
     written_number(word).ok_or(FaultKind::BadNumber)
 }
 
+// The number that a word writes, or none.
 fn written_number(word: &[u8]) -> Option<u64>
     ensures { result ≡ written word.now }
 {

@@ -48,7 +48,7 @@ impl Reading {
         self.add(alloc, keyword, words)
     }
 
-    /// Adds what a line with this keyword says.
+    // Adds what a line with this keyword says.
     fn add(
         &mut self,
         alloc: Global,
@@ -80,7 +80,7 @@ impl Reading {
         Ok(())
     }
 
-    /// The sizes, once both are there.
+    // The sizes, once both are there.
     fn sizes(&self) -> Option<Sizes>
         ensures { result ≡ sizes_in (progress self.now) }
     {

@@ -14,10 +14,13 @@ pub struct Sizes {
     pub blocks: u64,
 }
 
+/// The bytes of a page.
 const PAGE: u64 = 4_096;
 
+/// The most bytes of the memory.
 const MEMORY_MAX: u64 = 16_777_216;
 
+/// The most blocks of the namespace.
 const BLOCKS_MAX: u64 = 65_536;
 
 /// The size of the memory that a word writes: 1 to 4,096 pages.

@@ -78,7 +78,7 @@ pub fn look_up(word: &[u8]) -> Option<Keyword>
     keyword_in(&VOCABULARY, word)
 }
 
-/// The keyword of the first row with this word.
+// The keyword of the first row with this word.
 fn keyword_in(rows: &[(&[u8], Keyword)], word: &[u8]) -> Option<Keyword>
     ensures { result ≡ lookup (λ name. bytes_eq name word.now) (map (λ row. (row.0.now, row.1)) rows.now) }
 {

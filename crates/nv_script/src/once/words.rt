@@ -23,21 +23,21 @@ impl<'a> Model for Words<'a> {
     ghost view = { λ words. words_in words.text.now };
 }
 
-/// The place of the first such byte, or the length where there is none.
+// The place of the first such byte, or the length where there is none.
 fn place_of(text: &[u8], byte: u8) -> usize
     ensures { result ≡ position_or_len (λ b. b == byte) text.now }
 {
     text.iter().position(|b| *b == byte).unwrap_or(text.len())
 }
 
-/// The place of the first byte that is no space, or the length where there is none.
+// The place of the first byte that is no space, or the length where there is none.
 fn leading_spaces(text: &[u8]) -> usize
     ensures { result ≡ position_or_len (λ b. not (b == 32)) text.now }
 {
     text.iter().position(|b| *b != b' ').unwrap_or(text.len())
 }
 
-/// The first word of a text, and what stands behind it.
+// The first word of a text, and what stands behind it.
 fn split_word(text: &[u8]) -> Option<(&[u8], &[u8])>
     ensures { MatchOption result (words_in text.now ≡ [])
         (λ parts. words_in text.now ≡ parts.0.now ∷ words_in parts.1.now) }

@@ -11,23 +11,24 @@ ghost use Rattle.nv_mem.specs.GuestMap.{mapped};
 ghost use Rattle.nv_model.specs.Carried.{block_work, units_from, units_moved};
 ghost use Rattle.nv_model.specs.Dialogue.{End, and_then, in_memory};
 ghost use Rattle.nv_model.specs.Judge.{count_of, sized};
+ghost use Rattle.nv_model.specs.Limits.{block as block_size, most_descriptors, page as page_size};
 ghost use Rattle.nv_model.specs.Reading.{Faulty, Spells};
 ghost use Rattle.nv_model.specs.Sgl.{read_sgl};
 ghost use Rattle.nv_flat.specs.Flat.{byte_in, flat, identity_map, moved_of};
-ghost use Rattle.nv_flat.specs.One.{IsDone};
+ghost use Rattle.nv_flat.specs.One.{IsDone, most_plain_blocks};
 ghost use Rattle.nv_thin.specs.Thin.{IsSameBefore, bounce_page, copied, first_block, goes_through};
 
-use crate::thin::physical::{self, BLOCK};
-use crate::thin::{FIRST_BLOCK, GUEST_START, Thin, bounce};
+use crate::thin::{FIRST_BLOCK, GUEST_START, Thin, bounce, physical};
 use nv_entry::{IoOpcode, Sqe, Status, StatusCode};
 use nv_judge::{Need, judge_fields};
-use nv_mem::{Host, NoMemory};
+use nv_mem::{Host, NoMemory, PAGE_SIZE};
+use nv_model::limits::BLOCK_SIZE;
 use nv_ns::VirtualNs;
 use nv_sgl::{SglParse, Want};
 use std::alloc::Global;
 
 /// The most blocks of a transfer: they fill the one bounce page.
-const MOST_BLOCKS: u16 = 8;
+const MOST_BLOCKS: u16 = PAGE_SIZE as u16 / BLOCK_SIZE as u16;
 
 /// The host address of the first bounce page.
 const PAGE: u64 = physical::BOUNCE_PAGE as u64;
@@ -60,7 +61,7 @@ impl Thin {
         }
     }
 
-    /// The guest's range of the disk.
+    // The guest's range of the disk.
     fn namespace(&self) -> VirtualNs
         ensures { result ≡ record { base = first_block; blocks = length self.now.disk } }
     {
@@ -68,13 +69,13 @@ impl Thin {
         VirtualNs::new(FIRST_BLOCK, blocks - FIRST_BLOCK)
     }
 
-    /// The refusal of the list of a command whose own descriptor is of the type of a Data Block, for a transfer of some bytes. Where
-    /// there is none, the buffer is that descriptor's one run.
+    // The refusal of the list of a command whose own descriptor is of the type of a Data Block, for a transfer of some bytes. Where
+    // there is none, the buffer is that descriptor's one run.
     fn list_refusal(&self, alloc: Global, sqe: &Sqe, need: Need) -> Result<Option<Status>, NoMemory>
         requires own { type_of (sgl_of sqe.now) ≡ 0 }
         requires some { 0 < need.bytes }
         ensures { let reading = in_memory (byte_in self.now.memory)
-            (and_then (read_sgl (mapped (identity_map (length self.now.memory)).regions) need.dest 1024 (sgl_of sqe.now)) (λ r. End (sized need.bytes r))) in
+            (and_then (read_sgl (mapped (identity_map (length self.now.memory)).regions) need.dest most_descriptors (sgl_of sqe.now)) (λ r. End (sized need.bytes r))) in
             IfOk result (λ refusal. MatchOption refusal
             (reading ≡ Spells (piece.Run (address_of (sgl_of sqe.now)) (length_of (sgl_of sqe.now)) ∷ []))
             (λ st. (code : Code) × ((reading ≡ Faulty code) × (st ≡ refused_with code)))) }
@@ -88,15 +89,15 @@ impl Thin {
         }
     }
 
-    /// Moves the blocks of a Read or Write, whose range starts at this block of the disk, between there and the guest's memory.
+    // Moves the blocks of a Read or Write, whose range starts at this block of the disk, between there and the guest's memory.
     fn move_blocks(&mut self, sqe: &Sqe, need: Need, slba: u64)
         requires translated { slba ≡ first_block + slba_of sqe.now }
         requires counted { need.blocks ≡ count_of sqe.now }
-        requires page { need.blocks ≤ 8 }
-        requires inside { address_of (sgl_of sqe.now) + 512 * need.blocks ≤ length self.old.memory }
+        requires page { need.blocks ≤ most_plain_blocks }
+        requires inside { address_of (sgl_of sqe.now) + block_size * need.blocks ≤ length self.old.memory }
         requires blocks { slba_of sqe.now + need.blocks ≤ length self.old.disk }
         ensures moved { moved_of self.new false ≡ units_moved (units_from 0 (slba_of sqe.now) need.blocks)
-            (block_work (if need.dest then IoOpcode.Read else IoOpcode.Write) (piece.Run (address_of (sgl_of sqe.now)) (512 * need.blocks) ∷ []) need.fua) (moved_of self.old false) }
+            (block_work (if need.dest then IoOpcode.Read else IoOpcode.Write) (piece.Run (address_of (sgl_of sqe.now)) (block_size * need.blocks) ∷ []) need.fua) (moved_of self.old false) }
         ensures memory_size { length self.new.memory ≡ length self.old.memory }
         ensures disk_size { length self.new.disk ≡ length self.old.disk }
     {
@@ -127,24 +128,24 @@ impl Thin {
     }
 }
 
-/// A Read through the bounce page: the blocks move from the disk to the page, and then the page's bytes to the host address `memory`.
+// A Read through the bounce page: the blocks move from the disk to the page, and then the page's bytes to the host address `memory`.
 fn read_through(
     host: &mut Host,
-    disk: &mut [[u8; BLOCK]],
+    disk: &mut [[u8; BLOCK_SIZE]],
     kept: &mut [bool],
     slba: u64,
     nlb: u16,
     fua: bool,
     memory: u64,
 )
-    requires count { nlb < 8 }
-    requires page { bounce_page + 4096 ≤ length host.old }
-    requires inside { memory + 512 * (nlb + 1) ≤ length host.old }
+    requires count { nlb < most_plain_blocks }
+    requires page { bounce_page + page_size ≤ length host.old }
+    requires inside { memory + block_size * (nlb + 1) ≤ length host.old }
     requires blocks { slba + (nlb + 1) ≤ length disk.old }
     requires marks { length kept.old ≡ length disk.old }
-    ensures moved { moved_of (flat host.new disk.new kept.new) false ≡ copied bounce_page memory (512 * (nlb + 1))
-        (units_moved (units_from 0 slba (nlb + 1)) (block_work IoOpcode.Read (piece.Run bounce_page 4096 ∷ []) fua) (moved_of (flat host.old disk.old kept.old) false)) }
-    ensures others { (addr n : ℕ) → addr + n ≤ memory → (addr + n ≤ bounce_page) ⊎ (bounce_page + 4096 ≤ addr) →
+    ensures moved { moved_of (flat host.new disk.new kept.new) false ≡ copied bounce_page memory (block_size * (nlb + 1))
+        (units_moved (units_from 0 slba (nlb + 1)) (block_work IoOpcode.Read (piece.Run bounce_page page_size ∷ []) fua) (moved_of (flat host.old disk.old kept.old) false)) }
+    ensures others { (addr n : ℕ) → addr + n ≤ memory → (addr + n ≤ bounce_page) ⊎ (bounce_page + page_size ≤ addr) →
         bytes_at host.new addr n ≡ bytes_at host.old addr n }
     ensures blocks_before { IsSameBefore slba disk.new disk.old }
     ensures marks_before { IsSameBefore slba kept.new kept.old }
@@ -153,40 +154,40 @@ fn read_through(
     let bytes = physical::entry(IoOpcode::Read, slba, nlb, fua);
     let entry = Sqe::of(&bytes);
     physical::carry_out(&entry, host, disk, kept);
-    bounce::copy(host, PAGE, memory, 512 * (u64::from(nlb) + 1));
+    bounce::copy(host, PAGE, memory, BLOCK_SIZE as u64 * (u64::from(nlb) + 1));
 }
 
-/// A Write through the bounce page: the bytes from the host address `memory` on come to the page, and then its blocks to the disk.
+// A Write through the bounce page: the bytes from the host address `memory` on come to the page, and then its blocks to the disk.
 fn write_through(
     host: &mut Host,
-    disk: &mut [[u8; BLOCK]],
+    disk: &mut [[u8; BLOCK_SIZE]],
     kept: &mut [bool],
     slba: u64,
     nlb: u16,
     fua: bool,
     memory: u64,
 )
-    requires count { nlb < 8 }
-    requires page { bounce_page + 4096 ≤ length host.old }
-    requires inside { memory + 512 * (nlb + 1) ≤ length host.old }
+    requires count { nlb < most_plain_blocks }
+    requires page { bounce_page + page_size ≤ length host.old }
+    requires inside { memory + block_size * (nlb + 1) ≤ length host.old }
     requires blocks { slba + (nlb + 1) ≤ length disk.old }
     requires marks { length kept.old ≡ length disk.old }
     ensures moved { moved_of (flat host.new disk.new kept.new) false ≡
-        units_moved (units_from 0 slba (nlb + 1)) (block_work IoOpcode.Write (piece.Run bounce_page 4096 ∷ []) fua)
-        (copied memory bounce_page (512 * (nlb + 1)) (moved_of (flat host.old disk.old kept.old) false)) }
-    ensures others { (addr n : ℕ) → addr + n ≤ memory → (addr + n ≤ bounce_page) ⊎ (bounce_page + 4096 ≤ addr) →
+        units_moved (units_from 0 slba (nlb + 1)) (block_work IoOpcode.Write (piece.Run bounce_page page_size ∷ []) fua)
+        (copied memory bounce_page (block_size * (nlb + 1)) (moved_of (flat host.old disk.old kept.old) false)) }
+    ensures others { (addr n : ℕ) → addr + n ≤ memory → (addr + n ≤ bounce_page) ⊎ (bounce_page + page_size ≤ addr) →
         bytes_at host.new addr n ≡ bytes_at host.old addr n }
     ensures blocks_before { IsSameBefore slba disk.new disk.old }
     ensures marks_before { IsSameBefore slba kept.new kept.old }
     ensures size { length host.new ≡ length host.old }
 {
-    bounce::copy(host, memory, PAGE, 512 * (u64::from(nlb) + 1));
+    bounce::copy(host, memory, PAGE, BLOCK_SIZE as u64 * (u64::from(nlb) + 1));
     let bytes = physical::entry(IoOpcode::Write, slba, nlb, fua);
     let entry = Sqe::of(&bytes);
     physical::carry_out(&entry, host, disk, kept);
 }
 
-/// Whether a command goes: a Read or Write by an SGL whose own descriptor is of the type of a Data Block, of at most one page.
+// Whether a command goes: a Read or Write by an SGL whose own descriptor is of the type of a Data Block, of at most one page.
 fn goes_through(sqe: &Sqe) -> bool
     ensures { result ≡ goes_through sqe.now }
 {

@@ -26,7 +26,7 @@ const READ_PAST_THE_RANGE: &[u8] =
 /// A completion with success of CID 7, and what it prints.
 const DONE: &str = "00000000000000000100010007000100\n";
 
-/// What a script of these parts prints on a controller of the kind `C`.
+// What a script of these parts prints on a controller of the kind `C`.
 fn printed<C: One>(alloc: Global, parts: &[&[u8]]) -> Result<Vec<u8>, Fault> {
     let mut script = Vec::new(alloc);
     for part in parts {
@@ -38,13 +38,13 @@ fn printed<C: One>(alloc: Global, parts: &[&[u8]]) -> Result<Vec<u8>, Fault> {
     )
 }
 
-/// A controller of the kind `C` prints this.
+// A controller of the kind `C` prints this.
 fn expect_on<C: One>(rt: &(impl Abort + AllocGlobal), parts: &[&[u8]], text: &[u8]) {
     let printed = printed::<C>(rt.alloc(), parts).expect(rt, "a script");
     assert!(rt; printed.as_slice() == text);
 }
 
-/// Both kinds of controller print this.
+// Both kinds of controller print this.
 fn expect(rt: &(impl Abort + AllocGlobal), parts: &[&[u8]], text: &[u8]) {
     expect_on::<FlatController>(rt, parts, text);
     expect_on::<Thin>(rt, parts, text);

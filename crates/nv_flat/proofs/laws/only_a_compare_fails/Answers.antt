@@ -9,4 +9,5 @@ pub returns : goal.returns
 unfolding moved_of
 returns c old new entry st work goes other run =
     let r = units-moved old new entry st work goes run in
-    r.status ∙ ap moved_status (ap (λ (m : Moved). m.differed) r.moved ∙ units-differ r.order work (moved_of old false) other)
+    r.status
+    ∙ ap moved_status (ap (λ (m : Moved). m.differed) r.moved ∙ units-differ r.order work (moved_of old false) other)

@@ -15,7 +15,8 @@ loop-done-preserved g c =
     let before = encode_lower (bytes_at memory c.args.addr c.loop-done.done) in
     let chunk = encode_lower (bytes_at memory (c.args.addr + c.loop-done.done) c.min-count.result) in
     let whole : encode_lower (bytes_at memory c.args.addr (c.loop-done.done + c.min-count.result)) ≡ before ++ chunk =
-    ap encode_lower (bytes_at-append memory c.args.addr c.loop-done.done c.min-count.result) ∙ encode_with-append lower_digits _ _
+    ap encode_lower (bytes_at-append memory c.args.addr c.loop-done.done c.min-count.result)
+    ∙ encode_with-append lower_digits _ _
     in
     let more : Appends _ (g.W.Write.contents c.print_bytes.new.output) chunk = search rules in
     (omega arith, rw whole (Appends-then _ _ _ before chunk c.loop-done.invariant.1 more))

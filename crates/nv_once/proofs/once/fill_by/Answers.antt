@@ -15,7 +15,8 @@ loop-done-preserved g c =
     let (room, stands, sizes) = c.loop-done.invariant in
     let part : take count c.args.chunk.now ≡ replicate count byte = ap (take count) c.requires.equal ∙ take-replicate count 512 byte (omega arith) in
     let stored : g.C.One.seen c.store.new.self ≡ flat (after_store before.memory (c.args.addr + done) (replicate count byte)) before.disk before.kept =
-    c.store.ensures.bytes ∙ ap (λ bytes. flat (after_store before.memory (c.args.addr + done) bytes) before.disk before.kept) part
+    c.store.ensures.bytes
+    ∙ ap (λ bytes. flat (after_store before.memory (c.args.addr + done) bytes) before.disk before.kept) part
     in
     let behind : c.args.addr + length (replicate done byte) ≡ c.args.addr + done = ap (λ n. c.args.addr + n) (length-replicate done byte) in
     let whole : after_store (after_store old.memory c.args.addr (replicate done byte)) (c.args.addr + done) (replicate count byte) ≡ after_store old.memory c.args.addr (replicate (done + count) byte) =
@@ -24,7 +25,8 @@ loop-done-preserved g c =
     ∙ ap (after_store old.memory c.args.addr) (replicate-append-replicate done count byte)
     in
     let grown : g.C.One.seen c.store.new.self ≡ flat (after_store old.memory c.args.addr (replicate (done + count) byte)) old.disk old.kept =
-    stored ∙ ap (λ (f : Flat). flat (after_store f.memory (c.args.addr + done) (replicate count byte)) f.disk f.kept) stands
+    stored
+    ∙ ap (λ (f : Flat). flat (after_store f.memory (c.args.addr + done) (replicate count byte)) f.disk f.kept) stands
     ∙ ap (λ memory. flat memory old.disk old.kept) whole
     in
     (omega arith, grown, search rules)

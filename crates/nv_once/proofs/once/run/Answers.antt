@@ -33,7 +33,8 @@ loop-line-preserved g c =
     let at : c.line-item.result ≡ get_or script.lines.items c.loop-line.line-index c.line-item.result = cc in
     let below : c.loop-line.line-index < length script.lines.items = omega (arith, ap length c.deref-line-items.ensures.value) in
     let named : get_or (map value_of script.lines.items) c.loop-line.line-index (value_of c.line-item.result) ≡ value_of c.line-item.result =
-    get_or-map value_of script.lines.items c.loop-line.line-index c.line-item.result (value_of c.line-item.result) below ∙ ap value_of (sym at)
+    get_or-map value_of script.lines.items c.loop-line.line-index c.line-item.result (value_of c.line-item.result) below
+    ∙ ap value_of (sym at)
     in
     let (sizes, before, grown, lines) = c.loop-line.invariant in
     let (shown, more, line) = c.in_ok-run_line.ensures.ok in

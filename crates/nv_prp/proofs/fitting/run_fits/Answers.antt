@@ -11,7 +11,8 @@ overflow_add-addr c =
     omega arith
 
 pub returns-in_default : goal.returns-in_default
-returns-in_default c = absurd (mapped-none c.args.map.now.regions c.args.addr c.args.len c.loop-done.done c.requires c.loop-done-test.true c.in_default.ensures)
+returns-in_default c =
+    absurd (mapped-none c.args.map.now.regions c.args.addr c.args.len c.loop-done.done c.requires c.loop-done-test.true c.in_default.ensures)
 
 pub returns-then-not-may_follow : goal.returns-then-not-may_follow
 returns-then-not-may_follow c = λ rest.

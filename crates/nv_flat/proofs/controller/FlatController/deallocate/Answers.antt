@@ -26,4 +26,5 @@ loop-range-preserved c =
     c.clear.ensures.memory_size c.clear.ensures.disk_size
 
 pub returns-clause-moved : goal.returns-clause-moved
-returns-clause-moved c = λ work. IsDeallocating-end c.args.self.now c.args.ranges.now c.loop-range.self c.loop-range.rest.now c.loop-range.invariant c.in_default.ensures.cases work
+returns-clause-moved c =
+    λ work. IsDeallocating-end c.args.self.now c.args.ranges.now c.loop-range.self c.loop-range.rest.now c.loop-range.invariant c.in_default.ensures.cases work

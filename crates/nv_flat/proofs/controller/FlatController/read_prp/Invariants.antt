@@ -5,4 +5,5 @@ use Rattle.nv_flat.proofs.ListLemmas.{IsReading}
 use Rattle.nv_flat.proofs.controller.FlatController.read_prp.Given as goal
 
 abbrev pub invariant-loop-part : goal.invariant-loop-part
-invariant-loop-part l = IsReading l.fn.self (reading_by pointer.Prp l.fn.self l.fn.sqe l.fn.need) l._part (dialogue_of l.parse)
+invariant-loop-part l =
+    IsReading l.fn.self (reading_by pointer.Prp l.fn.self l.fn.sqe l.fn.need) l._part (dialogue_of l.parse)

@@ -29,13 +29,16 @@ loop-part-preserved c =
     (in_memory-fed (byte_in c.args.self.now.memory) c.loop-part.parse c.in-Read.addr c.in-Read.len (sym c.in-Read.ensures))
 
 pub returns-in-Done : goal.returns-in-Done
-returns-in-Done c = sym c.loop-part.invariant.ends ∙ reading-done (byte_in c.args.self.now.memory) _ _ c.in_ok-places-in-Done.ensures
+returns-in-Done c =
+    sym c.loop-part.invariant.ends ∙ reading-done (byte_in c.args.self.now.memory) _ _ c.in_ok-places-in-Done.ensures
 
 pub returns-in-Fault : goal.returns-in-Fault
 returns-in-Fault c =
-    ap refusal_of_reading (sym c.loop-part.invariant.ends) ∙ reading-fault (byte_in c.args.self.now.memory) _ c.in-Fault.status (sym c.in-Fault.ensures)
+    ap refusal_of_reading (sym c.loop-part.invariant.ends)
+    ∙ reading-fault (byte_in c.args.self.now.memory) _ c.in-Fault.status (sym c.in-Fault.ensures)
 
 pub returns-in-TooLong : goal.returns-in-TooLong
 returns-in-TooLong c =
-    ap refusal_of_reading (sym c.loop-part.invariant.ends) ∙ reading-too_long (byte_in c.args.self.now.memory) _ (sym c.in-TooLong.ensures)
+    ap refusal_of_reading (sym c.loop-part.invariant.ends)
+    ∙ reading-too_long (byte_in c.args.self.now.memory) _ (sym c.in-TooLong.ensures)
     ∙ ap Some (sym c.status.ensures)

@@ -43,7 +43,9 @@ returns-clause-ok c =
     c.slba.ensures c.from-count.ensures c.if-move_blocks.false c.status-else-move_blocks.ensures c.move_blocks.ensures.moved
 
 pub read_list-requires-clause-most : goal.read_list-requires-clause-most
-read_list-requires-clause-most c = transfer-at_most (length c.args.self.now.disk) c.args.sqe.now c.args.opcode c.args.need c.requires.in_order c.requires.transfer
+read_list-requires-clause-most c =
+    transfer-at_most (length c.args.self.now.disk) c.args.sqe.now c.args.opcode c.args.need c.requires.in_order c.requires.transfer
 
 pub read_list-requires-clause-some : goal.read_list-requires-clause-some
-read_list-requires-clause-some c = transfer-some (length c.args.self.now.disk) c.args.sqe.now c.args.opcode c.args.need c.requires.in_order c.requires.transfer
+read_list-requires-clause-some c =
+    transfer-some (length c.args.self.now.disk) c.args.sqe.now c.args.opcode c.args.need c.requires.in_order c.requires.transfer

@@ -6,4 +6,5 @@ use Rattle.nv_flat.proofs.TransferLemmas.{IsMoving}
 use Rattle.nv_flat.proofs.controller.FlatController.write_blocks.Given as goal
 
 abbrev pub invariant-loop-index : goal.invariant-loop-index
-invariant-loop-index l = IsMoving (block_work Write l.places l.fua) l.slba l.count (places_of l.places) l.fn.self l.index l.self false l.buffer
+invariant-loop-index l =
+    IsMoving (block_work Write l.places l.fua) l.slba l.count (places_of l.places) l.fn.self l.index l.self false l.buffer

@@ -4,7 +4,8 @@ use Rattle.nv_mem.proofs.guest_map.GuestMap.holds.Goals as goal
 
 -- no more is covered than is asked for
 pub covered-requires : goal.covered-requires
-covered-requires c = rw c.deref.ensures.value (covered_of-le c.self.inside.regions.items c.args.addr c.args.len c.self.invariant.apart)
+covered-requires c =
+    rw c.deref.ensures.value (covered_of-le c.self.inside.regions.items c.args.addr c.args.len c.self.invariant.apart)
 
 -- as much is covered exactly where all is mapped
 pub returns-clause-value : goal.returns-clause-value

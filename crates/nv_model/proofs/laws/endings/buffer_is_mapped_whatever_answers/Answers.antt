@@ -6,7 +6,8 @@ pub returns-clause-pieces : goal.returns-clause-pieces
 returns-clause-pieces c mapped limit blocks entry work may = (end-sound mapped limit blocks entry work may).mapped_each
 
 pub returns-clause-places : goal.returns-clause-places
-returns-clause-places c mapped limit blocks entry work may = IsMappedPlace-pieces mapped work.pieces (end-sound mapped limit blocks entry work may).mapped_each
+returns-clause-places c mapped limit blocks entry work may =
+    IsMappedPlace-pieces mapped work.pieces (end-sound mapped limit blocks entry work may).mapped_each
 
 pub returns-clause-length : goal.returns-clause-length
 returns-clause-length c mapped limit blocks entry work may = (end-sound mapped limit blocks entry work may).total

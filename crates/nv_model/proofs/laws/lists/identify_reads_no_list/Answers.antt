@@ -6,4 +6,5 @@ pub returns-clause-nothing : goal.returns-clause-nothing
 returns-clause-nothing c = asked-page
 
 pub returns-clause-in_any_memory : goal.returns-clause-in_any_memory
-returns-clause-in_any_memory c mapped memory entry = in_memory-page mapped (λ _. 0) memory (prp1_of entry) (prp2_of entry)
+returns-clause-in_any_memory c mapped memory entry =
+    in_memory-page mapped (λ _. 0) memory (prp1_of entry) (prp2_of entry)

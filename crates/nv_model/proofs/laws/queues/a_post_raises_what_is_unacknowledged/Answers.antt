@@ -6,10 +6,12 @@ use Rattle.nv_model.proofs.QueuesKept.{completion_queue-has, post-posts}
 use Rattle.nv_model.proofs.laws.queues.a_post_raises_what_is_unacknowledged.Goals as goal
 
 pub returns-clause-had_room : goal.returns-clause-had_room
-returns-clause-had_room c was y dw0 cid st q cq r from to posts = (post-posts was y dw0 cid st q cq r from to posts).had_room
+returns-clause-had_room c was y dw0 cid st q cq r from to posts =
+    (post-posts was y dw0 cid st q cq r from to posts).had_room
 
 pub returns-clause-behind : goal.returns-clause-behind
-returns-clause-behind c was y dw0 cid st q cq r from to posts = (post-posts was y dw0 cid st q cq r from to posts).behind
+returns-clause-behind c was y dw0 cid st q cq r from to posts =
+    (post-posts was y dw0 cid st q cq r from to posts).behind
 
 pub returns-clause-one_more : goal.returns-clause-one_more
 returns-clause-one_more c was y dw0 cid st q cq r order from to posts =

@@ -8,7 +8,8 @@ use Rattle.nv_model.proofs.AdminKept.{AdminHas, admin-kept}
 use Rattle.nv_model.proofs.laws.queues.queues_stay_in_order.Goals as goal
 
 pub returns-clause-opening : goal.returns-clause-opening
-returns-clause-opening c = QueuesHave-opening (λ _. true) IsSubmissionInOrder IsCompletionInOrder (IsKept-in_order (λ _. true))
+returns-clause-opening c =
+    QueuesHave-opening (λ _. true) IsSubmissionInOrder IsCompletionInOrder (IsKept-in_order (λ _. true))
 
 pub returns-clause-reg_write : goal.returns-clause-reg_write
 returns-clause-reg_write c mapped was after offset value order is =
@@ -29,7 +30,8 @@ returns-clause-post c was y dw0 cid st r order is =
     (post-kept (λ _. true) IsSubmissionInOrder IsCompletionInOrder (IsKept-in_order (λ _. true)) was y dw0 cid st order)
 
 pub returns-clause-ran_out : goal.returns-clause-ran_out
-returns-clause-ran_out c = ran_out-kept (λ _. true) IsSubmissionInOrder IsCompletionInOrder (IsKept-in_order (λ _. true))
+returns-clause-ran_out c =
+    ran_out-kept (λ _. true) IsSubmissionInOrder IsCompletionInOrder (IsKept-in_order (λ _. true))
 
 pub returns-clause-admin : goal.returns-clause-admin
 returns-clause-admin c mapped blocks was after memory behind order is =

@@ -8,7 +8,8 @@ use Rattle.nv_model.proofs.laws.queues.runs_keep_queues_in_order.Goals as goal
 
 pub returns-clause-start : goal.returns-clause-start
 unfolding start
-returns-clause-start c = QueuesHave-opening (λ _. true) IsSubmissionInOrder IsCompletionInOrder (IsKept-in_order (λ _. true))
+returns-clause-start c =
+    QueuesHave-opening (λ _. true) IsSubmissionInOrder IsCompletionInOrder (IsKept-in_order (λ _. true))
 
 pub returns-clause-run : goal.returns-clause-run
 returns-clause-run c shape steps p r order is =

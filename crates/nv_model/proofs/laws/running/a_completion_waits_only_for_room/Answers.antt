@@ -12,7 +12,9 @@ returns-clause-has_queue c shape steps r is name t on there =
     (q.value, (cq.value, (q.is, cq.is)))
 
 pub returns-clause-full : goal.returns-clause-full
-returns-clause-full c shape steps r is name t st q cq on there ends from to = post-full r.state.controller t.queue 0 (cid_of t.entry) st q cq from to
+returns-clause-full c shape steps r is name t st q cq on there ends from to =
+    post-full r.state.controller t.queue 0 (cid_of t.entry) st q cq from to
 
 pub returns-clause-step : goal.returns-clause-step
-returns-clause-step c shape steps r is within name t st q cq on there ends from to = post_step-free within r.state name t st q cq on there ends from to
+returns-clause-step c shape steps r is within name t st q cq on there ends from to =
+    post_step-free within r.state name t st q cq on there ends from to

@@ -7,10 +7,12 @@ use Rattle.nv_model.proofs.RunningFacts.{ready-taken, step-runs_out}
 use Rattle.nv_model.proofs.laws.running.ready_falls_with_the_last.Goals as goal
 
 pub returns-clause-gone : goal.returns-clause-gone
-returns-clause-gone c shape p a name is = ap (λ (bag : Bag). bag name) (step-runs_out shape name p a is).bag ∙ put-here p.bag name None
+returns-clause-gone c shape p a name is =
+    ap (λ (bag : Bag). bag name) (step-runs_out shape name p a is).bag ∙ put-here p.bag name None
 
 pub returns-clause-others : goal.returns-clause-others
-returns-clause-others c shape p a name other is apart = ap (λ (bag : Bag). bag other) (step-runs_out shape name p a is).bag ∙ put-elsewhere p.bag name None other apart
+returns-clause-others c shape p a name other is apart =
+    ap (λ (bag : Bag). bag other) (step-runs_out shape name p a is).bag ∙ put-elsewhere p.bag name None other apart
 
 pub returns-clause-ready : goal.returns-clause-ready
 returns-clause-ready c shape steps r along within a name is =

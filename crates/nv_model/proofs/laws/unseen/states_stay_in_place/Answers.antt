@@ -8,7 +8,9 @@ pub returns-clause-start : goal.returns-clause-start
 returns-clause-start c = IsInPlace-start
 
 pub returns-clause-step : goal.returns-clause-step
-returns-clause-step c shape s p a place is = subst (λ (o : Option After). IfSome o (λ b. IsInPlace shape b.state)) is (step-in_place shape s p place)
+returns-clause-step c shape s p a place is =
+    subst (λ (o : Option After). IfSome o (λ b. IsInPlace shape b.state)) is (step-in_place shape s p place)
 
 pub returns-clause-run : goal.returns-clause-run
-returns-clause-run c shape steps p r place is = subst (λ (o : Option Run). IfSome o (λ b. IsInPlace shape b.state)) is (run_of-in_place shape steps p place)
+returns-clause-run c shape steps p r place is =
+    subst (λ (o : Option Run). IfSome o (λ b. IsInPlace shape b.state)) is (run_of-in_place shape steps p place)

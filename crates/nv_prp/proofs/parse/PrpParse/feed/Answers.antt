@@ -6,7 +6,8 @@ use Rattle.nv_prp.proofs.Parses.{is_asking-by, want_of-asking, want_of-some, wan
 use Rattle.nv_prp.proofs.parse.PrpParse.feed.Goals as goal
 
 pub read_part-self-inside-requires-clause-whole : goal.read_part-self-inside-requires-clause-whole
-read_part-self-inside-requires-clause-whole c = want_of-whole c.args.self.now c.requires.0 (length c.args.bytes.now) c.requires.1
+read_part-self-inside-requires-clause-whole c =
+    want_of-whole c.args.self.now c.requires.0 (length c.args.bytes.now) c.requires.1
 
 pub returns-clause-dialogue : goal.returns-clause-dialogue
 unfolding dialogue_of reading_from

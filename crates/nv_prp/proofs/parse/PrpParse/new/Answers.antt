@@ -12,4 +12,5 @@ returns-clause-dialogue c = c.start-cursor.ensures.dialogue
 pub returns-clause-sized : goal.returns-clause-sized
 unfolding dialogue_of reading_from
 returns-clause-sized c =
-    c.start-cursor.ensures.dialogue ∙ sym (read_prp-sized (mapped c.args.map.now.regions) c.args.prp1 c.args.prp2 c.args.need)
+    c.start-cursor.ensures.dialogue
+    ∙ sym (read_prp-sized (mapped c.args.map.now.regions) c.args.prp1 c.args.prp2 c.args.need)

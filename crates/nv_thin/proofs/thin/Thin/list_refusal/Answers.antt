@@ -11,7 +11,8 @@ pub returns-in-Fault : goal.returns-in-Fault
 returns-in-Fault c =
     let s = sizes c.self.inside.host c.self.inside.map c.self.inside.disk.items c.self.inside.kept.items c.args.self.now c.self.view_is c.self.invariant in
     let dialogue : dialogue_of c.in_ok-parse.parse ≡ own_dialogue c.args.need.dest (identity_map (length c.args.self.now.memory)) (sgl_of c.args.sqe.now) c.args.need.bytes =
-    c.in_ok-parse.ensures.dialogue ∙ dialogue-behind c.args.need.dest _ (length c.self.inside.host) _ _ _ _ _ c.self.invariant.mapped s.memory c.sgl-own.ensures c.from.ensures in
+    c.in_ok-parse.ensures.dialogue
+    ∙ dialogue-behind c.args.need.dest _ (length c.self.inside.host) _ _ _ _ _ c.self.invariant.mapped s.memory c.sgl-own.ensures c.from.ensures in
     ends-fault (byte_in c.args.self.now.memory) _ (sgl_of c.args.sqe.now) c.in-Fault.status
     (own-ends _ c.args.need.dest (sgl_of c.args.sqe.now) c.args.need.bytes c.requires.own c.requires.some)
     (sym (c.in-Fault.ensures ∙ ap want_of dialogue))
@@ -20,7 +21,8 @@ pub returns-in-Done : goal.returns-in-Done
 returns-in-Done c =
     let s = sizes c.self.inside.host c.self.inside.map c.self.inside.disk.items c.self.inside.kept.items c.args.self.now c.self.view_is c.self.invariant in
     let dialogue : dialogue_of c.in_ok-parse.parse ≡ own_dialogue c.args.need.dest (identity_map (length c.args.self.now.memory)) (sgl_of c.args.sqe.now) c.args.need.bytes =
-    c.in_ok-parse.ensures.dialogue ∙ dialogue-behind c.args.need.dest _ (length c.self.inside.host) _ _ _ _ _ c.self.invariant.mapped s.memory c.sgl-own.ensures c.from.ensures in
+    c.in_ok-parse.ensures.dialogue
+    ∙ dialogue-behind c.args.need.dest _ (length c.self.inside.host) _ _ _ _ _ c.self.invariant.mapped s.memory c.sgl-own.ensures c.from.ensures in
     ends-done (byte_in c.args.self.now.memory) _ (sgl_of c.args.sqe.now)
     (own-ends _ c.args.need.dest (sgl_of c.args.sqe.now) c.args.need.bytes c.requires.own c.requires.some)
     (sym (c.in-Done.ensures ∙ ap want_of dialogue))
@@ -29,7 +31,8 @@ pub unreachable-requires : goal.unreachable-requires
 unreachable-requires c =
     let s = sizes c.self.inside.host c.self.inside.map c.self.inside.disk.items c.self.inside.kept.items c.args.self.now c.self.view_is c.self.invariant in
     let dialogue : dialogue_of c.in_ok-parse.parse ≡ own_dialogue c.args.need.dest (identity_map (length c.args.self.now.memory)) (sgl_of c.args.sqe.now) c.args.need.bytes =
-    c.in_ok-parse.ensures.dialogue ∙ dialogue-behind c.args.need.dest _ (length c.self.inside.host) _ _ _ _ _ c.self.invariant.mapped s.memory c.sgl-own.ensures c.from.ensures in
+    c.in_ok-parse.ensures.dialogue
+    ∙ dialogue-behind c.args.need.dest _ (length c.self.inside.host) _ _ _ _ _ c.self.invariant.mapped s.memory c.sgl-own.ensures c.from.ensures in
     ends-otherwise _ (sgl_of c.args.sqe.now) c.wants.result
     (own-ends _ c.args.need.dest (sgl_of c.args.sqe.now) c.args.need.bytes c.requires.own c.requires.some)
     (c.wants.ensures ∙ ap want_of dialogue) c.in-TooLong.is

@@ -11,4 +11,5 @@ loop-index-preserved c =
     )
 
 pub returns-clause-moved : goal.returns-clause-moved
-returns-clause-moved c = blocks-end _ _ _ c.loop-index.index c.args.slba c.args.count (omega arith) c.loop-index.invariant.2
+returns-clause-moved c =
+    blocks-end _ _ _ c.loop-index.index c.args.slba c.args.count (omega arith) c.loop-index.invariant.2

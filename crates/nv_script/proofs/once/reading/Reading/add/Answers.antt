@@ -8,7 +8,8 @@ use Rattle.nv_script.proofs.OnceScriptLemmas.{memory-late, memory-new, blocks-la
 use Rattle.nv_script.proofs.once.reading.Reading.add.Goals as goal
 
 pub returns-then-is_some : goal.returns-then-is_some
-returns-then-is_some c = memory-late (progress c.args.self.now) c.args.keyword c.args.words c.in-Memory.is c.requires (sym c.is_some.ensures ∙ c.if-is_some.true)
+returns-then-is_some c =
+    memory-late (progress c.args.self.now) c.args.keyword c.args.words c.in-Memory.is c.requires (sym c.is_some.ensures ∙ c.if-is_some.true)
 
 pub returns-in_err-memory-in-Memory : goal.returns-in_err-memory-in-Memory
 returns-in_err-memory-in-Memory c =
@@ -22,7 +23,8 @@ returns-in_ok-memory-in-Memory c =
     after ∙ rw c.in_ok-memory-in-Memory.was refl
 
 pub returns-then-is_some-2 : goal.returns-then-is_some-2
-returns-then-is_some-2 c = blocks-late (progress c.args.self.now) c.args.keyword c.args.words c.in-Blocks.is c.requires (sym c.is_some-in-Blocks.ensures ∙ c.if-is_some-2.true)
+returns-then-is_some-2 c =
+    blocks-late (progress c.args.self.now) c.args.keyword c.args.words c.in-Blocks.is c.requires (sym c.is_some-in-Blocks.ensures ∙ c.if-is_some-2.true)
 
 pub returns-in_err-blocks-in-Blocks : goal.returns-in_err-blocks-in-Blocks
 returns-in_err-blocks-in-Blocks c =

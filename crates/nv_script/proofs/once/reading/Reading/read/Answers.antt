@@ -10,7 +10,8 @@ use Rattle.nv_script.proofs.OnceScriptLemmas.{after_line-none, after_line-unknow
 use Rattle.nv_script.proofs.once.reading.Reading.read.Goals as goal
 
 pub returns-in_default : goal.returns-in_default
-returns-in_default c = after_line-none (progress c.args.self.now) (words_of c.args.line.now) (sym c.of-words.ensures ∙ c.in_default.ensures.steps.0)
+returns-in_default c =
+    after_line-none (progress c.args.self.now) (words_of c.args.line.now) (sym c.of-words.ensures ∙ c.in_default.ensures.steps.0)
 
 pub returns-in_err-keyword : goal.returns-in_err-keyword
 returns-in_err-keyword c =

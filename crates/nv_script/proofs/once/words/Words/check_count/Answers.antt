@@ -8,7 +8,8 @@ returns-in_default c =
     count_check-missing (length c.args.self.now) c.args.wanted (omega (arith, all))
 
 pub loop-found-preserved : goal.loop-found-preserved
-loop-found-preserved c = drop-next c.args.self.now _ _ c.loop-found._found (c.loop-found.invariant.1 ∙ c.in-Some.ensures.steps)
+loop-found-preserved c =
+    drop-next c.args.self.now _ _ c.loop-found._found (c.loop-found.invariant.1 ∙ c.in-Some.ensures.steps)
 
 pub returns-in-None : goal.returns-in-None
 returns-in-None c =
