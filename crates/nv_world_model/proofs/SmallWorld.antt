@@ -1,5 +1,5 @@
 -- The smallest world of two guests: what holds of each guest, tag and block from its cases, and of images and the world cut down
-use Rattle.std.proofs.Common.{◌≡◌, ◌≢◌, ℕ, zero, suc, ◌+◌, ◌-◌, ◌<◌, Bool, true, false, ◌&&◌, ◌||◌, if◌then◌else◌, nat_le, nat_lt, List, [], ◌∷◌, length, Option, Some, None, is_some, refl, ap, subst, arith, slice_get}
+use Rattle.std.proofs.Common.{◌≡◌, ◌≢◌, ℕ, zero, suc, ◌+◌, ◌-◌, ◌<◌, ◌≤◌, Bool, true, false, ◌&&◌, ◌||◌, if◌then◌else◌, nat_le, nat_lt, ◌==◌, List, [], ◌∷◌, length, Option, Some, None, is_some, refl, ap, subst, arith, slice_get}
 use Rattle.std.proofs.lemmas.Bool.Decides.{nat_tests}
 use mathlib.Core.Path.{fun_ext}
 use Rattle.nv_mem.specs.GuestMap.{covers, covers_host}
@@ -49,15 +49,17 @@ image-agree r h k each addr = by (covers r addr) refl
     by false e = refl
 
 -- a guest's bytes stay in the world cut down to it
+pub host-cut : (number host base : ℕ) (w : World) (at : ℕ) → covers_host (record { guest = 0; host = host; len = 0x200 }) at ≡ true
+    → w.host at ≡ (cut number (small_guest host base) small w).host at
+unfolding cut
+host-cut number host base w at e = rw e refl
+
+-- and so does the image of its memory
 pub image-cut : (number host base : ℕ) (w : World)
     → image (regions_of (small_guest host base)) w.host ≡ image (regions_of (small_guest host base)) (cut number (small_guest host base) small w).host
-unfolding cut
 image-cut number host base w =
-    fun_ext (image-agree (record { guest = 0; host = host; len = 0x200 }) w.host (cut number (small_guest host base) small w).host kept)
-  where
-    kept : (at : ℕ) → covers_host (record { guest = 0; host = host; len = 0x200 }) at ≡ true
-        → w.host at ≡ (cut number (small_guest host base) small w).host at
-    kept at e = rw e refl
+    fun_ext
+    (image-agree (record { guest = 0; host = host; len = 0x200 }) w.host (cut number (small_guest host base) small w).host (host-cut number host base w))
 
 -- what is shown to a guest stays, too
 pub area-cut : (number host base : ℕ) (w : World) (at : ℕ) → lies_in (shown number (small_guest host base) small w) at ≡ true
@@ -103,6 +105,15 @@ image-put r m n h k same addr = image-agree r (put_image (r ∷ []) m h) (put_im
     each : (at : ℕ) → covers_host r at ≡ true → put_image (r ∷ []) m h at ≡ put_image (r ∷ []) n k at
     each at inside = rw inside (ap (λ (f : ℕ → ℕ). f (r.guest + (at - r.host))) same)
 
+-- no address of the mediator's area is in the first guest's image
+pub area-outside : (at : ℕ) → 0x10000 ≤ at → in_image small_first at ≡ false
+area-outside at h =
+    (let outside : covers_host (record { guest = 0; host = 0x1000; len = 0x200 }) at ≡ false = grind (arith, nat_tests, h) in rw outside refl)
+
+-- a list of no bytes shows none
+pub nowhere : (list addr : ℕ) → lies_in ((list, 0) ∷ []) addr ≡ true → ⊥
+nowhere list addr h = grind (arith, nat_tests, h)
+
 -- ---- bytes that are stored
 
 -- a byte that isn't stored is as it was
@@ -121,6 +132,12 @@ stored-inside h k addr bytes at e = rw e refl
 pub stored-same : (h k : ℕ → ℕ) (addr : ℕ) (bytes : List ℕ) (at : ℕ) → h at ≡ k at → stored h addr bytes at ≡ stored k addr bytes at
 unfolding stored
 stored-same h k addr bytes at e = rw e refl
+
+-- ---- blocks
+
+-- a block that isn't the first guest's is not its first one
+pub block-outside : (at : ℕ) → in_extent small_first.extent at ≡ false → (at == 2) ≡ false
+block-outside at e = grind (arith, nat_tests, e)
 
 -- ---- contained
 

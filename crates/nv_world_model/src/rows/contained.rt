@@ -1,13 +1,24 @@
 //! Events of each kind, each of which is contained: whatever address, block, lane and tag is looked at.
 
-ghost use Rattle.std.specs.Prelude.{[], ◌∷◌};
-ghost use Rattle.nv_model.specs.declared.act.Act.TheVariants as act;
+ghost use Rattle.std.specs.Prelude.{[]};
 ghost use Rattle.nv_world_model.specs.Contained.{Contained};
-ghost use Rattle.nv_world_model.specs.RowsSmall.{small, small_behind};
+ghost use Rattle.nv_world_model.specs.RowsSmall.{small, small_behind, taken_second};
 ghost use Rattle.nv_world_model.specs.declared.event.Event.TheVariants as event;
 
-/// A guest's command is taken, where another's has been.
+/// A guest's command is taken, while another's stands in the submission ring.
 #[tactic(none)]
 pub fn a_take()
     ensures { Contained small (event.Take 0 1 0) (small_behind []) }
+{}
+
+/// Bytes of a guest's memory join the transcript of its command.
+#[tactic(none)]
+pub fn a_list()
+    ensures { Contained small (event.List 0 1 0x10 8) (small_behind taken_second) }
+{}
+
+/// A guest's command ends without a physical one.
+#[tactic(none)]
+pub fn a_command_given_up()
+    ensures { Contained small (event.GiveUp 0 1) (small_behind taken_second) }
 {}
