@@ -150,7 +150,7 @@ pub leaves-first : (w z : World) → IsSameView 1 small_second small w z
 leaves-first w z view bytes blocks marks =
     record {
       views = each_of_two (λ number guest. Some 0 ≢ Some number → IsSameView number guest small w z) small_first small_second
-        (λ other. absurd (other refl)) (λ other. view);
+          (λ other. absurd (other refl)) (λ other. view);
       bytes = bytes;
       blocks = blocks;
       marks = marks;

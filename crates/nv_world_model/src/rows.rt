@@ -12,3 +12,4 @@ pub mod queues;
 pub mod set_ups;
 pub mod two_guests;
 pub mod views;
+pub mod wrong_steps;

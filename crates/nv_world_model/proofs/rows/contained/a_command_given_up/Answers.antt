@@ -66,14 +66,14 @@ unfolding number_at dword qword bits bytes_of_dwords completion everywhere addre
 own_alike =
     record {
       view =
-      record {
-        memory = (λ addr. ap (λ (m : ℕ → ℕ). m addr) (image-cut 0 0x1000 2 before));
-        blocks = (λ lba offset. each_block (λ at. behind.disk (2 + at) offset ≡ cut_behind.disk (2 + at) offset) refl refl lba);
-        controller = refl;
-        tags = each_tag _ refl refl (λ t. refl) (λ l t. refl);
-        held = each_tag _ refl refl (λ t. refl) (λ l t. refl);
-        area = (λ addr h. absurd (cc));
-      };
+          record {
+            memory = (λ addr. ap (λ (m : ℕ → ℕ). m addr) (image-cut 0 0x1000 2 before));
+            blocks = (λ lba offset. each_block (λ at. behind.disk (2 + at) offset ≡ cut_behind.disk (2 + at) offset) refl refl lba);
+            controller = refl;
+            tags = each_tag _ refl refl (λ t. refl) (λ l t. refl);
+            held = each_tag _ refl refl (λ t. refl) (λ l t. refl);
+            area = (λ addr h. absurd (cc));
+          };
       marks = (λ lba. each_block (λ at. behind.kept (2 + at) ≡ cut_behind.kept (2 + at)) refl refl lba);
       shared = refl;
     }
