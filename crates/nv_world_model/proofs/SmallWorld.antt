@@ -5,6 +5,7 @@ use mathlib.Core.Path.{fun_ext}
 use Rattle.nv_mem.specs.GuestMap.{covers, covers_host}
 use Rattle.nv_mem.specs.declared.region.Region.{Region}
 use Rattle.nv_model.specs.Memory.{byte_at_host, image, stored}
+use Rattle.nv_model.specs.Private.{marked}
 use Rattle.nv_world_model.specs.Contained.{LeavesOthers, ReadsOwn, in_area}
 use Rattle.nv_world_model.specs.CutDown.{cut}
 use Rattle.nv_world_model.specs.Geometry.{Guest, regions_of}
@@ -110,6 +111,10 @@ pub area-outside : (at : ℕ) → 0x10000 ≤ at → in_image small_first at ≡
 area-outside at h =
     (let outside : covers_host (record { guest = 0; host = 0x1000; len = 0x200 }) at ≡ false = grind (arith, nat_tests, h) in rw outside refl)
 
+-- the first slot of the submission ring is in that area, and so are all bytes that are shown beside a list of none
+pub first-slot : (addr : ℕ) → lies_in ((0x10000, 64) ∷ (0x13000, 0) ∷ []) addr ≡ true → 0x10000 ≤ addr
+first-slot addr h = grind (arith, nat_tests, h)
+
 -- a list of no bytes shows none
 pub nowhere : (list addr : ℕ) → lies_in ((list, 0) ∷ []) addr ≡ true → ⊥
 nowhere list addr h = grind (arith, nat_tests, h)
@@ -138,6 +143,14 @@ stored-same h k addr bytes at e = rw e refl
 -- a block that isn't the first guest's is not its first one
 pub block-outside : (at : ℕ) → in_extent small_first.extent at ≡ false → (at == 2) ≡ false
 block-outside at e = grind (arith, nat_tests, e)
+
+-- a mark that was set is still set behind one that is set
+pub mark-rises : (block : ℕ) (kept : ℕ → Bool) (at : ℕ) → kept at ≡ true → marked kept block true at ≡ true
+mark-rises block kept at is = by (at == block)
+  where
+    by : (b : Bool) → (if b then true else kept at) ≡ true
+    by true = refl
+    by false = is
 
 -- ---- contained
 

@@ -71,6 +71,9 @@ small_behind events = replay small (event.Take 1 1 0 ∷ event.Submit 0 0 ∷ ev
 abbrev pub taken_second : List Event
 taken_second = event.Take 0 1 0 ∷ []
 
+abbrev pub given_up_second : List Event
+given_up_second = taken_second ++ event.GiveUp 0 1 ∷ []
+
 abbrev pub queued_second : List Event
 queued_second = taken_second ++ event.Submit 0 1 ∷ event.DevTake 0 ∷ []
 

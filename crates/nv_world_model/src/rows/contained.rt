@@ -1,8 +1,9 @@
 //! Events of each kind, each of which is contained: whatever address, block, lane and tag is looked at.
 
-ghost use Rattle.std.specs.Prelude.{[]};
+ghost use Rattle.std.specs.Prelude.{[], ◌∷◌};
+ghost use Rattle.nv_model.specs.declared.act.Act.TheVariants as act;
 ghost use Rattle.nv_world_model.specs.Contained.{Contained};
-ghost use Rattle.nv_world_model.specs.RowsSmall.{small, small_behind, taken_second};
+ghost use Rattle.nv_world_model.specs.RowsSmall.{given_up_second, small, small_behind, taken_second};
 ghost use Rattle.nv_world_model.specs.declared.event.Event.TheVariants as event;
 
 /// A guest's command is taken, while another's stands in the submission ring.
@@ -21,4 +22,22 @@ pub fn a_list()
 #[tactic(none)]
 pub fn a_command_given_up()
     ensures { Contained small (event.GiveUp 0 1) (small_behind taken_second) }
+{}
+
+/// A guest stores bytes in its memory.
+#[tactic(none)]
+pub fn a_store()
+    ensures { Contained small (event.Guest 0 (act.Store 0x10 (1 ∷ 2 ∷ []))) (small_behind []) }
+{}
+
+/// A guest's command, which was given up, is completed.
+#[tactic(none)]
+pub fn a_post()
+    ensures { Contained small (event.Post 0 1) (small_behind given_up_second) }
+{}
+
+/// A block becomes kept, which is a guest's.
+#[tactic(none)]
+pub fn a_keep()
+    ensures { Contained small (event.Keep 4) (small_behind []) }
 {}
