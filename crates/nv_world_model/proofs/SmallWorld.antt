@@ -1,5 +1,5 @@
 -- The smallest world of two guests: what holds of each guest, tag and block from its cases, and of images and the world cut down
-use Rattle.std.proofs.Common.{◌≡◌, ◌≢◌, ℕ, zero, suc, ◌+◌, ◌-◌, ◌<◌, ◌≤◌, Bool, true, false, ◌&&◌, ◌||◌, if◌then◌else◌, nat_le, nat_lt, ◌==◌, List, [], ◌∷◌, length, Option, Some, None, is_some, refl, ap, subst, arith, slice_get}
+use Rattle.std.proofs.Common.{◌≡◌, ◌≢◌, ℕ, zero, suc, ◌+◌, ◌-◌, ◌<◌, ◌≤◌, Bool, true, false, ◌&&◌, ◌||◌, if◌then◌else◌, nat_le, nat_lt, ◌==◌, List, [], ◌∷◌, length, Option, Some, None, is_some, refl, ap, ◌∙◌, subst, arith, slice_get}
 use Rattle.std.proofs.lemmas.Bool.Decides.{nat_tests}
 use mathlib.Core.Path.{fun_ext}
 use Rattle.nv_mem.specs.GuestMap.{covers, covers_host}
@@ -137,6 +137,52 @@ stored-inside h k addr bytes at e = rw e refl
 pub stored-same : (h k : ℕ → ℕ) (addr : ℕ) (bytes : List ℕ) (at : ℕ) → h at ≡ k at → stored h addr bytes at ≡ stored k addr bytes at
 unfolding stored
 stored-same h k addr bytes at e = rw e refl
+
+-- ---- what a Submit of a command without a transfer writes in the second slot
+
+-- whether an address is in that slot
+abbrev pub in_slot : (at : ℕ) → Bool
+in_slot at = nat_le 0x10040 at && nat_lt at 0x10080
+
+-- the host's memory behind it
+abbrev pub with_entry : (entry : List ℕ) → (host : ℕ → ℕ) → ℕ → ℕ
+with_entry entry host = stored (stored (stored host 0x34000 []) 0x35000 []) 0x10040 entry
+
+-- no byte is among none
+among-none : (addr at : ℕ) → (nat_le addr at && nat_lt at (addr + 0)) ≡ false
+among-none addr at = grind (arith, nat_tests)
+
+-- a byte outside of the slot stays
+pub entry-outside : (h : ℕ → ℕ) (entry : List ℕ) → length entry ≡ 64 → (at : ℕ) → in_slot at ≡ false → h at ≡ with_entry entry h at
+entry-outside h entry size at apart =
+    (let test : (nat_le 0x10040 at && nat_lt at (0x10040 + length entry)) ≡ false = rw size apart in
+    stored-outside h 0x34000 [] at (among-none 0x34000 at)
+    ∙ stored-outside (stored h 0x34000 []) 0x35000 [] at (among-none 0x35000 at)
+    ∙ stored-outside (stored (stored h 0x34000 []) 0x35000 []) 0x10040 entry at test)
+
+-- one in the slot is the entry's
+pub entry-inside : (h k : ℕ → ℕ) (entry : List ℕ) → length entry ≡ 64 → (addr : ℕ)
+    → lies_in ((0x10040, 64) ∷ (0x34000, 0) ∷ []) addr ≡ true → with_entry entry h addr ≡ with_entry entry k addr
+entry-inside h k entry size addr shown =
+    (let inside : in_slot addr ≡ true = grind (arith, nat_tests, shown) in
+    let test : (nat_le 0x10040 addr && nat_lt addr (0x10040 + length entry)) ≡ true = rw size inside in
+    stored-inside (stored (stored h 0x34000 []) 0x35000 []) (stored (stored k 0x34000 []) 0x35000 []) 0x10040 entry addr test)
+
+-- one that was the same is the same
+pub entry-same : (h k : ℕ → ℕ) (entry : List ℕ) (at : ℕ) → h at ≡ k at → with_entry entry h at ≡ with_entry entry k at
+entry-same h k entry at e =
+    stored-same (stored (stored h 0x34000 []) 0x35000 []) (stored (stored k 0x34000 []) 0x35000 []) 0x10040 entry at
+    (stored-same (stored h 0x34000 []) (stored k 0x34000 []) 0x35000 [] at (stored-same h k 0x34000 [] at e))
+
+-- the slot is apart from the second guest's memory, from what isn't the mediator's, and from the first slot
+pub slot-second : (at : ℕ) → covers_host (record { guest = 0; host = 0x2000; len = 0x200 }) at ≡ true → in_slot at ≡ false
+slot-second at inside = grind (arith, nat_tests, inside)
+
+pub slot-area : (at : ℕ) → (nat_le 0x10000 at && nat_lt at 0x853000) ≡ false → in_slot at ≡ false
+slot-area at away = grind (arith, nat_tests, away)
+
+pub slot-first : (addr : ℕ) → lies_in ((0x10000, 64) ∷ (0x13000, 0) ∷ []) addr ≡ true → in_slot addr ≡ false
+slot-first addr h = grind (arith, nat_tests, h)
 
 -- ---- blocks
 

@@ -41,3 +41,15 @@ pub fn a_post()
 pub fn a_keep()
     ensures { Contained small (event.Keep 4) (small_behind []) }
 {}
+
+/// A guest's admin command is carried out, and completed.
+#[tactic(none)]
+pub fn an_admin_command()
+    ensures { Contained small (event.Admin 0) (small_behind []) }
+{}
+
+/// A guest's command is handed on: its physical entry is written behind another's.
+#[tactic(none)]
+pub fn a_submit()
+    ensures { Contained small (event.Submit 0 1) (small_behind taken_second) }
+{}
