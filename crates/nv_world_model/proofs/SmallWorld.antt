@@ -184,6 +184,32 @@ slot-area at away = grind (arith, nat_tests, away)
 pub slot-first : (addr : ℕ) → lies_in ((0x10000, 64) ∷ (0x13000, 0) ∷ []) addr ≡ true → in_slot addr ≡ false
 slot-first addr h = grind (arith, nat_tests, h)
 
+-- ---- what the device writes in the first slot of the completion ring
+
+-- whether an address is in that slot
+abbrev pub in_answer : (at : ℕ) → Bool
+in_answer at = nat_le 0x12000 at && nat_lt at 0x12010
+
+-- a byte outside of the slot stays
+pub answer-outside : (h : ℕ → ℕ) (answer : List ℕ) → length answer ≡ 16 → (at : ℕ) → in_answer at ≡ false → h at ≡ stored h 0x12000 answer at
+answer-outside h answer size at apart =
+    (let test : (nat_le 0x12000 at && nat_lt at (0x12000 + length answer)) ≡ false = rw size apart in stored-outside h 0x12000 answer at test)
+
+-- one in the slot is the completion's
+pub answer-inside : (h k : ℕ → ℕ) (answer : List ℕ) → length answer ≡ 16 → (addr : ℕ)
+    → lies_in ((0x12000, 16) ∷ (0x34000, 0) ∷ []) addr ≡ true → stored h 0x12000 answer addr ≡ stored k 0x12000 answer addr
+answer-inside h k answer size addr shown =
+    (let inside : in_answer addr ≡ true = grind (arith, nat_tests, shown) in
+    let test : (nat_le 0x12000 addr && nat_lt addr (0x12000 + length answer)) ≡ true = rw size inside in
+    stored-inside h k 0x12000 answer addr test)
+
+-- the slot is apart from the second guest's memory, and from what isn't the mediator's
+pub answer-second : (at : ℕ) → covers_host (record { guest = 0; host = 0x2000; len = 0x200 }) at ≡ true → in_answer at ≡ false
+answer-second at inside = grind (arith, nat_tests, inside)
+
+pub answer-area : (at : ℕ) → (nat_le 0x10000 at && nat_lt at 0x853000) ≡ false → in_answer at ≡ false
+answer-area at away = grind (arith, nat_tests, away)
+
 -- ---- blocks
 
 -- a block that isn't the first guest's is not its first one

@@ -43,9 +43,9 @@ small_controller =
       completion_queues = Some (new_completion 0x180 2) ∷ Some (new_completion 0xc0 2) ∷ replicate 7 None;
     }
 
--- a Write Zeroes of both blocks
-abbrev pub clear_both : List ℕ
-clear_both = command (dword0 write_zeroes 0 0) 1 (replicate 16 0) 0 0 1
+-- a Write Zeroes of the first block
+abbrev pub clear_one : List ℕ
+clear_one = command (dword0 write_zeroes 0 0) 1 (replicate 16 0) 0 0 0
 
 -- an Abort with identifier 3
 abbrev pub abort : List ℕ
@@ -55,7 +55,7 @@ abort = admin_entry 0x08 3 0 0 0 0 0
 abbrev pub small_world : World
 small_world =
     record {
-      host = stored (stored (stored (λ _. 0) 0x1040 clear_both) 0x1100 abort) 0x2040 clear_both;
+      host = stored (stored (stored (λ _. 0) 0x1040 clear_one) 0x1100 abort) 0x2040 clear_one;
       disk = numbered;
       kept = (λ _. false);
       device = record { head = 0; tail = 0; posted = 0; phase = true; held = None ∷ None ∷ [] } ∷ [];
@@ -74,17 +74,18 @@ taken_second = event.Take 0 1 0 ∷ []
 abbrev pub given_up_second : List Event
 given_up_second = taken_second ++ event.GiveUp 0 1 ∷ []
 
-abbrev pub queued_second : List Event
-queued_second = taken_second ++ event.Submit 0 1 ∷ event.DevTake 0 ∷ []
+-- the world behind these events, where the second guest's command is taken in tag 0, and the first's is handed on in tag 1
+abbrev pub small_handed_on : List Event → World
+small_handed_on events = replay small (event.Take 1 1 0 ∷ event.Take 0 1 0 ∷ event.Submit 0 1 ∷ events) small_world
 
+-- it is in the device
 abbrev pub held_second : List Event
-held_second = queued_second ++ event.DevTake 0 ∷ []
+held_second = event.DevTake 0 ∷ []
 
+-- its block has been cleared
 abbrev pub moved_second : List Event
-moved_second = held_second ++ event.DevMove 0 1 1 ∷ event.DevMove 0 1 0 ∷ []
+moved_second = held_second ++ event.DevMove 0 1 0 ∷ []
 
+-- and the device has completed it
 abbrev pub posted_second : List Event
 posted_second = moved_second ++ event.DevPost 0 1 ∷ []
-
-abbrev pub ended_second : List Event
-ended_second = posted_second ++ event.Reap 0 ∷ []

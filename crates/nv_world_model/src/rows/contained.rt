@@ -1,9 +1,9 @@
 //! Events of each kind, each of which is contained: whatever address, block, lane and tag is looked at.
 
-ghost use Rattle.std.specs.Prelude.{[], ◌∷◌};
+ghost use Rattle.std.specs.Prelude.{false, [], ◌∷◌};
 ghost use Rattle.nv_model.specs.declared.act.Act.TheVariants as act;
 ghost use Rattle.nv_world_model.specs.Contained.{Contained};
-ghost use Rattle.nv_world_model.specs.RowsSmall.{given_up_second, small, small_behind, taken_second};
+ghost use Rattle.nv_world_model.specs.RowsSmall.{given_up_second, held_second, moved_second, small, small_behind, small_handed_on, taken_second};
 ghost use Rattle.nv_world_model.specs.declared.event.Event.TheVariants as event;
 
 /// A guest's command is taken, while another's stands in the submission ring.
@@ -52,4 +52,28 @@ pub fn an_admin_command()
 #[tactic(none)]
 pub fn a_submit()
     ensures { Contained small (event.Submit 0 1) (small_behind taken_second) }
+{}
+
+/// The device takes a guest's entry.
+#[tactic(none)]
+pub fn an_entry_taken_by_the_device()
+    ensures { Contained small (event.DevTake 0) (small_handed_on []) }
+{}
+
+/// A unit of a guest's command moves: a block of its namespace becomes zeros.
+#[tactic(none)]
+pub fn a_unit()
+    ensures { Contained small (event.DevMove 0 1 0) (small_handed_on held_second) }
+{}
+
+/// The device completes a guest's command.
+#[tactic(none)]
+pub fn a_physical_completion()
+    ensures { Contained small (event.DevPost 0 1) (small_handed_on moved_second) }
+{}
+
+/// The device fails a guest's command.
+#[tactic(none)]
+pub fn a_failure()
+    ensures { Contained small (event.DevFail 0 1 (record { sct = 2; sc = 0x81; dnr = false })) (small_handed_on held_second) }
 {}

@@ -1,5 +1,4 @@
-use Rattle.std.proofs.Common.{◌≡◌, ◌≢◌, ℕ, ◌+◌, zero, suc, List, [], ◌∷◌, Option, Some, None, Bool, true, false, refl, ap, sym, subst, arith}
-use Rattle.std.proofs.lemmas.Bool.Decides.{nat_tests}
+use Rattle.std.proofs.Common.{◌≡◌, ◌≢◌, ℕ, [], Some, None, refl, subst}
 use Rattle.nv_entry.specs.Layout.{number_at, dword, qword, bits, bytes_of_dwords}
 use Rattle.nv_entry.specs.Completion.{completion}
 use Rattle.nv_mem.specs.GuestMap.{everywhere}
@@ -22,8 +21,8 @@ use Rattle.nv_world_model.specs.Seat.{put_image, units_behind, members, seat, pu
 use Rattle.nv_world_model.specs.Step.{acted_in, administered_in, free_tag, taken_to, listed, ended_at_once, submitted, device_took, device_moved, device_posted, kept_block, reaped, scattered_to, posted_to, ran_out_of, step, replay, replies}
 use Rattle.nv_model.specs.Admin.{admin_command, admin}
 use Rattle.nv_world_model.specs.CutDown.{cut}
-use Rattle.nv_world_model.specs.View.{IsSameView, IsAlike, shown, shared_numbers}
-use Rattle.nv_world_model.specs.Contained.{IsContained, LeavesOthers, ReadsOwn, guest_standing}
+use Rattle.nv_world_model.specs.View.{IsSameView, shown, shared_numbers}
+use Rattle.nv_world_model.specs.Contained.{guest_standing}
 use Rattle.nv_world_model.specs.declared.event.Event.TheVariants as event
 use Rattle.nv_world_model.specs.World.{World}
 use Rattle.nv_world_model.specs.Contained.{RaisesOne}
@@ -74,13 +73,13 @@ unfolding number_at dword qword bits bytes_of_dwords completion everywhere addre
 returns c =
     record {
       others =
-      record {
-        views = each_of_two (λ number guest. None ≢ Some number → IsSameView number guest small before behind) small_first small_second
-          (λ other. first_view) (λ other. second_view);
-        bytes = (λ at out away. refl);
-        blocks = (λ at offset out. refl);
-        marks = (λ at out is. mark-rises 4 before.kept at is);
-      };
+          record {
+            views = each_of_two (λ number guest. None ≢ Some number → IsSameView number guest small before behind) small_first small_second
+                (λ other. first_view) (λ other. second_view);
+            bytes = (λ at out away. refl);
+            blocks = (λ at offset out. refl);
+            marks = (λ at out is. mark-rises 4 before.kept at is);
+          };
       own = (λ number guest there is. absurd (cc));
       keep = (λ block is. (let same : 4 ≡ block = cc in subst (λ (b : ℕ). RaisesOne b before behind) same raises));
       dull = (λ is. absurd (cc));

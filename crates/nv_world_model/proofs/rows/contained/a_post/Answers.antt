@@ -1,5 +1,4 @@
-use Rattle.std.proofs.Common.{◌≡◌, ◌≢◌, ℕ, ◌+◌, zero, suc, List, [], ◌∷◌, Option, Some, None, Bool, true, false, refl, ap, sym, arith}
-use Rattle.std.proofs.lemmas.Bool.Decides.{nat_tests}
+use Rattle.std.proofs.Common.{◌≡◌, ◌+◌, ℕ, true, refl, ap}
 use Rattle.nv_entry.specs.Layout.{number_at, dword, qword, bits, bytes_of_dwords}
 use Rattle.nv_entry.specs.Completion.{completion}
 use Rattle.nv_mem.specs.GuestMap.{everywhere}
@@ -23,13 +22,13 @@ use Rattle.nv_world_model.specs.Step.{acted_in, administered_in, free_tag, taken
 use Rattle.nv_model.specs.Admin.{admin_command, admin}
 use Rattle.nv_world_model.specs.CutDown.{cut}
 use Rattle.nv_world_model.specs.View.{IsSameView, IsAlike, shown, shared_numbers}
-use Rattle.nv_world_model.specs.Contained.{IsContained, LeavesOthers, ReadsOwn, guest_standing}
+use Rattle.nv_world_model.specs.Contained.{guest_standing}
 use Rattle.nv_world_model.specs.declared.event.Event.TheVariants as event
 use Rattle.nv_world_model.specs.World.{World}
 use Rattle.nv_world_model.specs.Geometry.{regions_of}
 use Rattle.nv_entry.specs.StatusCode.{done_with}
 use Rattle.nv_entry.specs.declared.status_code.StatusCode.TheVariants.{InternalError}
-use Rattle.nv_world_model.specs.RowsSmall.{small, small_behind, small_first, small_second, taken_second, given_up_second, queued_second, held_second, moved_second, posted_second, ended_second}
+use Rattle.nv_world_model.specs.RowsSmall.{small, small_behind, small_first, small_second, given_up_second}
 use Rattle.nv_world_model.specs.Step.{After}
 use Rattle.nv_world_model.proofs.SmallWorld.{each_tag, each_block, image-cut, leaves-first, own-first, put-apart, put-outside, area-outside, image-put, first-slot}
 use Rattle.nv_world_model.proofs.rows.contained.a_post.Goals as goal
@@ -79,14 +78,14 @@ unfolding number_at dword qword bits bytes_of_dwords completion everywhere addre
 own_alike =
     record {
       view =
-      record {
-        memory = (image-put (record { guest = 0; host = 0x1000; len = 0x200 }) memory_behind cut_memory_behind before.host cut_before.host same_memory);
-        blocks = (λ lba offset. each_block (λ at. behind.disk (2 + at) offset ≡ cut_behind.disk (2 + at) offset) refl refl lba);
-        controller = refl;
-        tags = each_tag _ refl refl (λ t. refl) (λ l t. refl);
-        held = each_tag _ refl refl (λ t. refl) (λ l t. refl);
-        area = (λ addr h. absurd (cc));
-      };
+          record {
+            memory = (image-put (record { guest = 0; host = 0x1000; len = 0x200 }) memory_behind cut_memory_behind before.host cut_before.host same_memory);
+            blocks = (λ lba offset. each_block (λ at. behind.disk (2 + at) offset ≡ cut_behind.disk (2 + at) offset) refl refl lba);
+            controller = refl;
+            tags = each_tag _ refl refl (λ t. refl) (λ l t. refl);
+            held = each_tag _ refl refl (λ t. refl) (λ l t. refl);
+            area = (λ addr h. absurd (cc));
+          };
       marks = (λ lba. each_block (λ at. behind.kept (2 + at) ≡ cut_behind.kept (2 + at)) refl refl lba);
       shared = refl;
     }

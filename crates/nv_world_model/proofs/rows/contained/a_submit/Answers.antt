@@ -1,5 +1,4 @@
-use Rattle.std.proofs.Common.{◌≡◌, ◌≢◌, ℕ, ◌+◌, zero, suc, List, [], ◌∷◌, replicate, Option, Some, None, Bool, true, false, refl, ap, sym, arith}
-use Rattle.std.proofs.lemmas.Bool.Decides.{nat_tests}
+use Rattle.std.proofs.Common.{◌≡◌, ◌+◌, ◌∷◌, ℕ, List, [], replicate, refl}
 use Rattle.nv_entry.specs.Layout.{number_at, dword, qword, bits, bytes_of_dwords}
 use Rattle.nv_entry.specs.Completion.{completion}
 use Rattle.nv_mem.specs.GuestMap.{everywhere}
@@ -23,10 +22,10 @@ use Rattle.nv_world_model.specs.Step.{acted_in, administered_in, free_tag, taken
 use Rattle.nv_model.specs.Admin.{admin_command, admin}
 use Rattle.nv_world_model.specs.CutDown.{cut}
 use Rattle.nv_world_model.specs.View.{IsSameView, IsAlike, shown, shared_numbers}
-use Rattle.nv_world_model.specs.Contained.{IsContained, LeavesOthers, ReadsOwn, guest_standing}
+use Rattle.nv_world_model.specs.Contained.{guest_standing}
 use Rattle.nv_world_model.specs.declared.event.Event.TheVariants as event
 use Rattle.nv_world_model.specs.World.{World}
-use Rattle.nv_world_model.specs.RowsSmall.{small, small_behind, small_first, small_second, taken_second, given_up_second, queued_second, held_second, moved_second, posted_second, ended_second}
+use Rattle.nv_world_model.specs.RowsSmall.{small, small_behind, small_first, small_second, taken_second}
 use Rattle.nv_world_model.specs.Step.{After}
 use Rattle.nv_world_model.proofs.SmallWorld.{each_tag, each_block, image-cut, leaves-first, own-first, entry-inside, entry-outside, entry-same, host-cut, image-agree, slot-area, slot-first, slot-second}
 use Rattle.nv_world_model.proofs.rows.contained.a_submit.Goals as goal
@@ -47,9 +46,9 @@ cut_before = cut 0 small_first small before
 abbrev cut_behind : World
 cut_behind = (done cut_before).world
 
--- the physical entry: a Write Zeroes of disk blocks 2 and 3, with identifier 1
+-- the physical entry: a Write Zeroes of disk block 2, with identifier 1
 abbrev entry : List ℕ
-entry = physical_entry 0x08 1 (record { prp1 = 0; prp2 = 0; list = replicate 32 0; used = 0 }) (2 ∷ 0 ∷ 1 ∷ [])
+entry = physical_entry 0x08 1 (record { prp1 = 0; prp2 = 0; list = replicate 32 0; used = 0 }) (2 ∷ 0 ∷ 0 ∷ [])
 
 -- the other guest's view
 second_view : IsSameView 1 small_second small before behind
@@ -70,14 +69,14 @@ unfolding number_at dword qword bits bytes_of_dwords completion everywhere addre
 own_alike =
     record {
       view =
-      record {
-        memory = (image-agree (record { guest = 0; host = 0x1000; len = 0x200 }) behind.host cut_behind.host (λ at inside. entry-same before.host cut_before.host entry at (host-cut 0 0x1000 2 before at inside)));
-        blocks = (λ lba offset. each_block (λ at. behind.disk (2 + at) offset ≡ cut_behind.disk (2 + at) offset) refl refl lba);
-        controller = refl;
-        tags = each_tag _ refl refl (λ t. refl) (λ l t. refl);
-        held = each_tag _ refl refl (λ t. refl) (λ l t. refl);
-        area = (λ addr h. entry-inside before.host cut_before.host entry refl addr h);
-      };
+          record {
+            memory = (image-agree (record { guest = 0; host = 0x1000; len = 0x200 }) behind.host cut_behind.host (λ at inside. entry-same before.host cut_before.host entry at (host-cut 0 0x1000 2 before at inside)));
+            blocks = (λ lba offset. each_block (λ at. behind.disk (2 + at) offset ≡ cut_behind.disk (2 + at) offset) refl refl lba);
+            controller = refl;
+            tags = each_tag _ refl refl (λ t. refl) (λ l t. refl);
+            held = each_tag _ refl refl (λ t. refl) (λ l t. refl);
+            area = (λ addr h. entry-inside before.host cut_before.host entry refl addr h);
+          };
       marks = (λ lba. each_block (λ at. behind.kept (2 + at) ≡ cut_behind.kept (2 + at)) refl refl lba);
       shared = refl;
     }
