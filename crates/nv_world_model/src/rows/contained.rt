@@ -3,7 +3,7 @@
 ghost use Rattle.std.specs.Prelude.{false, [], ◌∷◌};
 ghost use Rattle.nv_model.specs.declared.act.Act.TheVariants as act;
 ghost use Rattle.nv_world_model.specs.Contained.{Contained};
-ghost use Rattle.nv_world_model.specs.RowsSmall.{given_up_second, held_second, moved_second, small, small_behind, small_handed_on, taken_second};
+ghost use Rattle.nv_world_model.specs.RowsSmall.{given_up_second, held_second, moved_second, posted_second, small, small_behind, small_handed_on, taken_second};
 ghost use Rattle.nv_world_model.specs.declared.event.Event.TheVariants as event;
 
 /// A guest's command is taken, while another's stands in the submission ring.
@@ -76,4 +76,10 @@ pub fn a_physical_completion()
 #[tactic(none)]
 pub fn a_failure()
     ensures { Contained small (event.DevFail 0 1 (record { sct = 2; sc = 0x81; dnr = false })) (small_handed_on held_second) }
+{}
+
+/// A physical completion ends a guest's tag.
+#[tactic(none)]
+pub fn a_reap()
+    ensures { Contained small (event.Reap 0) (small_handed_on posted_second) }
 {}
