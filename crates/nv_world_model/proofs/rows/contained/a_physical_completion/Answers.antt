@@ -1,4 +1,4 @@
-use Rattle.std.proofs.Common.{◌≡◌, ◌+◌, ℕ, List, true, refl}
+use Rattle.std.proofs.Common.{◌≡◌, ℕ, ◌+◌, List, true, refl, sym, subst}
 use Rattle.nv_entry.specs.Layout.{number_at, dword, qword, bits, bytes_of_dwords}
 use Rattle.nv_entry.specs.Completion.{completion}
 use Rattle.nv_mem.specs.GuestMap.{everywhere}
@@ -22,12 +22,12 @@ use Rattle.nv_world_model.specs.Step.{acted_in, administered_in, free_tag, taken
 use Rattle.nv_model.specs.Admin.{admin_command, admin}
 use Rattle.nv_world_model.specs.CutDown.{cut}
 use Rattle.nv_world_model.specs.View.{IsSameView, IsAlike, shown, shared_numbers}
-use Rattle.nv_world_model.specs.Contained.{guest_standing}
+use Rattle.nv_world_model.specs.Contained.{Contained, guest_standing}
 use Rattle.nv_world_model.specs.declared.event.Event.TheVariants as event
 use Rattle.nv_world_model.specs.World.{World}
 use Rattle.nv_entry.specs.StatusCode.{done_with}
 use Rattle.nv_entry.specs.declared.status_code.StatusCode.TheVariants.{Success}
-use Rattle.nv_world_model.specs.RowsSmall.{small, small_handed_on, small_first, small_second, moved_second}
+use Rattle.nv_world_model.specs.RowsSmall.{small, small_handed_on, small_first, small_moved, small_second, moved_second}
 use Rattle.nv_world_model.specs.Step.{After}
 use Rattle.nv_world_model.proofs.SmallWorld.{each_tag, each_block, image-cut, leaves-first, own-first, answer-area, answer-inside, answer-outside, answer-second, host-cut, image-agree, stored-same}
 use Rattle.nv_world_model.proofs.rows.contained.a_physical_completion.Goals as goal
@@ -37,7 +37,7 @@ abbrev done : World → After
 done w = step small (event.DevPost 0 1) w
 
 abbrev before : World
-before = small_handed_on moved_second
+before = small_moved
 
 abbrev behind : World
 behind = (done before).world
@@ -83,12 +83,21 @@ own_alike =
       shared = refl;
     }
 
-pub returns : goal.returns
+-- it is contained in the world that is written out
+contained : Contained small (event.DevPost 0 1) small_moved
 unfolding number_at dword qword bits bytes_of_dwords completion everywhere addresses bytes_from stored gathered scattered image in_memory and_then first_read in_transcript read_array read_sgl read_entries read_source ranges_in move_units clear_units range_units judge units_moved opening register reg_write doorbell front took post ran_out differs hosts_of fit_behind built plan_over physical_entry written held_of device_unit completion_written put_image units_behind members seat put_back acted_in administered_in free_tag taken_to listed ended_at_once submitted device_took device_moved device_posted kept_block reaped scattered_to posted_to ran_out_of step replay replies admin_command admin cut shown shared_numbers guest_standing
-returns c =
+contained =
     record {
       others = leaves-first before behind second_view (λ at out away. answer-outside before.host answer refl at (answer-area at away)) (λ at offset out. refl) (λ at out is. is);
       own = own-first done before (record { reply = refl; alike = own_alike });
       keep = (λ block is. absurd (cc));
       dull = (λ is. absurd (cc));
     }
+
+-- that world is the one behind the events
+written_out : small_handed_on moved_second ≡ small_moved
+unfolding number_at dword qword bits bytes_of_dwords completion everywhere addresses bytes_from stored gathered scattered image in_memory and_then first_read in_transcript read_array read_sgl read_entries read_source ranges_in move_units clear_units range_units judge units_moved opening register reg_write doorbell front took post ran_out differs hosts_of fit_behind built plan_over physical_entry written held_of device_unit completion_written put_image units_behind members seat put_back acted_in administered_in free_tag taken_to listed ended_at_once submitted device_took device_moved device_posted kept_block reaped scattered_to posted_to ran_out_of step replay replies admin_command admin cut shown shared_numbers guest_standing
+written_out = refl
+
+pub returns : goal.returns
+returns c = subst (λ (w : World). Contained small (event.DevPost 0 1) w) (sym written_out) contained
