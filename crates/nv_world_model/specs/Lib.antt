@@ -20,3 +20,4 @@ pub mod RowsWorlds
 pub mod RowsShown
 pub mod RowsSteps
 pub mod RowsSmall
+pub mod RowsWrong

@@ -13,3 +13,4 @@ pub mod rings;
 pub mod set_ups;
 pub mod two_guests;
 pub mod views;
+pub mod wrong_steps;

@@ -1,4 +1,4 @@
-use Rattle.std.proofs.Common.{◌≡◌, ◌≢◌, ℕ, ◌+◌, zero, suc, List, [], ◌∷◌, Option, Some, None, Bool, true, false, refl, ap, sym}
+use Rattle.std.proofs.Common.{◌≡◌, ◌+◌, ℕ, [], refl, ap}
 use Rattle.nv_entry.specs.Layout.{number_at, dword, qword, bits, bytes_of_dwords}
 use Rattle.nv_entry.specs.Completion.{completion}
 use Rattle.nv_mem.specs.GuestMap.{everywhere}
@@ -22,10 +22,10 @@ use Rattle.nv_world_model.specs.Step.{acted_in, administered_in, taken_to, liste
 use Rattle.nv_model.specs.Admin.{admin_command, admin}
 use Rattle.nv_world_model.specs.CutDown.{cut}
 use Rattle.nv_world_model.specs.View.{IsSameView, IsAlike, shown, shared_numbers}
-use Rattle.nv_world_model.specs.Contained.{IsContained, LeavesOthers, ReadsOwn, guest_standing}
+use Rattle.nv_world_model.specs.Contained.{guest_standing}
 use Rattle.nv_world_model.specs.declared.event.Event.TheVariants as event
 use Rattle.nv_world_model.specs.World.{World}
-use Rattle.nv_world_model.specs.RowsSmall.{small, small_behind, small_first, small_second, taken_second, queued_second, held_second, moved_second, posted_second, ended_second}
+use Rattle.nv_world_model.specs.RowsSmall.{small, small_behind, small_first, small_second}
 use Rattle.nv_world_model.specs.Step.{After}
 use Rattle.nv_world_model.proofs.SmallWorld.{each_tag, each_block, image-cut, leaves-first, own-first}
 use Rattle.nv_world_model.proofs.rows.contained.a_take.Goals as goal

@@ -1,0 +1,88 @@
+use Rattle.std.proofs.Common.{◌≡◌, ◌+◌, ℕ, refl, ap}
+use Rattle.nv_entry.specs.Layout.{number_at, dword, qword, bits, bytes_of_dwords}
+use Rattle.nv_entry.specs.Completion.{completion}
+use Rattle.nv_mem.specs.GuestMap.{everywhere}
+use Rattle.nv_mem.specs.Places.{addresses}
+use Rattle.nv_model.specs.Memory.{bytes_from, gathered, image, put_image, scattered, stored}
+use Rattle.nv_model.specs.Dialogue.{in_memory, and_then}
+use Rattle.nv_model.specs.Transcript.{first_read, in_transcript}
+use Rattle.nv_model.specs.Sgl.{read_array, read_sgl}
+use Rattle.nv_model.specs.Prp.{read_entries}
+use Rattle.nv_model.specs.Judge.{read_source, ranges_in, move_units, clear_units, range_units, judge}
+use Rattle.nv_model.specs.Carried.{units_moved}
+use Rattle.nv_model.specs.Controller.{opening, register, reg_write, doorbell, front, took, post, ran_out}
+use Rattle.nv_model.specs.Private.{differs, step as private_step, run_of}
+use Rattle.nv_prp.specs.Fits.{hosts_of, fit_behind}
+use Rattle.nv_prp.specs.Built.{built}
+use Rattle.nv_world_model.specs.Plan.{plan_over}
+use Rattle.nv_world_model.specs.Area.{physical_entry, written}
+use Rattle.nv_world_model.specs.Device.{held_of, device_unit, completion_written}
+use Rattle.nv_world_model.specs.Seat.{units_behind, members, seat, put_back}
+use Rattle.nv_world_model.specs.Step.{acted_in, administered_in, taken_to, listed, ended_at_once, submitted, device_took, device_moved, device_posted, kept_block, reaped, scattered_to, posted_to, ran_out_of, step, replay, replies}
+use Rattle.nv_model.specs.Admin.{admin_command, admin}
+use Rattle.nv_world_model.specs.CutDown.{cut}
+use Rattle.nv_world_model.specs.View.{IsSameView, IsAlike, shown, shared_numbers}
+use Rattle.nv_world_model.specs.Contained.{guest_standing}
+use Rattle.nv_world_model.specs.declared.event.Event.TheVariants as event
+use Rattle.nv_world_model.specs.World.{World}
+use Rattle.nv_world_model.specs.RowsSmall.{small, small_behind, small_first, small_second, taken_second}
+use Rattle.nv_world_model.specs.Step.{After}
+use Rattle.nv_world_model.proofs.SmallWorld.{each_tag, each_block, image-cut, leaves-first, own-first}
+use Rattle.nv_world_model.proofs.rows.contained.a_command_given_up.Goals as goal
+
+-- the world before the event and behind it, and the same of the world cut down to the first guest
+abbrev done : World → After
+done w = step small (event.GiveUp 0 1) w
+
+abbrev before : World
+before = small_behind taken_second
+
+abbrev behind : World
+behind = (done before).world
+
+abbrev cut_before : World
+cut_before = cut 0 small_first small before
+
+abbrev cut_behind : World
+cut_behind = (done cut_before).world
+
+-- the other guest's view
+second_view : IsSameView 1 small_second small before behind
+unfolding number_at dword qword bits bytes_of_dwords completion everywhere addresses bytes_from stored gathered scattered image in_memory and_then first_read in_transcript read_array read_sgl read_entries read_source ranges_in move_units clear_units range_units judge units_moved opening register reg_write doorbell front took post ran_out differs hosts_of fit_behind built plan_over physical_entry written held_of device_unit completion_written put_image units_behind members seat put_back acted_in administered_in taken_to listed ended_at_once submitted device_took device_moved device_posted kept_block reaped scattered_to posted_to ran_out_of step replay replies admin_command admin cut shown shared_numbers guest_standing
+second_view =
+    record {
+      memory = (λ addr. refl);
+      blocks = (λ lba offset h. refl);
+      controller = refl;
+      tags = each_tag _ refl refl (λ t. refl) (λ l t. refl);
+      held = each_tag _ refl refl (λ t. refl) (λ l t. refl);
+      area = (λ addr h. refl);
+    }
+
+-- the same is done in the world cut down
+own_alike : IsAlike 0 small_first small behind cut_behind
+unfolding number_at dword qword bits bytes_of_dwords completion everywhere addresses bytes_from stored gathered scattered image in_memory and_then first_read in_transcript read_array read_sgl read_entries read_source ranges_in move_units clear_units range_units judge units_moved opening register reg_write doorbell front took post ran_out differs hosts_of fit_behind built plan_over physical_entry written held_of device_unit completion_written put_image units_behind members seat put_back acted_in administered_in taken_to listed ended_at_once submitted device_took device_moved device_posted kept_block reaped scattered_to posted_to ran_out_of step replay replies admin_command admin cut shown shared_numbers guest_standing
+own_alike =
+    record {
+      view =
+          record {
+            memory = (λ addr. ap (λ (m : ℕ → ℕ). m addr) (image-cut 0 0x1000 2 before));
+            blocks = (λ lba offset. each_block (λ at. behind.disk (2 + at) offset ≡ cut_behind.disk (2 + at) offset) refl refl lba);
+            controller = refl;
+            tags = each_tag _ refl refl (λ t. refl) (λ l t. refl);
+            held = each_tag _ refl refl (λ t. refl) (λ l t. refl);
+            area = (λ addr h. absurd (cc));
+          };
+      marks = (λ lba. each_block (λ at. behind.kept (2 + at) ≡ cut_behind.kept (2 + at)) refl refl lba);
+      shared = refl;
+    }
+
+pub returns : goal.returns
+unfolding number_at dword qword bits bytes_of_dwords completion everywhere addresses bytes_from stored gathered scattered image in_memory and_then first_read in_transcript read_array read_sgl read_entries read_source ranges_in move_units clear_units range_units judge units_moved opening register reg_write doorbell front took post ran_out differs hosts_of fit_behind built plan_over physical_entry written held_of device_unit completion_written put_image units_behind members seat put_back acted_in administered_in taken_to listed ended_at_once submitted device_took device_moved device_posted kept_block reaped scattered_to posted_to ran_out_of step replay replies admin_command admin cut shown shared_numbers guest_standing
+returns c =
+    record {
+      others = leaves-first before behind second_view (λ at out away. refl) (λ at offset out. refl) (λ at out is. is);
+      own = own-first done before (record { reply = refl; alike = own_alike });
+      keep = (λ block is. absurd (cc));
+      dull = (λ is. absurd (cc));
+    }

@@ -1,0 +1,86 @@
+use Rattle.std.proofs.Common.{◌≡◌, ◌≢◌, ℕ, [], Some, None, refl, subst}
+use Rattle.nv_entry.specs.Layout.{number_at, dword, qword, bits, bytes_of_dwords}
+use Rattle.nv_entry.specs.Completion.{completion}
+use Rattle.nv_mem.specs.GuestMap.{everywhere}
+use Rattle.nv_mem.specs.Places.{addresses}
+use Rattle.nv_model.specs.Memory.{bytes_from, gathered, image, put_image, scattered, stored}
+use Rattle.nv_model.specs.Dialogue.{in_memory, and_then}
+use Rattle.nv_model.specs.Transcript.{first_read, in_transcript}
+use Rattle.nv_model.specs.Sgl.{read_array, read_sgl}
+use Rattle.nv_model.specs.Prp.{read_entries}
+use Rattle.nv_model.specs.Judge.{read_source, ranges_in, move_units, clear_units, range_units, judge}
+use Rattle.nv_model.specs.Carried.{units_moved}
+use Rattle.nv_model.specs.Controller.{opening, register, reg_write, doorbell, front, took, post, ran_out}
+use Rattle.nv_model.specs.Private.{differs, step as private_step, run_of}
+use Rattle.nv_prp.specs.Fits.{hosts_of, fit_behind}
+use Rattle.nv_prp.specs.Built.{built}
+use Rattle.nv_world_model.specs.Plan.{plan_over}
+use Rattle.nv_world_model.specs.Area.{physical_entry, written}
+use Rattle.nv_world_model.specs.Device.{held_of, device_unit, completion_written}
+use Rattle.nv_world_model.specs.Seat.{units_behind, members, seat, put_back}
+use Rattle.nv_world_model.specs.Step.{acted_in, administered_in, taken_to, listed, ended_at_once, submitted, device_took, device_moved, device_posted, kept_block, reaped, scattered_to, posted_to, ran_out_of, step, replay, replies}
+use Rattle.nv_model.specs.Admin.{admin_command, admin}
+use Rattle.nv_world_model.specs.CutDown.{cut}
+use Rattle.nv_world_model.specs.View.{IsSameView, shown, shared_numbers}
+use Rattle.nv_world_model.specs.Contained.{guest_standing}
+use Rattle.nv_world_model.specs.declared.event.Event.TheVariants as event
+use Rattle.nv_world_model.specs.World.{World}
+use Rattle.nv_world_model.specs.Contained.{RaisesOne}
+use Rattle.nv_world_model.specs.RowsSmall.{small, small_behind, small_first, small_second}
+use Rattle.nv_world_model.specs.Step.{After}
+use Rattle.nv_world_model.proofs.SmallWorld.{each_of_two, each_tag, mark-rises}
+use Rattle.nv_world_model.proofs.rows.contained.a_keep.Goals as goal
+
+-- the world before the event and behind it
+abbrev before : World
+before = small_behind []
+
+abbrev behind : World
+behind = (step small (event.Keep 4) before).world
+
+-- each guest's view
+first_view : IsSameView 0 small_first small before behind
+unfolding number_at dword qword bits bytes_of_dwords completion everywhere addresses bytes_from stored gathered scattered image in_memory and_then first_read in_transcript read_array read_sgl read_entries read_source ranges_in move_units clear_units range_units judge units_moved opening register reg_write doorbell front took post ran_out differs hosts_of fit_behind built plan_over physical_entry written held_of device_unit completion_written put_image units_behind members seat put_back acted_in administered_in taken_to listed ended_at_once submitted device_took device_moved device_posted kept_block reaped scattered_to posted_to ran_out_of step replay replies admin_command admin cut shown shared_numbers guest_standing
+first_view =
+    record {
+      memory = (λ addr. refl);
+      blocks = (λ lba offset h. refl);
+      controller = refl;
+      tags = each_tag _ refl refl (λ t. refl) (λ l t. refl);
+      held = each_tag _ refl refl (λ t. refl) (λ l t. refl);
+      area = (λ addr h. refl);
+    }
+
+second_view : IsSameView 1 small_second small before behind
+unfolding number_at dword qword bits bytes_of_dwords completion everywhere addresses bytes_from stored gathered scattered image in_memory and_then first_read in_transcript read_array read_sgl read_entries read_source ranges_in move_units clear_units range_units judge units_moved opening register reg_write doorbell front took post ran_out differs hosts_of fit_behind built plan_over physical_entry written held_of device_unit completion_written put_image units_behind members seat put_back acted_in administered_in taken_to listed ended_at_once submitted device_took device_moved device_posted kept_block reaped scattered_to posted_to ran_out_of step replay replies admin_command admin cut shown shared_numbers guest_standing
+second_view =
+    record {
+      memory = (λ addr. refl);
+      blocks = (λ lba offset h. refl);
+      controller = refl;
+      tags = each_tag _ refl refl (λ t. refl) (λ l t. refl);
+      held = each_tag _ refl refl (λ t. refl) (λ l t. refl);
+      area = (λ addr h. refl);
+    }
+
+-- the one mark
+raises : RaisesOne 4 before behind
+unfolding number_at dword qword bits bytes_of_dwords completion everywhere addresses bytes_from stored gathered scattered image in_memory and_then first_read in_transcript read_array read_sgl read_entries read_source ranges_in move_units clear_units range_units judge units_moved opening register reg_write doorbell front took post ran_out differs hosts_of fit_behind built plan_over physical_entry written held_of device_unit completion_written put_image units_behind members seat put_back acted_in administered_in taken_to listed ended_at_once submitted device_took device_moved device_posted kept_block reaped scattered_to posted_to ran_out_of step replay replies admin_command admin cut shown shared_numbers guest_standing
+raises = record { others = refl; marks = (λ at other. rw other refl); rises = (λ is. refl) }
+
+pub returns : goal.returns
+unfolding number_at dword qword bits bytes_of_dwords completion everywhere addresses bytes_from stored gathered scattered image in_memory and_then first_read in_transcript read_array read_sgl read_entries read_source ranges_in move_units clear_units range_units judge units_moved opening register reg_write doorbell front took post ran_out differs hosts_of fit_behind built plan_over physical_entry written held_of device_unit completion_written put_image units_behind members seat put_back acted_in administered_in taken_to listed ended_at_once submitted device_took device_moved device_posted kept_block reaped scattered_to posted_to ran_out_of step replay replies admin_command admin cut shown shared_numbers guest_standing
+returns c =
+    record {
+      others =
+          record {
+            views = each_of_two (λ number guest. None ≢ Some number → IsSameView number guest small before behind) small_first small_second
+                (λ other. first_view) (λ other. second_view);
+            bytes = (λ at out away. refl);
+            blocks = (λ at offset out. refl);
+            marks = (λ at out is. mark-rises 4 before.kept at is);
+          };
+      own = (λ number guest there is. absurd (cc));
+      keep = (λ block is. (let same : 4 ≡ block = cc in subst (λ (b : ℕ). RaisesOne b before behind) same raises));
+      dull = (λ is. absurd (cc));
+    }
