@@ -11,7 +11,7 @@ use Rattle.nv_world_model.specs.Agrees.{is_awaited}
 use Rattle.nv_world_model.specs.Disciplined.{is_disciplined}
 use Rattle.nv_world_model.specs.Geometry.{shape_of}
 use Rattle.nv_world_model.specs.PrivateSteps.{private_steps, steps_of}
-use Rattle.nv_world_model.specs.Rows.{behind, holding, set_up, world_with}
+use Rattle.nv_world_model.specs.Rows.{behind, controller_with, holding, set_up, world_with}
 use Rattle.nv_world_model.specs.RowsShown.{first_guest, second_guest}
 use Rattle.nv_world_model.specs.Seat.{Owner, owner_of, seat}
 use Rattle.nv_world_model.specs.Step.{step}
@@ -74,3 +74,7 @@ read_named_twice first second =
 -- whether these addresses of the first guest are awaited behind these events
 abbrev pub awaited_behind : List Event → World → List ℕ → List Bool
 awaited_behind events w addrs = behind events w (λ z. map (is_awaited 0 first_guest z) addrs)
+
+-- the first guest's private controller as it stands in a world in which it has rung one command and none is taken
+abbrev pub first_seat : World → Private
+first_seat w = seat set_up (record { number = 0; given = first_guest; controller = controller_with 16 1 }) w

@@ -8,8 +8,9 @@ use Rattle.nv_model.specs.RowsRuns.{create_completion_queue, create_submission_q
 use Rattle.nv_world_model.specs.declared.event.Event.{Event}
 use Rattle.nv_world_model.specs.declared.event.Event.TheVariants as event
 use Rattle.nv_world_model.specs.Device.{opening_device_lane}
-use Rattle.nv_world_model.specs.Rows.{behind, completed, controller_with, holding, moves, one_command_on, set_up, world_with}
-use Rattle.nv_world_model.specs.Step.{due}
+use Rattle.nv_world_model.specs.Rows.{behind, completed, controller_with, guest_at, holding, in_device, moves, one_command_on, set_up, world_with}
+use Rattle.nv_world_model.specs.Geometry.{Geometry, Guest}
+use Rattle.nv_world_model.specs.Step.{due, replay}
 use Rattle.nv_world_model.specs.World.{Command, Ended, Flying, Free, Tag, Taken, World, opening_lane, opening_world, tag_of}
 
 -- ---- lists
@@ -142,3 +143,24 @@ marks_at blocks w = map w.kept blocks
 -- whether that event is due behind these
 abbrev pub due_behind : List Event → World → Event → Bool
 due_behind events w e = behind events w (due set_up e)
+
+-- ---- a map of two regions
+
+-- the same set-up, where the first guest's memory from 10000h on lies elsewhere in the host
+abbrev pub split_set_up : Geometry
+split_set_up = record set_up { guests = split_guest ∷ guest_at 0x200000 2000 ∷ [] }
+  where
+    split_guest : Guest
+    split_guest =
+        record (guest_at 0x100000 1000) {
+          memory_map =
+              record {
+                host_len = 0x1000000;
+                regions =
+                    record { guest = 0; host = 0x100000; len = 0x10000 } ∷ record { guest = 0x10000; host = 0x150000; len = 0x10000 } ∷ [];
+              };
+        }
+
+-- its Read of block 5 into 512 bytes at this address is in the device
+abbrev pub split_read : (addr : ℕ) → World
+split_read addr = replay split_set_up in_device (world_with (holding 0x153000 (by_sgl 0x02 5 0 (data_block addr 512))) 16 1 0)

@@ -1,5 +1,6 @@
 //! Worked examples, computed from the definitions.
 
+pub mod agreeing;
 pub mod answers;
 pub mod contained;
 pub mod disciplined;

@@ -5,7 +5,7 @@ ghost use Rattle.nv_model.specs.declared.act.Act.TheVariants as act;
 ghost use Rattle.nv_model.specs.declared.reply.Reply.TheVariants as reply;
 ghost use Rattle.nv_model.specs.Rows.{bit_bucket, block_range, by_prp, data_block};
 ghost use Rattle.nv_world_model.specs.Rows.{behind, completed, handed_on, host_bytes, host_number, in_device, moves, one_command, told};
-ghost use Rattle.nv_world_model.specs.RowsWorlds.{list_in_device, list_whole, paged_read, read_apart, two_described, two_ranges};
+ghost use Rattle.nv_world_model.specs.RowsWorlds.{list_in_device, list_whole, paged_read, read_apart, split_read, two_described, two_ranges};
 ghost use Rattle.nv_world_model.specs.declared.event.Event.TheVariants as event;
 
 /// The examples of this module, a clause each.
@@ -47,6 +47,12 @@ pub fn examples()
     // One block by PRP, with an offset of a multiple of 4.
     ensures an_offset_is_kept { behind in_device (one_command (by_prp 0x02 5 0 0x3004 0)) handed_on
         ≡ 0x02 ∷ 0 ∷ 0x103004 ∷ 0 ∷ 1005 ∷ 0 ∷ 0 ∷ [] }
+    // A buffer that goes on in another region, from a page's end to a page's start: direct.
+    ensures regions_may_follow { handed_on (split_read 0xff00) ≡ 0x02 ∷ 0 ∷ 0x10ff00 ∷ 0x150000 ∷ 1005 ∷ 0 ∷ 0 ∷ [] }
+    // One that ends with the first region: direct, by one entry.
+    ensures a_buffer_ends_with_a_region { handed_on (split_read 0xfe00) ≡ 0x02 ∷ 0 ∷ 0x10fe00 ∷ 0 ∷ 1005 ∷ 0 ∷ 0 ∷ [] }
+    // One at an odd place: bounced.
+    ensures an_odd_place_is_bounced { handed_on (split_read 0xff02) ≡ 0x02 ∷ 0 ∷ 0x404000 ∷ 0 ∷ 1005 ∷ 0 ∷ 0 ∷ [] }
     // Two ranges as the disk has them.
     ensures two_ranges_are_translated { behind (list_in_device 0x3000 32) (two_ranges (block_range 5 2) (block_range 0 1)) (host_bytes 0x404000 32)
         ≡ 0 ∷ 0 ∷ 0 ∷ 0 ∷ 2 ∷ 0 ∷ 0 ∷ 0 ∷ 0xed ∷ 0x03 ∷ 0 ∷ 0 ∷ 0 ∷ 0 ∷ 0 ∷ 0
