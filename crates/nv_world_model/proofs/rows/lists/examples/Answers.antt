@@ -62,15 +62,15 @@ unfolding number_at dword qword bits bytes_of_dwords completion everywhere addre
 returns-clause-an_offset_is_kept c = refl
 
 pub returns-clause-regions_may_follow : goal.returns-clause-regions_may_follow
-unfolding number_at dword qword bits bytes_of_dwords completion everywhere addresses bytes_from stored gathered scattered image in_memory and_then first_read in_transcript read_array read_sgl read_entries read_source ranges_in move_units clear_units range_units judge units_moved opening register reg_write doorbell front took post ran_out differs hosts_of fit_behind built plan_over physical_entry written held_of device_unit completion_written put_image units_behind members seat put_back acted_in administered_in free_tag taken_to listed ended_at_once submitted device_took device_moved device_posted kept_block reaped scattered_to posted_to ran_out_of step replay replies
+unfolding number_at dword qword bits bytes_of_dwords completion everywhere addresses bytes_from stored gathered scattered image in_memory and_then first_read in_transcript read_array read_sgl read_entries read_source ranges_in move_units clear_units range_units judge units_moved opening register reg_write doorbell front took post ran_out differs hosts_of fit_behind built plan_over physical_entry written held_of device_unit completion_written put_image units_behind members seat put_back acted_in administered_in taken_to listed ended_at_once submitted device_took device_moved device_posted kept_block reaped scattered_to posted_to ran_out_of step replay replies
 returns-clause-regions_may_follow c = refl
 
 pub returns-clause-a_buffer_ends_with_a_region : goal.returns-clause-a_buffer_ends_with_a_region
-unfolding number_at dword qword bits bytes_of_dwords completion everywhere addresses bytes_from stored gathered scattered image in_memory and_then first_read in_transcript read_array read_sgl read_entries read_source ranges_in move_units clear_units range_units judge units_moved opening register reg_write doorbell front took post ran_out differs hosts_of fit_behind built plan_over physical_entry written held_of device_unit completion_written put_image units_behind members seat put_back acted_in administered_in free_tag taken_to listed ended_at_once submitted device_took device_moved device_posted kept_block reaped scattered_to posted_to ran_out_of step replay replies
+unfolding number_at dword qword bits bytes_of_dwords completion everywhere addresses bytes_from stored gathered scattered image in_memory and_then first_read in_transcript read_array read_sgl read_entries read_source ranges_in move_units clear_units range_units judge units_moved opening register reg_write doorbell front took post ran_out differs hosts_of fit_behind built plan_over physical_entry written held_of device_unit completion_written put_image units_behind members seat put_back acted_in administered_in taken_to listed ended_at_once submitted device_took device_moved device_posted kept_block reaped scattered_to posted_to ran_out_of step replay replies
 returns-clause-a_buffer_ends_with_a_region c = refl
 
 pub returns-clause-an_odd_place_is_bounced : goal.returns-clause-an_odd_place_is_bounced
-unfolding number_at dword qword bits bytes_of_dwords completion everywhere addresses bytes_from stored gathered scattered image in_memory and_then first_read in_transcript read_array read_sgl read_entries read_source ranges_in move_units clear_units range_units judge units_moved opening register reg_write doorbell front took post ran_out differs hosts_of fit_behind built plan_over physical_entry written held_of device_unit completion_written put_image units_behind members seat put_back acted_in administered_in free_tag taken_to listed ended_at_once submitted device_took device_moved device_posted kept_block reaped scattered_to posted_to ran_out_of step replay replies
+unfolding number_at dword qword bits bytes_of_dwords completion everywhere addresses bytes_from stored gathered scattered image in_memory and_then first_read in_transcript read_array read_sgl read_entries read_source ranges_in move_units clear_units range_units judge units_moved opening register reg_write doorbell front took post ran_out differs hosts_of fit_behind built plan_over physical_entry written held_of device_unit completion_written put_image units_behind members seat put_back acted_in administered_in taken_to listed ended_at_once submitted device_took device_moved device_posted kept_block reaped scattered_to posted_to ran_out_of step replay replies
 returns-clause-an_odd_place_is_bounced c = refl
 
 pub returns-clause-two_ranges_are_translated : goal.returns-clause-two_ranges_are_translated
