@@ -1,0 +1,4 @@
+pub mod Physical
+pub mod Units
+pub mod Taking
+pub mod Moving
