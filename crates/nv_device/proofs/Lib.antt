@@ -1,1 +1,3 @@
+mod HeldLemmas
+mod LaneLemmas
 mod UnitMarks

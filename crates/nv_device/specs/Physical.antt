@@ -44,9 +44,13 @@ opening_physical mediator lanes blocks =
 
 -- ---- its parts
 
+-- what stands where there is no lane
+abbrev pub no_lane : DeviceLane
+no_lane = record { head = 0; tail = 0; posted = 0; phase = true; held = [] }
+
 -- a lane that is there
 abbrev pub lane_of : Physical → (lane : ℕ) → DeviceLane
-lane_of p lane = slice_index_or p.lanes lane opening_device_lane
+lane_of p lane = slice_index_or p.lanes lane no_lane
 
 -- the device with a lane as it is now
 abbrev pub with_lane : (lane : ℕ) → DeviceLane → Physical → Physical

@@ -2,9 +2,12 @@
 #![tactic(auto)]
 
 mod command;
+mod device;
 mod lane;
+mod posting;
 mod response;
 mod units;
 
+pub use device::Device;
 pub use lane::{IDENTIFIERS, RING_SLOTS};
 pub use response::Response;
