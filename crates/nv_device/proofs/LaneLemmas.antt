@@ -1,5 +1,5 @@
 -- A lane of the device, looked up and changed
-use Rattle.std.proofs.Common.{◌≡◌, ℕ, zero, suc, ◌+◌, ◌<◌, ◌≤◌, Bool, List, [], ◌∷◌, length, refl, sym, ap, ◌∙◌, arith, set, get_or}
+use Rattle.std.proofs.Common.{◌≡◌, ℕ, zero, suc, ◌+◌, ◌<◌, ◌≤◌, Bool, List, [], ◌∷◌, length, refl, sym, ap, subst, ◌∙◌, arith, set, get_or}
 use Rattle.nv_entry.specs.Completion.{completion}
 use Rattle.nv_entry.specs.Status.{StatusField}
 use Rattle.nv_mem.specs.Bytes.{after_store}
@@ -49,3 +49,9 @@ same-completion head head2 queue queue2 cid cid2 phase phase2 st heads queues ci
     ∙ ap (λ (q : ℕ). completion 0 head2 q cid phase st) queues
     ∙ ap (λ (i : ℕ). completion 0 head2 queue2 i phase st) cids
     ∙ ap (λ (p : Bool). completion 0 head2 queue2 cid2 p st) phases
+
+-- a lane of a device that was looked up in its fields
+pub lane-seen : (p inside : Physical) (lane i : ℕ) (d : DeviceLane) → inside ≡ p → i ≡ lane → lane < length p.lanes → d ≡ get_or inside.lanes i d → d ≡ lane_of p lane
+lane-seen p inside lane i d view same within is =
+    let L : Physical → Type 0 = λ q. lane < length q.lanes in
+    lane-got inside lane i d same (subst L (sym view) within) is ∙ ap (λ (q : Physical). lane_of q lane) view

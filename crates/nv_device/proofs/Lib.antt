@@ -1,3 +1,5 @@
 mod HeldLemmas
 mod LaneLemmas
+mod PageLemmas
+mod TakeLemmas
 mod UnitMarks

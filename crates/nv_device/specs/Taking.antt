@@ -2,31 +2,15 @@
 use Rattle.std.specs.Prelude.{◌≡◌, ℕ, ◌+◌, ◌<◌, ◌≤◌, Bool, true, false, not, ◌==◌, nat_lt, if◌then◌else◌, List, length, Option, Some, None}
 use Rattle.nv_entry.specs.Opcode.{io_opcode}
 use Rattle.nv_entry.specs.Submission.{cid_of, opcode_of, prp1_of, prp2_of, slba_of}
-use Rattle.nv_mem.specs.declared.piece.Piece.{Piece}
-use Rattle.nv_model.specs.Dialogue.{in_memory}
 use Rattle.nv_model.specs.Judge.{count_of}
-use Rattle.nv_model.specs.Prp.{read_prp}
 use Rattle.nv_model.specs.Queue.{is_empty}
-use Rattle.nv_model.specs.Reading.{Reading, Faulty, Spells, TooLong}
 use Rattle.nv_moves.specs.Flat.{byte_in}
 use Rattle.nv_world_model.specs.Area.{tag_count}
 use Rattle.nv_world_model.specs.Device.{DeviceLane, Held, entry_taken, front_entry}
+use Rattle.nv_device.specs.Pages.{host_reading, spells}
 use Rattle.nv_device.specs.Physical.{Physical, held_at, lane_of, len_of, names_blocks, with_lane}
 
 -- ---- what it needs
-
--- the addresses of a host of that length
-abbrev pub in_host : (host_len : ℕ) → ℕ → Bool
-in_host host_len addr = nat_lt addr host_len
-
--- what PRP1, PRP2 and a list say where the host's addresses are those that are there
-abbrev pub host_reading : (host : List ℕ) → (prp1 prp2 len : ℕ) → Reading
-host_reading host prp1 prp2 len = in_memory (byte_in host) (read_prp (in_host (length host)) prp1 prp2 len)
-
-abbrev pub spells : Reading → Bool
-spells (Faulty code) = false
-spells TooLong = false
-spells (Spells pieces) = true
 
 -- an entry that the device may take: its bytes and its list lie in the host, its blocks are on a disk of that many, and
 -- no command in the device has its identifier, which is below 64

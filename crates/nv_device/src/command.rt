@@ -1,10 +1,19 @@
 //! A command in the device.
 
-ghost use Rattle.std.specs.Prelude.{◌≡◌, true};
+ghost use Rattle.std.specs.Prelude.{◌≡◌, ◌==◌, ◌<◌, ◌^◌, ◌↔◌, [], true, IfOk, IsTrue};
+ghost use Rattle.nv_entry.specs.Opcode.{io_opcode};
+ghost use Rattle.nv_entry.specs.Submission.{opcode_of, prp1_of, prp2_of};
+ghost use Rattle.nv_moves.specs.Flat.{byte_in};
+ghost use Rattle.nv_world_model.specs.Device.{held_of, held_status, host_pieces, unit_count, unit_gone};
+ghost use Rattle.nv_device.specs.Pages.{host_reading, spells};
+ghost use Rattle.nv_device.specs.Physical.{len_of};
+ghost use Rattle.std.specs.List.{list_any};
 
+use crate::pages::read_pages;
 use crate::units::Units;
-use nv_entry::{Sqe, Status, StatusCode};
-use nv_mem::Places;
+use nv_entry::{IoOpcode, Sqe, Status, StatusCode};
+use nv_mem::{Host, NoMemory, Places};
+use std::alloc::Global;
 use std::marker::Model;
 
 /// A command in the device: its entry, where its bytes lie in the host, its units that have not moved, and whether a
@@ -26,10 +35,21 @@ impl Model for Command {
 }
 
 impl Command {
-    ghost use Rattle.std.specs.Prelude.{◌==◌, ◌↔◌, [], IsTrue};
-    ghost use Rattle.std.specs.List.{list_any};
-    ghost use Rattle.nv_entry.specs.Status.{StatusField};
-    ghost use Rattle.nv_world_model.specs.Device.{held_status, unit_gone};
+    /// The command of an entry, of which no unit has moved. The bytes that it names are looked up in the host.
+    pub(crate) fn new(alloc: Global, sqe: Sqe, host: &Host) -> Result<Self, NoMemory>
+        requires { 0 < len_of (io_opcode (opcode_of sqe)) sqe →
+            spells (host_reading host.now (prp1_of sqe) (prp2_of sqe) (len_of (io_opcode (opcode_of sqe)) sqe)) ≡ true }
+        ensures { IfOk result (λ command. command ≡ held_of sqe (byte_in host.now)) }
+    {
+        let left = Units::new(alloc, unit_count(&sqe))?;
+        let places = places_of(alloc, &sqe, host)?;
+        Ok(Command {
+            sqe,
+            places,
+            left,
+            differed: false,
+        })
+    }
 
     /// Whether that unit has not moved.
     pub(crate) fn has(&self, number: u64) -> bool
@@ -63,5 +83,42 @@ impl Command {
     {
         self.left.remove(number);
         self.differed = differed;
+    }
+}
+
+/// Where the bytes of a command lie in the host; one without a transfer names none.
+fn places_of(alloc: Global, sqe: &Sqe, host: &Host) -> Result<Places, NoMemory>
+    requires { 0 < len_of (io_opcode (opcode_of sqe.now)) sqe.now →
+        spells (host_reading host.now (prp1_of sqe.now) (prp2_of sqe.now) (len_of (io_opcode (opcode_of sqe.now)) sqe.now)) ≡ true }
+    ensures { IfOk result (λ places. places ≡ host_pieces (io_opcode (opcode_of sqe.now)) sqe.now (byte_in host.now)) }
+{
+    let len = transfer_len(sqe);
+    if len == 0 {
+        return Ok(Places::new(alloc));
+    }
+    read_pages(alloc, host, sqe.prp1(), sqe.prp2(), len)
+}
+
+/// How many bytes a command transfers.
+fn transfer_len(sqe: &Sqe) -> u64
+    ensures value { result ≡ len_of (io_opcode (opcode_of sqe.now)) sqe.now }
+    ensures fits { result < 2 ^ 32 }
+{
+    match sqe.io_opcode() {
+        Some(IoOpcode::Read | IoOpcode::Write | IoOpcode::Compare) => 512 * (u64::from(sqe.nlb()) + 1),
+        Some(IoOpcode::DatasetManagement) => 16 * (u64::from(sqe.nr()) + 1),
+        Some(IoOpcode::WriteZeroes | IoOpcode::Flush) | None => 0,
+    }
+}
+
+/// How many units a command has: one for each block, for each range, or for the whole.
+fn unit_count(sqe: &Sqe) -> usize
+    ensures { result ≡ unit_count (io_opcode (opcode_of sqe.now)) sqe.now }
+{
+    match sqe.io_opcode() {
+        Some(IoOpcode::Read | IoOpcode::Write | IoOpcode::Compare | IoOpcode::WriteZeroes) => usize::from(sqe.nlb()) + 1,
+        Some(IoOpcode::DatasetManagement) => usize::from(sqe.nr()) + 1,
+        Some(IoOpcode::Flush) => 1,
+        None => 0,
     }
 }

@@ -4,8 +4,10 @@
 mod command;
 mod device;
 mod lane;
+mod pages;
 mod posting;
 mod response;
+mod taking;
 mod units;
 
 pub use device::Device;
