@@ -2,7 +2,8 @@
 
 ghost use Rattle.std.specs.Prelude.{◌≡◌, ◌==◌, ◌<◌, ◌^◌, ◌↔◌, [], true, IfOk, IsTrue};
 ghost use Rattle.nv_entry.specs.Opcode.{io_opcode};
-ghost use Rattle.nv_entry.specs.Submission.{opcode_of, prp1_of, prp2_of};
+ghost use Rattle.nv_entry.specs.Submission.{opcode_of, prp1_of, prp2_of, slba_of};
+ghost use Rattle.nv_model.specs.Judge.{deallocates, is_fua};
 ghost use Rattle.nv_moves.specs.Flat.{byte_in};
 ghost use Rattle.nv_world_model.specs.Device.{held_of, held_status, host_pieces, unit_count, unit_gone};
 ghost use Rattle.nv_device.specs.Pages.{host_reading, spells};
@@ -20,10 +21,10 @@ use std::marker::Model;
 /// Compare has differed.
 #[derive(Debug, Drop)]
 pub(crate) struct Command {
-    pub(crate) sqe: Sqe,
-    pub(crate) places: Places,
-    pub(crate) left: Units,
-    pub(crate) differed: bool,
+    sqe: Sqe,
+    places: Places,
+    left: Units,
+    differed: bool,
 }
 
 impl Model for Command {
@@ -49,6 +50,48 @@ impl Command {
             left,
             differed: false,
         })
+    }
+
+    /// Its opcode, where it is one of the six.
+    pub(crate) fn opcode(&self) -> Option<IoOpcode>
+        ensures { result ≡ io_opcode (opcode_of self.now.entry) }
+    {
+        self.sqe.io_opcode()
+    }
+
+    /// Where its bytes lie in the host.
+    pub(crate) fn places(&self) -> &Places
+        ensures { result.now ≡ self.now.pieces }
+    {
+        &self.places
+    }
+
+    /// SLBA, the first of its blocks.
+    pub(crate) fn slba(&self) -> u64
+        ensures { result ≡ slba_of self.now.entry }
+    {
+        self.sqe.slba()
+    }
+
+    /// Whether its blocks are kept: FUA.
+    pub(crate) fn fua(&self) -> bool
+        ensures { result ≡ is_fua self.now.entry }
+    {
+        self.sqe.fua()
+    }
+
+    /// Whether a Dataset Management deallocates.
+    pub(crate) fn deallocates(&self) -> bool
+        ensures { result ≡ deallocates self.now.entry }
+    {
+        self.sqe.deallocate()
+    }
+
+    /// Whether a Compare has differed so far.
+    pub(crate) fn has_differed(&self) -> bool
+        ensures { result ≡ self.now.differed }
+    {
+        self.differed
     }
 
     /// Whether that unit has not moved.
@@ -105,7 +148,8 @@ fn transfer_len(sqe: &Sqe) -> u64
     ensures fits { result < 2 ^ 32 }
 {
     match sqe.io_opcode() {
-        Some(IoOpcode::Read | IoOpcode::Write | IoOpcode::Compare) => 512 * (u64::from(sqe.nlb()) + 1),
+        Some(IoOpcode::Read | IoOpcode::Write | IoOpcode::Compare) => 512
+            * (u64::from(sqe.nlb()) + 1),
         Some(IoOpcode::DatasetManagement) => 16 * (u64::from(sqe.nr()) + 1),
         Some(IoOpcode::WriteZeroes | IoOpcode::Flush) | None => 0,
     }
@@ -116,7 +160,8 @@ fn unit_count(sqe: &Sqe) -> usize
     ensures { result ≡ unit_count (io_opcode (opcode_of sqe.now)) sqe.now }
 {
     match sqe.io_opcode() {
-        Some(IoOpcode::Read | IoOpcode::Write | IoOpcode::Compare | IoOpcode::WriteZeroes) => usize::from(sqe.nlb()) + 1,
+        Some(IoOpcode::Read | IoOpcode::Write | IoOpcode::Compare | IoOpcode::WriteZeroes) =>
+            usize::from(sqe.nlb()) + 1,
         Some(IoOpcode::DatasetManagement) => usize::from(sqe.nr()) + 1,
         Some(IoOpcode::Flush) => 1,
         None => 0,

@@ -4,6 +4,7 @@
 mod command;
 mod device;
 mod lane;
+mod moving;
 mod pages;
 mod posting;
 mod response;

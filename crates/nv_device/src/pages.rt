@@ -72,7 +72,13 @@ fn read_behind(host: &Host, prp2: u64, bytes: u64, places: &mut Places) -> Resul
 }
 
 /// Adds the pages that a list names.
-fn read_list(host: &Host, list: u64, pages: u64, bytes: u64, places: &mut Places) -> Result<(), NoMemory>
+fn read_list(
+    host: &Host,
+    list: u64,
+    pages: u64,
+    bytes: u64,
+    places: &mut Places,
+) -> Result<(), NoMemory>
     requires aligned { list % 8 ≡ 0 }
     requires most { bytes ≤ 4096 * pages }
     requires full { 4096 * pages < bytes + 4096 }

@@ -1,8 +1,9 @@
 -- Units that move no bytes
-use Rattle.std.proofs.Common.{◌≡◌, ℕ, Bool, true, false, ◌||◌, nat_lt, List, length, replicate, refl, sym, ap, arith, inl, inr}
+use Rattle.std.proofs.Common.{◌≡◌, ℕ, Bool, true, false, ◌||◌, nat_lt, List, ◌++◌, length, take, drop, replicate, ◌∙◌, refl, sym, ap, arith, inl, inr}
 use Rattle.std.specs.List.{slice_index_or}
 use Rattle.std.proofs.lemmas.Bool.Decides.{nat_tests}
 use Rattle.std.proofs.lemmas.Bool.{cases_lt}
+use Rattle.std.proofs.Math.Seq.{take-append_seam}
 use Rattle.std.proofs.lemmas.List.{get_or-replicate, get_or_past, length-replicate}
 use mathlib.Core.Path.{fun_ext}
 use Rattle.nv_model.specs.Judge.{KeepAll, Work}
@@ -28,3 +29,7 @@ keep-all work memory disk kept blocks differed sized =
               let other = get_or_past kept lba false (omega arith) in
               grind (arith, nat_tests, none, other)
         ]
+
+-- as many elements in the place of those that were there
+pub refilled : {X : Type 0} (n : ℕ) (new old : List X) → length new ≡ n → take n (new ++ drop (length new) old) ≡ new
+refilled n new old sized = ap (λ (k : ℕ). take k (new ++ drop (length new) old)) (sym sized) ∙ take-append_seam new (drop (length new) old)
