@@ -1,0 +1,7 @@
+mod HeldLemmas
+mod LaneLemmas
+mod MoveLemmas
+mod PageLemmas
+mod TakeLemmas
+mod UnitLemmas
+mod UnitMarks

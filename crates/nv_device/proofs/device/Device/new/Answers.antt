@@ -1,0 +1,12 @@
+use Rattle.std.proofs.Common.{◌≡◌, ℕ, ◌≤◌, ◌^◌, Bool, false, List, length, replicate, sym, ap, subst, ◌∙◌, arith}
+use Rattle.std.proofs.lemmas.List.{length-replicate}
+use Rattle.nv_world_model.specs.Area.{lane_start}
+use Rattle.nv_world_model.specs.Device.{DeviceLane, opening_device_lane}
+use Rattle.nv_device.specs.Physical.{AreHeld, IsWhole}
+use Rattle.nv_device.proofs.HeldLemmas.{opening-whole}
+use Rattle.nv_device.proofs.device.Device.new.Goals as goal
+
+pub invariant_of-result : goal.invariant_of-result
+invariant_of-result c = opening-whole c.args.mediator c.args.lanes c.args.blocks c.in_ok-disk.disk.items c.in_ok-kept.kept.items c.in_ok-lanes.lanes.items c.requires
+    (ap length c.in_ok-disk.ensures ∙ length-replicate c.args.blocks (replicate 512 0)) (ap length c.in_ok-kept.ensures ∙ length-replicate c.args.blocks false)
+    c.in_ok-lanes.ensures

@@ -1,0 +1,6 @@
+pub mod Physical
+pub mod Units
+pub mod Pages
+pub mod Taking
+pub mod Moving
+pub mod Posting

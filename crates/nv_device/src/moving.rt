@@ -1,0 +1,221 @@
+//! Units of commands in the device.
+
+ghost use Rattle.std.specs.Prelude.{◌≡◌, ◌+◌, ◌*◌, ◌<◌, ◌≤◌, ℕ, Bool, true, false, List, IfSome, Some, drop, length};
+ghost use Rattle.nv_entry.specs.Opcode.{io_opcode};
+ghost use Rattle.nv_entry.specs.Submission.{opcode_of, slba_of};
+ghost use Rattle.nv_mem.specs.Places.{places_of};
+ghost use Rattle.nv_moves.specs.Buffer.{AreBelow};
+ghost use Rattle.nv_moves.specs.Flat.{byte_in, flat, moved_of};
+ghost use Rattle.nv_model.specs.Carried.{cleared};
+ghost use Rattle.nv_entry.specs.Range.{blocks_of, start_of};
+ghost use Rattle.std.specs.List.{range_with_len};
+ghost use Rattle.nv_world_model.specs.Device.{range_at};
+ghost use Rattle.nv_world_model.specs.Area.{tag_count};
+ghost use Rattle.nv_device.specs.Moving.{IsMoved, IsRangeOnDisk, IsReady, MayMove, moves_blocks, unit_of};
+ghost use Rattle.nv_device.specs.Physical.{done_where, has_left, held_at};
+
+use crate::command::Command;
+use crate::device::Device;
+use crate::response::Response;
+use nv_entry::{IoOpcode, Range};
+use nv_mem::Host;
+use nv_moves::{BLOCK, Buffer};
+
+impl Device {
+    /// Moves a unit of the command at a slot, by its number, in any order. Idle where no command is there, or one that has no
+    /// such unit or has moved it.
+    pub fn move_unit(&mut self, lane: u8, slot: u8, number: u64, host: &mut Host) -> Response
+        requires lane { lane < length self.old.lanes }
+        requires slot { slot < tag_count }
+        requires may { MayMove lane slot number host.old self.old }
+        ensures response { result ≡ done_where (has_left number (held_at self.old lane slot)) }
+        ensures done { result ≡ Response.Done →
+            IfSome (held_at self.old lane slot) (λ h. IsMoved lane slot number h host.old self.old host.new self.new) }
+        ensures idle { result ≡ Response.Idle → (self.new ≡ self.old) × (host.new ≡ host.old) }
+        ensures host_size { length host.new ≡ length host.old }
+        ensures disk_size { length self.new.disk ≡ length self.old.disk }
+    {
+        let ring = &self.lanes[usize::from(lane)];
+        let Some(command) = ring.command(slot) else {
+            return Response::Idle;
+        };
+        if !command.has(number) {
+            return Response::Idle;
+        }
+        let differed = move_one(command, number, host, &mut self.disk, &mut self.kept);
+        self.lanes[usize::from(lane)].unit_done(slot, number, differed);
+        Response::Done
+    }
+}
+
+/// Moves a unit of a command, and says whether the command has differed.
+fn move_one(
+    command: &Command,
+    number: u64,
+    host: &mut Host,
+    disk: &mut [[u8; BLOCK]],
+    kept: &mut [bool],
+) -> bool
+    requires ready { IsReady (length disk.old) host.old number command.now }
+    requires marks { length kept.old ≡ length disk.old }
+    ensures moved { moved_of (flat host.new disk.new kept.new) result ≡ unit_of number command.now host.old disk.old kept.old }
+    ensures size { length host.new ≡ length host.old }
+{
+    match command.opcode() {
+        Some(IoOpcode::Read) => read_unit(command, number, host, disk, kept),
+        Some(IoOpcode::Write) => write_unit(command, number, host, disk, kept),
+        Some(IoOpcode::Compare) => compare_unit(command, number, host, disk, kept),
+        Some(IoOpcode::WriteZeroes) => clear_unit(command, number, disk, kept),
+        Some(IoOpcode::DatasetManagement) => manage_unit(command, number, host, disk, kept),
+        Some(IoOpcode::Flush) => keep_unit(command, kept),
+        None => command.has_differed(),
+    }
+}
+
+/// A block of a Read: it goes to the buffer.
+fn read_unit(
+    command: &Command,
+    number: u64,
+    host: &mut Host,
+    disk: &[[u8; BLOCK]],
+    kept: &mut [bool],
+) -> bool
+    requires ready { IsReady (length disk.now) host.old number command.now }
+    requires opcode { io_opcode (opcode_of command.now.entry) ≡ Some IoOpcode.Read }
+    requires marks { length kept.old ≡ length disk.now }
+    ensures moved { moved_of (flat host.new disk.now kept.new) result ≡ unit_of number command.now host.old disk.now kept.old }
+    ensures size { length host.new ≡ length host.old }
+{
+    let (lba, mut buffer) = block_of(command, number, host, disk);
+    nv_moves::read_block(host, disk, kept, &mut buffer, lba, command.fua());
+    command.has_differed()
+}
+
+/// A block of a Write: it comes from the buffer.
+fn write_unit(
+    command: &Command,
+    number: u64,
+    host: &Host,
+    disk: &mut [[u8; BLOCK]],
+    kept: &mut [bool],
+) -> bool
+    requires ready { IsReady (length disk.old) host.now number command.now }
+    requires opcode { io_opcode (opcode_of command.now.entry) ≡ Some IoOpcode.Write }
+    requires marks { length kept.old ≡ length disk.old }
+    ensures { moved_of (flat host.now disk.new kept.new) result ≡ unit_of number command.now host.now disk.old kept.old }
+{
+    let (lba, mut buffer) = block_of(command, number, host, disk);
+    nv_moves::write_block(host, disk, kept, &mut buffer, lba, command.fua());
+    command.has_differed()
+}
+
+/// A block of a Compare: the command differs where it has differed, or this block does.
+fn compare_unit(
+    command: &Command,
+    number: u64,
+    host: &Host,
+    disk: &[[u8; BLOCK]],
+    kept: &mut [bool],
+) -> bool
+    requires ready { IsReady (length disk.now) host.now number command.now }
+    requires opcode { io_opcode (opcode_of command.now.entry) ≡ Some IoOpcode.Compare }
+    requires marks { length kept.old ≡ length disk.now }
+    ensures { moved_of (flat host.now disk.now kept.new) result ≡ unit_of number command.now host.now disk.now kept.old }
+{
+    let (lba, mut buffer) = block_of(command, number, host, disk);
+    let differs = nv_moves::compare_block(host, disk, kept, &mut buffer, lba, command.fua());
+    command.has_differed() || differs
+}
+
+/// A block of a Write Zeroes: it becomes zeros.
+fn clear_unit(command: &Command, number: u64, disk: &mut [[u8; BLOCK]], kept: &mut [bool]) -> bool
+    requires ready { (host : List ℕ) × IsReady (length disk.old) host number command.now }
+    requires opcode { io_opcode (opcode_of command.now.entry) ≡ Some IoOpcode.WriteZeroes }
+    requires marks { length kept.old ≡ length disk.old }
+    ensures { (host : List ℕ) → moved_of (flat host disk.new kept.new) result ≡ unit_of number command.now host disk.old kept.old }
+{
+    let _blocks = disk.len();
+    nv_moves::clear_block(disk, kept, command.slba() + number, command.fua());
+    command.has_differed()
+}
+
+/// A range of a Dataset Management: where the command deallocates, its blocks become zeros that are not kept. Where a range
+/// that has no blocks begins is not looked at.
+fn manage_unit(
+    command: &Command,
+    number: u64,
+    host: &Host,
+    disk: &mut [[u8; BLOCK]],
+    kept: &mut [bool],
+) -> bool
+    requires ready { IsReady (length disk.old) host.now number command.now }
+    requires opcode { io_opcode (opcode_of command.now.entry) ≡ Some IoOpcode.DatasetManagement }
+    requires marks { length kept.old ≡ length disk.old }
+    ensures { moved_of (flat host.now disk.new kept.new) result ≡ unit_of number command.now host.now disk.old kept.old }
+{
+    if !command.deallocates() {
+        return command.has_differed();
+    }
+    clear_range(range_of(command, number, host), disk, kept);
+    command.has_differed()
+}
+
+/// A range of a Dataset Management, by its number, as it stands in the host now.
+fn range_of(command: &Command, number: u64, host: &Host) -> Range
+    requires ready { (disk_blocks : ℕ) × IsReady disk_blocks host.now number command.now }
+    requires opcode { io_opcode (opcode_of command.now.entry) ≡ Some IoOpcode.DatasetManagement }
+    ensures { result ≡ range_at number command.now.pieces (byte_in host.now) }
+{
+    // The end of the host fits in 64 bits, and so do its addresses.
+    let _size = host.len();
+    let mut buffer = Buffer::new(command.places());
+    buffer.skip(16 * number);
+    let mut bytes = [0; 16];
+    buffer.fetch(host, &mut bytes);
+    Range::of(&bytes)
+}
+
+/// Makes the blocks of a range zeros that are not kept.
+fn clear_range(range: Range, disk: &mut [[u8; BLOCK]], kept: &mut [bool])
+    requires blocks { IsRangeOnDisk (length disk.old) range }
+    requires marks { length kept.old ≡ length disk.old }
+    ensures { (memory : List ℕ) (differed : Bool) → moved_of (flat memory disk.new kept.new) differed
+        ≡ cleared (range_with_len (start_of range) (blocks_of range)) false (moved_of (flat memory disk.old kept.old) differed) }
+{
+    let count = u64::from(range.blocks());
+    if count > 0 {
+        nv_moves::clear_blocks(disk, kept, range.start(), count, false);
+    }
+}
+
+/// A Flush: every block becomes kept.
+fn keep_unit(command: &Command, kept: &mut [bool]) -> bool
+    requires opcode { io_opcode (opcode_of command.now.entry) ≡ Some IoOpcode.Flush }
+    ensures { (number : ℕ) (host : List ℕ) (disk : List (List ℕ)) → length kept.old ≡ length disk →
+        moved_of (flat host disk kept.new) result ≡ unit_of number command.now host disk kept.old }
+{
+    nv_moves::keep_all(kept);
+    command.has_differed()
+}
+
+/// Where a block of a command stands: its LBA, and its places in the host with those behind it.
+fn block_of<'a>(
+    command: &'a Command,
+    number: u64,
+    host: &Host,
+    disk: &[[u8; BLOCK]],
+) -> (u64, Buffer<'a>)
+    requires ready { IsReady (length disk.now) host.now number command.now }
+    requires transfer { moves_blocks (io_opcode (opcode_of command.now.entry)) ≡ true }
+    ensures lba { result.0 ≡ slba_of command.now.entry + number }
+    ensures there { result.0 < length disk.now }
+    ensures places { result.1 ≡ drop (512 * number) (places_of command.now.pieces) }
+    ensures below { AreBelow (length host.now) result.1 }
+    ensures enough { 512 ≤ length result.1 }
+{
+    // Numbers of blocks and host addresses fit in 64 bits.
+    let (_blocks, _size) = (disk.len(), host.len());
+    let mut buffer = Buffer::new(command.places());
+    buffer.skip(BLOCK as u64 * number);
+    (command.slba() + number, buffer)
+}

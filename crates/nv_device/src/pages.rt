@@ -1,0 +1,129 @@
+//! Where the bytes of a physical command lie: PRP1, PRP2 and a list, read in the host's memory.
+
+ghost use Rattle.std.specs.Prelude.{◌≡◌, ◌+◌, ◌*◌, ◌%◌, ◌^◌, ◌<◌, ◌≤◌, ℕ, List, IfOk, OnOk, true, length, min};
+ghost use Rattle.nv_entry.specs.Layout.{number_at};
+ghost use Rattle.nv_mem.specs.declared.piece.Piece.{Piece};
+ghost use Rattle.nv_model.specs.Memory.{bytes_from};
+ghost use Rattle.nv_model.specs.Prp.{pages_of, slots_of};
+ghost use Rattle.nv_model.specs.Reading.{Spells};
+ghost use Rattle.nv_moves.specs.Flat.{byte_in};
+ghost use Rattle.nv_device.specs.Pages.{IsEntryAt, behind_reading, entries_reading, host_reading, spells};
+
+use byteorder::{ByteOrder, LittleEndian};
+use nv_mem::{Host, NoMemory, Piece, Places};
+use std::alloc::Global;
+
+/// The bytes of a memory page.
+const PAGE: u64 = 4096;
+
+/// The slots of a list page.
+const SLOTS: u64 = PAGE / 8;
+
+/// The places of a transfer of `len` bytes by PRP1 and PRP2. The caller knows that they and the list lie in the host, and
+/// that all are as PRP has them: nothing is checked here.
+pub(crate) fn read_pages(
+    alloc: Global,
+    host: &Host,
+    prp1: u64,
+    prp2: u64,
+    len: u64,
+) -> Result<Places, NoMemory>
+    requires some { 0 < len }
+    requires most { len < 2 ^ 32 }
+    requires spelled { spells (host_reading host.now prp1 prp2 len) ≡ true }
+    ensures { IfOk result (λ places. host_reading host.now prp1 prp2 len ≡ Spells places) }
+{
+    let first = len.min(PAGE - prp1 % PAGE);
+    let left = len - first;
+    let mut places = Places::new(alloc);
+    places.reserve((1 + pages_of(left)) as usize)?;
+    places.push(Piece::Run {
+        addr: prp1,
+        len: first,
+    })?;
+    read_behind(host, prp2, left, &mut places)?;
+    Ok(places)
+}
+
+/// How many pages hold so many bytes from a page's start on.
+fn pages_of(bytes: u64) -> u64
+    requires { bytes < 2 ^ 32 }
+    ensures value { result ≡ pages_of bytes }
+    ensures fits { result < 2 ^ 32 }
+{
+    (bytes + (PAGE - 1)) / PAGE
+}
+
+/// Adds the pages behind PRP1's: none, the one that PRP2 names, or those of the list to which it points.
+fn read_behind(host: &Host, prp2: u64, bytes: u64, places: &mut Places) -> Result<(), NoMemory>
+    requires most { bytes < 2 ^ 32 }
+    requires spelled { spells (behind_reading host.now (pages_of bytes) prp2 bytes places.old) ≡ true }
+    ensures { OnOk result (behind_reading host.now (pages_of bytes) prp2 bytes places.old ≡ Spells places.new) }
+{
+    let pages = pages_of(bytes);
+    match pages {
+        0 => Ok(()),
+        1 => places.push(Piece::Run {
+            addr: prp2,
+            len: bytes,
+        }),
+        _ => read_list(host, prp2, pages, bytes, places),
+    }
+}
+
+/// Adds the pages that a list names.
+fn read_list(
+    host: &Host,
+    list: u64,
+    pages: u64,
+    bytes: u64,
+    places: &mut Places,
+) -> Result<(), NoMemory>
+    requires aligned { list % 8 ≡ 0 }
+    requires most { bytes ≤ 4096 * pages }
+    requires full { 4096 * pages < bytes + 4096 }
+    requires spelled { spells (entries_reading host.now pages (slots_of list) list bytes places.old) ≡ true }
+    requires there { list + 8 * min (slots_of list) pages ≤ length host.now }
+    ensures { OnOk result (entries_reading host.now pages (slots_of list) list bytes places.old ≡ Spells places.new) }
+{
+    // The end of the host fits in 64 bits, and so does the place behind a slot.
+    let _size = host.len();
+    let mut from = list;
+    let mut slots = (PAGE - list % PAGE) / 8;
+    let mut pages = pages;
+    let mut bytes = bytes;
+    while pages > 0 {
+        let (entry, entry_slots) = entry_at(host, from, slots, pages);
+        let addr = slot(host, entry);
+        let len = bytes.min(PAGE);
+        places.push(Piece::Run { addr, len })?;
+        from = entry + 8;
+        slots = entry_slots - 1;
+        pages -= 1;
+        bytes -= len;
+    }
+    Ok(())
+}
+
+/// Where the entry of the next page stands, and how many slots there are from there to the end of its list page: where more
+/// pages are left than slots, the last slot points to the next list page.
+fn entry_at(host: &Host, from: u64, slots: u64, pages: u64) -> (u64, u64)
+    requires pages { 0 < pages }
+    requires slots { 0 < slots }
+    requires there { from + 8 * min slots pages ≤ length host.now }
+    ensures { IsEntryAt host.now pages slots from result.1 result.0 }
+{
+    if slots == 1 && pages > 1 {
+        (slot(host, from), SLOTS)
+    } else {
+        (from, slots)
+    }
+}
+
+/// The number in a slot.
+fn slot(host: &Host, at: u64) -> u64
+    requires { at + 8 ≤ length host.now }
+    ensures { result ≡ number_at (bytes_from (byte_in host.now) at 8) 0 8 }
+{
+    LittleEndian::read_u64(host.bytes(at, 8))
+}

@@ -1,0 +1,5 @@
+pub mod BufferLemmas
+pub mod CompareLemmas
+pub mod MoveLemmas
+pub mod ReadLemmas
+pub mod UnitLemmas

@@ -1,0 +1,31 @@
+use Rattle.std.proofs.Common.{◌+◌, ◌≤◌, ℕ, List, length, replicate, ap, sym, ◌∙◌}
+use Rattle.nv_mem.specs.Places.{places_of_piece, piece_len}
+use Rattle.nv_model.specs.Memory.{gathered}
+use Rattle.nv_model.specs.Private.{differs}
+use Rattle.nv_moves.specs.Flat.{byte_in}
+use Rattle.nv_moves.proofs.BufferLemmas.{addresses-below, gathered-buckets, gathered-run}
+use Rattle.nv_moves.proofs.CompareLemmas.{differs-zeros}
+use Rattle.nv_moves.proofs.MoveLemmas.{differs-pointwise}
+use Rattle.nv_moves.proofs.buffer.piece_differs.Goals as goal
+
+pub bytes-requires : goal.bytes-requires
+bytes-requires c = λ some. addresses-below (length c.args.memory.now) c.in-Run.addr c.in-Run.len some (rw c.in-Run.is at c.requires.in_memory)
+
+pub returns-in-Run : goal.returns-in-Run
+returns-in-Run c =
+    let inside : c.in-Run.addr + c.in-Run.len ≤ length c.args.memory.now =
+    addresses-below (length c.args.memory.now) c.in-Run.addr c.in-Run.len (rw c.in-Run.is at c.requires.some) (rw c.in-Run.is at c.requires.in_memory) in
+    c.ne.ensures
+    ∙ sym (differs-pointwise c.bytes.result.now c.args.bytes.now)
+    ∙ ap (λ (l : List ℕ). differs l c.args.bytes.now)
+    (c.bytes.ensures
+    ∙ gathered-run c.args.memory.now c.in-Run.addr c.in-Run.len inside
+    ∙ ap (λ p. gathered (byte_in c.args.memory.now) (places_of_piece p)) (sym c.in-Run.is))
+
+pub returns-in-Bucket : goal.returns-in-Bucket
+returns-in-Bucket c =
+    c.has_others_than_zeros.ensures
+    ∙ sym (differs-zeros c.args.bytes.now)
+    ∙ ap (λ (n : ℕ). differs (replicate n 0) c.args.bytes.now) (c.requires.whole ∙ ap piece_len c.in-Bucket.is)
+    ∙ ap (λ (l : List ℕ). differs l c.args.bytes.now) (sym (gathered-buckets (byte_in c.args.memory.now) c.in-Bucket.len))
+    ∙ ap (λ p. differs (gathered (byte_in c.args.memory.now) (places_of_piece p)) c.args.bytes.now) (sym c.in-Bucket.is)

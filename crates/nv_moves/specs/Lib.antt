@@ -1,0 +1,3 @@
+pub mod Flat
+pub mod Buffer
+pub mod Marks

@@ -1,0 +1,202 @@
+//! Blocks that move between the disk and a buffer, and blocks that become zeros.
+
+ghost use Rattle.std.specs.Prelude.{◌≡◌, ◌+◌, ◌*◌, ◌<◌, ◌≤◌, ℕ, Bool, List, ◌||◌, false, true, length, drop};
+ghost use Rattle.std.specs.List.{range_with_len};
+ghost use Rattle.nv_mem.specs.Places.{places_of};
+ghost use Rattle.nv_mem.specs.declared.piece.Piece.{Piece};
+ghost use Rattle.nv_model.specs.Judge.{KeepAll, MoveBlock, Work};
+ghost use Rattle.nv_model.specs.Carried.{block_work, cleared, cleared_one, moved_on, units_from, units_moved};
+ghost use Rattle.nv_model.specs.Private.{marked};
+ghost use Rattle.nv_moves.specs.Buffer.{AreBelow};
+ghost use Rattle.nv_moves.specs.Flat.{flat, moved_of};
+ghost use Rattle.nv_moves.specs.Marks.{mark_of, raised};
+
+use crate::buffer::Buffer;
+use nv_entry::IoOpcode;
+use nv_mem::Host;
+
+/// The size of a logical block in bytes.
+pub const BLOCK: usize = 512;
+
+/// Moves the `count` blocks from `start` on to the buffer, all at once. A set FUA bit makes them kept.
+pub fn read_blocks(
+    memory: &mut Host,
+    disk: &[[u8; BLOCK]],
+    kept: &mut [bool],
+    buffer: &mut Buffer,
+    start: u64,
+    count: u64,
+    fua: bool,
+)
+    requires in_memory { AreBelow (length memory.old) buffer.old }
+    requires enough { 512 * count ≤ length buffer.old }
+    requires blocks { start + count ≤ length disk.now }
+    requires marks { length kept.old ≡ length disk.now }
+    ensures moved { (pieces : List Piece) → buffer.old ≡ places_of pieces →
+        moved_of (flat memory.new disk.now kept.new) false
+        ≡ units_moved (units_from 0 start count) (block_work IoOpcode.Read pieces fua) (moved_of (flat memory.old disk.now kept.old) false) }
+    ensures size { length memory.new ≡ length memory.old }
+{
+    let blocks = &disk[start as usize..(start + count) as usize];
+    buffer.put(memory, blocks.as_flattened());
+    if fua {
+        raise_marks(kept, start, count);
+    }
+}
+
+/// Moves a block to the next places of the buffer. A set FUA bit makes it kept.
+#[inline(always)]
+pub fn read_block(
+    memory: &mut Host,
+    disk: &[[u8; BLOCK]],
+    kept: &mut [bool],
+    buffer: &mut Buffer,
+    lba: u64,
+    fua: bool,
+)
+    requires in_memory { AreBelow (length memory.old) buffer.old }
+    requires block { lba < length disk.now }
+    requires marks { length kept.old ≡ length disk.now }
+    ensures moved { (index : ℕ) (pieces : List Piece) (differed : Bool) → buffer.old ≡ drop (512 * index) (places_of pieces) →
+        moved_of (flat memory.new disk.now kept.new) differed
+        ≡ moved_on (MoveBlock index lba) (block_work IoOpcode.Read pieces fua) (moved_of (flat memory.old disk.now kept.old) differed) }
+    ensures size { length memory.new ≡ length memory.old }
+{
+    buffer.put(memory, &disk[lba as usize]);
+    raise_mark(kept, lba, fua);
+}
+
+/// Makes a block kept where the FUA bit is set.
+#[inline(always)]
+fn raise_mark(kept: &mut [bool], lba: u64, fua: bool)
+    requires { lba < length kept.old }
+    ensures { mark_of kept.new ≡ marked (mark_of kept.old) lba (mark_of kept.old lba || fua) }
+{
+    if fua {
+        kept[lba as usize] = true;
+    }
+}
+
+/// Makes the `count` blocks from `start` on kept.
+fn raise_marks(kept: &mut [bool], start: u64, count: u64)
+    requires { start + count ≤ length kept.old }
+    ensures { mark_of kept.new ≡ raised true start count (mark_of kept.old) }
+{
+    for lba in start..start + count {
+        kept[lba as usize] = true;
+    }
+}
+
+/// Moves a block from the next places of the buffer. It is kept where the FUA bit is set.
+#[inline(always)]
+pub fn write_block(
+    memory: &Host,
+    disk: &mut [[u8; BLOCK]],
+    kept: &mut [bool],
+    buffer: &mut Buffer,
+    lba: u64,
+    fua: bool,
+)
+    requires in_memory { AreBelow (length memory.now) buffer.old }
+    requires enough { 512 ≤ length buffer.old }
+    requires block { lba < length disk.old }
+    requires marks { length kept.old ≡ length disk.old }
+    ensures moved { (index : ℕ) (pieces : List Piece) (differed : Bool) → buffer.old ≡ drop (512 * index) (places_of pieces) →
+        moved_of (flat memory.now disk.new kept.new) differed
+        ≡ moved_on (MoveBlock index lba) (block_work IoOpcode.Write pieces fua) (moved_of (flat memory.now disk.old kept.old) differed) }
+    ensures rest { buffer.new ≡ drop 512 buffer.old }
+{
+    buffer.fetch(memory, &mut disk[lba as usize]);
+    kept[lba as usize] = fua;
+}
+
+/// Compares a block with the bytes of the next places of the buffer, where both lie. A set FUA bit makes it kept. It
+/// says whether they differ.
+#[inline(always)]
+pub fn compare_block(
+    memory: &Host,
+    disk: &[[u8; BLOCK]],
+    kept: &mut [bool],
+    buffer: &mut Buffer,
+    lba: u64,
+    fua: bool,
+) -> bool
+    requires in_memory { AreBelow (length memory.now) buffer.old }
+    requires enough { 512 ≤ length buffer.old }
+    requires block { lba < length disk.now }
+    requires marks { length kept.old ≡ length disk.now }
+    ensures { (index : ℕ) (pieces : List Piece) (differed : Bool) → buffer.old ≡ drop (512 * index) (places_of pieces) →
+        moved_of (flat memory.now disk.now kept.new) (differed || result)
+        ≡ moved_on (MoveBlock index lba) (block_work IoOpcode.Compare pieces fua) (moved_of (flat memory.now disk.now kept.old) differed) }
+{
+    let differs = buffer.differs(memory, &disk[lba as usize]);
+    raise_mark(kept, lba, fua);
+    differs
+}
+
+/// Compares the `count` blocks from `start` on with the bytes of the buffer, all at once. A set FUA bit makes them kept. It says whether
+/// they differ.
+pub fn compare_blocks(
+    memory: &Host,
+    disk: &[[u8; BLOCK]],
+    kept: &mut [bool],
+    buffer: &mut Buffer,
+    start: u64,
+    count: u64,
+    fua: bool,
+) -> bool
+    requires in_memory { AreBelow (length memory.now) buffer.old }
+    requires enough { 512 * count ≤ length buffer.old }
+    requires blocks { start + count ≤ length disk.now }
+    requires marks { length kept.old ≡ length disk.now }
+    ensures { (pieces : List Piece) → buffer.old ≡ places_of pieces →
+        moved_of (flat memory.now disk.now kept.new) result
+        ≡ units_moved (units_from 0 start count) (block_work IoOpcode.Compare pieces fua) (moved_of (flat memory.now disk.now kept.old) false) }
+{
+    let blocks = &disk[start as usize..(start + count) as usize];
+    let differs = buffer.differs(memory, blocks.as_flattened());
+    if fua {
+        raise_marks(kept, start, count);
+    }
+    differs
+}
+
+/// Makes the `count` blocks from `start` on zeros, and gives their marks this value.
+pub fn clear_blocks(
+    disk: &mut [[u8; BLOCK]],
+    kept: &mut [bool],
+    start: u64,
+    count: u64,
+    mark: bool,
+)
+    requires blocks { start + count ≤ length disk.old }
+    requires marks { length kept.old ≡ length disk.old }
+    ensures moved { (memory : List ℕ) (differed : Bool) → moved_of (flat memory disk.new kept.new) differed
+        ≡ cleared (range_with_len start count) mark (moved_of (flat memory disk.old kept.old) differed) }
+{
+    for lba in start..start + count {
+        clear_block(disk, kept, lba, mark);
+    }
+}
+
+/// Makes a block zeros, and gives its mark this value.
+pub fn clear_block(disk: &mut [[u8; BLOCK]], kept: &mut [bool], lba: u64, mark: bool)
+    requires block { lba < length disk.old }
+    requires marks { length kept.old ≡ length disk.old }
+    ensures moved { (memory : List ℕ) (differed : Bool) → moved_of (flat memory disk.new kept.new) differed
+        ≡ cleared_one lba mark (moved_of (flat memory disk.old kept.old) differed) }
+    ensures disk_size { length disk.new ≡ length disk.old }
+    ensures marks_size { length kept.new ≡ length kept.old }
+{
+    disk[lba as usize] = [0; BLOCK];
+    kept[lba as usize] = mark;
+}
+
+/// Makes every block kept.
+pub fn keep_all(kept: &mut [bool])
+    ensures moved { (work : Work) (memory : List ℕ) (disk : List (List ℕ)) (differed : Bool) → length kept.old ≡ length disk →
+        moved_of (flat memory disk kept.new) differed ≡ moved_on (KeepAll (length disk)) work (moved_of (flat memory disk kept.old) differed) }
+    ensures size { length kept.new ≡ length kept.old }
+{
+    kept.fill(true);
+}
