@@ -2,7 +2,7 @@
 use Rattle.std.specs.Prelude.{ℕ, Bool, List, [], ◌∷◌, ◌++◌, map, Option, Some, None}
 use Rattle.nv_model.specs.declared.reply.Reply.TheVariants as reply
 use Rattle.nv_model.specs.Memory.{bytes_from, stored}
-use Rattle.nv_model.specs.Private.{Private, Run, Step, run_of}
+use Rattle.nv_model.specs.Private.{AtWork, Ended, Private, Progress, Run, Step, Taken, Unjudged, run_of}
 use Rattle.nv_model.specs.Rows.{by_sgl, data_block, last_segment}
 use Rattle.nv_world_model.specs.declared.event.Event.{Event}
 use Rattle.nv_world_model.specs.declared.event.Event.TheVariants as event
@@ -13,7 +13,7 @@ use Rattle.nv_world_model.specs.Geometry.{shape_of}
 use Rattle.nv_world_model.specs.PrivateSteps.{private_steps, steps_of}
 use Rattle.nv_world_model.specs.Rows.{behind, controller_with, holding, set_up, world_with}
 use Rattle.nv_world_model.specs.RowsShown.{first_guest, second_guest}
-use Rattle.nv_world_model.specs.Seat.{Owner, owner_of, seat}
+use Rattle.nv_world_model.specs.Seat.{Owner, members, owner_of, seat}
 use Rattle.nv_world_model.specs.Step.{step}
 use Rattle.nv_world_model.specs.World.{World}
 
@@ -78,3 +78,19 @@ awaited_behind events w addrs = behind events w (λ z. map (is_awaited 0 first_g
 -- the first guest's private controller as it stands in a world in which it has rung one command and none is taken
 abbrev pub first_seat : World → Private
 first_seat w = seat set_up (record { number = 0; given = first_guest; controller = controller_with 16 1 }) w
+
+-- ---- how far a command is
+
+-- the units that have not moved, and whether a Compare differed, of a command at work; none of any other
+abbrev pub progress_told : Progress → Option (List ℕ × Bool)
+progress_told Unjudged = None
+progress_told (Ended st) = None
+progress_told (AtWork work left differed) = Some (left, differed)
+
+abbrev pub member_told : Option Taken → Option (List ℕ × Bool)
+member_told None = None
+member_told (Some t) = progress_told t.progress
+
+-- those of the first guest's command in tag 0 of lane 0
+abbrev pub how_far : World → Option (List ℕ × Bool)
+how_far w = member_told (members set_up w 0 0)

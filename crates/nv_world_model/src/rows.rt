@@ -2,6 +2,7 @@
 
 pub mod agreeing;
 pub mod answers;
+pub mod commands;
 pub mod contained;
 pub mod disciplined;
 pub mod failing;
