@@ -38,3 +38,11 @@ pub record IsEntryAt (host : List ℕ) (pages slots from entry_slots entry : ℕ
       → entry + 8 * min entry_slots pages ≤ length host
   pub some : 0 < entry_slots
   pub no_pointer : 1 < pages → 1 < entry_slots
+
+-- the same where it need not spell anything: it spells places where reading on from there does
+pub record IsNextEntry (host : List ℕ) (pages slots from entry_slots entry : ℕ) : Type 0 where
+  pub same : (bytes : ℕ) (pieces : List Piece) → spells (entries_reading host pages slots from bytes pieces)
+      ≡ spells (entries_reading host pages entry_slots entry bytes pieces)
+  pub there : entry + 8 * min entry_slots pages ≤ length host
+  pub some : 0 < entry_slots
+  pub no_pointer : 1 < pages → 1 < entry_slots
