@@ -1,20 +1,27 @@
 -- Whether a reading spells places, check by check
-use Rattle.std.proofs.Common.{◌≡◌, ◌↔◌, IsTrue, ℕ, zero, suc, ◌+◌, ◌-◌, ◌*◌, ◌%◌, ◌<◌, ◌≤◌, min, Bool, true, false, cond, not, ◌&&◌, ◌==◌, nat_lt, List, [], ◌∷◌, ◌++◌, length, Option, Some, None, refl, sym, ap, ◌∙◌, arith, eqb-true}
+use Rattle.std.proofs.Common.{◌≡◌, ◌↔◌, IsTrue, ℕ, zero, suc, ◌+◌, ◌-◌, ◌*◌, ◌%◌, ◌<◌, ◌≤◌, min, Bool, true, false, cond, not, ◌&&◌, ◌==◌, nat_lt, List, [], ◌∷◌, ◌++◌, length, replicate, Option, Some, None, refl, sym, ap, ◌∙◌, arith, eqb-true}
 use Rattle.std.specs.Prelude.{is_none}
+use Rattle.std.specs.List.{list_all}
+use Rattle.std.proofs.lemmas.List.Elements.{All-cons, All-head, All-nil, All-tail}
 use Rattle.std.proofs.lemmas.Bool.Decides.{nat_tests}
 use Rattle.nv_entry.specs.Layout.{number_at}
 use Rattle.nv_entry.specs.declared.status_code.StatusCode.{StatusCode}
 use Rattle.nv_entry.specs.declared.status_code.StatusCode.TheVariants.{DataTransferError, PrpOffsetInvalid}
 use Rattle.nv_mem.specs.Bytes.{InMemory}
 use Rattle.nv_mem.specs.GuestMap.{everywhere}
+use Rattle.nv_mem.specs.Places.{At, Bucket, Place, addresses, places_of, places_of_piece}
 use Rattle.nv_mem.specs.declared.piece.Piece.{Piece}
+use Rattle.nv_mem.specs.declared.piece.Piece.TheVariants.{Run}
+use Rattle.nv_mem.specs.declared.piece.Piece.TheVariants as piece
 use Rattle.nv_model.specs.Dialogue.{Dialogue, End, Ask, in_memory}
 use Rattle.nv_model.specs.Limits.{page}
 use Rattle.nv_model.specs.Memory.{bytes_from}
 use Rattle.nv_model.specs.Prp.{entry_fault, first_len, pages_of, read_entries, read_prp, read_prp2, slots_of}
 use Rattle.nv_model.specs.Reading.{Reading, Spells, run, unless_faulty}
+use Rattle.nv_moves.specs.Buffer.{AreBelow, IsBelow}
 use Rattle.nv_moves.specs.Flat.{byte_in}
-use Rattle.nv_device.specs.Pages.{IsNextEntry, behind_reading, entries_reading, host_reading, in_host, spells}
+use Rattle.nv_moves.proofs.BufferLemmas.{AreBelow-behind, AreBelow-front, addresses-below}
+use Rattle.nv_device.specs.Pages.{IsNextEntry, behind_reading, entries_reading, host_reading, in_host, piece_in, spells}
 use Rattle.nv_device.proofs.PageLemmas.{all-in_host, checked}
 
 -- two tests that follow from each other
@@ -280,3 +287,50 @@ list-there host prp2 pages more fits =
     both : (a b : Bool) → a && b ≡ true → (a ≡ true) × (b ≡ true)
     both true b is = (refl, is)
     both false b is = (let e : false ≡ true = is in absurd (cc))
+
+-- ---- pieces
+
+-- addresses that lie in the host are below its length
+addresses-in : (host_len addr len : ℕ) → addr + len ≤ host_len → AreBelow host_len (addresses addr len)
+unfolding addresses
+addresses-in host_len addr zero inside = All-nil (IsBelow host_len)
+addresses-in host_len addr (suc len) inside =
+    All-cons (IsBelow host_len) (At addr) (addresses (addr + 1) len) (omega arith) (addresses-in host_len (addr + 1) len (omega arith))
+
+buckets-in : (host_len len : ℕ) → AreBelow host_len (replicate len Bucket)
+buckets-in host_len zero = All-nil (IsBelow host_len)
+buckets-in host_len (suc len) = All-cons (IsBelow host_len) Bucket (replicate len Bucket) tt (buckets-in host_len len)
+
+-- so do those of a piece that lies there, and of no other
+piece-below : (host_len : ℕ) (p : Piece) → piece_in host_len p ≡ true → AreBelow host_len (places_of_piece p)
+unfolding addresses
+piece-below host_len (Run addr zero) is = All-nil (IsBelow host_len)
+piece-below host_len (Run addr (suc len)) is = addresses-in host_len addr (suc len) (all-in_host host_len addr (suc len) is (omega arith))
+piece-below host_len (piece.Bucket len) is = buckets-in host_len len
+
+below-piece : (host_len : ℕ) (p : Piece) → AreBelow host_len (places_of_piece p) → piece_in host_len p ≡ true
+below-piece host_len (Run addr zero) below = everywhere-none host_len addr zero refl
+below-piece host_len (Run addr (suc len)) below = in_host-all host_len addr (suc len) (addresses-below host_len addr (suc len) (omega arith) below)
+below-piece host_len (piece.Bucket len) below = refl
+
+below-joined : (host_len : ℕ) (xs ys : List Place) → AreBelow host_len xs → AreBelow host_len ys → AreBelow host_len (xs ++ ys)
+below-joined host_len [] ys front rest = rest
+below-joined host_len (x ∷ xs) ys front rest =
+    All-cons (IsBelow host_len) x (xs ++ ys) (All-head (IsBelow host_len) x xs front) (below-joined host_len xs ys (All-tail (IsBelow host_len) x xs front) rest)
+
+-- and of all
+pub pieces-below : (host_len : ℕ) (ps : List Piece) → list_all (piece_in host_len) ps ≡ true → AreBelow host_len (places_of ps)
+pieces-below host_len [] is = All-nil (IsBelow host_len)
+pieces-below host_len (p ∷ ps) is =
+    let good = two (piece_in host_len p) (list_all (piece_in host_len) ps) is in
+    below-joined host_len (places_of_piece p) (places_of ps) (piece-below host_len p good.0) (pieces-below host_len ps good.1)
+  where
+    two : (a b : Bool) → a && b ≡ true → (a ≡ true) × (b ≡ true)
+    two true b is = (refl, is)
+    two false b is = (let e : false ≡ true = is in absurd (cc))
+
+pub below-pieces : (host_len : ℕ) (ps : List Piece) → AreBelow host_len (places_of ps) → list_all (piece_in host_len) ps ≡ true
+below-pieces host_len [] below = refl
+below-pieces host_len (p ∷ ps) below =
+    ap (λ (b : Bool). b && list_all (piece_in host_len) ps) (below-piece host_len p (AreBelow-front host_len (places_of_piece p) (places_of ps) below))
+    ∙ below-pieces host_len ps (AreBelow-behind host_len (places_of_piece p) (places_of ps) below)

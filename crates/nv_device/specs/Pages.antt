@@ -1,6 +1,8 @@
 -- Reading PRPs in a host: Base Specification 2.0, "Physical Region Page Entry and List"
 use Rattle.std.specs.Prelude.{◌≡◌, ℕ, ◌+◌, ◌*◌, ◌<◌, ◌≤◌, min, Bool, true, false, nat_lt, List, [], length}
+use Rattle.nv_mem.specs.GuestMap.{everywhere}
 use Rattle.nv_mem.specs.declared.piece.Piece.{Piece}
+use Rattle.nv_mem.specs.declared.piece.Piece.TheVariants.{Bucket, Run}
 use Rattle.nv_model.specs.Dialogue.{in_memory}
 use Rattle.nv_model.specs.Prp.{read_entries, read_prp, read_prp2}
 use Rattle.nv_model.specs.Reading.{Reading, Faulty, Spells, TooLong}
@@ -9,6 +11,11 @@ use Rattle.nv_moves.specs.Flat.{byte_in}
 -- the addresses of a host of that length
 abbrev pub in_host : (host_len : ℕ) → ℕ → Bool
 in_host host_len addr = nat_lt addr host_len
+
+-- whether the bytes of a piece lie in a host of that length; those of a bucket lie nowhere
+abbrev pub piece_in : (host_len : ℕ) → Piece → Bool
+piece_in host_len (Run addr len) = everywhere (in_host host_len) addr len
+piece_in host_len (Bucket len) = true
 
 -- what PRP1, PRP2 and a list say where the host's addresses are those that are there
 unfoldable pub host_reading : (host : List ℕ) → (prp1 prp2 len : ℕ) → Reading

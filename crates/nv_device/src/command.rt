@@ -1,6 +1,6 @@
 //! A command in the device.
 
-ghost use Rattle.std.specs.Prelude.{◌≡◌, ◌+◌, ◌==◌, ◌<◌, ◌≤◌, ◌^◌, ◌↔◌, [], true, IfOk, IsTrue};
+ghost use Rattle.std.specs.Prelude.{◌≡◌, ◌+◌, ◌==◌, ◌<◌, ◌≤◌, ◌^◌, ◌↔◌, [], Some, true, IfOk, IsTrue};
 ghost use Rattle.nv_entry.specs.Opcode.{io_opcode};
 ghost use Rattle.nv_entry.specs.Submission.{opcode_of, prp1_of, prp2_of, slba_of};
 ghost use Rattle.nv_model.specs.Judge.{count_of, deallocates, is_fua};
@@ -86,6 +86,17 @@ impl Command {
         ensures { result ≡ deallocates self.now.entry }
     {
         self.sqe.deallocate()
+    }
+
+    /// Whether it is a Dataset Management that deallocates.
+    pub(crate) fn deallocates_ranges(&self) -> bool
+        ensures { IsTrue result ↔ ((io_opcode (opcode_of self.now.entry) ≡ Some IoOpcode.DatasetManagement) × (deallocates self.now.entry ≡ true)) }
+    {
+        match self.sqe.io_opcode() {
+            Some(IoOpcode::DatasetManagement) => self.sqe.deallocate(),
+            Some(IoOpcode::Read | IoOpcode::Write | IoOpcode::Compare) => false,
+            Some(IoOpcode::WriteZeroes | IoOpcode::Flush) | None => false,
+        }
     }
 
     /// Whether a Compare has differed so far.
