@@ -162,13 +162,7 @@ pub fn compare_blocks(
 }
 
 /// Makes the `count` blocks from `start` on zeros, and gives their marks this value.
-pub fn clear_blocks(
-    disk: &mut [[u8; BLOCK]],
-    kept: &mut [bool],
-    start: u64,
-    count: u64,
-    mark: bool,
-)
+pub fn clear_blocks(disk: &mut [[u8; BLOCK]], kept: &mut [bool], start: u64, count: u64, mark: bool)
     requires blocks { start + count ≤ length disk.old }
     requires marks { length kept.old ≡ length disk.old }
     ensures moved { (memory : List ℕ) (differed : Bool) → moved_of (flat memory disk.new kept.new) differed
