@@ -2,6 +2,7 @@ mod HeldLemmas
 mod LaneLemmas
 mod MoveLemmas
 mod PageLemmas
+mod SpellLemmas
 mod TakeLemmas
 mod UnitLemmas
 mod UnitMarks

@@ -61,11 +61,13 @@ unfolding bits
 nr-fits entry = omega arith
 
 -- a range has its places
-pub range-there : (blocks : ℕ) (host : List ℕ) (number : ℕ) (h : Held) → io_opcode (opcode_of h.entry) ≡ Some DatasetManagement
-    → IsReady blocks host number h → (16 * number + 16 ≤ length (places_of h.pieces)) × (number < 2 ^ 8)
-range-there blocks host number h is ready =
-    let below = number-below blocks host number h (Some DatasetManagement) is ready in
-    let places = places-there blocks host number h (Some DatasetManagement) is ready in
+pub range-there : (blocks : ℕ) (number : ℕ) (h : Held) → io_opcode (opcode_of h.entry) ≡ Some DatasetManagement
+    → list_any (λ k. k == number) h.left ≡ true → IsHeld blocks h → (16 * number + 16 ≤ length (places_of h.pieces)) × (number < 2 ^ 8)
+range-there blocks number h is left held =
+    let U : Option IoOpcode → Type 0 = λ o. All (λ k. k < unit_count o h.entry) h.left in
+    let P : Option IoOpcode → Type 0 = λ o. length (places_of h.pieces) ≡ len_of o h.entry in
+    let below = any-below number (unit_count (Some DatasetManagement) h.entry) h.left (subst U is held.units) left in
+    let places : length (places_of h.pieces) ≡ len_of (Some DatasetManagement) h.entry = subst P is held.places in
     let few = nr-fits h.entry in
     (omega arith, omega arith)
 

@@ -1,6 +1,8 @@
 -- Reading PRPs in a host: Base Specification 2.0, "Physical Region Page Entry and List"
 use Rattle.std.specs.Prelude.{◌≡◌, ℕ, ◌+◌, ◌*◌, ◌<◌, ◌≤◌, min, Bool, true, false, nat_lt, List, [], length}
+use Rattle.nv_mem.specs.GuestMap.{everywhere}
 use Rattle.nv_mem.specs.declared.piece.Piece.{Piece}
+use Rattle.nv_mem.specs.declared.piece.Piece.TheVariants.{Bucket, Run}
 use Rattle.nv_model.specs.Dialogue.{in_memory}
 use Rattle.nv_model.specs.Prp.{read_entries, read_prp, read_prp2}
 use Rattle.nv_model.specs.Reading.{Reading, Faulty, Spells, TooLong}
@@ -9,6 +11,11 @@ use Rattle.nv_moves.specs.Flat.{byte_in}
 -- the addresses of a host of that length
 abbrev pub in_host : (host_len : ℕ) → ℕ → Bool
 in_host host_len addr = nat_lt addr host_len
+
+-- whether the bytes of a piece lie in a host of that length; those of a bucket lie nowhere
+abbrev pub piece_in : (host_len : ℕ) → Piece → Bool
+piece_in host_len (Run addr len) = everywhere (in_host host_len) addr len
+piece_in host_len (Bucket len) = true
 
 -- what PRP1, PRP2 and a list say where the host's addresses are those that are there
 unfoldable pub host_reading : (host : List ℕ) → (prp1 prp2 len : ℕ) → Reading
@@ -36,5 +43,13 @@ pub record IsEntryAt (host : List ℕ) (pages slots from entry_slots entry : ℕ
       → entries_reading host pages entry_slots entry bytes pieces ≡ Spells r
   pub there : (bytes : ℕ) (pieces r : List Piece) → entries_reading host pages slots from bytes pieces ≡ Spells r
       → entry + 8 * min entry_slots pages ≤ length host
+  pub some : 0 < entry_slots
+  pub no_pointer : 1 < pages → 1 < entry_slots
+
+-- the same where it need not spell anything: it spells places where reading on from there does
+pub record IsNextEntry (host : List ℕ) (pages slots from entry_slots entry : ℕ) : Type 0 where
+  pub same : (bytes : ℕ) (pieces : List Piece) → spells (entries_reading host pages slots from bytes pieces)
+      ≡ spells (entries_reading host pages entry_slots entry bytes pieces)
+  pub there : entry + 8 * min entry_slots pages ≤ length host
   pub some : 0 < entry_slots
   pub no_pointer : 1 < pages → 1 < entry_slots

@@ -1,16 +1,17 @@
 //! A command in the device.
 
-ghost use Rattle.std.specs.Prelude.{◌≡◌, ◌==◌, ◌<◌, ◌^◌, ◌↔◌, [], true, IfOk, IsTrue};
+ghost use Rattle.std.specs.Prelude.{◌≡◌, ◌+◌, ◌==◌, ◌<◌, ◌≤◌, ◌^◌, ◌↔◌, [], Some, true, IfOk, IsTrue};
 ghost use Rattle.nv_entry.specs.Opcode.{io_opcode};
 ghost use Rattle.nv_entry.specs.Submission.{opcode_of, prp1_of, prp2_of, slba_of};
-ghost use Rattle.nv_model.specs.Judge.{deallocates, is_fua};
+ghost use Rattle.nv_model.specs.Judge.{count_of, deallocates, is_fua};
 ghost use Rattle.nv_moves.specs.Flat.{byte_in};
 ghost use Rattle.nv_world_model.specs.Device.{held_of, held_status, host_pieces, unit_count, unit_gone};
 ghost use Rattle.nv_device.specs.Pages.{host_reading, spells};
-ghost use Rattle.nv_device.specs.Physical.{len_of};
+ghost use Rattle.nv_device.specs.Physical.{len_of, names_blocks};
 ghost use Rattle.std.specs.List.{list_any};
 
 use crate::pages::read_pages;
+use crate::spelling::spells;
 use crate::units::Units;
 use nv_entry::{IoOpcode, Sqe, Status, StatusCode};
 use nv_mem::{Host, NoMemory, Places};
@@ -85,6 +86,17 @@ impl Command {
         ensures { result ≡ deallocates self.now.entry }
     {
         self.sqe.deallocate()
+    }
+
+    /// Whether it is a Dataset Management that deallocates.
+    pub(crate) fn deallocates_ranges(&self) -> bool
+        ensures { IsTrue result ↔ ((io_opcode (opcode_of self.now.entry) ≡ Some IoOpcode.DatasetManagement) × (deallocates self.now.entry ≡ true)) }
+    {
+        match self.sqe.io_opcode() {
+            Some(IoOpcode::DatasetManagement) => self.sqe.deallocate(),
+            Some(IoOpcode::Read | IoOpcode::Write | IoOpcode::Compare) => false,
+            Some(IoOpcode::WriteZeroes | IoOpcode::Flush) | None => false,
+        }
     }
 
     /// Whether a Compare has differed so far.
@@ -165,5 +177,27 @@ fn unit_count(sqe: &Sqe) -> usize
         Some(IoOpcode::DatasetManagement) => usize::from(sqe.nr()) + 1,
         Some(IoOpcode::Flush) => 1,
         None => 0,
+    }
+}
+
+/// Whether the bytes that a command names lie in the host, and its list.
+pub(crate) fn lies_in(sqe: &Sqe, host: &Host) -> bool
+    ensures { IsTrue result ↔ (0 < len_of (io_opcode (opcode_of sqe.now)) sqe.now →
+        spells (host_reading host.now (prp1_of sqe.now) (prp2_of sqe.now) (len_of (io_opcode (opcode_of sqe.now)) sqe.now)) ≡ true) }
+{
+    let len = transfer_len(sqe);
+    len == 0 || spells(host, sqe.prp1(), sqe.prp2(), len)
+}
+
+/// Whether the blocks that a command names by SLBA and NLB are on a disk of so many.
+pub(crate) fn is_on_disk(sqe: &Sqe, blocks: u64) -> bool
+    ensures { IsTrue result ↔ (names_blocks (io_opcode (opcode_of sqe.now)) ≡ true → slba_of sqe.now + count_of sqe.now ≤ blocks) }
+{
+    match sqe.io_opcode() {
+        Some(IoOpcode::Read | IoOpcode::Write | IoOpcode::Compare | IoOpcode::WriteZeroes) => {
+            let count = u64::from(sqe.nlb()) + 1;
+            count <= blocks && sqe.slba() <= blocks - count
+        }
+        Some(IoOpcode::DatasetManagement | IoOpcode::Flush) | None => true,
     }
 }

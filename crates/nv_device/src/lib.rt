@@ -8,6 +8,7 @@ mod moving;
 mod pages;
 mod posting;
 mod response;
+mod spelling;
 mod taking;
 mod units;
 

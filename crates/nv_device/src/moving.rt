@@ -1,6 +1,6 @@
 //! Units of commands in the device.
 
-ghost use Rattle.std.specs.Prelude.{◌≡◌, ◌+◌, ◌*◌, ◌<◌, ◌≤◌, ℕ, Bool, true, false, List, IfSome, Some, drop, length};
+ghost use Rattle.std.specs.Prelude.{◌≡◌, ◌+◌, ◌*◌, ◌==◌, ◌^◌, ◌<◌, ◌≤◌, ◌↔◌, IsTrue, ℕ, Bool, true, false, List, IfSome, Some, drop, length};
 ghost use Rattle.nv_entry.specs.Opcode.{io_opcode};
 ghost use Rattle.nv_entry.specs.Submission.{opcode_of, slba_of};
 ghost use Rattle.nv_mem.specs.Places.{places_of};
@@ -8,20 +8,35 @@ ghost use Rattle.nv_moves.specs.Buffer.{AreBelow};
 ghost use Rattle.nv_moves.specs.Flat.{byte_in, flat, moved_of};
 ghost use Rattle.nv_model.specs.Carried.{cleared};
 ghost use Rattle.nv_entry.specs.Range.{blocks_of, start_of};
-ghost use Rattle.std.specs.List.{range_with_len};
+ghost use Rattle.std.specs.List.{list_all, list_any, range_with_len};
 ghost use Rattle.nv_world_model.specs.Device.{range_at};
 ghost use Rattle.nv_world_model.specs.Area.{tag_count};
-ghost use Rattle.nv_device.specs.Moving.{IsMoved, IsRangeOnDisk, IsReady, MayMove, moves_blocks, unit_of};
-ghost use Rattle.nv_device.specs.Physical.{done_where, has_left, held_at};
+ghost use Rattle.nv_device.specs.Moving.{IsMovable, IsMoved, IsRangeOnDisk, IsReady, MayMove, moves_blocks, unit_of};
+ghost use Rattle.nv_device.specs.Physical.{IsHeld, done_where, has_left, held_at};
+ghost use Rattle.nv_device.specs.Pages.{piece_in};
 
 use crate::command::Command;
 use crate::device::Device;
 use crate::response::Response;
 use nv_entry::{IoOpcode, Range};
-use nv_mem::Host;
+use nv_mem::{Host, Piece};
 use nv_moves::{BLOCK, Buffer};
 
 impl Device {
+    /// Whether that unit of the command at a slot may move, if it is left: the bytes that the command names lie in the host,
+    /// and where it deallocates, the blocks of the unit's range are on the disk. It is what [`Device::move_unit`] requires.
+    pub fn may_move(&self, lane: u8, slot: u8, number: u64, host: &Host) -> bool
+        requires lane { lane < length self.now.lanes }
+        requires slot { slot < tag_count }
+        ensures { IsTrue result ↔ MayMove lane slot number host.now self.now }
+    {
+        let ring = &self.lanes[usize::from(lane)];
+        let Some(command) = ring.command(slot) else {
+            return true;
+        };
+        !command.has(number) || is_movable(command, number, host, self.blocks())
+    }
+
     /// Moves a unit of the command at a slot, by its number, in any order. Idle where no command is there, or one that has no
     /// such unit or has moved it.
     pub fn move_unit(&mut self, lane: u8, slot: u8, number: u64, host: &mut Host) -> Response
@@ -162,8 +177,9 @@ fn manage_unit(
 
 /// A range of a Dataset Management, by its number, as it stands in the host now.
 fn range_of(command: &Command, number: u64, host: &Host) -> Range
-    requires ready { (disk_blocks : ℕ) × IsReady disk_blocks host.now number command.now }
-    requires opcode { io_opcode (opcode_of command.now.entry) ≡ Some IoOpcode.DatasetManagement }
+    requires bytes { AreBelow (length host.now) (places_of command.now.pieces) }
+    requires number { number < 2 ^ 8 }
+    requires enough { 16 * number + 16 ≤ length (places_of command.now.pieces) }
     ensures { result ≡ range_at number command.now.pieces (byte_in host.now) }
 {
     // The end of the host fits in 64 bits, and so do its addresses.
@@ -173,6 +189,46 @@ fn range_of(command: &Command, number: u64, host: &Host) -> Range
     let mut bytes = [0; 16];
     buffer.fetch(host, &mut bytes);
     Range::of(&bytes)
+}
+
+/// Whether a unit that is left may move, on a disk of so many blocks.
+fn is_movable(command: &Command, number: u64, host: &Host, blocks: u64) -> bool
+    requires left { list_any (λ k. k == number) command.now.left ≡ true }
+    requires held { IsHeld blocks command.now }
+    ensures { IsTrue result ↔ IsMovable blocks host.now number command.now }
+{
+    if !pieces_lie_in(command.places().pieces(), host) {
+        return false;
+    }
+    if !command.deallocates_ranges() {
+        return true;
+    }
+    is_range_on_disk(range_of(command, number, host), blocks)
+}
+
+/// Whether a range that has blocks has them on a disk of so many.
+fn is_range_on_disk(range: Range, blocks: u64) -> bool
+    ensures { IsTrue result ↔ IsRangeOnDisk blocks range }
+{
+    let count = u64::from(range.blocks());
+    count == 0 || (count <= blocks && range.start() <= blocks - count)
+}
+
+/// Whether the bytes of these pieces lie in the host.
+fn pieces_lie_in(pieces: &[Piece], host: &Host) -> bool
+    ensures { result ≡ list_all (piece_in (length host.now)) pieces.now }
+{
+    pieces.iter().all(|piece| piece_lies_in(piece, host))
+}
+
+/// Whether the bytes of a piece lie in the host; those of a bucket lie nowhere.
+fn piece_lies_in(piece: &Piece, host: &Host) -> bool
+    ensures { result ≡ piece_in (length host.now) piece.now }
+{
+    match *piece {
+        Piece::Run { addr, len } => host.holds(addr, len),
+        Piece::Bucket { .. } => true,
+    }
 }
 
 /// Makes the blocks of a range zeros that are not kept.

@@ -14,10 +14,10 @@ use nv_mem::{Host, NoMemory, Piece, Places};
 use std::alloc::Global;
 
 /// The bytes of a memory page.
-const PAGE: u64 = 4096;
+pub(crate) const PAGE: u64 = 4096;
 
 /// The slots of a list page.
-const SLOTS: u64 = PAGE / 8;
+pub(crate) const SLOTS: u64 = PAGE / 8;
 
 /// The places of a transfer of `len` bytes by PRP1 and PRP2. The caller knows that they and the list lie in the host, and
 /// that all are as PRP has them: nothing is checked here.
@@ -46,7 +46,7 @@ pub(crate) fn read_pages(
 }
 
 /// How many pages hold so many bytes from a page's start on.
-fn pages_of(bytes: u64) -> u64
+pub(crate) fn pages_of(bytes: u64) -> u64
     requires { bytes < 2 ^ 32 }
     ensures value { result ≡ pages_of bytes }
     ensures fits { result < 2 ^ 32 }
@@ -121,7 +121,7 @@ fn entry_at(host: &Host, from: u64, slots: u64, pages: u64) -> (u64, u64)
 }
 
 /// The number in a slot.
-fn slot(host: &Host, at: u64) -> u64
+pub(crate) fn slot(host: &Host, at: u64) -> u64
     requires { at + 8 ≤ length host.now }
     ensures { result ≡ number_at (bytes_from (byte_in host.now) at 8) 0 8 }
 {

@@ -1,17 +1,38 @@
 //! Entries that the device takes.
 
-ghost use Rattle.std.specs.Prelude.{◌≡◌, ◌<◌, IfOk, OnErr, length};
+ghost use Rattle.std.specs.Prelude.{◌≡◌, ◌<◌, ◌↔◌, IsTrue, IfOk, OnErr, length};
 ghost use Rattle.nv_device.specs.Physical.{HoldsArea, done_where};
 ghost use Rattle.nv_device.specs.Taking.{MayTake, front_of, taken, waits};
 
-use crate::command::Command;
+use crate::command::{self, Command};
 use crate::device::Device;
+use crate::lane::IDENTIFIERS;
 use crate::response::Response;
 use nv_entry::Sqe;
 use nv_mem::{Host, NoMemory};
 use std::alloc::Global;
 
 impl Device {
+    /// Whether the front entry of a lane's submission ring may be taken, if one waits: its bytes and its list lie in the host,
+    /// its blocks are on the disk, and no command in the device has its identifier, which is below 64. It is what
+    /// [`Device::take`] requires.
+    pub fn may_take(&self, lane: u8, host: &Host) -> bool
+        requires lane { lane < length self.now.lanes }
+        requires area { HoldsArea (length host.now) self.now }
+        ensures { IsTrue result ↔ MayTake lane host.now self.now }
+    {
+        let ring = &self.lanes[usize::from(lane)];
+        if ring.is_idle() {
+            return true;
+        }
+        let sqe = self.front_entry(lane, host);
+        let identifier = sqe.cid();
+        identifier < u16::from(IDENTIFIERS)
+            && ring.command(identifier as u8).is_none()
+            && command::lies_in(&sqe, host)
+            && command::is_on_disk(&sqe, self.blocks())
+    }
+
     /// Takes the front entry of a lane's submission ring into the device, under its identifier, and reads its PRP list: where
     /// its bytes lie is settled now. Idle where no entry waits. Where no memory is left for that, nothing has changed.
     pub fn take(&mut self, alloc: Global, lane: u8, host: &Host) -> Result<Response, NoMemory>

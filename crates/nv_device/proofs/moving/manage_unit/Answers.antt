@@ -1,7 +1,7 @@
-use Rattle.std.proofs.Common.{◌≡◌, Bool, true, false, not, ap, sym, ◌∙◌}
+use Rattle.std.proofs.Common.{◌≡◌, length, Bool, true, false, not, ap, sym, ◌∙◌}
 use Rattle.nv_moves.specs.Flat.{flat, moved_of}
 use Rattle.nv_world_model.specs.Device.{range_at}
-use Rattle.nv_device.proofs.UnitLemmas.{deallocate-unit, leave-unit, memory-of}
+use Rattle.nv_device.proofs.UnitLemmas.{deallocate-unit, leave-unit, memory-of, range-there}
 use Rattle.nv_device.proofs.moving.manage_unit.Goals as goal
 
 pub returns-then-not-deallocates : goal.returns-then-not-deallocates
@@ -16,3 +16,11 @@ returns c =
     ∙ deallocate-unit c.args.number c.args.command.now c.args.host.now c.args.disk.now c.args.kept.now c.range_of.result c.requires.opcode
     (sym c.deallocates.ensures ∙ c.if-not-deallocates.false)
     (c.range_of.ensures ∙ ap (range_at c.args.number c.args.command.now.pieces) (sym (memory-of c.args.host.now c.args.disk.now c.args.kept.now c.args.command.now.differed)))
+
+pub range_of-requires-clause-number : goal.range_of-requires-clause-number
+range_of-requires-clause-number c =
+    (range-there (length c.args.disk.now) c.args.number c.args.command.now c.requires.opcode c.requires.ready.left c.requires.ready.held).1
+
+pub range_of-requires-clause-enough : goal.range_of-requires-clause-enough
+range_of-requires-clause-enough c =
+    (range-there (length c.args.disk.now) c.args.number c.args.command.now c.requires.opcode c.requires.ready.left c.requires.ready.held).0

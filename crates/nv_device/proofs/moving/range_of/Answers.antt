@@ -1,17 +1,11 @@
 use Rattle.std.proofs.Common.{◌≡◌, ◌+◌, ◌*◌, ◌≤◌, ℕ, length, drop, arith, ap, ◌∙◌}
 use Rattle.std.proofs.lemmas.List.{length-drop}
 use Rattle.nv_mem.specs.Places.{places_of}
-use Rattle.nv_device.proofs.UnitLemmas.{range-there}
 use Rattle.nv_device.proofs.moving.range_of.Goals as goal
-
-pub overflow_mul-number : goal.overflow_mul-number
-overflow_mul-number c =
-    let there = range-there c.requires.ready.0 c.args.host.now c.args.number c.args.command.now c.requires.opcode c.requires.ready.1 in
-    omega arith
 
 pub fetch-requires-clause-enough : goal.fetch-requires-clause-enough
 fetch-requires-clause-enough c =
-    let there = range-there c.requires.ready.0 c.args.host.now c.args.number c.args.command.now c.requires.opcode c.requires.ready.1 in
+    let there = c.requires.enough in
     let len : length c.skip.new.self ≡ length (drop (16 * c.args.number) (places_of c.args.command.now.pieces)) =
     ap length (c.skip.ensures ∙ ap (drop (16 * c.args.number)) (c.new-buffer.ensures ∙ ap places_of c.places.ensures)) in
     let left = length-drop (16 * c.args.number) (places_of c.args.command.now.pieces) in
