@@ -11,4 +11,7 @@ mod buffer;
 mod moves;
 
 pub use buffer::Buffer;
-pub use moves::{clear_block, clear_blocks, compare_block, compare_blocks, keep_all, read_block, read_blocks, write_block};
+pub use moves::{
+    clear_block, clear_blocks, compare_block, compare_blocks, keep_all, read_block, read_blocks,
+    write_block,
+};
