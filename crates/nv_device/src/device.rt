@@ -9,7 +9,7 @@ ghost use Rattle.nv_device.specs.Physical.{FitsLimits, HoldsArea, done_where, la
 use crate::lane::Lane;
 use crate::response::Response;
 use nv_mem::{Host, NoMemory};
-use nv_moves::BLOCK;
+use nv_model::limits::BLOCK_SIZE;
 use std::alloc::Global;
 use std::marker::Model;
 
@@ -19,7 +19,7 @@ use std::marker::Model;
 pub struct Device {
     /// Where the mediator's area begins.
     pub(crate) mediator: u64,
-    pub(crate) disk: Vec<[u8; BLOCK]>,
+    pub(crate) disk: Vec<[u8; BLOCK_SIZE]>,
     pub(crate) kept: Vec<bool>,
     pub(crate) lanes: Vec<Lane>,
 }
@@ -128,7 +128,7 @@ impl Device {
     }
 
     /// The bytes of a block.
-    pub fn block(&self, block: u64) -> &[u8; BLOCK]
+    pub fn block(&self, block: u64) -> &[u8; BLOCK_SIZE]
         requires { block < length self.now.disk }
         ensures { result.now ≡ slice_index_or self.now.disk block result.now }
     {
@@ -165,12 +165,12 @@ impl Device {
 }
 
 /// Blocks of zeros.
-fn zero_blocks(alloc: Global, blocks: usize) -> Result<Vec<[u8; BLOCK]>, NoMemory>
+fn zero_blocks(alloc: Global, blocks: usize) -> Result<Vec<[u8; BLOCK_SIZE]>, NoMemory>
     ensures { IfOk result (λ disk. disk.items ≡ replicate blocks (replicate 512 0)) }
 {
     let mut disk = Vec::with_capacity(alloc, blocks)?;
     for _block in 0..blocks {
-        disk.push([0; BLOCK])?;
+        disk.push([0; BLOCK_SIZE])?;
     }
     Ok(disk)
 }

@@ -20,7 +20,8 @@ use crate::device::Device;
 use crate::response::Response;
 use nv_entry::{IoOpcode, Range};
 use nv_mem::{Host, Piece};
-use nv_moves::{BLOCK, Buffer};
+use nv_model::limits::BLOCK_SIZE;
+use nv_moves::Buffer;
 
 impl Device {
     /// Whether that unit of the command at a slot may move, if it is left: the bytes that the command names lie in the host,
@@ -68,7 +69,7 @@ fn move_one(
     command: &Command,
     number: u64,
     host: &mut Host,
-    disk: &mut [[u8; BLOCK]],
+    disk: &mut [[u8; BLOCK_SIZE]],
     kept: &mut [bool],
 ) -> bool
     requires ready { IsReady (length disk.old) host.old number command.now }
@@ -92,7 +93,7 @@ fn read_unit(
     command: &Command,
     number: u64,
     host: &mut Host,
-    disk: &[[u8; BLOCK]],
+    disk: &[[u8; BLOCK_SIZE]],
     kept: &mut [bool],
 ) -> bool
     requires ready { IsReady (length disk.now) host.old number command.now }
@@ -111,7 +112,7 @@ fn write_unit(
     command: &Command,
     number: u64,
     host: &Host,
-    disk: &mut [[u8; BLOCK]],
+    disk: &mut [[u8; BLOCK_SIZE]],
     kept: &mut [bool],
 ) -> bool
     requires ready { IsReady (length disk.old) host.now number command.now }
@@ -129,7 +130,7 @@ fn compare_unit(
     command: &Command,
     number: u64,
     host: &Host,
-    disk: &[[u8; BLOCK]],
+    disk: &[[u8; BLOCK_SIZE]],
     kept: &mut [bool],
 ) -> bool
     requires ready { IsReady (length disk.now) host.now number command.now }
@@ -143,7 +144,12 @@ fn compare_unit(
 }
 
 /// A block of a Write Zeroes: it becomes zeros.
-fn clear_unit(command: &Command, number: u64, disk: &mut [[u8; BLOCK]], kept: &mut [bool]) -> bool
+fn clear_unit(
+    command: &Command,
+    number: u64,
+    disk: &mut [[u8; BLOCK_SIZE]],
+    kept: &mut [bool],
+) -> bool
     requires ready { (host : List ℕ) × IsReady (length disk.old) host number command.now }
     requires opcode { io_opcode (opcode_of command.now.entry) ≡ Some IoOpcode.WriteZeroes }
     requires marks { length kept.old ≡ length disk.old }
@@ -160,7 +166,7 @@ fn manage_unit(
     command: &Command,
     number: u64,
     host: &Host,
-    disk: &mut [[u8; BLOCK]],
+    disk: &mut [[u8; BLOCK_SIZE]],
     kept: &mut [bool],
 ) -> bool
     requires ready { IsReady (length disk.old) host.now number command.now }
@@ -232,7 +238,7 @@ fn piece_lies_in(piece: &Piece, host: &Host) -> bool
 }
 
 /// Makes the blocks of a range zeros that are not kept.
-fn clear_range(range: Range, disk: &mut [[u8; BLOCK]], kept: &mut [bool])
+fn clear_range(range: Range, disk: &mut [[u8; BLOCK_SIZE]], kept: &mut [bool])
     requires blocks { IsRangeOnDisk (length disk.old) range }
     requires marks { length kept.old ≡ length disk.old }
     ensures { (memory : List ℕ) (differed : Bool) → moved_of (flat memory disk.new kept.new) differed
@@ -259,7 +265,7 @@ fn block_of<'a>(
     command: &'a Command,
     number: u64,
     host: &Host,
-    disk: &[[u8; BLOCK]],
+    disk: &[[u8; BLOCK_SIZE]],
 ) -> (u64, Buffer<'a>)
     requires ready { IsReady (length disk.now) host.now number command.now }
     requires transfer { moves_blocks (io_opcode (opcode_of command.now.entry)) ≡ true }
@@ -272,6 +278,6 @@ fn block_of<'a>(
     // Numbers of blocks and host addresses fit in 64 bits.
     let (_blocks, _size) = (disk.len(), host.len());
     let mut buffer = Buffer::new(command.places());
-    buffer.skip(BLOCK as u64 * number);
+    buffer.skip(BLOCK_SIZE as u64 * number);
     (command.slba() + number, buffer)
 }

@@ -12,7 +12,7 @@ use Rattle.nv_model.specs.Judge.{WorkUnit, MoveBlock, ClearBlock, LeaveBlock, Ke
 use Rattle.nv_model.specs.Limits.{block}
 use Rattle.nv_model.specs.Private.{Moved, block_bytes, block_moved, places_of_block}
 use Rattle.nv_model.specs.Carried.{moved_on, units_moved}
-use Rattle.nv_flat.specs.Flat.{Flat, byte_in, flat, moved_of}
+use Rattle.nv_moves.specs.Flat.{Flat, byte_in, flat, moved_of}
 use Rattle.nv_flat.specs.Laws.{IsAnother, IsAsLarge, IsElsewhere}
 use Rattle.nv_model.proofs.UnitWords.{or-false}
 

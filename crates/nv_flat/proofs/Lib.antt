@@ -1,6 +1,4 @@
 pub mod AskingLemmas
-pub mod BufferLemmas
-pub mod CompareLemmas
 pub mod DatasetLemmas
 pub mod DoneLemmas
 pub mod ExampleLemmas
@@ -8,10 +6,8 @@ pub mod FlatLemmas
 pub mod KeptLemmas
 pub mod ListLemmas
 pub mod MadeLemmas
-pub mod MoveLemmas
 pub mod OneLemmas
 pub mod PieceLemmas
-pub mod ReadLemmas
 pub mod RunLemmas
 pub mod TransferLemmas
 pub mod VerdictLemmas

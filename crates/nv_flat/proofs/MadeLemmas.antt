@@ -16,15 +16,15 @@ use Rattle.nv_model.specs.Private.{Moved, block_bytes, block_moved, moved_status
 use Rattle.nv_model.specs.Carried.{moved_on, units_moved}
 use Rattle.nv_model.proofs.Judged.{verdict-sound}
 use Rattle.nv_model.proofs.MemoryLemmas.{stored-list}
-use Rattle.nv_flat.proofs.BufferLemmas.{AreBelow-drop, AreBelow-front}
-use Rattle.nv_flat.specs.Buffer.{AreBelow, IsBelow}
-use Rattle.nv_flat.specs.Flat.{Flat, byte_in, byte_of_block, flat, moved_of}
+use Rattle.nv_moves.proofs.BufferLemmas.{AreBelow-drop, AreBelow-front}
+use Rattle.nv_moves.specs.Buffer.{AreBelow, IsBelow}
+use Rattle.nv_moves.specs.Flat.{Flat, byte_in, byte_of_block, flat, moved_of}
 use Rattle.nv_flat.specs.Laws.{HasRun}
 use Rattle.nv_flat.specs.One.{shape_of}
-use Rattle.nv_flat.proofs.MoveLemmas.{marked-set, moved, written-set}
+use Rattle.nv_moves.proofs.MoveLemmas.{marked-set, moved, written-set}
 use Rattle.nv_flat.proofs.OneLemmas.{moved-run, refused-run}
 use Rattle.nv_flat.proofs.PieceLemmas.{pieces-are-below}
-use Rattle.nv_flat.proofs.WorkLemmas.{keep-all}
+use Rattle.nv_moves.proofs.UnitLemmas.{keep-all}
 
 -- ---- bytes scattered in a list
 
@@ -145,7 +145,7 @@ clear-made lba mark f below sized =
 every-mark : (work : Work) (f : Flat) (blocks : ℕ) → length f.kept ≡ blocks
     → ◌≡◌ {A = ℕ → Bool} (λ lba. slice_index_or (replicate blocks true) lba false) (λ lba. nat_lt lba blocks || marks_of f lba)
 unfolding moved_of
-every-mark work f blocks many = ap (λ (m : Moved). m.kept) (keep-all work f.memory f.disk f.kept blocks many)
+every-mark work f blocks many = ap (λ (m : Moved). m.kept) (keep-all work f.memory f.disk f.kept blocks false many)
 
 -- a unit of a command
 unit-made : (work : Work) (unit : WorkUnit) (f : Flat) → IsUnitWithin (length f.disk) unit

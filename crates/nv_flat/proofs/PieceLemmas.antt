@@ -31,8 +31,9 @@ use Rattle.nv_model.proofs.DialogueLemmas.{in_memory-and_then}
 use Rattle.nv_model.proofs.Judged.{everywhere-at}
 use Rattle.nv_model.proofs.MemoryLemmas.{gathered-addresses, gathered-append}
 use Rattle.nv_model.proofs.Spelled.{AreOfLen, read_prp-of_len, read_sgl-mapped}
-use Rattle.nv_flat.specs.Buffer.{AreBelow, IsBelow}
-use Rattle.nv_flat.specs.Flat.{Flat, byte_in, identity_map}
+use Rattle.nv_moves.specs.Buffer.{AreBelow, IsBelow}
+use Rattle.nv_flat.specs.Flat.{identity_map}
+use Rattle.nv_moves.specs.Flat.{Flat, byte_in}
 use Rattle.nv_flat.specs.Listed.{list_reading}
 
 -- ---- in the memory

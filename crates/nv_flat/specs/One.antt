@@ -20,7 +20,8 @@ use Rattle.nv_model.specs.Private.{After, PostStep, Private, Shape, Taken, Unjud
 use Rattle.nv_model.specs.Carried.{IsCarriedOut}
 use Rattle.nv_judge.specs.declared.need.Need.{Need}
 use Rattle.nv_judge.specs.Need.{need_of}
-use Rattle.nv_flat.specs.Flat.{Flat, byte_in, byte_of_block, identity_map}
+use Rattle.nv_flat.specs.Flat.{identity_map}
+use Rattle.nv_moves.specs.Flat.{Flat, byte_in, byte_of_block}
 
 -- a controller with queue pair 1 behind a bring-up, from which one command was taken. The queues have few slots and lie at the memory's
 -- start; nothing depends on where they lie.

@@ -7,13 +7,12 @@ ghost use Rattle.nv_entry.specs.Submission.{cid_of};
 ghost use Rattle.nv_entry.specs.Status.{StatusField};
 ghost use Rattle.nv_model.specs.Judge.{KeepAll, Work};
 ghost use Rattle.nv_model.specs.Carried.{cleared, moved_on};
-ghost use Rattle.nv_flat.specs.Flat.{moved_of};
+ghost use Rattle.nv_moves.specs.Flat.{moved_of};
 ghost use Rattle.nv_flat.specs.One.{HasFieldsInOrder, IsRun};
 ghost use Rattle.nv_flat.specs.Transfer.{is_transfer};
 
 use crate::controller::FlatController;
 use crate::lists::Listed;
-use crate::moves;
 use nv_entry::{Cqe, IoOpcode, Sqe, Status, StatusCode};
 use nv_judge::{Need, judge_fields};
 use nv_mem::NoMemory;
@@ -118,7 +117,7 @@ impl FlatController {
         ensures memory_size { length self.new.memory ≡ length self.old.memory }
         ensures disk_size { length self.new.disk ≡ length self.old.disk }
     {
-        moves::clear_blocks(&mut self.disk, &mut self.kept, start, count, mark);
+        nv_moves::clear_blocks(&mut self.disk, &mut self.kept, start, count, mark);
     }
 
     // Makes every block kept.
@@ -127,6 +126,6 @@ impl FlatController {
         ensures memory_size { length self.new.memory ≡ length self.old.memory }
         ensures disk_size { length self.new.disk ≡ length self.old.disk }
     {
-        moves::keep_all(&mut self.kept);
+        nv_moves::keep_all(&mut self.kept);
     }
 }

@@ -4,7 +4,8 @@ ghost use Rattle.std.specs.Prelude.{◌≡◌, ◌+◌, ◌%◌, ◌<◌, ◌≤
 ghost use Rattle.std.specs.List.{slice_index_or};
 ghost use Rattle.nv_mem.specs.Bytes.{InMemory, after_store, bytes_at};
 ghost use Rattle.nv_model.specs.Limits.{block as block_size, page};
-ghost use Rattle.nv_flat.specs.Flat.{FitsLimits, flat, identity_map};
+ghost use Rattle.nv_flat.specs.Flat.{FitsLimits, identity_map};
+ghost use Rattle.nv_moves.specs.Flat.{flat};
 
 use nv_mem::{GuestMap, Host, NoMemory, PAGE_SIZE, Region};
 use nv_model::limits::{BLOCK_SIZE, LARGEST_MEMORY, LARGEST_NAMESPACE};
@@ -21,7 +22,8 @@ pub struct FlatController {
 }
 
 impl Model for FlatController {
-    ghost use Rattle.nv_flat.specs.Flat.{Flat, IsWhole, flat};
+    ghost use Rattle.nv_flat.specs.Flat.{IsWhole};
+    ghost use Rattle.nv_moves.specs.Flat.{Flat, flat};
 
     ghost Value = { Flat };
 

@@ -6,15 +6,14 @@ ghost use Rattle.nv_mem.specs.declared.piece.Piece.{Piece};
 ghost use Rattle.nv_model.specs.Judge.{MoveBlock};
 ghost use Rattle.nv_model.specs.Carried.{block_work, moved_on, units_from, units_moved};
 ghost use Rattle.nv_model.specs.Limits.{block as block_size};
-ghost use Rattle.nv_flat.specs.Buffer.{AreBelow};
-ghost use Rattle.nv_flat.specs.Flat.{moved_of};
+ghost use Rattle.nv_moves.specs.Buffer.{AreBelow};
+ghost use Rattle.nv_moves.specs.Flat.{moved_of};
 ghost use Rattle.nv_flat.specs.Transfer.{is_transfer};
 
-use crate::buffer::Buffer;
 use crate::controller::FlatController;
-use crate::moves;
 use nv_entry::IoOpcode;
 use nv_mem::Places;
+use nv_moves::Buffer;
 
 impl FlatController {
     /// Moves the `count` blocks from `slba` on to or from a buffer, in order, or compares them. It says whether a Compare differs.
@@ -37,7 +36,7 @@ impl FlatController {
         let mut buffer = Buffer::new(places);
         match opcode {
             IoOpcode::Read => {
-                moves::read_blocks(
+                nv_moves::read_blocks(
                     &mut self.memory,
                     &self.disk,
                     &mut self.kept,
@@ -48,7 +47,7 @@ impl FlatController {
                 );
                 false
             }
-            IoOpcode::Compare => moves::compare_blocks(
+            IoOpcode::Compare => nv_moves::compare_blocks(
                 &self.memory,
                 &self.disk,
                 &mut self.kept,
@@ -94,7 +93,7 @@ impl FlatController {
         ensures disk_size { length self.new.disk ≡ length self.old.disk }
         ensures rest { buffer.new ≡ drop block_size buffer.old }
     {
-        moves::write_block(
+        nv_moves::write_block(
             &self.memory,
             &mut self.disk,
             &mut self.kept,

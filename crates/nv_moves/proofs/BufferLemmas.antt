@@ -55,7 +55,8 @@ AreBelow-drop size n places each =
 
 -- ---- a piece that is empty
 
-pub nothing-left : (p : Piece) (behind : List Piece) → piece_len p ≡ 0 → length behind ≡ 0 → places_of_piece p ++ places_of behind ≡ []
+pub nothing-left : (p : Piece) (behind : List Piece) → piece_len p ≡ 0 → length behind ≡ 0
+    → places_of_piece p ++ places_of behind ≡ []
 nothing-left p [] empty none = no-places (places_of_piece p) (length-places_of_piece p ∙ empty)
   where
     no-places : (places : List Place) → length places ≡ 0 → places ++ [] ≡ []
@@ -63,7 +64,8 @@ nothing-left p [] empty none = no-places (places_of_piece p) (length-places_of_p
     no-places (place ∷ places) e = absurd (omega arith)
 nothing-left p (q ∷ behind) empty none = absurd (omega arith)
 
-pub one-piece-less : (p first : Piece) (behind rest : List Piece) → piece_len p ≡ 0 → behind ≡ first ∷ rest → places_of_piece p ++ places_of behind ≡ places_of_piece first ++ places_of rest
+pub one-piece-less : (p first : Piece) (behind rest : List Piece) → piece_len p ≡ 0 → behind ≡ first ∷ rest
+    → places_of_piece p ++ places_of behind ≡ places_of_piece first ++ places_of rest
 one-piece-less p first behind rest empty is =
     no-places (places_of_piece p) (places_of behind) (length-places_of_piece p ∙ empty) ∙ ap places_of is
   where
@@ -86,7 +88,8 @@ addresses-split addr (suc n) k =
     ap (addresses addr) more
     ∙ ap (λ (places : List Place). At addr ∷ places) (addresses-split (addr + 1) n k ∙ ap (λ (a : ℕ). addresses (addr + 1) n ++ addresses a k) e)
 
-pub run-split : (addr len most : ℕ) → most ≤ len → addresses addr len ≡ addresses addr most ++ addresses (addr + most) (len - most)
+pub run-split : (addr len most : ℕ) → most ≤ len
+    → addresses addr len ≡ addresses addr most ++ addresses (addr + most) (len - most)
 run-split addr len most le =
     let e : len ≡ most + (len - most) = omega arith in
     ap (addresses addr) e ∙ addresses-split addr most (len - most)
@@ -100,7 +103,8 @@ replicate-split (suc n) k =
     let more : suc n + k ≡ suc (n + k) = omega arith in
     ap (λ (n : ℕ). replicate n Bucket) more ∙ ap (λ (places : List Place). Bucket ∷ places) (replicate-split n k)
 
-pub bucket-split : (len most : ℕ) → most ≤ len → replicate len Bucket ≡ replicate most Bucket ++ replicate (len - most) Bucket
+pub bucket-split : (len most : ℕ) → most ≤ len
+    → replicate len Bucket ≡ replicate most Bucket ++ replicate (len - most) Bucket
 bucket-split len most le =
     let e : len ≡ most + (len - most) = omega arith in
     ap (λ (n : ℕ). replicate n Bucket) e ∙ replicate-split most (len - most)
@@ -118,10 +122,12 @@ scattered-run memory addr bytes inside =
 pub gathered-run : (memory : List ℕ) (addr len : ℕ) → addr + len ≤ length memory
     → bytes_at memory addr len ≡ gathered (byte_in memory) (addresses addr len)
 unfolding byte_in
-gathered-run memory addr len inside = sym (bytes_from-list memory addr len inside) ∙ sym (gathered-addresses (byte_in memory) addr len)
+gathered-run memory addr len inside =
+    sym (bytes_from-list memory addr len inside) ∙ sym (gathered-addresses (byte_in memory) addr len)
 
 -- bytes of a list are those of the memory that it is
-pub bytes_at-from : (memory : List ℕ) (addr len : ℕ) → addr + len ≤ length memory → bytes_at memory addr len ≡ bytes_from (byte_in memory) addr len
+pub bytes_at-from : (memory : List ℕ) (addr len : ℕ) → addr + len ≤ length memory
+    → bytes_at memory addr len ≡ bytes_from (byte_in memory) addr len
 unfolding byte_in
 bytes_at-from memory addr len inside = sym (bytes_from-list memory addr len inside)
 
@@ -137,25 +143,30 @@ unfolding gathered
 gathered-none m = refl
 
 -- nothing is given where no byte is left, or no place
-pub scattered-no_bytes : (m : ℕ → ℕ) (places : List Place) (bytes : List ℕ) → length bytes ≡ 0 → scattered m places bytes ≡ m
+pub scattered-no_bytes : (m : ℕ → ℕ) (places : List Place) (bytes : List ℕ) → length bytes ≡ 0
+    → scattered m places bytes ≡ m
 unfolding scattered
 scattered-no_bytes m [] bytes none = refl
 scattered-no_bytes m (place ∷ places) [] none = refl
 scattered-no_bytes m (place ∷ places) (b ∷ bytes) none = absurd (omega arith)
 
-pub scattered-no_places : (m : ℕ → ℕ) (places : List Place) (bytes : List ℕ) → places ≡ [] → scattered m places bytes ≡ m
+pub scattered-no_places : (m : ℕ → ℕ) (places : List Place) (bytes : List ℕ) → places ≡ []
+    → scattered m places bytes ≡ m
 unfolding scattered
 scattered-no_places m [] bytes none = refl
 scattered-no_places m (place ∷ places) bytes none = (cc)
 
 -- only as many places get a byte as there are bytes
-pub scattered-take : (m : ℕ → ℕ) (n : ℕ) (places : List Place) (bytes : List ℕ) → length bytes ≡ n → scattered m (take n places) bytes ≡ scattered m places bytes
+pub scattered-take : (m : ℕ → ℕ) (n : ℕ) (places : List Place) (bytes : List ℕ) → length bytes ≡ n
+    → scattered m (take n places) bytes ≡ scattered m places bytes
 unfolding scattered
-scattered-take m zero places [] e = scattered-no_bytes m (take zero places) [] refl ∙ sym (scattered-no_bytes m places [] refl)
+scattered-take m zero places [] e =
+    scattered-no_bytes m (take zero places) [] refl ∙ sym (scattered-no_bytes m places [] refl)
 scattered-take m zero places (b ∷ bytes) e = absurd (omega arith)
 scattered-take m (suc n) [] bytes e = refl
 scattered-take m (suc n) (place ∷ places) [] e = absurd (omega arith)
-scattered-take m (suc n) (At addr ∷ places) (b ∷ bytes) e = scattered-take (stored m addr (b ∷ [])) n places bytes (omega arith)
+scattered-take m (suc n) (At addr ∷ places) (b ∷ bytes) e =
+    scattered-take (stored m addr (b ∷ [])) n places bytes (omega arith)
 scattered-take m (suc n) (Bucket ∷ places) (b ∷ bytes) e = scattered-take m n places bytes (omega arith)
 
 -- ---- a loop over a buffer's pieces
@@ -165,19 +176,22 @@ drop-nil zero = refl
 drop-nil (suc j) = refl
 
 -- the front gets its bytes, and then the others theirs
-pub scattered-front : (m : ℕ → ℕ) (places left : List Place) (most : ℕ) (p : Piece) (bytes now rest : List ℕ) → IsFront places most p left
+pub scattered-front : (m : ℕ → ℕ) (places left : List Place) (most : ℕ) (p : Piece) (bytes now rest : List ℕ)
+    → IsFront places most p left
     → most ≡ length bytes → now ≡ take (piece_len p) bytes → rest ≡ drop (piece_len p) bytes
     → scattered (scattered m (places_of_piece p) now) left rest ≡ scattered m places bytes
 scattered-front m places left most p bytes now rest front all first others =
     let len : length (places_of_piece p) ≡ length now =
-    length-places_of_piece p ∙ sym (ap length first ∙ length-take-le (piece_len p) bytes (let l = front.at_most in omega arith)) in
+    length-places_of_piece p
+    ∙ sym (ap length first ∙ length-take-le (piece_len p) bytes (let l = front.at_most in omega arith)) in
     let joined : now ++ rest ≡ bytes = ap (λ (xs : List ℕ). xs ++ rest) first ∙ ap (λ (xs : List ℕ). take (piece_len p) bytes ++ xs) others ∙ take-append-drop (piece_len p) bytes in
     sym (scattered-append m (places_of_piece p) left now rest len)
     ∙ ap (λ (ps : List Place). scattered m ps (now ++ rest)) (sym front.whole)
     ∙ ap (scattered m places) joined
 
 -- the places behind the front
-pub drop-front : (places left : List Place) (most n k : ℕ) (p : Piece) → IsFront places most p left → n ≡ piece_len p + k → drop k left ≡ drop n places
+pub drop-front : (places left : List Place) (most n k : ℕ) (p : Piece) → IsFront places most p left
+    → n ≡ piece_len p + k → drop k left ≡ drop n places
 drop-front places left most n k p front e =
     let len : n ≡ length (places_of_piece p) + k = e ∙ ap (λ (l : ℕ). l + k) (sym (length-places_of_piece p)) in
     sym (ap (drop n) front.whole ∙ ap (λ (i : ℕ). drop i (places_of_piece p ++ left)) len ∙ drop-append-add (places_of_piece p) left k)
@@ -211,7 +225,8 @@ IsPutting-more before all bytes memory places rest p left new now others so_far 
     }
 
 -- the pieces of the front are below, too
-pub IsFront-below : (size : ℕ) (places left : List Place) (most : ℕ) (p : Piece) → IsFront places most p left → AreBelow size places → AreBelow size (places_of_piece p)
+pub IsFront-below : (size : ℕ) (places left : List Place) (most : ℕ) (p : Piece) → IsFront places most p left
+    → AreBelow size places → AreBelow size (places_of_piece p)
 IsFront-below size places left most p front each =
     let W : List Place → Type 0 = λ ps. AreBelow size ps in
     AreBelow-front size (places_of_piece p) left (subst W front.whole each)
@@ -228,7 +243,8 @@ pub record IsFetching (m : ℕ → ℕ) (all : List Place) (whole : ℕ) (out : 
 pub IsFetching-more : (m : ℕ → ℕ) (all : List Place) (whole : ℕ) (out : List ℕ) (places : List Place) (done : ℕ)
     (p : Piece) (left : List Place) (most : ℕ) (bytes new : List ℕ)
     → IsFetching m all whole out places done → IsFront places most p left → most ≡ whole - done
-    → bytes ≡ gathered m (places_of_piece p) → take (done + piece_len p) new ≡ take done out ++ bytes → length new ≡ length out
+    → bytes ≡ gathered m (places_of_piece p) → take (done + piece_len p) new ≡ take done out ++ bytes
+    → length new ≡ length out
     → IsFetching m all whole new left (done + piece_len p)
 IsFetching-more m all whole out places done p left most bytes new so_far front all_left given begins size =
     let some : piece_len p ≤ whole - done = (let l = front.at_most in omega arith) in
@@ -248,7 +264,8 @@ IsFetching-more m all whole out places done p left most bytes new so_far front a
     }
   where
     -- the first places, and those of the next piece
-    take-more : (all : List Place) (done : ℕ) (p : Piece) (left : List Place) → drop done all ≡ places_of_piece p ++ left → done ≤ length all
+    take-more : (all : List Place) (done : ℕ) (p : Piece) (left : List Place)
+        → drop done all ≡ places_of_piece p ++ left → done ≤ length all
         → take done all ++ places_of_piece p ≡ take (done + piece_len p) all
     take-more all done p left rest within =
         let front : length (take done all) ≡ done = length-take-le done all within in
@@ -261,5 +278,7 @@ IsFetching-more m all whole out places done p left most bytes new so_far front a
 
     drop-drop-sum : (all : List Place) (i j : ℕ) → drop j (drop i all) ≡ drop (i + j) all
     drop-drop-sum all zero j = (let e : zero + j ≡ j = omega arith in ap (λ (k : ℕ). drop k all) (sym e))
-    drop-drop-sum [] (suc i) j = (let e : suc i + j ≡ suc (i + j) = omega arith in drop-nil j ∙ ap (λ (k : ℕ). drop {A = Place} k []) (sym e))
-    drop-drop-sum (a ∷ all) (suc i) j = (let e : suc i + j ≡ suc (i + j) = omega arith in drop-drop-sum all i j ∙ ap (λ (k : ℕ). drop k (a ∷ all)) (sym e))
+    drop-drop-sum [] (suc i) j =
+        (let e : suc i + j ≡ suc (i + j) = omega arith in drop-nil j ∙ ap (λ (k : ℕ). drop {A = Place} k []) (sym e))
+    drop-drop-sum (a ∷ all) (suc i) j =
+        (let e : suc i + j ≡ suc (i + j) = omega arith in drop-drop-sum all i j ∙ ap (λ (k : ℕ). drop k (a ∷ all)) (sym e))

@@ -18,27 +18,33 @@ or-assoc true b c = refl
 or-assoc false b c = refl
 
 -- lists in two parts differ where one of their parts does
-pub differs-append : (xs us ys vs : List ℕ) → length xs ≡ length us → differs (xs ++ ys) (us ++ vs) ≡ (differs xs us || differs ys vs)
+pub differs-append : (xs us ys vs : List ℕ) → length xs ≡ length us
+    → differs (xs ++ ys) (us ++ vs) ≡ (differs xs us || differs ys vs)
 unfolding differs
 differs-append [] [] ys vs e = refl
 differs-append [] (u ∷ us) ys vs e = absurd (omega arith)
 differs-append (x ∷ xs) [] ys vs e = absurd (omega arith)
 differs-append (x ∷ xs) (u ∷ us) ys vs e =
-    ap (λ (b : Bool). not (x == u) || b) (differs-append xs us ys vs (omega arith)) ∙ or-assoc (not (x == u)) (differs xs us) (differs ys vs)
+    ap (λ (b : Bool). not (x == u) || b) (differs-append xs us ys vs (omega arith))
+    ∙ or-assoc (not (x == u)) (differs xs us) (differs ys vs)
 
 -- bytes other than zeros
 pub differs-zeros : (bytes : List ℕ) → differs (replicate (length bytes) 0) bytes ≡ list_any (λ b. not (b == 0)) bytes
 unfolding differs
 differs-zeros [] = refl
-differs-zeros (b ∷ bytes) = let turned : (0 == b) ≡ (b == 0) = grind (arith, nat_tests) in ap (λ (t : Bool). not t || differs (replicate (length bytes) 0) bytes) turned ∙ ap (λ (t : Bool). not (b == 0) || t) (differs-zeros bytes)
+differs-zeros (b ∷ bytes) =
+    let turned : (0 == b) ≡ (b == 0) = grind (arith, nat_tests) in ap (λ (t : Bool). not t || differs (replicate (length bytes) 0) bytes) turned ∙ ap (λ (t : Bool). not (b == 0) || t) (differs-zeros bytes)
 
 -- the first places of a piece and of those behind it
-take-piece : (p : Piece) (left : List Place) (k : ℕ) → take (piece_len p + k) (places_of_piece p ++ left) ≡ places_of_piece p ++ take k left
-take-piece p left k = ap (λ (n : ℕ). take (n + k) (places_of_piece p ++ left)) (sym (length-places_of_piece p)) ∙ over (places_of_piece p)
+take-piece : (p : Piece) (left : List Place) (k : ℕ)
+    → take (piece_len p + k) (places_of_piece p ++ left) ≡ places_of_piece p ++ take k left
+take-piece p left k =
+    ap (λ (n : ℕ). take (n + k) (places_of_piece p ++ left)) (sym (length-places_of_piece p)) ∙ over (places_of_piece p)
   where
     over : (front : List Place) → take (length front + k) (front ++ left) ≡ front ++ take k left
     over [] = (let e : 0 + k ≡ k = omega arith in ap (λ (n : ℕ). take n left) e)
-    over (place ∷ front) = (let e : suc (length front) + k ≡ suc (length front + k) = omega arith in ap (λ (n : ℕ). take n (place ∷ front ++ left)) e ∙ ap (λ (ps : List Place). place ∷ ps) (over front))
+    over (place ∷ front) =
+        (let e : suc (length front) + k ≡ suc (length front + k) = omega arith in ap (λ (n : ℕ). take n (place ∷ front ++ left)) e ∙ ap (λ (ps : List Place). place ∷ ps) (over front))
 
 -- what a loop that compares bytes with those of a buffer keeps: whether what was compared differs, or what is left, is whether the whole does
 pub record IsComparing (size : ℕ) (m : ℕ → ℕ) (all : List Place) (bytes : List ℕ) (places : List Place) (rest : List ℕ) (differed : Bool) : Type 0 where
@@ -57,11 +63,13 @@ pub IsComparing-more : (size : ℕ) (m : ℕ → ℕ) (all : List Place) (bytes 
 IsComparing-more size m all bytes places rest differed p left now others new so_far front first behind sum is =
     let e : length rest ≡ piece_len p + length others = omega arith in
     let len : length (gathered m (places_of_piece p)) ≡ length now =
-    length-gathered m (places_of_piece p) ∙ length-places_of_piece p ∙ sym (ap length first ∙ length-take-le (piece_len p) rest (omega arith)) in
+    length-gathered m (places_of_piece p) ∙ length-places_of_piece p
+    ∙ sym (ap length first ∙ length-take-le (piece_len p) rest (omega arith)) in
     let joined : rest ≡ now ++ others =
     sym (ap (λ (xs : List ℕ). xs ++ others) first ∙ ap (λ (xs : List ℕ). take (piece_len p) rest ++ xs) behind ∙ take-append-drop (piece_len p) rest) in
     let places_so : take (length rest) places ≡ places_of_piece p ++ take (length others) left =
-    ap (λ (ps : List Place). take (length rest) ps) front.whole ∙ ap (λ (n : ℕ). take n (places_of_piece p ++ left)) e ∙ take-piece p left (length others) in
+    ap (λ (ps : List Place). take (length rest) ps) front.whole ∙ ap (λ (n : ℕ). take n (places_of_piece p ++ left)) e
+    ∙ take-piece p left (length others) in
     let split : differs (gathered m (take (length rest) places)) rest ≡ (differs (gathered m (places_of_piece p)) now || differs (gathered m (take (length others) left)) others) =
     ap (λ (ps : List Place). differs (gathered m ps) rest) places_so
     ∙ ap (λ (l : List ℕ). differs l rest) (gathered-append m (places_of_piece p) (take (length others) left))
@@ -80,12 +88,14 @@ IsComparing-more size m all bytes places rest differed p left now others new so_
       enough = length-left (places_of_piece p) left places (length others) front.whole (let l = length-places_of_piece p in let w = so_far.enough in omega arith);
     }
   where
-    length-left : (front left places : List Place) (k : ℕ) → places ≡ front ++ left → length front + k ≤ length places → k ≤ length left
+    length-left : (front left places : List Place) (k : ℕ) → places ≡ front ++ left → length front + k ≤ length places
+        → k ≤ length left
     length-left front left places k is le = (let l = ap length is in let s = length-append front left in omega arith)
 
 -- behind the last byte
 pub IsComparing-end : (size : ℕ) (m : ℕ → ℕ) (all : List Place) (bytes : List ℕ) (places : List Place) (rest : List ℕ) (differed : Bool)
-    → IsComparing size m all bytes places rest differed → length rest ≡ 0 → differed ≡ differs (gathered m (take (length bytes) all)) bytes
+    → IsComparing size m all bytes places rest differed → length rest ≡ 0
+    → differed ≡ differs (gathered m (take (length bytes) all)) bytes
 unfolding differs gathered
 IsComparing-end size m all bytes places [] differed so_far none = or-none differed ∙ so_far.value
   where

@@ -34,18 +34,23 @@ or-true true = refl
 or-true false = refl
 
 -- the bytes of a block of 512
-pub block_bytes-list : (disk : List (List ℕ)) (lba : ℕ) → length (slice_index_or disk lba []) ≡ 512 → block_bytes (byte_of_block disk) lba ≡ slice_index_or disk lba []
+pub block_bytes-list : (disk : List (List ℕ)) (lba : ℕ) → length (slice_index_or disk lba []) ≡ 512
+    → block_bytes (byte_of_block disk) lba ≡ slice_index_or disk lba []
 block_bytes-list disk lba sized =
-    bytes_from-list (slice_index_or disk lba []) 0 512 (omega arith) ∙ (rw (← sized) (take-length (slice_index_or disk lba [])))
+    bytes_from-list (slice_index_or disk lba []) 0 512 (omega arith)
+    ∙ (rw (← sized) (take-length (slice_index_or disk lba [])))
 
 -- an element of a list with one set
-get_or-set_here : {A : Type 0} (xs : List A) (at : ℕ) (x : A) (i : ℕ) (d : A) → at < length xs → i ≡ at → get_or (set xs at x) i d ≡ cond (i == at) x (get_or xs i d)
+get_or-set_here : {A : Type 0} (xs : List A) (at : ℕ) (x : A) (i : ℕ) (d : A) → at < length xs → i ≡ at
+    → get_or (set xs at x) i d ≡ cond (i == at) x (get_or xs i d)
 get_or-set_here xs at x i d below same = let e = get_or-set_at xs at i x d same below in grind (arith, nat_tests, e)
 
-get_or-set_elsewhere : {A : Type 0} (xs : List A) (at : ℕ) (x : A) (i : ℕ) (d : A) → (i ≡ at → ⊥) → get_or (set xs at x) i d ≡ cond (i == at) x (get_or xs i d)
+get_or-set_elsewhere : {A : Type 0} (xs : List A) (at : ℕ) (x : A) (i : ℕ) (d : A) → (i ≡ at → ⊥)
+    → get_or (set xs at x) i d ≡ cond (i == at) x (get_or xs i d)
 get_or-set_elsewhere xs at x i d other = let e = get_or-set_other xs at i x d other in grind (arith, nat_tests, e)
 
-pub get_or-set : {A : Type 0} (xs : List A) (at : ℕ) (x : A) (i : ℕ) (d : A) → at < length xs → get_or (set xs at x) i d ≡ cond (i == at) x (get_or xs i d)
+pub get_or-set : {A : Type 0} (xs : List A) (at : ℕ) (x : A) (i : ℕ) (d : A) → at < length xs
+    → get_or (set xs at x) i d ≡ cond (i == at) x (get_or xs i d)
 get_or-set xs at x i d below =
     elim (cases_eq i at) [ inl same ↦ get_or-set_here xs at x i d below same | inr other ↦ get_or-set_elsewhere xs at x i d other ]
 
@@ -107,7 +112,8 @@ unfolding differs
 differs-pointwise [] [] = refl
 differs-pointwise [] (y ∷ ys) = refl
 differs-pointwise (x ∷ xs) [] = refl
-differs-pointwise (x ∷ xs) (y ∷ ys) = ap (λ (b : Bool). not (x == y) || b) (differs-pointwise xs ys) ∙ not-and (x == y) (pointwise nat_eq xs ys)
+differs-pointwise (x ∷ xs) (y ∷ ys) =
+    ap (λ (b : Bool). not (x == y) || b) (differs-pointwise xs ys) ∙ not-and (x == y) (pointwise nat_eq xs ys)
   where
     not-and : (a b : Bool) → not a || not b ≡ not (a && b)
     not-and true b = refl
@@ -134,20 +140,24 @@ compare-moved memory disk kept marks places index lba bytes fua unlike sized gat
 -- marks that stay, or rise, as a set FUA bit says
 pub marks-raised : (kept : List Bool) (lba : ℕ) → lba < length kept
     → (λ b. slice_index_or (set kept lba true) b false) ≡ marked (λ b. slice_index_or kept b false) lba (slice_index_or kept lba false || true)
-marks-raised kept lba below = marked-set kept lba true below ∙ ap (marked (λ b. slice_index_or kept b false) lba) (sym (or-true (slice_index_or kept lba false)))
+marks-raised kept lba below =
+    marked-set kept lba true below
+    ∙ ap (marked (λ b. slice_index_or kept b false) lba) (sym (or-true (slice_index_or kept lba false)))
 
 pub marks-same : (kept : List Bool) (lba : ℕ)
     → (λ b. slice_index_or kept b false) ≡ marked (λ b. slice_index_or kept b false) lba (slice_index_or kept lba false || false)
 marks-same kept lba = fun_ext (λ b. elim (cases_eq b lba) [ inl same ↦ here b same | inr other ↦ there b other ])
   where
-    here : (b : ℕ) → b ≡ lba → slice_index_or kept b false ≡ marked (λ b. slice_index_or kept b false) lba (slice_index_or kept lba false || false) b
+    here : (b : ℕ) → b ≡ lba
+        → slice_index_or kept b false ≡ marked (λ b. slice_index_or kept b false) lba (slice_index_or kept lba false || false) b
     here b same =
         elim (b == lba) as (λ test. slice_index_or kept b false ≡ cond test (slice_index_or kept lba false || false) (slice_index_or kept b false)) [
           | true ↦ ap (λ (n : ℕ). slice_index_or kept n false) same ∙ sym (or-false (slice_index_or kept lba false))
           | false ↦ refl
         ]
 
-    there : (b : ℕ) → (b ≡ lba → ⊥) → slice_index_or kept b false ≡ marked (λ b. slice_index_or kept b false) lba (slice_index_or kept lba false || false) b
+    there : (b : ℕ) → (b ≡ lba → ⊥)
+        → slice_index_or kept b false ≡ marked (λ b. slice_index_or kept b false) lba (slice_index_or kept lba false || false) b
     there b other = grind (arith, nat_tests)
 
 -- one more unit, and then those behind it
@@ -157,14 +167,16 @@ unfolding units_from units_moved
 units_moved-from work m index lba n left e = rw e refl
 
 -- no more units
-pub units_moved-none : (work : Work) (m : Moved) (index lba left : ℕ) → left ≡ 0 → units_moved (units_from index lba left) work m ≡ m
+pub units_moved-none : (work : Work) (m : Moved) (index lba left : ℕ) → left ≡ 0
+    → units_moved (units_from index lba left) work m ≡ m
 unfolding units_from units_moved
 units_moved-none work m index lba left e = rw e refl
 
 -- ---- blocks that become zeros
 
 -- one block is cleared
-pub cleared-set : (memory : List ℕ) (disk : List (List ℕ)) (kept : List Bool) (lba : ℕ) (mark differed : Bool) → lba < length disk → lba < length kept
+pub cleared-set : (memory : List ℕ) (disk : List (List ℕ)) (kept : List Bool) (lba : ℕ) (mark differed : Bool)
+    → lba < length disk → lba < length kept
     → moved_of (flat memory (set disk lba (replicate 512 0)) (set kept lba mark)) differed ≡ cleared_one lba mark (moved_of (flat memory disk kept) differed)
 unfolding moved_of
 cleared-set memory disk kept lba mark differed block below =
@@ -177,7 +189,8 @@ unfolding cleared
 cleared-more mark m start left n e = rw e refl
 
 -- the end of a loop over blocks
-pub cleared-none : (mark : Bool) (m : Moved) (start left : ℕ) → left ≡ 0 → cleared (range_with_len start left) mark m ≡ m
+pub cleared-none : (mark : Bool) (m : Moved) (start left : ℕ) → left ≡ 0
+    → cleared (range_with_len start left) mark m ≡ m
 unfolding cleared
 cleared-none mark m start left e = rw e refl
 

@@ -43,7 +43,8 @@ pub read-all : (n i lba : ℕ) (m : ℕ → ℕ) (disk : List (List ℕ)) (kept 
     → units_moved (units_from i lba n) (block_work Read pieces fua) (record { memory = m; disk = byte_of_block disk; kept = kept; differed = false })
     ≡ record { memory = scattered m (drop (512 * i) (places_of pieces)) (joined (take n (drop lba disk))); disk = byte_of_block disk; kept = raised fua lba n kept; differed = false }
 unfolding units_from units_moved raised
-read-all zero i lba m disk kept pieces fua within sized enough = moved m _ (byte_of_block disk) _ kept _ false false (sym (scattered-no_bytes m (drop (512 * i) (places_of pieces)) [] refl)) refl refl refl
+read-all zero i lba m disk kept pieces fua within sized enough =
+    moved m _ (byte_of_block disk) _ kept _ false false (sym (scattered-no_bytes m (drop (512 * i) (places_of pieces)) [] refl)) refl refl refl
 read-all (suc n) i lba m disk kept pieces fua within sized enough =
     let places : List Place = drop (512 * i) (places_of pieces) in
     let block : List ℕ = slice_index_or disk lba [] in
@@ -65,7 +66,8 @@ read-all (suc n) i lba m disk kept pieces fua within sized enough =
 
 -- blocks that were read into the buffer all at once are moved units
 pub read-moved_all : (memory new : List ℕ) (disk : List (List ℕ)) (kept marks : List Bool) (places : List Place) (start count : ℕ) (fua : Bool)
-    → start + count ≤ length disk → ((k : ℕ) → k < length disk → length (slice_index_or disk k []) ≡ 512) → 512 * count ≤ length places
+    → start + count ≤ length disk → ((k : ℕ) → k < length disk → length (slice_index_or disk k []) ≡ 512)
+    → 512 * count ≤ length places
     → byte_in new ≡ scattered (byte_in memory) places (joined (take count (drop start disk)))
     → mark_of marks ≡ raised fua start count (mark_of kept)
     → (pieces : List Piece) → places ≡ places_of pieces
@@ -83,13 +85,15 @@ read-moved_all memory new disk kept marks places start count fua within sized en
 take-sum : (n k : ℕ) (places : List Place) → take (n + k) places ≡ take n places ++ take k (drop n places)
 take-sum zero k places = (let e : zero + k ≡ k = omega arith in ap (λ (j : ℕ). take j places) e)
 take-sum (suc n) zero [] = (let e : suc n + zero ≡ suc n = omega arith in ap (λ (j : ℕ). take {A = Place} j []) e)
-take-sum (suc n) (suc k) [] = (let e : suc n + suc k ≡ suc (n + suc k) = omega arith in ap (λ (j : ℕ). take {A = Place} j []) e)
+take-sum (suc n) (suc k) [] =
+    (let e : suc n + suc k ≡ suc (n + suc k) = omega arith in ap (λ (j : ℕ). take {A = Place} j []) e)
 take-sum (suc n) k (place ∷ places) =
     (let e : suc n + k ≡ suc (n + k) = omega arith in
     ap (λ (j : ℕ). take j (place ∷ places)) e ∙ ap (λ (ps : List Place). place ∷ ps) (take-sum n k places))
 
 -- the bytes of the first block's places and of those behind them
-compared-more : (m : ℕ → ℕ) (places : List Place) (n : ℕ) (block rest : List ℕ) (differed : Bool) → length block ≡ 512 → 512 ≤ length places
+compared-more : (m : ℕ → ℕ) (places : List Place) (n : ℕ) (block rest : List ℕ) (differed : Bool) → length block ≡ 512
+    → 512 ≤ length places
     → ((differed || differs (gathered m (take 512 places)) block) || differs (gathered m (take (512 * n) (drop 512 places))) rest)
     ≡ (differed || differs (gathered m (take (512 * suc n) places)) (block ++ rest))
 compared-more m places n block rest differed sized enough =
@@ -110,7 +114,8 @@ pub compare-all : (n i lba : ℕ) (m : ℕ → ℕ) (disk : List (List ℕ)) (ke
     → units_moved (units_from i lba n) (block_work Compare pieces fua) (record { memory = m; disk = byte_of_block disk; kept = kept; differed = differed })
     ≡ record { memory = m; disk = byte_of_block disk; kept = raised fua lba n kept; differed = differed || differs (gathered m (take (512 * n) (drop (512 * i) (places_of pieces)))) (joined (take n (drop lba disk))) }
 unfolding units_from units_moved raised differs gathered
-compare-all zero i lba m disk kept pieces fua differed within sized enough = moved m m (byte_of_block disk) _ kept _ differed _ refl refl refl (sym (or-false differed))
+compare-all zero i lba m disk kept pieces fua differed within sized enough =
+    moved m m (byte_of_block disk) _ kept _ differed _ refl refl refl (sym (or-false differed))
 compare-all (suc n) i lba m disk kept pieces fua differed within sized enough =
     let places : List Place = drop (512 * i) (places_of pieces) in
     let block : List ℕ = slice_index_or disk lba [] in
@@ -133,15 +138,35 @@ compare-all (suc n) i lba m disk kept pieces fua differed within sized enough =
     ∙ moved m m (byte_of_block disk) (byte_of_block disk) _ _ _ _ refl refl refl whole
 
 -- as many bytes as the blocks have
-pub length-blocks : (start count n : ℕ) (disk : List (List ℕ)) → start + count ≤ length disk → n ≡ length (take (start + count - start) (drop start disk)) * 512 → n ≡ 512 * count
+pub length-blocks : (start count n : ℕ) (disk : List (List ℕ)) → start + count ≤ length disk
+    → n ≡ length (take (start + count - start) (drop start disk)) * 512 → n ≡ 512 * count
 length-blocks start count n disk within is =
     let behind = length-drop start disk in
     let taken = length-take-le (start + count - start) (drop start disk) (omega arith) in
     omega arith
 
+-- the bytes of the `count` blocks from `start` on
+pub joined-blocks : (start count : ℕ) (disk : List (List ℕ)) (bytes : List ℕ)
+    → bytes ≡ joined (take (start + count - start) (drop start disk)) → bytes ≡ joined (take count (drop start disk))
+joined-blocks start count disk bytes are =
+    let same : start + count - start ≡ count = omega arith in
+    are ∙ ap (λ (k : ℕ). joined (take k (drop start disk))) same
+
+-- whether a buffer's bytes differ from these
+pub differs-blocks : (m : ℕ → ℕ) (places : List Place) (start count : ℕ) (disk : List (List ℕ)) (bytes : List ℕ) (unlike : Bool)
+    → start + count ≤ length disk → length bytes ≡ length (take (start + count - start) (drop start disk)) * 512
+    → bytes ≡ joined (take (start + count - start) (drop start disk))
+    → unlike ≡ differs (gathered m (take (length bytes) places)) bytes
+    → unlike ≡ differs (gathered m (take (512 * count) places)) (joined (take count (drop start disk)))
+differs-blocks m places start count disk bytes unlike within sized are told =
+    told
+    ∙ ap (λ (n : ℕ). differs (gathered m (take n places)) bytes) (length-blocks start count (length bytes) disk within sized)
+    ∙ ap (differs (gathered m (take (512 * count) places))) (joined-blocks start count disk bytes are)
+
 -- blocks that were compared with the buffer all at once are moved units
 pub compare-moved_all : (memory : List ℕ) (disk : List (List ℕ)) (kept marks : List Bool) (places : List Place) (start count : ℕ) (fua unlike : Bool)
-    → start + count ≤ length disk → ((k : ℕ) → k < length disk → length (slice_index_or disk k []) ≡ 512) → 512 * count ≤ length places
+    → start + count ≤ length disk → ((k : ℕ) → k < length disk → length (slice_index_or disk k []) ≡ 512)
+    → 512 * count ≤ length places
     → unlike ≡ differs (gathered (byte_in memory) (take (512 * count) places)) (joined (take count (drop start disk)))
     → mark_of marks ≡ raised fua start count (mark_of kept)
     → (pieces : List Piece) → places ≡ places_of pieces
@@ -157,7 +182,8 @@ compare-moved_all memory disk kept marks places start count fua unlike within si
 -- ---- marks
 
 -- one more mark
-pub raised-more : (fua : Bool) (lba left n : ℕ) (kept : ℕ → Bool) → left ≡ suc n → raised fua lba left kept ≡ raised fua (lba + 1) n (marked kept lba (kept lba || fua))
+pub raised-more : (fua : Bool) (lba left n : ℕ) (kept : ℕ → Bool) → left ≡ suc n
+    → raised fua lba left kept ≡ raised fua (lba + 1) n (marked kept lba (kept lba || fua))
 unfolding raised
 raised-more fua lba left n kept e = rw e refl
 
@@ -174,7 +200,8 @@ raised-same lba (suc n) kept = ap (raised false (lba + 1) n) (sym (marks-same ke
 
 -- one more mark is raised
 pub raised-set : (start count lba : ℕ) (kept : List Bool) (done : ℕ → Bool) → lba < start + count → lba < length kept
-    → raised true lba (start + count - lba) (mark_of kept) ≡ done → raised true (lba + 1) (start + count - (lba + 1)) (mark_of (set kept lba true)) ≡ done
+    → raised true lba (start + count - lba) (mark_of kept) ≡ done
+    → raised true (lba + 1) (start + count - (lba + 1)) (mark_of (set kept lba true)) ≡ done
 raised-set start count lba kept done below inside so_far =
     let left : start + count - lba ≡ suc (start + count - (lba + 1)) = omega arith in
     ap (raised true (lba + 1) (start + count - (lba + 1))) (marks-raised kept lba inside)

@@ -1,7 +1,6 @@
 -- Memory, the bytes of blocks, and their marks, as lists, and what they mean to the private controller
-use Rattle.std.specs.Prelude.{◌≡◌, ℕ, ◌%◌, ◌<◌, ◌≤◌, Bool, false, List, [], ◌∷◌, slice_index, length}
+use Rattle.std.specs.Prelude.{ℕ, Bool, false, List, [], slice_index}
 use Rattle.std.specs.List.{slice_index_or}
-use Rattle.nv_mem.specs.GuestMap.{Mapping}
 use Rattle.nv_model.specs.Private.{Moved}
 
 pub record Flat : Type 0 where

@@ -54,7 +54,7 @@ impl<'a> Buffer<'a> {
         }
     }
 
-    /// Takes the front of what is left: a piece of at least one byte, and of `most` bytes at most. None where nothing is left.
+    // Takes the front of what is left: a piece of at least one byte, and of `most` bytes at most. None where nothing is left.
     #[inline(always)]
     fn take_front(&mut self, most: u64) -> Option<Piece>
         requires some { 0 < most }
@@ -140,7 +140,7 @@ impl<'a> Buffer<'a> {
     }
 }
 
-/// How many bytes a piece names.
+// How many bytes a piece names.
 #[inline(always)]
 fn len_of(piece: &Piece) -> u64
     ensures { result ≡ piece_len piece.now }
@@ -150,7 +150,7 @@ fn len_of(piece: &Piece) -> u64
     }
 }
 
-/// The front of a piece, `most` bytes at most, and what is left of it.
+// The front of a piece, `most` bytes at most, and what is left of it.
 #[inline(always)]
 fn cut(piece: Piece, most: u64) -> (Piece, Piece)
     requires in_range { AreBelow (2 ^ 64) (places_of_piece piece) }
@@ -175,7 +175,7 @@ fn cut(piece: Piece, most: u64) -> (Piece, Piece)
     }
 }
 
-/// Gives bytes to the places of a piece, as many as it has.
+// Gives bytes to the places of a piece, as many as it has.
 #[inline(always)]
 fn store(memory: &mut Host, piece: &Piece, bytes: &[u8])
     requires in_memory { AreBelow (length memory.old) (places_of_piece piece.now) }
@@ -190,7 +190,7 @@ fn store(memory: &mut Host, piece: &Piece, bytes: &[u8])
     }
 }
 
-/// Takes the bytes from the places of a piece. A bucket has none to take: a source names no buckets.
+// Takes the bytes from the places of a piece. A bucket has none to take: a source names no buckets.
 #[inline(always)]
 fn load(memory: &Host, piece: &Piece, out: &mut [u8])
     requires in_memory { AreBelow (length memory.now) (places_of_piece piece.now) }
@@ -204,7 +204,7 @@ fn load(memory: &Host, piece: &Piece, out: &mut [u8])
     }
 }
 
-/// Whether the bytes of the places of a piece are others than these. Those of a bucket are zeros: a source names no buckets.
+// Whether the bytes of the places of a piece are others than these. Those of a bucket are zeros: a source names no buckets.
 #[inline(always)]
 fn piece_differs(memory: &Host, piece: &Piece, bytes: &[u8]) -> bool
     requires in_memory { AreBelow (length memory.now) (places_of_piece piece.now) }
@@ -218,7 +218,7 @@ fn piece_differs(memory: &Host, piece: &Piece, bytes: &[u8]) -> bool
     }
 }
 
-/// Whether some byte isn't zero.
+// Whether some byte isn't zero.
 fn has_others_than_zeros(bytes: &[u8]) -> bool
     ensures { result ≡ list_any (λ byte. not (byte == 0)) bytes.now }
 {

@@ -12,6 +12,6 @@ mod moves;
 
 pub use buffer::Buffer;
 pub use moves::{
-    BLOCK, clear_block, clear_blocks, compare_block, compare_blocks, keep_all, read_block,
-    read_blocks, write_block,
+    clear_block, clear_blocks, compare_block, compare_blocks, keep_all, read_block, read_blocks,
+    write_block,
 };

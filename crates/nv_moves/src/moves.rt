@@ -6,6 +6,7 @@ ghost use Rattle.nv_mem.specs.Places.{places_of};
 ghost use Rattle.nv_mem.specs.declared.piece.Piece.{Piece};
 ghost use Rattle.nv_model.specs.Judge.{KeepAll, MoveBlock, Work};
 ghost use Rattle.nv_model.specs.Carried.{block_work, cleared, cleared_one, moved_on, units_from, units_moved};
+ghost use Rattle.nv_model.specs.Limits.{block as block_size};
 ghost use Rattle.nv_model.specs.Private.{marked};
 ghost use Rattle.nv_moves.specs.Buffer.{AreBelow};
 ghost use Rattle.nv_moves.specs.Flat.{flat, moved_of};
@@ -14,14 +15,12 @@ ghost use Rattle.nv_moves.specs.Marks.{mark_of, raised};
 use crate::buffer::Buffer;
 use nv_entry::IoOpcode;
 use nv_mem::Host;
-
-/// The size of a logical block in bytes.
-pub const BLOCK: usize = 512;
+use nv_model::limits::BLOCK_SIZE;
 
 /// Moves the `count` blocks from `start` on to the buffer, all at once. A set FUA bit makes them kept.
 pub fn read_blocks(
     memory: &mut Host,
-    disk: &[[u8; BLOCK]],
+    disk: &[[u8; BLOCK_SIZE]],
     kept: &mut [bool],
     buffer: &mut Buffer,
     start: u64,
@@ -29,7 +28,7 @@ pub fn read_blocks(
     fua: bool,
 )
     requires in_memory { AreBelow (length memory.old) buffer.old }
-    requires enough { 512 * count ≤ length buffer.old }
+    requires enough { block_size * count ≤ length buffer.old }
     requires blocks { start + count ≤ length disk.now }
     requires marks { length kept.old ≡ length disk.now }
     ensures moved { (pieces : List Piece) → buffer.old ≡ places_of pieces →
@@ -48,7 +47,7 @@ pub fn read_blocks(
 #[inline(always)]
 pub fn read_block(
     memory: &mut Host,
-    disk: &[[u8; BLOCK]],
+    disk: &[[u8; BLOCK_SIZE]],
     kept: &mut [bool],
     buffer: &mut Buffer,
     lba: u64,
@@ -57,7 +56,7 @@ pub fn read_block(
     requires in_memory { AreBelow (length memory.old) buffer.old }
     requires block { lba < length disk.now }
     requires marks { length kept.old ≡ length disk.now }
-    ensures moved { (index : ℕ) (pieces : List Piece) (differed : Bool) → buffer.old ≡ drop (512 * index) (places_of pieces) →
+    ensures moved { (index : ℕ) (pieces : List Piece) (differed : Bool) → buffer.old ≡ drop (block_size * index) (places_of pieces) →
         moved_of (flat memory.new disk.now kept.new) differed
         ≡ moved_on (MoveBlock index lba) (block_work IoOpcode.Read pieces fua) (moved_of (flat memory.old disk.now kept.old) differed) }
     ensures size { length memory.new ≡ length memory.old }
@@ -66,7 +65,7 @@ pub fn read_block(
     raise_mark(kept, lba, fua);
 }
 
-/// Makes a block kept where the FUA bit is set.
+// Makes a block kept where the FUA bit is set.
 #[inline(always)]
 fn raise_mark(kept: &mut [bool], lba: u64, fua: bool)
     requires { lba < length kept.old }
@@ -77,7 +76,7 @@ fn raise_mark(kept: &mut [bool], lba: u64, fua: bool)
     }
 }
 
-/// Makes the `count` blocks from `start` on kept.
+// Makes the `count` blocks from `start` on kept.
 fn raise_marks(kept: &mut [bool], start: u64, count: u64)
     requires { start + count ≤ length kept.old }
     ensures { mark_of kept.new ≡ raised true start count (mark_of kept.old) }
@@ -91,20 +90,20 @@ fn raise_marks(kept: &mut [bool], start: u64, count: u64)
 #[inline(always)]
 pub fn write_block(
     memory: &Host,
-    disk: &mut [[u8; BLOCK]],
+    disk: &mut [[u8; BLOCK_SIZE]],
     kept: &mut [bool],
     buffer: &mut Buffer,
     lba: u64,
     fua: bool,
 )
     requires in_memory { AreBelow (length memory.now) buffer.old }
-    requires enough { 512 ≤ length buffer.old }
+    requires enough { block_size ≤ length buffer.old }
     requires block { lba < length disk.old }
     requires marks { length kept.old ≡ length disk.old }
-    ensures moved { (index : ℕ) (pieces : List Piece) (differed : Bool) → buffer.old ≡ drop (512 * index) (places_of pieces) →
+    ensures moved { (index : ℕ) (pieces : List Piece) (differed : Bool) → buffer.old ≡ drop (block_size * index) (places_of pieces) →
         moved_of (flat memory.now disk.new kept.new) differed
         ≡ moved_on (MoveBlock index lba) (block_work IoOpcode.Write pieces fua) (moved_of (flat memory.now disk.old kept.old) differed) }
-    ensures rest { buffer.new ≡ drop 512 buffer.old }
+    ensures rest { buffer.new ≡ drop block_size buffer.old }
 {
     buffer.fetch(memory, &mut disk[lba as usize]);
     kept[lba as usize] = fua;
@@ -115,17 +114,17 @@ pub fn write_block(
 #[inline(always)]
 pub fn compare_block(
     memory: &Host,
-    disk: &[[u8; BLOCK]],
+    disk: &[[u8; BLOCK_SIZE]],
     kept: &mut [bool],
     buffer: &mut Buffer,
     lba: u64,
     fua: bool,
 ) -> bool
     requires in_memory { AreBelow (length memory.now) buffer.old }
-    requires enough { 512 ≤ length buffer.old }
+    requires enough { block_size ≤ length buffer.old }
     requires block { lba < length disk.now }
     requires marks { length kept.old ≡ length disk.now }
-    ensures { (index : ℕ) (pieces : List Piece) (differed : Bool) → buffer.old ≡ drop (512 * index) (places_of pieces) →
+    ensures { (index : ℕ) (pieces : List Piece) (differed : Bool) → buffer.old ≡ drop (block_size * index) (places_of pieces) →
         moved_of (flat memory.now disk.now kept.new) (differed || result)
         ≡ moved_on (MoveBlock index lba) (block_work IoOpcode.Compare pieces fua) (moved_of (flat memory.now disk.now kept.old) differed) }
 {
@@ -138,7 +137,7 @@ pub fn compare_block(
 /// they differ.
 pub fn compare_blocks(
     memory: &Host,
-    disk: &[[u8; BLOCK]],
+    disk: &[[u8; BLOCK_SIZE]],
     kept: &mut [bool],
     buffer: &mut Buffer,
     start: u64,
@@ -146,7 +145,7 @@ pub fn compare_blocks(
     fua: bool,
 ) -> bool
     requires in_memory { AreBelow (length memory.now) buffer.old }
-    requires enough { 512 * count ≤ length buffer.old }
+    requires enough { block_size * count ≤ length buffer.old }
     requires blocks { start + count ≤ length disk.now }
     requires marks { length kept.old ≡ length disk.now }
     ensures { (pieces : List Piece) → buffer.old ≡ places_of pieces →
@@ -162,7 +161,13 @@ pub fn compare_blocks(
 }
 
 /// Makes the `count` blocks from `start` on zeros, and gives their marks this value.
-pub fn clear_blocks(disk: &mut [[u8; BLOCK]], kept: &mut [bool], start: u64, count: u64, mark: bool)
+pub fn clear_blocks(
+    disk: &mut [[u8; BLOCK_SIZE]],
+    kept: &mut [bool],
+    start: u64,
+    count: u64,
+    mark: bool,
+)
     requires blocks { start + count ≤ length disk.old }
     requires marks { length kept.old ≡ length disk.old }
     ensures moved { (memory : List ℕ) (differed : Bool) → moved_of (flat memory disk.new kept.new) differed
@@ -174,7 +179,7 @@ pub fn clear_blocks(disk: &mut [[u8; BLOCK]], kept: &mut [bool], start: u64, cou
 }
 
 /// Makes a block zeros, and gives its mark this value.
-pub fn clear_block(disk: &mut [[u8; BLOCK]], kept: &mut [bool], lba: u64, mark: bool)
+pub fn clear_block(disk: &mut [[u8; BLOCK_SIZE]], kept: &mut [bool], lba: u64, mark: bool)
     requires block { lba < length disk.old }
     requires marks { length kept.old ≡ length disk.old }
     ensures moved { (memory : List ℕ) (differed : Bool) → moved_of (flat memory disk.new kept.new) differed
@@ -182,7 +187,7 @@ pub fn clear_block(disk: &mut [[u8; BLOCK]], kept: &mut [bool], lba: u64, mark: 
     ensures disk_size { length disk.new ≡ length disk.old }
     ensures marks_size { length kept.new ≡ length kept.old }
 {
-    disk[lba as usize] = [0; BLOCK];
+    disk[lba as usize] = [0; BLOCK_SIZE];
     kept[lba as usize] = mark;
 }
 

@@ -5,7 +5,7 @@ use Rattle.std.proofs.Math.Seq.{take-nil, drop-nil, take-append_seam, drop-appen
 use Rattle.std.specs.Io.KnownBytes.{Appends, Keeps}
 use Rattle.hex.specs.Hex.{encode_with}
 use Rattle.nv_mem.specs.Bytes.{after_store, bytes_at}
-use Rattle.nv_flat.specs.Flat.{Flat}
+use Rattle.nv_moves.specs.Flat.{Flat}
 use Rattle.nv_script.specs.OnceLine.{LineValue}
 use Rattle.nv_once.specs.Shown.{AreShown, IsShown}
 

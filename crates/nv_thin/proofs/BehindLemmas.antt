@@ -6,7 +6,7 @@ use Rattle.std.proofs.Math.Seq.{drop-nil}
 use Rattle.nv_mem.specs.Bytes.{after_store, bytes_at}
 use Rattle.nv_mem.specs.GuestMap.{Mapping, refusal_of}
 use Rattle.nv_mem.proofs.Memory.{bytes_at-after_store_other}
-use Rattle.nv_flat.specs.Flat.{Flat, flat}
+use Rattle.nv_moves.specs.Flat.{Flat, flat}
 use Rattle.nv_thin.specs.Thin.{IsBehind, first_block, guest_start, guests_view, map_behind}
 
 -- the sizes of what the guest sees

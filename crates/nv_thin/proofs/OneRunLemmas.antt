@@ -25,8 +25,9 @@ use Rattle.nv_model.specs.Memory.{scattered, gathered}
 use Rattle.nv_model.specs.Private.{Shape, verdict_in}
 use Rattle.nv_model.specs.Reading.{Reading, Faulty, Spells, first_failing, run, unless_faulty}
 use Rattle.nv_model.specs.Sgl.{array_by, behind_own, fault_by, pieces_by, read_array, read_sgl}
-use Rattle.nv_flat.specs.Flat.{byte_in, identity_map}
-use Rattle.nv_flat.proofs.BufferLemmas.{gathered-run, run-split, scattered-run, scattered-take}
+use Rattle.nv_flat.specs.Flat.{identity_map}
+use Rattle.nv_moves.specs.Flat.{byte_in}
+use Rattle.nv_moves.proofs.BufferLemmas.{gathered-run, run-split, scattered-run, scattered-take}
 use Rattle.nv_flat.proofs.VerdictLemmas.{verdict-listed}
 
 -- ---- its places

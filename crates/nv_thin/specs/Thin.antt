@@ -15,7 +15,7 @@ use Rattle.nv_model.specs.Limits.{block as block_size, page as page_size}
 use Rattle.nv_model.specs.Memory.{bytes_from, stored}
 use Rattle.nv_model.specs.Private.{Moved}
 use Rattle.nv_flat.specs.One.{is_plain}
-use Rattle.nv_flat.specs.Flat.{Flat, flat}
+use Rattle.nv_moves.specs.Flat.{Flat, flat}
 
 -- ---- where things lie (profile)
 

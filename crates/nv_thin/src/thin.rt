@@ -37,7 +37,7 @@ pub struct Thin {
 }
 
 impl Model for Thin {
-    ghost use Rattle.nv_flat.specs.Flat.{Flat};
+    ghost use Rattle.nv_moves.specs.Flat.{Flat};
     ghost use Rattle.nv_thin.specs.Thin.{IsBehind, guests_view};
 
     ghost Value = { Flat };

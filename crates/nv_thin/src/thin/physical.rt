@@ -8,7 +8,7 @@ ghost use Rattle.nv_mem.specs.declared.piece.Piece.TheVariants.{Run};
 ghost use Rattle.nv_model.specs.Carried.{block_work, moved_on, units_from, units_moved};
 ghost use Rattle.nv_model.specs.Judge.{MoveBlock, count_of};
 ghost use Rattle.nv_model.specs.Limits.{page as page_size};
-ghost use Rattle.nv_flat.specs.Flat.{flat, moved_of};
+ghost use Rattle.nv_moves.specs.Flat.{flat, moved_of};
 ghost use Rattle.nv_flat.specs.One.{most_plain_blocks};
 ghost use Rattle.nv_thin.specs.Thin.{IsPhysical, IsSameApart, IsSameBefore, carried, physical_entry};
 

@@ -9,7 +9,8 @@ use Rattle.nv_moves.proofs.MoveLemmas.{differs-pointwise}
 use Rattle.nv_moves.proofs.buffer.piece_differs.Goals as goal
 
 pub bytes-requires : goal.bytes-requires
-bytes-requires c = λ some. addresses-below (length c.args.memory.now) c.in-Run.addr c.in-Run.len some (rw c.in-Run.is at c.requires.in_memory)
+bytes-requires c =
+    λ some. addresses-below (length c.args.memory.now) c.in-Run.addr c.in-Run.len some (rw c.in-Run.is at c.requires.in_memory)
 
 pub returns-in-Run : goal.returns-in-Run
 returns-in-Run c =

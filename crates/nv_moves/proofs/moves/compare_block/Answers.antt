@@ -1,4 +1,4 @@
-use Rattle.std.proofs.Common.{ℕ, [], refl, sym, ap, ◌∙◌, take, length}
+use Rattle.std.proofs.Common.{ℕ, [], refl, sym, ap, ◌∙◌, take}
 use Rattle.std.specs.List.{slice_index_or}
 use Rattle.nv_model.specs.Memory.{gathered}
 use Rattle.nv_model.specs.Private.{differs}

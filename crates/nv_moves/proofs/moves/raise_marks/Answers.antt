@@ -14,4 +14,5 @@ loop-lba-preserved c =
 
 pub returns : goal.returns
 returns c =
-    sym (raised-none true c.loop-lba.lba (c.args.start + c.args.count - c.loop-lba.lba) (mark_of c.loop-lba.kept) (omega arith)) ∙ c.loop-lba.invariant.marks
+    sym (raised-none true c.loop-lba.lba (c.args.start + c.args.count - c.loop-lba.lba) (mark_of c.loop-lba.kept) (omega arith))
+    ∙ c.loop-lba.invariant.marks

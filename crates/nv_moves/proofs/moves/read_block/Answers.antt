@@ -1,4 +1,3 @@
-use Rattle.std.proofs.Common.{arith}
 use Rattle.nv_moves.proofs.MoveLemmas.{read-moved}
 use Rattle.nv_moves.proofs.moves.read_block.Goals as goal
 

@@ -1,7 +1,7 @@
-use Rattle.std.proofs.Common.{◌≡◌, ◌+◌, ◌-◌, ℕ, drop, take, arith, ap, sym, ◌∙◌}
+use Rattle.std.proofs.Common.{ap, sym, ◌∙◌}
 use Rattle.nv_model.specs.Memory.{scattered}
 use Rattle.nv_moves.specs.Flat.{byte_in}
-use Rattle.nv_moves.proofs.ReadLemmas.{joined, raised-same, read-moved_all}
+use Rattle.nv_moves.proofs.ReadLemmas.{joined-blocks, raised-same, read-moved_all}
 use Rattle.nv_moves.proofs.moves.read_blocks.Goals as goal
 
 pub returns-then-fua-clause-moved : goal.returns-then-fua-clause-moved
@@ -10,8 +10,7 @@ returns-then-fua-clause-moved c = λ pieces at.
     c.requires.blocks c.told-disk c.requires.enough
     (c.put.ensures.memory
     ∙ ap (scattered (byte_in c.args.memory.now) c.args.buffer.now)
-    (c.as_flattened.ensures.value
-    ∙ ap (λ (k : ℕ). joined (take k (drop c.args.start c.args.disk.now))) (let count : c.args.start + c.args.count - c.args.start ≡ c.args.count = omega arith in count)))
+    (joined-blocks c.args.start c.args.count c.args.disk.now c.as_flattened.result.now c.as_flattened.ensures.value))
     (rw c.if-fua.true c.raise_marks.ensures) pieces at
 
 pub returns-else-fua-clause-moved : goal.returns-else-fua-clause-moved
@@ -20,6 +19,5 @@ returns-else-fua-clause-moved c = λ pieces at.
     c.requires.blocks c.told-disk c.requires.enough
     (c.put.ensures.memory
     ∙ ap (scattered (byte_in c.args.memory.now) c.args.buffer.now)
-    (c.as_flattened.ensures.value
-    ∙ ap (λ (k : ℕ). joined (take k (drop c.args.start c.args.disk.now))) (let count : c.args.start + c.args.count - c.args.start ≡ c.args.count = omega arith in count)))
+    (joined-blocks c.args.start c.args.count c.args.disk.now c.as_flattened.result.now c.as_flattened.ensures.value))
     (rw c.if-fua.false (sym (raised-same c.args.start c.args.count c.args.kept.now))) pieces at

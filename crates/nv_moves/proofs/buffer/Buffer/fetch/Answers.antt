@@ -10,7 +10,8 @@ use Rattle.nv_moves.proofs.BufferLemmas.{AreBelow-drop, AreBelow-more, IsFetchin
 use Rattle.nv_moves.proofs.buffer.Buffer.fetch.Goals as goal
 
 pub loop-done-init : goal.loop-done-init
-loop-done-init c = record { taken = gathered-none (byte_in c.args.memory.now); len = refl; left = refl; within = omega arith; enough = c.requires.enough }
+loop-done-init c =
+    record { taken = gathered-none (byte_in c.args.memory.now); len = refl; left = refl; within = omega arith; enough = c.requires.enough }
 
 pub take_front-requires-clause-in_range : goal.take_front-requires-clause-in_range
 take_front-requires-clause-in_range c =
@@ -30,7 +31,8 @@ loop-done-preserved c =
     let n : c.len_of.result ≡ piece_len c.in-Some.piece = c.len_of.ensures in
     let at_most : piece_len c.in-Some.piece ≤ length c.loop-done.out - c.loop-done.done = c.in-Some.ensures.at_most in
     let len : length c.load.new.out ≡ piece_len c.in-Some.piece =
-    ap length c.load.ensures ∙ length-gathered (byte_in c.args.memory.now) (places_of_piece c.in-Some.piece) ∙ length-places_of_piece c.in-Some.piece in
+    ap length c.load.ensures ∙ length-gathered (byte_in c.args.memory.now) (places_of_piece c.in-Some.piece)
+    ∙ length-places_of_piece c.in-Some.piece in
     let below : c.loop-done.done ≤ length c.loop-done.out = (let w = so_far.within in let l = so_far.len in omega arith) in
     let done_so : IsFetching (byte_in c.args.memory.now) c.args.self.now (length c.args.out.now) _ c.take_front.new.self (c.loop-done.done + piece_len c.in-Some.piece) =
     IsFetching-more (byte_in c.args.memory.now) c.args.self.now (length c.args.out.now) c.loop-done.out c.loop-done.self c.loop-done.done

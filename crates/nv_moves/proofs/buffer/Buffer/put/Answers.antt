@@ -11,11 +11,13 @@ take_front-requires-clause-in_range c =
 
 pub returns-in_default-clause-memory : goal.returns-in_default-clause-memory
 returns-in_default-clause-memory c =
-    sym (scattered-no_places (byte_in c.loop-rest.memory) c.loop-rest.self c.loop-rest.rest.now c.in_default.ensures.0) ∙ c.loop-rest.invariant.moved
+    sym (scattered-no_places (byte_in c.loop-rest.memory) c.loop-rest.self c.loop-rest.rest.now c.in_default.ensures.0)
+    ∙ c.loop-rest.invariant.moved
 
 pub returns-in_default-clause-rest : goal.returns-in_default-clause-rest
 returns-in_default-clause-rest c =
-    c.in_default.ensures.1 ∙ sym (drop-nil (length c.loop-rest.rest.now)) ∙ ap (drop (length c.loop-rest.rest.now)) (sym c.in_default.ensures.0) ∙ c.loop-rest.invariant.left
+    c.in_default.ensures.1 ∙ sym (drop-nil (length c.loop-rest.rest.now))
+    ∙ ap (drop (length c.loop-rest.rest.now)) (sym c.in_default.ensures.0) ∙ c.loop-rest.invariant.left
 
 pub store-requires-clause-in_memory : goal.store-requires-clause-in_memory
 store-requires-clause-in_memory c =
@@ -31,4 +33,5 @@ loop-rest-preserved c =
 pub returns-clause-memory : goal.returns-clause-memory
 returns-clause-memory c =
     let none : length c.loop-rest.rest.now ≡ 0 = (let test = c.is_empty.ensures in let is = c.loop-rest-test.false in grind (arith, nat_tests)) in
-    sym (scattered-no_bytes (byte_in c.loop-rest.memory) c.loop-rest.self c.loop-rest.rest.now none) ∙ c.loop-rest.invariant.moved
+    sym (scattered-no_bytes (byte_in c.loop-rest.memory) c.loop-rest.self c.loop-rest.rest.now none)
+    ∙ c.loop-rest.invariant.moved

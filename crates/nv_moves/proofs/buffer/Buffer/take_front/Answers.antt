@@ -13,7 +13,8 @@ returns-in_err-first c =
 pub loop-piece-preserved : goal.loop-piece-preserved
 loop-piece-preserved c =
     let empty : piece_len c.loop-piece.piece ≡ 0 = (let len = c.len_of.ensures in let test = c.loop-piece-test.true in omega arith) in
-    c.loop-piece.invariant ∙ one-piece-less c.loop-piece.piece c.in_ok-first.first.now c.loop-piece.behind.now c.in_ok-first.rest.now empty c.in_ok-first.ensures.cases.0
+    c.loop-piece.invariant
+    ∙ one-piece-less c.loop-piece.piece c.in_ok-first.first.now c.loop-piece.behind.now c.in_ok-first.rest.now empty c.in_ok-first.ensures.cases.0
 
 pub cut-front-requires : goal.cut-front-requires
 cut-front-requires c =

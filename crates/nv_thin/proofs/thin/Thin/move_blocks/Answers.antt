@@ -3,7 +3,7 @@ use Rattle.std.specs.Vec.{with_items}
 use Rattle.std.proofs.lemmas.List.{length-drop, with_items_is}
 use Rattle.nv_entry.specs.Descriptor.{address_of}
 use Rattle.nv_entry.specs.Submission.{sgl_of, slba_of}
-use Rattle.nv_flat.specs.Flat.{moved_of}
+use Rattle.nv_moves.specs.Flat.{moved_of}
 use Rattle.nv_thin.specs.Thin.{IsBehind, guests_view}
 use Rattle.nv_thin.proofs.BehindLemmas.{behind-same, sizes}
 use Rattle.nv_thin.proofs.ThroughMoves.{IsTranslated, read-seen, write-seen}

@@ -1,6 +1,6 @@
 use Rattle.std.proofs.Common.{◌∙◌, sym, ap, get_or, arith}
 use Rattle.std.proofs.lemmas.List.{get_or-drop}
-use Rattle.nv_flat.specs.Flat.{Flat}
+use Rattle.nv_moves.specs.Flat.{Flat}
 use Rattle.nv_thin.proofs.BehindLemmas.{sizes}
 use Rattle.nv_thin.proofs.thin.ThinOne.block.Goals as goal
 

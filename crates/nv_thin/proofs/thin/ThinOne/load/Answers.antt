@@ -1,6 +1,6 @@
 use Rattle.std.proofs.Common.{◌∙◌, ap, length, arith}
 use Rattle.nv_mem.specs.Bytes.{bytes_at}
-use Rattle.nv_flat.specs.Flat.{Flat}
+use Rattle.nv_moves.specs.Flat.{Flat}
 use Rattle.nv_thin.proofs.BehindLemmas.{bytes_at-drop, sizes, some-length}
 use Rattle.nv_thin.proofs.thin.ThinOne.load.Goals as goal
 

@@ -1,7 +1,7 @@
 use Rattle.std.proofs.Common.{◌∙◌, ◌+◌, ◌*◌, inl, ℕ, List, sym, ap, subst, false, arith}
 use Rattle.nv_entry.specs.declared.opcode.IoOpcode.TheVariants.{Read}
 use Rattle.nv_mem.specs.Bytes.{bytes_at}
-use Rattle.nv_flat.specs.Flat.{flat, moved_of}
+use Rattle.nv_moves.specs.Flat.{flat, moved_of}
 use Rattle.nv_thin.specs.Thin.{IsPhysical, IsSameApart, copied}
 use Rattle.nv_thin.proofs.BehindLemmas.{length-bytes_at, store-apart}
 use Rattle.nv_thin.proofs.ThroughMoves.{carried-read, moved_of-copied}

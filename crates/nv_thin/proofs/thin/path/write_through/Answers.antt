@@ -2,7 +2,7 @@ use Rattle.std.proofs.Common.{◌∙◌, ◌+◌, ◌*◌, ℕ, List, sym, ap, s
 use Rattle.nv_entry.specs.declared.opcode.IoOpcode.TheVariants.{Write}
 use Rattle.nv_mem.specs.Bytes.{bytes_at}
 use Rattle.nv_model.specs.Carried.{units_from, units_moved}
-use Rattle.nv_flat.specs.Flat.{flat, moved_of}
+use Rattle.nv_moves.specs.Flat.{flat, moved_of}
 use Rattle.nv_thin.specs.Thin.{IsPhysical, IsSameApart, copied}
 use Rattle.nv_thin.proofs.BehindLemmas.{length-bytes_at, page-apart}
 use Rattle.nv_thin.proofs.ThroughMoves.{carried-write, moved_of-copied, run_work}

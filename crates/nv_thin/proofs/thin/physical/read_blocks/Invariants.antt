@@ -2,7 +2,7 @@ use Rattle.std.proofs.Common.{◌≡◌, ◌+◌, ◌-◌, [], ◌∷◌, false,
 use Rattle.nv_entry.specs.declared.opcode.IoOpcode.TheVariants.{Read}
 use Rattle.nv_mem.specs.declared.piece.Piece.TheVariants.{Run}
 use Rattle.nv_model.specs.Carried.{block_work, units_from, units_moved}
-use Rattle.nv_flat.specs.Flat.{flat, moved_of}
+use Rattle.nv_moves.specs.Flat.{flat, moved_of}
 use Rattle.nv_thin.specs.Thin.{IsSameApart, IsSameBefore}
 use Rattle.nv_thin.proofs.thin.physical.read_blocks.Given as goal
 

@@ -1,7 +1,7 @@
 use Rattle.std.proofs.Common.{◌∙◌, ◌*◌, ◌∷◌, [], arith, drop, false, refl}
 use Rattle.nv_mem.specs.Places.{places_of}
 use Rattle.nv_mem.specs.declared.piece.Piece.TheVariants.{Run}
-use Rattle.nv_flat.proofs.MoveLemmas.{write-moved}
+use Rattle.nv_moves.proofs.MoveLemmas.{write-moved}
 use Rattle.nv_thin.proofs.OneRunLemmas.{gathered-block}
 use Rattle.nv_thin.proofs.thin.physical.write_block.Goals as goal
 

@@ -1,5 +1,5 @@
 use Rattle.std.proofs.Common.{◌∙◌, arith}
-use Rattle.nv_flat.proofs.MoveLemmas.{blocks-end, blocks-step}
+use Rattle.nv_moves.proofs.MoveLemmas.{blocks-end, blocks-step}
 use Rattle.nv_thin.proofs.thin.physical.write_blocks.Goals as goal
 
 pub loop-index-preserved : goal.loop-index-preserved
