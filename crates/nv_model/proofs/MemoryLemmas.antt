@@ -49,7 +49,7 @@ stored-cons_at m addr b bs at = grind (arith, nat_tests, get_or_front b bs)
     get_or_front b bs zero h = absurd (omega arith)
     get_or_front b bs (suc k) h = ap (λ (n : ℕ). get_or bs n 0) (omega arith)
 
-stored-cons : (m : ℕ → ℕ) (addr b : ℕ) (bs : List ℕ) → stored (stored m addr (b ∷ [])) (suc addr) bs ≡ stored m addr (b ∷ bs)
+pub stored-cons : (m : ℕ → ℕ) (addr b : ℕ) (bs : List ℕ) → stored (stored m addr (b ∷ [])) (suc addr) bs ≡ stored m addr (b ∷ bs)
 stored-cons m addr b bs = fun_ext (stored-cons_at m addr b bs)
 
 -- nothing is stored
