@@ -1,18 +1,10 @@
 -- The loops of a copy, over the pieces of a list and over the rows of a run: what is left, copied from here, is the whole copied from
 -- the start. `copied` says what a copy makes of a memory: `gathered_to` and `scattered_from`, of some regions.
-use Rattle.std.proofs.Common.{◌≡◌, ℕ, zero, suc, ◌+◌, ◌-◌, ◌<◌, ◌≤◌, ◌^◌, true, List, [], ◌∷◌, ◌++◌, length, drop, get_or, None, is_some, arith, refl, sym, ap, ◌∙◌, inl, inr}
-use Rattle.std.proofs.Math.Seq.{drop-cons}
-use Rattle.std.proofs.lemmas.Bool.{cases_lt}
-use Rattle.std.proofs.lemmas.List.Sums.{sum_by-cons}
-use Rattle.nv_mem.specs.GuestMap.{IsLongestRun, IsSound, Mapping, everywhere, host_of, mapped}
+use Rattle.std.proofs.Common.{◌≡◌, ℕ, ◌+◌, ◌-◌, ◌<◌, ◌≤◌, List, [], ◌++◌, length, drop, get_or, arith, refl, sym, ap, ◌∙◌}
 use Rattle.nv_mem.specs.Places.{Place, addresses, piece_len, places_of, places_of_piece, total_len}
 use Rattle.nv_mem.specs.declared.piece.Piece.{Piece}
-use Rattle.nv_mem.specs.declared.region.Region.{Region}
-use Rattle.nv_mem.proofs.Counts.{AllMapped-tested}
-use Rattle.nv_mem.proofs.Images.{IsContiguous-inside, host_of-high}
-use Rattle.nv_mem.proofs.PlaceLists.{length-addresses, length-places_of, length-places_of_piece}
+use Rattle.nv_mem.proofs.PlaceLists.{addresses-append, length-addresses, length-places_of, length-places_of_piece, pieces_from, pieces_from-past, total_len-from}
 use Rattle.nv_model.specs.Memory.{byte_in}
-use Rattle.nv_bounce.proofs.Slots.{addresses-append}
 
 -- a copy between places and the `len` bytes from `slot` on goes place by place
 pub record GoesInOrder (copied : List Place → ℕ → (ℕ → ℕ) → ℕ → ℕ) (slot len : ℕ) : Type 0 where
@@ -90,18 +82,6 @@ pub record IsAtPiece (copied : List Place → ℕ → (ℕ → ℕ) → ℕ → 
   pub start : slot ≤ at
   pub end : at + total_len left ≡ slot + total_len pieces
 
--- the pieces from an index on
-from_index : (pieces : List Piece) (i : ℕ) (d : Piece) → i < length pieces → drop i pieces ≡ get_or pieces i d ∷ drop (i + 1) pieces
-from_index pieces i d below =
-    let next : suc i ≡ i + 1 = omega arith in
-    drop-cons pieces i d below ∙ ap (λ (k : ℕ). get_or pieces i d ∷ drop k pieces) next
-
--- and their bytes
-pub total_len-from : (pieces : List Piece) (i : ℕ) (d : Piece) → i < length pieces
-    → total_len (drop i pieces) ≡ piece_len (get_or pieces i d) + total_len (drop (i + 1) pieces)
-total_len-from pieces i d below =
-    ap total_len (from_index pieces i d below) ∙ sum_by-cons piece_len (get_or pieces i d) (drop (i + 1) pieces)
-
 -- one more piece
 pub IsAtPiece-next : (copied : List Place → ℕ → (ℕ → ℕ) → ℕ → ℕ) (before : List ℕ) (slot : ℕ) (pieces : List Piece) (now new : List ℕ) (at i : ℕ) (d : Piece)
     → GoesInOrder copied slot (total_len pieces) → IsAtPiece copied before slot pieces now at (drop i pieces) → i < length pieces
@@ -121,18 +101,12 @@ IsAtPiece-next copied before slot pieces now new at i d order so_far below moved
           ap (copied (places_of rest) (at + piece_len p)) moved
           ∙ ap (λ (n : ℕ). copied (places_of rest) (at + n) (copied front at (byte_in now))) (sym first)
           ∙ order.append (byte_in now) front (places_of rest) at start (omega arith)
-          ∙ ap (λ (ps : List Piece). copied (places_of ps) at (byte_in now)) (sym (from_index pieces i d below))
+          ∙ ap (λ (ps : List Piece). copied (places_of ps) at (byte_in now)) (sym (pieces_from pieces i d below))
           ∙ so_far.moved;
       size = size ∙ so_far.size;
       start = omega arith;
       end = omega arith;
     }
-
-drop-past : (pieces : List Piece) (i : ℕ) → length pieces ≤ i → drop i pieces ≡ []
-drop-past [] zero past = refl
-drop-past [] (suc i) past = refl
-drop-past (p ∷ pieces) zero past = absurd (omega arith)
-drop-past (p ∷ pieces) (suc i) past = drop-past pieces i (omega arith)
 
 -- all pieces are copied
 pub IsAtPiece-end : (copied : List Place → ℕ → (ℕ → ℕ) → ℕ → ℕ) (before : List ℕ) (slot : ℕ) (pieces : List Piece) (now : List ℕ) (at i : ℕ)
@@ -140,7 +114,7 @@ pub IsAtPiece-end : (copied : List Place → ℕ → (ℕ → ℕ) → ℕ → �
     → byte_in now ≡ copied (places_of pieces) slot (byte_in before)
 IsAtPiece-end copied before slot pieces now at i order so_far past =
     sym (order.none (byte_in now) at)
-    ∙ ap (λ (ps : List Piece). copied (places_of ps) at (byte_in now)) (sym (drop-past pieces i past))
+    ∙ ap (λ (ps : List Piece). copied (places_of ps) at (byte_in now)) (sym (pieces_from-past pieces i past))
     ∙ so_far.moved
 
 -- the bytes of a piece lie in the slot
@@ -151,24 +125,3 @@ piece-within copied before slot pieces now at i d so_far below =
     let end : at + total_len (drop i pieces) ≡ slot + total_len pieces = so_far.end in
     let sum : total_len (drop i pieces) ≡ piece_len (get_or pieces i d) + total_len (drop (i + 1) pieces) = total_len-from pieces i d below in
     (so_far.start, omega arith)
-
--- ---- the rows that a map has
-
--- an address of a run that is mapped has a host address
-pub mapped-some : (rs : List Region) (addr len i : ℕ) → everywhere (mapped rs) addr len ≡ true → i < len → host_of rs (addr + i) ≡ None → ⊥
-mapped-some rs addr len i all below none =
-    let is : is_some (host_of rs (addr + i)) ≡ true = AllMapped-tested rs addr len all i below in
-    let not : is_some (host_of rs (addr + i)) ≡ is_some {T = ℕ} None = ap (λ o. is_some o) none in
-    cc
-
--- so it is below 2 to the 64
-pub mapped-below : (m : Mapping) (addr len i : ℕ) → IsSound m → everywhere (mapped m.regions) addr len ≡ true → i < len → addr + i < 2 ^ 64
-mapped-below m addr len i sound all below =
-    elim (cases_lt (addr + i) (2 ^ 64)) [
-      | inl fits ↦ fits
-      | inr high ↦ absurd (mapped-some m.regions addr len i all below (host_of-high m.host_len m.regions (addr + i) sound.inside high))
-    ]
-
--- a row ends in the host
-pub row-inside : (m : Mapping) (addr len host n : ℕ) → IsSound m → IsLongestRun m.regions addr len host n → host + n ≤ m.host_len
-row-inside m addr len host n sound longest = IsContiguous-inside m.host_len m.regions addr host n sound.inside longest.run

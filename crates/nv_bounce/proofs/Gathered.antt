@@ -4,12 +4,13 @@ use Rattle.nv_mem.specs.Bytes.{InMemory, after_store, bytes_at}
 use Rattle.nv_mem.specs.declared.region.Region.{Region}
 use Rattle.nv_mem.specs.GuestMap.{IsContiguous, IsLongestRun, IsSound, Mapping, span_met}
 use Rattle.nv_mem.specs.Places.{Place, Bucket, addresses}
-use Rattle.nv_mem.proofs.Memory.{length-bytes_at}
+use Rattle.nv_mem.proofs.Memory.{length-bytes_at, span_met-part}
 use Rattle.nv_model.specs.Memory.{byte_in, bytes_from, gathered, image, stored}
-use Rattle.nv_model.proofs.MemoryLemmas.{bytes_from-list, gathered-addresses, gathered-append, length-gathered, stored-list, stored-nil}
+use Rattle.nv_model.proofs.MemoryLemmas.{bytes_from-list, bytes_from-same, gathered-addresses, gathered-append, length-gathered, stored-append, stored-list, stored-nil}
+use Rattle.nv_model.proofs.PutImages.{image-mapped, image-stored_clear}
 use Rattle.nv_bounce.specs.Bounce.{gathered_to}
-use Rattle.nv_bounce.proofs.Slots.{bytes_from-same, image-mapped, image-stored_clear, span_met-part, stored-append}
-use Rattle.nv_bounce.proofs.Copies.{GoesInOrder, IsAtRow, IsAtRow-next, row-inside}
+use Rattle.nv_bounce.proofs.Copies.{GoesInOrder, IsAtRow, IsAtRow-next}
+use Rattle.nv_mem.proofs.MappedRuns.{run-inside}
 
 -- the bytes of some places, and then those of the places behind them
 pub gathered_to-append : (rs : List Region) (m : ℕ → ℕ) (front behind : List Place) (slot : ℕ) → span_met rs slot (length front) ≡ false
@@ -61,7 +62,7 @@ gathered-next m before now new slot addr len done host n sound is clear inside s
     let within : n ≤ len - done = longest.within in
     let end : slot + len ≤ length before = inside (omega arith) in
     let same : length now ≡ length before = so_far.size in
-    let row : host + n ≤ m.host_len = row-inside m (addr + done) (len - done) host n sound longest in
+    let row : host + n ≤ m.host_len = run-inside m (addr + done) (len - done) host n sound longest in
     IsAtRow-next (gathered_to m.regions) before slot addr len now new done n (gathering-in_order m.regions slot len clear) so_far within
     (ap byte_in copied ∙ copy-gathers m.regions now (addr + done) host n (slot + done) longest.run (omega arith) (omega arith)) size
 

@@ -1,4 +1,3 @@
 pub mod Copies
 pub mod Gathered
 pub mod Scattered
-pub mod Slots

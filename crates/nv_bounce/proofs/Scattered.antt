@@ -1,22 +1,23 @@
 -- Bytes that are copied from a slot, run by run.
-use Rattle.std.proofs.Common.{◌≡◌, ℕ, ◌+◌, ◌-◌, ◌<◌, ◌≤◌, ◌⊎◌, inl, inr, true, false, cond, nat_le, nat_lt, ◌&&◌, List, [], ◌∷◌, ◌++◌, length, replicate, slice_index, Option, Some, None, is_some, arith, refl, sym, ap, subst, ◌∙◌}
+use Rattle.std.proofs.Common.{◌≡◌, ℕ, ◌+◌, ◌-◌, ◌<◌, ◌≤◌, ◌⊎◌, inl, inr, false, cond, nat_le, nat_lt, ◌&&◌, List, [], ◌∷◌, ◌++◌, length, replicate, slice_index, Some, None, arith, refl, sym, ap, subst, ◌∙◌}
 use Rattle.std.proofs.lemmas.Bool.{cases_lt}
 use Rattle.std.proofs.lemmas.List.{length-append}
 use Rattle.std.specs.List.{AllPairs}
 use mathlib.Core.Path.{fun_ext}
 use Rattle.nv_mem.specs.Bytes.{InMemory, after_store, bytes_at}
 use Rattle.nv_mem.specs.declared.region.Region.{Region}
-use Rattle.nv_mem.specs.GuestMap.{IsApart, IsContiguous, IsLongestRun, IsSound, Mapping, guest_of, host_of, mapped, span_met}
+use Rattle.nv_mem.specs.GuestMap.{IsApart, IsContiguous, IsLongestRun, IsSound, Mapping, guest_of, host_of, span_met}
 use Rattle.nv_mem.specs.Places.{Place, At, Bucket, addresses}
-use Rattle.nv_mem.proofs.Images.{guest_of-host}
-use Rattle.nv_mem.proofs.Memory.{length-bytes_at}
+use Rattle.nv_mem.proofs.Images.{guest_of-host, host_of-guest}
+use Rattle.nv_mem.proofs.Memory.{length-bytes_at, span_met-part}
 use Rattle.nv_mem.proofs.PlaceLists.{length-addresses}
 use Rattle.nv_model.specs.Memory.{byte_in, byte_or, bytes_from, image, put_image, scattered, stored}
-use Rattle.nv_model.proofs.MemoryLemmas.{bytes_from-list, scattered-addresses, scattered-append, scattered-buckets, stored-list}
-use Rattle.nv_model.proofs.PutImages.{image-put_image, put_image-elsewhere}
+use Rattle.nv_model.proofs.MemoryLemmas.{bytes_from-append, bytes_from-list, scattered-addresses, scattered-append, scattered-buckets, stored-inside, stored-list, stored-outside}
+use Rattle.nv_model.proofs.PutImages.{bytes_from-put_image, image-mapped, image-put_image, put_image-own, put_image-twice}
+use Rattle.nv_model.proofs.Shown.{length-bytes_from}
 use Rattle.nv_bounce.specs.Bounce.{scattered_from}
-use Rattle.nv_bounce.proofs.Copies.{GoesInOrder, IsAtRow, IsAtRow-next, row-inside}
-use Rattle.nv_bounce.proofs.Slots.{bytes_from-append, bytes_from-same, guest_of-clear, host_of-guest, image-mapped, length-bytes_from, span_met-part, stored-inside, stored-outside}
+use Rattle.nv_bounce.proofs.Copies.{GoesInOrder, IsAtRow, IsAtRow-next}
+use Rattle.nv_mem.proofs.MappedRuns.{run-inside}
 
 -- ---- memories that are the same at an address
 
@@ -35,29 +36,7 @@ scattered-same_at f g (At addr ∷ places) (byte ∷ bytes) at same =
     scattered-same_at (stored f addr (byte ∷ [])) (stored g addr (byte ∷ [])) places bytes at (stored-same_at f g addr (byte ∷ []) at same)
 scattered-same_at f g (Bucket ∷ places) (byte ∷ bytes) at same = scattered-same_at f g places bytes at same
 
--- ---- a memory that is put back twice
-
--- the address of a byte that is put back is mapped
-mapped-guest : (rs : List Region) (at addr : ℕ) → AllPairs IsApart rs → guest_of rs at ≡ Some addr → mapped rs addr ≡ true
-mapped-guest rs at addr apart is = ap (λ (o : Option ℕ). is_some o) (host_of-guest rs at addr apart is)
-
--- the second memory alone counts, and that only where it is mapped
-put_image-twice : (rs : List Region) (first second same host : ℕ → ℕ) → AllPairs IsApart rs → ((addr : ℕ) → mapped rs addr ≡ true → second addr ≡ same addr)
-    → put_image rs second (put_image rs first host) ≡ put_image rs same host
-unfolding put_image
-put_image-twice rs first second same host apart each = fun_ext (λ at.
-    (elim (guest_of rs at) as (λ o. guest_of rs at ≡ o → byte_or (byte_or (host at) first o) second o ≡ byte_or (host at) same o) [
-      | None ↦ λ is. refl
-      | Some addr ↦ λ is. each addr (mapped-guest rs at addr apart is)
-    ]) refl)
-
 -- ---- some places, and those behind them
-
--- the slot's bytes stay
-bytes_from-put_image : (rs : List Region) (memory m : ℕ → ℕ) (slot len : ℕ) → span_met rs slot len ≡ false → bytes_from (put_image rs memory m) slot len ≡ bytes_from m slot len
-bytes_from-put_image rs memory m slot len clear =
-    bytes_from-same (put_image rs memory m) m slot slot len
-    (λ i below. put_image-elsewhere rs memory m (slot + i) (guest_of-clear rs slot len (slot + i) clear (omega arith) (omega arith)))
 
 -- bytes scattered to some places, and then to those behind them
 scattered-both : (m g : ℕ → ℕ) (front behind : List Place) (slot : ℕ)
@@ -151,15 +130,6 @@ copy-scatters rs memory addr host n from apart run to_inside from_inside =
     ∙ ap (λ (k : ℕ). scattered g (addresses addr k) bytes) len
     ∙ ap (scattered g (addresses addr n)) (sym read ∙ ap (bytes_from (byte_in memory) from) (sym (length-addresses addr n))))
 
--- what is put back as it was changes nothing
-put_image-own : (rs : List Region) (m : ℕ → ℕ) → AllPairs IsApart rs → put_image rs (image rs m) m ≡ m
-unfolding put_image
-put_image-own rs m apart = fun_ext (λ at.
-    (elim (guest_of rs at) as (λ o. guest_of rs at ≡ o → byte_or (m at) (image rs m) o ≡ m at) [
-      | None ↦ λ is. refl
-      | Some addr ↦ λ is. image-mapped rs m addr at (host_of-guest rs at addr apart is)
-    ]) refl)
-
 -- no bytes are copied
 scattered_from-none : (rs : List Region) (m : ℕ → ℕ) (slot : ℕ) → AllPairs IsApart rs → scattered_from rs [] slot m ≡ m
 unfolding scattered
@@ -183,7 +153,7 @@ scattered-next m before now new slot addr len done host n sound is clear inside 
     let within : n ≤ len - done = longest.within in
     let end : slot + len ≤ length before = inside (omega arith) in
     let same : length now ≡ length before = so_far.size in
-    let row : host + n ≤ m.host_len = row-inside m (addr + done) (len - done) host n sound longest in
+    let row : host + n ≤ m.host_len = run-inside m (addr + done) (len - done) host n sound longest in
     IsAtRow-next (scattered_from m.regions) before slot addr len now new done n (scattering-in_order m.regions slot len sound.apart clear) so_far within
     (ap byte_in copied ∙ copy-scatters m.regions now (addr + done) host n (slot + done) sound.apart longest.run (omega arith) (omega arith)) size
 

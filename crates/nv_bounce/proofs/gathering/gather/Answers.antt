@@ -7,7 +7,7 @@ use Rattle.nv_model.specs.Memory.{byte_in}
 use Rattle.nv_bounce.specs.Bounce.{gathered_to}
 use Rattle.nv_bounce.proofs.Copies.{IsAtPiece-end, IsAtPiece-next, piece-within}
 use Rattle.nv_bounce.proofs.Gathered.{gathering-in_order}
-use Rattle.nv_bounce.proofs.Slots.{span_met-part}
+use Rattle.nv_mem.proofs.Memory.{span_met-part}
 use Rattle.nv_bounce.proofs.gathering.gather.Goals as goal
 
 pub gather_piece-requires-clause-apart : goal.gather_piece-requires-clause-apart

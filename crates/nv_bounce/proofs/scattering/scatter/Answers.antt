@@ -8,7 +8,7 @@ use Rattle.nv_mem.proofs.PlaceLists.{length-places_of}
 use Rattle.nv_bounce.specs.Bounce.{scattered_from}
 use Rattle.nv_bounce.proofs.Copies.{IsAtPiece-end, IsAtPiece-next, piece-within}
 use Rattle.nv_bounce.proofs.Scattered.{scattering-in_order}
-use Rattle.nv_bounce.proofs.Slots.{span_met-part}
+use Rattle.nv_mem.proofs.Memory.{span_met-part}
 use Rattle.nv_bounce.proofs.scattering.scatter.Goals as goal
 
 pub scatter_piece-requires-clause-apart : goal.scatter_piece-requires-clause-apart

@@ -1,6 +1,7 @@
 use Rattle.std.proofs.Common.{◌+◌, ◌-◌, ◌<◌, ◌≤◌, ◌^◌, arith}
 use Rattle.nv_bounce.specs.Bounce.{scattered_from}
-use Rattle.nv_bounce.proofs.Copies.{IsAtRow-end, IsAtRow-first, mapped-below, mapped-some, row-inside}
+use Rattle.nv_bounce.proofs.Copies.{IsAtRow-end, IsAtRow-first}
+use Rattle.nv_mem.proofs.MappedRuns.{mapped-below, mapped-none, run-inside}
 use Rattle.nv_bounce.proofs.Scattered.{scattered-next, scattering-in_order}
 use Rattle.nv_bounce.proofs.scattering.scatter_run.Goals as goal
 
@@ -15,12 +16,12 @@ overflow_add-addr c =
 
 pub returns-in_default-clause-bytes : goal.returns-in_default-clause-bytes
 returns-in_default-clause-bytes c =
-    absurd (mapped-some c.args.map.now.regions c.args.addr c.args.len c.loop-done.done c.requires.mapped c.loop-done-test.true c.in_default.ensures)
+    absurd (mapped-none c.args.map.now.regions c.args.addr c.args.len c.loop-done.done c.requires.mapped c.loop-done-test.true c.in_default.ensures)
 
 pub copy-requires-clause-to : goal.copy-requires-clause-to
 copy-requires-clause-to c = λ some.
     let inside : c.in-Some.to + c.in-Some.n ≤ c.args.map.now.host_len =
-    row-inside c.args.map.now (c.args.addr + c.loop-done.done) (c.args.len - c.loop-done.done) c.in-Some.to c.in-Some.n
+    run-inside c.args.map.now (c.args.addr + c.loop-done.done) (c.args.len - c.loop-done.done) c.in-Some.to c.in-Some.n
     c.host_len-host_len.ensures.sound c.in-Some.ensures in
     let size = c.loop-done.invariant.size in
     let host = c.requires.host in
