@@ -1,3 +1,4 @@
 pub mod Copies
 pub mod Gathered
+pub mod Outcomes
 pub mod Scattered
