@@ -3,9 +3,8 @@ use Rattle.std.proofs.Common.{◌≡◌, ℕ, zero, suc, ◌+◌, ◌<◌, ◌�
 use Rattle.nv_entry.specs.Completion.{completion}
 use Rattle.nv_entry.specs.Status.{StatusField}
 use Rattle.nv_mem.specs.Bytes.{after_store}
-use Rattle.nv_model.specs.Memory.{stored}
+use Rattle.nv_model.specs.Memory.{byte_in, stored}
 use Rattle.nv_model.proofs.MemoryLemmas.{stored-list}
-use Rattle.nv_moves.specs.Flat.{byte_in}
 use Rattle.nv_world_model.specs.Area.{completion_slot, queue_pair}
 use Rattle.nv_world_model.specs.Device.{DeviceLane, completion_written}
 use Rattle.nv_device.specs.Physical.{Physical, lane_of, no_lane, with_lane}

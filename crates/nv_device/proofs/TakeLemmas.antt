@@ -15,7 +15,7 @@ use Rattle.nv_model.specs.Prp.{read_prp}
 use Rattle.nv_model.specs.Reading.{Reading, Spells}
 use Rattle.nv_model.proofs.Judged.{pieces-ends}
 use Rattle.nv_model.proofs.Spelled.{AreOfLen, read_prp-of_len}
-use Rattle.nv_moves.specs.Flat.{byte_in}
+use Rattle.nv_model.specs.Memory.{byte_in}
 use Rattle.nv_world_model.specs.Device.{DeviceLane, Held, held_of, host_pieces, pieces_named, pieces_spelled, unit_count}
 use Rattle.nv_device.specs.Pages.{host_reading, spells}
 use Rattle.nv_device.specs.Physical.{AreHeld, IsHeld, len_of}

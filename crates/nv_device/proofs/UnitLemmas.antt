@@ -15,7 +15,8 @@ use Rattle.nv_model.specs.Carried.{block_work, cleared, cleared_one, moved_on, u
 use Rattle.nv_model.specs.Judge.{Clear, ClearBlock, Form, Keep, KeepAll, Manage, MoveBlock, Transfer, clear_units, count_of, deallocates, form_has_blocks, form_of, has_blocks, is_fua, one_range_units}
 use Rattle.nv_model.specs.Private.{Moved, others}
 use Rattle.nv_model.proofs.UnitWords.{units_moved-cleared, units_moved-left}
-use Rattle.nv_moves.specs.Flat.{byte_in, flat, moved_of}
+use Rattle.nv_model.specs.Memory.{byte_in}
+use Rattle.nv_moves.specs.Flat.{flat, moved_of}
 use Rattle.nv_world_model.specs.Device.{Held, device_unit, form_moves, moved_by, range_at, unit_count}
 use Rattle.nv_device.specs.Moving.{IsReady, moves_blocks, unit_of}
 use Rattle.nv_device.specs.Physical.{IsHeld, len_of, names_blocks}

@@ -12,7 +12,8 @@ use Rattle.nv_mem.specs.declared.piece.Piece.{Piece}
 use Rattle.nv_model.specs.Judge.{deallocates, has_blocks, has_buffer}
 use Rattle.nv_model.specs.Private.{Moved}
 use Rattle.nv_moves.specs.Buffer.{AreBelow}
-use Rattle.nv_moves.specs.Flat.{byte_in, byte_of_block, flat, moved_of}
+use Rattle.nv_model.specs.Memory.{byte_in}
+use Rattle.nv_moves.specs.Flat.{byte_of_block, flat, moved_of}
 use Rattle.nv_moves.specs.Marks.{mark_of}
 use Rattle.nv_world_model.specs.Device.{Held, device_unit, range_at, unit_gone, with_held}
 use Rattle.nv_device.specs.Physical.{IsHeld, Physical, held_at, lane_of, with_lane}

@@ -6,7 +6,7 @@ use Rattle.nv_mem.specs.declared.piece.Piece.TheVariants.{Bucket, Run}
 use Rattle.nv_model.specs.Dialogue.{in_memory}
 use Rattle.nv_model.specs.Prp.{read_entries, read_prp, read_prp2}
 use Rattle.nv_model.specs.Reading.{Reading, Faulty, Spells, TooLong}
-use Rattle.nv_moves.specs.Flat.{byte_in}
+use Rattle.nv_model.specs.Memory.{byte_in}
 
 -- the addresses of a host of that length
 abbrev pub in_host : (host_len : ℕ) → ℕ → Bool

@@ -1,7 +1,7 @@
 -- What posting a completion does
 use Rattle.std.specs.Prelude.{◌≡◌, ℕ, List}
 use Rattle.nv_entry.specs.Status.{StatusField}
-use Rattle.nv_moves.specs.Flat.{byte_in}
+use Rattle.nv_model.specs.Memory.{byte_in}
 use Rattle.nv_world_model.specs.Device.{completion_posted, completion_written}
 use Rattle.nv_device.specs.Physical.{Physical, lane_of, with_lane}
 

@@ -4,7 +4,7 @@ use Rattle.nv_entry.specs.Opcode.{io_opcode}
 use Rattle.nv_entry.specs.Submission.{cid_of, opcode_of, prp1_of, prp2_of, slba_of}
 use Rattle.nv_model.specs.Judge.{count_of}
 use Rattle.nv_model.specs.Queue.{is_empty}
-use Rattle.nv_moves.specs.Flat.{byte_in}
+use Rattle.nv_model.specs.Memory.{byte_in}
 use Rattle.nv_world_model.specs.Area.{tag_count}
 use Rattle.nv_world_model.specs.Device.{DeviceLane, Held, entry_taken, front_entry}
 use Rattle.nv_device.specs.Pages.{host_reading, spells}

@@ -4,7 +4,7 @@ ghost use Rattle.std.specs.Prelude.{◌≡◌, ◌+◌, ◌==◌, ◌<◌, ◌�
 ghost use Rattle.nv_entry.specs.Opcode.{io_opcode};
 ghost use Rattle.nv_entry.specs.Submission.{opcode_of, prp1_of, prp2_of, slba_of};
 ghost use Rattle.nv_model.specs.Judge.{count_of, deallocates, is_fua};
-ghost use Rattle.nv_moves.specs.Flat.{byte_in};
+ghost use Rattle.nv_model.specs.Memory.{byte_in};
 ghost use Rattle.nv_world_model.specs.Device.{held_of, held_status, host_pieces, unit_count, unit_gone};
 ghost use Rattle.nv_device.specs.Pages.{host_reading, spells};
 ghost use Rattle.nv_device.specs.Physical.{len_of, names_blocks};

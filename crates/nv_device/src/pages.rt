@@ -3,10 +3,9 @@
 ghost use Rattle.std.specs.Prelude.{◌≡◌, ◌+◌, ◌*◌, ◌%◌, ◌^◌, ◌<◌, ◌≤◌, ℕ, List, IfOk, OnOk, true, length, min};
 ghost use Rattle.nv_entry.specs.Layout.{number_at};
 ghost use Rattle.nv_mem.specs.declared.piece.Piece.{Piece};
-ghost use Rattle.nv_model.specs.Memory.{bytes_from};
+ghost use Rattle.nv_model.specs.Memory.{byte_in, bytes_from};
 ghost use Rattle.nv_model.specs.Prp.{pages_of, slots_of};
 ghost use Rattle.nv_model.specs.Reading.{Spells};
-ghost use Rattle.nv_moves.specs.Flat.{byte_in};
 ghost use Rattle.nv_device.specs.Pages.{IsEntryAt, behind_reading, entries_reading, host_reading, spells};
 
 use byteorder::{ByteOrder, LittleEndian};

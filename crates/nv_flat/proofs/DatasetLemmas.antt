@@ -16,14 +16,14 @@ use Rattle.std.proofs.Math.Seq.{take-length}
 use Rattle.nv_mem.specs.Places.{Place, places_of}
 use Rattle.nv_mem.specs.declared.piece.Piece.{Piece}
 use Rattle.nv_model.specs.Dialogue.{End, in_memory}
-use Rattle.nv_model.specs.Memory.{gathered}
+use Rattle.nv_model.specs.Memory.{byte_in, gathered}
 use Rattle.nv_model.specs.Reading.{Spells}
 use Rattle.nv_model.specs.Judge.{Work, Refuse, Go, judge_ranges, range_count_of, range_fits, range_units, ranges_in, read_source, work_of, deallocates}
 use Rattle.nv_model.specs.Carried.{cleared, units_moved}
 use Rattle.nv_model.specs.Private.{verdict_in}
 use Rattle.nv_model.proofs.DialogueLemmas.{in_memory-and_then}
 use Rattle.nv_model.proofs.MemoryLemmas.{length-gathered}
-use Rattle.nv_moves.specs.Flat.{Flat, byte_in, moved_of}
+use Rattle.nv_moves.specs.Flat.{Flat, moved_of}
 use Rattle.nv_flat.specs.Listed.{list_reading}
 use Rattle.nv_flat.specs.One.{HasFieldsInOrder, IsRun, shape_of}
 use Rattle.nv_flat.proofs.DoneLemmas.{list-verdict, range-within}

@@ -9,14 +9,14 @@ use Rattle.nv_entry.specs.declared.status_code.StatusCode.TheVariants.{LbaOutOfR
 use Rattle.nv_mem.specs.GuestMap.{everywhere}
 use Rattle.nv_mem.specs.Places.{addresses}
 use Rattle.nv_mem.specs.declared.piece.Piece.TheVariants.{Run}
-use Rattle.nv_model.specs.Memory.{bytes_from}
+use Rattle.nv_model.specs.Memory.{byte_in, bytes_from}
 use Rattle.nv_model.specs.Dialogue.{in_memory, and_then}
 use Rattle.nv_model.specs.Sgl.{read_array, read_sgl}
 use Rattle.nv_model.specs.Judge.{Work, Go, Refuse, MoveBlock, move_units, judge}
 use Rattle.nv_model.specs.Private.{Moved, verdict_in}
 use Rattle.nv_model.specs.Carried.{moved_on, units_moved}
 use Rattle.nv_flat.specs.Examples.{block_read, block_written, read_to_half, small, write_from_half}
-use Rattle.nv_moves.specs.Flat.{Flat, byte_in, byte_of_block, moved_of}
+use Rattle.nv_moves.specs.Flat.{Flat, byte_of_block, moved_of}
 use Rattle.nv_flat.specs.One.{IsRun, shape_of}
 use Rattle.nv_moves.proofs.BufferLemmas.{gathered-run, scattered-run}
 use Rattle.nv_moves.proofs.MoveLemmas.{marks-same, read-moved, write-moved}

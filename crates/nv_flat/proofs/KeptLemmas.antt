@@ -7,12 +7,12 @@ use mathlib.Core.Path.{fun_ext}
 use Rattle.nv_entry.specs.declared.opcode.IoOpcode.{IoOpcode}
 use Rattle.nv_entry.specs.declared.opcode.IoOpcode.TheVariants.{Flush, Write, Read, Compare, WriteZeroes, DatasetManagement}
 use Rattle.nv_mem.specs.Places.{Place, At, Bucket, places_of}
-use Rattle.nv_model.specs.Memory.{scattered, stored}
+use Rattle.nv_model.specs.Memory.{byte_in, scattered, stored}
 use Rattle.nv_model.specs.Judge.{WorkUnit, MoveBlock, ClearBlock, LeaveBlock, KeepAll, Work, is_read}
 use Rattle.nv_model.specs.Limits.{block}
 use Rattle.nv_model.specs.Private.{Moved, block_bytes, block_moved, places_of_block}
 use Rattle.nv_model.specs.Carried.{moved_on, units_moved}
-use Rattle.nv_moves.specs.Flat.{Flat, byte_in, flat, moved_of}
+use Rattle.nv_moves.specs.Flat.{Flat, flat, moved_of}
 use Rattle.nv_flat.specs.Laws.{IsAnother, IsAsLarge, IsElsewhere}
 use Rattle.nv_model.proofs.UnitWords.{or-false}
 

@@ -12,7 +12,7 @@ use Rattle.nv_mem.specs.GuestMap.{Mapping, mapped}
 use Rattle.nv_mem.specs.declared.piece.Piece.{Piece}
 use Rattle.nv_model.specs.Dialogue.{Dialogue, End, Ask, and_then, in_memory}
 use Rattle.nv_model.specs.Judge.{sized}
-use Rattle.nv_model.specs.Memory.{bytes_from}
+use Rattle.nv_model.specs.Memory.{byte_in, bytes_from}
 use Rattle.nv_model.specs.Reading.{Reading, Faulty, TooLong, Spells}
 use Rattle.nv_model.specs.Prp.{read_prp}
 use Rattle.nv_model.specs.Sgl.{read_sgl}
@@ -21,7 +21,7 @@ use Rattle.nv_model.specs.Transcript.{fed}
 use Rattle.nv_model.specs.Want.{want_of}
 use Rattle.nv_model.specs.declared.want.Want.TheVariants as want
 use Rattle.nv_flat.specs.Flat.{identity_map}
-use Rattle.nv_moves.specs.Flat.{Flat, byte_in}
+use Rattle.nv_moves.specs.Flat.{Flat}
 use Rattle.nv_flat.specs.Listed.{IsPartThere, list_dialogue, list_reading, reading_by, refusal_of_reading}
 use Rattle.nv_flat.proofs.AskingLemmas.{AsksAtMost, AsksAtMost-and_then, mapped-inside, read_prp-often, read_sgl-often, wants-more}
 

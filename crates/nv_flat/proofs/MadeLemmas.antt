@@ -8,7 +8,7 @@ use Rattle.nv_entry.specs.declared.opcode.IoOpcode.TheVariants.{Flush, Write, Re
 use Rattle.nv_mem.specs.Bytes.{InMemory, after_store}
 use Rattle.nv_mem.specs.Places.{Place, At, Bucket, places_of}
 use Rattle.nv_mem.proofs.Memory.{length-after_store}
-use Rattle.nv_model.specs.Memory.{gathered, scattered}
+use Rattle.nv_model.specs.Memory.{byte_in, gathered, scattered}
 use Rattle.nv_model.specs.Judge.{WorkUnit, MoveBlock, KeepAll, Work, Verdict, Go, Refuse, ClearBlock, LeaveBlock}
 use Rattle.nv_model.specs.Limits.{block}
 use Rattle.nv_model.specs.Laws.{IsUnitWithin}
@@ -18,7 +18,7 @@ use Rattle.nv_model.proofs.Judged.{verdict-sound}
 use Rattle.nv_model.proofs.MemoryLemmas.{stored-list}
 use Rattle.nv_moves.proofs.BufferLemmas.{AreBelow-drop, AreBelow-front}
 use Rattle.nv_moves.specs.Buffer.{AreBelow, IsBelow}
-use Rattle.nv_moves.specs.Flat.{Flat, byte_in, byte_of_block, flat, moved_of}
+use Rattle.nv_moves.specs.Flat.{Flat, byte_of_block, flat, moved_of}
 use Rattle.nv_flat.specs.Laws.{HasRun}
 use Rattle.nv_flat.specs.One.{shape_of}
 use Rattle.nv_moves.proofs.MoveLemmas.{marked-set, moved, written-set}

@@ -5,13 +5,13 @@ use Rattle.nv_model.specs.Judge.{Work, Refuse, Go}
 use Rattle.nv_model.specs.Private.{AtWork, Ended, Moved, Private, moved_status, verdict_in, Taken, step, Bag, no_commands, Progress, ending, Shape}
 use Rattle.nv_model.specs.Carried.{IsCarriedOut, units_moved, at_work, this_far}
 use Rattle.nv_model.proofs.CarriedOut.{IsCarriedOut-moved, IsCarriedOut-refused}
-use Rattle.nv_moves.specs.Flat.{Flat, byte_in, moved_of, byte_of_block}
+use Rattle.nv_moves.specs.Flat.{Flat, moved_of, byte_of_block}
 use Rattle.nv_flat.specs.One.{IsOutcome, IsRun, newly_taken, private_of, shape_of, completion_posted, serving}
 use Rattle.nv_model.specs.Controller.{post}
 use Rattle.nv_model.proofs.Bags.{put-twice}
 use Rattle.nv_entry.specs.Completion.{completion}
 use Rattle.nv_entry.specs.Submission.{cid_of}
-use Rattle.nv_model.specs.Memory.{bytes_from, stored}
+use Rattle.nv_model.specs.Memory.{byte_in, bytes_from, stored}
 use Rattle.nv_model.proofs.MemoryLemmas.{bytes_from-stored}
 use Rattle.nv_entry.specs.Layout.{bits, bytes_of_dwords}
 use Rattle.std.specs.List.{slice_index_or}

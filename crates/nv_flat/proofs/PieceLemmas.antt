@@ -23,7 +23,7 @@ use Rattle.nv_model.specs.Dialogue.{Dialogue, End, Ask, in_memory}
 use Rattle.nv_model.specs.Judge.{read_by, read_source, sized}
 use Rattle.nv_model.specs.Laws.{IsMappedPiece}
 use Rattle.std.proofs.lemmas.List.{append_assoc}
-use Rattle.nv_model.specs.Memory.{bytes_from, gathered}
+use Rattle.nv_model.specs.Memory.{byte_in, bytes_from, gathered}
 use Rattle.nv_model.specs.Reading.{Reading, Faulty, TooLong, Spells, run}
 use Rattle.nv_model.specs.Sgl.{Array, array_by, behind_own, fault_by, pieces_by, read_array, read_descriptor, read_sgl}
 use Rattle.nv_model.proofs.Endings.{EndsIn, EndsIn-if, EndsIn-unless_faulty, OfPieces, in_memory-ends}
@@ -33,7 +33,7 @@ use Rattle.nv_model.proofs.MemoryLemmas.{gathered-addresses, gathered-append}
 use Rattle.nv_model.proofs.Spelled.{AreOfLen, read_prp-of_len, read_sgl-mapped}
 use Rattle.nv_moves.specs.Buffer.{AreBelow, IsBelow}
 use Rattle.nv_flat.specs.Flat.{identity_map}
-use Rattle.nv_moves.specs.Flat.{Flat, byte_in}
+use Rattle.nv_moves.specs.Flat.{Flat}
 use Rattle.nv_flat.specs.Listed.{list_reading}
 
 -- ---- in the memory

@@ -11,7 +11,7 @@ use Rattle.nv_entry.specs.declared.opcode.IoOpcode.{IoOpcode}
 use Rattle.nv_entry.specs.declared.opcode.IoOpcode.TheVariants.{Flush, Write, Read, Compare, WriteZeroes, DatasetManagement}
 use Rattle.nv_entry.specs.declared.status_code.StatusCode.TheVariants.{InternalError}
 use Rattle.nv_mem.specs.GuestMap.{mapped}
-use Rattle.nv_model.specs.Memory.{bytes_from}
+use Rattle.nv_model.specs.Memory.{byte_in, bytes_from}
 use Rattle.nv_model.specs.Queue.{cqe_size}
 use Rattle.nv_model.specs.Controller.{Controller}
 use Rattle.nv_model.specs.Judge.{count_of, field_refusal}
@@ -21,7 +21,7 @@ use Rattle.nv_model.specs.Carried.{IsCarriedOut}
 use Rattle.nv_judge.specs.declared.need.Need.{Need}
 use Rattle.nv_judge.specs.Need.{need_of}
 use Rattle.nv_flat.specs.Flat.{identity_map}
-use Rattle.nv_moves.specs.Flat.{Flat, byte_in, byte_of_block}
+use Rattle.nv_moves.specs.Flat.{Flat, byte_of_block}
 
 -- a controller with queue pair 1 behind a bring-up, from which one command was taken. The queues have few slots and lie at the memory's
 -- start; nothing depends on where they lie.

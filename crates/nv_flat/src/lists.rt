@@ -2,11 +2,10 @@
 
 ghost use Rattle.std.specs.Prelude.{◌≡◌, ◌<◌, ◌≤◌, IfOk, OnOk, length};
 ghost use Rattle.nv_model.specs.Limits.{most_bytes};
-ghost use Rattle.nv_model.specs.Memory.{bytes_from};
+ghost use Rattle.nv_model.specs.Memory.{byte_in, bytes_from};
 ghost use Rattle.nv_model.specs.Transcript.{fed};
 ghost use Rattle.nv_sgl.specs.Parse.{dialogue_of};
 ghost use Rattle.nv_model.specs.Want.{want_of};
-ghost use Rattle.nv_moves.specs.Flat.{byte_in};
 ghost use Rattle.nv_entry.specs.declared.data_pointer.DataPointer.TheVariants as pointer;
 ghost use Rattle.nv_prp.specs.Parse.{dialogue_of as prp_dialogue_of};
 ghost use Rattle.nv_flat.specs.Listed.{IsListed, IsPartThere, list_reading, reading_by};

@@ -226,3 +226,28 @@ guest_of-host (r ∷ rs) addr at apart e =
         (let inside : covers_host r (r.host + (addr - r.guest)) ≡ true = grind (arith, nat_tests) in
         let place : r.guest + (r.host + (addr - r.guest) - r.host) ≡ addr = grind (arith, nat_tests) in
         rw inside (ap (λ n. Some n) place))
+
+-- the guest address of a host address leads back to it
+pub host_of-guest : (rs : List Region) (at addr : ℕ) → AllPairs IsApart rs → guest_of rs at ≡ Some addr → host_of rs addr ≡ Some at
+host_of-guest [] at addr apart e = cc
+host_of-guest (r ∷ rs) at addr apart e =
+    (elim (covers_host r at) as (λ b. covers_host r at ≡ b → cond b (Some (r.guest + (at - r.host))) (guest_of rs at) ≡ Some addr → host_of (r ∷ rs) addr ≡ Some at) [
+      | true ↦ λ is same.
+          let here : r.guest + (at - r.host) ≡ addr = cc in
+          subst (λ a. host_of (r ∷ rs) a ≡ Some at) here (back is)
+      | false ↦ λ is same.
+          let rest = host_of-guest rs at addr (AllPairs-tail IsApart r rs apart) same in
+          host_of-other r rs addr (uncovered rest) ∙ rest
+    ]) refl e
+  where
+    back : covers_host r at ≡ true → host_of (r ∷ rs) (r.guest + (at - r.host)) ≡ Some at
+    back is =
+        (let inside : covers r (r.guest + (at - r.host)) ≡ true = grind (arith, nat_tests) in
+        let place : r.host + (r.guest + (at - r.host) - r.guest) ≡ at = grind (arith, nat_tests) in
+        rw inside (ap (λ n. Some n) place))
+
+    uncovered : host_of rs addr ≡ Some at → covers r addr ≡ false
+    uncovered rest =
+        let found = host_of-found rs addr at rest in
+        let clear : IsApart r found.0 = All-find (IsApart r) (λ s. covers s addr) rs found.0 (AllPairs-head IsApart r rs apart) found.1 in
+        covers-apart r found.0 addr clear (find-passes (λ s. covers s addr) rs found.0 found.1)

@@ -1,5 +1,5 @@
 -- Lemmas on bytes in a memory, and on the bytes that maps reach.
-use Rattle.std.proofs.Common.{◌≡◌, ℕ, ◌+◌, ◌-◌, ◌<◌, ◌≤◌, ◌⊎◌, inl, inr, Bool, true, false, List, [], ◌∷◌, ◌++◌, length, get_or, take, drop, Some, arith, refl, sym, ap, ◌∙◌, subst, cond, min, ◌||◌, append_assoc}
+use Rattle.std.proofs.Common.{◌≡◌, ℕ, ◌+◌, ◌-◌, ◌<◌, ◌≤◌, ◌⊎◌, inl, inr, Bool, true, false, List, [], ◌∷◌, ◌++◌, length, get_or, take, drop, Some, None, arith, refl, sym, ap, ◌∙◌, subst, cond, min, ◌||◌, append_assoc}
 use Rattle.std.proofs.lemmas.Bool.{cases_lt}
 use Rattle.std.proofs.lemmas.List.{length-append, length-take, length-drop, get_or_past, get_or_append_left, get_or-append_right, get_or-take, get_or-drop, same_lists}
 use Rattle.std.proofs.Math.Seq.{take-append_seam, drop-append_seam}
@@ -7,7 +7,7 @@ use Rattle.std.proofs.lemmas.Bool.Decides.{nat_tests}
 use Rattle.std.specs.List.{All, AllPairs, find, list_any}
 use Rattle.nv_mem.specs.declared.region.Region.{Region}
 use Rattle.nv_mem.specs.Bytes.{InMemory, bytes_at, after_store}
-use Rattle.nv_mem.specs.GuestMap.{Mapping, covers, covers_host, host_of, InImage, IsApart, IsSound, spans_meet, span_met, hosts_meet}
+use Rattle.nv_mem.specs.GuestMap.{Mapping, covers, covers_host, guest_of, host_of, InImage, IsApart, IsSound, spans_meet, span_met, hosts_meet}
 use Rattle.nv_mem.proofs.Images.{AllPairs-head, AllPairs-tail, All-find, find-passes, host_of-found, host_of-inside}
 
 -- ---- a memory after a store
@@ -212,3 +212,35 @@ get_or-after_store_image m memory bytes addr at sound size image outside =
         | inr high ↦ get_or-after_store_other memory bytes addr at 0 inside (inr high)
       ]
     ]
+
+-- ---- spans that meet no region
+
+-- neither of two
+neither : (p q : Bool) → (p || q) ≡ false → (p ≡ false) × (q ≡ false)
+neither true q none = cc
+neither false q none = (refl, none)
+
+-- a part of a span that is apart from another is apart from it
+spans_meet-part : (a m slot len at n : ℕ) → spans_meet a m slot len ≡ false → slot ≤ at → at + n ≤ slot + len → spans_meet a m at n ≡ false
+spans_meet-part a m slot len at n clear low high = grind (arith, nat_tests)
+
+-- a part of a span that meets no region meets none
+pub span_met-part : (rs : List Region) (slot len at n : ℕ) → span_met rs slot len ≡ false → slot ≤ at → at + n ≤ slot + len → span_met rs at n ≡ false
+span_met-part [] slot len at n clear low high = refl
+span_met-part (r ∷ rs) slot len at n clear low high =
+    let both = neither (spans_meet r.host r.len slot len) (span_met rs slot len) clear in
+    let here = spans_meet-part r.host r.len slot len at n both.0 low high in
+    let rest = span_met-part rs slot len at n both.1 low high in
+    rw (here, rest) refl
+
+-- an address of a span that is apart from a region is not in the region
+covers_host-clear : (r : Region) (slot len at : ℕ) → spans_meet r.host r.len slot len ≡ false → slot ≤ at → at < slot + len → covers_host r at ≡ false
+covers_host-clear r slot len at clear low high = grind (arith, nat_tests)
+
+-- an address of a span that meets no region is nowhere in the guest's memory
+pub guest_of-clear : (rs : List Region) (slot len at : ℕ) → span_met rs slot len ≡ false → slot ≤ at → at < slot + len → guest_of rs at ≡ None
+guest_of-clear [] slot len at clear low high = refl
+guest_of-clear (r ∷ rs) slot len at clear low high =
+    let both = neither (spans_meet r.host r.len slot len) (span_met rs slot len) clear in
+    let here = covers_host-clear r slot len at both.0 low high in
+    rw here (guest_of-clear rs slot len at both.1 low high)

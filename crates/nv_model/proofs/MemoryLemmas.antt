@@ -1,5 +1,5 @@
 -- Memory as a function: what bytes read, gathered, stored and scattered are to each other, and to a memory that is a list of bytes
-use Rattle.std.proofs.Common.{◌≡◌, ℕ, zero, suc, ◌+◌, ◌-◌, ◌<◌, ◌≤◌, List, [], ◌∷◌, ◌++◌, length, slice_index, get_or, take, drop, replicate, refl, sym, ap, ◌∙◌, arith, drop-cons, inl, inr}
+use Rattle.std.proofs.Common.{◌≡◌, ℕ, zero, suc, ◌+◌, ◌-◌, ◌<◌, ◌≤◌, ◌⊎◌, List, [], ◌∷◌, ◌++◌, length, slice_index, get_or, take, drop, replicate, refl, sym, ap, ◌∙◌, arith, drop-cons, inl, inr}
 use Rattle.std.proofs.lemmas.Bool.{cases_lt}
 use mathlib.Core.Path.{fun_ext}
 use Rattle.std.proofs.lemmas.Bool.Decides.{nat_tests}
@@ -50,8 +50,7 @@ stored-cons_at m addr b bs at = grind (arith, nat_tests, get_or_front b bs)
     get_or_front b bs zero h = absurd (omega arith)
     get_or_front b bs (suc k) h = ap (λ (n : ℕ). get_or bs n 0) (omega arith)
 
-stored-cons : (m : ℕ → ℕ) (addr b : ℕ) (bs : List ℕ)
-    → stored (stored m addr (b ∷ [])) (suc addr) bs ≡ stored m addr (b ∷ bs)
+pub stored-cons : (m : ℕ → ℕ) (addr b : ℕ) (bs : List ℕ) → stored (stored m addr (b ∷ [])) (suc addr) bs ≡ stored m addr (b ∷ bs)
 stored-cons m addr b bs = fun_ext (stored-cons_at m addr b bs)
 
 -- nothing is stored
@@ -141,7 +140,57 @@ stored-at_offset memory addr bytes i below =
     grind (arith, nat_tests, same)
 
 -- bytes that are stored are read back from where they were stored
-pub bytes_from-stored : (memory : ℕ → ℕ) (addr : ℕ) (bytes : List ℕ)
-    → bytes_from (stored memory addr bytes) addr (length bytes) ≡ bytes
-bytes_from-stored memory addr bytes =
-    bytes_from-each (stored memory addr bytes) addr bytes (stored-at_offset memory addr bytes)
+pub bytes_from-stored : (memory : ℕ → ℕ) (addr : ℕ) (bytes : List ℕ) → bytes_from (stored memory addr bytes) addr (length bytes) ≡ bytes
+bytes_from-stored memory addr bytes = bytes_from-each (stored memory addr bytes) addr bytes (stored-at_offset memory addr bytes)
+
+-- ---- stretches one behind the other
+
+-- a byte among those that are stored
+pub stored-inside : (m : ℕ → ℕ) (addr : ℕ) (bytes : List ℕ) (at : ℕ) → addr ≤ at → at < addr + length bytes → stored m addr bytes at ≡ slice_index bytes (at - addr)
+unfolding stored
+stored-inside m addr bytes at low high = grind (arith, nat_tests)
+
+-- and one that isn't
+pub stored-outside : (m : ℕ → ℕ) (addr : ℕ) (bytes : List ℕ) (at : ℕ) → (at < addr) ⊎ (addr + length bytes ≤ at) → stored m addr bytes at ≡ m at
+unfolding stored
+stored-outside m addr bytes at (inl low) = grind (arith, nat_tests)
+stored-outside m addr bytes at (inr high) = grind (arith, nat_tests)
+
+-- bytes stored one behind the other
+pub stored-append : (m : ℕ → ℕ) (addr : ℕ) (xs ys : List ℕ) → stored (stored m addr xs) (addr + length xs) ys ≡ stored m addr (xs ++ ys)
+stored-append m addr [] ys =
+    let e : addr + 0 ≡ addr = omega arith in
+    ap (λ (a : ℕ). stored (stored m addr []) a ys) e ∙ ap (λ (h : ℕ → ℕ). stored h addr ys) (stored-nil m addr)
+stored-append m addr (x ∷ xs) ys =
+    let e : addr + suc (length xs) ≡ suc addr + length xs = omega arith in
+    ap (λ (a : ℕ). stored (stored m addr (x ∷ xs)) a ys) e
+    ∙ ap (λ (h : ℕ → ℕ). stored h (suc addr + length xs) ys) (sym (stored-cons m addr x xs))
+    ∙ stored-append (stored m addr (x ∷ [])) (suc addr) xs ys
+    ∙ stored-cons m addr x (xs ++ ys)
+
+-- two stretches one behind the other
+pub bytes_from-append : (m : ℕ → ℕ) (addr n k : ℕ) → bytes_from m addr (n + k) ≡ bytes_from m addr n ++ bytes_from m (addr + n) k
+unfolding bytes_from
+bytes_from-append m addr zero k =
+    let none : zero + k ≡ k = omega arith in
+    let same : addr ≡ addr + zero = omega arith in
+    ap (bytes_from m addr) none ∙ ap (λ (a : ℕ). bytes_from m a k) same
+bytes_from-append m addr (suc n) k =
+    let more : suc n + k ≡ suc (n + k) = omega arith in
+    let e : suc addr + n ≡ addr + suc n = omega arith in
+    ap (bytes_from m addr) more
+    ∙ ap (λ (bytes : List ℕ). m addr ∷ bytes) (bytes_from-append m (suc addr) n k ∙ ap (λ (a : ℕ). bytes_from m (suc addr) n ++ bytes_from m a k) e)
+
+-- stretches of two memories that are the same byte by byte
+pub bytes_from-same : (f g : ℕ → ℕ) (a b n : ℕ) → ((i : ℕ) → i < n → f (a + i) ≡ g (b + i)) → bytes_from f a n ≡ bytes_from g b n
+unfolding bytes_from
+bytes_from-same f g a b zero each = refl
+bytes_from-same f g a b (suc n) each =
+    let from : a ≡ a + 0 = omega arith in
+    let to : b + 0 ≡ b = omega arith in
+    let first : f a ≡ g b = ap f from ∙ each 0 (omega arith) ∙ ap g to in
+    let rest = bytes_from-same f g (suc a) (suc b) n (λ i below.
+    let from : suc a + i ≡ a + suc i = omega arith in
+    let to : b + suc i ≡ suc b + i = omega arith in
+    ap f from ∙ each (suc i) (omega arith) ∙ ap g to) in
+    rw (first, rest) refl

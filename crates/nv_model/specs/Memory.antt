@@ -30,6 +30,12 @@ scattered memory (place ∷ places) [] = memory
 scattered memory (At addr ∷ places) (byte ∷ bytes) = scattered (stored memory addr (byte ∷ [])) places bytes
 scattered memory (Bucket ∷ places) (byte ∷ bytes) = scattered memory places bytes
 
+-- ---- a memory that is a list of bytes
+
+-- the byte at an address
+unfoldable pub byte_in : List ℕ → ℕ → ℕ
+byte_in memory addr = slice_index memory addr
+
 -- ---- a part of the host's memory
 
 -- the byte at a host address, where there is one

@@ -8,8 +8,7 @@ use Rattle.nv_mem.specs.Places.{Place, At, Bucket, addresses, places_of, places_
 use Rattle.nv_mem.specs.declared.piece.Piece.{Piece}
 use Rattle.nv_mem.proofs.PlaceLists.{length-places_of_piece}
 use Rattle.nv_moves.specs.Buffer.{AreBelow, IsBelow, IsFront}
-use Rattle.nv_moves.specs.Flat.{byte_in}
-use Rattle.nv_model.specs.Memory.{bytes_from, scattered, gathered, stored}
+use Rattle.nv_model.specs.Memory.{byte_in, bytes_from, gathered, scattered, stored}
 use Rattle.nv_model.proofs.MemoryLemmas.{bytes_from-list, gathered-addresses, gathered-append, scattered-addresses, scattered-append, stored-list}
 
 -- ---- places below a size

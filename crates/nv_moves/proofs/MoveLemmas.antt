@@ -11,13 +11,13 @@ use Rattle.std.proofs.lemmas.Bool.Decides.{nat_tests}
 use Rattle.nv_entry.specs.declared.opcode.IoOpcode.TheVariants.{Compare, Read, Write}
 use Rattle.nv_mem.specs.Places.{Place, places_of}
 use Rattle.nv_mem.specs.declared.piece.Piece.{Piece}
-use Rattle.nv_model.specs.Memory.{gathered, scattered, stored}
+use Rattle.nv_model.specs.Memory.{byte_in, gathered, scattered, stored}
 use Rattle.nv_model.proofs.MemoryLemmas.{bytes_from-list}
 use Rattle.nv_model.specs.Judge.{Work, MoveBlock}
 use Rattle.nv_model.specs.Private.{Moved, block_bytes, block_written, differs, marked}
 use Rattle.nv_model.specs.Carried.{block_work, cleared, cleared_one, moved_on, units_from, units_moved}
 use Rattle.nv_model.proofs.UnitWords.{or-false}
-use Rattle.nv_moves.specs.Flat.{byte_in, byte_of_block, flat, moved_of}
+use Rattle.nv_moves.specs.Flat.{byte_of_block, flat, moved_of}
 use Rattle.nv_moves.proofs.BufferLemmas.{scattered-take}
 
 -- equal in each part

@@ -6,11 +6,11 @@ use Rattle.std.proofs.Math.Seq.{drop-cons}
 use Rattle.nv_entry.specs.declared.opcode.IoOpcode.TheVariants.{Compare, Read}
 use Rattle.nv_mem.specs.Places.{Place, places_of}
 use Rattle.nv_mem.specs.declared.piece.Piece.{Piece}
-use Rattle.nv_model.specs.Memory.{gathered, scattered}
+use Rattle.nv_model.specs.Memory.{byte_in, gathered, scattered}
 use Rattle.nv_model.proofs.MemoryLemmas.{gathered-append, length-gathered, scattered-append}
 use Rattle.nv_model.specs.Private.{block_bytes, differs, marked}
 use Rattle.nv_model.specs.Carried.{block_work, units_from, units_moved}
-use Rattle.nv_moves.specs.Flat.{byte_in, byte_of_block, flat, moved_of}
+use Rattle.nv_moves.specs.Flat.{byte_of_block, flat, moved_of}
 use Rattle.nv_moves.specs.Marks.{mark_of, raised}
 use Rattle.nv_moves.proofs.BufferLemmas.{scattered-no_bytes}
 use Rattle.nv_moves.proofs.MoveLemmas.{block_bytes-list, marks-raised, marks-same, moved}

@@ -9,7 +9,8 @@ use mathlib.Core.Path.{fun_ext}
 use Rattle.nv_model.specs.Judge.{KeepAll, Work}
 use Rattle.nv_model.specs.Carried.{moved_on}
 use Rattle.nv_model.proofs.UnitWords.{or-false}
-use Rattle.nv_moves.specs.Flat.{byte_in, byte_of_block, flat, moved_of}
+use Rattle.nv_model.specs.Memory.{byte_in}
+use Rattle.nv_moves.specs.Flat.{byte_of_block, flat, moved_of}
 use Rattle.nv_moves.proofs.MoveLemmas.{moved}
 
 -- every block kept

@@ -1,16 +1,13 @@
 -- Memory, the bytes of blocks, and their marks, as lists, and what they mean to the private controller
 use Rattle.std.specs.Prelude.{ℕ, Bool, false, List, [], slice_index}
 use Rattle.std.specs.List.{slice_index_or}
+use Rattle.nv_model.specs.Memory.{byte_in}
 use Rattle.nv_model.specs.Private.{Moved}
 
 pub record Flat : Type 0 where
   pub memory : List ℕ
   pub disk : List (List ℕ)
   pub kept : List Bool
-
--- the byte at an address of a memory that is a list of bytes
-unfoldable pub byte_in : List ℕ → ℕ → ℕ
-byte_in memory addr = slice_index memory addr
 
 -- the byte of a block
 abbrev pub byte_of_block : List (List ℕ) → (lba offset : ℕ) → ℕ

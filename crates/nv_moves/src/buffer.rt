@@ -2,11 +2,10 @@
 
 ghost use Rattle.std.specs.Prelude.{◌≡◌, ◌++◌, ◌+◌, ◌<◌, ◌≤◌, ◌^◌, ◌==◌, [], ℕ, length, not, take, drop, min, MatchOption};
 ghost use Rattle.std.specs.List.{list_any};
-ghost use Rattle.nv_model.specs.Memory.{gathered, scattered};
+ghost use Rattle.nv_model.specs.Memory.{byte_in, gathered, scattered};
 ghost use Rattle.nv_model.specs.Private.{differs};
 ghost use Rattle.nv_mem.specs.Places.{piece_len, places_of, places_of_piece};
 ghost use Rattle.nv_moves.specs.Buffer.{AreBelow, IsFront};
-ghost use Rattle.nv_moves.specs.Flat.{byte_in};
 
 use nv_mem::{Host, Piece, Places};
 use std::marker::Model;

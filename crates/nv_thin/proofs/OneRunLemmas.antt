@@ -21,12 +21,11 @@ use Rattle.nv_ns.specs.BlockRange.{in_namespace}
 use Rattle.nv_model.specs.Dialogue.{Dialogue, End, and_then, in_memory}
 use Rattle.nv_model.specs.Judge.{count_of, field_refusal, has_blocks, has_buffer, is_read, judge_reading, read_by, refusal_by_opcode, sized, transfer_len}
 use Rattle.nv_model.specs.Limits.{most_blocks}
-use Rattle.nv_model.specs.Memory.{scattered, gathered}
+use Rattle.nv_model.specs.Memory.{byte_in, gathered, scattered}
 use Rattle.nv_model.specs.Private.{Shape, verdict_in}
 use Rattle.nv_model.specs.Reading.{Reading, Faulty, Spells, first_failing, run, unless_faulty}
 use Rattle.nv_model.specs.Sgl.{array_by, behind_own, fault_by, pieces_by, read_array, read_sgl}
 use Rattle.nv_flat.specs.Flat.{identity_map}
-use Rattle.nv_moves.specs.Flat.{byte_in}
 use Rattle.nv_moves.proofs.BufferLemmas.{gathered-run, run-split, scattered-run, scattered-take}
 use Rattle.nv_flat.proofs.VerdictLemmas.{verdict-listed}
 

@@ -14,10 +14,10 @@ use Rattle.nv_mem.specs.Places.{Place, addresses, places_of}
 use Rattle.nv_mem.specs.declared.piece.Piece.TheVariants.{Run}
 use Rattle.nv_model.specs.Carried.{block_work, moved_on, units_from, units_moved}
 use Rattle.nv_model.specs.Judge.{Work, MoveBlock, count_of}
-use Rattle.nv_model.specs.Memory.{bytes_from, gathered, scattered, stored}
+use Rattle.nv_model.specs.Memory.{byte_in, bytes_from, gathered, scattered, stored}
 use Rattle.nv_model.specs.Private.{Moved, block_bytes, block_written, marked}
 use Rattle.nv_model.proofs.MemoryLemmas.{bytes_from-list, gathered-addresses, scattered-addresses, stored-list, stored-nil}
-use Rattle.nv_moves.specs.Flat.{Flat, byte_in, flat, moved_of}
+use Rattle.nv_moves.specs.Flat.{Flat, flat, moved_of}
 use Rattle.nv_thin.specs.Thin.{IsPhysical, carried, copied, guests_view}
 use Rattle.nv_thin.proofs.OneRunLemmas.{take-drop-addresses}
 

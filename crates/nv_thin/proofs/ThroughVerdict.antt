@@ -28,7 +28,8 @@ use Rattle.nv_model.specs.declared.want.Want.{Want}
 use Rattle.nv_model.specs.declared.want.Want.TheVariants as want
 use Rattle.nv_model.specs.Want.{want_of}
 use Rattle.nv_flat.specs.Flat.{identity_map}
-use Rattle.nv_moves.specs.Flat.{Flat, byte_in, moved_of}
+use Rattle.nv_model.specs.Memory.{byte_in}
+use Rattle.nv_moves.specs.Flat.{Flat, moved_of}
 use Rattle.nv_flat.specs.One.{IsDone, IsOutcome, shape_of}
 use Rattle.nv_flat.proofs.OneLemmas.{moved-run, outcome-built, outcome-refused, refused-run}
 use Rattle.nv_flat.proofs.VerdictLemmas.{field_verdict-err, field_verdict-ok, in-namespace, verdict-refused}

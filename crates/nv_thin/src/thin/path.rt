@@ -15,7 +15,8 @@ ghost use Rattle.nv_model.specs.Limits.{block as block_size, most_descriptors, p
 ghost use Rattle.nv_model.specs.Reading.{Faulty, Spells};
 ghost use Rattle.nv_model.specs.Sgl.{read_sgl};
 ghost use Rattle.nv_flat.specs.Flat.{identity_map};
-ghost use Rattle.nv_moves.specs.Flat.{byte_in, flat, moved_of};
+ghost use Rattle.nv_model.specs.Memory.{byte_in};
+ghost use Rattle.nv_moves.specs.Flat.{flat, moved_of};
 ghost use Rattle.nv_flat.specs.One.{IsDone, most_plain_blocks};
 ghost use Rattle.nv_thin.specs.Thin.{IsSameBefore, bounce_page, copied, first_block, goes_through};
 

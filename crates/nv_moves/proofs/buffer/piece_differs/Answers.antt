@@ -1,8 +1,7 @@
 use Rattle.std.proofs.Common.{◌+◌, ◌≤◌, ℕ, List, length, replicate, ap, sym, ◌∙◌}
 use Rattle.nv_mem.specs.Places.{places_of_piece, piece_len}
-use Rattle.nv_model.specs.Memory.{gathered}
+use Rattle.nv_model.specs.Memory.{byte_in, gathered}
 use Rattle.nv_model.specs.Private.{differs}
-use Rattle.nv_moves.specs.Flat.{byte_in}
 use Rattle.nv_moves.proofs.BufferLemmas.{addresses-below, gathered-buckets, gathered-run}
 use Rattle.nv_moves.proofs.CompareLemmas.{differs-zeros}
 use Rattle.nv_moves.proofs.MoveLemmas.{differs-pointwise}

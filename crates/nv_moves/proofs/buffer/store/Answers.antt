@@ -1,8 +1,7 @@
 use Rattle.std.proofs.Common.{◌≡◌, ℕ, length, arith, ap, sym, ◌∙◌}
 use Rattle.nv_mem.specs.Places.{addresses, places_of_piece, piece_len}
-use Rattle.nv_model.specs.Memory.{scattered}
+use Rattle.nv_model.specs.Memory.{byte_in, scattered}
 use Rattle.nv_model.proofs.MemoryLemmas.{scattered-buckets}
-use Rattle.nv_moves.specs.Flat.{byte_in}
 use Rattle.nv_moves.proofs.BufferLemmas.{addresses-below, scattered-run}
 use Rattle.nv_moves.proofs.buffer.store.Goals as goal
 

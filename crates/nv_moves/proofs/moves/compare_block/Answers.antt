@@ -1,8 +1,7 @@
 use Rattle.std.proofs.Common.{ℕ, [], refl, sym, ap, ◌∙◌, take}
 use Rattle.std.specs.List.{slice_index_or}
-use Rattle.nv_model.specs.Memory.{gathered}
+use Rattle.nv_model.specs.Memory.{byte_in, gathered}
 use Rattle.nv_model.specs.Private.{differs}
-use Rattle.nv_moves.specs.Flat.{byte_in}
 use Rattle.nv_moves.proofs.MoveLemmas.{compare-moved}
 use Rattle.nv_moves.proofs.moves.compare_block.Goals as goal
 

@@ -1,5 +1,5 @@
 use Rattle.std.proofs.Common.{sym}
-use Rattle.nv_moves.specs.Flat.{byte_in}
+use Rattle.nv_model.specs.Memory.{byte_in}
 use Rattle.nv_moves.proofs.ReadLemmas.{compare-moved_all, differs-blocks, raised-same}
 use Rattle.nv_moves.proofs.moves.compare_blocks.Goals as goal
 

@@ -1,6 +1,5 @@
 use Rattle.std.proofs.Common.{ap, sym, ◌∙◌}
-use Rattle.nv_model.specs.Memory.{scattered}
-use Rattle.nv_moves.specs.Flat.{byte_in}
+use Rattle.nv_model.specs.Memory.{byte_in, scattered}
 use Rattle.nv_moves.proofs.ReadLemmas.{joined-blocks, raised-same, read-moved_all}
 use Rattle.nv_moves.proofs.moves.read_blocks.Goals as goal
 

@@ -1,7 +1,7 @@
 use Rattle.std.proofs.Common.{◌≡◌, ◌≤◌, ◌<◌, ◌^◌, ℕ, true, not, List, length, Some, sym, ap, subst, ◌∙◌, arith, set}
 use Rattle.std.proofs.lemmas.List.{length-set}
 use Rattle.nv_model.specs.Queue.{is_empty}
-use Rattle.nv_moves.specs.Flat.{byte_in}
+use Rattle.nv_model.specs.Memory.{byte_in}
 use Rattle.nv_world_model.specs.Area.{lane_start}
 use Rattle.nv_world_model.specs.Device.{DeviceLane, Held, held_of}
 use Rattle.nv_device.specs.Physical.{IsHeld, Physical, lane_of}

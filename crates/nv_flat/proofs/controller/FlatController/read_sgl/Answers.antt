@@ -1,10 +1,10 @@
 use Rattle.std.proofs.Common.{◌≡◌, Some, length, sym, ap, subst, ◌∙◌}
-use Rattle.nv_model.specs.Memory.{bytes_from}
+use Rattle.nv_model.specs.Memory.{byte_in, bytes_from}
 use Rattle.nv_model.specs.Transcript.{fed}
 use Rattle.nv_sgl.specs.Parse.{dialogue_of}
 use Rattle.nv_sgl.proofs.Shown.{in_memory-fed}
 use Rattle.nv_flat.specs.Flat.{identity_map}
-use Rattle.nv_moves.specs.Flat.{Flat, byte_in}
+use Rattle.nv_moves.specs.Flat.{Flat}
 use Rattle.nv_flat.specs.Listed.{IsPartThere, refusal_of_reading}
 use Rattle.nv_flat.proofs.ListLemmas.{IsReading-more, IsReading-there, reading-done, reading-fault, reading-too_long, IsReading-start_sgl}
 use Rattle.nv_flat.proofs.controller.FlatController.read_sgl.Goals as goal

@@ -1,9 +1,8 @@
 use Rattle.std.proofs.Common.{◌||◌, Bool, length, ap, sym, ◌∙◌, arith}
 use Rattle.std.proofs.lemmas.Bool.Decides.{nat_tests}
 use Rattle.nv_mem.specs.Places.{places_of_piece}
-use Rattle.nv_model.specs.Memory.{gathered}
+use Rattle.nv_model.specs.Memory.{byte_in, gathered}
 use Rattle.nv_model.specs.Private.{differs}
-use Rattle.nv_moves.specs.Flat.{byte_in}
 use Rattle.nv_moves.proofs.CompareLemmas.{IsComparing-end, IsComparing-more}
 use Rattle.nv_moves.proofs.buffer.Buffer.differs.Goals as goal
 

@@ -1,5 +1,5 @@
 use Rattle.std.proofs.Common.{length}
-use Rattle.nv_moves.specs.Flat.{byte_in}
+use Rattle.nv_model.specs.Memory.{byte_in}
 use Rattle.nv_moves.proofs.CompareLemmas.{IsComparing}
 use Rattle.nv_moves.proofs.buffer.Buffer.differs.Given as goal
 

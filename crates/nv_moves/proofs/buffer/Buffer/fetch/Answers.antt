@@ -5,7 +5,7 @@ use Rattle.nv_mem.specs.Places.{Place, piece_len, places_of_piece}
 use Rattle.nv_mem.proofs.PlaceLists.{length-places_of_piece}
 use Rattle.nv_model.proofs.MemoryLemmas.{length-gathered}
 use Rattle.nv_moves.specs.Buffer.{AreBelow}
-use Rattle.nv_moves.specs.Flat.{byte_in}
+use Rattle.nv_model.specs.Memory.{byte_in}
 use Rattle.nv_moves.proofs.BufferLemmas.{AreBelow-drop, AreBelow-more, IsFetching, IsFetching-more, IsFront-below, gathered-none}
 use Rattle.nv_moves.proofs.buffer.Buffer.fetch.Goals as goal
 

@@ -1,5 +1,5 @@
 use Rattle.std.proofs.Common.{length, ◌-◌}
-use Rattle.nv_moves.specs.Flat.{byte_in}
+use Rattle.nv_model.specs.Memory.{byte_in}
 use Rattle.nv_moves.proofs.BufferLemmas.{IsFetching}
 use Rattle.nv_moves.proofs.buffer.Buffer.fetch.Given as goal
 

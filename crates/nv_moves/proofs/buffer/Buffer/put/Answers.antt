@@ -1,6 +1,6 @@
 use Rattle.std.proofs.Common.{◌≡◌, ◌^◌, length, drop, arith, ap, sym, ◌∙◌}
 use Rattle.std.proofs.lemmas.Bool.Decides.{nat_tests}
-use Rattle.nv_moves.specs.Flat.{byte_in}
+use Rattle.nv_model.specs.Memory.{byte_in}
 use Rattle.nv_moves.proofs.BufferLemmas.{AreBelow-more, IsFront-below, IsPutting-more, drop-nil, scattered-no_bytes, scattered-no_places}
 use Rattle.nv_moves.proofs.buffer.Buffer.put.Goals as goal
 

@@ -3,7 +3,7 @@ use Rattle.nv_entry.specs.Submission.{sgl_of}
 use Rattle.nv_sgl.specs.Parse.{dialogue_of}
 use Rattle.nv_model.specs.Want.{want_of}
 use Rattle.nv_flat.specs.Flat.{identity_map}
-use Rattle.nv_moves.specs.Flat.{byte_in}
+use Rattle.nv_model.specs.Memory.{byte_in}
 use Rattle.nv_thin.proofs.BehindLemmas.{sizes}
 use Rattle.nv_thin.proofs.ThroughVerdict.{dialogue-behind, ends-done, ends-fault, ends-otherwise, own-ends, own_dialogue}
 use Rattle.nv_thin.proofs.thin.Thin.list_refusal.Goals as goal

@@ -2,7 +2,7 @@ use Rattle.std.proofs.Common.{◌∙◌, ◌+◌, ◌*◌, ◌∷◌, [], ap, ar
 use Rattle.std.specs.List.{slice_index_or}
 use Rattle.nv_mem.specs.Places.{places_of}
 use Rattle.nv_mem.specs.declared.piece.Piece.TheVariants.{Run}
-use Rattle.nv_moves.specs.Flat.{byte_in}
+use Rattle.nv_model.specs.Memory.{byte_in}
 use Rattle.nv_moves.proofs.MoveLemmas.{marks-raised, marks-same, read-moved}
 use Rattle.nv_thin.proofs.BehindLemmas.{page-apart}
 use Rattle.nv_thin.proofs.OneRunLemmas.{scattered-block}

@@ -1,0 +1,4 @@
+pub mod Copies
+pub mod Gathered
+pub mod Outcomes
+pub mod Scattered

@@ -1,0 +1,39 @@
+use Rattle.std.proofs.Common.{◌+◌, ◌-◌, ◌<◌, ◌≤◌, ◌^◌, arith}
+use Rattle.nv_bounce.specs.Bounce.{gathered_to}
+use Rattle.nv_bounce.proofs.Copies.{IsAtRow-end, IsAtRow-first}
+use Rattle.nv_mem.proofs.MappedRuns.{mapped-below, mapped-none, run-inside}
+use Rattle.nv_bounce.proofs.Gathered.{gathered-next, gathering-in_order}
+use Rattle.nv_bounce.proofs.gathering.gather_run.Goals as goal
+
+pub loop-done-init : goal.loop-done-init
+loop-done-init c = IsAtRow-first (gathered_to c.args.map.now.regions) c.args.host.now c.args.to c.args.addr c.args.len
+
+pub overflow_add-addr : goal.overflow_add-addr
+overflow_add-addr c =
+    let below : c.args.addr + c.loop-done.done < 2 ^ 64 =
+    mapped-below c.args.map.now c.args.addr c.args.len c.loop-done.done c.host_len-host_len.ensures.sound c.requires.mapped c.loop-done-test.true in
+    omega arith
+
+pub returns-in_default-clause-bytes : goal.returns-in_default-clause-bytes
+returns-in_default-clause-bytes c =
+    absurd (mapped-none c.args.map.now.regions c.args.addr c.args.len c.loop-done.done c.requires.mapped c.loop-done-test.true c.in_default.ensures)
+
+pub copy-requires-clause-from : goal.copy-requires-clause-from
+copy-requires-clause-from c = λ some.
+    let inside : c.in-Some.from + c.in-Some.n ≤ c.args.map.now.host_len =
+    run-inside c.args.map.now (c.args.addr + c.loop-done.done) (c.args.len - c.loop-done.done) c.in-Some.from c.in-Some.n
+    c.host_len-host_len.ensures.sound c.in-Some.ensures in
+    let size = c.loop-done.invariant.size in
+    let host = c.requires.host in
+    omega arith
+
+pub loop-done-preserved : goal.loop-done-preserved
+loop-done-preserved c =
+    gathered-next c.args.map.now c.args.host.now c.loop-done.host c.copy.new.self c.args.to c.args.addr c.args.len c.loop-done.done
+    c.in-Some.from c.in-Some.n c.host_len-host_len.ensures.sound c.requires.host c.requires.apart c.requires.inside
+    c.loop-done.invariant c.loop-done-test.true c.in-Some.ensures c.copy.ensures.bytes c.copy.ensures.len
+
+pub returns-clause-bytes : goal.returns-clause-bytes
+returns-clause-bytes c =
+    IsAtRow-end (gathered_to c.args.map.now.regions) c.args.host.now c.args.to c.args.addr c.args.len c.loop-done.host c.loop-done.done
+    (gathering-in_order c.args.map.now.regions c.args.to c.args.len c.requires.apart) c.loop-done.invariant c.loop-done-test.false

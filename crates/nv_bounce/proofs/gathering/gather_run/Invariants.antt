@@ -1,0 +1,10 @@
+use Rattle.std.proofs.Common.{◌-◌}
+use Rattle.nv_bounce.specs.Bounce.{gathered_to}
+use Rattle.nv_bounce.proofs.Copies.{IsAtRow}
+use Rattle.nv_bounce.proofs.gathering.gather_run.Given as goal
+
+abbrev pub invariant-loop-done : goal.invariant-loop-done
+invariant-loop-done l = IsAtRow (gathered_to l.map.regions) l.fn.host l.to l.addr l.len l.host l.done
+
+abbrev pub decreases-loop-done : goal.decreases-loop-done
+decreases-loop-done l = l.len - l.done

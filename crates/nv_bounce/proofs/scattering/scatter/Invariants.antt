@@ -1,0 +1,8 @@
+use Rattle.std.proofs.Common.{drop}
+use Rattle.nv_bounce.specs.Bounce.{scattered_from}
+use Rattle.nv_bounce.proofs.Copies.{IsAtPiece}
+use Rattle.nv_bounce.proofs.scattering.scatter.Given as goal
+
+abbrev pub invariant-loop-piece : goal.invariant-loop-piece
+invariant-loop-piece l =
+    IsAtPiece (scattered_from l.map.regions) l.fn.host l.slot l.piece-items l.host l.from (drop l.piece-index l.piece-items)

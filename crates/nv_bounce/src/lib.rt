@@ -1,0 +1,23 @@
+//! Copies between a guest's places and the mediator's own pages of the host's memory.
+//!
+//! A slot is a stretch of the host's memory that no guest's map has, as long as the transfer. [`gather`] copies the bytes at a guest's
+//! places to a slot, and [`scatter`] copies the bytes of a slot to a guest's places: the bytes are in the order in which the guest's
+//! list names their places, without gaps. A Bit Bucket (Base Specification 2.0, "SGL Bit Bucket descriptor") discards its bytes of
+//! the slot, and an address that is named twice keeps the last byte meant for it.
+//!
+//! [`laws`] states what the copies come to: a gather changes nothing for the guest, a scatter nothing for anyone else, and what was
+//! gathered can be scattered back.
+//!
+//! A caller tests the conditions of a copy by [`nv_mem::GuestMap::host_len`], [`are_mapped`], [`name_no_bucket`], [`total_len`],
+//! [`nv_mem::Host::holds`] and [`nv_mem::GuestMap::meets_host`]. Bytes move in whole runs that lie in a row in the host, and nothing
+//! here takes memory.
+#![tactic(auto)]
+
+mod gathering;
+pub mod laws;
+mod pieces;
+mod scattering;
+
+pub use gathering::gather;
+pub use pieces::{are_mapped, name_no_bucket, total_len};
+pub use scattering::scatter;
