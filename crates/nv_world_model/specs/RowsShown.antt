@@ -149,3 +149,8 @@ disk_refused disk_blocks base blocks =
 -- a guest with this limit of descriptors
 abbrev pub guest_with_limit : (limit : ℕ) → Guest
 guest_with_limit limit = record (guest_at 0x100000 1000) { limit = limit }
+
+-- why a set-up whose guests' maps were made for another host is refused
+abbrev pub refused_of_another_host : (map_bytes : ℕ) → Option Refusal
+refused_of_another_host map_bytes =
+    refusal_of (record (sized map_bytes 1 0x400000 (first_guest ∷ [])) { host_bytes = 0x1000000 })

@@ -1,10 +1,12 @@
 //! How far a guest's private controller has its commands, and the marks that they leave.
 
 ghost use Rattle.std.specs.Prelude.{◌≡◌, [], ◌∷◌, ◌++◌, true, false, Some, None};
+ghost use Rattle.nv_model.specs.declared.act.Act.TheVariants as act;
 ghost use Rattle.nv_model.specs.Rows.{block_range, by_sgl, data_block, first_example};
 ghost use Rattle.nv_world_model.specs.Rows.{behind, in_device, moves, one_command, whole};
 ghost use Rattle.nv_world_model.specs.RowsSteps.{how_far};
 ghost use Rattle.nv_world_model.specs.RowsWorlds.{list_in_device, two_ranges};
+ghost use Rattle.nv_world_model.specs.World.{Free, tag_of};
 ghost use Rattle.nv_world_model.specs.declared.event.Event.TheVariants as event;
 
 /// The examples of this module, a clause each.
@@ -35,4 +37,8 @@ pub fn examples()
     // Write Zeroes without FUA leaves its blocks without a mark, and the others with theirs.
     ensures write_zeroes_takes_the_mark { behind (event.Keep 1005 ∷ event.Keep 1006 ∷ event.Keep 1007 ∷ whole 2) (one_command (by_sgl 0x08 5 1 (data_block 0x3000 1024)))
         (λ w. w.kept 1005 ∷ w.kept 1006 ∷ w.kept 1007 ∷ []) ≡ false ∷ false ∷ true ∷ [] }
+    // A command that runs out after a reset is gone, too.
+    ensures run_out { behind
+        (in_device ++ event.Guest 0 (act.RegWrite 0x14 0x00460000) ∷ moves 1 ++ event.DevPost 0 0 ∷ event.Reap 0 ∷ event.Post 0 0 ∷ [])
+        (one_command first_example) (λ w. tag_of w 0 0) ≡ Some Free }
 {}

@@ -2,7 +2,7 @@
 
 ghost use Rattle.std.specs.Prelude.{◌≡◌, [], ◌∷◌, ◌++◌, Some, None};
 ghost use Rattle.nv_world_model.specs.Rows.{guest_at};
-ghost use Rattle.nv_world_model.specs.RowsShown.{disk_refused, first_guest, guest_of_regions, guest_with_limit, guests_refused, refused, second_guest, small_guests};
+ghost use Rattle.nv_world_model.specs.RowsShown.{disk_refused, first_guest, guest_of_regions, guest_with_limit, guests_refused, refused, refused_of_another_host, second_guest, small_guests};
 ghost use Rattle.nv_world_model.specs.SetUp.{BadSize, MapsMeet, RangesMeet, TooManyGuests};
 
 /// The examples of this module, a clause each.
@@ -80,4 +80,10 @@ pub fn examples()
     ensures ranges_come_before_sizes { refused 0x1000000 0 0x400000 (first_guest ∷ guest_at 0x200000 1063 ∷ []) ≡ Some RangesMeet }
     // Maps that meet come before sizes: nine lanes, whose area reaches a guest.
     ensures maps_come_before_sizes { refused 0x8000000 9 0x400000 (first_guest ∷ guest_at 0x4e5a000 2000 ∷ []) ≡ Some MapsMeet }
+    // A map that was made for a larger host.
+    ensures a_map_of_a_larger_host { refused_of_another_host 0x1001000 ≡ Some BadSize }
+    // One that was made for a smaller host.
+    ensures a_map_of_a_smaller_host { refused_of_another_host 0xfff000 ≡ Some BadSize }
+    // One that was made for this host.
+    ensures a_map_of_this_host { refused_of_another_host 0x1000000 ≡ None }
 {}
