@@ -1,4 +1,5 @@
 //! A host of 24 KiB and a guest's map of it, and copies whose outcome is told byte by byte.
+use nv_bounce::{are_mapped, gather, name_no_bucket, scatter, total_len};
 use nv_mem::{GuestMap, Host, NoMemory, Piece, Places, Region};
 use std::alloc::Global;
 use std::process::Abort;
@@ -10,8 +11,17 @@ pub(crate) const HOST_LEN: u64 = 0x6000;
 /// Some bytes, and the host address of the first.
 pub(crate) type Span = (u64, &'static [u8]);
 
+/// Which way the bytes go.
+#[derive(Clone, Copy)]
+pub(crate) enum Way {
+    /// From the places to the slot.
+    Gather,
+    /// From the slot to the places.
+    Scatter,
+}
+
 /// A copy between places and a slot: bytes of the host before it, beside zeros, and those that it changes.
-pub(crate) struct Copy {
+pub(crate) struct Transfer {
     pub name: &'static str,
     pub pieces: &'static [Piece],
     pub slot: u64,
@@ -82,8 +92,52 @@ fn store_all(host: &mut Host, spans: &[Span]) -> bool {
     true
 }
 
-/// A host of zeros but for these bytes, or nothing where some of them lie outside.
-pub(crate) fn host_with(alloc: Global, spans: &[Span]) -> Result<Option<Host>, NoMemory> {
+/// Makes each copy, and asserts that what it changes is as told.
+pub(crate) fn check_all(
+    rt: &impl Abort,
+    alloc: Global,
+    copies: &[Transfer],
+    way: Way,
+) -> Result<(), Fail> {
+    let map = map(alloc)?;
+    for copy in copies {
+        let right = is_right(alloc, &map, copy, way)?;
+        assert!(rt; right, "{}", copy.name);
+    }
+    Ok(())
+}
+
+// Whether a copy is made, and changes what it is to change and nothing else.
+fn is_right(alloc: Global, map: &GuestMap, copy: &Transfer, way: Way) -> Result<bool, NoMemory> {
+    let places = places_of(alloc, copy.pieces)?;
+    let Some(mut host) = host_with(alloc, copy.before)? else {
+        return Ok(false);
+    };
+    let made = make(way, &places, map, &mut host, copy.slot);
+    Ok(made && holds_only(alloc, &host, copy.before, copy.changed)?)
+}
+
+// Copies where the conditions hold, and says whether they do.
+fn make(way: Way, places: &Places, map: &GuestMap, host: &mut Host, slot: u64) -> bool {
+    let Some(len) = total_len(places) else {
+        return false;
+    };
+    if map.host_len() != host.len() || !are_mapped(places, map) {
+        return false;
+    }
+    if !host.holds(slot, len) || map.meets_host(slot, len) {
+        return false;
+    }
+    match way {
+        Way::Scatter => scatter(slot, places, map, host),
+        Way::Gather if name_no_bucket(places) => gather(places, map, host, slot),
+        Way::Gather => return false,
+    }
+    true
+}
+
+// A host of zeros but for these bytes, or nothing where some of them lie outside.
+fn host_with(alloc: Global, spans: &[Span]) -> Result<Option<Host>, NoMemory> {
     let mut host = Host::new(alloc, HOST_LEN)?;
     if store_all(&mut host, spans) {
         Ok(Some(host))
@@ -92,8 +146,8 @@ pub(crate) fn host_with(alloc: Global, spans: &[Span]) -> Result<Option<Host>, N
     }
 }
 
-/// Whether the host's bytes are zeros but for these spans, of which a later one counts.
-pub(crate) fn holds_only(
+// Whether the host's bytes are zeros but for these spans, of which a later one counts.
+fn holds_only(
     alloc: Global,
     host: &Host,
     before: &[Span],
