@@ -1,0 +1,8 @@
+use Rattle.nv_laws_sound.proofs.Changes.{world-lane}
+use Rattle.nv_laws_sound.proofs.TagsKept.{tag-kept}
+use Rattle.nv_laws_sound.proofs.PlanSizes.{list-short}
+use Rattle.nv_laws_sound.proofs.Shows.{shows-stored}
+use Rattle.nv_laws_sound.proofs.laws.pages.a_list_is_short.Goals as goal
+
+pub returns : goal.returns
+returns c = list-short
