@@ -5,3 +5,6 @@ pub mod Shows
 pub mod PlanSizes
 pub mod TagsKept
 pub mod Changes
+pub mod Retags
+pub mod Walks
+pub mod GuestEvents

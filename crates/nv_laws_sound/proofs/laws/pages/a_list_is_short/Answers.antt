@@ -1,3 +1,5 @@
+use Rattle.nv_laws_sound.proofs.GuestEvents.{put_back-consistent}
+use Rattle.nv_laws_sound.proofs.Retags.{retagged}
 use Rattle.nv_laws_sound.proofs.Changes.{world-lane}
 use Rattle.nv_laws_sound.proofs.TagsKept.{tag-kept}
 use Rattle.nv_laws_sound.proofs.PlanSizes.{list-short}
