@@ -8,3 +8,4 @@ pub mod Changes
 pub mod Retags
 pub mod Walks
 pub mod GuestEvents
+pub mod TagEvents

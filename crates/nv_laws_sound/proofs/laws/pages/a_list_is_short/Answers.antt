@@ -1,3 +1,4 @@
+use Rattle.nv_laws_sound.proofs.TagEvents.{posts-consistent}
 use Rattle.nv_laws_sound.proofs.GuestEvents.{put_back-consistent}
 use Rattle.nv_laws_sound.proofs.Retags.{retagged}
 use Rattle.nv_laws_sound.proofs.Changes.{world-lane}
