@@ -9,3 +9,6 @@ pub mod Retags
 pub mod Walks
 pub mod GuestEvents
 pub mod TagEvents
+pub mod EntryFields
+pub mod Named
+pub mod MoveEvents

@@ -1,3 +1,6 @@
+use Rattle.nv_laws_sound.proofs.MoveEvents.{unit-same}
+use Rattle.nv_laws_sound.proofs.Named.{addresses-apart}
+use Rattle.nv_laws_sound.proofs.EntryFields.{entry-cid}
 use Rattle.nv_laws_sound.proofs.TagEvents.{posts-consistent}
 use Rattle.nv_laws_sound.proofs.GuestEvents.{put_back-consistent}
 use Rattle.nv_laws_sound.proofs.Retags.{retagged}
