@@ -12,3 +12,4 @@ pub mod TagEvents
 pub mod EntryFields
 pub mod Named
 pub mod MoveEvents
+pub mod AnswerEvents

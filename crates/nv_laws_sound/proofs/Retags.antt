@@ -7,7 +7,9 @@ use Rattle.nv_world_model.specs.Area.{tag_count}
 use Rattle.nv_world_model.specs.Contained.{is_answered_at, is_queued_at, tag_stands}
 use Rattle.nv_world_model.specs.Device.{DeviceLane, Held}
 use Rattle.nv_world_model.specs.Geometry.{Geometry}
-use Rattle.nv_world_model.specs.World.{Lane, Standing, Tag, World, changed_at, tag_changed, tag_in, tag_of, with_tag}
+use Rattle.nv_world_model.specs.World.{Command, Flying, Lane, Standing, Tag, World, changed_at, tag_changed, tag_in, tag_of, with_device, with_host, with_tag}
+use Rattle.nv_world_model.specs.Plan.{Plan}
+use Rattle.nv_world_model.specs.Step.{standing_at, stands}
 use Rattle.nv_world_model.proofs.Seats.{slice_get-set, slice_get-set-other}
 use Rattle.nv_laws_sound.specs.Consistent.{IsConsistent, IsLane, IsTag, SomeStands, standing_count, waits_for_device, waits_for_mediator}
 use Rattle.nv_laws_sound.proofs.Lists.{IsThere, Put, Was, count-set, length-set, set-same, set-there, slice_get-below, slice_get-there, some-same}
@@ -136,3 +138,17 @@ retagged geometry lane tag w t now aligned is a was nowhere new =
     let whole = world-lane geometry w lane w.host (tag_changed tag now a.l) a.d aligned (λ at apart below x low high. refl) lanes is in
     subst (IsConsistent geometry) (sym (with_tag-is lane tag now w a.l a.at_lane))
     (subst (λ ds. IsConsistent geometry (record w { lanes = set w.lanes lane (tag_changed tag now a.l); device = ds })) (set-same w.device lane a.d a.at_device) whole)
+
+-- ---- the world with one lane, the device's side of it, and the host changed
+
+-- a tag that was handed on stands elsewhere, and the device's side of its lane and the host change
+pub stands-is : (w : World) (lane tag : ℕ) (l : Lane) (d : DeviceLane) (command : Command) (plan : Plan) (before s : Standing) (host : ℕ → ℕ) (change : DeviceLane → DeviceLane)
+    → slice_get w.lanes lane ≡ Some l → slice_get w.device lane ≡ Some d → slice_get l.tags tag ≡ Some (Flying command plan before)
+    → stands s lane tag (with_device lane change (with_host host w))
+    ≡ record w { host = host; lanes = set w.lanes lane (tag_changed tag (Flying command plan s) l); device = set w.device lane (change d) }
+stands-is w lane tag l d command plan before s host change at there found =
+    let z = with_device lane change (with_host host w) in
+    let here : tag_of w lane tag ≡ Some (Flying command plan before) = ap (λ o. tag_in o tag) at ∙ found in
+    ap (λ o. standing_at o s lane tag z) here
+    ∙ ap (λ o. record z { lanes = changed_at o lane (tag_changed tag (Flying command plan s)) w.lanes }) at
+    ∙ ap (λ o. record w { host = host; lanes = set w.lanes lane (tag_changed tag (Flying command plan s) l); device = changed_at o lane change w.device }) there
