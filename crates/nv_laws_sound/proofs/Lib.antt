@@ -13,3 +13,4 @@ pub mod EntryFields
 pub mod Named
 pub mod MoveEvents
 pub mod AnswerEvents
+pub mod ReapEvents

@@ -108,3 +108,9 @@ set-there (z ∷ xs) zero y zero x e = Put refl cc
 set-there (z ∷ xs) zero y (suc j) x e = Was (ne_eqb (suc j) zero (λ same. absurd (omega arith))) e
 set-there (z ∷ xs) (suc i) y zero x e = Was (ne_eqb zero (suc i) (λ same. absurd (omega arith))) e
 set-there (z ∷ xs) (suc i) y (suc j) x e = further z xs i y j x (set-there xs i y j x e)
+
+-- what is put twice is there as it was put last
+pub set-set : {X : Type 0} (xs : List X) (i : ℕ) (x y : X) → set (set xs i x) i y ≡ set xs i y
+set-set [] i x y = refl
+set-set (z ∷ xs) zero x y = refl
+set-set (z ∷ xs) (suc i) x y = rw (set-set xs i x y) refl
