@@ -14,3 +14,4 @@ pub mod Named
 pub mod MoveEvents
 pub mod AnswerEvents
 pub mod ReapEvents
+pub mod HeldEntries
