@@ -15,3 +15,4 @@ pub mod MoveEvents
 pub mod AnswerEvents
 pub mod ReapEvents
 pub mod HeldEntries
+pub mod TakenEvents

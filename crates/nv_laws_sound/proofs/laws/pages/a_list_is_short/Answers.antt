@@ -1,3 +1,4 @@
+use Rattle.nv_laws_sound.proofs.TakenEvents.{device_takes-consistent}
 use Rattle.nv_laws_sound.proofs.HeldEntries.{holds-list}
 use Rattle.nv_laws_sound.proofs.EntryFields.{form-back}
 use Rattle.nv_laws_sound.proofs.ReapEvents.{answered-at}
