@@ -16,3 +16,5 @@ pub mod AnswerEvents
 pub mod ReapEvents
 pub mod HeldEntries
 pub mod TakenEvents
+pub mod Planned
+pub mod SubmitEvents

@@ -1,3 +1,5 @@
+use Rattle.nv_laws_sound.proofs.SubmitEvents.{entered-undisturbed}
+use Rattle.nv_laws_sound.proofs.Planned.{plan_over-is}
 use Rattle.nv_laws_sound.proofs.TakenEvents.{device_takes-consistent}
 use Rattle.nv_laws_sound.proofs.HeldEntries.{holds-list}
 use Rattle.nv_laws_sound.proofs.EntryFields.{form-back}
