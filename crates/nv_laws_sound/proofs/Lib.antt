@@ -18,3 +18,4 @@ pub mod HeldEntries
 pub mod TakenEvents
 pub mod Planned
 pub mod SubmitEvents
+pub mod LaidOuts
