@@ -19,3 +19,4 @@ pub mod TakenEvents
 pub mod Planned
 pub mod SubmitEvents
 pub mod LaidOuts
+pub mod Steps

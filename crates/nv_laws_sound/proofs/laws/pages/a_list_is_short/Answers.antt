@@ -1,3 +1,4 @@
+use Rattle.nv_laws_sound.proofs.Steps.{replay-consistent}
 use Rattle.nv_laws_sound.proofs.LaidOuts.{laid-out}
 use Rattle.nv_laws_sound.proofs.SubmitEvents.{entered-undisturbed}
 use Rattle.nv_laws_sound.proofs.Planned.{plan_over-is}
