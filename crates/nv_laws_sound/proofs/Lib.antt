@@ -20,3 +20,4 @@ pub mod Planned
 pub mod SubmitEvents
 pub mod LaidOuts
 pub mod Steps
+pub mod Slots
