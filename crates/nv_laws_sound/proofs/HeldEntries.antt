@@ -1,36 +1,32 @@
 -- What the device makes of a physical entry: it finds the host addresses of the plan's transfer.
-use Rattle.std.proofs.Common.{◌≡◌, ℕ, zero, suc, ◌+◌, ◌-◌, ◌*◌, ◌%◌, ◌^◌, ◌<◌, ◌≤◌, ◌⊎◌, inl, inr, Bool, true, false, cond, ◌&&◌, ◌==◌, List, [], ◌∷◌, ◌++◌, All, drop, flat_map, length, map, replicate, slice_get, slice_index, take, Option, Some, None, arith, refl, sym, ap, ◌∙◌, eq-eqb, subst}
-use Rattle.std.specs.List.{filter, list_all, range_with_len}
+use Rattle.std.proofs.Common.{◌≡◌, ℕ, ◌+◌, ◌-◌, ◌%◌, ◌^◌, ◌<◌, ◌≤◌, true, false, cond, ◌==◌, List, [], ◌∷◌, All, drop, flat_map, length, map, replicate, slice_get, slice_index, take, Some, arith, refl, sym, ap, ◌∙◌, subst}
+use Rattle.std.specs.List.{list_all}
 use Rattle.std.proofs.lemmas.Bool.{ne_eqb}
 use Rattle.std.proofs.Math.Seq.{take-append_seam}
-use Rattle.std.proofs.lemmas.List.Elements.{All-cons, All-drop, All-filter, All-head, All-nil, All-tail}
+use Rattle.std.proofs.lemmas.List.Elements.{All-drop, All-filter, All-head, All-nil, All-tail}
 use Rattle.std.proofs.lemmas.List.FromFn.{length-range_with_len}
-use Rattle.byteorder.specs.Numbers.{length-bytes_low_first, little_number-reads_back}
+use Rattle.byteorder.specs.Numbers.{little_number-reads_back}
 use Rattle.nv_entry.specs.Layout.{number_at, number_bytes}
 use Rattle.nv_entry.specs.Opcode.{io_opcode}
 use Rattle.nv_entry.specs.Submission.{opcode_of, prp1_of, prp2_of}
-use Rattle.nv_entry.specs.declared.opcode.IoOpcode.{IoOpcode}
 use Rattle.nv_mem.specs.GuestMap.{mapped}
 use Rattle.nv_mem.specs.Places.{At, places_of, total_len}
-use Rattle.nv_mem.specs.declared.piece.Piece.{Piece}
 use Rattle.nv_mem.proofs.Images.{host_of-inside}
-use Rattle.nv_model.specs.Judge.{Clear, Form, Keep, Manage, Transfer, Work, form_has_buffer, form_of, form_transfer_len, has_buffer, transfer_len}
-use Rattle.nv_model.specs.Laws.{IsMappedPiece}
+use Rattle.nv_model.specs.Judge.{Clear, Form, Keep, Manage, Transfer, form_has_buffer, form_of, form_transfer_len, has_buffer, transfer_len}
 use Rattle.nv_model.specs.Limits.{most_bytes, page}
 use Rattle.nv_model.specs.Memory.{bytes_from}
 use Rattle.nv_model.specs.Reading.{Faulty, Reading, Spells, TooLong}
 use Rattle.nv_model.proofs.AnyAnswers.{end-short, end-sound}
 use Rattle.nv_model.proofs.Endings.{and-true}
-use Rattle.nv_model.proofs.Shown.{length-bytes_from}
 use Rattle.nv_model.specs.Dialogue.{in_memory}
 use Rattle.nv_model.specs.Prp.{read_prp}
 use Rattle.nv_prp.specs.Built.{HoldsList, HoldsNumbers, SpellsAddresses, built, entries_of, listed, padded, prp2_by, reading_of, starts_page}
-use Rattle.nv_prp.specs.Fits.{fit_prp, host_addresses, is_run, places_fit}
+use Rattle.nv_prp.specs.Fits.{fit_prp, host_addresses, is_run}
 use Rattle.nv_prp.proofs.Builds.{fit-row}
 use Rattle.nv_prp.proofs.HostRuns.{length-mapped_runs}
 use Rattle.nv_prp.proofs.Spelling.{built-spells}
-use Rattle.nv_world_model.specs.Area.{addresses_of, bounce_page, entry_of, form_dwords, lane_start, list_bytes, list_page, physical_entry, plan_dwords, prps_of, tag_count}
-use Rattle.nv_world_model.specs.Device.{Held, form_unit_count, held_of, host_pieces, pieces_named, pieces_spelled, unit_count}
+use Rattle.nv_world_model.specs.Area.{addresses_of, bounce_page, entry_of, form_dwords, list_bytes, list_page, physical_entry, plan_dwords, prps_of, tag_count}
+use Rattle.nv_world_model.specs.Device.{form_unit_count, held_of, host_pieces, pieces_named, pieces_spelled, unit_count}
 use Rattle.nv_world_model.specs.Geometry.{Geometry, Guest, regions_of, shape_of}
 use Rattle.nv_world_model.specs.Plan.{Bounced, Direct, NoData, Plan}
 use Rattle.nv_laws_sound.specs.Area.{Shows}

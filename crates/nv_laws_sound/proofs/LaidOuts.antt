@@ -1,15 +1,14 @@
 -- What a set-up that is not refused says.
-use Rattle.std.proofs.Common.{◌≡◌, ℕ, zero, suc, ◌+◌, ◌*◌, ◌%◌, ◌^◌, ◌<◌, ◌≤◌, ◌⊎◌, inl, inr, Bool, true, false, cond, not, ◌&&◌, ◌||◌, ◌==◌, nat_le, nat_lt, max, min, List, [], ◌∷◌, length, slice_get, Option, Some, None, arith, refl, sym, ap, ◌∙◌, eqb-true, leb-true, ltb-false, subst}
+use Rattle.std.proofs.Common.{◌≡◌, ℕ, zero, suc, ◌+◌, ◌%◌, ◌<◌, ◌≤◌, ◌⊎◌, inl, inr, Bool, true, false, cond, not, ◌&&◌, ◌||◌, ◌==◌, nat_le, nat_lt, max, min, List, [], ◌∷◌, length, slice_get, Option, Some, None, arith, refl, sym, ap, ◌∙◌, eqb-true, leb-true, ltb-false}
 use Rattle.std.specs.Prelude.{◌≢◌}
 use Rattle.std.specs.List.{list_all, list_any}
 use Rattle.std.proofs.lemmas.Bool.{cases_lt}
-use Rattle.nv_mem.specs.GuestMap.{IsSound, guest_of, hosts_meet, span_met, spans_meet}
+use Rattle.nv_mem.specs.GuestMap.{IsSound, guest_of, spans_meet}
 use Rattle.nv_mem.proofs.Images.{host_of-guest}
 use Rattle.nv_mem.proofs.Memory.{guest_of-clear, hosts_meet-image}
 use Rattle.nv_model.specs.Limits.{page}
 use Rattle.nv_model.proofs.Endings.{and-true, not-false}
-use Rattle.nv_world_model.specs.Area.{lane_start}
-use Rattle.nv_world_model.specs.Geometry.{Geometry, Guest, regions_of}
+use Rattle.nv_world_model.specs.Geometry.{Guest, regions_of}
 use Rattle.nv_world_model.specs.SetUp.{Refusal, SetUp, any_two, area_bytes, between, blocks_meet, guest_fits, host_fits, maps_meet, meets_area, most_disk_blocks, most_guests, most_host_bytes, most_lanes, most_limit, most_regions, refusal_of, sizes_fit}
 use Rattle.nv_laws_sound.specs.LaidOut.{AreApart, IsGiven, IsLaidOut}
 
@@ -186,7 +185,7 @@ laid-out s none sound =
       area = area;
       given = given;
       apart = (λ number other g h at there differ.
-      guests-apart s number other g h is (sound number g at) (sound other h there) (given number g at).some_blocks (given other h there).some_blocks at there differ);
+          guests-apart s number other g h is (sound number g at) (sound other h there) (given number g at).some_blocks (given other h there).some_blocks at there differ);
       outside = (λ number guest addr at low high.
-      guest_of-clear (regions_of guest) s.geometry.mediator (area_bytes s) addr (any-none (meets_area s) s.geometry.guests number guest is.area at) low high);
+          guest_of-clear (regions_of guest) s.geometry.mediator (area_bytes s) addr (any-none (meets_area s) s.geometry.guests number guest is.area at) low high);
     }

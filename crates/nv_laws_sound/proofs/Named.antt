@@ -1,5 +1,5 @@
 -- Which host addresses a plan names: those of its guest's memory, or its tag's bounce pages.
-use Rattle.std.proofs.Common.{◌≡◌, ℕ, zero, suc, ◌+◌, ◌*◌, ◌%◌, ◌<◌, ◌≤◌, ◌⊎◌, inl, inr, Bool, true, List, [], ◌∷◌, ◌++◌, All, flat_map, length, map, slice_get, Option, Some, None, option_to_list, arith, refl, sym, ap, ◌∙◌, subst}
+use Rattle.std.proofs.Common.{◌≡◌, ℕ, zero, suc, ◌+◌, ◌<◌, ◌≤◌, ◌⊎◌, inl, inr, List, [], ◌∷◌, All, flat_map, map, Option, Some, None, option_to_list, arith, refl, sym, ◌∙◌, subst}
 use Rattle.std.specs.Prelude.{◌≢◌}
 use Rattle.std.specs.List.{AllPairs, range_with_len}
 use Rattle.std.proofs.lemmas.List.Elements.{All-append, All-cons, All-map, All-nil, All-weaker}
@@ -7,7 +7,6 @@ use Rattle.nv_mem.specs.GuestMap.{IsApart, guest_of, host_of, mapped}
 use Rattle.nv_mem.specs.Places.{At, Bucket, Place, places_of, total_len}
 use Rattle.nv_mem.specs.declared.region.Region.{Region}
 use Rattle.nv_mem.proofs.Images.{guest_of-host}
-use Rattle.nv_model.specs.Judge.{Work}
 use Rattle.nv_model.specs.Laws.{IsAnother}
 use Rattle.nv_model.specs.Limits.{most_bytes}
 use Rattle.nv_model.proofs.AnyAnswers.{end-short, end-sound}
@@ -79,8 +78,10 @@ addresses-apart guest entry plan bounce at apart is outside away =
     further : total_len is.work.pieces ≤ most_bytes → (at < bounce) ⊎ (bounce + most_bytes ≤ at) → (at < bounce) ⊎ (bounce + total_len is.work.pieces ≤ at)
     further few (inl before) = inl before
     further few (inr behind) = inr (omega (arith, few, behind))
+
     at-same : (a b : ℕ) → At a ≡ At b → a ≡ b
     at-same a b e = cc
+
     as_places : (addresses : List ℕ) → All (IsNot at) addresses → All (IsAnother (At at)) (map At addresses)
     as_places addresses each =
         All-map (IsAnother (At at)) At addresses

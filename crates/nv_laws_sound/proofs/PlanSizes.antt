@@ -1,5 +1,5 @@
 -- What stands in a tag's pages fits there: a list of 32 entries at most, and 256 ranges at most.
-use Rattle.std.proofs.Common.{◌≡◌, ℕ, zero, suc, ◌+◌, ◌*◌, ◌/◌, ◌%◌, ◌^◌, ◌<◌, ◌≤◌, ◌⊎◌, inl, inr, Bool, true, false, cond, ◌&&◌, List, [], ◌∷◌, ◌++◌, flat_map, length, slice_index, take, Some, arith, refl, sym, ap, ◌∙◌, subst, mod-lt}
+use Rattle.std.proofs.Common.{◌≡◌, ℕ, zero, suc, ◌*◌, ◌/◌, ◌%◌, ◌^◌, ◌<◌, ◌≤◌, ◌⊎◌, inl, inr, true, false, cond, List, [], ◌∷◌, ◌++◌, flat_map, length, take, arith, refl, sym, ◌∙◌, subst, mod-lt}
 use Rattle.std.specs.List.{filter, list_all, range_with_len}
 use Rattle.std.proofs.lemmas.List.{length-take, length-append}
 use Rattle.std.proofs.lemmas.List.FromFn.{length-range_with_len}
@@ -11,20 +11,19 @@ use Rattle.nv_mem.specs.GuestMap.{mapped}
 use Rattle.nv_mem.specs.Places.{total_len}
 use Rattle.nv_mem.specs.declared.region.Region.{Region}
 use Rattle.nv_model.specs.Judge.{Clear, Form, Keep, Manage, Transfer, Work, form_has_buffer, form_of, has_buffer, range_count_of}
-use Rattle.nv_model.specs.Laws.{IsMappedPiece}
 use Rattle.nv_model.specs.Limits.{most_bytes, page}
 use Rattle.nv_model.specs.Queue.{sqe_size}
 use Rattle.nv_model.proofs.AnyAnswers.{end-short, end-sound}
 use Rattle.nv_model.proofs.Endings.{and-true}
-use Rattle.nv_prp.specs.Built.{built, entries_of, listed, starts_page}
+use Rattle.nv_prp.specs.Built.{built, listed, starts_page}
 use Rattle.nv_prp.specs.Fits.{fit_prp, host_addresses, is_run, places_fit}
-use Rattle.nv_prp.specs.Met.{met_more, nothing_met}
+use Rattle.nv_prp.specs.Met.{met_more}
 use Rattle.nv_prp.specs.declared.prps.Prps.{Prps}
 use Rattle.nv_prp.proofs.Builds.{fit-row, met-room}
 use Rattle.nv_prp.proofs.HostRuns.{length-host_addresses}
 use Rattle.nv_world_model.specs.Area.{addresses_of, bounce_page, entry_of, form_dwords, list_bytes, list_page, physical_entry, plan_dwords, prps_of, translated_range}
 use Rattle.nv_world_model.specs.Geometry.{Guest, regions_of, shape_of}
-use Rattle.nv_world_model.specs.Plan.{Answer, Bounced, Direct, NoData, Plan, go_plan, plan_of}
+use Rattle.nv_world_model.specs.Plan.{Answer, Bounced, Direct, NoData, Plan, go_plan}
 use Rattle.nv_laws_sound.specs.Area.{form_ranges, ranges_of}
 use Rattle.nv_laws_sound.specs.Consistent.{IsPlanned}
 

@@ -1,8 +1,8 @@
 -- A plan over a transcript is an answer, or that of a verdict which some answers lead to.
-use Rattle.std.proofs.Common.{◌≡◌, ℕ, List, [], refl, sym, ap, ◌∙◌}
+use Rattle.std.proofs.Common.{◌≡◌, ℕ, List, [], refl, sym}
 use Rattle.nv_entry.specs.Status.{StatusField}
 use Rattle.nv_mem.specs.GuestMap.{mapped}
-use Rattle.nv_model.specs.Judge.{Go, Refuse, Verdict, Work, judge}
+use Rattle.nv_model.specs.Judge.{Go, Refuse, Verdict, judge}
 use Rattle.nv_model.specs.Transcript.{Outcome, ReadDone, Settled, Wanted, in_transcript}
 use Rattle.nv_model.proofs.AnyAnswers.{settled-may}
 use Rattle.nv_model.proofs.InParts.{judge-in_parts}

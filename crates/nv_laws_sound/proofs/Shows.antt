@@ -1,6 +1,5 @@
 -- Bytes that stand in a memory, behind what is stored.
-use Rattle.std.proofs.Common.{◌≡◌, ℕ, ◌+◌, ◌<◌, ◌≤◌, ◌⊎◌, inl, inr, List, [], ◌∷◌, ◌++◌, suc, length, arith, refl, sym, ap, ◌∙◌}
-use Rattle.std.proofs.lemmas.Bool.{cases_lt}
+use Rattle.std.proofs.Common.{◌≡◌, ℕ, ◌+◌, ◌≤◌, ◌⊎◌, inl, inr, List, [], ◌∷◌, ◌++◌, suc, length, arith, refl, sym, ◌∙◌}
 use Rattle.nv_model.specs.Memory.{bytes_from, stored}
 use Rattle.nv_model.proofs.Agreeing.{bytes_from-agree}
 use Rattle.nv_model.proofs.MemoryLemmas.{bytes_from-stored, stored-outside}

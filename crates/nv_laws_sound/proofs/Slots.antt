@@ -1,16 +1,14 @@
 -- The rings of a consistent world: how much waits in them, and whose each slot is.
-use Rattle.std.proofs.Common.{◌≡◌, ℕ, ◌+◌, ◌<◌, ◌≤◌, Bool, true, false, ◌==◌, List, length, slice_get, Option, Some, None, arith, refl, sym, ap, ◌∙◌, subst}
+use Rattle.std.proofs.Common.{◌≡◌, ℕ, ◌<◌, ◌≤◌, true, false, slice_get, Option, Some, arith, sym, ap, ◌∙◌}
 use Rattle.std.proofs.lemmas.Bool.{ne_eqb}
 use Rattle.std.proofs.lemmas.List.Sums.{count_by-le-length}
 use Rattle.nv_entry.specs.Submission.{cid_of}
 use Rattle.nv_model.specs.Queue.{ahead, is_full, next_slot}
-use Rattle.nv_model.specs.Transcript.{ReadDone}
-use Rattle.nv_world_model.specs.Area.{entry_of, ring_size, tag_count}
+use Rattle.nv_world_model.specs.Area.{ring_size, tag_count}
 use Rattle.nv_world_model.specs.Contained.{is_answered_at, is_queued_at, tag_stands}
 use Rattle.nv_world_model.specs.Device.{DeviceLane, Held}
 use Rattle.nv_world_model.specs.Geometry.{Geometry}
-use Rattle.nv_world_model.specs.Plan.{Plan}
-use Rattle.nv_world_model.specs.World.{Command, Flying, InDevice, Lane, Tag, Taken, World}
+use Rattle.nv_world_model.specs.World.{Lane, Tag, World}
 use Rattle.nv_laws_sound.specs.Consistent.{IsConsistent, IsLane, waits_for_device, waits_for_mediator}
 use Rattle.nv_laws_sound.proofs.EntryFields.{entry-cid}
 use Rattle.nv_laws_sound.proofs.Lists.{count-fewer, slice_get-below, slice_get-there}

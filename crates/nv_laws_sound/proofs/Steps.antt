@@ -1,20 +1,18 @@
 -- Each event, and each list of events: as many lanes as before, and a consistent world.
-use Rattle.std.proofs.Common.{◌≡◌, ℕ, ◌+◌, Bool, true, false, cond, ◌&&◌, ◌==◌, nat_le, List, [], ◌∷◌, length, slice_get, Option, Some, None, refl, sym, ap, ◌∙◌, subst}
+use Rattle.std.proofs.Common.{◌≡◌, ℕ, ◌+◌, Bool, true, false, cond, ◌&&◌, ◌==◌, nat_le, List, [], ◌∷◌, length, slice_get, Option, Some, None, refl, sym, ◌∙◌, subst}
 use Rattle.std.specs.List.{list_any}
 use Rattle.nv_entry.specs.Status.{StatusField}
 use Rattle.nv_entry.specs.StatusCode.{done_with}
 use Rattle.nv_entry.specs.Submission.{cid_of}
 use Rattle.nv_entry.specs.declared.status_code.StatusCode.TheVariants.{InternalError}
 use Rattle.nv_mem.specs.GuestMap.{all_mapped}
-use Rattle.nv_model.specs.Admin.{AdminStep, NothingToDo, QueueFull, Stepped, admin}
+use Rattle.nv_model.specs.Admin.{AdminStep, NothingToDo, QueueFull, Stepped}
 use Rattle.nv_model.specs.Controller.{Posted, front, is_enabled, post}
 use Rattle.nv_model.specs.Judge.{Work, is_read}
 use Rattle.nv_model.specs.Limits.{part_size}
-use Rattle.nv_model.specs.Memory.{image}
 use Rattle.nv_model.specs.Private.{Private, acted}
 use Rattle.nv_model.specs.Queue.{is_empty}
 use Rattle.nv_model.specs.Transcript.{Outcome, ReadDone, Settled, Wanted}
-use Rattle.nv_model.specs.declared.act.Act.{Act}
 use Rattle.nv_model.specs.declared.reply.Reply.{Reply}
 use Rattle.nv_model.specs.declared.reply.Reply.TheVariants as reply
 use Rattle.nv_world_model.specs.declared.event.Event.{Event}
@@ -24,8 +22,8 @@ use Rattle.nv_world_model.specs.Device.{DeviceLane, Held, held_status}
 use Rattle.nv_world_model.specs.Geometry.{Geometry, regions_of, shape_of}
 use Rattle.nv_world_model.specs.Plan.{Answer, Bounced, Direct, NoData, Plan, plan_over}
 use Rattle.nv_world_model.specs.Seat.{Owner, owner_of, put_back, seat}
-use Rattle.nv_world_model.specs.Step.{After, act_put_back, acted_by, acted_in, administered_by, administered_in, carry_out, completion_read, delivered, device_fail, device_move, device_moved, device_post, device_posted, device_take, device_took, ended_at, ended_at_once, free_tag, is_io_queue, is_success, kept_block, list_at, listed, post_at, post_by, posted_to, ran_out_of, reap, reaped, replay, scattered_to, standing_at, stands, step, submit_by, submitted, take_from, take_front, take_tag, taken_to}
-use Rattle.nv_world_model.specs.World.{Command, Ended, Flying, Free, Lane, Standing, Tag, Taken, World, changed_at, tag_of, with_lane, with_tag}
+use Rattle.nv_world_model.specs.Step.{act_put_back, acted_in, administered_by, administered_in, carry_out, completion_read, delivered, device_fail, device_move, device_moved, device_post, device_posted, device_take, device_took, ended_at, ended_at_once, free_tag, is_io_queue, is_success, kept_block, list_at, listed, post_at, post_by, posted_to, ran_out_of, reap, reaped, replay, scattered_to, standing_at, step, submit_by, submitted, take_from, take_front, take_tag, taken_to}
+use Rattle.nv_world_model.specs.World.{Command, Ended, Flying, Free, Lane, Standing, Tag, Taken, World, changed_at, tag_of, with_tag}
 use Rattle.nv_laws_sound.specs.Consistent.{IsConsistent}
 use Rattle.nv_laws_sound.specs.LaidOut.{IsLaidOut}
 use Rattle.nv_laws_sound.proofs.AnswerEvents.{device_fails-consistent, device_posts-consistent}

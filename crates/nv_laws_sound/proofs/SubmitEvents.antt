@@ -1,5 +1,5 @@
 -- A command is handed on: its list, its source or its ranges, and its physical entry are written, and the doorbell is rung.
-use Rattle.std.proofs.Common.{◌≡◌, ℕ, ◌+◌, ◌*◌, ◌%◌, ◌<◌, ◌≤◌, ◌⊎◌, inl, inr, Bool, true, false, cond, ◌==◌, List, [], ◌∷◌, length, set, slice_get, Option, Some, None, arith, refl, sym, ap, ◌∙◌, eq-eqb, subst}
+use Rattle.std.proofs.Common.{◌≡◌, ℕ, ◌+◌, ◌<◌, ◌≤◌, ◌⊎◌, inl, inr, true, false, ◌==◌, List, length, set, slice_get, Option, Some, None, arith, refl, sym, ap, ◌∙◌, eq-eqb, subst}
 use Rattle.std.specs.Prelude.{◌≢◌}
 use Rattle.std.proofs.lemmas.Bool.{cases_eq, cases_lt, eqb-false}
 use Rattle.nv_mem.specs.GuestMap.{mapped}
@@ -7,7 +7,7 @@ use Rattle.nv_mem.specs.Places.{places_of, total_len}
 use Rattle.nv_mem.proofs.PlaceLists.{length-places_of}
 use Rattle.nv_model.specs.Judge.{Clear, Form, Keep, Manage, Transfer, Work, form_of}
 use Rattle.nv_model.specs.Limits.{most_bytes, page}
-use Rattle.nv_model.specs.Memory.{bytes_from, gathered, image, stored}
+use Rattle.nv_model.specs.Memory.{image, stored}
 use Rattle.nv_model.specs.Queue.{next_slot}
 use Rattle.nv_model.specs.Transcript.{Outcome, ReadDone, Settled, Wanted}
 use Rattle.nv_model.proofs.AnyAnswers.{end-short, end-sound}
@@ -19,9 +19,9 @@ use Rattle.nv_world_model.specs.Device.{DeviceLane, Held, rung}
 use Rattle.nv_world_model.specs.Geometry.{Geometry, Guest, regions_of, shape_of}
 use Rattle.nv_world_model.specs.Plan.{Answer, Bounced, Direct, NoData, Plan, plan_over}
 use Rattle.nv_world_model.specs.Seat.{Owner, owner_of}
-use Rattle.nv_world_model.specs.Step.{After, carry_out, ended_at_once, step, submit_by, submitted}
-use Rattle.nv_world_model.specs.World.{Answered, Command, Ended, Flying, Free, InDevice, Lane, Queued, Standing, Tag, Taken, World, changed_at, tag_changed, tag_of, with_device, with_host, with_tag}
-use Rattle.nv_world_model.proofs.Seats.{IsOwner, owner_of-is, owner_of-number, slice_get-set}
+use Rattle.nv_world_model.specs.Step.{carry_out, step, submit_by, submitted}
+use Rattle.nv_world_model.specs.World.{Command, Flying, Lane, Queued, Tag, Taken, World, changed_at, tag_changed, tag_of, with_device, with_host}
+use Rattle.nv_world_model.proofs.Seats.{owner_of-is, owner_of-number, slice_get-set}
 use Rattle.nv_laws_sound.specs.Area.{SameBetween, SameInLane, Shows, form_ranges, ranges_of}
 use Rattle.nv_laws_sound.specs.Consistent.{HasPages, IsBetween, IsCommand, IsConsistent, IsLane, IsPlanned, IsTag, SomeStands, waits_for_device, waits_for_mediator}
 use Rattle.nv_laws_sound.specs.LaidOut.{IsLaidOut}
@@ -29,7 +29,7 @@ use Rattle.nv_laws_sound.proofs.Changes.{world-lane}
 use Rattle.nv_laws_sound.proofs.Lists.{count-fewer, count-set, length-set, set-same, slice_get-below, some-same}
 use Rattle.nv_laws_sound.proofs.Planned.{Answers, IsAnswerOr, Plans, plan_over-is}
 use Rattle.nv_laws_sound.proofs.PlanSizes.{entry-length, list-short, planned-kinds, ranges-short}
-use Rattle.nv_laws_sound.proofs.Retags.{IsAt, count-kept, is-at, stands-kept, tag-is, tags-with}
+use Rattle.nv_laws_sound.proofs.Retags.{count-kept, is-at, stands-kept, tag-is, tags-with}
 use Rattle.nv_laws_sound.proofs.Rings.{between-end, between-more, between-new, between-tail, far, far-more, next-below}
 use Rattle.nv_laws_sound.proofs.Shows.{same-stored, same-then, shows-between, shows-nothing, shows-stored}
 use Rattle.nv_laws_sound.proofs.TagEvents.{ended_at_once-consistent}
@@ -111,10 +111,12 @@ module _ (host_bytes lanes : ℕ) (geometry : Geometry) (laid : IsLaidOut host_b
           → (to ≤ list) ⊎ (list + length (list_bytes (prps_of plan guest list bounce)) ≤ from)
       off_list (inl before) small = inl before
       off_list (inr behind) small = inr (omega (arith, behind, small))
+
       off_bounce : (to ≤ list) ⊎ (list_page geometry.mediator lane (tag + 1) ≤ from) → length (bounced_bytes plan guest host) ≤ most_bytes
           → (to ≤ bounce) ⊎ (bounce + length (bounced_bytes plan guest host) ≤ from)
       off_bounce (inl before) small = inl (omega (arith, before))
       off_bounce (inr behind) small = inr (omega (arith, behind, small))
+
       off_entry : (to ≤ at) ⊎ (submission_slot geometry.mediator lane (slot + 1) ≤ from) → length (entry_of plan guest entry geometry.mediator lane tag) ≡ 64
           → (to ≤ at) ⊎ (at + length (entry_of plan guest entry geometry.mediator lane tag) ≤ from)
       off_entry (inl before) sized = inl before
@@ -153,6 +155,7 @@ module _ (host_bytes lanes : ℕ) (geometry : Geometry) (laid : IsLaidOut host_b
       off_slot (inl less) any = inl (omega (arith, less))
       off_slot (inr most) (inl same) = absurd (eqb-false other lane apart same)
       off_slot (inr most) (inr differ) = inr (omega (arith, most, differ, slot_below))
+
       off_pages : (other < lane) ⊎ (lane ≤ other) → (other ≡ lane) ⊎ (other ≢ lane)
           → (lane_start geometry.mediator (other + 1) ≤ list) ⊎ (list_page geometry.mediator lane (tag + 1) ≤ lane_start geometry.mediator other)
       off_pages (inl less) any = inl (omega (arith, less))
@@ -166,14 +169,16 @@ module _ (host_bytes lanes : ℕ) (geometry : Geometry) (laid : IsLaidOut host_b
   entered-undisturbed other head d t apart other_below here low high room =
       record {
         pages = entered-same (list_page geometry.mediator lane other) (list_page geometry.mediator lane (other + 1)) (inr (omega (arith, slot_below))) (off_pages (cases_lt other tag) (cases_eq other tag));
-        queued = (λ place stands between.
-        (between-more d.head d.tail place low high room between,
-        entered-same (submission_slot geometry.mediator lane place) (submission_slot geometry.mediator lane (place + 1)) (off_slot place between (cases_lt place slot) (cases_eq place slot))
-        (inl (let within = between.slot in omega (arith, within)))));
-        answered = (λ place stands between.
-        (between,
-        (let within = between.slot in
-        entered-same (completion_slot geometry.mediator lane place) (completion_slot geometry.mediator lane (place + 1)) (inr (omega (arith, slot_below))) (inl (omega (arith, within))))));
+        queued = (λ place stands between. (
+          between-more d.head d.tail place low high room between,
+          entered-same (submission_slot geometry.mediator lane place) (submission_slot geometry.mediator lane (place + 1)) (off_slot place between (cases_lt place slot) (cases_eq place slot))
+              (inl (let within = between.slot in omega (arith, within))),
+        ));
+        answered = (λ place stands between. (
+          between,
+          (let within = between.slot in
+              entered-same (completion_slot geometry.mediator lane place) (completion_slot geometry.mediator lane (place + 1)) (inr (omega (arith, slot_below))) (inl (omega (arith, within)))),
+        ));
       }
     where
       off_pages : (other < tag) ⊎ (tag ≤ other) → (other ≡ tag) ⊎ (other ≢ tag)
@@ -181,6 +186,7 @@ module _ (host_bytes lanes : ℕ) (geometry : Geometry) (laid : IsLaidOut host_b
       off_pages (inl less) any = inl (omega (arith, less))
       off_pages (inr most) (inl same) = absurd (eqb-false other tag apart same)
       off_pages (inr most) (inr differ) = inr (omega (arith, most, differ))
+
       off_slot : (place : ℕ) → IsBetween d.head d.tail place → (place < slot) ⊎ (slot ≤ place) → (place ≡ slot) ⊎ (place ≢ slot)
           → (submission_slot geometry.mediator lane (place + 1) ≤ at) ⊎ (submission_slot geometry.mediator lane (slot + 1) ≤ submission_slot geometry.mediator lane place)
       off_slot place between (inl less) any = inl (omega (arith, less))
@@ -215,11 +221,14 @@ module _ (host_bytes lanes : ℕ) (geometry : Geometry) (laid : IsLaidOut host_b
         guest = guest;
         is = whose;
         planned = planned;
-        stands = (record {
-          slot = between-tail d.head d.tail is.positions.head is.positions.tail room;
-          shown = entered-entry host_bytes lanes geometry laid guest command.entry plan planned lane tag d.tail tag_below is.positions.tail host;
-          pages = entered-pages host_bytes lanes geometry laid guest command.entry plan planned lane tag d.tail tag_below is.positions.tail host;
-        }, refl);
+        stands = (
+          record {
+            slot = between-tail d.head d.tail is.positions.head is.positions.tail room;
+            shown = entered-entry host_bytes lanes geometry laid guest command.entry plan planned lane tag d.tail tag_below is.positions.tail host;
+            pages = entered-pages host_bytes lanes geometry laid guest command.entry plan planned lane tag d.tail tag_below is.positions.tail host;
+          },
+          refl,
+        );
       }
 
   other-tag : (other : ℕ) (x : Tag) (o : Option Held) → (other == tag) ≡ false → slice_get l.tags other ≡ Some x → slice_get d.held other ≡ Some o

@@ -1,19 +1,17 @@
 -- The device takes the front entry of a submission ring, and the tag that it names is in the device.
-use Rattle.std.proofs.Common.{◌≡◌, ℕ, ◌+◌, ◌%◌, ◌<◌, ◌≤◌, Bool, true, false, cond, not, ◌==◌, List, [], ◌∷◌, length, set, slice_get, Option, Some, None, arith, refl, sym, ap, ◌∙◌, eq-eqb, eqb-true, subst}
+use Rattle.std.proofs.Common.{◌≡◌, ℕ, ◌<◌, true, false, ◌==◌, List, length, set, slice_get, Option, Some, None, arith, refl, sym, ap, ◌∙◌, eqb-true, subst}
 use Rattle.std.proofs.lemmas.Bool.{eqb-false, ne_eqb}
 use Rattle.nv_entry.specs.Submission.{cid_of}
-use Rattle.nv_model.specs.Limits.{page}
 use Rattle.nv_model.specs.Memory.{bytes_from}
 use Rattle.nv_model.specs.Queue.{is_empty, next_slot, sqe_size}
 use Rattle.nv_world_model.specs.declared.event.Event.TheVariants as event
-use Rattle.nv_world_model.specs.Area.{bounce_page, entry_of, list_page, ring_size, submission_slot, tag_count}
+use Rattle.nv_world_model.specs.Area.{entry_of, ring_size, submission_slot, tag_count}
 use Rattle.nv_world_model.specs.Contained.{is_answered_at, is_queued_at, tag_stands}
 use Rattle.nv_world_model.specs.Device.{DeviceLane, Held, entry_taken, front_entry, held_of}
 use Rattle.nv_world_model.specs.Geometry.{Geometry, Guest}
 use Rattle.nv_world_model.specs.Plan.{Plan}
 use Rattle.nv_world_model.specs.Step.{device_take, device_took, stands, step}
-use Rattle.nv_world_model.specs.World.{Answered, Command, Ended, Flying, Free, InDevice, Lane, Queued, Standing, Tag, Taken, World, tag_changed, with_device}
-use Rattle.nv_laws_sound.specs.Area.{Shows}
+use Rattle.nv_world_model.specs.World.{Answered, Command, Ended, Flying, Free, InDevice, Lane, Queued, Tag, Taken, World, tag_changed, with_device}
 use Rattle.nv_laws_sound.specs.Consistent.{HasPages, IsBetween, IsCommand, IsConsistent, IsLane, IsPlanned, IsTag, SomeStands, waits_for_device, waits_for_mediator}
 use Rattle.nv_laws_sound.specs.LaidOut.{IsLaidOut}
 use Rattle.nv_laws_sound.proofs.Changes.{world-lane}
@@ -114,7 +112,7 @@ module _ (host_bytes lanes : ℕ) (geometry : Geometry) (laid : IsLaidOut host_b
       record {
         pages = (λ y low high. refl);
         queued = (λ slot stands between.
-        (between-less d.head d.tail slot is.positions.head is.positions.tail between (λ same. not_there slot stands same), (λ y low high. refl)));
+            (between-less d.head d.tail slot is.positions.head is.positions.tail between (λ same. not_there slot stands same), (λ y low high. refl)));
         answered = (λ slot stands between. (between, (λ y low high. refl)));
       }
     where
