@@ -1,0 +1,4 @@
+pub mod Effects
+pub mod Exits
+pub mod PageBuffers
+pub mod Written

@@ -1,0 +1,3 @@
+pub mod DataStructure
+pub mod Effect
+pub mod PageBuffer
