@@ -1,0 +1,15 @@
+use Rattle.std.proofs.Common.{◌≡◌, ◌<◌, ℕ, Bool, true, false, Option, Some, None, IsSome, slice_index, refl, sym, ap, ◌∙◌, subst}
+use Rattle.nv_model.specs.Controller.{Controller, Deletion, completion_queue, is_ready, submission_queue, with_completion, with_submission}
+use Rattle.nv_model.specs.Laws.{QueuesInPlace}
+use Rattle.nv_model.specs.Queue.{CompletionQueue, SubmissionQueue, new_completion, new_submission}
+use Rattle.nv_vctl.specs.Vctl.{IsWhole, MayFinish, closed, closed_from, finished_from}
+use Rattle.nv_vctl.proofs.Whole.{whole-finished}
+use Rattle.nv_vctl.proofs.vctl.Vctl.finish_deletion.Goals as goal
+
+pub invariant_of-self : goal.invariant_of-self
+invariant_of-self c =
+    let is : c.args.self.now.deletion ≡ Some c.in-Some.waiting = ap (λ (v : Controller). v.deletion) (sym c.self.view_is) ∙ c.in-Some.is in
+    rw (c.from.ensures, c.queue.ensures)
+    (subst IsWhole (ap (λ (v : Controller). finished_from (Some c.in-Some.waiting) v) (sym c.self.view_is))
+    (whole-finished c.args.self.now c.in-Some.waiting c.requires.ready is
+    (subst (λ (o : Option Deletion). MayFinish o c.args.self.now.taken) is c.requires.may) (subst IsWhole c.self.view_is c.self.invariant)))
