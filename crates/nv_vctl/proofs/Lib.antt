@@ -1,2 +1,5 @@
-pub mod Whole
+pub mod Entries
+pub mod Ringing
+pub mod Fields
 pub mod Places
+pub mod Whole

@@ -1,14 +1,14 @@
 -- Where queues lie stays in the map.
-use Rattle.std.proofs.Common.{◌≡◌, ℕ, ◌+◌, ◌*◌, ◌<◌, ◌≤◌, Bool, true, false, ◌==◌, nat_le, List, Option, Some, None, IfSome, arith, refl, sym, ap, ◌∙◌, subst, leb-true}
+use Rattle.std.proofs.Common.{◌≡◌, ℕ, ◌*◌, Bool, true, Option, Some, None, IfSome, refl}
 use Rattle.nv_entry.specs.Status.{StatusField}
 use Rattle.nv_mem.specs.GuestMap.{everywhere}
-use Rattle.nv_model.specs.Controller.{Controller, Deletion, Posted, completion_queue, doorbell, opening, post, ran_out, reg_write, size_fits, submission_queue, took, with_completion, with_submission}
-use Rattle.nv_model.specs.Laws.{IsCompletionInPlace, IsInOrder, IsSubmissionInPlace, QueuesHave, QueuesInPlace}
+use Rattle.nv_model.specs.Controller.{Controller, Deletion, Posted, doorbell, opening, post, ran_out, reg_write, submission_queue, took, with_completion, with_submission}
+use Rattle.nv_model.specs.Laws.{IsCompletionInPlace, IsSubmissionInPlace, QueuesInPlace}
 use Rattle.nv_model.specs.Queue.{SubmissionQueue, CompletionQueue, cqe_size, new_completion, new_submission, sqe_size}
 use Rattle.nv_model.proofs.QueueOrder.{IsInOrder-new, IsKept-in_place}
-use Rattle.nv_model.proofs.QueuesKept.{QueuesHave-opening, QueuesHave-same, QueuesHave-with_completion, QueuesHave-with_submission, completion_queue-has, doorbell-kept, post-kept, ran_out-kept, reg_write-kept, submission_queue-has, took-kept}
+use Rattle.nv_model.proofs.QueuesKept.{QueuesHave-opening, QueuesHave-same, QueuesHave-with_completion, QueuesHave-with_submission, doorbell-kept, post-kept, ran_out-kept, reg_write-kept, submission_queue-has, took-kept}
 use Rattle.nv_ring.specs.Ring.{FitsRing}
-use Rattle.nv_vctl.specs.Vctl.{closed, closed_from, controller_behind, deletion_finished, finished_from, or_unchanged}
+use Rattle.nv_vctl.specs.Vctl.{closed_from, controller_behind, deletion_finished, finished_from, or_unchanged}
 
 -- what holds of a controller and of what it is changed to, holds behind a call that may be ignored
 pub or_unchanged-has : (P : Controller → Type 0) (c : Controller) (o : Option Controller) → P c → IfSome o P → P (or_unchanged c o)

@@ -1,17 +1,17 @@
 -- Each change of a controller keeps what its type keeps of it.
-use Rattle.std.proofs.Common.{◌≡◌, ℕ, zero, suc, ◌+◌, ◌<◌, ◌≤◌, Bool, true, false, ◌==◌, nat_lt, List, [], ◌∷◌, length, set, slice_get, slice_index, sum, Option, Some, None, IfSome, IsSome, arith, refl, sym, ap, ◌∙◌, subst}
+use Rattle.std.proofs.Common.{◌≡◌, ℕ, zero, suc, ◌<◌, true, false, List, [], ◌∷◌, length, set, slice_get, slice_index, Option, Some, None, IfSome, IsSome, inl, inr, arith, refl, sym, ap, ◌∙◌, subst}
+use Rattle.std.proofs.lemmas.Bool.{cases_lt}
 use Rattle.std.specs.List.{list_any}
-use Rattle.nv_entry.specs.Layout.{bits}
 use Rattle.nv_entry.specs.Status.{StatusField}
 use Rattle.nv_model.specs.Admin.{uses}
-use Rattle.nv_model.specs.Controller.{Controller, Deletion, Posted, completion_queue, enabled, front, is_enabled, is_ready, opening, post, post_from, post_to, queue_of, ran_out, reg_write, reset, running, submission_queue, took, took_of, with_completion, with_submission}
+use Rattle.nv_model.specs.Controller.{Controller, Deletion, Posted, completion_queue, front, is_enabled, is_ready, opening, post, post_from, post_to, queue_of, ran_out, submission_queue, took, took_of, with_completion, with_submission}
 use Rattle.nv_model.specs.Queue.{SubmissionQueue, CompletionQueue, front_taken, is_full}
 use Rattle.nv_model.specs.Running.{GoTogether, IsTogether}
 use Rattle.nv_model.proofs.Endings.{and-true}
 use Rattle.nv_model.proofs.QueuesKept.{by_test}
 use Rattle.nv_model.proofs.Together.{completion-gone, completion-put, deletion-put, queue_of-set-has, submission-gone, submission-put, there-put}
-use Rattle.nv_model.proofs.TogetherKept.{IsBehind, IsPosted, front-may, opening-together, post-together, ran_out-together, reg_write-together, took-together}
-use Rattle.nv_vctl.specs.Vctl.{IsIoQueue, IsWhole, MayFinish, closed, closed_from, deletion_finished, finished_from, with_cc}
+use Rattle.nv_model.proofs.TogetherKept.{IsPosted, front-may, opening-together, post-together, ran_out-together, took-together}
+use Rattle.nv_vctl.specs.Vctl.{IsIoQueue, IsWhole, closed_from, finished_from}
 
 -- what is kept of the admin queue
 abbrev pub CompletesToAdmin : Option SubmissionQueue → Type 0
@@ -32,6 +32,29 @@ pub queue-below : {Q : Type 0} (xs : List (Option Q)) (y : ℕ) → IsSome (queu
 queue-below [] y there = cc
 queue-below (x ∷ xs) zero there = omega arith
 queue-below (x ∷ xs) (suc y) there = let below = queue-below xs y there in omega arith
+
+-- so it is one of nine
+pub submission-below : (c : Controller) (y : ℕ) (q : SubmissionQueue) → IsWhole c → submission_queue c y ≡ Some q → y < 9
+submission-below c y q w is =
+    let below = queue-below c.submission y (subst (λ (o : Option SubmissionQueue). IsSome o) (sym is) refl) in
+    let count : length c.submission ≡ 9 = w.together.submission_count in
+    omega arith
+
+pub completion-below : (c : Controller) (y : ℕ) (q : CompletionQueue) → IsWhole c → completion_queue c y ≡ Some q → y < 9
+completion-below c y q w is =
+    let below = queue-below c.completion_queues y (subst (λ (o : Option CompletionQueue). IsSome o) (sym is) refl) in
+    let count : length c.completion_queues ≡ 9 = w.together.completion_count in
+    omega arith
+
+-- the queues of a command that may be completed are there
+pub posting-there : (c : Controller) (y : ℕ) → is_ready c ≡ true → (0 < y → 0 < slice_index c.taken y) → IsWhole c → IsSome (submission_queue c y)
+posting-there c y up some w =
+    elim (cases_lt 0 y) [
+      | inl io ↦ w.together.taken_there (ready-on c up) y (some io)
+      | inr none ↦
+          let zero_is : 0 ≡ y = omega arith in
+          subst (λ (n : ℕ). IsSome (submission_queue c n)) zero_is (w.together.admin_there (ready-on c up) (and-true (is_enabled c) c.ready up).1).0
+    ]
 
 -- ---- queues
 

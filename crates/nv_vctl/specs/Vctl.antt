@@ -1,11 +1,11 @@
 -- Words for what the calls of a virtual controller do, over `Controller` of nv_model: Base Specification 2.0, "Controller
 -- Properties", "Memory-based Transport Queue Model". How many taken commands are counted is the project's own (profile).
-use Rattle.std.specs.Prelude.{◌≡◌, ℕ, ◌<◌, ◌≤◌, Bool, true, List, IfSome, Option, Some, None, slice_index}
+use Rattle.std.specs.Prelude.{◌≡◌, ℕ, ◌<◌, ◌≤◌, true, List, IfSome, Option, Some, None, slice_index}
 use Rattle.nv_mem.specs.declared.region.Region.{Region}
-use Rattle.nv_model.specs.Controller.{Controller, Deletion, Posted, admin_completion_base, admin_completion_size, admin_submission_base, admin_submission_size, can_enable, completion_queue, submission_queue, with_submission}
+use Rattle.nv_model.specs.Controller.{Controller, Deletion, Posted, completion_queue, submission_queue, with_submission}
 use Rattle.nv_model.specs.Limits.{last_queue}
 use Rattle.nv_model.specs.Memory.{bytes_from, image, put_image, stored}
-use Rattle.nv_model.specs.Queue.{CompletionQueue, SubmissionQueue, new_completion, new_submission, sqe_size}
+use Rattle.nv_model.specs.Queue.{CompletionQueue, SubmissionQueue, sqe_size}
 use Rattle.nv_model.specs.Running.{IsTogether}
 use Rattle.nv_vctl.specs.declared.posted.Posted.{Posted as Reply}
 use Rattle.nv_vctl.specs.declared.posted.Posted.TheVariants as reply
@@ -35,12 +35,6 @@ with_cc value c = record c { cc = value }
 abbrev pub or_unchanged : Controller → Option Controller → Controller
 or_unchanged c None = c
 or_unchanged c (Some after) = after
-
--- the admin queues can be made, and these are they
-pub record AreAdminQueues (mapped : ℕ → Bool) (c : Controller) (submission : SubmissionQueue) (completion : CompletionQueue) : Type 0 where
-  pub can : can_enable mapped c ≡ true
-  pub submission_is : submission ≡ new_submission (admin_submission_base c) (admin_submission_size c) 0
-  pub completion_is : completion ≡ new_completion (admin_completion_base c) (admin_completion_size c)
 
 -- the entry in a guest's memory at this address, where there is one
 abbrev pub entry_at : (memory : ℕ → ℕ) → Option ℕ → Option (List ℕ)

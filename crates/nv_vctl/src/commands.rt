@@ -10,7 +10,7 @@ ghost use Rattle.nv_vctl.specs.Vctl.{completes_in, controller_behind, entry_at, 
 ghost use Rattle.nv_vctl.specs.declared.posted.Posted.TheVariants as posted;
 
 use crate::posted::Posted;
-use crate::vctl::{Vctl, any_taken};
+use crate::vctl::{Vctl, any_taken, count_ended, count_taken};
 use nv_entry::{Cqe, Sqe, Status};
 use nv_mem::{GuestMap, Host};
 
@@ -24,15 +24,20 @@ impl Vctl {
         requires in_place { QueuesInPlace (mapped map.now.regions) self.now }
         ensures { result ≡ entry_at (image map.now.regions (byte_in host.now)) (front self.now queue) }
     {
+        // With the length of the host comes what is known of every map.
+        let _host_len = map.host_len();
         if !self.waits(queue) {
             return None;
         }
-        let found = self.submission_queue(usize::from(queue))?;
+        let Some(found) = self.submission_queue(usize::from(queue)) else {
+            return None;
+        };
         let mut entry = [0; 64];
         nv_bounce::load(found.front(), map, host, &mut entry);
         Some(Sqe::of(&entry))
     }
 
+    #[tactic(auto, unfolding(nv_model::specs::Controller::took))]
     /// The command at the front of a queue is taken: the head moves on, and of an I/O queue one more command is taken.
     ///
     /// The caller knows that one may be taken ([`Vctl::waits`]) and, of an I/O queue, counted ([`Vctl::counts_more`]).
@@ -42,15 +47,13 @@ impl Vctl {
         ensures state { self.new ≡ took self.old queue }
         ensures in_place { (test : ℕ → Bool) → QueuesInPlace test self.old → QueuesInPlace test self.new }
     {
-        let queue = usize::from(queue);
-        let Some(mut found) = self.submission_queue(queue) else {
+        let number = usize::from(queue);
+        let Some(mut found) = self.submission_queue(number) else {
             return;
         };
-        found.ring.take();
-        self.submission[queue] = Some(found);
-        if queue != 0 {
-            self.taken[queue] += 1;
-        }
+        found.take_front();
+        self.submission[number] = Some(found);
+        count_taken(&mut self.taken, number);
     }
 
     /// Posts the completion of a command of a queue, with this command specific dword, command identifier and status; of an I/O
@@ -60,7 +63,15 @@ impl Vctl {
     /// The caller knows that the controller is ready ([`Vctl::is_ready`]) and that a command of the I/O queue is taken
     /// ([`Vctl::taken`]), that the map was made for a host of this length ([`GuestMap::host_len`]), and that the queues that are
     /// there lie wholly in the map, as every call keeps it.
-    pub fn post_cqe(&mut self, queue: u16, dw0: u32, cid: u16, status: Status, map: &GuestMap, host: &mut Host) -> Posted
+    pub fn post_cqe(
+        &mut self,
+        queue: u16,
+        dw0: u32,
+        cid: u16,
+        status: Status,
+        map: &GuestMap,
+        host: &mut Host,
+    ) -> Posted
         requires ready { is_ready self.old ≡ true }
         requires taken { 0 < queue → 0 < slice_index self.old.taken queue }
         requires host { map.now.host_len ≡ length host.old }
@@ -73,6 +84,8 @@ impl Vctl {
         ensures admin { queue ≡ 0 → result ≡ posted.Held → is_queue_full (completion_queue self.old 0) ≡ true }
         ensures in_place { QueuesInPlace (mapped map.now.regions) self.new }
     {
+        // With the length of the host comes what is known of every map.
+        let _host_len = map.host_len();
         let number = usize::from(queue);
         let Some(from) = self.submission_queue(number) else {
             return Posted::Held;
@@ -81,20 +94,18 @@ impl Vctl {
         let Some(mut to) = self.completion_queue(completes_to) else {
             return Posted::Held;
         };
-        if !to.ring.room() {
+        if to.is_full() {
             return Posted::Held;
         }
-        let head = from.ring.head();
-        let cqe = Cqe::new(dw0, head, queue, cid, to.phase.expected(), status);
+        let cqe = Cqe::new(dw0, from.head(), queue, cid, to.phase(), status);
         nv_bounce::store(&cqe.bytes(), to.next(), map, host);
         to.go_on();
         self.completion[completes_to] = Some(to);
-        if number != 0 {
-            self.taken[number] -= 1;
-        }
+        count_ended(&mut self.taken, number);
         Posted::Done
     }
 
+    #[tactic(auto, unfolding(nv_model::specs::Controller::ran_out))]
     /// A taken command of an I/O queue runs out after a reset, without a completion: one command fewer is taken, and CSTS.RDY
     /// falls with the last one.
     ///
@@ -107,7 +118,7 @@ impl Vctl {
         ensures state { self.new ≡ ran_out self.old queue }
         ensures in_place { (test : ℕ → Bool) → QueuesInPlace test self.old → QueuesInPlace test self.new }
     {
-        self.taken[usize::from(queue)] -= 1;
+        count_ended(&mut self.taken, usize::from(queue));
         self.ready = self.ready && any_taken(&self.taken);
     }
 }

@@ -1,6 +1,7 @@
 //! The doorbells.
 
 ghost use Rattle.std.specs.Prelude.{◌≡◌, ℕ, Bool, is_some, true};
+ghost use Rattle.nv_entry.specs.Layout.{bits};
 ghost use Rattle.nv_model.specs.Controller.{completion_queue, doorbell, head_rung, is_ready, submission_queue, tail_rung};
 ghost use Rattle.nv_model.specs.Laws.{QueuesInPlace};
 ghost use Rattle.nv_vctl.specs.Vctl.{or_unchanged};
@@ -17,6 +18,7 @@ const PAIR: u32 = 8;
 const HEAD: u32 = 4;
 
 impl Vctl {
+    #[tactic(auto, unfolding(nv_model::specs::Controller::doorbell))]
     /// Writes the doorbell at an offset, of which the low 16 bits count: the tail of submission queue y at 1000h + 8 y, the head
     /// of completion queue y at 1004h + 8 y; false, with nothing changed, exactly where the write is ignored (NVMe over PCIe
     /// Transport Specification 1.0, "Doorbell").
@@ -32,7 +34,7 @@ impl Vctl {
             return false;
         }
         let queue = (offset - DOORBELLS) / PAIR;
-        let slot = (value & 0xffff) as u16;
+        let slot = low_half(value);
         match (offset - DOORBELLS) % PAIR {
             0 => self.ring_tail(queue as usize, slot),
             HEAD => self.ring_head(queue as usize, slot),
@@ -49,10 +51,9 @@ impl Vctl {
         let Some(mut found) = self.submission_queue(queue) else {
             return false;
         };
-        if found.closing || tail >= found.ring.size() {
+        if !found.ring_tail(tail) {
             return false;
         }
-        found.ring.set_tail(tail);
         self.submission[queue] = Some(found);
         true
     }
@@ -66,11 +67,17 @@ impl Vctl {
         let Some(mut found) = self.completion_queue(queue) else {
             return false;
         };
-        if head >= found.ring.size() || !found.ring.reaches(head) {
+        if !found.ring_head(head) {
             return false;
         }
-        found.ring.set_head(head);
         self.completion[queue] = Some(found);
         true
     }
+}
+
+// The low 16 bits of a doorbell's value.
+fn low_half(value: u32) -> u16
+    ensures { result ≡ bits value 15 0 }
+{
+    (value & 0xffff) as u16
 }

@@ -1,8 +1,8 @@
 //! A guest's queues: where they lie in its memory, and where they stand.
 
-ghost use Rattle.std.specs.Prelude.{◌≡◌, ◌+◌, ◌*◌, ◌<◌, ◌≤◌, ◌^◌, true, false};
+ghost use Rattle.std.specs.Prelude.{◌≡◌, ◌+◌, ◌*◌, ◌<◌, ◌≤◌, ◌^◌, ◌&&◌, if◌then◌else◌, Some, is_some, nat_le, nat_lt, not, true, false};
 ghost use Rattle.nv_model.specs.Controller.{front_of};
-ghost use Rattle.nv_model.specs.Queue.{after_post, cqe_size, front_taken, is_empty, is_full, new_completion, new_submission, sqe_size};
+ghost use Rattle.nv_model.specs.Queue.{after_post, ahead, cqe_size, front_taken, is_empty, is_full, new_completion, new_submission, sqe_size, unacknowledged};
 ghost use Rattle.nv_ring.specs.Ring.{FitsRing};
 
 use nv_ring::{Phase, Ring};
@@ -66,6 +66,40 @@ impl SubmissionQueue {
         }
     }
 
+    /// Whether a command waits in it, and it does not close.
+    pub(crate) fn waits(&self) -> bool
+        ensures { result ≡ is_some (front_of (Some self.now)) }
+    {
+        !self.closing && !self.ring.empty()
+    }
+
+    /// The slot of the front entry.
+    pub(crate) fn head(&self) -> u16
+        ensures { result ≡ self.now.head }
+    {
+        self.ring.head()
+    }
+
+    /// The front entry is taken.
+    pub(crate) fn take_front(&mut self)
+        requires { is_empty self.old.head self.old.tail ≡ false }
+        ensures { self.new ≡ front_taken self.old }
+    {
+        self.ring.take();
+    }
+
+    /// Takes the slot as the tail, as its doorbell rings it; false, with nothing changed, where the queue closes or has no such slot.
+    pub(crate) fn ring_tail(&mut self, tail: u16) -> bool
+        ensures taken { result ≡ (not self.old.closing && nat_lt tail self.old.size) }
+        ensures state { self.new ≡ (if not self.old.closing && nat_lt tail self.old.size then record self.old { tail = tail } else self.old) }
+    {
+        let rings = !self.closing && tail < self.ring.size();
+        if rings {
+            self.ring.set_tail(tail);
+        }
+        rings
+    }
+
     /// The address of the front entry.
     pub(crate) fn front(&self) -> u64
         requires { self.now.base + sqe_size * self.now.size ≤ 2 ^ 64 }
@@ -86,6 +120,34 @@ impl CompletionQueue {
             ring: Ring::new(size),
             phase: Phase::new(),
         }
+    }
+
+    /// Whether it is full.
+    pub(crate) fn is_full(&self) -> bool
+        ensures { result ≡ is_full self.now.size self.now.head self.now.tail }
+    {
+        !self.ring.room()
+    }
+
+    /// The phase tag of this pass.
+    pub(crate) fn phase(&self) -> bool
+        ensures { result ≡ self.now.phase }
+    {
+        self.phase.expected()
+    }
+
+    /// Takes the slot as the head, as its doorbell rings it; false, with nothing changed, where it does not lie from the old head up
+    /// to the tail, going round.
+    pub(crate) fn ring_head(&mut self, head: u16) -> bool
+        ensures taken { result ≡ (nat_lt head self.old.size && nat_le (ahead self.old.size self.old.head head) (unacknowledged self.old)) }
+        ensures state { self.new ≡ (if nat_lt head self.old.size && nat_le (ahead self.old.size self.old.head head) (unacknowledged self.old)
+            then record self.old { head = head } else self.old) }
+    {
+        let rings = head < self.ring.size() && self.ring.reaches(head);
+        if rings {
+            self.ring.set_head(head);
+        }
+        rings
     }
 
     /// The address of the slot that is written next.

@@ -1,11 +1,12 @@
 //! The registers: reads and writes of dwords.
 
-ghost use Rattle.std.specs.Prelude.{◌≡◌, ◌+◌, ◌*◌, ◌^◌, ◌==◌, MatchOption, is_some, true, false};
+ghost use Rattle.std.specs.Prelude.{◌≡◌, ◌+◌, ◌*◌, ◌^◌, ◌==◌, ◌≤◌, is_some, true, false};
 ghost use Rattle.nv_entry.specs.Layout.{bits};
 ghost use Rattle.nv_mem.specs.GuestMap.{mapped};
-ghost use Rattle.nv_model.specs.Controller.{admin_register_written, base_fits, can_enable, cc_written, enabled, is_enabled, reg_read, reg_write, register, reset, running};
+ghost use Rattle.nv_model.specs.Controller.{admin_completion_base, admin_completion_size, admin_register_written, admin_submission_base, admin_submission_size, base_fits, can_enable, cc_written, enabled, is_enabled, reg_read, reg_write, register, reset, running, size_fits};
 ghost use Rattle.nv_model.specs.Laws.{QueuesInPlace};
-ghost use Rattle.nv_vctl.specs.Vctl.{AreAdminQueues, or_unchanged, with_cc};
+ghost use Rattle.nv_ring.specs.Ring.{FitsRing};
+ghost use Rattle.nv_vctl.specs.Vctl.{or_unchanged, with_cc};
 
 use crate::queues::{CQE_SIZE, CompletionQueue, SQE_SIZE, SubmissionQueue};
 use crate::vctl::{QUEUE_COUNT, Vctl, any_taken};
@@ -14,6 +15,7 @@ use nv_ring::Ring;
 
 /// CAP, the controller's capabilities: its two dwords.
 const CAP_LOW: u32 = 0x00;
+
 const CAP_HIGH: u32 = 0x04;
 
 /// VS, the version.
@@ -30,10 +32,12 @@ const AQA: u32 = 0x24;
 
 /// ASQ, the admin submission queue's base: its two dwords.
 const ASQ_LOW: u32 = 0x28;
+
 const ASQ_HIGH: u32 = 0x2c;
 
 /// ACQ, the admin completion queue's base: its two dwords.
 const ACQ_LOW: u32 = 0x30;
+
 const ACQ_HIGH: u32 = 0x34;
 
 /// CAP: 1,024 slots, contiguous queues required, timeout 1, stride 0, the NVM command set, pages of 4 KiB.
@@ -58,6 +62,7 @@ impl Vctl {
         }
     }
 
+    #[tactic(auto, unfolding(nv_model::specs::Controller::reg_write))]
     /// Writes the dword of the registers at an offset; false, with nothing changed, exactly where the write is ignored.
     ///
     /// A write of CC may enable the controller, which makes the admin queues in the guest's memory or sets CSTS.CFS, or reset
@@ -75,6 +80,7 @@ impl Vctl {
     }
 
     // The dword at an offset.
+    #[tactic(auto, unfolding(nv_model::specs::Controller::register))]
     fn register(&self, offset: u32) -> u32
         ensures { result ≡ register self.now offset }
     {
@@ -137,7 +143,9 @@ impl Vctl {
         requires idle { (running self.old == 0) ≡ true }
         ensures { self.new ≡ enabled (mapped map.now.regions) (with_cc value self.old) }
     {
-        if let Some((submission, completion)) = self.admin_queues(map) {
+        if self.can_enable(map) {
+            let submission = SubmissionQueue::new(self.asq(), self.asqs(), 0);
+            let completion = CompletionQueue::new(self.acq(), self.acqs());
             self.ready = true;
             self.submission[0] = Some(submission);
             self.completion[0] = Some(completion);
@@ -162,31 +170,51 @@ impl Vctl {
         self.deletion = None;
     }
 
-    // The admin queues that the registers name, or `None` where they cannot be made: a size that is not 2 to 1,024 slots, or a
-    // base that is no page's start or from which on not every slot is mapped.
-    fn admin_queues(&self, map: &GuestMap) -> Option<(SubmissionQueue, CompletionQueue)>
-        ensures { MatchOption result (can_enable (mapped map.now.regions) self.now ≡ false)
-            (λ made. AreAdminQueues (mapped map.now.regions) self.now made.0 made.1) }
+    // Whether the admin queues that the registers name can be made: each has 2 to 1,024 slots, which lie from a page's start on
+    // wholly in the guest's memory.
+    fn can_enable(&self, map: &GuestMap) -> bool
+        ensures value { result ≡ can_enable (mapped map.now.regions) self.now }
+        ensures sizes { result ≡ true → FitsRing (admin_submission_size self.now) × FitsRing (admin_completion_size self.now) }
     {
-        let (size, posted_size) = (admin_size(self.aqa), admin_size(self.aqa >> 16));
-        let base = address(self.asq_low, self.asq_high);
-        let posted_base = address(self.acq_low, self.acq_high);
-        if Ring::fits(size)
-            && Ring::fits(posted_size)
-            && base_fits(map, base, SQE_SIZE * u64::from(size))
-            && base_fits(map, posted_base, CQE_SIZE * u64::from(posted_size))
-        {
-            let submission = SubmissionQueue::new(base, size, 0);
-            let completion = CompletionQueue::new(posted_base, posted_size);
-            Some((submission, completion))
-        } else {
-            None
-        }
+        size_fits(self.asqs())
+            && size_fits(self.acqs())
+            && base_fits(map, self.asq(), SQE_SIZE * u64::from(self.asqs()))
+            && base_fits(map, self.acq(), CQE_SIZE * u64::from(self.acqs()))
+    }
+
+    // AQA.ASQS, the admin submission queue's size.
+    fn asqs(&self) -> u16
+        ensures value { result ≡ admin_submission_size self.now }
+        ensures fits { result ≤ 4096 }
+    {
+        admin_size(self.aqa)
+    }
+
+    // AQA.ACQS, the admin completion queue's size.
+    fn acqs(&self) -> u16
+        ensures value { result ≡ admin_completion_size self.now }
+        ensures fits { result ≤ 4096 }
+    {
+        admin_size(self.aqa >> 16)
+    }
+
+    // ASQ, the admin submission queue's base.
+    fn asq(&self) -> u64
+        ensures { result ≡ admin_submission_base self.now }
+    {
+        address(self.asq_low, self.asq_high)
+    }
+
+    // ACQ, the admin completion queue's base.
+    fn acq(&self) -> u64
+        ensures { result ≡ admin_completion_base self.now }
+    {
+        address(self.acq_low, self.acq_high)
     }
 }
 
-// Whether EN is set in a value of CC.
-fn enables(value: u32) -> bool
+/// Whether EN is set in a value of CC.
+pub(crate) fn enables(value: u32) -> bool
     ensures { result ≡ (bits value 0 0 == 1) }
 {
     value & 1 == 1
@@ -194,7 +222,8 @@ fn enables(value: u32) -> bool
 
 // The size of an admin queue, which stands in the low 12 bits of AQA, or of AQA's upper half, counted from 0.
 fn admin_size(sizes: u32) -> u16
-    ensures { result ≡ bits sizes 11 0 + 1 }
+    ensures value { result ≡ bits sizes 11 0 + 1 }
+    ensures fits { result ≤ 4096 }
 {
     (sizes & 0xfff) as u16 + 1
 }
@@ -204,6 +233,14 @@ fn address(low: u32, high: u32) -> u64
     ensures { result ≡ low + 2 ^ 32 * high }
 {
     u64::from(low) | (u64::from(high) << 32)
+}
+
+// Whether a queue may have so many slots.
+fn size_fits(size: u16) -> bool
+    ensures value { result ≡ size_fits size }
+    ensures ring { result ≡ true → FitsRing size }
+{
+    Ring::fits(size)
 }
 
 // Whether a queue of so many bytes may lie there: from a page's start on, wholly in the guest's memory.

@@ -1,6 +1,6 @@
 //! The controller, and what can be read of it.
 
-ghost use Rattle.std.specs.Prelude.{◌≡◌, ◌+◌, ◌*◌, ◌<◌, ◌≤◌, ◌==◌, ℕ, Bool, not, nat_lt, is_some, length, slice_index, sum};
+ghost use Rattle.std.specs.Prelude.{◌≡◌, ◌+◌, ◌-◌, ◌*◌, ◌<◌, ◌≤◌, ◌==◌, ℕ, Bool, drop, if◌then◌else◌, not, nat_lt, is_some, length, slice_index, slice_set, sum};
 ghost use Rattle.std.specs.List.{list_any};
 ghost use Rattle.nv_model.specs.Admin.{has_io_queue, is_queue_full, uses};
 ghost use Rattle.nv_model.specs.Controller.{completion_queue, front, is_enabled, is_ready, opening, running, submission_queue};
@@ -10,6 +10,7 @@ ghost use Rattle.nv_vctl.specs.Vctl.{IsWhole, most_taken};
 
 use crate::deletion::Deletion;
 use crate::queues::{CompletionQueue, SubmissionQueue};
+use crate::registers::enables;
 use std::marker::Model;
 
 /// The number of the last I/O queue. Queue 0 is the admin queue.
@@ -55,6 +56,7 @@ impl Model for Vctl {
 }
 
 impl Vctl {
+    #[tactic(auto, unfolding(nv_model::specs::Controller::opening))]
     /// The controller at the start: every register is 0 but CAP and VS, and no queue is there.
     pub fn new() -> Self
         ensures state { result ≡ opening }
@@ -82,7 +84,7 @@ impl Vctl {
         ensures value { result ≡ is_enabled self.now }
         ensures whole { IsWhole self.now }
     {
-        self.cc & 1 == 1
+        enables(self.cc)
     }
 
     /// Whether the controller is ready: CC.EN and CSTS.RDY are both 1.
@@ -132,8 +134,7 @@ impl Vctl {
     pub fn has_io_queue(&self) -> bool
         ensures { result ≡ has_io_queue self.now }
     {
-        self.submission.iter().skip(1).any(|found| found.is_some())
-            || self.completion.iter().skip(1).any(|found| found.is_some())
+        has_io_submission_queue(&self.submission) || has_io_completion_queue(&self.completion)
     }
 
     /// Whether the admin completion queue is there and full.
@@ -141,7 +142,7 @@ impl Vctl {
         ensures { result ≡ is_queue_full (completion_queue self.now 0) }
     {
         match &self.completion[0] {
-            Some(queue) => !queue.ring.room(),
+            Some(queue) => queue.is_full(),
             None => false,
         }
     }
@@ -160,13 +161,14 @@ impl Vctl {
         self.deletion
     }
 
+    #[tactic(auto, unfolding(nv_model::specs::Controller::front))]
     /// Whether a command of a queue may be taken: the controller is ready, and the queue is there, does not close and has a
     /// command that waits.
     pub fn waits(&self, queue: u16) -> bool
         ensures { result ≡ is_some (front self.now queue) }
     {
         match self.submission_queue(usize::from(queue)) {
-            Some(found) => self.is_ready() && !found.closing && !found.ring.empty(),
+            Some(found) => self.is_ready() && found.waits(),
             None => false,
         }
     }
@@ -193,11 +195,54 @@ impl Vctl {
     }
 }
 
-/// Whether some of these counts is not 0.
+/// Whether some command is taken, by how many of each queue are.
 pub(crate) fn any_taken(taken: &[u16; QUEUE_COUNT]) -> bool
     ensures { result ≡ not (sum taken.now == 0) }
 {
-    taken.iter().any(|count| *count != 0)
+    any_nonzero(taken)
+}
+
+/// One more command of a queue is taken, where it is an I/O queue.
+pub(crate) fn count_taken(taken: &mut [u16; QUEUE_COUNT], queue: usize)
+    requires number { queue < length taken.old }
+    requires counted { 0 < queue → slice_index taken.old queue < most_taken }
+    ensures { taken.new ≡ (if queue == 0 then taken.old else slice_set taken.old queue (slice_index taken.old queue + 1)) }
+{
+    if queue != 0 {
+        taken[queue] += 1;
+    }
+}
+
+/// One command fewer of a queue is taken, where it is an I/O queue.
+pub(crate) fn count_ended(taken: &mut [u16; QUEUE_COUNT], queue: usize)
+    requires number { queue < length taken.old }
+    requires taken { 0 < queue → 0 < slice_index taken.old queue }
+    ensures { taken.new ≡ (if queue == 0 then taken.old else slice_set taken.old queue (slice_index taken.old queue - 1)) }
+{
+    if queue != 0 {
+        taken[queue] -= 1;
+    }
+}
+
+// Whether some of these counts is not 0.
+fn any_nonzero(counts: &[u16; QUEUE_COUNT]) -> bool
+    ensures { result ≡ list_any (λ n. not (n == 0)) counts.now }
+{
+    counts.iter().any(|count| *count != 0)
+}
+
+// Whether a submission queue is there beside that of the admin queue.
+fn has_io_submission_queue(queues: &[Option<SubmissionQueue>; QUEUE_COUNT]) -> bool
+    ensures { result ≡ list_any is_some (drop 1 queues.now) }
+{
+    queues.iter().skip(1).any(|found| found.is_some())
+}
+
+// Whether a completion queue is there beside that of the admin queue.
+fn has_io_completion_queue(queues: &[Option<CompletionQueue>; QUEUE_COUNT]) -> bool
+    ensures { result ≡ list_any is_some (drop 1 queues.now) }
+{
+    queues.iter().skip(1).any(|found| found.is_some())
 }
 
 // Whether there is a queue, and it uses that completion queue.

@@ -1,8 +1,8 @@
-use Rattle.std.proofs.Common.{◌≡◌, ◌<◌, ℕ, Bool, true, false, Option, Some, None, IsSome, slice_index, refl, sym, ap, ◌∙◌, subst}
-use Rattle.nv_model.specs.Controller.{Controller, Deletion, completion_queue, is_ready, submission_queue, with_completion, with_submission}
+use Rattle.std.proofs.Common.{◌≡◌, Some, sym, ap, ◌∙◌, subst}
+use Rattle.nv_model.specs.Controller.{Controller, submission_queue}
 use Rattle.nv_model.specs.Laws.{QueuesInPlace}
-use Rattle.nv_model.specs.Queue.{CompletionQueue, SubmissionQueue, new_completion, new_submission}
-use Rattle.nv_vctl.specs.Vctl.{IsWhole, MayFinish, closed, closed_from, finished_from}
+use Rattle.nv_model.specs.Queue.{SubmissionQueue}
+use Rattle.nv_vctl.specs.Vctl.{IsWhole, closed_from}
 use Rattle.nv_vctl.proofs.Whole.{whole-closed}
 use Rattle.nv_vctl.proofs.vctl.Vctl.close_submission_queue.Goals as goal
 use Rattle.nv_vctl.proofs.Places.{in_place-closed}
@@ -10,8 +10,12 @@ use Rattle.nv_vctl.proofs.Places.{in_place-closed}
 pub invariant_of-self : goal.invariant_of-self
 invariant_of-self c =
     let q : SubmissionQueue = record {
-      base = c.found.inside.base; size = c.found.inside.ring.size; head = c.found.inside.ring.head; tail = c.found.inside.ring.tail;
-      completes_to = c.found.inside.completes_to; closing = c.found.inside.closing;
+      base = c.found.inside.base;
+      size = c.found.inside.ring.size;
+      head = c.found.inside.ring.head;
+      tail = c.found.inside.ring.tail;
+      completes_to = c.found.inside.completes_to;
+      closing = c.found.inside.closing;
     } in
     let is : submission_queue c.args.self.now c.args.queue ≡ Some q =
     ap (submission_queue c.args.self.now) (sym c.from.ensures) ∙ sym c.submission_queue.ensures ∙ c.in-Some.is
@@ -23,8 +27,12 @@ invariant_of-self c =
 pub returns-clause-in_place : goal.returns-clause-in_place
 returns-clause-in_place c = λ test place.
     let q : SubmissionQueue = record {
-      base = c.found.inside.base; size = c.found.inside.ring.size; head = c.found.inside.ring.head; tail = c.found.inside.ring.tail;
-      completes_to = c.found.inside.completes_to; closing = c.found.inside.closing;
+      base = c.found.inside.base;
+      size = c.found.inside.ring.size;
+      head = c.found.inside.ring.head;
+      tail = c.found.inside.ring.tail;
+      completes_to = c.found.inside.completes_to;
+      closing = c.found.inside.closing;
     } in
     let is : submission_queue c.args.self.now c.args.queue ≡ Some q =
     ap (submission_queue c.args.self.now) (sym c.from.ensures) ∙ sym c.submission_queue.ensures ∙ c.in-Some.is

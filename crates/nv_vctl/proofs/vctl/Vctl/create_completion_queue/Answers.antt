@@ -1,7 +1,7 @@
-use Rattle.std.proofs.Common.{◌≡◌, ◌<◌, ℕ, Bool, true, false, Option, Some, None, IsSome, slice_index, refl, sym, ap, ◌∙◌, subst}
-use Rattle.nv_model.specs.Controller.{Controller, Deletion, completion_queue, is_ready, submission_queue, with_completion, with_submission}
-use Rattle.nv_model.specs.Queue.{CompletionQueue, SubmissionQueue, new_completion, new_submission}
-use Rattle.nv_vctl.specs.Vctl.{IsWhole, closed, closed_from, finished_from}
+use Rattle.std.proofs.Common.{Some, sym, ap, subst}
+use Rattle.nv_model.specs.Controller.{Controller, with_completion}
+use Rattle.nv_model.specs.Queue.{CompletionQueue, new_completion}
+use Rattle.nv_vctl.specs.Vctl.{IsWhole}
 use Rattle.nv_vctl.proofs.Whole.{ready-on, whole-completion}
 use Rattle.nv_vctl.proofs.vctl.Vctl.create_completion_queue.Goals as goal
 

@@ -1,5 +1,5 @@
-use Rattle.std.proofs.Common.{◌≡◌, ℕ, Bool, true, false, Option, Some, None, IsSome, slice_index, refl, sym, ap, ◌∙◌, subst}
-use Rattle.nv_model.specs.Controller.{Controller, with_completion, with_submission}
+use Rattle.std.proofs.Common.{None, sym, ap, subst}
+use Rattle.nv_model.specs.Controller.{Controller, with_completion}
 use Rattle.nv_vctl.specs.Vctl.{IsWhole}
 use Rattle.nv_vctl.proofs.Whole.{whole-completion_deleted}
 use Rattle.nv_vctl.proofs.vctl.Vctl.delete_completion_queue.Goals as goal

@@ -1,8 +1,6 @@
-use Rattle.std.proofs.Common.{◌≡◌, ◌<◌, ℕ, Bool, true, false, Option, Some, None, IsSome, slice_index, refl, sym, ap, ◌∙◌, subst}
-use Rattle.nv_model.specs.Controller.{Controller, Deletion, completion_queue, is_ready, submission_queue, with_completion, with_submission}
-use Rattle.nv_model.specs.Laws.{QueuesInPlace}
-use Rattle.nv_model.specs.Queue.{CompletionQueue, SubmissionQueue, new_completion, new_submission}
-use Rattle.nv_vctl.specs.Vctl.{IsWhole, MayFinish, closed, closed_from, finished_from}
+use Rattle.std.proofs.Common.{◌≡◌, Option, Some, sym, ap, ◌∙◌, subst}
+use Rattle.nv_model.specs.Controller.{Controller, Deletion}
+use Rattle.nv_vctl.specs.Vctl.{IsWhole, MayFinish, finished_from}
 use Rattle.nv_vctl.proofs.Whole.{whole-finished}
 use Rattle.nv_vctl.proofs.vctl.Vctl.finish_deletion.Goals as goal
 
