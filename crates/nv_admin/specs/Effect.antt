@@ -3,7 +3,7 @@ use Rattle.std.specs.Prelude.{◌≡◌, ℕ, List, Result, Ok, Err}
 use Rattle.nv_entry.specs.declared.status_code.StatusCode.{StatusCode}
 use Rattle.nv_mem.specs.declared.region.Region.{Region}
 use Rattle.nv_model.specs.Admin.{AdminEffect, Hidden, Shown, Structure, answered, refused, unanswered}
-use Rattle.nv_model.specs.Controller.{Controller}
+use Rattle.nv_model.specs.Controller.{Controller, completion_queue, is_ready}
 use Rattle.nv_model.specs.Memory.{put_image}
 use Rattle.nv_admin.specs.DataStructure.{content}
 use Rattle.nv_admin.specs.declared.data_structure.DataStructure.{DataStructure}
@@ -25,3 +25,8 @@ pub record IsDone (done : AdminEffect) (outcome : Result Outcome StatusCode) (c 
 abbrev pub shown_by : Result DataStructure StatusCode → Shown
 shown_by (Ok structure) = Structure (content structure)
 shown_by (Err why) = Hidden why
+
+-- what each command keeps of a controller: whether it is ready, and the admin completion queue
+pub record Keeps (old new : Controller) : Type 0 where
+  pub ready : is_ready new ≡ is_ready old
+  pub admin_queue : completion_queue new 0 ≡ completion_queue old 0
