@@ -1,0 +1,4 @@
+pub mod ReplayVocabulary
+pub mod ReplaySetUp
+pub mod ReplayEvents
+pub mod ReplayScript
