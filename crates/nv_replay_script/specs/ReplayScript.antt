@@ -66,10 +66,10 @@ add_size so_far size word = do
   Ok (record so_far { sizes = sizes })
 
 -- what a line `guest` adds
-abbrev pub add_guest : Progress → (number range base blocks heap bytes : List ℕ) → Result Progress FaultKind
-add_guest so_far number range base blocks heap bytes = do
+abbrev pub add_guest : Progress → List (List ℕ) → Result Progress FaultKind
+add_guest so_far words = do
   early ← in_place (is_early so_far.events)
-  guest ← guest_of (length so_far.guests) number range base blocks heap bytes
+  guest ← guest_of (length so_far.guests) words
   Ok (record so_far { guests = so_far.guests ++ guest ∷ [] })
 
 -- what a line `map` adds
@@ -90,8 +90,7 @@ add_event so_far kind words = do
 -- what a line with this keyword and these words behind it adds
 unfoldable pub after_keyword : Progress → Keyword → List (List ℕ) → Result Progress FaultKind
 after_keyword so_far (keyword.Size size) (word ∷ []) = add_size so_far size word
-after_keyword so_far keyword.Guest (number ∷ range ∷ base ∷ blocks ∷ heap ∷ bytes ∷ []) =
-    add_guest so_far number range base blocks heap bytes
+after_keyword so_far keyword.Guest words = add_guest so_far words
 after_keyword so_far keyword.Map (number ∷ guest ∷ host ∷ len ∷ []) = add_map so_far number guest host len
 after_keyword so_far (keyword.Event kind) words = add_event so_far kind words
 after_keyword so_far keyword words = Err OutOfPlace

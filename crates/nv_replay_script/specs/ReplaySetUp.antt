@@ -1,5 +1,5 @@
 -- The set-up of a script: four sizes, the guests in order, and the regions of each
-use Rattle.std.specs.Prelude.{ℕ, ◌==◌, ◌&&◌, nat_le, nat_lt, Bool, List, [], codes, Option, Some, None, Result, Ok, Err, if◌then◌else◌}
+use Rattle.std.specs.Prelude.{ℕ, ◌==◌, ◌&&◌, nat_le, nat_lt, Bool, List, [], ◌∷◌, codes, Option, Some, None, Result, Ok, Err, if◌then◌else◌}
 use Rattle.std.specs.Str.{bytes_eq}
 use Rattle.nv_mem.specs.declared.region.Region.{Region}
 use Rattle.nv_script.specs.declared.once.fault.FaultKind.{FaultKind}
@@ -97,8 +97,8 @@ known_guest count word = do
   Ok number
 
 -- the guest that the words behind `guest` make, where there are so many guests
-abbrev pub guest_of : (count : ℕ) → (number range base blocks heap bytes : List ℕ) → Result GuestValue FaultKind
-guest_of count number range base blocks heap bytes = do
+abbrev pub guest_of : (count : ℕ) → List (List ℕ) → Result GuestValue FaultKind
+guest_of count (number ∷ range ∷ base ∷ blocks ∷ heap ∷ bytes ∷ []) = do
   next ← next_guest count number
   first ← fixed_word (codes "range") range
   b ← number_of base
@@ -106,6 +106,7 @@ guest_of count number range base blocks heap bytes = do
   second ← fixed_word (codes "heap") heap
   h ← heap_bytes bytes
   Ok (record { base = b; blocks = n; heap = h; regions = [] })
+guest_of count words = Err OutOfPlace
 
 -- the region that these words make
 abbrev pub region_of : (guest host len : List ℕ) → Result Region FaultKind

@@ -8,6 +8,7 @@
 mod event;
 mod numbers;
 mod reading;
+pub mod rows;
 mod script;
 mod set_up;
 mod sizes;

@@ -66,15 +66,7 @@ impl Reading {
     {
         match keyword {
             Keyword::Size(size) => self.add_size(size, words.next_word()),
-            Keyword::Guest => self.add_guest(
-                alloc,
-                words.next_word(),
-                words.next_word(),
-                words.next_word(),
-                words.next_word(),
-                words.next_word(),
-                words.next_word(),
-            ),
+            Keyword::Guest => self.add_guest(alloc, words),
             Keyword::Map => self.add_map(
                 words.next_word(),
                 words.next_word(),
@@ -108,22 +100,13 @@ impl Reading {
     }
 
     // Adds the guest of a line `guest`.
-    fn add_guest(
-        &mut self,
-        alloc: Global,
-        number: &[u8],
-        range: &[u8],
-        base: &[u8],
-        blocks: &[u8],
-        heap: &[u8],
-        bytes: &[u8],
-    ) -> Result<(), LineFault>
-        ensures { let after = add_guest (progress self.old) number.now range.now base.now blocks.now heap.now bytes.now
+    fn add_guest(&mut self, alloc: Global, words: Words<'_>) -> Result<(), LineFault>
+        requires { length words ≡ 6 }
+        ensures { let after = add_guest (progress self.old) words.entry
             in MatchResult result (λ _. after ≡ Ok (progress self.new)) (Refuses after) }
     {
         self.check_early()?;
-        let count = self.guests.len();
-        let guest = make_guest(alloc, count, number, range, base, blocks, heap, bytes)?;
+        let guest = make_guest(alloc, self.guests.len(), words)?;
         self.guests.push(guest)?;
         Ok(())
     }

@@ -1,10 +1,11 @@
 //! The guests of the set-up.
-ghost use Rattle.std.specs.Prelude.{◌≡◌, codes, MatchResult};
+ghost use Rattle.std.specs.Prelude.{◌≡◌, length, MatchResult};
 ghost use Rattle.nv_replay_script.specs.ReplaySetUp.{fixed_word, guest_of, guest_value, heap_bytes, known_guest, next_guest, region_of};
 
 use nv_mem::Region;
 use nv_script::FaultKind;
 use nv_script::once::number::{byte, number};
+use nv_script::once::words::Words;
 use std::alloc::Global;
 
 /// A guest of a set-up, as its lines write it.
@@ -76,22 +77,18 @@ pub fn known(count: usize, word: &[u8]) -> Result<usize, FaultKind>
 pub fn make_guest(
     alloc: Global,
     count: usize,
-    number_word: &[u8],
-    range_word: &[u8],
-    base: &[u8],
-    blocks: &[u8],
-    heap_word: &[u8],
-    bytes: &[u8],
+    mut words: Words<'_>,
 ) -> Result<GuestSetUp, FaultKind>
-    ensures { let guest = guest_of count number_word.now range_word.now base.now blocks.now heap_word.now bytes.now
+    requires { length words ≡ 6 }
+    ensures { let guest = guest_of count words.entry
         in MatchResult result (λ made. guest ≡ Ok (guest_value made)) (λ kind. guest ≡ Err kind) }
 {
-    next(count, number_word)?;
-    fixed(range_word, b"range")?;
-    let base = number(base)?;
-    let blocks = number(blocks)?;
-    fixed(heap_word, b"heap")?;
-    let heap = heap(bytes)?;
+    next(count, words.next_word())?;
+    fixed(words.next_word(), b"range")?;
+    let base = number(words.next_word())?;
+    let blocks = number(words.next_word())?;
+    fixed(words.next_word(), b"heap")?;
+    let heap = heap(words.next_word())?;
     Ok(GuestSetUp {
         base,
         blocks,
