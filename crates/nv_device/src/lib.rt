@@ -11,6 +11,7 @@
 mod command;
 mod device;
 mod lane;
+pub mod laws;
 mod moving;
 mod pages;
 mod posting;

@@ -18,17 +18,17 @@ use Rattle.nv_mem.specs.declared.piece.Piece.{Piece}
 use Rattle.nv_model.specs.Carried.{block_work, cleared, cleared_one, units_moved}
 use Rattle.nv_model.specs.Dialogue.{asked, in_memory}
 use Rattle.nv_model.specs.Judge.{deallocates, has_blocks, Work, is_fua, one_range_units, transfer_len}
-use Rattle.nv_model.specs.Laws.{AgreeOn}
+use Rattle.nv_model.specs.Laws.{AgreeAt, AgreeOn}
 use Rattle.nv_model.specs.Memory.{bytes_from, gathered, scattered, stored}
 use Rattle.nv_model.specs.Private.{Moved, block_bytes, block_written, differs, marked}
 use Rattle.nv_model.specs.Prp.{read_prp}
 use Rattle.nv_model.specs.Queue.{next_slot}
-use Rattle.nv_model.proofs.Agreeing.{in_memory-agree}
+use Rattle.nv_model.proofs.Agreeing.{bytes_from-agree, in_memory-agree}
 use Rattle.nv_model.proofs.MemoryAlike.{scattered-at}
 use Rattle.nv_model.proofs.MemoryLemmas.{bytes_from-stored, stored-outside}
 use Rattle.nv_model.proofs.UnitWords.{units_moved-cleared, units_moved-left}
-use Rattle.nv_world_model.specs.Area.{completion_slot, queue_pair, ring_size}
-use Rattle.nv_world_model.specs.Device.{DeviceLane, Held, completion_written, device_unit, entry_taken, held_of, host_pieces, moved_by, pieces_spelled, range_at, unit_count}
+use Rattle.nv_world_model.specs.Area.{completion_slot, queue_pair, ring_size, submission_slot}
+use Rattle.nv_world_model.specs.Device.{DeviceLane, Held, completion_written, device_unit, entry_taken, front_entry, held_of, host_pieces, moved_by, pieces_spelled, range_at, unit_count}
 use Rattle.nv_world_model.specs.LaneRuns.{IsNotAmong, IsSameEffect, list_named, unit_places}
 
 -- ---- a completion
@@ -83,6 +83,11 @@ completion-elsewhere mediator lane identifier at st d host outside =
     stored-outside host slot bytes at (subst P (sym (length-completion d.head (queue_pair lane) identifier d.phase st)) outside)
 
 -- ---- a take
+
+-- the front entry
+pub front-agree : (mediator lane : ℕ) (d : DeviceLane) (host other : ℕ → ℕ) → AgreeAt host other (submission_slot mediator lane d.head, 64)
+    → front_entry mediator lane d other ≡ front_entry mediator lane d host
+front-agree mediator lane d host other agree = sym (bytes_from-agree host other (submission_slot mediator lane d.head) 64 agree)
 
 -- the pieces that a list spells depend on what is asked for there
 pieces-agree : (o : Option IoOpcode) (entry : List ℕ) (host other : ℕ → ℕ) → AgreeOn host other (list_named o entry host)
