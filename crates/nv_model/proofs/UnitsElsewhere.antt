@@ -1,19 +1,17 @@
--- What the units of a command leave as it was
-use Rattle.std.proofs.Common.{◌≡◌, ℕ, ◌*◌, ◌≤◌, Bool, true, false, ◌||◌, ◌==◌, nat_lt, List, [], ◌∷◌, All, length, drop, get_or, cond, refl, sym, ap, subst, ◌∙◌, arith, eqb-true, ◌<◌}
+-- What the units of a command leave as it was: bytes that its buffer does not name, and blocks that no unit names.
+use Rattle.std.proofs.Common.{◌≡◌, ℕ, ◌*◌, ◌≤◌, Bool, true, false, ◌||◌, ◌==◌, nat_lt, List, [], ◌∷◌, All, drop, cond, refl, sym, ap, ◌∙◌, arith, eqb-true}
 use Rattle.std.proofs.lemmas.Bool.Decides.{nat_tests}
-use Rattle.std.proofs.lemmas.List.{ext_get_or}
-use Rattle.std.proofs.lemmas.List.Elements.{All-drop, All-get_or, All-head, All-tail, All-take}
+use Rattle.std.proofs.lemmas.List.Elements.{All-drop, All-head, All-tail, All-take}
 use mathlib.Core.Path.{fun_ext}
 use Rattle.nv_entry.specs.declared.opcode.IoOpcode.{IoOpcode}
 use Rattle.nv_entry.specs.declared.opcode.IoOpcode.TheVariants.{Flush, Write, Read, Compare, WriteZeroes, DatasetManagement}
 use Rattle.nv_mem.specs.Places.{Place, At, Bucket, places_of}
-use Rattle.nv_model.specs.Memory.{byte_in, scattered, stored}
+use Rattle.nv_model.specs.Memory.{scattered, stored}
 use Rattle.nv_model.specs.Judge.{WorkUnit, MoveBlock, ClearBlock, LeaveBlock, KeepAll, Work, is_read}
+use Rattle.nv_model.specs.Laws.{IsAnother, IsElsewhere}
 use Rattle.nv_model.specs.Limits.{block}
 use Rattle.nv_model.specs.Private.{Moved, block_bytes, block_moved, places_of_block}
 use Rattle.nv_model.specs.Carried.{moved_on, units_moved}
-use Rattle.nv_moves.specs.Flat.{Flat, flat, moved_of}
-use Rattle.nv_flat.specs.Laws.{IsAnother, IsAsLarge, IsElsewhere}
 use Rattle.nv_model.proofs.UnitWords.{or-false}
 
 -- ---- the memory
@@ -153,19 +151,3 @@ units-elsewhere (unit ∷ units) work lba m each =
     let one = unit-elsewhere unit work lba m (All-head (IsElsewhere lba) unit units each) in
     let rest = units-elsewhere units work lba (moved_on unit work m) (All-tail (IsElsewhere lba) unit units each) in
     record { bytes = rest.bytes ∙ one.bytes; mark = rest.mark ∙ one.mark }
-
--- ---- lists that are seen alike
-
-pub equal-lists : (f g : Flat) → IsAsLarge f g → moved_of f false ≡ moved_of g false → f ≡ g
-unfolding moved_of byte_in
-equal-lists f g large alike =
-    let memory : f.memory ≡ g.memory = ext_get_or 0 f.memory g.memory large.memory (λ i. λ below. ap (λ (m : Moved). m.memory i) alike) in
-    let disk : f.disk ≡ g.disk =
-    ext_get_or [] f.disk g.disk large.disk (λ i. λ below.
-    ext_get_or 0 (get_or f.disk i []) (get_or g.disk i [])
-    (All-get_or (λ (bytes : List ℕ). length bytes ≡ block) f.disk i [] below large.blocks_of_one
-    ∙ sym (All-get_or (λ (bytes : List ℕ). length bytes ≡ block) g.disk i [] (subst (λ (n : ℕ). i < n) large.disk below) large.blocks_of_other))
-    (λ offset. λ within. ap (λ (m : Moved). m.disk i offset) alike)) in
-    let kept : f.kept ≡ g.kept = ext_get_or false f.kept g.kept large.kept (λ i. λ below. ap (λ (m : Moved). m.kept i) alike) in
-    ap (λ (bytes : List ℕ). flat bytes f.disk f.kept) memory
-    ∙ ap (λ (blocks : List (List ℕ)). flat g.memory blocks f.kept) disk ∙ ap (flat g.memory g.disk) kept

@@ -1,0 +1,16 @@
+pub mod Lists
+pub mod Openings
+pub mod Rings
+pub mod Shows
+pub mod PlanSizes
+pub mod TagsKept
+pub mod Changes
+pub mod Retags
+pub mod Walks
+pub mod GuestEvents
+pub mod TagEvents
+pub mod EntryFields
+pub mod Named
+pub mod MoveEvents
+pub mod AnswerEvents
+pub mod ReapEvents

@@ -1,0 +1,3 @@
+pub mod LaidOut
+pub mod Area
+pub mod Consistent
