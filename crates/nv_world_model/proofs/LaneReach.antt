@@ -26,6 +26,7 @@ use Rattle.nv_model.specs.Queue.{next_slot}
 use Rattle.nv_model.proofs.Agreeing.{bytes_from-agree, in_memory-agree}
 use Rattle.nv_model.proofs.MemoryAlike.{scattered-at}
 use Rattle.nv_model.proofs.MemoryLemmas.{bytes_from-stored, stored-outside}
+use Rattle.nv_model.proofs.UnitsElsewhere.{scattered-elsewhere}
 use Rattle.nv_model.proofs.UnitWords.{units_moved-cleared, units_moved-left}
 use Rattle.nv_world_model.specs.Area.{completion_slot, queue_pair, ring_size, submission_slot}
 use Rattle.nv_world_model.specs.Device.{DeviceLane, Held, completion_written, device_unit, entry_taken, front_entry, held_of, host_pieces, moved_by, pieces_spelled, range_at, unit_count}
@@ -127,20 +128,6 @@ taken-agree entry d host other agree =
     } in l) (held-agree entry host other agree)
 
 -- ---- a unit
-
--- an address that is not named keeps its byte
-scattered-elsewhere : (memory : ℕ → ℕ) (places : List Place) (bytes : List ℕ) (at : ℕ) → IsNotAmong at places
-    → scattered memory places bytes at ≡ memory at
-unfolding scattered
-scattered-elsewhere memory [] bytes at none = refl
-scattered-elsewhere memory (place ∷ places) [] at none = refl
-scattered-elsewhere memory (At addr ∷ places) (byte ∷ bytes) at none =
-    scattered-elsewhere (stored memory addr (byte ∷ [])) places bytes at (All-tail (λ (p : Place). p ≢ At at) (At addr) places none)
-    ∙ stored-outside memory addr (byte ∷ []) at
-    (let other : addr ≢ at = λ same. All-head (λ (p : Place). p ≢ At at) (At addr) places none (ap At same) in
-    elim (cases_lt at addr) [ inl low ↦ inl low | inr high ↦ inr (omega arith) ])
-scattered-elsewhere memory (Bucket ∷ places) (byte ∷ bytes) at none =
-    scattered-elsewhere memory places bytes at (All-tail (λ (p : Place). p ≢ At at) Bucket places none)
 
 -- blocks that are cleared leave the memory
 cleared-memory : (lbas : List ℕ) (mark : Bool) (m : Moved) → (cleared lbas mark m).memory ≡ m.memory

@@ -9,6 +9,7 @@ use Rattle.nv_mem.specs.Places.{At, Place, places_of}
 use Rattle.nv_mem.specs.declared.piece.Piece.{Piece}
 use Rattle.nv_model.specs.Dialogue.{asked}
 use Rattle.nv_model.specs.Judge.{Clear, Form, Keep, Manage, Transfer, form_of, transfer_len}
+use Rattle.nv_model.specs.Laws.{IsAnother}
 use Rattle.nv_model.specs.Limits.{block, range_size}
 use Rattle.nv_model.specs.Private.{Moved}
 use Rattle.nv_model.specs.Prp.{read_prp}
@@ -150,7 +151,7 @@ unit_places (Some opcode) number pieces = form_places (form_of opcode) number pi
 
 -- none of these places is that address
 abbrev pub IsNotAmong : (at : ℕ) → List Place → Type 0
-IsNotAmong at places = All (λ p. p ≢ At at) places
+IsNotAmong at places = All (IsAnother (At at)) places
 
 -- blocks and marks are the same behind both, and so is whether a Compare has differed
 pub record IsSameEffect (m n : Moved) : Type 0 where
