@@ -49,7 +49,8 @@ pub fn a_posted_completion_is_the_standards()
         (bytes_from (byte_in new_host) (completion_slot old.mediator lane (lane_of old lane).posted) 16) }
     ensures others { (lane slot at : ℕ) (st : StatusField) (old_host new_host : List ℕ) (old new : Physical) →
         IsPosted lane slot st old_host old new_host new →
-        (at < completion_slot old.mediator lane (lane_of old lane).posted) ⊎ (completion_slot old.mediator lane (lane_of old lane).posted + 16 ≤ at) →
+        (at < completion_slot old.mediator lane (lane_of old lane).posted)
+        ⊎ (completion_slot old.mediator lane (lane_of old lane).posted + 16 ≤ at) →
         byte_in new_host at ≡ byte_in old_host at }
 {}
 

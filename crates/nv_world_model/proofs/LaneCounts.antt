@@ -33,7 +33,8 @@ same-count from to low high same = omega arith
 other-pass : (pass : ℕ) → not (pass % 2 == 0) ≡ ((pass + 1) % 2 == 0)
 other-pass pass = grind (arith, nat_tests)
 
-phase-next : (count : ℕ) → cond ((count % 65 + 1) % 65 == 0) (not (count / 65 % 2 == 0)) (count / 65 % 2 == 0) ≡ ((count + 1) / 65 % 2 == 0)
+phase-next : (count : ℕ)
+    → cond ((count % 65 + 1) % 65 == 0) (not (count / 65 % 2 == 0)) (count / 65 % 2 == 0) ≡ ((count + 1) / 65 % 2 == 0)
 phase-next count =
     (elim ((count % 65 + 1) % 65 == 0) as (λ b. ((count % 65 + 1) % 65 == 0) ≡ b
     → cond b (not (count / 65 % 2 == 0)) (count / 65 % 2 == 0) ≡ ((count + 1) / 65 % 2 == 0)) [
@@ -81,7 +82,8 @@ opening-counted = record {
 }
 
 -- a tail that is rung
-rings-counted : (tail : ℕ) (r : LaneRun) → tail < 65 → in_flight r + newly_rung tail r.device ≤ 64 → IsCounted r → IsCounted (lane_behind (Rings tail) r)
+rings-counted : (tail : ℕ) (r : LaneRun) → tail < 65 → in_flight r + newly_rung tail r.device ≤ 64 → IsCounted r
+    → IsCounted (lane_behind (Rings tail) r)
 rings-counted tail r below few s =
     let before : r.device.tail ≡ r.rung % 65 = s.tail in
     let new : newly_rung tail r.device ≡ (tail + 65 - r.rung % 65) % 65 = ap (λ (at : ℕ). (tail + 65 - at) % 65) before in
@@ -124,7 +126,8 @@ count-less held slot h below there =
     let put = count-put held slot None below in
     omega arith
 
-takes-counted : (entry : List ℕ) (host : ℕ → ℕ) (r : LaneRun) → IsWithinTags (Takes entry host) r → IsCounted r → IsCounted (lane_behind (Takes entry host) r)
+takes-counted : (entry : List ℕ) (host : ℕ → ℕ) (r : LaneRun) → IsWithinTags (Takes entry host) r → IsCounted r
+    → IsCounted (lane_behind (Takes entry host) r)
 takes-counted entry host r within s =
     (elim (is_empty r.device.head r.device.tail) as (λ b. is_empty r.device.head r.device.tail ≡ b → IsCounted (cond b r behind)) [
       | true ↦ λ is. s
@@ -135,7 +138,8 @@ takes-counted entry host r within s =
           let counts : r.taken ≡ r.rung → ⊥ = λ same. apart (s.head ∙ ap (λ (n : ℕ). n % 65) same ∙ sym s.tail) in
           let before = s.taken_were_rung in
           let sized = s.slots in
-          let more : held_count behind.device ≡ held_count r.device + 1 = count-more r.device.held (cid_of entry) (held_of entry host) (omega arith) may.1 in
+          let more : held_count behind.device ≡ held_count r.device + 1 =
+          count-more r.device.held (cid_of entry) (held_of entry host) (omega arith) may.1 in
           let held = s.held in
           record {
             slots = length-set r.device.held (cid_of entry) (Some (held_of entry host)) ∙ s.slots;
@@ -155,16 +159,19 @@ takes-counted entry host r within s =
     behind = record r { device = entry_taken entry host r.device; taken = r.taken + 1 }
 
 -- a command that is there has a slot
-there-below : (held : List (Option Held)) (slot : ℕ) (h : Held) → slice_index_or held slot None ≡ Some h → slot < length held
+there-below : (held : List (Option Held)) (slot : ℕ) (h : Held) → slice_index_or held slot None ≡ Some h
+    → slot < length held
 there-below held slot h there =
     elim (cases_lt slot (length held)) [
       | inl below ↦ below
       | inr past ↦ let none : slice_index_or held slot None ≡ None = get_or_past held slot None past in absurd (cc)
     ]
 
-moves-counted : (slot number : ℕ) (differed : Bool) (r : LaneRun) → IsCounted r → IsCounted (lane_behind (Moves slot number differed) r)
+moves-counted : (slot number : ℕ) (differed : Bool) (r : LaneRun) → IsCounted r
+    → IsCounted (lane_behind (Moves slot number differed) r)
 moves-counted slot number differed r s =
-    (elim (slice_index_or r.device.held slot None) as (λ o. slice_index_or r.device.held slot None ≡ o → IsCounted (unit_moved_of o slot number differed r)) [
+    (elim (slice_index_or r.device.held slot None) as (λ o. slice_index_or r.device.held slot None ≡ o
+    → IsCounted (unit_moved_of o slot number differed r)) [
       | None ↦ λ is. s
       | Some h ↦ λ is.
           let now : Option Held = Some (unit_gone number differed h) in
@@ -188,7 +195,8 @@ posts-counted slot r s =
     (elim (slice_index_or r.device.held slot None) as (λ o. slice_index_or r.device.held slot None ≡ o → IsCounted (posted_of o slot r)) [
       | None ↦ λ is. s
       | Some h ↦ λ is.
-          let less : held_count (completion_posted slot r.device) + 1 ≡ held_count r.device = count-less r.device.held slot h (there-below r.device.held slot h is) is in
+          let less : held_count (completion_posted slot r.device) + 1 ≡ held_count r.device =
+          count-less r.device.held slot h (there-below r.device.held slot h is) is in
           let held = s.held in
           let before = s.read_were_posted in
           record {
@@ -239,7 +247,8 @@ event-counted (Moves slot number differed) r within s = moves-counted slot numbe
 event-counted (Posts slot) r within s = posts-counted slot r s
 event-counted Reads r within s = reads-counted r s
 
-run-counted : (events : List LaneEvent) (r : LaneRun) → AreWithinTags events r → IsCounted r → IsCounted (run_behind events r)
+run-counted : (events : List LaneEvent) (r : LaneRun) → AreWithinTags events r → IsCounted r
+    → IsCounted (run_behind events r)
 unfolding run_behind
 run-counted [] r within s = s
 run-counted (e ∷ events) r within s = run-counted events (lane_behind e r) within.1 (event-counted e r within.0 s)
@@ -256,13 +265,18 @@ counted-fits r s =
       read_were_posted = posted;
       submissions_fit = omega arith;
       completions_fit = omega arith;
-      submissions_stand = ap (λ (at : ℕ). ahead 65 at r.device.tail) s.head ∙ ap (λ (at : ℕ). ahead 65 (r.taken % 65) at) s.tail ∙ ahead-count r.taken r.rung rung (omega arith);
-      completions_stand = ap (λ (at : ℕ). ahead 65 at r.device.posted) s.reader ∙ ap (λ (at : ℕ). ahead 65 (r.read % 65) at) s.slot ∙ ahead-count r.read r.posted posted (omega arith);
+      submissions_stand = ap (λ (at : ℕ). ahead 65 at r.device.tail) s.head
+          ∙ ap (λ (at : ℕ). ahead 65 (r.taken % 65) at) s.tail
+          ∙ ahead-count r.taken r.rung rung (omega arith);
+      completions_stand = ap (λ (at : ℕ). ahead 65 at r.device.posted) s.reader
+          ∙ ap (λ (at : ℕ). ahead 65 (r.read % 65) at) s.slot
+          ∙ ahead-count r.read r.posted posted (omega arith);
       tags = omega arith;
       few_tags = omega arith;
       slot = s.slot;
       phase = s.phase;
     }
 
-pub never-overrun : (events : List LaneEvent) → AreWithinTags events opening_run → IsNotOverrun (run_behind events opening_run)
+pub never-overrun : (events : List LaneEvent) → AreWithinTags events opening_run
+    → IsNotOverrun (run_behind events opening_run)
 never-overrun events within = counted-fits (run_behind events opening_run) (run-counted events opening_run within opening-counted)

@@ -17,7 +17,7 @@ use Rattle.nv_mem.specs.Places.{At, Bucket, Place, places_of}
 use Rattle.nv_mem.specs.declared.piece.Piece.{Piece}
 use Rattle.nv_model.specs.Carried.{block_work, cleared, cleared_one, units_moved}
 use Rattle.nv_model.specs.Dialogue.{asked, in_memory}
-use Rattle.nv_model.specs.Judge.{deallocates, has_blocks, Work, is_fua, one_range_units, transfer_len}
+use Rattle.nv_model.specs.Judge.{Work, deallocates, has_blocks, is_fua, one_range_units, transfer_len}
 use Rattle.nv_model.specs.Laws.{AgreeAt, AgreeOn}
 use Rattle.nv_model.specs.Memory.{bytes_from, gathered, scattered, stored}
 use Rattle.nv_model.specs.Private.{Moved, block_bytes, block_written, differs, marked}
@@ -35,7 +35,8 @@ use Rattle.nv_world_model.specs.LaneRuns.{IsNotAmong, IsSameEffect, list_named, 
 -- ---- a completion
 
 -- it has 16 bytes
-length-completion : (head queue cid : ℕ) (phase : Bool) (st : StatusField) → length (completion 0 head queue cid phase st) ≡ 16
+length-completion : (head queue cid : ℕ) (phase : Bool) (st : StatusField)
+    → length (completion 0 head queue cid phase st) ≡ 16
 unfolding completion bytes_of_dwords
 length-completion head queue cid phase st = refl
 
@@ -86,12 +87,14 @@ completion-elsewhere mediator lane identifier at st d host outside =
 -- ---- a take
 
 -- the front entry
-pub front-agree : (mediator lane : ℕ) (d : DeviceLane) (host other : ℕ → ℕ) → AgreeAt host other (submission_slot mediator lane d.head, 64)
+pub front-agree : (mediator lane : ℕ) (d : DeviceLane) (host other : ℕ → ℕ)
+    → AgreeAt host other (submission_slot mediator lane d.head, 64)
     → front_entry mediator lane d other ≡ front_entry mediator lane d host
 front-agree mediator lane d host other agree = sym (bytes_from-agree host other (submission_slot mediator lane d.head) 64 agree)
 
 -- the pieces that a list spells depend on what is asked for there
-pieces-agree : (o : Option IoOpcode) (entry : List ℕ) (host other : ℕ → ℕ) → AgreeOn host other (list_named o entry host)
+pieces-agree : (o : Option IoOpcode) (entry : List ℕ) (host other : ℕ → ℕ)
+    → AgreeOn host other (list_named o entry host)
     → host_pieces o entry other ≡ host_pieces o entry host
 pieces-agree None entry host other agree = refl
 pieces-agree (Some opcode) entry host other agree = by_len (transfer_len opcode entry == 0) agree
@@ -108,7 +111,8 @@ pieces-agree (Some opcode) entry host other agree = by_len (transfer_len opcode 
         ap pieces_spelled (in_memory-agree host other (read_prp (λ _. true) (prp1_of entry) (prp2_of entry) (transfer_len opcode entry)) agree)
 
 -- and so does the command
-held-agree : (entry : List ℕ) (host other : ℕ → ℕ) → AgreeOn host other (list_named (io_opcode (opcode_of entry)) entry host)
+held-agree : (entry : List ℕ) (host other : ℕ → ℕ)
+    → AgreeOn host other (list_named (io_opcode (opcode_of entry)) entry host)
     → held_of entry other ≡ held_of entry host
 unfolding held_of
 held-agree entry host other agree =
@@ -119,7 +123,8 @@ held-agree entry host other agree =
       differed = false;
     } in h) (pieces-agree (io_opcode (opcode_of entry)) entry host other agree)
 
-pub taken-agree : (entry : List ℕ) (d : DeviceLane) (host other : ℕ → ℕ) → AgreeOn host other (list_named (io_opcode (opcode_of entry)) entry host)
+pub taken-agree : (entry : List ℕ) (d : DeviceLane) (host other : ℕ → ℕ)
+    → AgreeOn host other (list_named (io_opcode (opcode_of entry)) entry host)
     → entry_taken entry other d ≡ entry_taken entry host d
 taken-agree entry d host other agree =
     ap (λ (h : Held). let l : DeviceLane = record d {
@@ -144,7 +149,8 @@ managed-memory false range work m =
     ap (λ (n : Moved). n.memory) (units_moved-left (range_with_len (start_of range) (blocks_of range)) work m)
 
 -- what it writes
-moved-elsewhere : (o : Option IoOpcode) (number disk_blocks at : ℕ) (h : Held) (m : Moved) → IsNotAmong at (unit_places o number h.pieces)
+moved-elsewhere : (o : Option IoOpcode) (number disk_blocks at : ℕ) (h : Held) (m : Moved)
+    → IsNotAmong at (unit_places o number h.pieces)
     → (moved_by o number disk_blocks h m).memory at ≡ m.memory at
 unfolding units_moved
 moved-elsewhere None number disk_blocks at h m none = refl
@@ -170,7 +176,8 @@ unit-elsewhere number disk_blocks at h host disk kept none =
 same-effect : (m n : Moved) → m.disk ≡ n.disk → m.kept ≡ n.kept → m.differed ≡ n.differed → IsSameEffect m n
 same-effect m n disk kept differed = record { disk = disk; kept = kept; differed = differed }
 
-cleared-same : (lbas : List ℕ) (mark : Bool) (m n : Moved) → IsSameEffect m n → IsSameEffect (cleared lbas mark m) (cleared lbas mark n)
+cleared-same : (lbas : List ℕ) (mark : Bool) (m n : Moved) → IsSameEffect m n
+    → IsSameEffect (cleared lbas mark m) (cleared lbas mark n)
 unfolding cleared
 cleared-same [] mark m n same = same
 cleared-same (lba ∷ lbas) mark m n same =
@@ -195,7 +202,8 @@ managed-same false range work m n same =
     subst P (sym (units_moved-left lbas work m)) (subst Q (sym (units_moved-left lbas work n)) same)
 
 -- depends on the bytes that it reads
-moved-agree : (o : Option IoOpcode) (number disk_blocks : ℕ) (h : Held) (host other : ℕ → ℕ) (disk : ℕ → ℕ → ℕ) (kept : ℕ → Bool) (differed : Bool)
+moved-agree : (o : Option IoOpcode) (number disk_blocks : ℕ) (h : Held) (host other : ℕ → ℕ) (disk : ℕ → ℕ → ℕ)
+    (kept : ℕ → Bool) (differed : Bool)
     → gathered host (unit_places o number h.pieces) ≡ gathered other (unit_places o number h.pieces)
     → IsSameEffect (moved_by o number disk_blocks h (record { memory = host; disk = disk; kept = kept; differed = differed }))
     (moved_by o number disk_blocks h (record { memory = other; disk = disk; kept = kept; differed = differed }))
@@ -205,7 +213,11 @@ moved-agree (Some Read) number disk_blocks h host other disk kept differed same 
 moved-agree (Some Write) number disk_blocks h host other disk kept differed same =
     record { disk = ap (block_written disk (slba_of h.entry + number)) same; kept = refl; differed = refl }
 moved-agree (Some Compare) number disk_blocks h host other disk kept differed same =
-    record { disk = refl; kept = refl; differed = ap (λ (bytes : List ℕ). differed || differs bytes (block_bytes disk (slba_of h.entry + number))) same }
+    record {
+      disk = refl;
+      kept = refl;
+      differed = ap (λ (bytes : List ℕ). differed || differs bytes (block_bytes disk (slba_of h.entry + number))) same;
+    }
 moved-agree (Some WriteZeroes) number disk_blocks h host other disk kept differed same = record { disk = refl; kept = refl; differed = refl }
 moved-agree (Some DatasetManagement) number disk_blocks h host other disk kept differed same =
     let work : Work = block_work DatasetManagement h.pieces (has_blocks DatasetManagement && is_fua h.entry) in
@@ -217,14 +229,16 @@ moved-agree (Some DatasetManagement) number disk_blocks h host other disk kept d
 moved-agree (Some Flush) number disk_blocks h host other disk kept differed same = record { disk = refl; kept = refl; differed = refl }
 
 pub unit-agree : (number disk_blocks : ℕ) (h : Held) (host other : ℕ → ℕ) (disk : ℕ → ℕ → ℕ) (kept : ℕ → Bool)
-    → gathered host (unit_places (io_opcode (opcode_of h.entry)) number h.pieces) ≡ gathered other (unit_places (io_opcode (opcode_of h.entry)) number h.pieces)
+    → gathered host (unit_places (io_opcode (opcode_of h.entry)) number h.pieces)
+    ≡ gathered other (unit_places (io_opcode (opcode_of h.entry)) number h.pieces)
     → IsSameEffect (device_unit number disk_blocks h host disk kept) (device_unit number disk_blocks h other disk kept)
 unfolding device_unit
 unit-agree number disk_blocks h host other disk kept same =
     moved-agree (io_opcode (opcode_of h.entry)) number disk_blocks h host other disk kept h.differed same
 
 -- and what is written is the same
-moved-same_byte : (o : Option IoOpcode) (number disk_blocks at : ℕ) (h : Held) (host other : ℕ → ℕ) (disk : ℕ → ℕ → ℕ) (kept : ℕ → Bool) (differed : Bool)
+moved-same_byte : (o : Option IoOpcode) (number disk_blocks at : ℕ) (h : Held) (host other : ℕ → ℕ) (disk : ℕ → ℕ → ℕ)
+    (kept : ℕ → Bool) (differed : Bool)
     → host at ≡ other at
     → (moved_by o number disk_blocks h (record { memory = host; disk = disk; kept = kept; differed = differed })).memory at
     ≡ (moved_by o number disk_blocks h (record { memory = other; disk = disk; kept = kept; differed = differed })).memory at
@@ -244,7 +258,8 @@ moved-same_byte (Some DatasetManagement) number disk_blocks at h host other disk
     (record { memory = other; disk = disk; kept = kept; differed = differed })))
 moved-same_byte (Some Flush) number disk_blocks at h host other disk kept differed same = same
 
-pub unit-same_byte : (number disk_blocks at : ℕ) (h : Held) (host other : ℕ → ℕ) (disk : ℕ → ℕ → ℕ) (kept : ℕ → Bool) → host at ≡ other at
+pub unit-same_byte : (number disk_blocks at : ℕ) (h : Held) (host other : ℕ → ℕ) (disk : ℕ → ℕ → ℕ) (kept : ℕ → Bool)
+    → host at ≡ other at
     → (device_unit number disk_blocks h host disk kept).memory at ≡ (device_unit number disk_blocks h other disk kept).memory at
 unfolding device_unit
 unit-same_byte number disk_blocks at h host other disk kept same =
