@@ -1,10 +1,10 @@
 -- A command in the device is answered: its completion waits in the slot that is written next.
-use Rattle.std.proofs.Common.{◌≡◌, ℕ, ◌+◌, ◌-◌, ◌*◌, ◌/◌, ◌%◌, ◌^◌, ◌<◌, ◌≤◌, ◌⊎◌, inl, inr, Bool, true, false, cond, ◌==◌, List, [], ◌∷◌, ◌++◌, flat_map, length, set, slice_get, slice_index, Option, Some, None, arith, refl, sym, ap, ◌∙◌, eq-eqb, subst}
+use Rattle.std.proofs.Common.{◌≡◌, ℕ, ◌+◌, ◌%◌, ◌^◌, ◌<◌, ◌≤◌, ◌⊎◌, inl, inr, Bool, false, ◌==◌, List, [], ◌∷◌, length, set, slice_get, Option, Some, None, arith, refl, sym, ap, ◌∙◌, eq-eqb, subst}
 use Rattle.std.specs.Prelude.{◌≢◌}
 use Rattle.std.proofs.lemmas.Bool.{cases_eq, cases_lt, eqb-false}
 use Rattle.nv_entry.specs.Completion.{cid_of as completed_cid, completion}
 use Rattle.nv_entry.specs.Layout.{bits, bytes_of_dwords, dword, number_at}
-use Rattle.nv_entry.specs.Status.{StatusField, bit}
+use Rattle.nv_entry.specs.Status.{StatusField}
 use Rattle.nv_model.specs.Limits.{page}
 use Rattle.nv_model.specs.Memory.{bytes_from, stored}
 use Rattle.nv_model.specs.Queue.{cqe_size, next_slot}
@@ -12,7 +12,7 @@ use Rattle.nv_model.proofs.MemoryLemmas.{bytes_from-stored}
 use Rattle.nv_world_model.specs.Area.{completion_slot, lane_start, list_page, queue_pair, ring_size, submission_slot, tag_count}
 use Rattle.nv_world_model.specs.Contained.{is_answered_at, is_queued_at, tag_stands}
 use Rattle.nv_world_model.specs.Device.{DeviceLane, Held, completion_posted, completion_written, held_status, next_phase}
-use Rattle.nv_world_model.specs.Geometry.{Geometry, Guest}
+use Rattle.nv_world_model.specs.Geometry.{Geometry}
 use Rattle.nv_world_model.specs.Plan.{Plan}
 use Rattle.nv_world_model.specs.Step.{device_fail, device_post, device_posted, is_success, step}
 use Rattle.nv_world_model.specs.declared.event.Event.TheVariants as event
@@ -75,12 +75,15 @@ module _ (geometry : Geometry) (lanes lane : ℕ) (host : ℕ → ℕ) (d : Devi
   answer-undisturbed tag head helds phase t tag_below head_below low high room =
       record {
         pages = written-same (list_page geometry.mediator lane tag) (list_page geometry.mediator lane (tag + 1)) (inr (omega (arith, posted_below)));
-        queued = (λ at stands between.
-        (between, (let slot = between.slot in
-        written-same (submission_slot geometry.mediator lane at) (submission_slot geometry.mediator lane (at + 1)) (inl (omega (arith, slot))))));
-        answered = (λ at stands between.
-        (between-more head d.posted at head_below posted_below room between,
-        written-same (completion_slot geometry.mediator lane at) (completion_slot geometry.mediator lane (at + 1)) (by_slot at between (cases_lt at d.posted) (cases_eq at d.posted))));
+        queued = (λ at stands between. (
+          between,
+          (let slot = between.slot in
+              written-same (submission_slot geometry.mediator lane at) (submission_slot geometry.mediator lane (at + 1)) (inl (omega (arith, slot)))),
+        ));
+        answered = (λ at stands between. (
+          between-more head d.posted at head_below posted_below room between,
+          written-same (completion_slot geometry.mediator lane at) (completion_slot geometry.mediator lane (at + 1)) (by_slot at between (cases_lt at d.posted) (cases_eq at d.posted)),
+        ));
       }
     where
       by_slot : (at : ℕ) → IsBetween head d.posted at → (at < d.posted) ⊎ (d.posted ≤ at) → (at ≡ d.posted) ⊎ (at ≢ d.posted)
@@ -116,10 +119,13 @@ answered-lane geometry lanes lane tag host st l d h command plan aligned below i
       guest = was.guest;
       is = was.is;
       planned = was.planned;
-      stands = (record {
-        slot = between-tail l.head d.posted is.positions.read is.positions.posted room;
-        identifier = ap completed_cid shown ∙ completion-cid 0 d.head (queue_pair lane) tag d.phase st (omega (arith, tag_below));
-      }, refl);
+      stands = (
+        record {
+          slot = between-tail l.head d.posted is.positions.read is.positions.posted room;
+          identifier = ap completed_cid shown ∙ completion-cid 0 d.head (queue_pair lane) tag d.phase st (omega (arith, tag_below));
+        },
+        refl,
+      );
     } in
     record {
       positions = record {

@@ -1,22 +1,20 @@
 -- Worlds of which one lane, or one guest's memory and controller, is changed.
-use Rattle.std.proofs.Common.{◌≡◌, ℕ, ◌+◌, ◌*◌, ◌%◌, ◌<◌, ◌≤◌, ◌⊎◌, inl, inr, Bool, true, false, cond, ◌==◌, List, [], ◌∷◌, length, set, slice_get, Option, Some, None, arith, refl, sym, ap, ◌∙◌, eq-eqb, subst}
-use Rattle.std.proofs.lemmas.Bool.{cases_eq, cases_lt, eqb-false}
-use Rattle.nv_mem.specs.GuestMap.{guest_of, mapped}
+use Rattle.std.proofs.Common.{◌≡◌, ℕ, ◌+◌, ◌%◌, ◌<◌, false, ◌==◌, length, set, slice_get, Some, arith, sym, ◌∙◌, subst}
+use Rattle.std.proofs.lemmas.Bool.{eqb-false}
+use Rattle.nv_mem.specs.GuestMap.{mapped}
 use Rattle.nv_model.specs.Controller.{Controller}
 use Rattle.nv_model.specs.Laws.{QueuesInPlace}
 use Rattle.nv_model.specs.Limits.{page}
 use Rattle.nv_model.specs.Memory.{put_image}
 use Rattle.nv_model.proofs.PutImages.{put_image-elsewhere}
-use Rattle.nv_world_model.specs.Area.{completion_slot, lane_start, list_page, submission_slot, tag_count}
-use Rattle.nv_world_model.specs.Contained.{is_answered_at, is_queued_at, tag_stands}
-use Rattle.nv_world_model.specs.Device.{DeviceLane, Held}
+use Rattle.nv_world_model.specs.Area.{completion_slot, list_page, submission_slot, tag_count}
+use Rattle.nv_world_model.specs.Device.{DeviceLane}
 use Rattle.nv_world_model.specs.Geometry.{Geometry, Guest, regions_of}
-use Rattle.nv_world_model.specs.World.{Answered, InDevice, Lane, Queued, Standing, Tag, World, changed_at, tag_changed, tag_in, tag_of, with_controller, with_host, with_tag}
-use Rattle.nv_world_model.proofs.Seats.{slice_get-set, slice_get-set-other}
-use Rattle.nv_laws_sound.specs.Area.{SameBetween, SameInLane}
-use Rattle.nv_laws_sound.specs.Consistent.{ArePositions, IsBetween, IsConsistent, IsLane, IsTag, SomeStands, standing_count, waits_for_device, waits_for_mediator}
+use Rattle.nv_world_model.specs.World.{Lane, Tag, World, with_controller, with_host}
+use Rattle.nv_laws_sound.specs.Area.{SameInLane}
+use Rattle.nv_laws_sound.specs.Consistent.{IsConsistent, IsLane}
 use Rattle.nv_laws_sound.specs.LaidOut.{IsLaidOut}
-use Rattle.nv_laws_sound.proofs.Lists.{IsThere, Put, Was, count-set, length-set, set-same, set-there, slice_get-below, slice_get-there, some-same}
+use Rattle.nv_laws_sound.proofs.Lists.{IsThere, Put, Was, length-set, set-there, slice_get-below, some-same}
 use Rattle.nv_laws_sound.proofs.Shows.{same-part}
 use Rattle.nv_laws_sound.proofs.TagsKept.{IsUndisturbed, tag-kept}
 
@@ -29,9 +27,9 @@ undisturbed-same mediator lane tag host other head d t below same =
     record {
       pages = same-part host other _ _ (list_page mediator lane tag) (list_page mediator lane (tag + 1)) same (omega arith) (omega arith);
       queued = (λ at stands is.
-      (is, (let slot = is.slot in same-part host other _ _ (submission_slot mediator lane at) (submission_slot mediator lane (at + 1)) same (omega arith) (omega arith))));
+          (is, (let slot = is.slot in same-part host other _ _ (submission_slot mediator lane at) (submission_slot mediator lane (at + 1)) same (omega arith) (omega arith))));
       answered = (λ at stands is.
-      (is, (let slot = is.slot in same-part host other _ _ (completion_slot mediator lane at) (completion_slot mediator lane (at + 1)) same (omega arith) (omega arith))));
+          (is, (let slot = is.slot in same-part host other _ _ (completion_slot mediator lane at) (completion_slot mediator lane (at + 1)) same (omega arith) (omega arith))));
     }
 
 pub lane-same : (geometry : Geometry) (lane : ℕ) (host other : ℕ → ℕ) (l : Lane) (d : DeviceLane) → geometry.mediator % page ≡ 0
@@ -41,9 +39,9 @@ lane-same geometry lane host other l d aligned same is =
     record {
       positions = is.positions;
       tags = (λ tag t held at there.
-      (let below = slice_get-below l.tags tag t at in
-      tag-kept geometry lane tag host other aligned l.head l.head d d held t
-      (undisturbed-same geometry.mediator lane tag host other l.head d t (omega (arith, below, sized)) same) (is.tags tag t held at there)));
+          (let below = slice_get-below l.tags tag t at in
+          tag-kept geometry lane tag host other aligned l.head l.head d d held t
+          (undisturbed-same geometry.mediator lane tag host other l.head d t (omega (arith, below, sized)) same) (is.tags tag t held at there)));
       queued = is.queued;
       answered = is.answered;
       queued_count = is.queued_count;
@@ -68,7 +66,7 @@ host-consistent geometry w other aligned same is =
       sides = is.sides;
       controllers = is.controllers;
       lanes = (λ lane l d at there.
-      lane-same geometry lane w.host other l d aligned (same lane (slice_get-below w.lanes lane l at)) (is.lanes lane l d at there));
+          lane-same geometry lane w.host other l d aligned (same lane (slice_get-below w.lanes lane l at)) (is.lanes lane l d at there));
       queues = is.queues;
     }
 

@@ -1,5 +1,5 @@
 -- What is read back of a physical entry.
-use Rattle.std.proofs.Common.{◌≡◌, ℕ, zero, suc, ◌+◌, ◌-◌, ◌*◌, ◌/◌, ◌%◌, ◌^◌, ◌<◌, Bool, true, false, List, [], ◌∷◌, ◌++◌, slice_get, Some, arith, refl, sym, ap, ◌∙◌, mod-lt}
+use Rattle.std.proofs.Common.{◌≡◌, ℕ, zero, suc, ◌+◌, ◌*◌, ◌/◌, ◌%◌, ◌^◌, ◌<◌, Bool, true, false, List, [], ◌∷◌, ◌++◌, slice_get, Some, arith, refl, ap, ◌∙◌, mod-lt}
 use Rattle.nv_entry.specs.Dwords.{dword-bytes_of_dwords_suc, dword-bytes_of_dwords_zero, halves}
 use Rattle.nv_entry.specs.Layout.{bits, bytes_of_dwords, dword, number_at, qword}
 use Rattle.nv_entry.specs.Status.{bit}
@@ -7,7 +7,7 @@ use Rattle.nv_entry.specs.Submission.{cid_of, deallocate_of, nlb_of, nr_of, opco
 use Rattle.nv_model.specs.Judge.{Clear, Form, Keep, Manage, Transfer, form_transfer_len, is_fua}
 use Rattle.nv_ns.specs.BlockRange.{Extent, block_at}
 use Rattle.nv_prp.specs.declared.prps.Prps.{Prps}
-use Rattle.nv_world_model.specs.Area.{bounce_page, entry_of, form_dwords, list_page, physical_entry, plan_dwords, prps_of, tag_count, two_dwords}
+use Rattle.nv_world_model.specs.Area.{bounce_page, entry_of, form_dwords, list_page, physical_entry, prps_of, tag_count, two_dwords}
 use Rattle.nv_world_model.specs.Device.{form_unit_count}
 use Rattle.nv_world_model.specs.Geometry.{Guest}
 use Rattle.nv_world_model.specs.Plan.{Plan}

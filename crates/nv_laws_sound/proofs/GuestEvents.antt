@@ -1,5 +1,5 @@
 -- A guest's acts, admin steps and takes.
-use Rattle.std.proofs.Common.{◌≡◌, ℕ, ◌+◌, ◌%◌, Bool, true, false, cond, List, [], length, slice_get, Option, Some, None, refl, sym, ap, ◌∙◌, subst}
+use Rattle.std.proofs.Common.{◌≡◌, ℕ, ◌%◌, true, List, [], length, slice_get, Option, Some, None, refl, ap, ◌∙◌}
 use Rattle.nv_mem.specs.GuestMap.{mapped}
 use Rattle.nv_model.specs.Admin.{AdminStep, NothingToDo, QueueFull, Stepped, admin}
 use Rattle.nv_model.specs.Controller.{Controller, front, took}
@@ -14,11 +14,10 @@ use Rattle.nv_model.proofs.QueueOrder.{IsKept-in_place}
 use Rattle.nv_model.proofs.QueuesKept.{took-kept}
 use Rattle.nv_model.proofs.StepsKept.{step-kept}
 use Rattle.nv_world_model.specs.declared.event.Event.TheVariants as event
-use Rattle.nv_world_model.specs.Device.{DeviceLane}
-use Rattle.nv_world_model.specs.Geometry.{Geometry, Guest, regions_of, shape_of}
+use Rattle.nv_world_model.specs.Geometry.{Geometry, regions_of, shape_of}
 use Rattle.nv_world_model.specs.Seat.{Owner, owner_of, put_back, seat, with_memory}
-use Rattle.nv_world_model.specs.Step.{After, is_io_queue, acted_by, acted_in, administered_by, administered_in, free_tag, is_free, step, take_front, take_from, take_tag, taken_to}
-use Rattle.nv_world_model.specs.World.{Command, Free, Lane, Tag, Taken, Flying, Ended, World, tag_in, tag_of, with_controller, with_host}
+use Rattle.nv_world_model.specs.Step.{is_io_queue, acted_by, acted_in, administered_by, administered_in, free_tag, is_free, step, take_front, take_from, take_tag, taken_to}
+use Rattle.nv_world_model.specs.World.{Free, Lane, Tag, Taken, Flying, Ended, World, tag_in, tag_of, with_controller}
 use Rattle.nv_world_model.proofs.Seats.{IsOwner, owner_of-is}
 use Rattle.nv_world_model.proofs.SeatSteps.{Changed, IsPlain, NotDone, NotThere, Shown, act-plain}
 use Rattle.nv_laws_sound.specs.Consistent.{IsConsistent}

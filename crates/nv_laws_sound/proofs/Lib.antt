@@ -14,3 +14,10 @@ pub mod Named
 pub mod MoveEvents
 pub mod AnswerEvents
 pub mod ReapEvents
+pub mod HeldEntries
+pub mod TakenEvents
+pub mod Planned
+pub mod SubmitEvents
+pub mod LaidOuts
+pub mod Steps
+pub mod Slots

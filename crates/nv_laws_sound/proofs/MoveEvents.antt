@@ -1,7 +1,7 @@
 -- A unit of a command in the device moves: its bytes go to its guest's memory or to its own bounce pages, and no others change.
-use Rattle.std.proofs.Common.{◌≡◌, ℕ, ◌+◌, ◌*◌, ◌%◌, ◌<◌, ◌≤◌, ◌⊎◌, inl, inr, Bool, true, false, cond, not, ◌==◌, List, [], ◌∷◌, All, length, map, set, slice_get, Option, Some, None, arith, refl, sym, ap, ◌∙◌, subst}
+use Rattle.std.proofs.Common.{◌≡◌, ℕ, ◌+◌, ◌%◌, ◌<◌, ◌≤◌, ◌⊎◌, inl, inr, Bool, true, false, not, ◌==◌, List, [], All, length, set, slice_get, Option, Some, None, arith, refl, sym, ap, ◌∙◌, subst}
 use Rattle.std.specs.Prelude.{◌≢◌}
-use Rattle.std.specs.List.{filter, list_any}
+use Rattle.std.specs.List.{list_any}
 use Rattle.std.proofs.lemmas.Bool.{cases_eq, cases_lt, eqb-false}
 use Rattle.std.proofs.lemmas.List.Elements.{All-filter}
 use Rattle.nv_entry.specs.Opcode.{io_opcode}
@@ -9,20 +9,20 @@ use Rattle.nv_entry.specs.Submission.{opcode_of}
 use Rattle.nv_entry.specs.declared.opcode.IoOpcode.{IoOpcode}
 use Rattle.nv_mem.specs.GuestMap.{guest_of, mapped}
 use Rattle.nv_mem.specs.Places.{At, places_of}
-use Rattle.nv_model.specs.Carried.{block_work, units_moved}
-use Rattle.nv_model.specs.Judge.{Clear, Form, Keep, Manage, Transfer, Work, form_is_read, form_of, has_blocks, is_fua, is_read}
+use Rattle.nv_model.specs.Carried.{block_work}
+use Rattle.nv_model.specs.Judge.{Clear, Form, Keep, Manage, Transfer, Work, form_is_read, form_of, is_read}
 use Rattle.nv_model.specs.Laws.{IsAnother}
-use Rattle.nv_model.specs.Limits.{most_bytes, page}
-use Rattle.nv_model.specs.Private.{Moved, others}
+use Rattle.nv_model.specs.Limits.{most_bytes}
+use Rattle.nv_model.specs.Private.{Moved}
 use Rattle.nv_model.proofs.AnyAnswers.{end-sound}
 use Rattle.nv_model.proofs.UnitsElsewhere.{units-memory, units-memory_at}
 use Rattle.nv_world_model.specs.declared.event.Event.TheVariants as event
-use Rattle.nv_world_model.specs.Area.{addresses_of, bounce_page, completion_slot, entry_of, lane_start, list_bytes, list_page, prps_of, submission_slot, tag_count}
+use Rattle.nv_world_model.specs.Area.{bounce_page, completion_slot, lane_start, list_bytes, list_page, prps_of, submission_slot, tag_count}
 use Rattle.nv_world_model.specs.Device.{DeviceLane, Held, device_unit, form_moves, moved_by, unit_count, unit_gone, with_held}
 use Rattle.nv_world_model.specs.Geometry.{Geometry, Guest, regions_of, shape_of}
-use Rattle.nv_world_model.specs.Plan.{Bounced, Direct, NoData, Plan}
-use Rattle.nv_world_model.specs.Step.{After, device_move, device_moved, step}
-use Rattle.nv_world_model.specs.World.{Answered, Command, Ended, Flying, Free, InDevice, Lane, Queued, Standing, Tag, Taken, World, changed_at, with_device}
+use Rattle.nv_world_model.specs.Plan.{Plan}
+use Rattle.nv_world_model.specs.Step.{device_move, device_moved, step}
+use Rattle.nv_world_model.specs.World.{Answered, Command, Ended, Flying, Free, InDevice, Lane, Queued, Tag, Taken, World, changed_at}
 use Rattle.nv_laws_sound.specs.Area.{SameBetween, SameInLane, Shows, ranges_of, form_ranges}
 use Rattle.nv_laws_sound.specs.Consistent.{HasPages, IsCommand, IsConsistent, IsInDevice, IsLane, IsPlanned, IsTag}
 use Rattle.nv_laws_sound.specs.LaidOut.{IsLaidOut}
@@ -30,7 +30,7 @@ use Rattle.nv_laws_sound.proofs.Changes.{world-lane}
 use Rattle.nv_laws_sound.proofs.EntryFields.{entry-opcode}
 use Rattle.nv_laws_sound.proofs.Lists.{length-set, set-same, slice_get-below, slice_get-there}
 use Rattle.nv_laws_sound.proofs.Named.{addresses-apart}
-use Rattle.nv_laws_sound.proofs.PlanSizes.{list-short, planned-kinds, ranges-short}
+use Rattle.nv_laws_sound.proofs.PlanSizes.{list-short, planned-kinds}
 use Rattle.nv_laws_sound.proofs.Retags.{tags-with}
 use Rattle.nv_laws_sound.proofs.Shows.{shows-between, shows-nothing}
 use Rattle.nv_laws_sound.proofs.TagEvents.{blocks-consistent}
@@ -134,12 +134,16 @@ module _ (host_bytes : ℕ) (geometry : Geometry) (lanes lane tag : ℕ) (laid :
   moved-undisturbed other head d held t apart other_below =
       record {
         pages = area-same (list_page geometry.mediator lane other) (list_page geometry.mediator lane (other + 1)) (omega arith) (omega (arith, below, other_below)) (pages_away (cases_lt other tag));
-        queued = (λ at stands between.
-        (between, (let slot = between.slot in
-        area-same (submission_slot geometry.mediator lane at) (submission_slot geometry.mediator lane (at + 1)) (omega arith) (omega (arith, below, slot)) (inl (omega (arith, slot))))));
-        answered = (λ at stands between.
-        (between, (let slot = between.slot in
-        area-same (completion_slot geometry.mediator lane at) (completion_slot geometry.mediator lane (at + 1)) (omega arith) (omega (arith, below, slot)) (inl (omega (arith, slot))))));
+        queued = (λ at stands between. (
+          between,
+          (let slot = between.slot in
+              area-same (submission_slot geometry.mediator lane at) (submission_slot geometry.mediator lane (at + 1)) (omega arith) (omega (arith, below, slot)) (inl (omega (arith, slot)))),
+        ));
+        answered = (λ at stands between. (
+          between,
+          (let slot = between.slot in
+              area-same (completion_slot geometry.mediator lane at) (completion_slot geometry.mediator lane (at + 1)) (omega arith) (omega (arith, below, slot)) (inl (omega (arith, slot)))),
+        ));
       }
     where
       pages_away : (other < tag) ⊎ (tag ≤ other)

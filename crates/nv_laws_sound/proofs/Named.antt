@@ -1,5 +1,5 @@
 -- Which host addresses a plan names: those of its guest's memory, or its tag's bounce pages.
-use Rattle.std.proofs.Common.{◌≡◌, ℕ, zero, suc, ◌+◌, ◌*◌, ◌%◌, ◌<◌, ◌≤◌, ◌⊎◌, inl, inr, Bool, true, List, [], ◌∷◌, ◌++◌, All, flat_map, length, map, slice_get, Option, Some, None, option_to_list, arith, refl, sym, ap, ◌∙◌, subst}
+use Rattle.std.proofs.Common.{◌≡◌, ℕ, zero, suc, ◌+◌, ◌<◌, ◌≤◌, ◌⊎◌, inl, inr, List, [], ◌∷◌, All, flat_map, map, Option, Some, None, option_to_list, arith, refl, sym, ◌∙◌, subst}
 use Rattle.std.specs.Prelude.{◌≢◌}
 use Rattle.std.specs.List.{AllPairs, range_with_len}
 use Rattle.std.proofs.lemmas.List.Elements.{All-append, All-cons, All-map, All-nil, All-weaker}
@@ -7,7 +7,6 @@ use Rattle.nv_mem.specs.GuestMap.{IsApart, guest_of, host_of, mapped}
 use Rattle.nv_mem.specs.Places.{At, Bucket, Place, places_of, total_len}
 use Rattle.nv_mem.specs.declared.region.Region.{Region}
 use Rattle.nv_mem.proofs.Images.{guest_of-host}
-use Rattle.nv_model.specs.Judge.{Work}
 use Rattle.nv_model.specs.Laws.{IsAnother}
 use Rattle.nv_model.specs.Limits.{most_bytes}
 use Rattle.nv_model.proofs.AnyAnswers.{end-short, end-sound}
@@ -22,38 +21,44 @@ use Rattle.nv_laws_sound.proofs.PlanSizes.{planned-kinds}
 abbrev IsNot : (at : ℕ) → ℕ → Type 0
 IsNot at addr = addr ≢ at
 
--- the address of a place is none that no guest address has
-option-apart : (regions : List Region) (addr at : ℕ) (found : Option ℕ) → host_of regions addr ≡ found
-    → AllPairs IsApart regions → guest_of regions at ≡ None → All (IsNot at) (option_to_list found)
-option-apart regions addr at None is apart outside = All-nil (IsNot at)
-option-apart regions addr at (Some host) is apart outside =
-    All-cons (IsNot at) host [] (λ same. bad same) (All-nil (IsNot at))
-  where
-    bad : host ≡ at → ⊥
-    bad same =
-        let there = guest_of-host regions addr host apart is in
-        let none : guest_of regions host ≡ None = subst (λ n. guest_of regions n ≡ None) (sym same) outside in
-        let both : Some addr ≡ None = sym there ∙ none in
-        cc
+-- what holds of each host address holds of those of these places
+option-all : (P : ℕ → Type 0) (regions : List Region) (addr : ℕ) (found : Option ℕ) → host_of regions addr ≡ found
+    → ((guest host : ℕ) → host_of regions guest ≡ Some host → P host) → All P (option_to_list found)
+option-all P regions addr None is each = All-nil P
+option-all P regions addr (Some host) is each = All-cons P host [] (each addr host is) (All-nil P)
 
+pub hosts-all : (P : ℕ → Type 0) (regions : List Region) (places : List Place) → ((guest host : ℕ) → host_of regions guest ≡ Some host → P host)
+    → All P (hosts_of regions places)
+unfolding hosts_of
+hosts-all P regions [] each = All-nil P
+hosts-all P regions (At addr ∷ places) each =
+    All-append P (option_to_list (host_of regions addr)) (flat_map (host_address regions) places)
+    (option-all P regions addr (host_of regions addr) refl each) (hosts-all P regions places each)
+hosts-all P regions (Bucket ∷ places) each = hosts-all P regions places each
+
+-- and what holds of each number of a row, of the row
+pub row-all : (P : ℕ → Type 0) (from len : ℕ) → ((at : ℕ) → from ≤ at → at < from + len → P at) → All P (range_with_len from len)
+row-all P from zero each = All-nil P
+row-all P from (suc len) each =
+    All-cons P from (range_with_len (from + 1) len) (each from (omega arith) (omega arith))
+    (row-all P (from + 1) len (λ at low high. each at (omega (arith, low)) (omega (arith, high))))
+
+-- no address of a guest's places is one that no guest address has
 hosts-apart : (regions : List Region) (at : ℕ) (places : List Place) → AllPairs IsApart regions → guest_of regions at ≡ None
     → All (IsNot at) (hosts_of regions places)
-unfolding hosts_of
-hosts-apart regions at [] apart outside = All-nil (IsNot at)
-hosts-apart regions at (At addr ∷ places) apart outside =
-    All-append (IsNot at) (option_to_list (host_of regions addr)) (flat_map (host_address regions) places)
-    (option-apart regions addr at (host_of regions addr) refl apart outside) (hosts-apart regions at places apart outside)
-hosts-apart regions at (Bucket ∷ places) apart outside = hosts-apart regions at places apart outside
+hosts-apart regions at places apart outside = hosts-all (IsNot at) regions places (λ guest host is same. bad guest host is same)
+  where
+    bad : (guest host : ℕ) → host_of regions guest ≡ Some host → host ≡ at → ⊥
+    bad guest host is same =
+        let there = guest_of-host regions guest host apart is in
+        let none : guest_of regions host ≡ None = subst (λ n. guest_of regions n ≡ None) (sym same) outside in
+        let both : Some guest ≡ None = sym there ∙ none in
+        cc
 
--- nor is an address of a row one outside of the row
+-- nor is a number of a row one outside of the row
 row-apart : (from len at : ℕ) → (at < from) ⊎ (from + len ≤ at) → All (IsNot at) (range_with_len from len)
-row-apart from zero at outside = All-nil (IsNot at)
-row-apart from (suc len) at (inl before) =
-    All-cons (IsNot at) from (range_with_len (from + 1) len) (λ same. absurd (omega (arith, same, before)))
-    (row-apart (from + 1) len at (inl (omega (arith, before))))
-row-apart from (suc len) at (inr behind) =
-    All-cons (IsNot at) from (range_with_len (from + 1) len) (λ same. absurd (omega (arith, same, behind)))
-    (row-apart (from + 1) len at (inr (omega (arith, behind))))
+row-apart from len at (inl before) = row-all (IsNot at) from len (λ x low high same. absurd (omega (arith, low, same, before)))
+row-apart from len at (inr behind) = row-all (IsNot at) from len (λ x low high same. absurd (omega (arith, high, same, behind)))
 
 -- an address outside of the guest's memory and of the tag's bounce pages is none that a plan names
 pub addresses-apart : (guest : Guest) (entry : List ℕ) (plan : Plan) (bounce at : ℕ) → AllPairs IsApart (regions_of guest)
@@ -73,8 +78,10 @@ addresses-apart guest entry plan bounce at apart is outside away =
     further : total_len is.work.pieces ≤ most_bytes → (at < bounce) ⊎ (bounce + most_bytes ≤ at) → (at < bounce) ⊎ (bounce + total_len is.work.pieces ≤ at)
     further few (inl before) = inl before
     further few (inr behind) = inr (omega (arith, few, behind))
+
     at-same : (a b : ℕ) → At a ≡ At b → a ≡ b
     at-same a b e = cc
+
     as_places : (addresses : List ℕ) → All (IsNot at) addresses → All (IsAnother (At at)) (map At addresses)
     as_places addresses each =
         All-map (IsAnother (At at)) At addresses

@@ -1,5 +1,5 @@
 -- What stands in a tag's pages fits there: a list of 32 entries at most, and 256 ranges at most.
-use Rattle.std.proofs.Common.{◌≡◌, ℕ, zero, suc, ◌+◌, ◌*◌, ◌/◌, ◌%◌, ◌^◌, ◌<◌, ◌≤◌, ◌⊎◌, inl, inr, Bool, true, false, cond, ◌&&◌, List, [], ◌∷◌, ◌++◌, flat_map, length, slice_index, take, Some, arith, refl, sym, ap, ◌∙◌, subst, mod-lt}
+use Rattle.std.proofs.Common.{◌≡◌, ℕ, zero, suc, ◌*◌, ◌/◌, ◌%◌, ◌^◌, ◌<◌, ◌≤◌, ◌⊎◌, inl, inr, true, false, cond, List, [], ◌∷◌, ◌++◌, flat_map, length, take, arith, refl, sym, ◌∙◌, subst, mod-lt}
 use Rattle.std.specs.List.{filter, list_all, range_with_len}
 use Rattle.std.proofs.lemmas.List.{length-take, length-append}
 use Rattle.std.proofs.lemmas.List.FromFn.{length-range_with_len}
@@ -10,42 +10,50 @@ use Rattle.nv_ns.specs.BlockRange.{Extent}
 use Rattle.nv_mem.specs.GuestMap.{mapped}
 use Rattle.nv_mem.specs.Places.{total_len}
 use Rattle.nv_mem.specs.declared.region.Region.{Region}
-use Rattle.nv_model.specs.Judge.{Clear, Form, Keep, Manage, Transfer, Work, form_of, range_count_of}
-use Rattle.nv_model.specs.Laws.{IsMappedPiece}
+use Rattle.nv_model.specs.Judge.{Clear, Form, Keep, Manage, Transfer, Work, form_has_buffer, form_of, has_buffer, range_count_of}
 use Rattle.nv_model.specs.Limits.{most_bytes, page}
 use Rattle.nv_model.specs.Queue.{sqe_size}
 use Rattle.nv_model.proofs.AnyAnswers.{end-short, end-sound}
 use Rattle.nv_model.proofs.Endings.{and-true}
-use Rattle.nv_prp.specs.Built.{built, entries_of, listed, starts_page}
+use Rattle.nv_prp.specs.Built.{built, listed, starts_page}
 use Rattle.nv_prp.specs.Fits.{fit_prp, host_addresses, is_run, places_fit}
-use Rattle.nv_prp.specs.Met.{met_more, nothing_met}
+use Rattle.nv_prp.specs.Met.{met_more}
 use Rattle.nv_prp.specs.declared.prps.Prps.{Prps}
 use Rattle.nv_prp.proofs.Builds.{fit-row, met-room}
 use Rattle.nv_prp.proofs.HostRuns.{length-host_addresses}
 use Rattle.nv_world_model.specs.Area.{addresses_of, bounce_page, entry_of, form_dwords, list_bytes, list_page, physical_entry, plan_dwords, prps_of, translated_range}
 use Rattle.nv_world_model.specs.Geometry.{Guest, regions_of, shape_of}
-use Rattle.nv_world_model.specs.Plan.{Answer, Bounced, Direct, NoData, Plan, go_plan, plan_of}
+use Rattle.nv_world_model.specs.Plan.{Answer, Bounced, Direct, NoData, Plan, go_plan}
 use Rattle.nv_laws_sound.specs.Area.{form_ranges, ranges_of}
 use Rattle.nv_laws_sound.specs.Consistent.{IsPlanned}
 
 -- ---- the kinds of plans
 
--- a command that goes moves no data, or transfers directly where its places fit, or bounces
-pub go_plan-kinds : (P : Plan → Type 0) (form : Form) (regions : List Region) (work : Work) → P (NoData work)
-    → (places_fit regions work.pieces ≡ true → P (Direct work)) → P (Bounced work) → P (go_plan form regions work)
+-- a command that goes moves no data where it has no buffer, or transfers directly where its places fit, or bounces
+pub go_plan-kinds : (P : Plan → Type 0) (form : Form) (regions : List Region) (work : Work) → (form_has_buffer form ≡ false → P (NoData work))
+    → (form_has_buffer form ≡ true → places_fit regions work.pieces ≡ true → P (Direct work)) → (form_has_buffer form ≡ true → P (Bounced work))
+    → P (go_plan form regions work)
 go_plan-kinds P (Transfer dest) regions work no_data direct bounced =
     (elim (places_fit regions work.pieces) as (λ b. places_fit regions work.pieces ≡ b → P (cond b (Direct work) (Bounced work))) [
-      | true ↦ λ fits. direct fits
-      | false ↦ λ fits. bounced
+      | true ↦ λ fits. direct refl fits
+      | false ↦ λ fits. bounced refl
     ]) refl
-go_plan-kinds P Clear regions work no_data direct bounced = no_data
-go_plan-kinds P Manage regions work no_data direct bounced = bounced
-go_plan-kinds P Keep regions work no_data direct bounced = no_data
+go_plan-kinds P Clear regions work no_data direct bounced = no_data refl
+go_plan-kinds P Manage regions work no_data direct bounced = bounced refl
+go_plan-kinds P Keep regions work no_data direct bounced = no_data refl
 
+pub planned-by : (P : Plan → Type 0) (guest : Guest) (entry : List ℕ) (plan : Plan) (is : IsPlanned guest entry plan)
+    → (has_buffer is.work.opcode ≡ false → P (NoData is.work))
+    → (has_buffer is.work.opcode ≡ true → places_fit (regions_of guest) is.work.pieces ≡ true → P (Direct is.work))
+    → (has_buffer is.work.opcode ≡ true → P (Bounced is.work)) → P plan
+planned-by P guest entry plan is no_data direct bounced =
+    subst P (sym is.plan_is) (go_plan-kinds P (form_of is.work.opcode) (regions_of guest) is.work no_data direct bounced)
+
+-- the same where it makes no difference whether there is a buffer
 pub planned-kinds : (P : Plan → Type 0) (guest : Guest) (entry : List ℕ) (plan : Plan) (is : IsPlanned guest entry plan)
     → P (NoData is.work) → (places_fit (regions_of guest) is.work.pieces ≡ true → P (Direct is.work)) → P (Bounced is.work) → P plan
 planned-kinds P guest entry plan is no_data direct bounced =
-    subst P (sym is.plan_is) (go_plan-kinds P (form_of is.work.opcode) (regions_of guest) is.work no_data direct bounced)
+    planned-by P guest entry plan is (λ none. no_data) (λ buffer fits. direct fits) (λ buffer. bounced)
 
 -- ---- the addresses of a transfer
 

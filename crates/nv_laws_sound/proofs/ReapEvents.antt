@@ -1,22 +1,21 @@
 -- The mediator reads the next completion, and the tag that it names ends.
-use Rattle.std.proofs.Common.{◌≡◌, ℕ, ◌+◌, ◌%◌, ◌<◌, ◌≤◌, ◌⊎◌, inl, inr, Bool, true, false, cond, not, ◌==◌, List, [], ◌∷◌, length, set, slice_get, Option, Some, None, arith, refl, sym, ap, ◌∙◌, eq-eqb, eqb-true, subst}
-use Rattle.std.specs.Prelude.{◌≢◌}
-use Rattle.std.proofs.lemmas.Bool.{cases_eq, eqb-false, ne_eqb}
+use Rattle.std.proofs.Common.{◌≡◌, ℕ, ◌%◌, ◌<◌, true, false, ◌==◌, set, slice_get, Option, Some, None, arith, refl, sym, ap, ◌∙◌, eqb-true, subst}
+use Rattle.std.proofs.lemmas.Bool.{eqb-false, ne_eqb}
 use Rattle.nv_entry.specs.Completion.{cid_of as completed_cid, status_of}
 use Rattle.nv_entry.specs.Status.{StatusField}
 use Rattle.nv_model.specs.Limits.{page}
 use Rattle.nv_model.specs.Memory.{bytes_from}
 use Rattle.nv_model.specs.Queue.{cqe_size, is_empty, next_slot}
 use Rattle.nv_world_model.specs.declared.event.Event.TheVariants as event
-use Rattle.nv_world_model.specs.Area.{completion_slot, ring_size, tag_count}
+use Rattle.nv_world_model.specs.Area.{completion_slot, ring_size}
 use Rattle.nv_world_model.specs.Contained.{is_answered_at, is_queued_at, tag_stands}
-use Rattle.nv_world_model.specs.Device.{DeviceLane, Held, next_phase}
+use Rattle.nv_world_model.specs.Device.{DeviceLane, Held}
 use Rattle.nv_world_model.specs.Geometry.{Geometry, Guest}
 use Rattle.nv_world_model.specs.Plan.{Plan}
 use Rattle.nv_world_model.specs.Seat.{completion_at}
-use Rattle.nv_world_model.specs.Step.{After, completion_read, ended_at, passed_on, reap, reaped, step}
+use Rattle.nv_world_model.specs.Step.{completion_read, ended_at, passed_on, reap, reaped, step}
 use Rattle.nv_world_model.specs.World.{Answered, Command, Ended, Flying, Free, InDevice, Lane, Queued, Standing, Tag, Taken, World, changed_at, tag_changed, tag_in, tag_of, with_lane}
-use Rattle.nv_laws_sound.specs.Consistent.{IsAnswered, IsBetween, IsCommand, IsConsistent, IsLane, IsPlanned, IsTag, SomeStands, waits_for_device, waits_for_mediator}
+use Rattle.nv_laws_sound.specs.Consistent.{IsBetween, IsCommand, IsConsistent, IsLane, IsPlanned, IsTag, SomeStands, waits_for_device, waits_for_mediator}
 use Rattle.nv_laws_sound.proofs.Changes.{world-lane}
 use Rattle.nv_laws_sound.proofs.Lists.{count-set, length-set, set-same, set-set, slice_get-below, slice_get-there}
 use Rattle.nv_world_model.proofs.Seats.{slice_get-set}
@@ -79,7 +78,7 @@ module _ (geometry : Geometry) (lane : ℕ) (host : ℕ → ℕ) (l : Lane) (d :
         pages = (λ x low high. refl);
         queued = (λ slot stands between. (between, (λ x low high. refl)));
         answered = (λ slot stands between.
-        (between-less l.head d.posted slot is.positions.read is.positions.posted between (λ same. not_there slot stands same), (λ x low high. refl)));
+            (between-less l.head d.posted slot is.positions.read is.positions.posted between (λ same. not_there slot stands same), (λ x low high. refl)));
       }
     where
       not_there : (slot : ℕ) → tag_stands (is_answered_at slot) t ≡ true → slot ≡ l.head → ⊥

@@ -1,16 +1,14 @@
 -- A tag that stands nowhere, before and behind an event: free, taken or ended. Nothing else of its lane is touched.
-use Rattle.std.proofs.Common.{◌≡◌, ℕ, ◌+◌, ◌%◌, ◌<◌, Bool, true, false, cond, ◌==◌, List, [], ◌∷◌, length, set, slice_get, Option, Some, None, arith, refl, sym, ap, ◌∙◌, subst}
+use Rattle.std.proofs.Common.{◌≡◌, ℕ, ◌%◌, Bool, true, false, cond, ◌==◌, List, set, slice_get, Option, Some, None, arith, refl, sym, ap, ◌∙◌, subst}
 use Rattle.std.proofs.lemmas.Bool.{eqb-false, ne_eqb}
-use Rattle.std.specs.List.{count_by}
 use Rattle.nv_model.specs.Limits.{page}
-use Rattle.nv_world_model.specs.Area.{tag_count}
 use Rattle.nv_world_model.specs.Contained.{is_answered_at, is_queued_at, tag_stands}
 use Rattle.nv_world_model.specs.Device.{DeviceLane, Held}
 use Rattle.nv_world_model.specs.Geometry.{Geometry}
 use Rattle.nv_world_model.specs.World.{Command, Flying, Lane, Standing, Tag, World, changed_at, tag_changed, tag_in, tag_of, with_device, with_host, with_tag}
 use Rattle.nv_world_model.specs.Plan.{Plan}
 use Rattle.nv_world_model.specs.Step.{standing_at, stands}
-use Rattle.nv_world_model.proofs.Seats.{slice_get-set, slice_get-set-other}
+use Rattle.nv_world_model.proofs.Seats.{slice_get-set-other}
 use Rattle.nv_laws_sound.specs.Consistent.{IsConsistent, IsLane, IsTag, SomeStands, standing_count, waits_for_device, waits_for_mediator}
 use Rattle.nv_laws_sound.proofs.Lists.{IsThere, Put, Was, count-set, length-set, set-same, set-there, slice_get-below, slice_get-there, some-same}
 use Rattle.nv_laws_sound.proofs.Changes.{world-lane}

@@ -1,9 +1,7 @@
 -- Positions of a physical ring: what lies between two of them, when one goes on to the next slot.
-use Rattle.std.proofs.Common.{◌≡◌, ℕ, ◌+◌, ◌-◌, ◌%◌, ◌<◌, ◌≤◌, Bool, true, false, ◌==◌, arith, refl, inl, inr, ap, ◌∙◌}
-use Rattle.std.proofs.lemmas.Bool.{cases_eq, cases_lt}
-use Rattle.nv_model.specs.Laws.{IsInOrder}
+use Rattle.std.proofs.Common.{◌≡◌, ℕ, ◌+◌, ◌<◌, arith, inl, inr}
+use Rattle.std.proofs.lemmas.Bool.{cases_eq}
 use Rattle.nv_model.specs.Queue.{ahead, next_slot}
-use Rattle.nv_model.proofs.QueueOrder.{ahead-next, ahead-round, ahead-up}
 use Rattle.nv_world_model.specs.Area.{ring_size}
 use Rattle.nv_laws_sound.specs.Consistent.{IsBetween}
 

@@ -1,6 +1,5 @@
 -- Bytes that stand in a memory, behind what is stored.
-use Rattle.std.proofs.Common.{◌≡◌, ℕ, ◌+◌, ◌<◌, ◌≤◌, ◌⊎◌, inl, inr, List, [], length, arith, refl, sym, ap, ◌∙◌}
-use Rattle.std.proofs.lemmas.Bool.{cases_lt}
+use Rattle.std.proofs.Common.{◌≡◌, ℕ, ◌+◌, ◌≤◌, ◌⊎◌, inl, inr, List, [], ◌∷◌, ◌++◌, suc, length, arith, refl, sym, ◌∙◌}
 use Rattle.nv_model.specs.Memory.{bytes_from, stored}
 use Rattle.nv_model.proofs.Agreeing.{bytes_from-agree}
 use Rattle.nv_model.proofs.MemoryLemmas.{bytes_from-stored, stored-outside}
@@ -41,3 +40,22 @@ same-then a b c from to first second at low high = first at low high ∙ second 
 pub same-part : (memory other : ℕ → ℕ) (from to low high : ℕ) → SameBetween memory other from to → from ≤ low → high ≤ to
     → SameBetween memory other low high
 same-part memory other from to low high same down up at over under = same at (omega arith) (omega arith)
+
+-- ---- parts
+
+-- the first byte stands there, and the others behind it
+shows-cons : (memory : ℕ → ℕ) (addr byte : ℕ) (bytes : List ℕ) → Shows memory addr (byte ∷ bytes)
+    → (memory addr ≡ byte) × Shows memory (suc addr) bytes
+unfolding bytes_from
+shows-cons memory addr byte bytes shown = (cc, cc)
+
+-- a front stands there, and what is behind it
+pub shows-append : (memory : ℕ → ℕ) (addr : ℕ) (front behind : List ℕ) → Shows memory addr (front ++ behind)
+    → Shows memory addr front × Shows memory (addr + length front) behind
+unfolding bytes_from
+shows-append memory addr [] behind shown = (refl, (let here : addr + 0 ≡ addr = omega arith in rw here shown))
+shows-append memory addr (byte ∷ front) behind shown =
+    let first = shows-cons memory addr byte (front ++ behind) shown in
+    let rest = shows-append memory (suc addr) front behind first.1 in
+    let further : addr + suc (length front) ≡ suc addr + length front = omega arith in
+    (rw (first.0, rest.0) refl, rw further rest.1)

@@ -1,29 +1,28 @@
 -- Events of a tag that is not in the device's hands: reads of a command's lists, giving it up, answering it at once, and posting its
 -- completion.
-use Rattle.std.proofs.Common.{◌≡◌, ℕ, ◌+◌, ◌%◌, Bool, true, false, cond, ◌&&◌, nat_le, List, [], ◌∷◌, ◌++◌, length, slice_get, Option, Some, None, refl, sym, ap, ◌∙◌, subst}
+use Rattle.std.proofs.Common.{◌≡◌, ℕ, ◌+◌, ◌%◌, Bool, true, false, cond, ◌&&◌, nat_le, List, length, slice_get, Option, Some, None, refl, sym, subst}
 use Rattle.nv_entry.specs.Status.{StatusField}
 use Rattle.nv_entry.specs.StatusCode.{done_with}
 use Rattle.nv_entry.specs.Submission.{cid_of}
 use Rattle.nv_entry.specs.declared.status_code.StatusCode.TheVariants.{InternalError}
 use Rattle.nv_mem.specs.GuestMap.{all_mapped, mapped}
-use Rattle.nv_mem.specs.Places.{places_of, total_len}
-use Rattle.nv_model.specs.Controller.{Controller, Posted, is_enabled, post, ran_out}
+use Rattle.nv_model.specs.Controller.{Posted, is_enabled, post, ran_out}
 use Rattle.nv_model.specs.Judge.{Work, is_read}
 use Rattle.nv_model.specs.Laws.{IsCompletionInPlace, IsSubmissionInPlace, QueuesInPlace}
 use Rattle.nv_model.specs.Limits.{page, part_size}
-use Rattle.nv_model.specs.Memory.{bytes_from, image, put_image, scattered, stored}
+use Rattle.nv_model.specs.Memory.{image, stored}
 use Rattle.nv_model.specs.Transcript.{ReadDone}
 use Rattle.nv_model.proofs.QueueOrder.{IsKept-in_place}
 use Rattle.nv_model.proofs.QueuesKept.{HaveBehind, post-kept, ran_out-kept}
 use Rattle.nv_world_model.specs.declared.event.Event.TheVariants as event
 use Rattle.nv_world_model.specs.Area.{bounce_page}
-use Rattle.nv_world_model.specs.Geometry.{Geometry, Guest, regions_of}
+use Rattle.nv_world_model.specs.Geometry.{Geometry, regions_of}
 use Rattle.nv_world_model.specs.Plan.{Answer, Bounced, Direct, NoData, Plan}
-use Rattle.nv_world_model.specs.Seat.{Owner, owner_of, put_back, with_memory}
-use Rattle.nv_world_model.specs.Step.{After, delivered, ended_at_once, is_success, kept_block, list_at, listed, post_at, post_by, posted_to, ran_out_of, scattered_to, step}
-use Rattle.nv_world_model.specs.World.{Command, Ended, Flying, Free, Tag, Taken, World, tag_of, with_controller, with_host, with_tag}
+use Rattle.nv_world_model.specs.Seat.{Owner, owner_of, put_back}
+use Rattle.nv_world_model.specs.Step.{delivered, ended_at_once, is_success, kept_block, list_at, listed, post_at, post_by, posted_to, ran_out_of, scattered_to, step}
+use Rattle.nv_world_model.specs.World.{Command, Ended, Free, Taken, World, tag_of, with_controller, with_host, with_tag}
 use Rattle.nv_world_model.proofs.Seats.{IsOwner, owner_of-is}
-use Rattle.nv_laws_sound.specs.Consistent.{IsConsistent, IsTag, IsTaken}
+use Rattle.nv_laws_sound.specs.Consistent.{IsConsistent}
 use Rattle.nv_laws_sound.specs.LaidOut.{IsLaidOut}
 use Rattle.nv_laws_sound.proofs.Changes.{controller-consistent}
 use Rattle.nv_laws_sound.proofs.GuestEvents.{memory-consistent, put_back-consistent}

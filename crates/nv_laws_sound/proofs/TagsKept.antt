@@ -1,18 +1,18 @@
 -- A tag that an event is not about: it stands as it stood, where its pages and its slot have the same bytes, and its slot still waits.
-use Rattle.std.proofs.Common.{◌≡◌, ℕ, ◌+◌, ◌*◌, ◌%◌, ◌<◌, ◌≤◌, Bool, true, List, length, Option, Some, None, arith, refl, sym, ap, ◌∙◌, eq-eqb, subst}
+use Rattle.std.proofs.Common.{◌≡◌, ℕ, ◌+◌, ◌%◌, true, List, Option, Some, None, arith, refl, sym, ap, ◌∙◌, eq-eqb}
 use Rattle.nv_entry.specs.Completion.{cid_of as completed_cid}
 use Rattle.nv_model.specs.Limits.{page}
 use Rattle.nv_model.specs.Queue.{cqe_size}
-use Rattle.nv_world_model.specs.Area.{bounce_page, completion_slot, entry_of, list_bytes, list_page, prps_of, submission_slot, tag_count}
+use Rattle.nv_world_model.specs.Area.{bounce_page, completion_slot, entry_of, list_bytes, list_page, prps_of, submission_slot}
 use Rattle.nv_world_model.specs.Contained.{is_answered_at, is_queued_at, tag_stands}
 use Rattle.nv_world_model.specs.Device.{DeviceLane, Held}
 use Rattle.nv_world_model.specs.Geometry.{Geometry, Guest}
 use Rattle.nv_world_model.specs.Plan.{Plan}
 use Rattle.nv_world_model.specs.World.{Answered, Command, Ended, Flying, Free, InDevice, Queued, Standing, Tag, Taken}
-use Rattle.nv_laws_sound.specs.Area.{SameBetween, SameInLane, ranges_of}
-use Rattle.nv_laws_sound.specs.Consistent.{HasPages, IsBetween, IsFlying, IsPlanned, IsTag, StandsThere}
+use Rattle.nv_laws_sound.specs.Area.{SameBetween, ranges_of}
+use Rattle.nv_laws_sound.specs.Consistent.{HasPages, IsBetween, IsPlanned, IsTag, StandsThere}
 use Rattle.nv_laws_sound.proofs.PlanSizes.{entry-length, list-short, ranges-short}
-use Rattle.nv_laws_sound.proofs.Shows.{bytes_from-between, same-part, shows-between}
+use Rattle.nv_laws_sound.proofs.Shows.{bytes_from-between, shows-between}
 
 -- what of a tag stays as it is
 pub record IsUndisturbed (mediator lane tag : ℕ) (host other : ℕ → ℕ) (head now : ℕ) (d e : DeviceLane) (t : Tag) : Type 0 where
@@ -45,14 +45,16 @@ module _ (geometry : Geometry) (lane tag : ℕ) (host other : ℕ → ℕ) (alig
       → StandsThere standing geometry guest command.entry plan lane tag other now e held
   stands-kept (Queued at) head now d e held command guest plan is kept there =
       let stays = kept.queued at (eq-eqb at at refl) there.0.slot in
-      let sized = entry-length plan guest command.entry geometry.mediator lane tag in
-      (record {
-        slot = stays.0;
-        shown =
-            shows-between host other (submission_slot geometry.mediator lane at) (submission_slot geometry.mediator lane (at + 1))
-            (submission_slot geometry.mediator lane at) (entry_of plan guest command.entry geometry.mediator lane tag) stays.1 (omega arith) (omega (arith, sized)) there.0.shown;
-        pages = pages-kept guest command.entry plan is kept.pages there.0.pages;
-      }, there.1)
+      let sized = entry-length plan guest command.entry geometry.mediator lane tag in (
+        record {
+          slot = stays.0;
+          shown =
+              shows-between host other (submission_slot geometry.mediator lane at) (submission_slot geometry.mediator lane (at + 1))
+              (submission_slot geometry.mediator lane at) (entry_of plan guest command.entry geometry.mediator lane tag) stays.1 (omega arith) (omega (arith, sized)) there.0.shown;
+          pages = pages-kept guest command.entry plan is kept.pages there.0.pages;
+        },
+        there.1,
+      )
   stands-kept InDevice head now d e None command guest plan is kept there = there
   stands-kept InDevice head now d e (Some h) command guest plan is kept there =
       record {

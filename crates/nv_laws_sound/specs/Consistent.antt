@@ -1,11 +1,10 @@
 -- What holds of every world that events lead to: each tag that was handed on stands in one place, where its command's bytes are, and
 -- each entry and completion that waits in a ring is that of one tag. No promise cites it; the laws behind them rest on it.
-use Rattle.std.specs.Prelude.{◌≡◌, ℕ, ◌+◌, ◌<◌, Bool, true, false, ◌==◌, not, if◌then◌else◌, List, [], ◌∷◌, All, length, map, slice_get, Option, Some, None}
+use Rattle.std.specs.Prelude.{◌≡◌, ℕ, ◌<◌, Bool, true, false, List, All, length, map, slice_get, Option, Some, None}
 use Rattle.std.specs.Bool.{⊤}
 use Rattle.std.specs.List.{count_by}
-use Rattle.nv_entry.specs.Completion.{cid_of as completed_cid, phase_of}
+use Rattle.nv_entry.specs.Completion.{cid_of as completed_cid}
 use Rattle.nv_entry.specs.Opcode.{io_opcode}
-use Rattle.nv_entry.specs.Status.{StatusField}
 use Rattle.nv_entry.specs.Submission.{opcode_of}
 use Rattle.nv_mem.specs.GuestMap.{mapped}
 use Rattle.nv_mem.specs.Places.{At, places_of}

@@ -1,6 +1,6 @@
 -- What a set-up that is not refused says of the guests' memory and blocks: each guest's map is sound, no two guests share a byte or a
 -- block, none has a byte of the mediator's area, and area and blocks lie in the host and on the disk (profile).
-use Rattle.std.specs.Prelude.{◌≡◌, ◌≢◌, ℕ, ◌+◌, ◌%◌, ◌^◌, ◌<◌, ◌≤◌, ◌⊎◌, List, slice_get, Some, None}
+use Rattle.std.specs.Prelude.{◌≡◌, ◌≢◌, ℕ, ◌+◌, ◌%◌, ◌^◌, ◌<◌, ◌≤◌, ◌⊎◌, slice_get, Some, None}
 use Rattle.nv_mem.specs.GuestMap.{IsSound, guest_of}
 use Rattle.nv_model.specs.Limits.{page}
 use Rattle.nv_world_model.specs.Area.{lane_start}

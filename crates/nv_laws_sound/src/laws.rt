@@ -1,4 +1,4 @@
 //! What holds of every world that events lead to, as functions that do nothing: each contract is a law.
-pub mod pages;
+pub mod keeping;
 pub mod rings;
 pub mod setting_up;
