@@ -1,0 +1,4 @@
+pub mod ReadsTaken
+pub mod ListReads
+pub mod RangeReads
+pub mod PlanCases
