@@ -40,6 +40,7 @@ pub record IsSoundWork (mapped : ℕ → Bool) (blocks : ℕ) (entry : List ℕ)
   pub counted : form_of work.opcode ≡ Manage → length ranges ≡ range_count_of entry
   pub fit : list_all (range_fits blocks) ranges ≡ true
   pub units : work.units ≡ form_units (form_of work.opcode) blocks entry ranges
+  pub ranged : list_all (range_fits blocks) work.ranges ≡ true
 
 -- this of the work, where it goes
 abbrev pub IfGo : (Work → Type 0) → Verdict → Type 0
@@ -107,6 +108,7 @@ work_of-sound mapped blocks entry opcode pieces ranges is there fine many fit =
       counted = many;
       fit = fit;
       units = refl;
+      ranged = fit;
     }
 
 -- with its ranges read

@@ -3,3 +3,4 @@ pub mod Made
 pub mod Planned
 pub mod Listed
 pub mod Drawn
+pub mod Laws

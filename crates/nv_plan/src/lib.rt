@@ -4,6 +4,7 @@
 mod given;
 mod job;
 mod kind;
+pub mod laws;
 mod lists;
 mod outcome;
 mod outline;
