@@ -1,1 +1,4 @@
 pub mod Shown
+pub mod Leaving
+pub mod Parts
+pub mod Events
