@@ -2,3 +2,4 @@ pub mod Shown
 pub mod Leaving
 pub mod Parts
 pub mod Events
+pub mod TagEvents
