@@ -2,7 +2,7 @@
 use Rattle.std.proofs.Common.{◌≡◌, ℕ, ◌+◌, ◌*◌, ◌%◌, ◌<◌, ◌≤◌, ◌⊎◌, inl, inr, Bool, true, false, cond, ◌&&◌, ◌==◌, nat_le, nat_lt, List, [], ◌∷◌, All, length, set, slice_get, Option, Some, None, is_some, arith, refl, sym, ap, ◌∙◌, eqb-true, leb-true, ltb-true, subst}
 use Rattle.std.specs.Prelude.{◌≢◌}
 use Rattle.std.specs.List.{list_any, range_with_len}
-use Rattle.std.proofs.lemmas.Bool.{cases_eq, eqb-false, ne_eqb}
+use Rattle.std.proofs.lemmas.Bool.{cases_eq, cases_lt, eqb-false, le-leb, lt-ltb, ne_eqb}
 use Rattle.std.proofs.lemmas.List.Folds.{list_any_none}
 use Rattle.nv_mem.specs.GuestMap.{guest_of, host_of}
 use Rattle.nv_mem.proofs.Images.{guest_of-host}
@@ -16,7 +16,7 @@ use Rattle.nv_world_model.specs.Geometry.{Geometry, Guest, regions_of}
 use Rattle.nv_world_model.specs.Seat.{held_by, held_in}
 use Rattle.nv_world_model.specs.View.{IsSameView, in_extent, in_image, is_tag_of, lies_in, own_held, own_tag, shown}
 use Rattle.nv_world_model.specs.World.{Answered, Ended, Flying, Free, InDevice, Lane, Queued, Tag, Taken, World, tag_in, tag_of}
-use Rattle.nv_laws_sound.specs.Consistent.{IsConsistent, IsTag}
+use Rattle.nv_laws_sound.specs.Consistent.{IsBetween, IsConsistent, IsTag}
 use Rattle.nv_laws_sound.specs.LaidOut.{IsLaidOut}
 use Rattle.nv_laws_sound.proofs.Commands.{tag-elsewhere, tag-here}
 use Rattle.nv_laws_sound.proofs.Lists.{slice_get-below}
@@ -24,6 +24,9 @@ use Rattle.nv_laws_sound.proofs.Named.{row-all}
 use Rattle.nv_laws_sound.proofs.Retags.{is-at, tag-is}
 use Rattle.nv_laws_sound.proofs.ReapEvents.{answered-at}
 use Rattle.nv_laws_sound.proofs.TakenEvents.{queued-at}
+use Rattle.nv_laws_sound.specs.Area.{SameInLane}
+use Rattle.nv_laws_sound.proofs.Slots.{held-under}
+use Rattle.nv_laws_sound.proofs.TagsKept.{IsUndisturbed}
 use Rattle.nv_laws_others.specs.Leaving.{InCompletion, InEntry, InPages, IsBytes, IsShownAt, Leaves}
 use Rattle.nv_laws_others.proofs.Shown.{shown-at}
 
@@ -109,24 +112,24 @@ module _ (host_bytes : ℕ) (geometry : Geometry) (lanes : ℕ) (laid : IsLaidOu
 
 -- ---- bytes of tags
 
--- a slot of a ring is below its size
-slot-queued : (geometry : Geometry) (lane tag at : ℕ) (host : ℕ → ℕ) (head : ℕ) (d : DeviceLane) (held : Option Held) (t : Tag)
-    → IsTag geometry lane tag host head d held t → tag_stands (is_queued_at at) t ≡ true → at < ring_size
-slot-queued geometry lane tag at host head d held Free is e = cc
-slot-queued geometry lane tag at host head d held (Taken command reads) is e = cc
-slot-queued geometry lane tag at host head d held (Flying command plan (Queued slot)) is e = subst (λ n. n < ring_size) (eqb-true slot at e) is.stands.0.slot.slot
-slot-queued geometry lane tag at host head d held (Flying command plan InDevice) is e = cc
-slot-queued geometry lane tag at host head d held (Flying command plan (Answered slot)) is e = cc
-slot-queued geometry lane tag at host head d held (Ended command st plan) is e = cc
+-- a slot that a tag stands in lies between the positions of its ring
+between-queued : (geometry : Geometry) (lane tag at : ℕ) (host : ℕ → ℕ) (head : ℕ) (d : DeviceLane) (held : Option Held) (t : Tag)
+    → IsTag geometry lane tag host head d held t → tag_stands (is_queued_at at) t ≡ true → IsBetween d.head d.tail at
+between-queued geometry lane tag at host head d held Free is e = cc
+between-queued geometry lane tag at host head d held (Taken command reads) is e = cc
+between-queued geometry lane tag at host head d held (Flying command plan (Queued slot)) is e = subst (IsBetween d.head d.tail) (eqb-true slot at e) is.stands.0.slot
+between-queued geometry lane tag at host head d held (Flying command plan InDevice) is e = cc
+between-queued geometry lane tag at host head d held (Flying command plan (Answered slot)) is e = cc
+between-queued geometry lane tag at host head d held (Ended command st plan) is e = cc
 
-slot-answered : (geometry : Geometry) (lane tag at : ℕ) (host : ℕ → ℕ) (head : ℕ) (d : DeviceLane) (held : Option Held) (t : Tag)
-    → IsTag geometry lane tag host head d held t → tag_stands (is_answered_at at) t ≡ true → at < ring_size
-slot-answered geometry lane tag at host head d held Free is e = cc
-slot-answered geometry lane tag at host head d held (Taken command reads) is e = cc
-slot-answered geometry lane tag at host head d held (Flying command plan (Queued slot)) is e = cc
-slot-answered geometry lane tag at host head d held (Flying command plan InDevice) is e = cc
-slot-answered geometry lane tag at host head d held (Flying command plan (Answered slot)) is e = subst (λ n. n < ring_size) (eqb-true slot at e) is.stands.0.slot.slot
-slot-answered geometry lane tag at host head d held (Ended command st plan) is e = cc
+between-answered : (geometry : Geometry) (lane tag at : ℕ) (host : ℕ → ℕ) (head : ℕ) (d : DeviceLane) (held : Option Held) (t : Tag)
+    → IsTag geometry lane tag host head d held t → tag_stands (is_answered_at at) t ≡ true → IsBetween head d.posted at
+between-answered geometry lane tag at host head d held Free is e = cc
+between-answered geometry lane tag at host head d held (Taken command reads) is e = cc
+between-answered geometry lane tag at host head d held (Flying command plan (Queued slot)) is e = cc
+between-answered geometry lane tag at host head d held (Flying command plan InDevice) is e = cc
+between-answered geometry lane tag at host head d held (Flying command plan (Answered slot)) is e = subst (IsBetween head d.posted) (eqb-true slot at e) is.stands.0.slot
+between-answered geometry lane tag at host head d held (Ended command st plan) is e = cc
 
 -- they lie in the tag's lane
 pub record LiesInLane (mediator lane lanes tag addr : ℕ) : Type 0 where
@@ -143,8 +146,8 @@ bytes-in-lane geometry w lane tag addr t is there bytes =
     let tags = of_lane.positions.tags in
     let among = slice_get-below a.l.tags tag t a.at_tag in
     let below = slice_get-below w.lanes lane a.l a.at_lane in
-    by_kind (omega (arith, tags, among)) below (λ at stands. slot-queued geometry lane tag at w.host a.l.head a.d a.held t (tag-is geometry w lane tag t is a) stands)
-    (λ at stands. slot-answered geometry lane tag at w.host a.l.head a.d a.held t (tag-is geometry w lane tag t is a) stands) bytes
+    by_kind (omega (arith, tags, among)) below (λ at stands. (between-queued geometry lane tag at w.host a.l.head a.d a.held t (tag-is geometry w lane tag t is a) stands).slot)
+    (λ at stands. (between-answered geometry lane tag at w.host a.l.head a.d a.held t (tag-is geometry w lane tag t is a) stands).slot) bytes
   where
     by_kind : tag < tag_count → lane < length w.lanes → ((at : ℕ) → tag_stands (is_queued_at at) t ≡ true → at < ring_size)
         → ((at : ℕ) → tag_stands (is_answered_at at) t ≡ true → at < ring_size)
@@ -155,3 +158,62 @@ bytes-in-lane geometry w lane tag addr t is there bytes =
         (let slot = queued at stands in record { below = below; tag_below = tag_below; low = omega (arith, low); high = omega (arith, high, slot) })
     by_kind tag_below below queued answered (InCompletion at stands low high) =
         (let slot = answered at stands in record { below = below; tag_below = tag_below; low = omega (arith, low); high = omega (arith, high, slot) })
+
+-- ---- what is written in the area
+
+-- an undisturbed tag's bytes are as they were
+pub undisturbed-bytes : (geometry : Geometry) (lane tag addr : ℕ) (host other : ℕ → ℕ) (head now : ℕ) (d e : DeviceLane) (held : Option Held) (t : Tag)
+    → IsUndisturbed geometry.mediator lane tag host other head now d e t → IsTag geometry lane tag host head d held t
+    → IsBytes geometry.mediator lane tag t addr → host addr ≡ other addr
+undisturbed-bytes geometry lane tag addr host other head now d e held t kept is (InPages low high) = kept.pages addr low high
+undisturbed-bytes geometry lane tag addr host other head now d e held t kept is (InEntry at stands low high) =
+    (kept.queued at stands (between-queued geometry lane tag at host head d held t is stands)).1 addr low high
+undisturbed-bytes geometry lane tag addr host other head now d e held t kept is (InCompletion at stands low high) =
+    (kept.answered at stands (between-answered geometry lane tag at host head d held t is stands)).1 addr low high
+
+-- what is outside of the area lies before or behind it
+pub outside-area : (geometry : Geometry) (w : World) (at : ℕ) → in_area geometry w at ≡ false
+    → (at < geometry.mediator) ⊎ (lane_start geometry.mediator (length w.lanes) ≤ at)
+outside-area geometry w at out =
+    elim (cases_lt at geometry.mediator) [
+      | inl before ↦ inl before
+      | inr from ↦ elim (cases_lt at (lane_start geometry.mediator (length w.lanes))) [
+        | inl inside ↦ (let bad : true ≡ false = sym (inside-is from inside) ∙ out in cc)
+        | inr behind ↦ inr behind
+      ]
+    ]
+  where
+    inside-is : geometry.mediator ≤ at → at < lane_start geometry.mediator (length w.lanes) → in_area geometry w at ≡ true
+    inside-is from inside = rw (le-leb geometry.mediator at from, lt-ltb at (lane_start geometry.mediator (length w.lanes)) inside) refl
+
+-- where one lane is written, and in it nothing of other tags, what is shown to others is as it was
+pub area-left : (geometry : Geometry) (w : World) (other : ℕ → ℕ) (lane tag now : ℕ) (l : Lane) (d e : DeviceLane) (number addr : ℕ) → IsConsistent geometry w
+    → slice_get w.lanes lane ≡ Some l → slice_get w.device lane ≡ Some d
+    → ((at : ℕ) → (at == lane) ≡ false → at < length w.lanes → SameInLane w.host other geometry.mediator at)
+    → ((b : ℕ) (x : Tag) → (b == tag) ≡ false → b < tag_count → slice_get l.tags b ≡ Some x → IsUndisturbed geometry.mediator lane b w.host other l.head now d e x)
+    → ((x : Tag) → slice_get l.tags tag ≡ Some x → is_tag_of number (Some x) ≡ false)
+    → IsShownAt number geometry w addr → w.host addr ≡ other addr
+area-left geometry w other lane tag now l d e number addr fine at there elsewhere undisturbed own s =
+    let lies = bytes-in-lane geometry w s.lane s.tag addr s.t fine s.there s.bytes in
+    by_lane lies (cases_eq s.lane lane)
+  where
+    in_lane : s.lane ≡ lane → (s.tag ≡ tag) ⊎ (s.tag ≡ tag → ⊥) → s.tag < tag_count → w.host addr ≡ other addr
+    in_lane same which below =
+        let found : slice_get l.tags s.tag ≡ Some s.t = ap (λ o. tag_in o s.tag) (sym (ap (slice_get w.lanes) same ∙ at)) ∙ s.there in
+        by_tag same found which below
+      where
+        by_tag : s.lane ≡ lane → slice_get l.tags s.tag ≡ Some s.t → (s.tag ≡ tag) ⊎ (s.tag ≡ tag → ⊥) → s.tag < tag_count → w.host addr ≡ other addr
+        by_tag same found (inl one) below =
+            let none = own s.t (subst (λ n. slice_get l.tags n ≡ Some s.t) one found) in
+            let bad : true ≡ false = sym s.own ∙ none in
+            cc
+        by_tag same found (inr other_tag) below =
+            let a = is-at geometry w s.lane s.tag s.t fine s.there in
+            let here : tag_of w lane s.tag ≡ Some s.t = subst (λ n. tag_of w n s.tag ≡ Some s.t) same s.there in
+            let held = held-under geometry lane w.host l d (fine.lanes lane l d at there) s.tag s.t found in
+            undisturbed-bytes geometry lane s.tag addr w.host other l.head now d e held.0 s.t
+            (undisturbed s.tag s.t (ne_eqb s.tag tag other_tag) below found) ((fine.lanes lane l d at there).tags s.tag s.t held.0 found held.1)
+            (subst (λ n. IsBytes geometry.mediator n s.tag s.t addr) same s.bytes)
+    by_lane : LiesInLane geometry.mediator s.lane (length w.lanes) s.tag addr → (s.lane ≡ lane) ⊎ (s.lane ≡ lane → ⊥) → w.host addr ≡ other addr
+    by_lane lies (inl same) = in_lane same (cases_eq s.tag tag) lies.tag_below
+    by_lane lies (inr apart) = elsewhere s.lane (ne_eqb s.lane lane apart) lies.below addr lies.low lies.high

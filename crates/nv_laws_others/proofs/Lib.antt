@@ -3,3 +3,4 @@ pub mod Leaving
 pub mod Parts
 pub mod Events
 pub mod TagEvents
+pub mod DeviceEvents

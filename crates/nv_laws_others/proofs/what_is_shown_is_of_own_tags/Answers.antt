@@ -1,3 +1,4 @@
+use Rattle.nv_laws_others.proofs.DeviceEvents.{submits-leave}
 use Rattle.nv_laws_others.proofs.TagEvents.{takes-leave}
 use Rattle.nv_laws_others.proofs.Events.{admins-leave}
 use Rattle.nv_laws_others.proofs.Parts.{held-put}
