@@ -107,6 +107,86 @@ module _ (host_bytes : ℕ) (geometry : Geometry) (w : World) (laid : IsLaidOut 
       of-tag host_bytes geometry w laid fine lane tag (Taken command reads) command.guest _ at refl
       (submit-by (plan_over o.given command.entry reads) lane tag command reads o d at refl device))))
 
+  -- ---- completions
+
+  answered-leaves : (lane tag : ℕ) (st : StatusField) (l : Lane) (d : DeviceLane) (h : Held) (t : Tag) → slice_get w.lanes lane ≡ Some l → slice_get w.device lane ≡ Some d
+      → slice_get l.tags tag ≡ Some t → slice_get d.held tag ≡ Some (Some h)
+      → Leaves geometry (guest_of_one (tag_of w lane tag)) w (device_posted geometry.mediator lane tag st d w)
+  unfolding device_posted completion_written
+  answered-leaves lane tag st l d h t at there found held =
+      let before = fine.lanes lane l d at there in
+      let lane_below = slice_get-below w.lanes lane l at in
+      let holds = held-flies geometry lane tag w.host l.head d h t (before.tags tag t (Some h) found held) in
+      let was = Flying holds.command holds.plan InDevice in
+      let new = Flying holds.command holds.plan (Answered d.posted) in
+      let flies : slice_get l.tags tag ≡ Some was = found ∙ ap (λ x. Some x) holds.flies in
+      let tags = before.positions.tags in
+      let waiting = count-fewer (tag_stands waits_for_mediator) l.tags tag was flies refl in
+      let many = before.answered_count in
+      let room : far l.head d.posted < 64 = omega (arith, waiting, many, tags) in
+      let posted_below = before.positions.posted in
+      let bytes = completion 0 d.head (queue_pair lane) tag d.phase st in
+      let sized = completion-length 0 d.head (queue_pair lane) tag d.phase st in
+      let memory = stored w.host (completion_slot geometry.mediator lane d.posted) bytes in
+      let same = written-same geometry (length w.lanes) lane w.host d bytes sized lane_below before.positions.posted in
+      let whose = holds.command.guest in
+      of-tag host_bytes geometry w laid fine lane tag was whose _ (ap (λ x. tag_in x tag) at ∙ flies) refl
+      (subst (Leaves geometry (Some whose) w) (sym (stands-is w lane tag l d holds.command holds.plan InDevice (Answered d.posted) memory (completion_posted tag) at there flies))
+      (leaves-tag geometry (Some whose) w
+      (record w { host = memory; lanes = set w.lanes lane (tag_changed tag new l); device = set w.device lane (completion_posted tag d) })
+      lane tag l (tag_changed tag new l) d (completion_posted tag d) was new at there flies refl refl refl (λ b apart. held-put d.held tag None b apart)
+      (λ number differ. tag-apart (Some whose) number was refl differ) (λ number differ. tag-apart (Some whose) number new refl differ)
+      (record {
+        bytes = (λ x out area. (elim (outside-area geometry w x area) [
+          | inl before_area ↦ same x (x + 1) (inl (omega (arith, before_area))) x (omega arith) (omega arith)
+          | inr behind_area ↦ same x (x + 1) (inr (omega (arith, behind_area, lane_below, posted_below))) x (omega arith) (omega arith)
+        ]));
+        area = (λ number guest addr given differ s.
+        area-left geometry w memory lane tag l.head l d (completion_posted tag d) number addr fine at there
+        (written-elsewhere geometry (length w.lanes) lane w.host d bytes sized lane_below before.positions.posted)
+        (λ b x apart b_below here. answer-undisturbed geometry (length w.lanes) lane w.host d bytes sized lane_below before.positions.posted b l.head (set d.held tag None) (next_phase d.posted d.phase) x b_below before.positions.read before.positions.head before.positions.tail room)
+        (λ x here. subst (λ y. is_tag_of number (Some y) ≡ false) (some-same was x (sym flies ∙ here)) (tag-apart (Some whose) number was refl differ))
+        s);
+        blocks = (λ x offset out. refl);
+        marks = (λ x out k. k);
+        controllers = (λ n differ. refl);
+      })))
+
+  held-leaves : (lane slot : ℕ) (st : StatusField) (d : DeviceLane) (h : Held) → slice_get w.device lane ≡ Some d → slice_get d.held slot ≡ Some (Some h)
+      → Leaves geometry (guest_of_one (tag_of w lane slot)) w (device_posted geometry.mediator lane slot st d w)
+  held-leaves lane slot st d h there held =
+      let among = slice_get-below w.device lane d there in
+      let sides = fine.sides in
+      let l = slice_get-there w.lanes lane (omega (arith, among, sides)) in
+      let before = fine.lanes lane l.0 d l.1 there in
+      let tags = before.positions.tags in
+      let sized = before.positions.held in
+      let under = slice_get-below d.held slot (Some h) held in
+      let t = slice_get-there l.0.tags slot (omega (arith, tags, sized, under)) in
+      answered-leaves lane slot st l.0 d h t.0 l.1 there t.1 held
+
+  post-by : (left : List ℕ) (lane slot : ℕ) (d : DeviceLane) (h : Held) → slice_get w.device lane ≡ Some d → slice_get d.held slot ≡ Some (Some h)
+      → Leaves geometry (guest_of_one (tag_of w lane slot)) w (device_post left geometry.mediator lane slot h d w).world
+  post-by [] lane slot d h there held = held-leaves lane slot (held_status h) d h there held
+  post-by (number ∷ left) lane slot d h there held = leaves-nothing geometry (guest_of_one (tag_of w lane slot)) w
+
+  pub device_posts-leave : (lane slot : ℕ) → Leaves geometry (guest_of_one (tag_of w lane slot)) w (step geometry (event.DevPost lane slot) w).world
+  unfolding step
+  device_posts-leave lane slot =
+      let nothing = leaves-nothing geometry (guest_of_one (tag_of w lane slot)) w in
+      let P = Leaves geometry (guest_of_one (tag_of w lane slot)) w in
+      device-walk P w nothing (slice_get w.device lane) _ (λ d there.
+      held-walk P w nothing (slice_get d.held slot) (λ h. device_post h.left geometry.mediator lane slot h d w) (λ h held. post-by h.left lane slot d h there held))
+
+  pub device_fails-leave : (lane slot : ℕ) (st : StatusField) → Leaves geometry (guest_of_one (tag_of w lane slot)) w (step geometry (event.DevFail lane slot st) w).world
+  unfolding step
+  device_fails-leave lane slot st =
+      let nothing = leaves-nothing geometry (guest_of_one (tag_of w lane slot)) w in
+      let P = Leaves geometry (guest_of_one (tag_of w lane slot)) w in
+      device-walk P w nothing (slice_get w.device lane) _ (λ d there.
+      held-walk P w nothing (slice_get d.held slot) (λ h. device_fail geometry.mediator lane slot st d w) (λ h held.
+      either P w nothing (is_success st) _ _ (λ good. nothing) (λ bad. held-leaves lane slot st d h there held)))
+
   -- ---- marks
 
   pub keeps-leave : (block : ℕ) → Leaves geometry None w (step geometry (event.Keep block) w).world
