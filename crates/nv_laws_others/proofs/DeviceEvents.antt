@@ -1,37 +1,31 @@
 -- What submissions, the physical controller's events but a unit's move, reaping and marks leave.
-use Rattle.std.proofs.Common.{◌≡◌, ℕ, ◌+◌, ◌*◌, ◌%◌, ◌<◌, ◌≤◌, ◌⊎◌, inl, inr, Bool, true, false, cond, not, ◌&&◌, ◌||◌, ◌==◌, nat_le, List, [], ◌∷◌, length, set, slice_get, Option, Some, None, arith, refl, sym, ap, ◌∙◌, subst}
-use Rattle.std.specs.Prelude.{◌≢◌}
-use Rattle.std.proofs.lemmas.Bool.{eqb-false, ne_eqb}
-use Rattle.nv_entry.specs.Completion.{completion, status_of}
+use Rattle.std.proofs.Common.{◌≡◌, ℕ, ◌+◌, ◌<◌, inl, inr, Bool, true, false, cond, ◌==◌, nat_le, List, [], ◌∷◌, length, set, slice_get, Some, None, arith, refl, sym, ap, ◌∙◌, subst}
+use Rattle.nv_entry.specs.Completion.{completion}
 use Rattle.nv_entry.specs.Status.{StatusField}
-use Rattle.nv_entry.specs.Submission.{cid_of}
 use Rattle.nv_model.specs.Memory.{stored}
-use Rattle.nv_model.specs.Private.{marked}
-use Rattle.nv_model.specs.Queue.{cqe_size, is_empty, next_slot}
 use Rattle.nv_model.specs.Transcript.{Outcome, ReadDone, Settled, Wanted}
 use Rattle.nv_world_model.specs.declared.event.Event.TheVariants as event
-use Rattle.nv_world_model.specs.Area.{completion_slot, entry_of, queue_pair, ring_size, submission_slot, tag_count, written}
-use Rattle.nv_world_model.specs.Contained.{front_guest, guest_of_one, guest_standing, in_area, is_answered_at, is_queued_at, next_guest, tag_stands}
-use Rattle.nv_world_model.specs.Device.{DeviceLane, Held, completion_posted, completion_written, entry_taken, front_entry, held_of, held_status, next_phase, rung}
-use Rattle.nv_world_model.specs.Geometry.{Geometry, Guest, regions_of}
+use Rattle.nv_world_model.specs.Area.{completion_slot, queue_pair, tag_count, written}
+use Rattle.nv_world_model.specs.Contained.{guest_of_one, tag_stands}
+use Rattle.nv_world_model.specs.Device.{DeviceLane, Held, completion_posted, completion_written, held_status, next_phase, rung}
+use Rattle.nv_world_model.specs.Geometry.{Geometry}
 use Rattle.nv_world_model.specs.Plan.{Answer, Bounced, Direct, NoData, Plan, plan_over}
-use Rattle.nv_world_model.specs.Seat.{Owner, completion_at, owner_of}
-use Rattle.nv_world_model.specs.Step.{After, carry_out, completion_read, device_fail, device_post, device_posted, device_take, device_took, is_success, kept_block, passed_on, reap, reaped, step, submit_by, submitted}
-use Rattle.nv_world_model.specs.View.{guest_of_tag, is_tag_of}
-use Rattle.nv_world_model.specs.World.{Answered, Command, Ended, Flying, Free, InDevice, Lane, Queued, Standing, Tag, Taken, World, tag_changed, tag_in, tag_of}
-use Rattle.nv_world_model.proofs.Seats.{owner_of-is, owner_of-number}
+use Rattle.nv_world_model.specs.Seat.{Owner, owner_of}
+use Rattle.nv_world_model.specs.Step.{carry_out, device_fail, device_post, device_posted, is_success, kept_block, step, submit_by, submitted}
+use Rattle.nv_world_model.specs.View.{is_tag_of}
+use Rattle.nv_world_model.specs.World.{Answered, Command, Flying, InDevice, Lane, Queued, Tag, Taken, World, tag_changed, tag_in, tag_of}
 use Rattle.nv_laws_sound.specs.Consistent.{IsConsistent, IsPlanned, waits_for_device, waits_for_mediator}
 use Rattle.nv_laws_sound.specs.LaidOut.{IsLaidOut}
 use Rattle.nv_laws_sound.proofs.AnswerEvents.{answer-undisturbed, completion-length, written-elsewhere, written-same}
-use Rattle.nv_laws_sound.proofs.Lists.{count-fewer, set-same, slice_get-below, slice_get-there, some-same}
+use Rattle.nv_laws_sound.proofs.Lists.{count-fewer, slice_get-below, slice_get-there, some-same}
 use Rattle.nv_laws_sound.proofs.MoveEvents.{held-flies}
 use Rattle.nv_laws_sound.proofs.Planned.{Answers, IsAnswerOr, Plans, plan_over-is}
-use Rattle.nv_laws_sound.proofs.Retags.{is-at, stands-is, tag-is}
+use Rattle.nv_laws_sound.proofs.Retags.{is-at, stands-is}
 use Rattle.nv_laws_sound.proofs.Rings.{far}
 use Rattle.nv_laws_sound.proofs.SubmitEvents.{entered-elsewhere, entered-same, entered-undisturbed, submitted-is}
 use Rattle.nv_laws_sound.proofs.Walks.{device-walk, either, held-walk, owner-walk, taken-walk}
 use Rattle.nv_laws_others.specs.Leaving.{Leaves}
-use Rattle.nv_laws_others.proofs.Events.{LeavesRest, leaves-lanes, leaves-nothing, leaves-tag}
+use Rattle.nv_laws_others.proofs.Events.{leaves-lanes, leaves-nothing, leaves-tag}
 use Rattle.nv_laws_others.proofs.Leaving.{area-left, outside-area}
 use Rattle.nv_laws_others.proofs.Parts.{held-put, tag-apart}
 use Rattle.nv_laws_others.proofs.TagEvents.{ended-leaves, of-tag}
@@ -68,11 +62,11 @@ module _ (host_bytes : ℕ) (geometry : Geometry) (w : World) (laid : IsLaidOut 
           | inr behind_area ↦ same at (at + 1) (inr (omega (arith, behind_area, lane_below, tail_below))) (inr (omega (arith, behind_area, lane_below, tag_below))) at (omega arith) (omega arith)
         ]));
         area = (λ number guest addr given differ s.
-        area-left geometry w host lane tag a.l.head a.l d (rung d) number addr fine a.at_lane device
-        (λ at apart below. entered-elsewhere host_bytes (length w.lanes) geometry laid o.given command.entry plan planned lane tag d.tail tag_below before.positions.tail w.host at apart)
-        (λ b x apart b_below here. entered-undisturbed host_bytes (length w.lanes) geometry laid o.given command.entry plan planned lane tag d.tail tag_below before.positions.tail w.host b a.l.head d x apart b_below refl before.positions.head before.positions.tail room)
-        (λ x here. subst (λ y. is_tag_of number (Some y) ≡ false) (some-same (Taken command reads) x (sym a.at_tag ∙ here)) (tag-apart (Some command.guest) number (Taken command reads) refl differ))
-        s);
+            area-left geometry w host lane tag a.l.head a.l d (rung d) number addr fine a.at_lane device
+            (λ at apart below. entered-elsewhere host_bytes (length w.lanes) geometry laid o.given command.entry plan planned lane tag d.tail tag_below before.positions.tail w.host at apart)
+            (λ b x apart b_below here. entered-undisturbed host_bytes (length w.lanes) geometry laid o.given command.entry plan planned lane tag d.tail tag_below before.positions.tail w.host b a.l.head d x apart b_below refl before.positions.head before.positions.tail room)
+            (λ x here. subst (λ y. is_tag_of number (Some y) ≡ false) (some-same (Taken command reads) x (sym a.at_tag ∙ here)) (tag-apart (Some command.guest) number (Taken command reads) refl differ))
+            s);
         blocks = (λ at offset out. refl);
         marks = (λ at out k. k);
         controllers = (λ n differ. refl);
@@ -142,11 +136,11 @@ module _ (host_bytes : ℕ) (geometry : Geometry) (w : World) (laid : IsLaidOut 
           | inr behind_area ↦ same x (x + 1) (inr (omega (arith, behind_area, lane_below, posted_below))) x (omega arith) (omega arith)
         ]));
         area = (λ number guest addr given differ s.
-        area-left geometry w memory lane tag l.head l d (completion_posted tag d) number addr fine at there
-        (written-elsewhere geometry (length w.lanes) lane w.host d bytes sized lane_below before.positions.posted)
-        (λ b x apart b_below here. answer-undisturbed geometry (length w.lanes) lane w.host d bytes sized lane_below before.positions.posted b l.head (set d.held tag None) (next_phase d.posted d.phase) x b_below before.positions.read before.positions.head before.positions.tail room)
-        (λ x here. subst (λ y. is_tag_of number (Some y) ≡ false) (some-same was x (sym flies ∙ here)) (tag-apart (Some whose) number was refl differ))
-        s);
+            area-left geometry w memory lane tag l.head l d (completion_posted tag d) number addr fine at there
+            (written-elsewhere geometry (length w.lanes) lane w.host d bytes sized lane_below before.positions.posted)
+            (λ b x apart b_below here. answer-undisturbed geometry (length w.lanes) lane w.host d bytes sized lane_below before.positions.posted b l.head (set d.held tag None) (next_phase d.posted d.phase) x b_below before.positions.read before.positions.head before.positions.tail room)
+            (λ x here. subst (λ y. is_tag_of number (Some y) ≡ false) (some-same was x (sym flies ∙ here)) (tag-apart (Some whose) number was refl differ))
+            s);
         blocks = (λ x offset out. refl);
         marks = (λ x out k. k);
         controllers = (λ n differ. refl);

@@ -1,47 +1,31 @@
 -- What the events of guests and of their tags leave.
-use Rattle.std.proofs.Common.{◌≡◌, ℕ, ◌+◌, ◌%◌, ◌<◌, ◌≤◌, ◌⊎◌, inl, inr, Bool, true, false, cond, not, ◌&&◌, ◌||◌, ◌==◌, nat_le, List, [], ◌∷◌, ◌++◌, length, set, slice_get, Option, Some, None, is_some, arith, refl, sym, ap, ◌∙◌, leb-true, subst}
+use Rattle.std.proofs.Common.{◌≡◌, ℕ, true, false, ◌==◌, length, set, slice_get, Option, Some, None, is_some, refl, sym, ap, ◌∙◌, subst}
 use Rattle.std.specs.Prelude.{◌≢◌}
-use Rattle.std.proofs.lemmas.Bool.{cases_eq, ne_eqb}
-use Rattle.nv_entry.specs.Status.{StatusField}
-use Rattle.nv_entry.specs.StatusCode.{done_with}
-use Rattle.nv_entry.specs.Submission.{cid_of}
-use Rattle.nv_entry.specs.declared.status_code.StatusCode.TheVariants.{InternalError}
-use Rattle.nv_mem.specs.GuestMap.{all_mapped, guest_of, mapped}
-use Rattle.nv_mem.specs.Places.{places_of, total_len}
-use Rattle.nv_model.specs.Admin.{AdminStep, NothingToDo, QueueFull, Stepped, admin}
-use Rattle.nv_model.specs.Controller.{Controller, Posted, front, is_enabled, post, ran_out, took}
-use Rattle.nv_model.specs.Judge.{Work, is_read}
-use Rattle.nv_model.specs.Limits.{part_size}
-use Rattle.nv_model.specs.Memory.{bytes_from, image, put_image, scattered, stored}
+use Rattle.std.proofs.lemmas.Bool.{ne_eqb}
+use Rattle.nv_mem.specs.GuestMap.{guest_of}
+use Rattle.nv_model.specs.Admin.{AdminStep, NothingToDo, QueueFull, Stepped}
+use Rattle.nv_model.specs.Controller.{Controller}
+use Rattle.nv_model.specs.Memory.{put_image}
 use Rattle.nv_model.specs.Private.{Acted, acted}
-use Rattle.nv_model.specs.Queue.{sqe_size}
-use Rattle.nv_model.specs.Transcript.{ReadDone}
 use Rattle.nv_model.specs.declared.act.Act.{Act}
 use Rattle.nv_model.proofs.PutImages.{put_image-elsewhere}
-use Rattle.nv_world_model.specs.declared.event.Event.{Event}
 use Rattle.nv_world_model.specs.declared.event.Event.TheVariants as event
-use Rattle.nv_world_model.specs.Area.{bounce_page}
-use Rattle.nv_world_model.specs.Contained.{LeavesOthers, given_to, in_area, in_extent_of, in_image_of, owner}
-use Rattle.nv_world_model.specs.Device.{DeviceLane, Held}
+use Rattle.nv_world_model.specs.Contained.{given_to, in_area, in_extent_of, in_image_of}
+use Rattle.nv_world_model.specs.Device.{DeviceLane}
 use Rattle.nv_world_model.specs.Geometry.{Geometry, Guest, regions_of, shape_of}
-use Rattle.nv_world_model.specs.Plan.{Answer, Bounced, Direct, NoData, Plan}
-use Rattle.nv_world_model.specs.Seat.{Owner, held_in, owner_of, put_back, seat, with_memory}
-use Rattle.nv_world_model.specs.Step.{After, acted_by, acted_in, administered_by, administered_in, delivered, ended_at_once, free_tag, is_io_queue, is_success, list_at, listed, post_at, post_by, posted_to, ran_out_of, scattered_to, step, take_from, take_front, take_tag, taken_to}
-use Rattle.nv_world_model.specs.View.{guest_of_tag, in_image, is_tag_of, own_held, own_tag}
-use Rattle.nv_world_model.specs.World.{Command, Ended, Flying, Free, Lane, Tag, Taken, World, changed_at, tag_changed, tag_in, tag_of, with_controller, with_host, with_tag}
+use Rattle.nv_world_model.specs.Seat.{Owner, held_in, owner_of, put_back, seat}
+use Rattle.nv_world_model.specs.Step.{acted_by, acted_in, administered_by, administered_in, step}
+use Rattle.nv_world_model.specs.View.{is_tag_of, own_held, own_tag}
+use Rattle.nv_world_model.specs.World.{Lane, Tag, World, tag_in, tag_of}
 use Rattle.nv_world_model.proofs.Seats.{IsOwner, owner_of-is, owner_of-number, slice_get-set-other}
 use Rattle.nv_world_model.proofs.SeatSteps.{Changed, IsPlain, NotDone, NotThere, Shown, act-plain}
 use Rattle.nv_laws_sound.specs.Consistent.{IsConsistent}
 use Rattle.nv_laws_sound.specs.LaidOut.{IsLaidOut}
 use Rattle.nv_laws_sound.proofs.Changes.{put_image-area}
-use Rattle.nv_laws_sound.proofs.GuestEvents.{free-found}
-use Rattle.nv_laws_sound.proofs.Lists.{set-same}
-use Rattle.nv_laws_sound.proofs.Retags.{IsAt, is-at, with_tag-is}
-use Rattle.nv_laws_sound.proofs.Slots.{device-there}
-use Rattle.nv_laws_sound.proofs.Walks.{either, ended-walk, guest-walk, lane-walk, owner-walk, taken-walk}
+use Rattle.nv_laws_sound.proofs.Walks.{guest-walk}
 use Rattle.nv_laws_others.specs.Leaving.{IsShownAt, Leaves}
 use Rattle.nv_laws_others.proofs.Leaving.{bytes-in-lane}
-use Rattle.nv_laws_others.proofs.Parts.{device-elsewhere, helds-left, tag-apart, tags-left}
+use Rattle.nv_laws_others.proofs.Parts.{device-elsewhere, helds-left, tags-left}
 
 -- all but tags and what the device holds
 pub record LeavesRest (geometry : Geometry) (whose : Option ℕ) (w z : World) : Type 0 where
@@ -81,8 +65,8 @@ module _ (geometry : Geometry) (whose : Option ℕ) (w : World) where
         controllers = rest.controllers;
         tags = (λ n lane tag d. ap (λ ls. own_tag n (tag_in (slice_get ls lane) tag)) (sym lanes));
         held = (λ n lane tag d.
-        ap (λ ls. own_held n (tag_in (slice_get ls lane) tag) (held_in (slice_get w.device lane) tag)) (sym lanes)
-        ∙ ap (λ ds. own_held n (tag_of z lane tag) (held_in (slice_get ds lane) tag)) (sym device));
+            ap (λ ls. own_held n (tag_in (slice_get ls lane) tag) (held_in (slice_get w.device lane) tag)) (sym lanes)
+            ∙ ap (λ ds. own_held n (tag_of z lane tag) (held_in (slice_get ds lane) tag)) (sym device));
       }
 
   -- one tag of the owner's changes, and perhaps what the device holds under it
@@ -99,14 +83,14 @@ module _ (geometry : Geometry) (whose : Option ℕ) (w : World) where
         marks = rest.marks;
         controllers = rest.controllers;
         tags = (λ n a b differ.
-        tags-left n w.lanes lane tag l now t new at found changed (was n differ) (is n differ) a b
-        ∙ ap (λ ls. own_tag n (tag_in (slice_get ls a) b)) (sym lanes));
+            tags-left n w.lanes lane tag l now t new at found changed (was n differ) (is n differ) a b
+            ∙ ap (λ ls. own_tag n (tag_in (slice_get ls a) b)) (sym lanes));
         held = (λ n a b differ.
-        helds-left n w.lanes lane tag l now t new at found changed (was n differ) (is n differ)
-        (λ x y. held_in (slice_get w.device x) y) (λ x y. held_in (slice_get (set w.device lane behind) x) y)
-        (λ x y apart. device-elsewhere w.device lane tag d behind there held x y apart) a b
-        ∙ ap (λ ls. own_held n (tag_in (slice_get ls a) b) (held_in (slice_get (set w.device lane behind) a) b)) (sym lanes)
-        ∙ ap (λ ds. own_held n (tag_of z a b) (held_in (slice_get ds a) b)) (sym device));
+            helds-left n w.lanes lane tag l now t new at found changed (was n differ) (is n differ)
+            (λ x y. held_in (slice_get w.device x) y) (λ x y. held_in (slice_get (set w.device lane behind) x) y)
+            (λ x y apart. device-elsewhere w.device lane tag d behind there held x y apart) a b
+            ∙ ap (λ ls. own_held n (tag_in (slice_get ls a) b) (held_in (slice_get (set w.device lane behind) a) b)) (sym lanes)
+            ∙ ap (λ ds. own_held n (tag_of z a b) (held_in (slice_get ds a) b)) (sym device));
       }
 
 -- ---- a guest's memory and controller
@@ -130,10 +114,10 @@ module _ (host_bytes : ℕ) (geometry : Geometry) (w : World) (laid : IsLaidOut 
   rest-put_back o memory z given host disk kept controllers =
       record {
         bytes = (λ at out area.
-        sym (put_image-elsewhere (regions_of o.given) memory w.host at (outside-image o at given out)) ∙ sym (ap (λ h. h at) host));
+            sym (put_image-elsewhere (regions_of o.given) memory w.host at (outside-image o at given out)) ∙ sym (ap (λ h. h at) host));
         area = (λ number guest addr whose differ s.
-        (let lies = bytes-in-lane geometry w s.lane s.tag addr s.t fine s.there s.bytes in
-        put_image-area host_bytes (length w.lanes) geometry o.number o.given memory w.host s.lane laid given lies.below addr lies.low lies.high ∙ sym (ap (λ h. h addr) host)));
+            (let lies = bytes-in-lane geometry w s.lane s.tag addr s.t fine s.there s.bytes in
+            put_image-area host_bytes (length w.lanes) geometry o.number o.given memory w.host s.lane laid given lies.below addr lies.low lies.high ∙ sym (ap (λ h. h addr) host)));
         blocks = (λ at offset out. sym (ap (λ d. d at offset) disk));
         marks = (λ at out k. ap (λ f. f at) kept ∙ k);
         controllers = (λ number differ. sym (controllers number (ne_eqb number o.number (λ same. differ (ap (λ n. Some n) (sym same))))));

@@ -1,29 +1,25 @@
 -- What leaves all but the owner's alone leaves every other guest's view.
-use Rattle.std.proofs.Common.{◌≡◌, ℕ, ◌+◌, ◌*◌, ◌%◌, ◌<◌, ◌≤◌, ◌⊎◌, inl, inr, Bool, true, false, cond, ◌&&◌, ◌==◌, nat_le, nat_lt, List, [], ◌∷◌, All, length, set, slice_get, Option, Some, None, is_some, arith, refl, sym, ap, ◌∙◌, eqb-true, leb-true, ltb-true, subst}
+use Rattle.std.proofs.Common.{◌≡◌, ℕ, ◌+◌, ◌<◌, ◌≤◌, ◌⊎◌, inl, inr, true, false, ◌==◌, nat_le, nat_lt, length, slice_get, Option, Some, None, is_some, arith, refl, sym, ap, ◌∙◌, eqb-true, leb-true, ltb-true, subst}
 use Rattle.std.specs.Prelude.{◌≢◌}
-use Rattle.std.specs.List.{list_any, range_with_len}
-use Rattle.std.proofs.lemmas.Bool.{cases_eq, cases_lt, eqb-false, le-leb, lt-ltb, ne_eqb}
+use Rattle.std.specs.List.{range_with_len}
+use Rattle.std.proofs.lemmas.Bool.{cases_eq, cases_lt, le-leb, lt-ltb, ne_eqb}
 use Rattle.std.proofs.lemmas.List.Folds.{list_any_none}
 use Rattle.nv_mem.specs.GuestMap.{guest_of, host_of}
 use Rattle.nv_mem.proofs.Images.{guest_of-host}
 use Rattle.nv_model.specs.Memory.{byte_at_host, image}
 use Rattle.nv_model.proofs.Endings.{and-true}
 use Rattle.nv_ns.specs.BlockRange.{block_at, block_count}
-use Rattle.nv_world_model.specs.Area.{completion_slot, lane_start, list_page, ring_size, submission_slot, tag_count}
+use Rattle.nv_world_model.specs.Area.{lane_start, ring_size, tag_count}
 use Rattle.nv_world_model.specs.Contained.{LeavesOthers, given_to, in_area, in_extent_of, in_image_of, is_answered_at, is_queued_at, tag_stands}
 use Rattle.nv_world_model.specs.Device.{DeviceLane, Held}
 use Rattle.nv_world_model.specs.Geometry.{Geometry, Guest, regions_of}
-use Rattle.nv_world_model.specs.Seat.{held_by, held_in}
-use Rattle.nv_world_model.specs.View.{IsSameView, in_extent, in_image, is_tag_of, lies_in, own_held, own_tag, shown}
+use Rattle.nv_world_model.specs.View.{is_tag_of}
 use Rattle.nv_world_model.specs.World.{Answered, Ended, Flying, Free, InDevice, Lane, Queued, Tag, Taken, World, tag_in, tag_of}
 use Rattle.nv_laws_sound.specs.Consistent.{IsBetween, IsConsistent, IsTag}
 use Rattle.nv_laws_sound.specs.LaidOut.{IsLaidOut}
-use Rattle.nv_laws_sound.proofs.Commands.{tag-elsewhere, tag-here}
 use Rattle.nv_laws_sound.proofs.Lists.{slice_get-below}
 use Rattle.nv_laws_sound.proofs.Named.{row-all}
 use Rattle.nv_laws_sound.proofs.Retags.{is-at, tag-is}
-use Rattle.nv_laws_sound.proofs.ReapEvents.{answered-at}
-use Rattle.nv_laws_sound.proofs.TakenEvents.{queued-at}
 use Rattle.nv_laws_sound.specs.Area.{SameInLane}
 use Rattle.nv_laws_sound.proofs.Slots.{held-under}
 use Rattle.nv_laws_sound.proofs.TagsKept.{IsUndisturbed}
@@ -97,14 +93,14 @@ module _ (host_bytes : ℕ) (geometry : Geometry) (lanes : ℕ) (laid : IsLaidOu
   leaves-others whose w z sized is leaves =
       record {
         views = (λ number guest given differ.
-        record {
-          memory = (λ addr. memory-left whose w z number guest addr sized given differ leaves (host_of (regions_of guest) addr) refl);
-          blocks = (λ lba offset below. leaves.blocks (block_at guest.extent lba) offset (extent-apart whose number guest lba given differ below));
-          controller = leaves.controllers number differ;
-          tags = (λ lane tag. leaves.tags number lane tag differ);
-          held = (λ lane tag. leaves.held number lane tag differ);
-          area = (λ addr lies. leaves.area number guest addr given differ (shown-at host_bytes geometry w number guest addr (subst (λ n. IsLaidOut host_bytes n geometry) (sym sized) laid) is given lies));
-        });
+            record {
+              memory = (λ addr. memory-left whose w z number guest addr sized given differ leaves (host_of (regions_of guest) addr) refl);
+              blocks = (λ lba offset below. leaves.blocks (block_at guest.extent lba) offset (extent-apart whose number guest lba given differ below));
+              controller = leaves.controllers number differ;
+              tags = (λ lane tag. leaves.tags number lane tag differ);
+              held = (λ lane tag. leaves.held number lane tag differ);
+              area = (λ addr lies. leaves.area number guest addr given differ (shown-at host_bytes geometry w number guest addr (subst (λ n. IsLaidOut host_bytes n geometry) (sym sized) laid) is given lies));
+            });
         bytes = leaves.bytes;
         blocks = leaves.blocks;
         marks = leaves.marks;
@@ -214,6 +210,7 @@ area-left geometry w other lane tag now l d e number addr fine at there elsewher
             undisturbed-bytes geometry lane s.tag addr w.host other l.head now d e held.0 s.t
             (undisturbed s.tag s.t (ne_eqb s.tag tag other_tag) below found) ((fine.lanes lane l d at there).tags s.tag s.t held.0 found held.1)
             (subst (λ n. IsBytes geometry.mediator n s.tag s.t addr) same s.bytes)
+
     by_lane : LiesInLane geometry.mediator s.lane (length w.lanes) s.tag addr → (s.lane ≡ lane) ⊎ (s.lane ≡ lane → ⊥) → w.host addr ≡ other addr
     by_lane lies (inl same) = in_lane same (cases_eq s.tag tag) lies.tag_below
     by_lane lies (inr apart) = elsewhere s.lane (ne_eqb s.lane lane apart) lies.below addr lies.low lies.high

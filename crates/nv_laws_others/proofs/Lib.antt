@@ -4,3 +4,4 @@ pub mod Parts
 pub mod Events
 pub mod TagEvents
 pub mod DeviceEvents
+pub mod RingEvents

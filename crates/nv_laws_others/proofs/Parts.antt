@@ -1,12 +1,11 @@
 -- What is left of others' tags, and of what the device holds of them, where one tag of the owner's changes.
-use Rattle.std.proofs.Common.{◌≡◌, ℕ, ◌⊎◌, inl, inr, Bool, true, false, cond, ◌==◌, List, length, set, slice_get, Option, Some, None, refl, sym, ap, ◌∙◌, eqb-true, subst}
+use Rattle.std.proofs.Common.{◌≡◌, ℕ, ◌⊎◌, inl, inr, false, cond, List, set, slice_get, Option, Some, None, refl, sym, ap, ◌∙◌, subst}
 use Rattle.std.specs.Prelude.{◌≢◌}
 use Rattle.std.proofs.lemmas.Bool.{cases_eq, ne_eqb}
-use Rattle.nv_world_model.specs.Contained.{guest_of_one}
 use Rattle.nv_world_model.specs.Device.{DeviceLane, Held}
 use Rattle.nv_world_model.specs.Seat.{held_by, held_in}
-use Rattle.nv_world_model.specs.View.{guest_of_tag, is_guest, is_tag_of, own_held, own_tag}
-use Rattle.nv_world_model.specs.World.{Command, Ended, Flying, Free, Lane, Tag, Taken, tag_in}
+use Rattle.nv_world_model.specs.View.{guest_of_tag, is_tag_of, own_held, own_tag}
+use Rattle.nv_world_model.specs.World.{Ended, Flying, Free, Lane, Tag, Taken, tag_in}
 use Rattle.nv_world_model.proofs.Seats.{slice_get-set, slice_get-set-other}
 use Rattle.nv_laws_sound.proofs.Commands.{tag-elsewhere, tag-here}
 

@@ -1,25 +1,24 @@
 -- Where bytes that are shown to a guest lie.
-use Rattle.std.proofs.Common.{◌≡◌, ℕ, zero, suc, ◌+◌, ◌*◌, ◌%◌, ◌<◌, ◌≤◌, ◌⊎◌, inl, inr, Bool, true, false, cond, not, ◌&&◌, ◌||◌, ◌==◌, nat_le, nat_lt, List, [], ◌∷◌, ◌++◌, All, filter, flat_map, length, map, slice_get, Option, Some, None, arith, refl, sym, ap, ◌∙◌, eq-eqb, eqb-true, leb-true, ltb-true, subst}
+use Rattle.std.proofs.Common.{◌≡◌, ℕ, zero, suc, ◌+◌, ◌*◌, ◌%◌, ◌<◌, ◌≤◌, ◌⊎◌, inl, inr, Bool, true, false, cond, not, ◌&&◌, ◌||◌, ◌==◌, nat_le, nat_lt, List, [], ◌∷◌, ◌++◌, filter, flat_map, length, map, slice_get, Option, Some, None, arith, refl, sym, ap, ◌∙◌, eq-eqb, eqb-true, leb-true, ltb-true, subst}
 use Rattle.std.specs.List.{enumerate_from, list_any, range_with_len}
 use Rattle.std.proofs.lemmas.List.FromFn.{length-range_with_len}
 use Rattle.nv_entry.specs.Completion.{status_of}
 use Rattle.nv_entry.specs.Status.{StatusField}
 use Rattle.nv_mem.specs.GuestMap.{mapped}
 use Rattle.nv_mem.specs.Places.{total_len}
-use Rattle.nv_model.specs.Judge.{Clear, Form, Keep, Manage, MoveBlock, Transfer, Work, WorkUnit, count_of, form_is_read, form_of, form_transfer_len, form_units, is_read, lbas_of, move_units}
+use Rattle.nv_model.specs.Judge.{Clear, Form, Keep, Manage, MoveBlock, Transfer, WorkUnit, count_of, form_is_read, form_of, form_transfer_len, form_units, is_read, lbas_of, move_units}
 use Rattle.nv_model.specs.Limits.{block, most_bytes, page}
 use Rattle.nv_model.specs.Queue.{cqe_size, sqe_size}
 use Rattle.nv_model.proofs.AnyAnswers.{end-short, end-sound}
 use Rattle.nv_model.proofs.Endings.{and-true}
-use Rattle.nv_world_model.specs.Area.{addresses_of, bounce_page, completion_slot, list_page, prps_of, ring_size, submission_slot, tag_count}
-use Rattle.nv_world_model.specs.Contained.{is_answered_at, is_queued_at, tag_stands}
+use Rattle.nv_world_model.specs.Area.{addresses_of, bounce_page, completion_slot, list_page, prps_of, submission_slot}
 use Rattle.nv_world_model.specs.Device.{DeviceLane, Held}
 use Rattle.nv_world_model.specs.Geometry.{Geometry, Guest, regions_of, shape_of}
-use Rattle.nv_world_model.specs.Plan.{Answer, Bounced, Direct, NoData, Plan}
+use Rattle.nv_world_model.specs.Plan.{Plan}
 use Rattle.nv_world_model.specs.Seat.{completion_at, held_in}
 use Rattle.nv_world_model.specs.Step.{is_success}
-use Rattle.nv_world_model.specs.View.{Span, ended_shown, guest_of_tag, is_guest, is_tag_of, lies_in, list_shown, moved_shown, own_shown, read_shown, result_shown, shown, slot_shown, source_shown, tag_shown, units_shown}
-use Rattle.nv_world_model.specs.World.{Answered, Command, Ended, Flying, Free, InDevice, Lane, Queued, Standing, Tag, Taken, World, tag_in, tag_of}
+use Rattle.nv_world_model.specs.View.{Span, guest_of_tag, is_tag_of, lies_in, list_shown, moved_shown, own_shown, read_shown, result_shown, shown, slot_shown, source_shown, tag_shown, units_shown}
+use Rattle.nv_world_model.specs.World.{Answered, Command, Ended, Flying, Free, InDevice, Queued, Standing, Tag, Taken, World, tag_in, tag_of}
 use Rattle.nv_laws_sound.specs.Consistent.{IsConsistent, IsPlanned, IsTag}
 use Rattle.nv_laws_sound.specs.LaidOut.{IsLaidOut}
 use Rattle.nv_laws_sound.proofs.PlanSizes.{planned-kinds, used-few, addresses-nameable}

@@ -1,5 +1,5 @@
 -- What takes, reads of lists, commands that are given up, and completions leave.
-use Rattle.std.proofs.Common.{◌≡◌, ℕ, ◌+◌, ◌%◌, Bool, true, false, cond, ◌&&◌, ◌==◌, nat_le, ◌⊎◌, inl, inr, List, [], ◌∷◌, length, set, slice_get, Option, Some, None, refl, sym, ap, ◌∙◌, subst}
+use Rattle.std.proofs.Common.{◌≡◌, ℕ, Bool, true, false, cond, ◌&&◌, nat_le, List, [], length, set, slice_get, Option, Some, None, refl, sym, ap, ◌∙◌, subst}
 use Rattle.std.specs.Prelude.{◌≢◌}
 use Rattle.std.proofs.lemmas.Bool.{ne_eqb}
 use Rattle.nv_entry.specs.Status.{StatusField}
@@ -7,34 +7,31 @@ use Rattle.nv_entry.specs.StatusCode.{done_with}
 use Rattle.nv_entry.specs.Submission.{cid_of}
 use Rattle.nv_entry.specs.declared.status_code.StatusCode.TheVariants.{InternalError}
 use Rattle.nv_mem.specs.GuestMap.{all_mapped}
-use Rattle.nv_mem.specs.Places.{places_of, total_len}
 use Rattle.nv_model.specs.Controller.{Controller, Posted, front, is_enabled, post, ran_out, took}
 use Rattle.nv_model.specs.Judge.{Work, is_read}
 use Rattle.nv_model.specs.Limits.{part_size}
-use Rattle.nv_model.specs.Memory.{bytes_from, image, put_image, scattered, stored}
+use Rattle.nv_model.specs.Memory.{bytes_from, image, put_image, stored}
 use Rattle.nv_model.specs.Queue.{sqe_size}
 use Rattle.nv_model.specs.Transcript.{ReadDone}
 use Rattle.nv_model.proofs.PutImages.{put_image-own, put_image-twice}
 use Rattle.nv_world_model.specs.declared.event.Event.TheVariants as event
 use Rattle.nv_world_model.specs.Area.{bounce_page}
 use Rattle.nv_world_model.specs.Contained.{guest_of_one}
-use Rattle.nv_world_model.specs.Device.{DeviceLane, Held}
-use Rattle.nv_world_model.specs.Geometry.{Geometry, Guest, regions_of}
+use Rattle.nv_world_model.specs.Geometry.{Geometry, regions_of}
 use Rattle.nv_world_model.specs.Plan.{Answer, Bounced, Direct, NoData, Plan}
-use Rattle.nv_world_model.specs.Seat.{Owner, owner_of, put_back, with_memory}
-use Rattle.nv_world_model.specs.Step.{After, delivered, ended_at_once, free_tag, is_io_queue, is_success, list_at, listed, post_at, post_by, posted_to, ran_out_of, scattered_to, step, take_from, take_front, take_tag, taken_to}
+use Rattle.nv_world_model.specs.Seat.{Owner, owner_of, put_back}
+use Rattle.nv_world_model.specs.Step.{delivered, ended_at_once, free_tag, is_io_queue, is_success, list_at, listed, post_at, post_by, posted_to, ran_out_of, scattered_to, step, take_from, take_front, take_tag, taken_to}
 use Rattle.nv_world_model.specs.View.{guest_of_tag, is_tag_of}
-use Rattle.nv_world_model.specs.World.{Command, Ended, Flying, Free, Lane, Tag, Taken, World, changed_at, tag_changed, tag_in, tag_of, with_controller, with_host, with_tag}
+use Rattle.nv_world_model.specs.World.{Command, Ended, Free, Lane, Tag, Taken, World, changed_at, tag_changed, tag_in, tag_of, with_host, with_tag}
 use Rattle.nv_world_model.proofs.Seats.{IsOwner, owner_of-is, owner_of-number, slice_get-set-other}
 use Rattle.nv_laws_sound.specs.Consistent.{IsConsistent}
 use Rattle.nv_laws_sound.specs.LaidOut.{IsLaidOut}
 use Rattle.nv_laws_sound.proofs.GuestEvents.{free-found}
 use Rattle.nv_laws_sound.proofs.Lists.{set-same}
-use Rattle.nv_laws_sound.proofs.Retags.{IsAt, is-at, with_tag-is}
-use Rattle.nv_laws_sound.proofs.Slots.{device-there}
+use Rattle.nv_laws_sound.proofs.Retags.{is-at, with_tag-is}
 use Rattle.nv_laws_sound.proofs.Walks.{either, ended-walk, guest-walk, lane-walk, owner-walk, taken-walk}
 use Rattle.nv_laws_others.specs.Leaving.{Leaves}
-use Rattle.nv_laws_others.proofs.Events.{LeavesRest, leaves-nothing, leaves-tag, rest-nothing, rest-put_back}
+use Rattle.nv_laws_others.proofs.Events.{LeavesRest, leaves-nothing, leaves-tag, rest-put_back}
 use Rattle.nv_laws_others.proofs.Parts.{tag-apart}
 
 module _ (host_bytes : ℕ) (geometry : Geometry) (w : World) (laid : IsLaidOut host_bytes (length w.lanes) geometry) (fine : IsConsistent geometry w) where

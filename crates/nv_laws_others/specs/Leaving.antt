@@ -1,11 +1,10 @@
 -- Words of the laws about what an event leaves: where bytes that are shown to a guest lie, and what of a world stays as it is.
-use Rattle.std.specs.Prelude.{◌≡◌, ◌≢◌, ℕ, ◌+◌, ◌<◌, ◌≤◌, Bool, true, false, List, slice_get, Option, Some, None}
-use Rattle.nv_model.specs.Queue.{cqe_size, sqe_size}
+use Rattle.std.specs.Prelude.{◌≡◌, ◌≢◌, ℕ, ◌+◌, ◌<◌, ◌≤◌, true, false, slice_get, Option, Some}
 use Rattle.nv_world_model.specs.Area.{completion_slot, list_page, submission_slot}
 use Rattle.nv_world_model.specs.Contained.{given_to, in_area, in_extent_of, in_image_of, is_answered_at, is_queued_at, tag_stands}
 use Rattle.nv_world_model.specs.Geometry.{Geometry, Guest}
 use Rattle.nv_world_model.specs.Seat.{held_in}
-use Rattle.nv_world_model.specs.View.{is_tag_of, lies_in, own_held, own_tag, shown}
+use Rattle.nv_world_model.specs.View.{is_tag_of, own_held, own_tag}
 use Rattle.nv_world_model.specs.World.{Tag, World, tag_of}
 
 -- a byte of a tag's, of that lane: in its pages, in the slot of its entry, or in the slot of its completion

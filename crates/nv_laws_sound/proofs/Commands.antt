@@ -1,15 +1,14 @@
 -- A guest's commands behind a change of one tag.
-use Rattle.std.proofs.Common.{◌≡◌, ℕ, ◌+◌, ◌*◌, ◌/◌, ◌%◌, ◌<◌, ◌⊎◌, inl, inr, Bool, true, false, cond, ◌==◌, List, length, set, slice_get, Option, Some, None, arith, refl, sym, ap, ◌∙◌, eqb-true, subst}
-use Rattle.std.proofs.lemmas.Bool.{cases_eq, eqb-false, ne_eqb}
+use Rattle.std.proofs.Common.{◌≡◌, ℕ, ◌/◌, ◌%◌, ◌<◌, ◌⊎◌, inl, inr, false, ◌==◌, List, set, slice_get, Some, arith, sym, ap, ◌∙◌, subst}
+use Rattle.std.proofs.lemmas.Bool.{cases_eq, ne_eqb}
 use mathlib.Core.Path.{fun_ext}
-use Rattle.nv_model.specs.Controller.{Controller}
-use Rattle.nv_model.specs.Private.{Bag, put, Taken as Member}
+use Rattle.nv_model.specs.Private.{Bag, put}
 use Rattle.nv_model.specs.Running.{IsConsistent as IsRunningWith}
 use Rattle.nv_model.proofs.Bags.{put-elsewhere, put-here}
 use Rattle.nv_world_model.specs.Area.{tag_count}
-use Rattle.nv_world_model.specs.Geometry.{Geometry, Guest}
+use Rattle.nv_world_model.specs.Geometry.{Geometry}
 use Rattle.nv_world_model.specs.Seat.{name_of}
-use Rattle.nv_world_model.specs.World.{Lane, Tag, World, changed_at, tag_in, tag_of}
+use Rattle.nv_world_model.specs.World.{Lane, Tag, World, tag_in}
 use Rattle.nv_world_model.proofs.Seats.{slice_get-set, slice_get-set-other}
 use Rattle.nv_laws_sound.specs.Counted.{IsCounted, command_in, commands}
 
@@ -89,5 +88,5 @@ pub counted-same : (geometry : Geometry) (w z : World) → z.controllers ≡ w.c
 counted-same geometry w z controllers same is =
     record {
       running = (λ number guest c given at.
-      subst (IsRunningWith c) (sym (same number)) (is.running number guest c given (sym (ap (λ cs. slice_get cs number) controllers) ∙ at)));
+          subst (IsRunningWith c) (sym (same number)) (is.running number guest c given (sym (ap (λ cs. slice_get cs number) controllers) ∙ at)));
     }

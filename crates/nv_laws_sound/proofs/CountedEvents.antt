@@ -1,18 +1,18 @@
 -- Each event leaves each guest's controller counting that guest's commands.
-use Rattle.std.proofs.Common.{◌≡◌, ℕ, ◌+◌, ◌/◌, ◌%◌, ◌<◌, ◌⊎◌, inl, inr, Bool, true, false, cond, not, ◌&&◌, ◌==◌, nat_le, List, [], ◌∷◌, ◌++◌, length, set, slice_get, Option, Some, None, IfSome, arith, refl, sym, ap, ◌∙◌, eq-eqb, eqb-true, leb-true, subst}
+use Rattle.std.proofs.Common.{◌≡◌, ℕ, ◌+◌, ◌/◌, ◌%◌, ◌<◌, ◌⊎◌, inl, inr, Bool, true, false, cond, ◌&&◌, ◌==◌, nat_le, List, [], ◌∷◌, length, set, slice_get, Option, Some, None, IfSome, arith, refl, sym, ap, ◌∙◌, eq-eqb, leb-true, subst}
 use Rattle.std.specs.List.{list_any}
 use Rattle.std.proofs.lemmas.Bool.{cases_eq, eqb-false, ne_eqb}
 use Rattle.nv_entry.specs.Status.{StatusField}
 use Rattle.nv_entry.specs.StatusCode.{done_with}
 use Rattle.nv_entry.specs.Submission.{cid_of}
 use Rattle.nv_entry.specs.declared.status_code.StatusCode.TheVariants.{InternalError}
-use Rattle.nv_mem.specs.GuestMap.{all_mapped, everywhere, mapped}
-use Rattle.nv_model.specs.Admin.{AdminStep, NothingToDo, QueueFull, Stepped, admin}
+use Rattle.nv_mem.specs.GuestMap.{all_mapped, everywhere}
+use Rattle.nv_model.specs.Admin.{AdminStep, NothingToDo, QueueFull, Stepped}
 use Rattle.nv_model.specs.Controller.{Controller, Posted, doorbell, front, is_enabled, post, ran_out, reg_read, reg_write, took}
 use Rattle.nv_model.specs.Judge.{Work, is_read}
 use Rattle.nv_model.specs.Limits.{last_queue, part_size}
-use Rattle.nv_model.specs.Memory.{bytes_from, image, stored}
-use Rattle.nv_model.specs.Private.{Acted, Bag, Private, Shape, Unjudged, acted, controlled, put, register_replied, Taken as Member}
+use Rattle.nv_model.specs.Memory.{bytes_from, image}
+use Rattle.nv_model.specs.Private.{Acted, Private, Shape, Unjudged, acted, controlled, put, register_replied, Taken as Member}
 use Rattle.nv_model.specs.Queue.{is_empty, sqe_size}
 use Rattle.nv_model.specs.Running.{IsConsistent as IsRunningWith, IsTogether}
 use Rattle.nv_model.specs.Transcript.{Outcome, ReadDone, Settled, Wanted}
@@ -31,9 +31,9 @@ use Rattle.nv_world_model.specs.Area.{bounce_page, tag_count}
 use Rattle.nv_world_model.specs.Device.{DeviceLane, Held, held_status}
 use Rattle.nv_world_model.specs.Geometry.{Geometry, Guest, regions_of, shape_of}
 use Rattle.nv_world_model.specs.Plan.{Answer, Bounced, Direct, NoData, Plan, plan_over}
-use Rattle.nv_world_model.specs.Seat.{Owner, member_of, name_of, owner_of, put_back, seat, with_memory}
-use Rattle.nv_world_model.specs.Step.{After, acted_by, acted_in, administered_by, administered_in, carry_out, completion_read, delivered, device_fail, device_move, device_moved, device_post, device_posted, device_take, device_took, ended_at, ended_at_once, free_tag, is_free, is_io_queue, is_success, kept_block, list_at, listed, post_at, post_by, posted_to, ran_out_of, reap, reaped, scattered_to, standing_at, stands, step, submit_by, submitted, take_from, take_front, take_tag, taken_to}
-use Rattle.nv_world_model.specs.World.{Command, Ended, Flying, Free, Lane, Standing, Tag, Taken, World, changed_at, tag_changed, tag_in, tag_of, with_controller, with_host, with_lane, with_tag}
+use Rattle.nv_world_model.specs.Seat.{Owner, member_of, name_of, owner_of, put_back, seat}
+use Rattle.nv_world_model.specs.Step.{acted_by, acted_in, administered_by, administered_in, carry_out, completion_read, delivered, device_fail, device_move, device_moved, device_post, device_posted, device_take, device_took, ended_at, ended_at_once, free_tag, is_io_queue, is_success, kept_block, list_at, listed, post_at, post_by, posted_to, ran_out_of, reap, reaped, scattered_to, standing_at, step, submit_by, submitted, take_from, take_front, take_tag, taken_to}
+use Rattle.nv_world_model.specs.World.{Command, Ended, Flying, Free, Lane, Standing, Tag, Taken, World, changed_at, tag_changed, tag_in, tag_of, with_lane, with_tag}
 use Rattle.nv_world_model.proofs.FreeTags.{free_tag-lowest}
 use Rattle.nv_world_model.proofs.Seats.{IsOwner, owner_of-is, owner_of-number, slice_get-set, slice_get-set-other}
 use Rattle.nv_world_model.proofs.SeatSteps.{Changed, IsPlain, NotDone, NotThere, Shown, act-plain}
@@ -41,8 +41,8 @@ use Rattle.nv_laws_sound.specs.Consistent.{IsConsistent}
 use Rattle.nv_laws_sound.specs.Counted.{IsCounted, command_in, commands}
 use Rattle.nv_laws_sound.proofs.Commands.{counted-same, put-commands, same-commands}
 use Rattle.nv_laws_sound.proofs.GuestEvents.{free-found}
-use Rattle.nv_laws_sound.proofs.Lists.{IsThere, Put, Was, set-there, slice_get-below, some-same}
-use Rattle.nv_laws_sound.proofs.Retags.{IsAt, is-at, with_tag-is}
+use Rattle.nv_laws_sound.proofs.Lists.{IsThere, Put, Was, set-there, slice_get-below}
+use Rattle.nv_laws_sound.proofs.Retags.{is-at, with_tag-is}
 use Rattle.nv_laws_sound.proofs.Slots.{device-there}
 use Rattle.nv_laws_sound.proofs.Walks.{device-walk, either, ended-walk, guest-walk, held-walk, lane-walk, owner-walk, taken-walk}
 
@@ -101,8 +101,8 @@ module _ (geometry : Geometry) where
   controller-counted w z number guest c lanes controllers given running is =
       record {
         running = (λ other g x has at.
-        subst (λ ls. IsRunningWith x (λ name. command_in (tag_in (slice_get ls (name / tag_count)) (name % tag_count)) other)) (sym lanes)
-        (one other g x has (set-there w.controllers number c other x (sym (ap (λ cs. slice_get cs other) controllers) ∙ at))));
+            subst (λ ls. IsRunningWith x (λ name. command_in (tag_in (slice_get ls (name / tag_count)) (name % tag_count)) other)) (sym lanes)
+            (one other g x has (set-there w.controllers number c other x (sym (ap (λ cs. slice_get cs other) controllers) ∙ at))));
       }
     where
       one : (other : ℕ) (g : Guest) (x : Controller) → slice_get geometry.guests other ≡ Some g → IsThere w.controllers number c other x

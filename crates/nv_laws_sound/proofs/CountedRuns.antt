@@ -1,13 +1,13 @@
 -- What each guest's controller counts, from the start and behind any events.
-use Rattle.std.proofs.Common.{◌≡◌, ℕ, ◌/◌, ◌%◌, List, [], ◌∷◌, length, replicate, slice_get, Option, Some, None, refl, sym, ap, ◌∙◌, subst}
+use Rattle.std.proofs.Common.{◌≡◌, ℕ, ◌/◌, ◌%◌, List, [], ◌∷◌, length, replicate, slice_get, Option, Some, None, refl, sym, ap, subst}
 use mathlib.Core.Path.{fun_ext}
-use Rattle.nv_model.specs.Controller.{Controller, opening}
-use Rattle.nv_model.specs.Private.{no_commands, start, Taken as Member}
+use Rattle.nv_model.specs.Controller.{opening}
+use Rattle.nv_model.specs.Private.{no_commands, start}
 use Rattle.nv_model.specs.Running.{IsConsistent as IsRunningWith}
 use Rattle.nv_model.proofs.Running.{start-running}
 use Rattle.nv_world_model.specs.declared.event.Event.{Event}
 use Rattle.nv_world_model.specs.Area.{tag_count}
-use Rattle.nv_world_model.specs.Geometry.{Geometry, Guest}
+use Rattle.nv_world_model.specs.Geometry.{Geometry}
 use Rattle.nv_world_model.specs.Step.{replay, step}
 use Rattle.nv_world_model.specs.World.{Free, Lane, Tag, World, opening_lane, opening_world, tag_in}
 use Rattle.nv_laws_sound.specs.Consistent.{IsConsistent}
@@ -44,8 +44,8 @@ unfolding opening_world
 opening-counted geometry lanes =
     record {
       running = (λ number guest c given at.
-      subst (λ x. IsRunningWith x (commands (opening_world geometry lanes) number)) (slice_get-replicate (length geometry.guests) number opening c at)
-      (subst (IsRunningWith opening) (sym (opening-none geometry lanes number)) opening-runs));
+          subst (λ x. IsRunningWith x (commands (opening_world geometry lanes) number)) (slice_get-replicate (length geometry.guests) number opening c at)
+          (subst (IsRunningWith opening) (sym (opening-none geometry lanes number)) opening-runs));
     }
 
 -- and behind any events what is taken

@@ -6,7 +6,7 @@ use Rattle.nv_model.specs.Running.{IsConsistent as IsRunningWith}
 use Rattle.nv_world_model.specs.Area.{tag_count}
 use Rattle.nv_world_model.specs.Geometry.{Geometry, Guest}
 use Rattle.nv_world_model.specs.Seat.{member_of}
-use Rattle.nv_world_model.specs.World.{Command, Ended, Flying, Free, Tag, Taken, World, tag_of}
+use Rattle.nv_world_model.specs.World.{Ended, Flying, Free, Tag, Taken, World, tag_of}
 
 -- a guest's command in a tag, whatever has come of it
 abbrev pub command_in : Option Tag → (number : ℕ) → Option Member

@@ -1,4 +1,4 @@
-use Rattle.std.proofs.Common.{length, sym, subst}
+use Rattle.std.proofs.Common.{sym, subst}
 use Rattle.std.proofs.lemmas.List.{length-replicate}
 use Rattle.nv_world_model.specs.SetUp.{world_at_start}
 use Rattle.nv_world_model.specs.World.{opening_lane, opening_world}
