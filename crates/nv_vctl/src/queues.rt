@@ -1,10 +1,13 @@
 //! A guest's queues: where they lie in its memory, and where they stand.
 
-ghost use Rattle.std.specs.Prelude.{◌≡◌, ◌+◌, ◌*◌, ◌<◌, ◌≤◌, ◌^◌, ◌&&◌, if◌then◌else◌, Some, is_some, nat_le, nat_lt, not, true, false};
+ghost use Rattle.std.specs.Prelude.{◌≡◌, ◌+◌, ◌*◌, ◌<◌, ◌≤◌, ◌^◌, ◌&&◌, ◌↔◌, IsTrue, if◌then◌else◌, Some, is_some, nat_le, nat_lt, not, true, false};
 ghost use Rattle.nv_model.specs.Controller.{front_of};
 ghost use Rattle.nv_model.specs.Queue.{after_post, ahead, cqe_size, front_taken, is_empty, is_full, new_completion, new_submission, sqe_size, unacknowledged};
+ghost use Rattle.nv_mem.specs.GuestMap.{mapped};
+ghost use Rattle.nv_model.specs.Laws.{IsCompletionInPlace, IsSubmissionInPlace};
 ghost use Rattle.nv_ring.specs.Ring.{FitsRing};
 
+use nv_mem::GuestMap;
 use nv_ring::{Phase, Ring};
 use std::marker::Model;
 
@@ -66,6 +69,14 @@ impl SubmissionQueue {
         }
     }
 
+    /// Whether its slots lie wholly in the map.
+    pub(crate) fn lies_in(&self, map: &GuestMap) -> bool
+        ensures { IsTrue result ↔ IsSubmissionInPlace (mapped map.now.regions) self.now }
+    {
+        let (_head, _tail) = (self.ring.head(), self.ring.tail());
+        map.holds(self.base, SQE_SIZE * u64::from(self.ring.size()))
+    }
+
     /// Whether a command waits in it, and it does not close.
     pub(crate) fn waits(&self) -> bool
         ensures { result ≡ is_some (front_of (Some self.now)) }
@@ -120,6 +131,14 @@ impl CompletionQueue {
             ring: Ring::new(size),
             phase: Phase::new(),
         }
+    }
+
+    /// Whether its slots lie wholly in the map.
+    pub(crate) fn lies_in(&self, map: &GuestMap) -> bool
+        ensures { IsTrue result ↔ IsCompletionInPlace (mapped map.now.regions) self.now }
+    {
+        let (_head, _tail) = (self.ring.head(), self.ring.tail());
+        map.holds(self.base, CQE_SIZE * u64::from(self.ring.size()))
     }
 
     /// Whether it is full.
