@@ -52,14 +52,16 @@ impl Model for Vctl {
 
     ghost Value = { Controller };
 
-    ghost view = { λ v. record { cc = v.cc; aqa = v.aqa; asq_low = v.asq_low; asq_high = v.asq_high; acq_low = v.acq_low; acq_high = v.acq_high; ready = v.ready; failed = v.failed; submission = v.submission; completion_queues = v.completion; taken = v.taken; held_requests = v.held_requests; deletion = v.deletion } };
+    ghost use Rattle.nv_vctl.specs.Inside.{controller_of};
 
-    ghost invariant = { λ v. IsWhole (record { cc = v.cc; aqa = v.aqa; asq_low = v.asq_low; asq_high = v.asq_high; acq_low = v.acq_low; acq_high = v.acq_high; ready = v.ready; failed = v.failed; submission = v.submission; completion_queues = v.completion; taken = v.taken; held_requests = v.held_requests; deletion = v.deletion }) };
+    ghost view = { controller_of };
+
+    ghost invariant = { λ v. IsWhole (controller_of v) };
 }
 
 impl Vctl {
-    #[tactic(auto, unfolding(nv_model::specs::Controller::opening))]
     /// The controller at the start: every register is 0 but CAP and VS, and no queue is there.
+    #[tactic(auto, unfolding(nv_model::specs::Controller::opening))]
     pub fn new() -> Self
         ensures state { result ≡ opening }
         ensures in_place { (test : ℕ → Bool) → QueuesInPlace test result }
@@ -163,9 +165,9 @@ impl Vctl {
         self.deletion
     }
 
-    #[tactic(auto, unfolding(nv_model::specs::Controller::front))]
     /// Whether a command of a queue may be taken: the controller is ready, and the queue is there, does not close and has a
     /// command that waits.
+    #[tactic(auto, unfolding(nv_model::specs::Controller::front))]
     pub fn waits(&self, queue: u16) -> bool
         ensures { result ≡ is_some (front self.now queue) }
     {
