@@ -34,4 +34,5 @@ pub mod TogetherAdmin
 pub mod TogetherKept
 pub mod UnitOrder
 pub mod UnitWords
+pub mod UnitsElsewhere
 pub mod Units
