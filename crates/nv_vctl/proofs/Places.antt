@@ -14,7 +14,8 @@ or_unchanged-has P c None was has = was
 or_unchanged-has P c (Some after) was has = has
 
 -- or behind a completion
-pub controller_behind-has : (P : Controller → Type 0) (c : Controller) (o : Option Posted) → P c → IfSome o (λ p. P p.controller) → P (controller_behind c o)
+pub controller_behind-has : (P : Controller → Type 0) (c : Controller) (o : Option Posted) → P c
+    → IfSome o (λ p. P p.controller) → P (controller_behind c o)
 controller_behind-has P c None was has = was
 controller_behind-has P c (Some p) was has = has
 

@@ -157,7 +157,8 @@ pub whole-posted : (c : Controller) (y dw0 cid : ℕ) (st : StatusField) (p : Po
 unfolding post
 whole-posted c y dw0 cid st p up is w =
     let together = subst (λ o. IfSome o (IsPosted c y)) is (post-together c y dw0 cid st (ready-on c up) w.together) in
-    let same = subst (λ o. IfSome o (λ (r : Posted). r.controller.submission ≡ c.submission)) is (post_from-submission (submission_queue c y) c y dw0 cid st) in
+    let same = subst (λ o. IfSome o (λ (r : Posted). r.controller.submission ≡ c.submission)) is
+    (post_from-submission (submission_queue c y) c y dw0 cid st) in
     record {
       together = together.0;
       admin = subst (λ (qs : List (Option SubmissionQueue)). CompletesToAdmin (queue_of (slice_get qs 0))) (sym same) w.admin;

@@ -102,7 +102,8 @@ impl Vctl {
     // Writes CC: enables or resets the controller, where EN changes.
     fn write_cc(&mut self, value: u32, map: &GuestMap) -> bool
         ensures taken { result ≡ is_some (cc_written (is_enabled self.old) (bits value 0 0 == 1) (mapped map.now.regions) self.old value) }
-        ensures state { self.new ≡ or_unchanged self.old (cc_written (is_enabled self.old) (bits value 0 0 == 1) (mapped map.now.regions) self.old value) }
+        ensures state { self.new
+            ≡ or_unchanged self.old (cc_written (is_enabled self.old) (bits value 0 0 == 1) (mapped map.now.regions) self.old value) }
     {
         match (self.is_enabled(), enables(value)) {
             (false, true) => {
