@@ -36,7 +36,7 @@ pub completion-cid : (dw0 sqhd sqid cid : ℕ) (phase : Bool) (st : StatusField)
 unfolding completion bits dword number_at bytes_of_dwords
 completion-cid dw0 sqhd sqid cid phase st below = omega arith
 
-completion-length : (dw0 sqhd sqid cid : ℕ) (phase : Bool) (st : StatusField) → length (completion dw0 sqhd sqid cid phase st) ≡ cqe_size
+pub completion-length : (dw0 sqhd sqid cid : ℕ) (phase : Bool) (st : StatusField) → length (completion dw0 sqhd sqid cid phase st) ≡ cqe_size
 unfolding completion bytes_of_dwords
 completion-length dw0 sqhd sqid cid phase st = refl
 
@@ -45,7 +45,7 @@ completion-length dw0 sqhd sqid cid phase st = refl
 module _ (geometry : Geometry) (lanes lane : ℕ) (host : ℕ → ℕ) (d : DeviceLane) (bytes : List ℕ) (sized : length bytes ≡ cqe_size)
     (below : lane < lanes) (posted_below : d.posted < ring_size) where
   -- no other byte of the area changes
-  written-same : (from to : ℕ) → (to ≤ completion_slot geometry.mediator lane d.posted) ⊎ (completion_slot geometry.mediator lane (d.posted + 1) ≤ from)
+  pub written-same : (from to : ℕ) → (to ≤ completion_slot geometry.mediator lane d.posted) ⊎ (completion_slot geometry.mediator lane (d.posted + 1) ≤ from)
       → SameBetween host (stored host (completion_slot geometry.mediator lane d.posted) bytes) from to
   written-same from to away = same-stored host from to (completion_slot geometry.mediator lane d.posted) bytes (beyond away)
     where
@@ -55,7 +55,7 @@ module _ (geometry : Geometry) (lanes lane : ℕ) (host : ℕ → ℕ) (d : Devi
       beyond (inr behind) = inr (omega (arith, behind, sized))
 
   -- no other lane does
-  written-elsewhere : (at : ℕ) → (at == lane) ≡ false → at < lanes
+  pub written-elsewhere : (at : ℕ) → (at == lane) ≡ false → at < lanes
       → SameInLane host (stored host (completion_slot geometry.mediator lane d.posted) bytes) geometry.mediator at
   written-elsewhere at apart at_below =
       written-same (lane_start geometry.mediator at) (lane_start geometry.mediator (at + 1)) (by_order (cases_lt at lane) (cases_eq at lane))
@@ -68,7 +68,7 @@ module _ (geometry : Geometry) (lanes lane : ℕ) (host : ℕ → ℕ) (d : Devi
       by_order (inr most) (inr differ) = inr (omega (arith, most, differ, posted_below))
 
   -- a tag that does not stand in that slot is undisturbed
-  answer-undisturbed : (tag head : ℕ) (helds : List (Option Held)) (phase : Bool) (t : Tag) → tag < tag_count → head < ring_size → d.head < ring_size
+  pub answer-undisturbed : (tag head : ℕ) (helds : List (Option Held)) (phase : Bool) (t : Tag) → tag < tag_count → head < ring_size → d.head < ring_size
       → d.tail < ring_size → far head d.posted < 64
       → IsUndisturbed geometry.mediator lane tag host (stored host (completion_slot geometry.mediator lane d.posted) bytes) head head d
       (record d { posted = next_slot ring_size d.posted; phase = phase; held = helds }) t
