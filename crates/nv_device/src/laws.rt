@@ -1,6 +1,6 @@
 //! What the calls of a device read, write and leave as it was, as functions that do nothing: each contract is a law.
 
-ghost use Rattle.std.specs.Prelude.{◌≡◌, ◌≢◌, ℕ, ◌+◌, ◌^◌, ◌<◌, ◌⊎◌, ◌≤◌, Bool, List, slice_get};
+ghost use Rattle.std.specs.Prelude.{◌≡◌, ◌≢◌, ℕ, ◌+◌, ◌<◌, ◌⊎◌, ◌≤◌, Bool, List, slice_get};
 ghost use Rattle.nv_entry.specs.Completion.{IsCompletion};
 ghost use Rattle.nv_entry.specs.Opcode.{io_opcode};
 ghost use Rattle.nv_entry.specs.Status.{StatusField};

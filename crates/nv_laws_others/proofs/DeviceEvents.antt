@@ -1,5 +1,6 @@
 -- What submissions, the physical controller's events but a unit's move, reaping and marks leave.
 use Rattle.std.proofs.Common.{◌≡◌, ℕ, ◌+◌, ◌<◌, inl, inr, Bool, true, false, cond, ◌==◌, nat_le, List, [], ◌∷◌, length, set, slice_get, Some, None, arith, refl, sym, ap, ◌∙◌, subst}
+use Rattle.nv_entry.proofs.CompletionLemmas.{length-completion}
 use Rattle.nv_entry.specs.Completion.{completion}
 use Rattle.nv_entry.specs.Status.{StatusField}
 use Rattle.nv_model.specs.Memory.{stored}
@@ -16,7 +17,7 @@ use Rattle.nv_world_model.specs.View.{is_tag_of}
 use Rattle.nv_world_model.specs.World.{Answered, Command, Flying, InDevice, Lane, Queued, Tag, Taken, World, tag_changed, tag_in, tag_of}
 use Rattle.nv_laws_sound.specs.Consistent.{IsConsistent, IsPlanned, waits_for_device, waits_for_mediator}
 use Rattle.nv_laws_sound.specs.LaidOut.{IsLaidOut}
-use Rattle.nv_laws_sound.proofs.AnswerEvents.{answer-undisturbed, completion-length, written-elsewhere, written-same}
+use Rattle.nv_laws_sound.proofs.AnswerEvents.{answer-undisturbed, written-elsewhere, written-same}
 use Rattle.nv_laws_sound.proofs.Lists.{count-fewer, slice_get-below, slice_get-there, some-same}
 use Rattle.nv_laws_sound.proofs.MoveEvents.{held-flies}
 use Rattle.nv_laws_sound.proofs.Planned.{Answers, IsAnswerOr, Plans, plan_over-is}
@@ -120,7 +121,7 @@ module _ (host_bytes : ℕ) (geometry : Geometry) (w : World) (laid : IsLaidOut 
       let room : far l.head d.posted < 64 = omega (arith, waiting, many, tags) in
       let posted_below = before.positions.posted in
       let bytes = completion 0 d.head (queue_pair lane) tag d.phase st in
-      let sized = completion-length 0 d.head (queue_pair lane) tag d.phase st in
+      let sized = length-completion 0 d.head (queue_pair lane) tag d.phase st in
       let memory = stored w.host (completion_slot geometry.mediator lane d.posted) bytes in
       let same = written-same geometry (length w.lanes) lane w.host d bytes sized lane_below before.positions.posted in
       let whose = holds.command.guest in

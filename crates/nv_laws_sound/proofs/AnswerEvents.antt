@@ -5,6 +5,7 @@ use Rattle.std.proofs.lemmas.Bool.{cases_eq, cases_lt, eqb-false}
 use Rattle.nv_entry.specs.Completion.{cid_of as completed_cid, completion}
 use Rattle.nv_entry.specs.Layout.{bits, bytes_of_dwords, dword, number_at}
 use Rattle.nv_entry.specs.Status.{StatusField}
+use Rattle.nv_entry.proofs.CompletionLemmas.{length-completion}
 use Rattle.nv_model.specs.Limits.{page}
 use Rattle.nv_model.specs.Memory.{bytes_from, stored}
 use Rattle.nv_model.specs.Queue.{cqe_size, next_slot}
@@ -35,10 +36,6 @@ pub completion-cid : (dw0 sqhd sqid cid : ℕ) (phase : Bool) (st : StatusField)
     → completed_cid (completion dw0 sqhd sqid cid phase st) ≡ cid
 unfolding completion bits dword number_at bytes_of_dwords
 completion-cid dw0 sqhd sqid cid phase st below = omega arith
-
-pub completion-length : (dw0 sqhd sqid cid : ℕ) (phase : Bool) (st : StatusField) → length (completion dw0 sqhd sqid cid phase st) ≡ cqe_size
-unfolding completion bytes_of_dwords
-completion-length dw0 sqhd sqid cid phase st = refl
 
 -- ---- the completion in its slot
 
@@ -108,7 +105,7 @@ answered-lane geometry lanes lane tag host st l d h command plan aligned below i
     let many = is.answered_count in
     let room : far l.head d.posted < 64 = omega (arith, waiting, many, tags) in
     let bytes = completion 0 d.head (queue_pair lane) tag d.phase st in
-    let sized = completion-length 0 d.head (queue_pair lane) tag d.phase st in
+    let sized = length-completion 0 d.head (queue_pair lane) tag d.phase st in
     let slot = completion_slot geometry.mediator lane d.posted in
     let memory = stored host slot bytes in
     let now = completion_posted tag d in
@@ -184,7 +181,7 @@ module _ (host_bytes : ℕ) (geometry : Geometry) where
       subst (IsConsistent geometry)
       (sym (stands-is w lane tag l d holds.command holds.plan InDevice (Answered d.posted) memory (completion_posted tag) at there flies))
       (world-lane geometry w lane memory (tag_changed tag (Flying holds.command holds.plan (Answered d.posted)) l) (completion_posted tag d) laid.pages
-      (written-elsewhere geometry (length w.lanes) lane w.host d bytes (completion-length 0 d.head (queue_pair lane) tag d.phase st) below before.positions.posted) behind is)
+      (written-elsewhere geometry (length w.lanes) lane w.host d bytes (length-completion 0 d.head (queue_pair lane) tag d.phase st) below before.positions.posted) behind is)
 
   -- where the device holds a command
   held-posted : (w : World) (lane slot : ℕ) (st : StatusField) (d : DeviceLane) (h : Held) → IsLaidOut host_bytes (length w.lanes) geometry

@@ -173,11 +173,6 @@ pub post-done : {c : Controller} {y to : ℕ} {q : SubmissionQueue} {cq : Comple
 post-done {c} {y} {to} {q} {cq} {full} dw0 cid st found is =
     post-found c y to dw0 cid st q cq full found ∙ ap (λ (b : Bool). cond b None (Some (posted_to c q cq y dw0 cid st))) is
 
--- an entry has 16 bytes
-pub length-completion : (dw0 sqhd sqid cid : ℕ) (phase : Bool) (st : StatusField) → length (completion dw0 sqhd sqid cid phase st) ≡ 16
-unfolding completion bytes_of_dwords
-length-completion dw0 sqhd sqid cid phase st = refl
-
 -- the host behind an entry that is written where the completion that is posted says
 pub host-posted : (rs : List Region) (host after : ℕ → ℕ) (c : Controller) (q : SubmissionQueue) (cq : CompletionQueue)
     (y dw0 cid head addr : ℕ) (phase : Bool) (st : StatusField) (bytes cqe : List ℕ) → after ≡ put_image rs (stored (image rs host) addr bytes) host → addr ≡ cq.base + cqe_size * cq.tail

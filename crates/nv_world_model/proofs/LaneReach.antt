@@ -1,25 +1,22 @@
 -- Which bytes of the host the physical controller reads and writes
-use Rattle.std.proofs.Common.{◌≡◌, ℕ, ◌+◌, ◌*◌, ◌^◌, ◌<◌, ◌≤◌, ◌⊎◌, ◌==◌, ◌||◌, Bool, true, false, cond, ◌&&◌, ◌≢◌, replicate, inl, inr, List, [], ◌∷◌, drop, length, take, Option, Some, None, refl, sym, ap, subst, ◌∙◌, arith}
-use Rattle.std.proofs.lemmas.Bool.{cases_lt}
+use Rattle.std.proofs.Common.{◌≡◌, ℕ, ◌+◌, ◌*◌, ◌^◌, ◌<◌, ◌≤◌, ◌⊎◌, ◌==◌, ◌||◌, Bool, true, false, cond, ◌&&◌, replicate, List, [], ◌∷◌, drop, take, Option, Some, None, refl, sym, ap, subst, ◌∙◌, arith}
 use Rattle.std.specs.Prelude.{slice_set}
-use Rattle.std.proofs.lemmas.List.Elements.{All-head, All-tail}
 use Rattle.std.specs.List.{range_with_len}
 use Rattle.nv_entry.specs.Completion.{IsCompletion, completion, dnr_of, sc_of, status_of}
-use Rattle.nv_entry.specs.Layout.{bytes_of_dwords}
 use Rattle.nv_entry.specs.Opcode.{io_opcode}
 use Rattle.nv_entry.specs.Range.{blocks_of, start_of}
 use Rattle.nv_entry.specs.Status.{StatusField, bit, status}
 use Rattle.nv_entry.specs.Submission.{cid_of, opcode_of, prp1_of, prp2_of, slba_of}
 use Rattle.nv_entry.specs.declared.opcode.IoOpcode.{IoOpcode}
 use Rattle.nv_entry.specs.declared.opcode.IoOpcode.TheVariants.{Flush, Write, Read, Compare, WriteZeroes, DatasetManagement}
-use Rattle.nv_entry.proofs.CompletionLemmas.{IsCompletion-completion}
-use Rattle.nv_mem.specs.Places.{At, Bucket, Place, places_of}
+use Rattle.nv_entry.proofs.CompletionLemmas.{IsCompletion-completion, length-completion}
+use Rattle.nv_mem.specs.Places.{places_of}
 use Rattle.nv_mem.specs.declared.piece.Piece.{Piece}
 use Rattle.nv_model.specs.Carried.{block_work, cleared, cleared_one, units_moved}
 use Rattle.nv_model.specs.Dialogue.{asked, in_memory}
 use Rattle.nv_model.specs.Judge.{Work, deallocates, has_blocks, is_fua, one_range_units, transfer_len}
 use Rattle.nv_model.specs.Laws.{AgreeAt, AgreeOn}
-use Rattle.nv_model.specs.Memory.{bytes_from, gathered, scattered, stored}
+use Rattle.nv_model.specs.Memory.{bytes_from, gathered, stored}
 use Rattle.nv_model.specs.Private.{Moved, block_bytes, block_written, differs, marked}
 use Rattle.nv_model.specs.Prp.{read_prp}
 use Rattle.nv_model.specs.Queue.{next_slot}
@@ -34,13 +31,7 @@ use Rattle.nv_world_model.specs.LaneRuns.{IsNotAmong, IsSameEffect, list_named, 
 
 -- ---- a completion
 
--- it has 16 bytes
-length-completion : (head queue cid : ℕ) (phase : Bool) (st : StatusField)
-    → length (completion 0 head queue cid phase st) ≡ 16
-unfolding completion bytes_of_dwords
-length-completion head queue cid phase st = refl
-
--- they stand in the slot
+-- its 16 bytes stand in the slot
 pub completion-there : (mediator lane identifier : ℕ) (st : StatusField) (d : DeviceLane) (host : ℕ → ℕ)
     → bytes_from (completion_written mediator lane identifier st d host) (completion_slot mediator lane d.posted) 16
     ≡ completion 0 d.head (queue_pair lane) identifier d.phase st
@@ -48,7 +39,7 @@ unfolding completion_written
 completion-there mediator lane identifier st d host =
     let bytes : List ℕ = completion 0 d.head (queue_pair lane) identifier d.phase st in
     let slot : ℕ = completion_slot mediator lane d.posted in
-    ap (bytes_from (stored host slot bytes) slot) (sym (length-completion d.head (queue_pair lane) identifier d.phase st))
+    ap (bytes_from (stored host slot bytes) slot) (sym (length-completion 0 d.head (queue_pair lane) identifier d.phase st))
     ∙ bytes_from-stored host slot bytes
 
 -- with each field
@@ -82,7 +73,7 @@ completion-elsewhere mediator lane identifier at st d host outside =
     let bytes : List ℕ = completion 0 d.head (queue_pair lane) identifier d.phase st in
     let slot : ℕ = completion_slot mediator lane d.posted in
     let P : ℕ → Type 0 = λ n. (at < slot) ⊎ (slot + n ≤ at) in
-    stored-outside host slot bytes at (subst P (sym (length-completion d.head (queue_pair lane) identifier d.phase st)) outside)
+    stored-outside host slot bytes at (subst P (sym (length-completion 0 d.head (queue_pair lane) identifier d.phase st)) outside)
 
 -- ---- a take
 

@@ -1,6 +1,6 @@
 -- Words of the laws about a lane of the physical controller: what happens there over time, and which bytes of the
 -- host a unit is about
-use Rattle.std.specs.Prelude.{◌≡◌, ◌≢◌, ℕ, ◌+◌, ◌-◌, ◌*◌, ◌/◌, ◌%◌, ◌<◌, ◌≤◌, Bool, true, false, ◌==◌, if◌then◌else◌, List, [], ◌∷◌, All, drop, take, Option, Some, None, is_some}
+use Rattle.std.specs.Prelude.{◌≡◌, ℕ, ◌+◌, ◌-◌, ◌*◌, ◌/◌, ◌%◌, ◌<◌, ◌≤◌, Bool, true, false, ◌==◌, if◌then◌else◌, List, [], ◌∷◌, All, drop, take, Option, Some, None, is_some}
 use Rattle.std.specs.Bool.{⊤}
 use Rattle.std.specs.List.{count_by, slice_index_or}
 use Rattle.nv_entry.specs.Submission.{cid_of, prp1_of, prp2_of}

@@ -7,7 +7,6 @@ ghost use Rattle.nv_entry.specs.Status.{StatusField};
 ghost use Rattle.nv_entry.specs.Submission.{opcode_of};
 ghost use Rattle.nv_model.specs.Laws.{AgreeAt, AgreeOn};
 ghost use Rattle.nv_model.specs.Memory.{bytes_from, gathered};
-ghost use Rattle.nv_model.specs.Queue.{cqe_size, sqe_size};
 ghost use Rattle.nv_world_model.specs.Area.{bounce_page, completion_slot, lane_start, list_page, submission_slot};
 ghost use Rattle.nv_world_model.specs.Device.{DeviceLane, Held, completion_written, device_unit, entry_taken, front_entry};
 ghost use Rattle.nv_world_model.specs.LaneRuns.{IsInLane, IsNotAmong, IsSameEffect, list_named, unit_places};

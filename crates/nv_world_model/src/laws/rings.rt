@@ -1,10 +1,10 @@
 //! The rings of a lane of the physical controller never fill.
 
-ghost use Rattle.std.specs.Prelude.{◌≡◌, ℕ, ◌+◌, ◌<◌, List};
+ghost use Rattle.std.specs.Prelude.{◌≡◌, ◌<◌, List};
 ghost use Rattle.nv_model.specs.Queue.{next_slot};
 ghost use Rattle.nv_world_model.specs.Area.{ring_size};
 ghost use Rattle.nv_world_model.specs.Device.{DeviceLane, rung};
-ghost use Rattle.nv_world_model.specs.LaneRuns.{AreWithinTags, IsNotOverrun, LaneEvent, LaneRun, newly_rung, opening_run, run_behind, tail_rung};
+ghost use Rattle.nv_world_model.specs.LaneRuns.{AreWithinTags, IsNotOverrun, LaneEvent, newly_rung, opening_run, run_behind};
 
 /// As long as tails are rung within the tags in flight, neither ring passes its size minus 1, whatever happens on the lane
 /// and in whatever order; so head and tail tell how many entries stand there.

@@ -5,7 +5,8 @@ use Rattle.nv_model.specs.Laws.{QueuesInPlace}
 use Rattle.nv_model.specs.Memory.{byte_in}
 use Rattle.nv_model.specs.Queue.{SubmissionQueue, cqe_size}
 use Rattle.nv_vctl.specs.Vctl.{IsWhole, controller_behind, host_behind, posted_or_held}
-use Rattle.nv_vctl.proofs.Entries.{AreFound, completion-fits, completion-mapped, host-posted, length-completion, post-done, post-held, post-made}
+use Rattle.nv_entry.proofs.CompletionLemmas.{length-completion}
+use Rattle.nv_vctl.proofs.Entries.{AreFound, completion-fits, completion-mapped, host-posted, post-done, post-held, post-made}
 use Rattle.nv_vctl.proofs.Places.{in_place-post}
 use Rattle.nv_vctl.proofs.Whole.{completion-below, whole-posted}
 use Rattle.nv_vctl.proofs.vctl.Vctl.post_cqe.Goals as goal
