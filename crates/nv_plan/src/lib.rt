@@ -11,9 +11,9 @@
 //!   the guest's namespace.
 //!
 //! What is read of an SGL lives in an allocator of the caller's choice, and a plan in `Global`; where memory is refused, the job comes
-//! back as it was. A list is gone through once, and so is the transcript. A Read by PRP or by one descriptor takes three blocks of
-//! memory: the own descriptor's, the places and the copy of the map; each further array of descriptors takes two, and a Dataset
-//! Management two more, for its bytes and its ranges.
+//! back as it was. A list is gone through once, and so is the transcript. A transfer through one descriptor takes three blocks of
+//! memory: for the descriptor, the places and the copy of the map. Each array of descriptors takes two more, and a Dataset Management
+//! two, for its bytes and its ranges.
 #![tactic(auto)]
 
 mod given;
