@@ -22,7 +22,7 @@ use Rattle.nv_mem.proofs.MappedRuns.{run-inside}
 -- ---- memories that are the same at an address
 
 -- and stay so behind a store
-stored-same_at : (f g : ℕ → ℕ) (addr : ℕ) (bytes : List ℕ) (at : ℕ) → f at ≡ g at → stored f addr bytes at ≡ stored g addr bytes at
+pub stored-same_at : (f g : ℕ → ℕ) (addr : ℕ) (bytes : List ℕ) (at : ℕ) → f at ≡ g at → stored f addr bytes at ≡ stored g addr bytes at
 unfolding stored
 stored-same_at f g addr bytes at same =
     ap (λ (byte : ℕ). cond (nat_le addr at && nat_lt at (addr + length bytes)) (slice_index bytes (at - addr)) byte) same
@@ -64,7 +64,7 @@ scattered_from-append rs m front behind slot apart clear =
 -- ---- a run that lies in a row in the host
 
 -- where the bytes of a run come to lie, at each host address
-stored-row_at : (rs : List Region) (m : ℕ → ℕ) (addr host : ℕ) (bytes : List ℕ) (at : ℕ) → AllPairs IsApart rs → IsContiguous rs addr host (length bytes)
+pub stored-row_at : (rs : List Region) (m : ℕ → ℕ) (addr host : ℕ) (bytes : List ℕ) (at : ℕ) → AllPairs IsApart rs → IsContiguous rs addr host (length bytes)
     → stored m host bytes at ≡ put_image rs (stored (image rs m) addr bytes) m at
 unfolding put_image
 stored-row_at rs m addr host bytes at apart run =

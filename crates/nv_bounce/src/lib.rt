@@ -14,10 +14,12 @@
 #![tactic(auto)]
 
 mod gathering;
+mod guest_bytes;
 pub mod laws;
 mod pieces;
 mod scattering;
 
 pub use gathering::gather;
+pub use guest_bytes::{load, store};
 pub use pieces::{are_mapped, name_no_bucket, total_len};
 pub use scattering::scatter;

@@ -98,7 +98,7 @@ in-order-outcome old new entry st work behind goes other is run =
     let shape = shape_of old in
     let sound = verdict-sound shape.mapped shape.limit shape.blocks entry (byte_in old.memory) work goes in
     let own : All (IsUnitOf (form_of work.opcode) entry) work.units =
-    subst (λ (us : List WorkUnit). All (IsUnitOf (form_of work.opcode) entry) us) (sym sound.units) (form_units-own (form_of work.opcode) shape.blocks entry sound.ranges) in
+    subst (λ (us : List WorkUnit). All (IsUnitOf (form_of work.opcode) entry) us) (sym sound.units) (form_units-own (form_of work.opcode) shape.blocks entry work.ranges) in
     let moved : moved_of new r.differed ≡ behind = r.moved ∙ any-order work entry (form_of work.opcode) r.order work.units (moved_of old false) other own r.each_once ∙ sym is in
     let same : r.differed ≡ behind.differed = ap (λ (m : Moved). m.differed) moved in
     (r.status ∙ ap moved_status same, ap (moved_of new) (sym same) ∙ moved)

@@ -1,17 +1,24 @@
 -- What holds of all ends and questions of a dialogue holds with each memory, with each transcript, and where it is fed.
-use Rattle.std.proofs.Common.{◌≡◌, ℕ, ◌+◌, ◌-◌, ◌≤◌, Bool, List, [], ◌∷◌, All, Some, None, drop, length, take, arith, refl, sym, ap, ◌∙◌, subst, inl, inr}
+use Rattle.std.proofs.Common.{◌≡◌, ℕ, ◌+◌, ◌-◌, ◌/◌, ◌^◌, ◌<◌, ◌≤◌, Bool, true, false, cond, not, ◌&&◌, ◌==◌, nat_lt, ltb-false, mod-lt, List, [], ◌∷◌, All, Option, Some, None, drop, length, take, arith, refl, sym, ap, ◌∙◌, subst, inl, inr}
 use Rattle.std.proofs.lemmas.List.{length-drop, length-take-le}
 use Rattle.std.proofs.lemmas.List.Elements.{All-nil, All-cons, All-weaker}
 use Rattle.nv_model.specs.Memory.{bytes_from}
 use Rattle.nv_model.specs.Dialogue.{Dialogue, End, Ask, asked, in_memory}
 use Rattle.nv_model.specs.Transcript.{ReadDone, Settled, Wanted, fed, first_read, in_transcript, met_by, part}
-use Rattle.nv_model.specs.Judge.{Work, Go, judge}
+use Rattle.nv_entry.specs.Layout.{bits}
+use Rattle.nv_entry.specs.Opcode.{io_opcode}
+use Rattle.nv_entry.specs.Submission.{cdw_of, fuse_of, nr_of, opcode_of}
+use Rattle.nv_entry.specs.declared.opcode.IoOpcode.{IoOpcode}
+use Rattle.nv_entry.specs.declared.status_code.StatusCode.{StatusCode}
+use Rattle.nv_entry.specs.declared.status_code.StatusCode.TheVariants.{InvalidField}
+use Rattle.nv_model.specs.Judge.{Form, Transfer, Clear, Manage, Keep, Work, Go, count_of, field_refusal, form_has_blocks, form_has_buffer, form_of, form_transfer_len, judge, judge_fields, refusal_by_opcode, transfer_len}
+use Rattle.nv_model.specs.Limits.{most_blocks, most_bytes}
 use Rattle.nv_model.specs.Laws.{still_wanted}
 use Rattle.nv_model.specs.Parts.{AsksInParts, UsesUp, in_hand}
 use Rattle.nv_model.specs.Endings.{IsPartFor, MayAsk, MayEndIn}
 use Rattle.nv_model.proofs.Endings.{EndsIn}
 use Rattle.nv_model.proofs.Asking.{AsksIn, IsMappedFrom}
-use Rattle.nv_model.proofs.Judged.{IfGo, IsSoundWork, judge-sound}
+use Rattle.nv_model.proofs.Judged.{IfGo, IsSoundWork, judge-sound, refusal_by_opcode-few}
 use Rattle.nv_model.proofs.Shown.{first_read-length, in_hand-some, length-bytes_from}
 
 -- ---- all ends and questions
@@ -184,3 +191,40 @@ pub end-sound : (mapped : ℕ → Bool) (limit blocks : ℕ) (entry : List ℕ) 
     → MayEndIn (judge mapped limit blocks entry) (Go work) → IsSoundWork mapped blocks entry work
 end-sound mapped limit blocks entry work may =
     MayEndIn-has (IfGo (IsSoundWork mapped blocks entry)) (judge mapped limit blocks entry) (Go work) (judge-sound mapped limit blocks entry) may
+
+-- a command that goes isn't refused by its fields
+not-refused : (refusal : Option StatusCode) (mapped : ℕ → Bool) (limit blocks : ℕ) (entry : List ℕ) (work : Work)
+    → MayEndIn (judge_fields refusal mapped limit blocks entry) (Go work) → refusal ≡ None
+not-refused (Some code) mapped limit blocks entry work may = cc
+not-refused None mapped limit blocks entry work may = refl
+
+-- nor is its opcode unknown
+not-refused-by : (opcode : Option IoOpcode) (blocks : ℕ) (entry : List ℕ) (it : IoOpcode) → opcode ≡ Some it
+    → (b : Bool) → cond (not b) (Some InvalidField) (refusal_by_opcode blocks entry opcode) ≡ None
+    → refusal_by_opcode blocks entry (Some it) ≡ None
+not-refused-by opcode blocks entry it is true none = subst (λ (o : Option IoOpcode). refusal_by_opcode blocks entry o ≡ None) is none
+not-refused-by opcode blocks entry it is false none = cc
+
+-- NR has eight bits
+nr_of-below : (entry : List ℕ) → nr_of entry < 256
+unfolding bits
+nr_of-below entry = mod-lt (cdw_of 10 entry / 2 ^ 0) (omega arith)
+
+-- a transfer of so many blocks is short
+short-by : (form : Form) (entry : List ℕ)
+    → (form_has_buffer form && form_has_blocks form && nat_lt most_blocks (count_of entry)) ≡ false
+    → form_transfer_len form entry ≤ most_bytes
+short-by (Transfer dest) entry few = let least = ltb-false most_blocks (count_of entry) few in omega arith
+short-by Clear entry few = omega arith
+short-by Manage entry few = let below = nr_of-below entry in omega arith
+short-by Keep entry few = omega arith
+
+-- so its transfer has at most 131,072 bytes, whatever answers
+pub end-short : (mapped : ℕ → Bool) (limit blocks : ℕ) (entry : List ℕ) (work : Work)
+    → MayEndIn (judge mapped limit blocks entry) (Go work) → transfer_len work.opcode entry ≤ most_bytes
+unfolding judge
+end-short mapped limit blocks entry work may =
+    let fields = not-refused (field_refusal blocks entry) mapped limit blocks entry work may in
+    let is = (end-sound mapped limit blocks entry work may).opcode in
+    let none = not-refused-by (io_opcode (opcode_of entry)) blocks entry work.opcode is (fuse_of entry == 0) fields in
+    short-by (form_of work.opcode) entry (refusal_by_opcode-few blocks entry work.opcode none)

@@ -36,11 +36,9 @@ pub record IsSoundWork (mapped : ℕ → Bool) (blocks : ℕ) (entry : List ℕ)
   pub mapped_each : All (IsMappedPiece mapped) work.pieces
   pub total : total_len work.pieces ≡ transfer_len work.opcode entry
   pub within : All (IsUnitWithin blocks) work.units
-  pub ranges : List (List ℕ)
-  pub counted : form_of work.opcode ≡ Manage → length ranges ≡ range_count_of entry
-  pub fit : list_all (range_fits blocks) ranges ≡ true
-  pub units : work.units ≡ form_units (form_of work.opcode) blocks entry ranges
-  pub ranged : list_all (range_fits blocks) work.ranges ≡ true
+  pub counted : form_of work.opcode ≡ Manage → length work.ranges ≡ range_count_of entry
+  pub fit : list_all (range_fits blocks) work.ranges ≡ true
+  pub units : work.units ≡ form_units (form_of work.opcode) blocks entry work.ranges
 
 -- this of the work, where it goes
 abbrev pub IfGo : (Work → Type 0) → Verdict → Type 0
@@ -104,11 +102,9 @@ work_of-sound mapped blocks entry opcode pieces ranges is there fine many fit =
       mapped_each = there.mapped_each;
       total = there.total;
       within = form_units-within (form_of opcode) blocks entry ranges fine fit;
-      ranges = ranges;
       counted = many;
       fit = fit;
       units = refl;
-      ranged = fit;
     }
 
 -- with its ranges read
@@ -152,7 +148,19 @@ judge_reading-sound mapped blocks entry opcode TooLong is fine there = tt
 judge_reading-sound mapped blocks entry opcode (Spells pieces) is fine there =
     judge_buffer-sound (form_of opcode) mapped blocks entry opcode pieces refl is there fine
 
--- the checks of the fields leave the range of blocks in the namespace
+-- the checks of the fields leave a transfer of 256 blocks at most
+pub refusal_by_opcode-few : (blocks : ℕ) (entry : List ℕ) (opcode : IoOpcode)
+    → refusal_by_opcode blocks entry (Some opcode) ≡ None
+    → (has_buffer opcode && has_blocks opcode && nat_lt most_blocks (count_of entry)) ≡ false
+refusal_by_opcode-few blocks entry opcode none =
+    let range : List (Bool × StatusCode) = (has_blocks opcode && not (in_namespace (slba_of entry) (count_of entry) blocks), LbaOutOfRange) ∷ [] in
+    let size : List (Bool × StatusCode) = (has_buffer opcode && has_blocks opcode && nat_lt most_blocks (count_of entry), InvalidField) ∷ range in
+    let pointer : List (Bool × StatusCode) = (has_buffer opcode && psdt_of entry == 3, InvalidField) ∷ size in
+    let behind_nsid = (first_failing-none (not (nsid_of entry == 1)) InvalidNamespace pointer none).1 in
+    let behind_pointer = (first_failing-none (has_buffer opcode && psdt_of entry == 3) InvalidField size behind_nsid).1 in
+    (first_failing-none (has_buffer opcode && has_blocks opcode && nat_lt most_blocks (count_of entry)) InvalidField range behind_pointer).0
+
+-- and the range of blocks in the namespace
 refusal_by_opcode-none : (blocks : ℕ) (entry : List ℕ) (opcode : IoOpcode)
     → refusal_by_opcode blocks entry (Some opcode) ≡ None
     → (has_blocks opcode && not (in_namespace (slba_of entry) (count_of entry) blocks)) ≡ false

@@ -38,4 +38,5 @@ pub mod TogetherAdmin
 pub mod TogetherKept
 pub mod UnitOrder
 pub mod UnitWords
+pub mod UnitsElsewhere
 pub mod Units

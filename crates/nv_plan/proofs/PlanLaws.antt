@@ -353,7 +353,7 @@ ranges-are given entry outline o =
         × ((outline_of given.extent (plan_of (regions_of given) v)).ranges ≡ map (translated_range given.extent) ranges))
     by_verdict (Refuse st) may = ([], (refl, refl))
     by_verdict (Go work) may =
-        outline-ranges (form_of work.opcode) given.extent (regions_of given) work (block_count given.extent) (sound-work given entry work may).ranged
+        outline-ranges (form_of work.opcode) given.extent (regions_of given) work (block_count given.extent) (sound-work given entry work may).fit
 
 -- a range on the disk: its bytes are read back, so far as they reach
 range-start : (blocks lba : ℕ) → start_of (number_bytes 4 0 ++ number_bytes 4 blocks ++ number_bytes 8 lba) ≡ lba % 2 ^ 64

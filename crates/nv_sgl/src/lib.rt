@@ -3,6 +3,7 @@
 //! - [`SglParse`] reads a list. It looks at no memory itself: [`SglParse::wants`] says which bytes it wants next, and
 //!   [`SglParse::feed`] gives them to it, each of them once. In the end it is [`Want::Done`] and tells the places of the transfer,
 //!   or has a [`Want::Fault`], or is [`Want::TooLong`].
+//! - [`PlacesParse`] reads a list in the same way, and keeps its places alone: it takes no memory for descriptors.
 //! - [`Chain`] keeps the descriptors that were read, array by array, in the memory of an allocator of the caller's choice.
 //! - [`laws`] states that feeding a parse what a memory shows where it asks leaves unchanged what it ends in there.
 //!
@@ -22,7 +23,9 @@ mod chain;
 mod cursor;
 pub mod laws;
 mod parse;
+mod place_parse;
 
 pub use chain::Chain;
 pub use nv_model::Want;
 pub use parse::SglParse;
+pub use place_parse::PlacesParse;

@@ -10,7 +10,7 @@ ghost use Rattle.nv_model.specs.Dialogue.{Dialogue, asked, in_memory};
 ghost use Rattle.nv_model.specs.Endings.{IsPartFor, MayAsk, MayEndIn};
 ghost use Rattle.nv_model.specs.Judge.{Verdict, Work, Go, Manage, form_of, form_units, judge, range_count_of, range_fits, transfer_len};
 ghost use Rattle.nv_model.specs.Laws.{IsMappedPiece, IsMappedPlace, IsMappedSpan, IsUnitWithin, still_wanted};
-ghost use Rattle.nv_model.specs.Limits.{part_size};
+ghost use Rattle.nv_model.specs.Limits.{most_bytes, part_size};
 ghost use Rattle.nv_model.specs.Parts.{AsksInParts};
 ghost use Rattle.nv_model.specs.Prp.{read_prp};
 ghost use Rattle.nv_model.specs.Reading.{Spells};
@@ -84,7 +84,7 @@ pub fn work_is_the_commands_whatever_answers()
         MayEndIn (judge mapped limit blocks entry) (Go work) → io_opcode (opcode_of entry) ≡ Some work.opcode }
 {}
 
-/// Its buffer is mapped, and has the transfer's length.
+/// Its buffer is mapped, and has the transfer's length, 131,072 bytes at most.
 pub fn buffer_is_mapped_whatever_answers()
     ensures pieces { (mapped : ℕ → Bool) (limit blocks : ℕ) (entry : List ℕ) (work : Work) →
         MayEndIn (judge mapped limit blocks entry) (Go work) → All (IsMappedPiece mapped) work.pieces }
@@ -92,6 +92,8 @@ pub fn buffer_is_mapped_whatever_answers()
         MayEndIn (judge mapped limit blocks entry) (Go work) → All (IsMappedPlace mapped) (places_of work.pieces) }
     ensures length { (mapped : ℕ → Bool) (limit blocks : ℕ) (entry : List ℕ) (work : Work) →
         MayEndIn (judge mapped limit blocks entry) (Go work) → total_len work.pieces ≡ transfer_len work.opcode entry }
+    ensures most { (mapped : ℕ → Bool) (limit blocks : ℕ) (entry : List ℕ) (work : Work) →
+        MayEndIn (judge mapped limit blocks entry) (Go work) → total_len work.pieces ≤ most_bytes }
 {}
 
 /// Its units lie in the namespace, and are those of a command of its form: of a Dataset Management, those of as many
@@ -100,7 +102,7 @@ pub fn units_are_the_commands_whatever_answers()
     ensures within { (mapped : ℕ → Bool) (limit blocks : ℕ) (entry : List ℕ) (work : Work) →
         MayEndIn (judge mapped limit blocks entry) (Go work) → All (IsUnitWithin blocks) work.units }
     ensures those { (mapped : ℕ → Bool) (limit blocks : ℕ) (entry : List ℕ) (work : Work) →
-        MayEndIn (judge mapped limit blocks entry) (Go work) → (ranges : List (List ℕ))
-        × ((work.units ≡ form_units (form_of work.opcode) blocks entry ranges) × ((list_all (range_fits blocks) ranges ≡ true)
-        × (form_of work.opcode ≡ Manage → length ranges ≡ range_count_of entry))) }
+        MayEndIn (judge mapped limit blocks entry) (Go work) →
+        (work.units ≡ form_units (form_of work.opcode) blocks entry work.ranges) × ((list_all (range_fits blocks) work.ranges ≡ true)
+        × (form_of work.opcode ≡ Manage → length work.ranges ≡ range_count_of entry)) }
 {}

@@ -63,6 +63,6 @@ pub fn a_flush_keeps_all_blocks()
 pub fn dataset_management_has_the_units_of_its_ranges()
     ensures { (shape : Shape) (memory : ℕ → ℕ) (entry : List ℕ) (work : Work) →
         verdict_in shape memory entry ≡ Go work → form_of work.opcode ≡ Manage →
-        (ranges : List (List ℕ)) × ((length ranges ≡ range_count_of entry) × ((list_all (range_fits shape.blocks) ranges ≡ true)
-        × (work.units ≡ range_units (deallocates entry) ranges))) }
+        (length work.ranges ≡ range_count_of entry) × ((list_all (range_fits shape.blocks) work.ranges ≡ true)
+        × (work.units ≡ range_units (deallocates entry) work.ranges)) }
 {}

@@ -10,4 +10,4 @@ returns c shape memory entry work order m goes other is =
     let sound = verdict-sound shape.mapped shape.limit shape.blocks entry memory work goes in
     any-order work entry (form_of work.opcode) order work.units m other
     (subst (λ (us : List WorkUnit). All (IsUnitOf (form_of work.opcode) entry) us) (sym sound.units)
-    (form_units-own (form_of work.opcode) shape.blocks entry sound.ranges)) is
+    (form_units-own (form_of work.opcode) shape.blocks entry work.ranges)) is

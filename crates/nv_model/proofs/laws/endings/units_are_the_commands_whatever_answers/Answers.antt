@@ -7,4 +7,4 @@ returns-clause-within c mapped limit blocks entry work may = (end-sound mapped l
 pub returns-clause-those : goal.returns-clause-those
 returns-clause-those c mapped limit blocks entry work may =
     let sound = end-sound mapped limit blocks entry work may in
-    (sound.ranges, (sound.units, (sound.fit, sound.counted)))
+    (sound.units, (sound.fit, sound.counted))

@@ -6,4 +6,4 @@ use Rattle.nv_model.proofs.laws.verdicts.a_flush_keeps_all_blocks.Goals as goal
 pub returns : goal.returns
 returns c shape memory entry work goes form =
     let sound = verdict-sound shape.mapped shape.limit shape.blocks entry memory work goes in
-    sound.units ∙ ap (λ (f : Form). form_units f shape.blocks entry sound.ranges) form
+    sound.units ∙ ap (λ (f : Form). form_units f shape.blocks entry work.ranges) form

@@ -6,4 +6,4 @@ use Rattle.nv_model.proofs.laws.verdicts.dataset_management_has_the_units_of_its
 pub returns : goal.returns
 returns c shape memory entry work goes form =
     let sound = verdict-sound shape.mapped shape.limit shape.blocks entry memory work goes in
-    (sound.ranges, (sound.counted form, (sound.fit, sound.units ∙ ap (λ (f : Form). form_units f shape.blocks entry sound.ranges) form)))
+    (sound.counted form, (sound.fit, sound.units ∙ ap (λ (f : Form). form_units f shape.blocks entry work.ranges) form))

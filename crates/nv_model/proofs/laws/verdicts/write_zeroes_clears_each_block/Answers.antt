@@ -8,11 +8,11 @@ use Rattle.nv_model.proofs.laws.verdicts.write_zeroes_clears_each_block.Goals as
 pub returns-clause-count : goal.returns-clause-count
 returns-clause-count c shape memory entry work goes form =
     let sound = verdict-sound shape.mapped shape.limit shape.blocks entry memory work goes in
-    ap (λ (us : List WorkUnit). length us) (sound.units ∙ ap (λ (f : Form). form_units f shape.blocks entry sound.ranges) form)
+    ap (λ (us : List WorkUnit). length us) (sound.units ∙ ap (λ (f : Form). form_units f shape.blocks entry work.ranges) form)
     ∙ length-clear_units (is_fua entry) (slba_of entry) (count_of entry)
 
 pub returns-clause-each : goal.returns-clause-each
 returns-clause-each c shape memory entry work i goes form below =
     let sound = verdict-sound shape.mapped shape.limit shape.blocks entry memory work goes in
-    ap (λ (us : List WorkUnit). slice_get us i) (sound.units ∙ ap (λ (f : Form). form_units f shape.blocks entry sound.ranges) form)
+    ap (λ (us : List WorkUnit). slice_get us i) (sound.units ∙ ap (λ (f : Form). form_units f shape.blocks entry work.ranges) form)
     ∙ clear_units-at (is_fua entry) (slba_of entry) (count_of entry) i below

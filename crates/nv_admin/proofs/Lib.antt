@@ -1,0 +1,5 @@
+pub mod Effects
+pub mod Exits
+pub mod PageBuffers
+pub mod Steps
+pub mod Written

@@ -1,0 +1,4 @@
+pub mod DataStructure
+pub mod Effect
+pub mod Event
+pub mod PageBuffer

@@ -1,0 +1,37 @@
+//! A guest's admin queue: one event of it, whole (Base Specification 2.0, "Admin Command Set").
+//!
+//! [`admin`] does what there is to do for a guest's admin queue: it finishes a deletion that waits, or takes the command at the front,
+//! carries it out and posts its completion. It is the definition `admin` of `nv_model/specs/Admin`, word for word: the reply, the
+//! controller behind it, and every byte of the host. Which commands, features and data structures there are, the order of the checks
+//! and the status that each fault gets are the project's own choice (profile):
+//!
+//! | Opcode | Command | What it does, and its checks in order |
+//! |---|---|---|
+//! | 00h | Delete I/O Submission Queue | the queue is not 0 and there; with taken commands it closes, and its completion waits for them |
+//! | 01h | Create I/O Submission Queue | number, size, contiguity, completion queue, then place |
+//! | 02h | Get Log Page | Invalid Log Page |
+//! | 04h | Delete I/O Completion Queue | the queue is not 0 and there; no submission queue uses it |
+//! | 05h | Create I/O Completion Queue | number, size, contiguity, then place |
+//! | 06h | Identify | CNS, NSID, then PRP1 and PRP2; 4,096 bytes in one step |
+//! | 08h | Abort | nothing is aborted: DW0 is 1 |
+//! | 09h | Set Features | the number of queues alone, and only while no I/O queue is there |
+//! | 0Ah | Get Features | the number of queues alone |
+//! | 0Ch | Asynchronous Event Request | the first four are held and never answered |
+//!
+//! Before these, a fused command, an unknown opcode and a data pointer that is no PRP are refused, in this order. A refusal has DNR 1, and
+//! where a command is refused nothing else changes. Nothing here takes memory.
+#![tactic(auto)]
+
+mod commands;
+mod data_structure;
+mod event;
+mod features;
+mod fields;
+mod identify;
+mod outcome;
+mod page_buffer;
+mod queues;
+mod reply;
+
+pub use event::admin;
+pub use reply::Admin;

@@ -1,0 +1,5 @@
+pub mod Shown
+pub mod Leaving
+pub mod Parts
+pub mod Events
+pub mod TagEvents

@@ -1,0 +1,5 @@
+pub mod Entries
+pub mod Ringing
+pub mod Fields
+pub mod Places
+pub mod Whole

@@ -1,0 +1,124 @@
+//! Commands: looked at, taken, completed, or run out.
+
+ghost use Rattle.std.specs.Prelude.{◌≡◌, ◌<◌, ℕ, Bool, IsSome, length, slice_index, true, false};
+ghost use Rattle.nv_mem.specs.GuestMap.{mapped};
+ghost use Rattle.nv_model.specs.Admin.{is_queue_full};
+ghost use Rattle.nv_model.specs.Controller.{completion_queue, front, is_enabled, is_ready, post, ran_out, took};
+ghost use Rattle.nv_model.specs.Laws.{QueuesInPlace};
+ghost use Rattle.nv_model.specs.Memory.{byte_in, image};
+ghost use Rattle.nv_vctl.specs.Vctl.{completes_in, controller_behind, entry_at, host_behind, most_taken, posted_or_held};
+ghost use Rattle.nv_vctl.specs.declared.posted.Posted.TheVariants as posted;
+
+use crate::posted::Posted;
+use crate::vctl::{Vctl, any_taken, count_ended, count_taken};
+use nv_entry::{Cqe, Sqe, Status};
+use nv_mem::{GuestMap, Host};
+
+impl Vctl {
+    /// The command at the front of a queue; `None` exactly where none may be taken. Queue 0 is the admin queue.
+    ///
+    /// The caller knows that the map was made for a host of this length ([`GuestMap::host_len`]), and that the queues that are
+    /// there lie wholly in the map, as every call keeps it.
+    pub fn peek_sqe(&self, queue: u16, map: &GuestMap, host: &Host) -> Option<Sqe>
+        requires host { map.now.host_len ≡ length host.now }
+        requires in_place { QueuesInPlace (mapped map.now.regions) self.now }
+        ensures { result ≡ entry_at (image map.now.regions (byte_in host.now)) (front self.now queue) }
+    {
+        // With the length of the host comes what is known of every map.
+        let _host_len = map.host_len();
+        if !self.waits(queue) {
+            return None;
+        }
+        let Some(found) = self.submission_queue(usize::from(queue)) else {
+            return None;
+        };
+        let mut entry = [0; 64];
+        nv_bounce::load(found.front(), map, host, &mut entry);
+        Some(Sqe::of(&entry))
+    }
+
+    #[tactic(auto, unfolding(nv_model::specs::Controller::took))]
+    /// The command at the front of a queue is taken: the head moves on, and of an I/O queue one more command is taken.
+    ///
+    /// The caller knows that one may be taken ([`Vctl::waits`]) and, of an I/O queue, counted ([`Vctl::counts_more`]).
+    pub fn took(&mut self, queue: u16)
+        requires waits { IsSome (front self.old queue) }
+        requires counted { 0 < queue → slice_index self.old.taken queue < most_taken }
+        ensures state { self.new ≡ took self.old queue }
+        ensures in_place { (test : ℕ → Bool) → QueuesInPlace test self.old → QueuesInPlace test self.new }
+    {
+        let number = usize::from(queue);
+        let Some(mut found) = self.submission_queue(number) else {
+            return;
+        };
+        found.take_front();
+        self.submission[number] = Some(found);
+        count_taken(&mut self.taken, number);
+    }
+
+    /// Posts the completion of a command of a queue, with this command specific dword, command identifier and status; of an I/O
+    /// queue one command fewer is taken then. Held, with nothing changed, exactly where the completion queue is full. No byte of
+    /// the host changes but the 16 of the entry.
+    ///
+    /// The caller knows that the controller is ready ([`Vctl::is_ready`]) and that a command of the I/O queue is taken
+    /// ([`Vctl::taken`]), that the map was made for a host of this length ([`GuestMap::host_len`]), and that the queues that are
+    /// there lie wholly in the map, as every call keeps it.
+    pub fn post_cqe(
+        &mut self,
+        queue: u16,
+        dw0: u32,
+        cid: u16,
+        status: Status,
+        map: &GuestMap,
+        host: &mut Host,
+    ) -> Posted
+        requires ready { is_ready self.old ≡ true }
+        requires taken { 0 < queue → 0 < slice_index self.old.taken queue }
+        requires host { map.now.host_len ≡ length host.old }
+        requires in_place { QueuesInPlace (mapped map.now.regions) self.old }
+        ensures posted { result ≡ posted_or_held (post self.old queue dw0 cid status) }
+        ensures state { self.new ≡ controller_behind self.old (post self.old queue dw0 cid status) }
+        ensures host { byte_in host.new ≡ host_behind map.now.regions (byte_in host.old) (post self.old queue dw0 cid status) }
+        ensures len { length host.new ≡ length host.old }
+        ensures held { result ≡ posted.Held → is_queue_full (completes_in self.old queue) ≡ true }
+        ensures admin { queue ≡ 0 → result ≡ posted.Held → is_queue_full (completion_queue self.old 0) ≡ true }
+        ensures in_place { QueuesInPlace (mapped map.now.regions) self.new }
+    {
+        // With the length of the host comes what is known of every map.
+        let _host_len = map.host_len();
+        let number = usize::from(queue);
+        let Some(from) = self.submission_queue(number) else {
+            return Posted::Held;
+        };
+        let completes_to = usize::from(from.completes_to);
+        let Some(mut to) = self.completion_queue(completes_to) else {
+            return Posted::Held;
+        };
+        if to.is_full() {
+            return Posted::Held;
+        }
+        let cqe = Cqe::new(dw0, from.head(), queue, cid, to.phase(), status);
+        nv_bounce::store(&cqe.bytes(), to.next(), map, host);
+        to.go_on();
+        self.completion[completes_to] = Some(to);
+        count_ended(&mut self.taken, number);
+        Posted::Done
+    }
+
+    #[tactic(auto, unfolding(nv_model::specs::Controller::ran_out))]
+    /// A taken command of an I/O queue runs out after a reset, without a completion: one command fewer is taken, and CSTS.RDY
+    /// falls with the last one.
+    ///
+    /// The caller knows that the controller is not enabled ([`Vctl::is_enabled`]) and that a command of the queue is taken
+    /// ([`Vctl::taken`]).
+    pub fn ran_out(&mut self, queue: u16)
+        requires disabled { is_enabled self.old ≡ false }
+        requires io_queue { 0 < queue }
+        requires taken { 0 < slice_index self.old.taken queue }
+        ensures state { self.new ≡ ran_out self.old queue }
+        ensures in_place { (test : ℕ → Bool) → QueuesInPlace test self.old → QueuesInPlace test self.new }
+    {
+        count_ended(&mut self.taken, usize::from(queue));
+        self.ready = self.ready && any_taken(&self.taken);
+    }
+}

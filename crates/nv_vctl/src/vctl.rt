@@ -1,0 +1,256 @@
+//! The controller, and what can be read of it.
+
+ghost use Rattle.std.specs.Prelude.{◌≡◌, ◌+◌, ◌-◌, ◌*◌, ◌<◌, ◌≤◌, ◌==◌, ℕ, Bool, drop, if◌then◌else◌, not, nat_lt, is_some, length, slice_index, slice_set, sum};
+ghost use Rattle.std.specs.List.{list_any};
+ghost use Rattle.nv_model.specs.Admin.{has_io_queue, is_queue_full, uses};
+ghost use Rattle.nv_model.specs.Controller.{completion_queue, front, is_enabled, is_ready, opening, running, submission_queue};
+ghost use Rattle.nv_model.specs.Laws.{QueuesInPlace};
+ghost use Rattle.nv_model.specs.Limits.{most_requests};
+ghost use Rattle.nv_vctl.specs.Vctl.{IsWhole, most_taken};
+
+use crate::deletion::Deletion;
+use crate::queues::{CompletionQueue, SubmissionQueue};
+use crate::registers::enables;
+use std::marker::Model;
+
+/// The number of the last I/O queue. Queue 0 is the admin queue.
+pub const LAST_QUEUE: u16 = 8;
+
+/// The most event requests that are held, as AERL says.
+pub const MOST_REQUESTS: u8 = 4;
+
+/// The most taken commands of a queue that are counted.
+pub const MOST_TAKEN: u16 = 65_535;
+
+/// How many numbers of queues there are.
+pub(crate) const QUEUE_COUNT: usize = 9;
+
+/// A guest's virtual controller. A contract sees it as the registers, the queues by number, how many commands of each are
+/// taken, the event requests that are held, and a deletion that waits.
+#[derive(Debug, Drop)]
+pub struct Vctl {
+    pub(crate) cc: u32,
+    pub(crate) aqa: u32,
+    pub(crate) asq_low: u32,
+    pub(crate) asq_high: u32,
+    pub(crate) acq_low: u32,
+    pub(crate) acq_high: u32,
+    pub(crate) ready: bool,
+    pub(crate) failed: bool,
+    pub(crate) submission: [Option<SubmissionQueue>; QUEUE_COUNT],
+    pub(crate) completion: [Option<CompletionQueue>; QUEUE_COUNT],
+    pub(crate) taken: [u16; QUEUE_COUNT],
+    pub(crate) held_requests: u8,
+    pub(crate) deletion: Option<Deletion>,
+}
+
+impl Model for Vctl {
+    ghost use Rattle.nv_model.specs.Controller.{Controller};
+    ghost use Rattle.nv_vctl.specs.Vctl.{IsWhole};
+
+    ghost Value = { Controller };
+
+    ghost view = { λ v. record { cc = v.cc; aqa = v.aqa; asq_low = v.asq_low; asq_high = v.asq_high; acq_low = v.acq_low; acq_high = v.acq_high; ready = v.ready; failed = v.failed; submission = v.submission; completion_queues = v.completion; taken = v.taken; held_requests = v.held_requests; deletion = v.deletion } };
+
+    ghost invariant = { λ v. IsWhole (record { cc = v.cc; aqa = v.aqa; asq_low = v.asq_low; asq_high = v.asq_high; acq_low = v.acq_low; acq_high = v.acq_high; ready = v.ready; failed = v.failed; submission = v.submission; completion_queues = v.completion; taken = v.taken; held_requests = v.held_requests; deletion = v.deletion }) };
+}
+
+impl Vctl {
+    #[tactic(auto, unfolding(nv_model::specs::Controller::opening))]
+    /// The controller at the start: every register is 0 but CAP and VS, and no queue is there.
+    pub fn new() -> Self
+        ensures state { result ≡ opening }
+        ensures in_place { (test : ℕ → Bool) → QueuesInPlace test result }
+    {
+        Vctl {
+            cc: 0,
+            aqa: 0,
+            asq_low: 0,
+            asq_high: 0,
+            acq_low: 0,
+            acq_high: 0,
+            ready: false,
+            failed: false,
+            submission: [None; QUEUE_COUNT],
+            completion: [None; QUEUE_COUNT],
+            taken: [0; QUEUE_COUNT],
+            held_requests: 0,
+            deletion: None,
+        }
+    }
+
+    /// Whether the controller is enabled: CC.EN is 1.
+    pub fn is_enabled(&self) -> bool
+        ensures value { result ≡ is_enabled self.now }
+        ensures whole { IsWhole self.now }
+    {
+        enables(self.cc)
+    }
+
+    /// Whether the controller is ready: CC.EN and CSTS.RDY are both 1.
+    pub fn is_ready(&self) -> bool
+        ensures value { result ≡ is_ready self.now }
+        ensures whole { IsWhole self.now }
+    {
+        self.is_enabled() && self.ready
+    }
+
+    /// Whether commands are running: some are taken.
+    pub fn is_running(&self) -> bool
+        ensures { result ≡ not (running self.now == 0) }
+    {
+        any_taken(&self.taken)
+    }
+
+    /// How many commands of an I/O queue are taken. There is none of a queue of another number.
+    pub fn taken(&self, queue: u16) -> u16
+        ensures { result ≡ slice_index self.now.taken queue }
+    {
+        self.taken.get(usize::from(queue)).copied().unwrap_or(0)
+    }
+
+    /// Whether there is a submission queue of that number.
+    pub fn has_submission_queue(&self, queue: u16) -> bool
+        ensures { result ≡ is_some (submission_queue self.now queue) }
+    {
+        self.submission_queue(usize::from(queue)).is_some()
+    }
+
+    /// Whether there is a completion queue of that number.
+    pub fn has_completion_queue(&self, queue: u16) -> bool
+        ensures { result ≡ is_some (completion_queue self.now queue) }
+    {
+        self.completion_queue(usize::from(queue)).is_some()
+    }
+
+    /// Whether some submission queue uses the completion queue of that number.
+    pub fn uses_completion_queue(&self, queue: u16) -> bool
+        ensures { result ≡ list_any (uses queue) self.now.submission }
+    {
+        self.submission.iter().any(|found| uses(found, queue))
+    }
+
+    /// Whether an I/O queue is there, of submissions or of completions.
+    pub fn has_io_queue(&self) -> bool
+        ensures { result ≡ has_io_queue self.now }
+    {
+        has_io_submission_queue(&self.submission) || has_io_completion_queue(&self.completion)
+    }
+
+    /// Whether the admin completion queue is there and full.
+    pub fn is_admin_full(&self) -> bool
+        ensures { result ≡ is_queue_full (completion_queue self.now 0) }
+    {
+        match &self.completion[0] {
+            Some(queue) => queue.is_full(),
+            None => false,
+        }
+    }
+
+    /// Whether one more event request can be held.
+    pub fn can_hold_request(&self) -> bool
+        ensures { result ≡ nat_lt self.now.held_requests most_requests }
+    {
+        self.held_requests < MOST_REQUESTS
+    }
+
+    /// The deletion that waits, if there is one.
+    pub fn deletion(&self) -> Option<Deletion>
+        ensures { result ≡ self.now.deletion }
+    {
+        self.deletion
+    }
+
+    #[tactic(auto, unfolding(nv_model::specs::Controller::front))]
+    /// Whether a command of a queue may be taken: the controller is ready, and the queue is there, does not close and has a
+    /// command that waits.
+    pub fn waits(&self, queue: u16) -> bool
+        ensures { result ≡ is_some (front self.now queue) }
+    {
+        match self.submission_queue(usize::from(queue)) {
+            Some(found) => self.is_ready() && found.waits(),
+            None => false,
+        }
+    }
+
+    /// Whether one more taken command of a queue can be counted: fewer than [`MOST_TAKEN`] are taken.
+    pub fn counts_more(&self, queue: u16) -> bool
+        ensures { result ≡ nat_lt (slice_index self.now.taken queue) most_taken }
+    {
+        self.taken(queue) < MOST_TAKEN
+    }
+
+    /// The submission queue of a number.
+    pub(crate) fn submission_queue(&self, queue: usize) -> Option<SubmissionQueue>
+        ensures { result ≡ submission_queue self.now queue }
+    {
+        self.submission.get(queue).copied().flatten()
+    }
+
+    /// The completion queue of a number.
+    pub(crate) fn completion_queue(&self, queue: usize) -> Option<CompletionQueue>
+        ensures { result ≡ completion_queue self.now queue }
+    {
+        self.completion.get(queue).copied().flatten()
+    }
+}
+
+/// Whether some command is taken, by how many of each queue are.
+pub(crate) fn any_taken(taken: &[u16; QUEUE_COUNT]) -> bool
+    ensures { result ≡ not (sum taken.now == 0) }
+{
+    any_nonzero(taken)
+}
+
+/// One more command of a queue is taken, where it is an I/O queue.
+pub(crate) fn count_taken(taken: &mut [u16; QUEUE_COUNT], queue: usize)
+    requires number { queue < length taken.old }
+    requires counted { 0 < queue → slice_index taken.old queue < most_taken }
+    ensures { taken.new ≡ (if queue == 0 then taken.old else slice_set taken.old queue (slice_index taken.old queue + 1)) }
+{
+    if queue != 0 {
+        taken[queue] += 1;
+    }
+}
+
+/// One command fewer of a queue is taken, where it is an I/O queue.
+pub(crate) fn count_ended(taken: &mut [u16; QUEUE_COUNT], queue: usize)
+    requires number { queue < length taken.old }
+    requires taken { 0 < queue → 0 < slice_index taken.old queue }
+    ensures { taken.new ≡ (if queue == 0 then taken.old else slice_set taken.old queue (slice_index taken.old queue - 1)) }
+{
+    if queue != 0 {
+        taken[queue] -= 1;
+    }
+}
+
+// Whether some of these counts is not 0.
+fn any_nonzero(counts: &[u16; QUEUE_COUNT]) -> bool
+    ensures { result ≡ list_any (λ n. not (n == 0)) counts.now }
+{
+    counts.iter().any(|count| *count != 0)
+}
+
+// Whether a submission queue is there beside that of the admin queue.
+fn has_io_submission_queue(queues: &[Option<SubmissionQueue>; QUEUE_COUNT]) -> bool
+    ensures { result ≡ list_any is_some (drop 1 queues.now) }
+{
+    queues.iter().skip(1).any(|found| found.is_some())
+}
+
+// Whether a completion queue is there beside that of the admin queue.
+fn has_io_completion_queue(queues: &[Option<CompletionQueue>; QUEUE_COUNT]) -> bool
+    ensures { result ≡ list_any is_some (drop 1 queues.now) }
+{
+    queues.iter().skip(1).any(|found| found.is_some())
+}
+
+// Whether there is a queue, and it uses that completion queue.
+fn uses(found: &Option<SubmissionQueue>, queue: u16) -> bool
+    ensures { result ≡ uses queue found.now }
+{
+    match found {
+        Some(used) => used.completes_to == queue,
+        None => false,
+    }
+}
