@@ -5,7 +5,7 @@ use nv_entry::{Sqe, StatusCode};
 use nv_mem::{Bytes, GuestMap, NoMemory, Piece, Region};
 use nv_model::limits::MOST_DESCRIPTORS;
 use nv_ns::VirtualNs;
-use nv_plan::{Job, Plan, PlanKind, Planned, ReadDone, Transcript, make_plan};
+use nv_plan::{Job, PlanKind, Planned, ReadDone, Transcript, make_plan};
 use std::alloc::{Allocator, Global};
 use std::process::Abort;
 use std::test::Fail;
@@ -186,20 +186,25 @@ pub fn command(rt: &impl Abort, changes: &[(usize, u32)]) -> Sqe {
     Sqe::of(&bytes)
 }
 
-// Whether a plan is the expected one.
-fn is_planned(plan: &Plan, expected: &Expected) -> bool {
-    let places = plan.places().pieces();
-    match (plan.kind(), expected) {
-        (PlanKind::Direct, Expected::Direct(pieces)) => places == *pieces,
-        (PlanKind::Bounced, Expected::Bounced(pieces)) => places == *pieces,
-        (PlanKind::NoData, Expected::NoData) => places.is_empty(),
-        (PlanKind::Answer(status), Expected::Refused(code)) => {
-            places.is_empty() && status == code.refused()
+impl Expected {
+    // What is done, where a plan is expected.
+    fn kind(&self) -> Option<PlanKind> {
+        match *self {
+            Expected::Need(_addr, _len) => None,
+            Expected::Direct(_pieces) => Some(PlanKind::Direct),
+            Expected::Bounced(_pieces) => Some(PlanKind::Bounced),
+            Expected::NoData => Some(PlanKind::NoData),
+            Expected::Refused(code) => Some(PlanKind::Answer(code.refused())),
+            Expected::TooLong => Some(PlanKind::Answer(StatusCode::InternalError.status())),
         }
-        (PlanKind::Answer(status), Expected::TooLong) => {
-            places.is_empty() && status == StatusCode::InternalError.status()
+    }
+
+    // Where the bytes lie.
+    fn places(&self) -> &'static [Piece] {
+        match *self {
+            Expected::Direct(pieces) | Expected::Bounced(pieces) => pieces,
+            _ => &[],
         }
-        _ => false,
     }
 }
 
@@ -210,7 +215,9 @@ pub fn is_expected(planned: &Planned, expected: &Expected) -> bool {
             Expected::Need(wanted, size) => *addr == *wanted && *len == *size,
             _ => false,
         },
-        Planned::Plan(plan) => is_planned(plan, expected),
+        Planned::Plan(plan) => {
+            expected.kind() == Some(plan.kind()) && plan.places().pieces() == expected.places()
+        }
         Planned::NoMemory(_job) => false,
     }
 }

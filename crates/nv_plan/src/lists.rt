@@ -33,7 +33,8 @@ impl<'a> Given<'a> {
         requires some { 0 < need.bytes }
         requires most { need.bytes ≤ most_bytes }
         ensures judged { IfOk result (λ listed.
-            IsJudgedAs listed reads.new (list_of (data_pointer (psdt_of sqe.now)) self.now.map.now.regions self.now.limit need sqe.now) reads.old sqe.now) }
+            IsJudgedAs listed reads.new
+            (list_of (data_pointer (psdt_of sqe.now)) self.now.map.now.regions self.now.limit need sqe.now) reads.old sqe.now) }
         ensures spelled { IfOk result (λ listed. IsSpelled listed self.now.map.now.regions need) }
     {
         match sqe.data_pointer() {

@@ -29,7 +29,8 @@ impl Model for Plan {
 
     ghost view = { λ p. record { job = p.job; given = record { memory_map = p.map; extent = p.ns; limit = p.limit }; outline = p.outline } };
 
-    ghost invariant = { λ p. IsJobsPlan (record { job = p.job; given = record { memory_map = p.map; extent = p.ns; limit = p.limit }; outline = p.outline }) };
+    ghost invariant = { λ p.
+        IsJobsPlan (record { job = p.job; given = record { memory_map = p.map; extent = p.ns; limit = p.limit }; outline = p.outline }) };
 }
 
 impl Plan {

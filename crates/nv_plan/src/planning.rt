@@ -102,7 +102,8 @@ impl<'a> Given<'a> {
         requires limit { 0 < self.now.limit }
         requires some { 0 < need.bytes }
         requires most { need.bytes ≤ most_bytes }
-        ensures { IfOk result (λ outline. (opcode : IoOpcode) (dest : Bool) → form_of opcode ≡ Transfer dest → need ≡ need_of sqe.now opcode →
+        ensures { IfOk result (λ outline. (opcode : IoOpcode) (dest : Bool) →
+            form_of opcode ≡ Transfer dest → need ≡ need_of sqe.now opcode →
             drawn outline ≡ outlined self.now.ns (plan_of_list (given_of self.now) opcode sqe.now reads.old)) }
     {
         match self.read_list(heap, alloc, sqe, need, reads)? {
@@ -130,7 +131,8 @@ impl<'a> Given<'a> {
     ) -> Result<Outcome<Outline>, NoMemory>
         requires limit { 0 < self.now.limit }
         requires need { need ≡ need_of sqe.now opcode.DatasetManagement }
-        ensures { IfOk result (λ outline. drawn outline ≡ outlined self.now.ns (plan_of_list (given_of self.now) opcode.DatasetManagement sqe.now reads.old)) }
+        ensures { IfOk result (λ outline.
+            drawn outline ≡ outlined self.now.ns (plan_of_list (given_of self.now) opcode.DatasetManagement sqe.now reads.old)) }
     {
         match self.read_list(heap, alloc, sqe, need, reads)? {
             Outcome::Wanted { addr, len } => Ok(Outcome::Wanted { addr, len }),
@@ -155,7 +157,8 @@ impl<'a> Given<'a> {
     fn ranged(&self, alloc: Global, places: Places, bytes: &[u8]) -> Result<Outline, NoMemory>
         requires { length bytes.now % range_size ≡ 0 }
         ensures { IfOk result (λ outline. (entry : List ℕ) →
-            outline ≡ outline_of self.now.ns (plan_of self.now.map.now.regions (judge_ranges self.now.ns.blocks opcode.DatasetManagement entry places (ranges_in (length bytes.now / range_size) bytes.now)))) }
+            outline ≡ outline_of self.now.ns (plan_of self.now.map.now.regions
+            (judge_ranges self.now.ns.blocks opcode.DatasetManagement entry places (ranges_in (length bytes.now / range_size) bytes.now)))) }
     {
         if let Err(status) = judge_ranges(bytes, &self.ns) {
             return Ok(Outline::answer(alloc, status));

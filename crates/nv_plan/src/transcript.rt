@@ -1,6 +1,6 @@
 //! What was read of a command's lists.
 
-ghost use Rattle.std.specs.Prelude.{◌≡◌, [], ◌∷◌, ◌++◌, ◌<◌, ◌==◌, ◌&&◌, IfOk, OnErr, OnOk, OnSome, MatchOption, None, Some, length};
+ghost use Rattle.std.specs.Prelude.{◌≡◌, [], ◌∷◌, ◌++◌, ◌<◌, ◌==◌, ◌&&◌, IfOk, OnErr, OnOk, OnSome, IfNone, MatchOption, None, Some, length};
 ghost use Rattle.nv_model.specs.Transcript.{first_read};
 
 use nv_mem::{Bytes, NoMemory};
@@ -119,17 +119,20 @@ impl<'a> ReadsLeft<'a> {
         }
     }
 
-    /// Takes the first read of that address and length, and skips those before it.
+    /// Takes the first read of that address and length, and skips those before it. Where there is none, all are left.
     pub(crate) fn take(&mut self, addr: u64, len: u64) -> Option<&'a [u8]>
         ensures first { MatchOption result (first_read addr len self.old ≡ None)
             (λ bytes. first_read addr len self.old ≡ Some (bytes.now, self.new)) }
         ensures progress { OnSome result (length self.new < length self.old) }
+        ensures none { IfNone result (self.new ≡ self.old) }
     {
-        while let Some((read, behind)) = self.reads.split_first() {
-            self.reads = behind;
+        let mut rest = self.reads;
+        while let Some((read, behind)) = rest.split_first() {
             if read.meets(addr, len) {
+                self.reads = behind;
                 return Some(read.bytes());
             }
+            rest = behind;
         }
         None
     }
