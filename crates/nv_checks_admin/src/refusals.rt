@@ -94,6 +94,50 @@ const THIRD: &[Row] = &[
     row!("PRP1 at fault", 0x06, 0x01, 0, 0x1_5001, 0x8027_0003),
     row!("PRP1 not mapped", 0x06, 0x01, 0, 0x2_0000, 0x8009_0003),
     Row {
+        name: "namespace 2",
+        command: Command {
+            nsid: 2,
+            prp1: 0x1_5000,
+            cdw10: 0x00,
+            ..command!(0x06, 3)
+        },
+        dw0: 0,
+        dword3: 0x8017_0003,
+    },
+    Row {
+        name: "all namespaces",
+        command: Command {
+            nsid: 0xffff_ffff,
+            prp1: 0x1_5000,
+            cdw10: 0x00,
+            ..command!(0x06, 3)
+        },
+        dw0: 0,
+        dword3: 0x8017_0003,
+    },
+    Row {
+        name: "namespaces above FFFFFFFEh",
+        command: Command {
+            nsid: 0xffff_fffe,
+            prp1: 0x1_5000,
+            cdw10: 0x02,
+            ..command!(0x06, 3)
+        },
+        dw0: 0,
+        dword3: 0x8017_0003,
+    },
+    Row {
+        name: "namespaces above FFFFFFFFh",
+        command: Command {
+            nsid: 0xffff_ffff,
+            prp1: 0x1_5000,
+            cdw10: 0x02,
+            ..command!(0x06, 3)
+        },
+        dw0: 0,
+        dword3: 0x8017_0003,
+    },
+    Row {
         name: "abort",
         command: command!(0x08, 3),
         dw0: 1,
