@@ -127,7 +127,7 @@ returns-clause-host c =
     } in
     host-posted c.args.map.now.regions (byte_in c.args.host.now) (byte_in c.store.new.host) n c.in-Some.from c.in-Some-completion_queue.to c.args.queue
     c.args.dw0 c.args.cid c.head.result c.next.result c.phase.result c.args.status c.bytes.result c.new-cqe.result c.store.ensures.bytes c.next.ensures
-    c.bytes.ensures c.new-cqe.ensures.bytes c.head.ensures c.phase.ensures
+    c.bytes.ensures c.new-cqe.ensures.bytes c.head.ensures.value c.phase.ensures
     ∙ ap (host_behind c.args.map.now.regions (byte_in c.args.host.now))
     (sym (post-done n c.args.queue c.from-completes_to.result c.args.dw0 c.args.cid c.args.status c.in-Some.from c.in-Some-completion_queue.to c.is_full.result found c.if-is_full.false))
 
