@@ -169,7 +169,7 @@ impl Bench {
     }
 }
 
-/// A guest whose controller was brought up.
+/// A guest whose controller was brought up, as the test of that asserts.
 pub(crate) fn brought_up(alloc: Global) -> Result<Bench, Fail> {
     let mut bench = Bench::new(alloc)?;
     let _up = bench.bring_up();
