@@ -45,7 +45,7 @@ pub dwords_back : (n : ℕ) (ds : List ℕ) → AreDwords n ds → dwords_from 0
 dwords_back n ds h = dwords_back_lem n ds h.count h.fit.each
 
 -- eight bytes spell two dwords, the low one first
-halves : (entry : List ℕ) (i : ℕ) → little_from (4 * i) 8 entry ≡ dword entry i + 2 ^ 32 * dword entry (i + 1)
+pub halves : (entry : List ℕ) (i : ℕ) → little_from (4 * i) 8 entry ≡ dword entry i + 2 ^ 32 * dword entry (i + 1)
 unfolding dword number_at
 halves entry i =
     let e : 4 * (i + 1) ≡ suc (suc (suc (suc (4 * i)))) = omega arith in

@@ -3,7 +3,7 @@ pub mod DatasetLemmas
 pub mod DoneLemmas
 pub mod ExampleLemmas
 pub mod FlatLemmas
-pub mod KeptLemmas
+pub mod SeenAlike
 pub mod ListLemmas
 pub mod MadeLemmas
 pub mod OneLemmas

@@ -28,18 +28,6 @@ pub record HasRun (old : Flat) (entry : List ℕ) : Type 0 where
   pub disk_size : length new.disk ≡ length old.disk
   pub marked : length new.kept ≡ length old.kept
 
--- another place
-abbrev pub IsAnother : Place → Place → Type 0
-IsAnother place other = other ≢ place
-
--- a unit changes neither this block nor its mark: it is that of another block, it leaves its block as it is, or it keeps all blocks of a
--- namespace that ends before it
-abbrev pub IsElsewhere : (lba : ℕ) → WorkUnit → Type 0
-IsElsewhere lba (MoveBlock index at) = at ≢ lba
-IsElsewhere lba (ClearBlock at mark) = at ≢ lba
-IsElsewhere lba (LeaveBlock at) = ⊤
-IsElsewhere lba (KeepAll blocks) = blocks ≤ lba
-
 -- two controllers have as much memory, as many blocks, of 512 bytes each, and as many marks
 pub record IsAsLarge (f g : Flat) : Type 0 where
   pub memory : length f.memory ≡ length g.memory

@@ -1,5 +1,5 @@
 -- Words of the laws about the definitions
-use Rattle.std.specs.Prelude.{◌≡◌, ℕ, ◌+◌, ◌<◌, ◌≤◌, ◌*◌, Bool, true, List, [], ◌∷◌, All, IfSome, Option, Some, None, remove, slice_get}
+use Rattle.std.specs.Prelude.{◌≡◌, ◌≢◌, ℕ, ◌+◌, ◌<◌, ◌≤◌, ◌*◌, Bool, true, List, [], ◌∷◌, All, IfSome, Option, Some, None, remove, slice_get}
 use Rattle.std.specs.Bool.{⊤}
 use Rattle.nv_mem.specs.GuestMap.{everywhere}
 use Rattle.nv_mem.specs.Places.{Place, At, Bucket}
@@ -67,6 +67,20 @@ pub record HasMoved (p : Private) (name : ℕ) (t : Taken) (work : Work) (st : S
   pub each_once : IsOrderOf order work.units
   pub status : st ≡ moved_status (units_moved order work (unmoved p)).differed
   pub behind : q ≡ at_work name t work [] (units_moved order work (unmoved p)) p
+
+-- ---- what units leave
+
+-- another place
+abbrev pub IsAnother : Place → Place → Type 0
+IsAnother place other = other ≢ place
+
+-- a unit changes neither this block nor its mark: it is that of another block, it leaves its block as it is, or it keeps all blocks of a
+-- namespace that ends before it
+abbrev pub IsElsewhere : (lba : ℕ) → WorkUnit → Type 0
+IsElsewhere lba (MoveBlock index at) = at ≢ lba
+IsElsewhere lba (ClearBlock at mark) = at ≢ lba
+IsElsewhere lba (LeaveBlock at) = ⊤
+IsElsewhere lba (KeepAll blocks) = blocks ≤ lba
 
 -- ---- queues
 

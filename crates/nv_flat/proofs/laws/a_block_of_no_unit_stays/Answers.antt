@@ -1,8 +1,8 @@
 use Rattle.std.proofs.Common.{false, ap, ◌∙◌}
 use Rattle.nv_model.specs.Private.{Moved}
 use Rattle.nv_moves.specs.Flat.{moved_of}
-use Rattle.nv_flat.specs.Laws.{IsElsewhere}
-use Rattle.nv_flat.proofs.KeptLemmas.{units-elsewhere}
+use Rattle.nv_model.specs.Laws.{IsElsewhere}
+use Rattle.nv_model.proofs.UnitsElsewhere.{units-elsewhere}
 use Rattle.nv_flat.proofs.RunLemmas.{All-order, units-moved}
 use Rattle.nv_flat.proofs.laws.a_block_of_no_unit_stays.Goals as goal
 

@@ -1,0 +1,191 @@
+-- What a set-up that is not refused says.
+use Rattle.std.proofs.Common.{◌≡◌, ℕ, zero, suc, ◌+◌, ◌%◌, ◌<◌, ◌≤◌, ◌⊎◌, inl, inr, Bool, true, false, cond, not, ◌&&◌, ◌||◌, ◌==◌, nat_le, nat_lt, max, min, List, [], ◌∷◌, length, slice_get, Option, Some, None, arith, refl, sym, ap, ◌∙◌, eqb-true, leb-true, ltb-false}
+use Rattle.std.specs.Prelude.{◌≢◌}
+use Rattle.std.specs.List.{list_all, list_any}
+use Rattle.std.proofs.lemmas.Bool.{cases_lt}
+use Rattle.nv_mem.specs.GuestMap.{IsSound, guest_of, spans_meet}
+use Rattle.nv_mem.proofs.Images.{host_of-guest}
+use Rattle.nv_mem.proofs.Memory.{guest_of-clear, hosts_meet-image}
+use Rattle.nv_model.specs.Limits.{page}
+use Rattle.nv_model.proofs.Endings.{and-true, not-false}
+use Rattle.nv_world_model.specs.Geometry.{Guest, regions_of}
+use Rattle.nv_world_model.specs.SetUp.{Refusal, SetUp, any_two, area_bytes, between, blocks_meet, guest_fits, host_fits, maps_meet, meets_area, most_disk_blocks, most_guests, most_host_bytes, most_lanes, most_limit, most_regions, refusal_of, sizes_fit}
+use Rattle.nv_laws_sound.specs.LaidOut.{AreApart, IsGiven, IsLaidOut}
+
+-- ---- tests of lists
+
+or-none : (a b : Bool) → (a || b) ≡ false → (a ≡ false) × (b ≡ false)
+or-none true b e = cc
+or-none false b e = (refl, e)
+
+-- what no member passes, one that is looked up does not
+any-none : {X : Type 0} (p : X → Bool) (xs : List X) (i : ℕ) (x : X) → list_any p xs ≡ false → slice_get xs i ≡ Some x → p x ≡ false
+any-none p [] i x e at = cc
+any-none p (y ∷ ys) zero x e at =
+    let same : y ≡ x = cc in
+    ap p (sym same) ∙ (or-none (p y) (list_any p ys) e).0
+any-none p (y ∷ ys) (suc i) x e at = any-none p ys i x (or-none (p y) (list_any p ys) e).1 at
+
+-- what all pass, it does
+all-one : {X : Type 0} (p : X → Bool) (xs : List X) (i : ℕ) (x : X) → list_all p xs ≡ true → slice_get xs i ≡ Some x → p x ≡ true
+all-one p [] i x e at = cc
+all-one p (y ∷ ys) zero x e at =
+    let same : y ≡ x = cc in
+    ap p (sym same) ∙ (and-true (p y) (list_all p ys) e).0
+all-one p (y ∷ ys) (suc i) x e at = all-one p ys i x (and-true (p y) (list_all p ys) e).1 at
+
+-- where no two meet, an earlier one does not meet a later one
+two-none : {X : Type 0} (meet : X → X → Bool) (xs : List X) (i j : ℕ) (x y : X) → any_two meet xs ≡ false → i < j
+    → slice_get xs i ≡ Some x → slice_get xs j ≡ Some y → meet x y ≡ false
+two-none meet [] i j x y e less at there = cc
+two-none meet (z ∷ zs) i zero x y e less at there = absurd (omega arith)
+two-none meet (z ∷ zs) zero (suc j) x y e less at there =
+    let same : z ≡ x = cc in
+    ap (λ k. meet k y) (sym same) ∙ any-none (meet z) zs j y (or-none (list_any (meet z) zs) (any_two meet zs) e).0 there
+two-none meet (z ∷ zs) (suc i) (suc j) x y e less at there =
+    two-none meet zs i j x y (or-none (list_any (meet z) zs) (any_two meet zs) e).1 (omega (arith, less)) at there
+
+-- ---- a set-up that is not refused
+
+record IsAccepted (s : SetUp) : Type 0 where
+  pub ranges : any_two blocks_meet s.geometry.guests ≡ false
+  pub maps : any_two maps_meet s.geometry.guests ≡ false
+  pub area : list_any (meets_area s) s.geometry.guests ≡ false
+  pub sizes : sizes_fit s ≡ true
+
+if-none : (b : Bool) (r : Refusal) (rest : Option Refusal) → cond b (Some r) rest ≡ None → (b ≡ false) × (rest ≡ None)
+if-none true r rest e = cc
+if-none false r rest e = (refl, e)
+
+accepted : (s : SetUp) → refusal_of s ≡ None → IsAccepted s
+unfolding refusal_of
+accepted s none =
+    let first = if-none (nat_lt most_guests (length s.geometry.guests)) _ _ none in
+    let second = if-none (any_two blocks_meet s.geometry.guests) _ _ first.1 in
+    let third = if-none (any_two maps_meet s.geometry.guests || list_any (meets_area s) s.geometry.guests) _ _ second.1 in
+    let fourth = if-none (not (sizes_fit s)) _ _ third.1 in
+    let both = or-none (any_two maps_meet s.geometry.guests) (list_any (meets_area s) s.geometry.guests) third.0 in
+    record { ranges = second.0; maps = both.0; area = both.1; sizes = not-false (sizes_fit s) fourth.0 }
+
+-- ---- guests apart
+
+-- two maps that share no host address share no byte
+bytes-apart : (g h : Guest) → IsSound g.memory_map → IsSound h.memory_map → maps_meet g h ≡ false → (at : ℕ) (x y : Option ℕ)
+    → guest_of (regions_of g) at ≡ x → guest_of (regions_of h) at ≡ y → ((x ≡ None) ⊎ (y ≡ None))
+bytes-apart g h sound also clear at None y is there = inl refl
+bytes-apart g h sound also clear at (Some a) None is there = inr refl
+bytes-apart g h sound also clear at (Some a) (Some b) is there =
+    absurd (hosts_meet-image (regions_of g) (regions_of h) at clear (a, host_of-guest (regions_of g) at a sound.apart is) (b, host_of-guest (regions_of h) at b also.apart there))
+
+bytes-of : (g h : Guest) → IsSound g.memory_map → IsSound h.memory_map → (maps_meet g h ≡ false) ⊎ (maps_meet h g ≡ false) → (at addr : ℕ)
+    → guest_of (regions_of g) at ≡ Some addr → guest_of (regions_of h) at ≡ None
+bytes-of g h sound also (inl clear) at addr is =
+    elim (bytes-apart g h sound also clear at (guest_of (regions_of g) at) (guest_of (regions_of h) at) refl refl) [
+      | inl none ↦ let bad : Some addr ≡ None = sym is ∙ none in cc
+      | inr none ↦ none
+    ]
+bytes-of g h sound also (inr clear) at addr is =
+    elim (bytes-apart h g also sound clear at (guest_of (regions_of h) at) (guest_of (regions_of g) at) refl refl) [
+      | inl none ↦ none
+      | inr none ↦ let bad : Some addr ≡ None = sym is ∙ none in cc
+    ]
+
+-- spans that don't meet lie one before the other, where both are there
+spans-apart : (a m b n : ℕ) → spans_meet a m b n ≡ false → 0 < m → 0 < n → (a + m ≤ b) ⊎ (b + n ≤ a)
+spans-apart a m b n clear some others =
+    let most = ltb-false (max a b) (min (a + m) (b + n)) clear in
+    elim (cases_lt b (a + m)) [
+      | inl less ↦ inr (omega (arith, most, less, some, others))
+      | inr behind ↦ inl behind
+    ]
+
+-- ---- the lay-out
+
+all_three : (a b c : Bool) → (a && b && c) ≡ true → (a ≡ true) × ((b ≡ true) × (c ≡ true))
+all_three true true c e = (refl, (refl, e))
+all_three true false c e = cc
+all_three false b c e = cc
+
+all_five : (a b c d e : Bool) → (a && b && c && d && e) ≡ true → (a ≡ true) × ((b ≡ true) × ((c ≡ true) × ((d ≡ true) × (e ≡ true))))
+all_five true true c d e all = (refl, (refl, all_three c d e all))
+all_five true false c d e all = cc
+all_five false b c d e all = cc
+
+guest-given : (s : SetUp) (g : Guest) → guest_fits s g ≡ true → IsSound g.memory_map → IsGiven s.host_bytes s.geometry.disk_blocks g
+guest-given s g fits sound =
+    let host = g.memory_map.host_len == s.host_bytes in
+    let regions = nat_le (length (regions_of g)) most_regions in
+    let some = nat_le 1 g.extent.blocks in
+    let disk = nat_le (g.extent.base + g.extent.blocks) s.geometry.disk_blocks in
+    let limit = between 1 most_limit g.limit in
+    let each = all_five host regions some disk limit fits in
+    record {
+      sound = sound;
+      host = eqb-true g.memory_map.host_len s.host_bytes each.0;
+      some_blocks = leb-true 1 g.extent.blocks each.1.1.0;
+      on_disk = leb-true (g.extent.base + g.extent.blocks) s.geometry.disk_blocks each.1.1.1.0;
+    }
+
+-- sizes that fit
+record AreSizes (s : SetUp) : Type 0 where
+  pub few : s.host_bytes ≤ most_host_bytes
+  pub pages : s.geometry.mediator % page ≡ 0
+  pub area : s.geometry.mediator + area_bytes s ≤ s.host_bytes
+  pub guests : list_all (guest_fits s) s.geometry.guests ≡ true
+
+sizes-of : (s : SetUp) → sizes_fit s ≡ true → AreSizes s
+sizes-of s fit =
+    let whole = all_three (host_fits s) (between 1 most_disk_blocks s.geometry.disk_blocks) (list_all (guest_fits s) s.geometry.guests) fit in
+    let each = all_five (s.host_bytes % page == 0) (between page most_host_bytes s.host_bytes) (between 1 most_lanes s.lanes) (s.geometry.mediator % page == 0)
+    (nat_le (s.geometry.mediator + area_bytes s) s.host_bytes) whole.0 in
+    let most = and-true (nat_le page s.host_bytes) (nat_le s.host_bytes most_host_bytes) each.1.0 in
+    record {
+      few = leb-true s.host_bytes most_host_bytes most.1;
+      pages = eqb-true (s.geometry.mediator % page) 0 each.1.1.1.0;
+      area = leb-true (s.geometry.mediator + area_bytes s) s.host_bytes each.1.1.1.1;
+      guests = whole.1.1;
+    }
+
+-- guests of two numbers are apart
+guests-apart : (s : SetUp) (number other : ℕ) (g h : Guest) → IsAccepted s → IsSound g.memory_map → IsSound h.memory_map
+    → 0 < g.extent.blocks → 0 < h.extent.blocks
+    → slice_get s.geometry.guests number ≡ Some g → slice_get s.geometry.guests other ≡ Some h → number ≢ other → AreApart g h
+guests-apart s number other g h is sound also some others at there differ =
+    elim (cases_lt number other) [
+      | inl less ↦
+          record {
+            bytes = bytes-of g h sound also (inl (two-none maps_meet s.geometry.guests number other g h is.maps less at there));
+            blocks = spans-apart g.extent.base g.extent.blocks h.extent.base h.extent.blocks (two-none blocks_meet s.geometry.guests number other g h is.ranges less at there) some others;
+          }
+      | inr most ↦
+          (let less : other < number = omega (arith, most, differ) in
+          record {
+            bytes = bytes-of g h sound also (inr (two-none maps_meet s.geometry.guests other number h g is.maps less there at));
+            blocks = swapped (spans-apart h.extent.base h.extent.blocks g.extent.base g.extent.blocks (two-none blocks_meet s.geometry.guests other number h g is.ranges less there at) others some);
+          })
+    ]
+  where
+    swapped : {A B : Type 0} → A ⊎ B → B ⊎ A
+    swapped (inl a) = inr a
+    swapped (inr b) = inl b
+
+pub laid-out : (s : SetUp) → refusal_of s ≡ None
+    → ((number : ℕ) (guest : Guest) → slice_get s.geometry.guests number ≡ Some guest → IsSound guest.memory_map)
+    → IsLaidOut s.host_bytes s.lanes s.geometry
+laid-out s none sound =
+    let is = accepted s none in
+    let sizes = sizes-of s is.sizes in
+    let few = sizes.few in
+    let area = sizes.area in
+    let given : (number : ℕ) (guest : Guest) → slice_get s.geometry.guests number ≡ Some guest → IsGiven s.host_bytes s.geometry.disk_blocks guest =
+    λ number guest at. guest-given s guest (all-one (guest_fits s) s.geometry.guests number guest sizes.guests at) (sound number guest at) in
+    record {
+      few = omega (arith, few);
+      pages = sizes.pages;
+      area = area;
+      given = given;
+      apart = (λ number other g h at there differ.
+          guests-apart s number other g h is (sound number g at) (sound other h there) (given number g at).some_blocks (given other h there).some_blocks at there differ);
+      outside = (λ number guest addr at low high.
+          guest_of-clear (regions_of guest) s.geometry.mediator (area_bytes s) addr (any-none (meets_area s) s.geometry.guests number guest is.area at) low high);
+    }

@@ -1,0 +1,31 @@
+-- What a set-up that is not refused says of the guests' memory and blocks: each guest's map is sound, no two guests share a byte or a
+-- block, none has a byte of the mediator's area, and area and blocks lie in the host and on the disk (profile).
+use Rattle.std.specs.Prelude.{◌≡◌, ◌≢◌, ℕ, ◌+◌, ◌%◌, ◌^◌, ◌<◌, ◌≤◌, ◌⊎◌, slice_get, Some, None}
+use Rattle.nv_mem.specs.GuestMap.{IsSound, guest_of}
+use Rattle.nv_model.specs.Limits.{page}
+use Rattle.nv_world_model.specs.Area.{lane_start}
+use Rattle.nv_world_model.specs.Geometry.{Geometry, Guest, regions_of}
+
+-- a guest's map is sound and made for this host, it has blocks, and they are on the disk
+pub record IsGiven (host_bytes disk_blocks : ℕ) (guest : Guest) : Type 0 where
+  pub sound : IsSound guest.memory_map
+  pub host : guest.memory_map.host_len ≡ host_bytes
+  pub some_blocks : 0 < guest.extent.blocks
+  pub on_disk : guest.extent.base + guest.extent.blocks ≤ disk_blocks
+
+-- two guests share no byte of the host, and no block of the disk
+pub record AreApart (g h : Guest) : Type 0 where
+  pub bytes : (at addr : ℕ) → guest_of (regions_of g) at ≡ Some addr → guest_of (regions_of h) at ≡ None
+  pub blocks : (g.extent.base + g.extent.blocks ≤ h.extent.base) ⊎ (h.extent.base + h.extent.blocks ≤ g.extent.base)
+
+-- all of it, with so many lanes in a host of that length
+pub record IsLaidOut (host_bytes lanes : ℕ) (geometry : Geometry) : Type 0 where
+  pub few : host_bytes ≤ 2 ^ 64
+  pub pages : geometry.mediator % page ≡ 0
+  pub area : lane_start geometry.mediator lanes ≤ host_bytes
+  pub given : (number : ℕ) (guest : Guest) → slice_get geometry.guests number ≡ Some guest
+      → IsGiven host_bytes geometry.disk_blocks guest
+  pub apart : (number other : ℕ) (g h : Guest) → slice_get geometry.guests number ≡ Some g → slice_get geometry.guests other ≡ Some h
+      → number ≢ other → AreApart g h
+  pub outside : (number : ℕ) (guest : Guest) (at : ℕ) → slice_get geometry.guests number ≡ Some guest
+      → geometry.mediator ≤ at → at < lane_start geometry.mediator lanes → guest_of (regions_of guest) at ≡ None
