@@ -4,14 +4,14 @@
 //! `specs/OnceNumber`; [`parse`] gives exactly that, or that memory was refused. Only the space separates words, `#` begins a
 //! comment wherever it stands, and every other byte is part of its word.
 
-mod fault;
+pub mod fault;
 mod line;
-mod number;
+pub mod number;
 mod reading;
-mod script;
+pub mod script;
 mod sizes;
-mod vocabulary;
-mod words;
+pub mod vocabulary;
+pub mod words;
 
 pub use fault::{FaultKind, ScriptFault};
 pub use line::Line;

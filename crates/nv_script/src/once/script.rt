@@ -36,8 +36,8 @@ pub fn parse(alloc: Global, text: &[u8]) -> Result<Script, ScriptFault>
     reading.finish(number)
 }
 
-// A text without the line feed that ends its last line.
-fn before_last_feed(text: &[u8]) -> &[u8]
+/// A text without the line feed that ends its last line.
+pub fn before_last_feed(text: &[u8]) -> &[u8]
     ensures { result.now ≡ without_last_feed text.now }
 {
     match text.split_last() {

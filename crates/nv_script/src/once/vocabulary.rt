@@ -78,8 +78,8 @@ pub fn look_up(word: &[u8]) -> Option<Keyword>
     keyword_in(&VOCABULARY, word)
 }
 
-// The keyword of the first row with this word.
-fn keyword_in(rows: &[(&[u8], Keyword)], word: &[u8]) -> Option<Keyword>
+/// What the first row with this word says.
+pub fn keyword_in<K: Copy>(rows: &[(&[u8], K)], word: &[u8]) -> Option<K>
     ensures { result ≡ lookup (λ name. bytes_eq name word.now) (map (λ row. (row.0.now, row.1)) rows.now) }
 {
     let (_, keyword) = rows.iter().find(|row| row.0 == word)?;

@@ -1,0 +1,208 @@
+//! Scripts of `replay` and their faults. Expected values are read off the rules by hand.
+//!
+//! A row of a table is a script and what comes of it, the fault or a part of the script's value, with `|` between them and `;` for
+//! each line feed.
+
+use nv_replay_script::{Script, parse};
+use std::alloc::{AllocError, Global};
+use std::process::Abort;
+use std::test::Fail;
+
+const SET_UP: &str = "\
+host 0x1000000
+mediator 0x400000
+disk 4096
+lanes 1
+guest 0 range 1000 64 heap 65536
+guest 1 range 2000 64 heap 65536
+map 0 0x0 0x100000 0x20000
+map 1 0x0 0x200000 0x20000
+";
+
+/// Sizes alone, on one line of a row each.
+const SIZES: &str = "host 8192\nmediator 4096\ndisk 1\nlanes 1\n";
+
+/// Lines behind the set-up, and their events.
+const EVENTS: &str = "\
+|[]
+store 0 0x10000 abCD|[Guest(0, Store { addr: 65536, bytes: Bytes { bytes: [171, 205] } })]
+store 255 0xffffffffffffffff -|[Guest(255, Store { addr: 18446744073709551615, bytes: Bytes { bytes: [] } })]
+fill 1 12 3 0x11|[Guest(1, Store { addr: 12, bytes: Bytes { bytes: [17, 17, 17] } })]
+fill 1 12 0 255|[Guest(1, Store { addr: 12, bytes: Bytes { bytes: [] } })]
+load 0 0x0 4|[Guest(0, Load { addr: 0, len: 4 })]
+load 0 0x1ffff 0xffffffffffffffff|[Guest(0, Load { addr: 131071, len: 18446744073709551615 })]
+regread 0 0x4|[Guest(0, RegRead { offset: 4 })]
+regwrite 0 0x24 0x001f001f|[Guest(0, RegWrite { offset: 36, value: 2031647 })]
+bell 0 0x1008 0xffffffff|[Guest(0, Doorbell { offset: 4104, value: 4294967295 })]
+admin 16|[Admin(16)]
+take 5 65535 0|[Take(5, 65535, 0)]
+list 1 2 0x3000 4096|[List(1, 2, 12288, 4096)]
+submit 0 9|[Submit(0, 9)]
+giveup 0 9|[GiveUp(0, 9)]
+devtake 7|[DevTake(7)]
+devmove 0 63 0x100|[DevMove(0, 63, 256)]
+devpost 0 64|[DevPost(0, 64)]
+devfail 0 1 2 0x81 0|[DevFail(0, 1, Status { sct: 2, sc: 129, dnr: false })]
+devfail 0 1 0 0x04 1|[DevFail(0, 1, Status { sct: 0, sc: 4, dnr: true })]
+keep 4096|[Keep(4096)]
+reap 0|[Reap(0)]
+post 0 1|[Post(0, 1)]
+# no event;;  reap   0  # and a comment;post 0 0|[Reap(0), Post(0, 0)]
+load 0 0x0 4;take 5 1 0;post 0 0|[Guest(0, Load { addr: 0, len: 4 }), Take(5, 1, 0), Post(0, 0)]
+";
+
+/// Faults of line 9, behind the set-up.
+const FAULTS: &str = "\
+store 0 0x3000 abc|bad bytes
+frob 0|unknown word
+Reap 0|unknown word
+store 0x3000 ab|missing word
+fill 0 0 1|missing word
+devfail 0 0 0 0|missing word
+reap|missing word
+reap 0 0|too many words
+guest 2 range 0 1 heap 256 1|too many words
+store 256 0 zz|bad number
+fill 0 0 131073 zz|bad number
+fill 0 0 131072 256|bad number
+load 0 0x10000000000000000 4|bad number
+regread 0 0x100000000|bad number
+regwrite 0 0 4294967296|bad number
+take 0 65536 0|bad number
+take 0 1 256|bad number
+list 0 256 0 0|bad number
+devmove 256 0 0|bad number
+devfail 0 0 8 0 0|bad number
+devfail 0 0 7 256 0|bad number
+devfail 0 0 7 255 2|bad number
+keep -1|bad number
+guest 2 range 0 1 heap 255|bad number
+guest 2 range 0 1 heap 16777217|bad number
+guest 2 range zz 1 pile 0|bad number
+guest 2 span 0 1 heap 256|unknown word
+guest 2 range 0 1 pile 256|unknown word
+guest 1 range 0 1 heap 256|out of place
+guest 3 range 0 1 heap 256|out of place
+guest 256 range 0 1 heap 256|bad number
+map 2 0 0 4096|out of place
+map 256 0 0 4096|bad number
+map 0 0 zz 4096|bad number
+host 0x1000000|out of place
+lanes zz|out of place
+lanes|missing word
+memory 4096|out of place
+blocks 1|out of place
+paint 0 0|out of place
+cmd 00|out of place
+dump 0 0|out of place
+block 0|out of place
+await 0 0 0|out of place
+awaitreg 0 0 0|out of place
+await 0 0|missing word
+";
+
+/// Whole scripts that have a fault.
+const FAULTY_SCRIPTS: &str = "\
+|line 1: out of place
+;;|line 2: out of place
+host 1;mediator 1;disk 1|line 3: out of place
+host 1;mediator 1;disk 1;# lanes 1;|line 4: out of place
+reap 0|line 1: out of place
+host 1;mediator 1;disk 1;reap zz;lanes 1|line 4: out of place
+host 1;host zz|line 2: out of place
+host 1;host|line 2: missing word
+lanes 0x|line 1: bad number
+lanes 1;disk 1;mediator 0;host 0;reap 0;map 0 0 0 0|line 6: out of place
+lanes 1;disk 1;mediator 0;host 0;reap 0;guest 0 range 0 1 heap 256|line 6: out of place
+lanes 1;disk 1;mediator 0;host 0;reap 0;lanes 1|line 6: out of place
+lanes 1;disk 1;mediator 0;host 0;map 0 0 0 0|line 5: out of place
+";
+
+/// Guests behind sizes alone.
+const GUESTS: &str = "\
+|[]
+guest 0 range 18446744073709551615 0 heap 256|[GuestSetUp { base: 18446744073709551615, blocks: 0, heap: 256, regions: [] }]
+guest 0 range 0 1 heap 0x1000000;map 0 1 2 3;map 0 4 5 6|[GuestSetUp { base: 0, blocks: 1, heap: 16777216, regions: [Region { guest: 1, host: 2, len: 3 }, Region { guest: 4, host: 5, len: 6 }] }]
+guest 0 range 0 1 heap 256;map 0 1 2 3;guest 1 range 2 3 heap 256;map 0 4 5 6|[GuestSetUp { base: 0, blocks: 1, heap: 256, regions: [Region { guest: 1, host: 2, len: 3 }, Region { guest: 4, host: 5, len: 6 }] }, GuestSetUp { base: 2, blocks: 3, heap: 256, regions: [] }]
+";
+
+/// What of a script a test looks at.
+#[derive(Clone, Copy)]
+enum Part {
+    Guests,
+    Events,
+}
+
+// That part of the script, or the fault, printed.
+fn answer(rt: &impl AllocGlobal, text: &str, part: Part) -> Result<String, Fail> {
+    match (parse(rt.alloc(), text.as_bytes()), part) {
+        (Ok(Script { guests, .. }), Part::Guests) => Ok(format!(in rt.alloc(); "{guests:?}")?),
+        (Ok(Script { events, .. }), Part::Events) => Ok(format!(in rt.alloc(); "{events:?}")?),
+        (Err(fault), _) => Ok(format!(in rt.alloc(); "{fault}")?),
+    }
+}
+
+// One text behind another.
+fn joined(alloc: Global, front: &str, back: &str) -> Result<String, AllocError> {
+    format!(in alloc; "{front}{back}")
+}
+
+// Each row of the table behind a beginning gives what the row says behind another.
+fn expect_rows(
+    rt: &(impl Abort + AllocGlobal),
+    beginning: &str,
+    expected: &str,
+    table: &str,
+    part: Part,
+) -> Result<(), Fail> {
+    for row in table.lines() {
+        let (script, rest) = row.split_once('|').ok_or("a row without a bar")?;
+        let script = script.replace(rt.alloc(), ';', "\n")?;
+        let text = joined(rt.alloc(), beginning, &script)?;
+        let want = joined(rt.alloc(), expected, rest)?;
+        let found = answer(rt, &text, part)?;
+        assert!(rt; found == want, "{row:?} gives {found:?}, and not {want:?}");
+    }
+    Ok(())
+}
+
+#[test]
+fn reads_the_set_up(rt: HostRuntime) -> Result<(), Fail> {
+    let script = parse(rt.alloc(), SET_UP.as_bytes())?;
+    let found = format!(in rt.alloc(); "{script:?}")?;
+    let want =
+        "Script { sizes: Sizes { host: 16777216, mediator: 4194304, disk: 4096, lanes: 1 }, guests: [\
+        GuestSetUp { base: 1000, blocks: 64, heap: 65536, regions: [Region { guest: 0, host: 1048576, len: 131072 }] }, \
+        GuestSetUp { base: 2000, blocks: 64, heap: 65536, regions: [Region { guest: 0, host: 2097152, len: 131072 }] }\
+        ], events: [] }";
+    assert_eq!(rt; found.as_str(), want);
+    Ok(())
+}
+
+#[test]
+fn reads_guests_and_their_regions(rt: HostRuntime) -> Result<(), Fail> {
+    expect_rows(&rt, SIZES, "", GUESTS, Part::Guests)
+}
+
+#[test]
+fn reads_each_event(rt: HostRuntime) -> Result<(), Fail> {
+    expect_rows(&rt, SET_UP, "", EVENTS, Part::Events)
+}
+
+#[test]
+fn finds_the_faults_of_a_line(rt: HostRuntime) -> Result<(), Fail> {
+    expect_rows(&rt, SET_UP, "line 9: ", FAULTS, Part::Events)
+}
+
+#[test]
+fn finds_the_faults_of_a_script(rt: HostRuntime) -> Result<(), Fail> {
+    expect_rows(&rt, "", "", FAULTY_SCRIPTS, Part::Events)
+}
+
+#[test]
+fn fills_with_as_many_bytes_as_may_be(rt: HostRuntime) -> Result<(), Fail> {
+    let text = joined(rt.alloc(), SET_UP, "fill 0 0 131072 1")?;
+    let script = parse(rt.alloc(), text.as_bytes())?;
+    assert_eq!(rt; script.events.len(), 1);
+    Ok(())
+}

@@ -1,0 +1,5 @@
+pub mod ReplayVocabulary
+pub mod ReplaySetUp
+pub mod ReplayEvents
+pub mod ReplayScript
+pub mod ReplayRows

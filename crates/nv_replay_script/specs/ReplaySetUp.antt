@@ -1,0 +1,117 @@
+-- The set-up of a script: four sizes, the guests in order, and the regions of each
+use Rattle.std.specs.Prelude.{ℕ, ◌==◌, ◌&&◌, nat_le, nat_lt, Bool, List, [], ◌∷◌, codes, Option, Some, None, Result, Ok, Err, if◌then◌else◌}
+use Rattle.std.specs.Str.{bytes_eq}
+use Rattle.nv_mem.specs.declared.region.Region.{Region}
+use Rattle.nv_script.specs.declared.once.fault.FaultKind.{FaultKind}
+use Rattle.nv_script.specs.declared.once.fault.FaultKind.TheVariants.{BadNumber, OutOfPlace, UnknownWord}
+use Rattle.nv_script.specs.OnceFault.{◌>>=◌}
+use Rattle.nv_script.specs.OnceNumber.{number_of, number_up_to}
+use Rattle.nv_script.specs.OnceScript.{first_time}
+use Rattle.nv_replay_script.specs.declared.set_up.GuestSetUp.{GuestSetUp}
+use Rattle.nv_replay_script.specs.declared.sizes.OpenSizes.{OpenSizes}
+use Rattle.nv_replay_script.specs.declared.sizes.Sizes.{Sizes}
+use Rattle.nv_replay_script.specs.declared.vocabulary.Size.{Size}
+use Rattle.nv_replay_script.specs.declared.vocabulary.Size.TheVariants.{Host, Mediator, Disk, Lanes}
+
+-- ---- sizes
+
+-- the size that the lines so far have named, if they did
+abbrev pub named : OpenSizes → Size → Option ℕ
+named sizes Host = sizes.host
+named sizes Mediator = sizes.mediator
+named sizes Disk = sizes.disk
+named sizes Lanes = sizes.lanes
+
+-- one more size is named
+abbrev pub with_size : OpenSizes → Size → ℕ → OpenSizes
+with_size sizes Host n = record sizes { host = Some n }
+with_size sizes Mediator n = record sizes { mediator = Some n }
+with_size sizes Disk n = record sizes { disk = Some n }
+with_size sizes Lanes n = record sizes { lanes = Some n }
+
+-- no size was named
+abbrev pub no_sizes : OpenSizes
+no_sizes = record { host = None; mediator = None; disk = None; lanes = None }
+
+-- the sizes behind a line that names one: a second time is out of place
+abbrev pub after_size : OpenSizes → Size → List ℕ → Result OpenSizes FaultKind
+after_size sizes size word = do
+  n ← first_time (named sizes size) (number_of word)
+  Ok (with_size sizes size n)
+
+abbrev pub all_four : (host mediator disk lanes : Option ℕ) → Option Sizes
+all_four (Some host) (Some mediator) (Some disk) (Some lanes) =
+    Some (record { host = host; mediator = mediator; disk = disk; lanes = lanes })
+all_four host mediator disk lanes = None
+
+-- the sizes, once all four are there
+abbrev pub sizes_in : OpenSizes → Option Sizes
+sizes_in sizes = all_four sizes.host sizes.mediator sizes.disk sizes.lanes
+
+-- ---- guests
+
+-- a guest: the range of its blocks, the bytes of its planner's heap, and the regions of its memory in order
+pub record GuestValue : Type 0 where
+  pub base : ℕ
+  pub blocks : ℕ
+  pub heap : ℕ
+  pub regions : List Region
+
+-- the value of a guest that was read
+abbrev pub guest_value : GuestSetUp → GuestValue
+guest_value guest =
+    record { base = guest.base; blocks = guest.blocks; heap = guest.heap; regions = guest.regions.items }
+
+-- the fewest and most bytes of a planner's heap
+abbrev pub smallest_heap : ℕ
+smallest_heap = 256
+
+abbrev pub largest_heap : ℕ
+largest_heap = 16777216
+
+-- where a line may stand, or it is out of place
+abbrev pub in_place : Bool → Result (Unit {0}) FaultKind
+in_place may_stand = if may_stand then Ok tt else Err OutOfPlace
+
+-- a word that always stands at its place
+abbrev pub fixed_word : (fixed word : List ℕ) → Result (Unit {0}) FaultKind
+fixed_word fixed word = if bytes_eq word fixed then Ok tt else Err UnknownWord
+
+-- the bytes of a heap that a word writes
+abbrev pub heap_bytes : List ℕ → Result ℕ FaultKind
+heap_bytes word = do
+  n ← number_of word
+  if nat_le smallest_heap n && nat_le n largest_heap then Ok n else Err BadNumber
+
+-- the number of a guest that a word writes, where it is the next
+abbrev pub next_guest : (count : ℕ) → List ℕ → Result (Unit {0}) FaultKind
+next_guest count word = do
+  number ← number_up_to 255 word
+  in_place (number == count)
+
+-- the number of a guest that a word writes, where it is there
+abbrev pub known_guest : (count : ℕ) → List ℕ → Result ℕ FaultKind
+known_guest count word = do
+  number ← number_up_to 255 word
+  there ← in_place (nat_lt number count)
+  Ok number
+
+-- the guest that the words behind `guest` make, where there are so many guests
+abbrev pub guest_of : (count : ℕ) → List (List ℕ) → Result GuestValue FaultKind
+guest_of count (number ∷ range ∷ base ∷ blocks ∷ heap ∷ bytes ∷ []) = do
+  next ← next_guest count number
+  first ← fixed_word (codes "range") range
+  b ← number_of base
+  n ← number_of blocks
+  second ← fixed_word (codes "heap") heap
+  h ← heap_bytes bytes
+  Ok (record { base = b; blocks = n; heap = h; regions = [] })
+guest_of count words = Err OutOfPlace
+
+-- the region that these words make
+abbrev pub region_of : (guest host len : List ℕ) → Result Region FaultKind
+region_of guest host len = do
+  g ← number_of guest
+  h ← number_of host
+  n ← number_of len
+  Ok (record { guest = g; host = h; len = n })

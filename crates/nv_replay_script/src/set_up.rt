@@ -1,0 +1,108 @@
+//! The guests of the set-up.
+ghost use Rattle.std.specs.Prelude.{◌≡◌, length, MatchResult};
+ghost use Rattle.nv_replay_script.specs.ReplaySetUp.{fixed_word, guest_of, guest_value, heap_bytes, known_guest, next_guest, region_of};
+
+use nv_mem::Region;
+use nv_script::FaultKind;
+use nv_script::once::number::{byte, number};
+use nv_script::once::words::Words;
+use std::alloc::Global;
+
+/// A guest of a set-up, as its lines write it.
+#[derive(Debug, PartialEq, Eq, Drop)]
+pub struct GuestSetUp {
+    /// the block of the disk at which its range begins
+    pub base: u64,
+    /// how many blocks its range has
+    pub blocks: u64,
+    /// how many bytes its planner's heap has, 256 to 16,777,216
+    pub heap: u64,
+    /// the regions of its memory, in the order written
+    pub regions: Vec<Region>,
+}
+
+/// The fewest bytes of a planner's heap.
+const HEAP_MIN: u64 = 256;
+
+/// The most bytes of a planner's heap.
+const HEAP_MAX: u64 = 16_777_216;
+
+// That a word is the one that always stands at its place.
+fn fixed(word: &[u8], want: &[u8]) -> Result<(), FaultKind>
+    ensures { result ≡ fixed_word want.now word.now }
+{
+    if word == want {
+        Ok(())
+    } else {
+        Err(FaultKind::UnknownWord)
+    }
+}
+
+// The bytes of a heap that a word writes.
+fn heap(word: &[u8]) -> Result<u64, FaultKind>
+    ensures { result ≡ heap_bytes word.now }
+{
+    let bytes = number(word)?;
+    if bytes < HEAP_MIN || bytes > HEAP_MAX {
+        return Err(FaultKind::BadNumber);
+    }
+    Ok(bytes)
+}
+
+// That a word writes the number of the next guest.
+fn next(count: usize, word: &[u8]) -> Result<(), FaultKind>
+    ensures { result ≡ next_guest count word.now }
+{
+    let number = byte(word)?;
+    if usize::from(number) == count {
+        Ok(())
+    } else {
+        Err(FaultKind::OutOfPlace)
+    }
+}
+
+/// The number of a guest that a word writes, where it is below `count`.
+pub fn known(count: usize, word: &[u8]) -> Result<usize, FaultKind>
+    ensures { result ≡ known_guest count word.now }
+{
+    let number = usize::from(byte(word)?);
+    if number < count {
+        Ok(number)
+    } else {
+        Err(FaultKind::OutOfPlace)
+    }
+}
+
+/// Makes the guest of the words behind `guest`, where there are `count` guests. It has no regions.
+pub fn make_guest(
+    alloc: Global,
+    count: usize,
+    mut words: Words<'_>,
+) -> Result<GuestSetUp, FaultKind>
+    requires { length words ≡ 6 }
+    ensures { let guest = guest_of count words.entry
+        in MatchResult result (λ made. guest ≡ Ok (guest_value made)) (λ kind. guest ≡ Err kind) }
+{
+    next(count, words.next_word())?;
+    fixed(words.next_word(), b"range")?;
+    let base = number(words.next_word())?;
+    let blocks = number(words.next_word())?;
+    fixed(words.next_word(), b"heap")?;
+    let heap = heap(words.next_word())?;
+    Ok(GuestSetUp {
+        base,
+        blocks,
+        heap,
+        regions: Vec::new(alloc),
+    })
+}
+
+/// Makes a region of its three words.
+pub fn make_region(guest: &[u8], host: &[u8], len: &[u8]) -> Result<Region, FaultKind>
+    ensures { result ≡ region_of guest.now host.now len.now }
+{
+    let guest = number(guest)?;
+    let host = number(host)?;
+    let len = number(len)?;
+    Ok(Region { guest, host, len })
+}
