@@ -36,7 +36,8 @@ IsDone-left done o c rs before apart is =
     }
 
 -- a command of that opcode did
-pub IsDone-by : (opcode is : AdminOpcode) (rs : List Region) (blocks : ℕ) (entry : List ℕ) (c new : Controller) (o : Result Outcome StatusCode) (before : ℕ → ℕ)
+pub IsDone-by : (opcode is : AdminOpcode) (rs : List Region) (blocks : ℕ) (entry : List ℕ) (c new : Controller)
+    (o : Result Outcome StatusCode) (before : ℕ → ℕ)
     → AllPairs IsApart rs → opcode ≡ is → done_by is (mapped rs) blocks entry c (image rs before) ≡ effect o new (image rs before)
     → IsDone (done_by opcode (mapped rs) blocks entry c (image rs before)) o new rs before before
 IsDone-by opcode is rs blocks entry c new o before apart same did =
@@ -45,7 +46,8 @@ IsDone-by opcode is rs blocks entry c new o before apart same did =
 -- ---- what is kept
 
 -- the queue of another number stays
-pub queue_of-set_other : {Q : Type 0} (xs : List (Option Q)) (y : ℕ) (o : Option Q) → 0 < y → queue_of (slice_get (set xs y o) 0) ≡ queue_of (slice_get xs 0)
+pub queue_of-set_other : {Q : Type 0} (xs : List (Option Q)) (y : ℕ) (o : Option Q) → 0 < y
+    → queue_of (slice_get (set xs y o) 0) ≡ queue_of (slice_get xs 0)
 queue_of-set_other [] y o io = refl
 queue_of-set_other (x ∷ xs) zero o io = absurd (omega arith)
 queue_of-set_other (x ∷ xs) (suc y) o io = refl
@@ -61,14 +63,16 @@ differ-eqb a b differ =
     (elim (a == b) as (λ v. (a == b) ≡ v → v ≡ false) [ true ↦ λ is. absurd (differ (eqb-true a b is)) | false ↦ λ is. refl ]) refl
 
 -- a fused command, by what FUSE is
-pub command-fused : (mapped : ℕ → Bool) (blocks : ℕ) (entry : List ℕ) (c : Controller) (memory : ℕ → ℕ) → (fuse_of entry ≡ 0 → ⊥)
+pub command-fused : (mapped : ℕ → Bool) (blocks : ℕ) (entry : List ℕ) (c : Controller) (memory : ℕ → ℕ)
+    → (fuse_of entry ≡ 0 → ⊥)
     → admin_command mapped blocks entry c memory ≡ refused code.InvalidField c memory
 unfolding admin_command
 command-fused mapped blocks entry c memory some =
     let is : (fuse_of entry == 0) ≡ false = differ-eqb (fuse_of entry) 0 some in rw is refl
 
 -- one that is not
-pub command-alone : (mapped : ℕ → Bool) (blocks : ℕ) (entry : List ℕ) (c : Controller) (memory : ℕ → ℕ) (o : Option AdminOpcode) → fuse_of entry ≡ 0
+pub command-alone : (mapped : ℕ → Bool) (blocks : ℕ) (entry : List ℕ) (c : Controller) (memory : ℕ → ℕ) (o : Option AdminOpcode)
+    → fuse_of entry ≡ 0
     → o ≡ admin_opcode (opcode_of entry) → admin_command mapped blocks entry c memory ≡ done_with_opcode o mapped blocks entry c memory
 unfolding admin_command
 command-alone mapped blocks entry c memory o none is =
@@ -87,14 +91,17 @@ prp-zero psdt is =
     not_prp true e = cc
     not_prp false e = cc
 
-pub command-pages : (mapped : ℕ → Bool) (blocks : ℕ) (entry : List ℕ) (c : Controller) (memory : ℕ → ℕ) (opcode : AdminOpcode) → pointer.Prp ≡ data_pointer (psdt_of entry)
+pub command-pages : (mapped : ℕ → Bool) (blocks : ℕ) (entry : List ℕ) (c : Controller) (memory : ℕ → ℕ) (opcode : AdminOpcode)
+    → pointer.Prp ≡ data_pointer (psdt_of entry)
     → done_with_opcode (Some opcode) mapped blocks entry c memory ≡ done_by opcode mapped blocks entry c memory
 command-pages mapped blocks entry c memory opcode is = let zero = prp-zero (psdt_of entry) is in rw zero refl
 
-pub command-pointer : (mapped : ℕ → Bool) (blocks : ℕ) (entry : List ℕ) (c : Controller) (memory : ℕ → ℕ) (opcode : AdminOpcode) → (pointer.Prp ≡ data_pointer (psdt_of entry) → ⊥)
+pub command-pointer : (mapped : ℕ → Bool) (blocks : ℕ) (entry : List ℕ) (c : Controller) (memory : ℕ → ℕ) (opcode : AdminOpcode)
+    → (pointer.Prp ≡ data_pointer (psdt_of entry) → ⊥)
     → done_with_opcode (Some opcode) mapped blocks entry c memory ≡ refused code.InvalidField c memory
 command-pointer mapped blocks entry c memory opcode other =
-    (elim (psdt_of entry == 0) as (λ b. (psdt_of entry == 0) ≡ b → cond b (done_by opcode mapped blocks entry c memory) (refused code.InvalidField c memory) ≡ refused code.InvalidField c memory) [
+    (elim (psdt_of entry == 0) as (λ b. (psdt_of entry == 0) ≡ b
+    → cond b (done_by opcode mapped blocks entry c memory) (refused code.InvalidField c memory) ≡ refused code.InvalidField c memory) [
       | true ↦ λ is. absurd (other (sym (rw is refl)))
       | false ↦ λ is. refl
     ]) refl

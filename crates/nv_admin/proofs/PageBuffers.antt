@@ -42,7 +42,8 @@ abbrev unless : Option StatusCode → Reading → Reading
 unless (Some why) reading = Faulty why
 unless None reading = reading
 
-in_memory-unless : (m : ℕ → ℕ) (fault : Option StatusCode) (more : Dialogue Reading) → in_memory m (unless_faulty fault more) ≡ unless fault (in_memory m more)
+in_memory-unless : (m : ℕ → ℕ) (fault : Option StatusCode) (more : Dialogue Reading)
+    → in_memory m (unless_faulty fault more) ≡ unless fault (in_memory m more)
 unfolding in_memory
 in_memory-unless m (Some why) more = refl
 in_memory-unless m None more = refl
@@ -62,29 +63,33 @@ second-page m mapped prp2 rest front some few =
     ∙ ap (λ (r : Reading). unless (entry_fault mapped page prp2 (min rest page)) r) (in_memory-end m (Spells (front ++ run prp2 (min rest page))))
     ∙ ap (λ (n : ℕ). unless (entry_fault mapped page prp2 n) (Spells (front ++ run prp2 n))) all
 
+-- what is read behind PRP1's page
+abbrev behind_first : (mapped : ℕ → Bool) → (prp1 prp2 : ℕ) → Dialogue Reading
+behind_first mapped prp1 prp2 = read_prp2 mapped (pages_of (prp1 % page)) prp2 (prp1 % page) (run prp1 (page - prp1 % page))
+
 -- PRP1 and, where it has an offset, PRP2
 page-parts : (m : ℕ → ℕ) (mapped : ℕ → Bool) (prp1 prp2 : ℕ)
     → in_memory m (read_prp mapped prp1 prp2 page)
-    ≡ unless (entry_fault mapped 4 prp1 (page - prp1 % page)) (in_memory m (read_prp2 mapped (pages_of (prp1 % page)) prp2 (prp1 % page) (run prp1 (page - prp1 % page))))
+    ≡ unless (entry_fault mapped 4 prp1 (page - prp1 % page)) (in_memory m (behind_first mapped prp1 prp2))
 unfolding prp_by
 page-parts m mapped prp1 prp2 =
     ap (in_memory m) (read_prp-parts mapped prp1 prp2)
-    ∙ in_memory-unless m (entry_fault mapped 4 prp1 (page - prp1 % page)) (read_prp2 mapped (pages_of (prp1 % page)) prp2 (prp1 % page) (run prp1 (page - prp1 % page)))
+    ∙ in_memory-unless m (entry_fault mapped 4 prp1 (page - prp1 % page)) (behind_first mapped prp1 prp2)
 
 -- PRP1 is at fault
 pub page-faulty_first : (m : ℕ → ℕ) (mapped : ℕ → Bool) (prp1 prp2 : ℕ) (why : StatusCode) → Some why ≡ entry_fault mapped 4 prp1 (page - prp1 % page)
     → in_memory m (read_prp mapped prp1 prp2 page) ≡ Faulty why
 page-faulty_first m mapped prp1 prp2 why is =
     page-parts m mapped prp1 prp2
-    ∙ ap (λ (f : Option StatusCode). unless f (in_memory m (read_prp2 mapped (pages_of (prp1 % page)) prp2 (prp1 % page) (run prp1 (page - prp1 % page))))) (sym is)
+    ∙ ap (λ (f : Option StatusCode). unless f (in_memory m (behind_first mapped prp1 prp2))) (sym is)
 
 -- what PRP2 says where PRP1 is not
 page-second : (m : ℕ → ℕ) (mapped : ℕ → Bool) (prp1 prp2 : ℕ) → None ≡ entry_fault mapped 4 prp1 (page - prp1 % page)
     → in_memory m (read_prp mapped prp1 prp2 page)
-    ≡ in_memory m (read_prp2 mapped (pages_of (prp1 % page)) prp2 (prp1 % page) (run prp1 (page - prp1 % page)))
+    ≡ in_memory m (behind_first mapped prp1 prp2)
 page-second m mapped prp1 prp2 is =
     page-parts m mapped prp1 prp2
-    ∙ ap (λ (f : Option StatusCode). unless f (in_memory m (read_prp2 mapped (pages_of (prp1 % page)) prp2 (prp1 % page) (run prp1 (page - prp1 % page))))) (sym is)
+    ∙ ap (λ (f : Option StatusCode). unless f (in_memory m (behind_first mapped prp1 prp2))) (sym is)
 
 pub page-faulty_second : (m : ℕ → ℕ) (mapped : ℕ → Bool) (prp1 prp2 : ℕ) (why : StatusCode) → None ≡ entry_fault mapped 4 prp1 (page - prp1 % page)
     → 0 < prp1 % page → Some why ≡ entry_fault mapped page prp2 (prp1 % page)
@@ -123,7 +128,8 @@ unfolding scattered
 scattered-run m addr [] = sym (stored-nil m addr)
 scattered-run m addr (b ∷ bs) =
     let some : (length (b ∷ bs) == 0) ≡ false = eqb-suc-zero (length bs) in
-    rw some (ap (λ (places : List Place). scattered m places (b ∷ bs)) (append-nil (addresses addr (length (b ∷ bs)))) ∙ scattered-addresses m addr (b ∷ bs))
+    rw some (ap (λ (places : List Place). scattered m places (b ∷ bs)) (append-nil (addresses addr (length (b ∷ bs))))
+    ∙ scattered-addresses m addr (b ∷ bs))
 
 -- the places of two runs
 places_of-runs : (ps qs : List Piece) → places_of (ps ++ qs) ≡ places_of ps ++ places_of qs

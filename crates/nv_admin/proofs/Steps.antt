@@ -40,7 +40,8 @@ posted-stepped rs memory before now new c d (Some p) apart is done state host =
 -- ---- what a step comes to
 
 -- a step that was done
-pub stepped-reply : (rs : List Region) (before : ℕ → ℕ) (s : AdminStep) (c : Controller) (after : ℕ → ℕ) → IsStepped rs before s c after → reply.Done ≡ reply_of s
+pub stepped-reply : (rs : List Region) (before : ℕ → ℕ) (s : AdminStep) (c : Controller) (after : ℕ → ℕ)
+    → IsStepped rs before s c after → reply.Done ≡ reply_of s
 stepped-reply rs before NothingToDo c after is = absurd is
 stepped-reply rs before QueueFull c after is = absurd is
 stepped-reply rs before (Stepped d memory) c after is = refl
@@ -76,14 +77,16 @@ admin-commands mapped blocks c memory up none =
     rw up (ap (λ (o : Option Deletion). admin_ready o mapped blocks c memory) none)
 
 -- a deletion that waits is finished
-pub deletion-stepped : (d : Deletion) (c : Controller) (memory : ℕ → ℕ) → slice_index c.taken d.queue ≡ 0 → is_queue_full (completion_queue c 0) ≡ false
+pub deletion-stepped : (d : Deletion) (c : Controller) (memory : ℕ → ℕ) → slice_index c.taken d.queue ≡ 0
+    → is_queue_full (completion_queue c 0) ≡ false
     → c.deletion ≡ Some d → finish_deletion d c memory ≡ stepped (effect (Ok (outcome.Done 0)) (deletion_finished c) memory) d.cid
 deletion-stepped d c memory none room waits =
     let idle : (slice_index c.taken d.queue == 0) ≡ true = eq-eqb (slice_index c.taken d.queue) 0 none in
     rw (idle, room) (ap (λ (o : Option Deletion). stepped (effect (Ok (outcome.Done 0)) (finished_from o c) memory) d.cid) (sym waits))
 
 -- the command at the front is taken and carried out
-pub command-stepped : (mapped : ℕ → Bool) (blocks : ℕ) (c : Controller) (memory : ℕ → ℕ) (at : Option ℕ) (entry : List ℕ) → Some entry ≡ entry_at memory at
+pub command-stepped : (mapped : ℕ → Bool) (blocks : ℕ) (c : Controller) (memory : ℕ → ℕ) (at : Option ℕ) (entry : List ℕ)
+    → Some entry ≡ entry_at memory at
     → is_queue_full (completion_queue c 0) ≡ false
     → front_command at mapped blocks c memory ≡ stepped (admin_command mapped blocks entry (took c 0) memory) (cid_of entry)
 command-stepped mapped blocks c memory None entry is room = cc
@@ -92,12 +95,14 @@ command-stepped mapped blocks c memory (Some addr) entry is room =
     rw room (ap (λ (e : List ℕ). stepped (admin_command mapped blocks e (took c 0) memory) (cid_of e)) same)
 
 -- what taking it keeps
-pub took-keeps : (c : Controller) → (is_ready (took c 0) ≡ is_ready c) × ((took c 0).deletion ≡ c.deletion) × (completion_queue (took c 0) 0 ≡ completion_queue c 0)
+pub took-keeps : (c : Controller)
+    → (is_ready (took c 0) ≡ is_ready c) × ((took c 0).deletion ≡ c.deletion) × (completion_queue (took c 0) 0 ≡ completion_queue c 0)
 unfolding took
 took-keeps c = by_queue (submission_queue c 0)
   where
     by_queue : (o : Option SubmissionQueue)
-        → (is_ready (took_of o c 0) ≡ is_ready c) × ((took_of o c 0).deletion ≡ c.deletion) × (completion_queue (took_of o c 0) 0 ≡ completion_queue c 0)
+        → (is_ready (took_of o c 0) ≡ is_ready c) × ((took_of o c 0).deletion ≡ c.deletion)
+        × (completion_queue (took_of o c 0) 0 ≡ completion_queue c 0)
     by_queue None = (refl, refl, refl)
     by_queue (Some q) = (refl, refl, refl)
 

@@ -17,7 +17,8 @@ effect (Ok outcome.Pending) c memory = unanswered c memory
 effect (Err why) c memory = refused why c memory
 
 -- a command had this outcome: the controller behind it is this, and the host has its memory in the map
-pub record IsDone (done : AdminEffect) (outcome : Result Outcome StatusCode) (c : Controller) (regions : List Region) (before after : ℕ → ℕ) : Type 0 where
+pub record IsDone (done : AdminEffect) (outcome : Result Outcome StatusCode) (c : Controller) (regions : List Region)
+    (before after : ℕ → ℕ) : Type 0 where
   pub effect_is : done ≡ effect outcome c done.memory
   pub host : after ≡ put_image regions done.memory before
 

@@ -31,7 +31,8 @@ pub(crate) fn carry_out(
     requires no_deletion { vctl.old.deletion ≡ None }
     requires host { map.now.host_len ≡ length host.old }
     ensures done { let before = byte_in host.old in
-        IsDone (admin_command (mapped map.now.regions) blocks sqe.now vctl.old (image map.now.regions before)) result vctl.new map.now.regions before (byte_in host.new) }
+        IsDone (admin_command (mapped map.now.regions) blocks sqe.now vctl.old (image map.now.regions before))
+        result vctl.new map.now.regions before (byte_in host.new) }
     ensures len { length host.new ≡ length host.old }
     ensures keeps { Keeps vctl.old vctl.new }
     ensures in_place { let test = mapped map.now.regions in QueuesInPlace test vctl.old → QueuesInPlace test vctl.new }
@@ -63,7 +64,8 @@ fn carry_out_by(
     requires no_deletion { vctl.old.deletion ≡ None }
     requires host { map.now.host_len ≡ length host.old }
     ensures done { let before = byte_in host.old in
-        IsDone (done_by opcode (mapped map.now.regions) blocks sqe.now vctl.old (image map.now.regions before)) result vctl.new map.now.regions before (byte_in host.new) }
+        IsDone (done_by opcode (mapped map.now.regions) blocks sqe.now vctl.old (image map.now.regions before))
+        result vctl.new map.now.regions before (byte_in host.new) }
     ensures len { length host.new ≡ length host.old }
     ensures keeps { Keeps vctl.old vctl.new }
     ensures in_place { let test = mapped map.now.regions in QueuesInPlace test vctl.old → QueuesInPlace test vctl.new }

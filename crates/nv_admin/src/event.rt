@@ -24,8 +24,8 @@ const ADMIN_QUEUE: u16 = 0;
 /// Nothing changes where the reply is [`Admin::Idle`] or [`Admin::Held`]. Of the host, no byte changes outside the map. The queues
 /// that are there lie in the map as before.
 ///
-/// The caller knows that the map was made for a host of this length ([`GuestMap::host_len`]), and that the queues that are there lie
-/// wholly in the map, as every call keeps it.
+/// The caller knows that the map was made for a host of this length ([`GuestMap::host_len`] tells it), and that the queues that are there
+/// lie wholly in the map, as every call keeps it ([`Vctl::lies_in`] tests it).
 pub fn admin(vctl: &mut Vctl, blocks: u64, map: &GuestMap, host: &mut Host) -> Admin
     requires host { map.now.host_len ≡ length host.old }
     requires in_place { QueuesInPlace (mapped map.now.regions) vctl.old }
@@ -84,11 +84,14 @@ fn do_command(vctl: &mut Vctl, blocks: u64, map: &GuestMap, host: &mut Host) -> 
     requires in_place { QueuesInPlace (mapped map.now.regions) vctl.old }
     requires ready { is_ready vctl.old ≡ true }
     requires no_deletion { vctl.old.deletion ≡ None }
-    ensures reply { result ≡ reply_of (front_command (front vctl.old 0) (mapped map.now.regions) blocks vctl.old (image map.now.regions (byte_in host.old))) }
+    ensures reply { result ≡ reply_of
+        (front_command (front vctl.old 0) (mapped map.now.regions) blocks vctl.old (image map.now.regions (byte_in host.old))) }
     ensures controller { vctl.new
-        ≡ controller_behind vctl.old (front_command (front vctl.old 0) (mapped map.now.regions) blocks vctl.old (image map.now.regions (byte_in host.old))) }
+        ≡ controller_behind vctl.old
+        (front_command (front vctl.old 0) (mapped map.now.regions) blocks vctl.old (image map.now.regions (byte_in host.old))) }
     ensures host { let before = byte_in host.old in byte_in host.new
-        ≡ host_behind map.now.regions before (front_command (front vctl.old 0) (mapped map.now.regions) blocks vctl.old (image map.now.regions before)) }
+        ≡ host_behind map.now.regions before
+        (front_command (front vctl.old 0) (mapped map.now.regions) blocks vctl.old (image map.now.regions before)) }
     ensures len { length host.new ≡ length host.old }
     ensures in_place { QueuesInPlace (mapped map.now.regions) vctl.new }
 {

@@ -39,7 +39,8 @@ pub(crate) fn identify(
 ) -> Result<Outcome, StatusCode>
     requires { map.now.host_len ≡ length host.old }
     ensures done { (c : Controller) → let before = byte_in host.old in
-        IsDone (identify (mapped map.now.regions) blocks sqe.now c (image map.now.regions before)) result c map.now.regions before (byte_in host.new) }
+        IsDone (identify (mapped map.now.regions) blocks sqe.now c (image map.now.regions before))
+        result c map.now.regions before (byte_in host.new) }
     ensures len { length host.new ≡ length host.old }
 {
     // With the length of the host comes what is known of every map.

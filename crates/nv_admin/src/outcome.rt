@@ -1,8 +1,8 @@
 //! What becomes of a command that is not refused.
 
 /// What becomes of an admin command that is not refused.
-#[derive(Clone, Copy, Debug, PartialEq, Eq)]
-pub enum Outcome {
+#[derive(Clone, Copy)]
+pub(crate) enum Outcome {
     /// It is done, and its completion has this DW0.
     Done {
         /// DW0, command specific

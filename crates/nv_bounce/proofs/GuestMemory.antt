@@ -82,7 +82,8 @@ pub record IsWrittenTo (rs : List Region) (before : List ℕ) (addr : ℕ) (byte
   pub within : done ≤ length bytes
 
 -- nothing is written
-pub IsWrittenTo-first : (rs : List Region) (before : List ℕ) (addr : ℕ) (bytes : List ℕ) → AllPairs IsApart rs → IsWrittenTo rs before addr bytes before 0
+pub IsWrittenTo-first : (rs : List Region) (before : List ℕ) (addr : ℕ) (bytes : List ℕ) → AllPairs IsApart rs
+    → IsWrittenTo rs before addr bytes before 0
 IsWrittenTo-first rs before addr bytes apart = record {
   written =
       sym (put_image-own rs (byte_in before) apart)
@@ -98,7 +99,8 @@ stored-row rs m addr host bytes apart run = fun_ext (λ at. stored-row_at rs m a
 
 -- such bytes behind those that are there already
 stored-behind : (rs : List Region) (m : ℕ → ℕ) (addr : ℕ) (front piece : List ℕ) → AllPairs IsApart rs
-    → put_image rs (stored (image rs (put_image rs (stored (image rs m) addr front) m)) (addr + length front) piece) (put_image rs (stored (image rs m) addr front) m)
+    → put_image rs (stored (image rs (put_image rs (stored (image rs m) addr front) m)) (addr + length front) piece)
+    (put_image rs (stored (image rs m) addr front) m)
     ≡ put_image rs (stored (image rs m) addr (front ++ piece)) m
 stored-behind rs m addr front piece apart =
     let first : ℕ → ℕ = stored (image rs m) addr front in
@@ -120,7 +122,8 @@ IsWrittenTo-next rs before addr bytes now new done to k n apart so_far run most 
     let m : ℕ → ℕ = byte_in before in
     let first : ℕ → ℕ = put_image rs (stored (image rs m) addr (take done bytes)) m in
     let row : IsContiguous rs (addr + length (take done bytes)) to (length piece) =
-    subst (λ (k : ℕ). IsContiguous rs (addr + k) to (length piece)) (sym front_len) (subst (λ (k : ℕ). IsContiguous rs (addr + done) to k) (sym piece_len) run) in
+    subst (λ (k : ℕ). IsContiguous rs (addr + k) to (length piece)) (sym front_len)
+    (subst (λ (k : ℕ). IsContiguous rs (addr + done) to k) (sym piece_len) run) in
     record {
       written =
           ap byte_in (is ∙ ap (λ (j : ℕ). after_store now to (take j (drop done bytes))) of_k) ∙ sym (stored-list now to piece (omega arith))

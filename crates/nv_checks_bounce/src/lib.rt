@@ -7,6 +7,8 @@ mod copies;
 #[cfg(test)]
 mod gathering;
 #[cfg(test)]
+mod guest_bytes;
+#[cfg(test)]
 mod places;
 #[cfg(test)]
 mod scattering;

@@ -10,3 +10,5 @@ mod conditions;
 mod effects;
 #[cfg(test)]
 mod rings;
+#[cfg(test)]
+mod starved;

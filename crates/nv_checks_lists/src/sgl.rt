@@ -8,7 +8,7 @@ mod starved;
 
 use nv_entry::{Descriptor, StatusCode};
 use nv_mem::{GuestMap, NoMemory, Piece, Region};
-use nv_sgl::{Chain, SglParse, Want};
+use nv_sgl::{Chain, PlacesParse, SglParse, Want};
 use std::alloc::{Allocator, Global};
 use std::process::Abort;
 use std::test::Fail;

@@ -6,3 +6,4 @@ mod SpellLemmas
 mod TakeLemmas
 mod UnitLemmas
 mod UnitMarks
+mod LeftLemmas

@@ -13,10 +13,10 @@ use Rattle.nv_mem.specs.Places.{At, Bucket, Place, addresses, places_of, places_
 use Rattle.nv_mem.specs.declared.piece.Piece.{Piece}
 use Rattle.nv_mem.specs.declared.piece.Piece.TheVariants.{Run}
 use Rattle.nv_mem.specs.declared.piece.Piece.TheVariants as piece
-use Rattle.nv_model.specs.Dialogue.{Dialogue, End, Ask, in_memory}
+use Rattle.nv_model.specs.Dialogue.{Dialogue, End, in_memory}
 use Rattle.nv_model.specs.Limits.{page}
 use Rattle.nv_model.specs.Memory.{byte_in, bytes_from}
-use Rattle.nv_model.specs.Prp.{entry_fault, first_len, pages_of, read_entries, read_prp, read_prp2, slots_of}
+use Rattle.nv_model.specs.Prp.{entry_fault, first_len, pages_of, read_entries, read_prp2, slots_of}
 use Rattle.nv_model.specs.Reading.{Reading, Spells, run, unless_faulty}
 use Rattle.nv_moves.specs.Buffer.{AreBelow, IsBelow}
 use Rattle.nv_moves.proofs.BufferLemmas.{AreBelow-behind, AreBelow-front, addresses-below}

@@ -1,5 +1,5 @@
 -- What the device keeps of an entry that it takes
-use Rattle.std.proofs.Common.{◌≡◌, ℕ, zero, suc, ◌+◌, ◌*◌, ◌<◌, ◌≤◌, ◌==◌, Bool, true, false, cond, not, List, [], ◌∷◌, length, Option, Some, None, Result, Ok, Err, refl, sym, ap, subst, ◌∙◌, arith, set, get_or}
+use Rattle.std.proofs.Common.{◌≡◌, ℕ, zero, suc, ◌+◌, ◌<◌, ◌≤◌, ◌==◌, Bool, true, false, cond, List, [], length, Option, Some, None, Result, Ok, Err, refl, sym, ap, subst, ◌∙◌, arith, get_or}
 use Rattle.std.specs.Prelude.{All, IfOk, IfSome, slice_set}
 use Rattle.std.specs.List.{range_with_len}
 use Rattle.std.proofs.lemmas.Bool.Decides.{nat_tests}
@@ -12,7 +12,7 @@ use Rattle.nv_mem.specs.declared.piece.Piece.{Piece}
 use Rattle.nv_mem.proofs.PlaceLists.{length-places_of}
 use Rattle.nv_model.specs.Judge.{transfer_len}
 use Rattle.nv_model.specs.Prp.{read_prp}
-use Rattle.nv_model.specs.Reading.{Reading, Spells}
+use Rattle.nv_model.specs.Reading.{Spells}
 use Rattle.nv_model.proofs.Judged.{pieces-ends}
 use Rattle.nv_model.proofs.Spelled.{AreOfLen, read_prp-of_len}
 use Rattle.nv_model.specs.Memory.{byte_in}

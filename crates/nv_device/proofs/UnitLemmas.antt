@@ -1,8 +1,8 @@
 -- A unit of a command in the device, by the command's opcode
-use Rattle.std.proofs.Common.{◌≡◌, ℕ, zero, suc, ◌+◌, ◌*◌, ◌^◌, ◌<◌, ◌≤◌, ◌==◌, ◌&&◌, ◌||◌, Bool, true, false, cond, List, [], ◌∷◌, length, take, drop, Option, Some, None, refl, sym, ap, subst, ◌∙◌, arith, eqb-true}
+use Rattle.std.proofs.Common.{◌≡◌, ℕ, ◌+◌, ◌*◌, ◌^◌, ◌<◌, ◌≤◌, ◌==◌, ◌||◌, Bool, true, false, List, [], ◌∷◌, length, Option, Some, None, refl, sym, ap, subst, ◌∙◌, arith, eqb-true}
 use Rattle.std.specs.Prelude.{All}
-use Rattle.std.specs.List.{filter, list_any, range_with_len}
-use Rattle.std.proofs.lemmas.List.Elements.{All-cons, All-head, All-nil, All-tail}
+use Rattle.std.specs.List.{list_any, range_with_len}
+use Rattle.std.proofs.lemmas.List.Elements.{All-head, All-tail}
 use Rattle.nv_entry.specs.Layout.{bits}
 use Rattle.nv_entry.specs.Opcode.{io_opcode}
 use Rattle.nv_entry.specs.Range.{blocks_of, start_of}
@@ -12,12 +12,12 @@ use Rattle.nv_entry.specs.declared.opcode.IoOpcode.TheVariants.{Flush, Write, Re
 use Rattle.nv_mem.specs.Places.{places_of}
 use Rattle.nv_mem.specs.declared.piece.Piece.{Piece}
 use Rattle.nv_model.specs.Carried.{block_work, cleared, cleared_one, moved_on, units_moved}
-use Rattle.nv_model.specs.Judge.{Clear, ClearBlock, Form, Keep, KeepAll, Manage, MoveBlock, Transfer, clear_units, count_of, deallocates, form_has_blocks, form_of, has_blocks, is_fua, one_range_units}
-use Rattle.nv_model.specs.Private.{Moved, others}
+use Rattle.nv_model.specs.Judge.{KeepAll, MoveBlock, clear_units, count_of, deallocates, is_fua, one_range_units}
+use Rattle.nv_model.specs.Private.{Moved}
 use Rattle.nv_model.proofs.UnitWords.{units_moved-cleared, units_moved-left}
 use Rattle.nv_model.specs.Memory.{byte_in}
 use Rattle.nv_moves.specs.Flat.{flat, moved_of}
-use Rattle.nv_world_model.specs.Device.{Held, device_unit, form_moves, moved_by, range_at, unit_count}
+use Rattle.nv_world_model.specs.Device.{Held, device_unit, moved_by, range_at, unit_count}
 use Rattle.nv_device.specs.Moving.{IsReady, moves_blocks, unit_of}
 use Rattle.nv_device.specs.Physical.{IsHeld, len_of, names_blocks}
 

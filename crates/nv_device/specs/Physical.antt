@@ -1,7 +1,7 @@
 -- The physical controller as it stands: where the mediator's area begins in the host's memory, the bytes of the blocks
 -- and their marks, and its lanes. What its calls do is told in the words of the mediated world (profile: the limits and
 -- the layout of the area).
-use Rattle.std.specs.Prelude.{◌≡◌, ℕ, ◌+◌, ◌*◌, ◌==◌, ◌%◌, ◌^◌, ◌<◌, ◌≤◌, Bool, true, false, ◌&&◌, if◌then◌else◌, nat_le, List, [], ◌∷◌, All, IfSome, length, replicate, slice_set, Option, Some, None, is_some}
+use Rattle.std.specs.Prelude.{◌≡◌, ℕ, ◌+◌, ◌==◌, ◌%◌, ◌^◌, ◌<◌, ◌≤◌, Bool, true, false, if◌then◌else◌, List, [], ◌∷◌, All, IfSome, length, replicate, slice_set, Option, Some, None}
 use Rattle.std.specs.List.{list_any, slice_index_or}
 use Rattle.nv_entry.specs.Opcode.{io_opcode}
 use Rattle.nv_entry.specs.Submission.{opcode_of, slba_of}
@@ -9,7 +9,7 @@ use Rattle.nv_entry.specs.declared.opcode.IoOpcode.{IoOpcode}
 use Rattle.nv_mem.specs.Places.{places_of}
 use Rattle.nv_model.specs.Judge.{count_of, has_blocks, transfer_len}
 use Rattle.nv_model.specs.Limits.{block, page}
-use Rattle.nv_world_model.specs.Area.{lane_pages, lane_start, ring_size, tag_count}
+use Rattle.nv_world_model.specs.Area.{lane_start, ring_size, tag_count}
 use Rattle.nv_world_model.specs.Device.{DeviceLane, Held, opening_device_lane, unit_count}
 use Rattle.nv_device.specs.declared.response.Response.{Response}
 use Rattle.nv_device.specs.declared.response.Response.TheVariants.{Done, Idle}

@@ -1,12 +1,12 @@
 -- What taking the front entry of a lane's ring needs and does
-use Rattle.std.specs.Prelude.{◌≡◌, ℕ, ◌+◌, ◌<◌, ◌≤◌, Bool, true, false, not, ◌==◌, nat_lt, if◌then◌else◌, List, length, Option, Some, None}
+use Rattle.std.specs.Prelude.{◌≡◌, ℕ, ◌+◌, ◌<◌, ◌≤◌, Bool, true, not, if◌then◌else◌, List, length, Option, None}
 use Rattle.nv_entry.specs.Opcode.{io_opcode}
 use Rattle.nv_entry.specs.Submission.{cid_of, opcode_of, prp1_of, prp2_of, slba_of}
 use Rattle.nv_model.specs.Judge.{count_of}
 use Rattle.nv_model.specs.Queue.{is_empty}
 use Rattle.nv_model.specs.Memory.{byte_in}
 use Rattle.nv_world_model.specs.Area.{tag_count}
-use Rattle.nv_world_model.specs.Device.{DeviceLane, Held, entry_taken, front_entry}
+use Rattle.nv_world_model.specs.Device.{Held, entry_taken, front_entry}
 use Rattle.nv_device.specs.Pages.{host_reading, spells}
 use Rattle.nv_device.specs.Physical.{Physical, held_at, lane_of, len_of, names_blocks, with_lane}
 

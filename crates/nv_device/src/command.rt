@@ -15,6 +15,7 @@ use crate::spelling::spells;
 use crate::units::Units;
 use nv_entry::{IoOpcode, Sqe, Status, StatusCode};
 use nv_mem::{Host, NoMemory, Places};
+use nv_model::limits::{BLOCK_SIZE, RANGE_SIZE};
 use std::alloc::Global;
 use std::marker::Model;
 
@@ -90,7 +91,8 @@ impl Command {
 
     /// Whether it is a Dataset Management that deallocates.
     pub(crate) fn deallocates_ranges(&self) -> bool
-        ensures { IsTrue result ↔ ((io_opcode (opcode_of self.now.entry) ≡ Some IoOpcode.DatasetManagement) × (deallocates self.now.entry ≡ true)) }
+        ensures { IsTrue result
+            ↔ ((io_opcode (opcode_of self.now.entry) ≡ Some IoOpcode.DatasetManagement) × (deallocates self.now.entry ≡ true)) }
     {
         match self.sqe.io_opcode() {
             Some(IoOpcode::DatasetManagement) => self.sqe.deallocate(),
@@ -160,9 +162,9 @@ fn transfer_len(sqe: &Sqe) -> u64
     ensures fits { result < 2 ^ 32 }
 {
     match sqe.io_opcode() {
-        Some(IoOpcode::Read | IoOpcode::Write | IoOpcode::Compare) => 512
+        Some(IoOpcode::Read | IoOpcode::Write | IoOpcode::Compare) => BLOCK_SIZE as u64
             * (u64::from(sqe.nlb()) + 1),
-        Some(IoOpcode::DatasetManagement) => 16 * (u64::from(sqe.nr()) + 1),
+        Some(IoOpcode::DatasetManagement) => RANGE_SIZE as u64 * (u64::from(sqe.nr()) + 1),
         Some(IoOpcode::WriteZeroes | IoOpcode::Flush) | None => 0,
     }
 }

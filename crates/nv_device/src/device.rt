@@ -8,7 +8,7 @@ ghost use Rattle.nv_device.specs.Physical.{FitsLimits, HoldsArea, done_where, la
 
 use crate::lane::Lane;
 use crate::response::Response;
-use nv_mem::{Host, NoMemory};
+use nv_mem::{Host, NoMemory, PAGE_SIZE};
 use nv_model::limits::BLOCK_SIZE;
 use std::alloc::Global;
 use std::marker::Model;
@@ -34,14 +34,17 @@ impl Model for Device {
     ghost invariant = { λ d. IsWhole d.mediator d.disk.items d.kept.items d.lanes.items };
 }
 
-/// The bytes of a memory page.
-const PAGE: u64 = 4096;
-
 /// The pages of a lane: two for its submission ring, one for its completion ring, and 33 for each identifier.
 const LANE_PAGES: u64 = 2115;
 
 /// The bytes of a lane's area.
-const LANE_BYTES: u64 = PAGE * LANE_PAGES;
+const LANE_BYTES: u64 = PAGE_SIZE * LANE_PAGES;
+
+/// The bytes of a submission queue entry.
+const SUBMISSION_SIZE: u64 = 64;
+
+/// The bytes of a completion queue entry.
+const COMPLETION_SIZE: u64 = 16;
 
 /// The most lanes.
 const MOST_LANES: u8 = 8;
@@ -55,7 +58,7 @@ impl Device {
     pub fn fits(mediator: u64, lanes: u8, blocks: u64) -> bool
         ensures { IsTrue result ↔ FitsLimits mediator lanes blocks }
     {
-        mediator % PAGE == 0
+        mediator % PAGE_SIZE == 0
             && 0 < lanes
             && lanes <= MOST_LANES
             && 0 < blocks
@@ -150,7 +153,7 @@ impl Device {
         ensures value { result ≡ submission_slot self.now.mediator lane at }
         ensures inside { result + 64 ≤ lane_start self.now.mediator (length self.now.lanes) }
     {
-        self.mediator + LANE_BYTES * u64::from(lane) + 64 * u64::from(at)
+        self.mediator + LANE_BYTES * u64::from(lane) + SUBMISSION_SIZE * u64::from(at)
     }
 
     /// Where a slot of a lane's completion ring lies in the host.
@@ -160,7 +163,10 @@ impl Device {
         ensures value { result ≡ completion_slot self.now.mediator lane at }
         ensures inside { result + 16 ≤ lane_start self.now.mediator (length self.now.lanes) }
     {
-        self.mediator + LANE_BYTES * u64::from(lane) + 2 * PAGE + 16 * u64::from(at)
+        self.mediator
+            + LANE_BYTES * u64::from(lane)
+            + 2 * PAGE_SIZE
+            + COMPLETION_SIZE * u64::from(at)
     }
 }
 

@@ -34,7 +34,13 @@ impl Model for Lane {
 
     ghost Value = { DeviceLane };
 
-    ghost view = { λ l. record { head = l.submissions.head; tail = l.submissions.tail; posted = l.posted; phase = l.phase; held = l.held.items } };
+    ghost view = { λ l. record {
+      head = l.submissions.head;
+      tail = l.submissions.tail;
+      posted = l.posted;
+      phase = l.phase;
+      held = l.held.items;
+    } };
 
     ghost invariant = { λ l. IsLane l.submissions.size l.submissions.head l.posted l.held.items };
 }
@@ -93,7 +99,8 @@ impl Lane {
     /// The command in the device under an identifier.
     pub(crate) fn command(&self, slot: u8) -> Option<&Command>
         requires { slot < tag_count }
-        ensures { MatchOption result (slice_index_or self.now.held slot None ≡ None) (λ command. slice_index_or self.now.held slot None ≡ Some command.now) }
+        ensures { MatchOption result (slice_index_or self.now.held slot None ≡ None)
+            (λ command. slice_index_or self.now.held slot None ≡ Some command.now) }
     {
         self.held[usize::from(slot)].as_ref()
     }
@@ -102,7 +109,8 @@ impl Lane {
     pub(crate) fn take(&mut self, slot: u8, command: Command)
         requires waits { is_empty self.old.head self.old.tail ≡ false }
         requires slot { slot < tag_count }
-        ensures { self.new ≡ record self.old { head = next_slot ring_size self.old.head; held = slice_set self.old.held slot (Some command) } }
+        ensures { self.new
+            ≡ record self.old { head = next_slot ring_size self.old.head; held = slice_set self.old.held slot (Some command) } }
     {
         self.submissions.take();
         self.held[usize::from(slot)] = Some(command);
@@ -112,7 +120,8 @@ impl Lane {
     pub(crate) fn unit_done(&mut self, slot: u8, number: u64, differed: bool)
         requires there { MatchOption (slice_index_or self.old.held slot None) ⊥ (λ h. list_any (λ k. k == number) h.left ≡ true) }
         requires slot { slot < tag_count }
-        ensures { MatchOption (slice_index_or self.old.held slot None) ⊥ (λ h. self.new ≡ with_held slot (Some (unit_gone number differed h)) self.old) }
+        ensures { MatchOption (slice_index_or self.old.held slot None) ⊥
+            (λ h. self.new ≡ with_held slot (Some (unit_gone number differed h)) self.old) }
     {
         if let Some(command) = &mut self.held[usize::from(slot)] {
             command.unit_done(number, differed);

@@ -1,9 +1,17 @@
-//! The physical controller.
+//! The physical controller: blocks with their marks, and lanes, each a pair of rings in the host's memory. It takes entries from a
+//! lane's submission ring, moves their units one at a time and in any order, and posts completions (Base Specification 2.0,
+//! "Memory-based Transport Queue Model", "Submission Queue Entry", "Common Completion Queue Entry"; NVM Command Set Specification 1.0,
+//! "NVM Command Set Commands").
+//!
+//! A [`Device`] is made by [`Device::new`] and works by `ring`, `take`, `move_unit`, `post`, `fail` and `keep`. What a call may not be asked
+//! has a test beside it: `fits`, `has_area`, `may_take`, `may_move`. Where a command's bytes lie is read from its PRP list when it is
+//! taken, over host addresses. `new` and `take` alone want memory; where there is none, nothing has changed.
 #![tactic(auto)]
 
 mod command;
 mod device;
 mod lane;
+pub mod laws;
 mod moving;
 mod pages;
 mod posting;

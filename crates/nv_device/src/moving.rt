@@ -21,7 +21,7 @@ use crate::device::Device;
 use crate::response::Response;
 use nv_entry::{IoOpcode, Range};
 use nv_mem::{Host, Piece};
-use nv_model::limits::BLOCK_SIZE;
+use nv_model::limits::{BLOCK_SIZE, RANGE_SIZE};
 use nv_moves::Buffer;
 
 impl Device {
@@ -192,8 +192,8 @@ fn range_of(command: &Command, number: u64, host: &Host) -> Range
     // The end of the host fits in 64 bits, and so do its addresses.
     let _size = host.len();
     let mut buffer = Buffer::new(command.places());
-    buffer.skip(16 * number);
-    let mut bytes = [0; 16];
+    buffer.skip(RANGE_SIZE as u64 * number);
+    let mut bytes = [0; RANGE_SIZE];
     buffer.fetch(host, &mut bytes);
     Range::of(&bytes)
 }

@@ -9,14 +9,11 @@ ghost use Rattle.nv_model.specs.Reading.{Spells};
 ghost use Rattle.nv_device.specs.Pages.{IsEntryAt, behind_reading, entries_reading, host_reading, spells};
 
 use byteorder::{ByteOrder, LittleEndian};
-use nv_mem::{Host, NoMemory, Piece, Places};
+use nv_mem::{Host, NoMemory, PAGE_SIZE, Piece, Places};
 use std::alloc::Global;
 
-/// The bytes of a memory page.
-pub(crate) const PAGE: u64 = 4096;
-
 /// The slots of a list page.
-pub(crate) const SLOTS: u64 = PAGE / 8;
+pub(crate) const SLOTS: u64 = PAGE_SIZE / 8;
 
 /// The places of a transfer of `len` bytes by PRP1 and PRP2. The caller knows that they and the list lie in the host, and
 /// that all are as PRP has them: nothing is checked here.
@@ -32,7 +29,7 @@ pub(crate) fn read_pages(
     requires spelled { spells (host_reading host.now prp1 prp2 len) ≡ true }
     ensures { IfOk result (λ places. host_reading host.now prp1 prp2 len ≡ Spells places) }
 {
-    let first = len.min(PAGE - prp1 % PAGE);
+    let first = len.min(PAGE_SIZE - prp1 % PAGE_SIZE);
     let left = len - first;
     let mut places = Places::new(alloc);
     places.reserve((1 + pages_of(left)) as usize)?;
@@ -50,7 +47,7 @@ pub(crate) fn pages_of(bytes: u64) -> u64
     ensures value { result ≡ pages_of bytes }
     ensures fits { result < 2 ^ 32 }
 {
-    (bytes + (PAGE - 1)) / PAGE
+    (bytes + (PAGE_SIZE - 1)) / PAGE_SIZE
 }
 
 /// Adds the pages behind PRP1's: none, the one that PRP2 names, or those of the list to which it points.
@@ -88,13 +85,13 @@ fn read_list(
     // The end of the host fits in 64 bits, and so does the place behind a slot.
     let _size = host.len();
     let mut from = list;
-    let mut slots = (PAGE - list % PAGE) / 8;
+    let mut slots = (PAGE_SIZE - list % PAGE_SIZE) / 8;
     let mut pages = pages;
     let mut bytes = bytes;
     while pages > 0 {
         let (entry, entry_slots) = entry_at(host, from, slots, pages);
         let addr = slot(host, entry);
-        let len = bytes.min(PAGE);
+        let len = bytes.min(PAGE_SIZE);
         places.push(Piece::Run { addr, len })?;
         from = entry + 8;
         slots = entry_slots - 1;

@@ -5,8 +5,8 @@ ghost use Rattle.nv_mem.specs.declared.piece.Piece.{Piece};
 ghost use Rattle.nv_model.specs.Prp.{entry_fault, pages_of, slots_of};
 ghost use Rattle.nv_device.specs.Pages.{IsNextEntry, behind_reading, entries_reading, host_reading, in_host, spells};
 
-use crate::pages::{PAGE, SLOTS, pages_of, slot};
-use nv_mem::Host;
+use crate::pages::{SLOTS, pages_of, slot};
+use nv_mem::{Host, PAGE_SIZE};
 
 /// Whether PRP1 and PRP2 spell places for a transfer of `len` bytes.
 pub(crate) fn spells(host: &Host, prp1: u64, prp2: u64, len: u64) -> bool
@@ -14,7 +14,7 @@ pub(crate) fn spells(host: &Host, prp1: u64, prp2: u64, len: u64) -> bool
     requires most { len < 2 ^ 32 }
     ensures { result ≡ spells (host_reading host.now prp1 prp2 len) }
 {
-    let first = len.min(PAGE - prp1 % PAGE);
+    let first = len.min(PAGE_SIZE - prp1 % PAGE_SIZE);
     fits(host, 4, prp1, first) && behind_spells(host, prp2, len - first)
 }
 
@@ -26,9 +26,9 @@ fn behind_spells(host: &Host, prp2: u64, bytes: u64) -> bool
     let pages = pages_of(bytes);
     match pages {
         0 => true,
-        1 => fits(host, PAGE, prp2, bytes),
+        1 => fits(host, PAGE_SIZE, prp2, bytes),
         _ => {
-            let slots = (PAGE - prp2 % PAGE) / 8;
+            let slots = (PAGE_SIZE - prp2 % PAGE_SIZE) / 8;
             fits(host, 8, prp2, 8 * slots.min(pages)) && list_spells(host, prp2, pages, bytes)
         }
     }
@@ -45,7 +45,7 @@ fn list_spells(host: &Host, list: u64, pages: u64, bytes: u64) -> bool
     // The end of the host fits in 64 bits, and so does the place behind a slot.
     let _size = host.len();
     let mut from = list;
-    let mut slots = (PAGE - list % PAGE) / 8;
+    let mut slots = (PAGE_SIZE - list % PAGE_SIZE) / 8;
     let mut pages = pages;
     let mut bytes = bytes;
     while pages > 0 {
@@ -53,8 +53,8 @@ fn list_spells(host: &Host, list: u64, pages: u64, bytes: u64) -> bool
             return false;
         };
         let addr = slot(host, entry);
-        let len = bytes.min(PAGE);
-        if !fits(host, PAGE, addr, len) {
+        let len = bytes.min(PAGE_SIZE);
+        if !fits(host, PAGE_SIZE, addr, len) {
             return false;
         }
         from = entry + 8;
@@ -79,7 +79,7 @@ fn next_entry(host: &Host, from: u64, slots: u64, pages: u64) -> Option<(u64, u6
         return Some((from, slots));
     }
     let pointer = slot(host, from);
-    if fits(host, PAGE, pointer, 8 * SLOTS.min(pages)) {
+    if fits(host, PAGE_SIZE, pointer, 8 * SLOTS.min(pages)) {
         Some((pointer, SLOTS))
     } else {
         None

@@ -1,6 +1,6 @@
 -- The fields of the entry that `completion` builds
-use Rattle.std.proofs.Common.{ℕ, ◌+◌, ◌*◌, ◌^◌, ◌<◌, Bool, true, false, List, [], ◌∷◌, arith}
-use Rattle.nv_entry.specs.Layout.{FitDwords, bits}
+use Rattle.std.proofs.Common.{◌≡◌, ℕ, ◌+◌, ◌*◌, ◌^◌, ◌<◌, Bool, true, false, List, [], ◌∷◌, length, arith, refl}
+use Rattle.nv_entry.specs.Layout.{FitDwords, bits, bytes_of_dwords}
 use Rattle.nv_entry.specs.Dwords.{FitDwords-four, dword_back}
 use Rattle.nv_entry.specs.Status.{StatusField, bit}
 use Rattle.nv_entry.specs.Completion.{IsCompletion, completion}
@@ -39,3 +39,9 @@ IsCompletion-completion dw0 sqhd sqid cid phase st h0 hh hq hc ht hs =
       more = rw e3 (omega arith);
       do_not_retry = rw e3 (omega arith);
     }
+
+-- it has 16 bytes
+pub length-completion : (dw0 sqhd sqid cid : ℕ) (phase : Bool) (st : StatusField)
+    → length (completion dw0 sqhd sqid cid phase st) ≡ 16
+unfolding completion bytes_of_dwords
+length-completion dw0 sqhd sqid cid phase st = refl

@@ -1,5 +1,5 @@
 -- One command, judged and moved to its end
-use Rattle.std.proofs.Common.{◌≡◌, ℕ, Bool, true, false, List, [], refl, sym, subst, ap, length, Some, ◌∙◌}
+use Rattle.std.proofs.Common.{◌≡◌, ℕ, Bool, true, false, List, [], refl, sym, subst, ap, Some, ◌∙◌}
 use Rattle.nv_entry.specs.Status.{StatusField}
 use Rattle.nv_model.specs.Judge.{Work, Refuse, Go}
 use Rattle.nv_model.specs.Private.{AtWork, Ended, Moved, Private, moved_status, verdict_in, Taken, step, Bag, no_commands, Progress, ending, Shape}
@@ -10,10 +10,11 @@ use Rattle.nv_flat.specs.One.{IsOutcome, IsRun, newly_taken, private_of, shape_o
 use Rattle.nv_model.specs.Controller.{post}
 use Rattle.nv_model.proofs.Bags.{put-twice}
 use Rattle.nv_entry.specs.Completion.{completion}
+use Rattle.nv_entry.proofs.CompletionLemmas.{length-completion}
 use Rattle.nv_entry.specs.Submission.{cid_of}
 use Rattle.nv_model.specs.Memory.{byte_in, bytes_from, stored}
 use Rattle.nv_model.proofs.MemoryLemmas.{bytes_from-stored}
-use Rattle.nv_entry.specs.Layout.{bits, bytes_of_dwords}
+use Rattle.nv_entry.specs.Layout.{bits}
 use Rattle.std.specs.List.{slice_index_or}
 
 -- a command that is this far, alone
@@ -23,13 +24,7 @@ this_far-alone f entry t progress =
     ap (λ (b : Bag). let q : Private = record { memory = byte_in f.memory; disk = byte_of_block f.disk; kept = (λ lba. slice_index_or f.kept lba false); controller = serving; bag = b } in q)
     (put-twice no_commands 0 (Some t) (Some (record t { progress = progress })))
 
--- a completion has 16 bytes
-length-completion : (dw0 sqhd sqid cid : ℕ) (phase : Bool) (st : StatusField)
-    → length (completion dw0 sqhd sqid cid phase st) ≡ 16
-unfolding completion bytes_of_dwords
-length-completion dw0 sqhd sqid cid phase st = refl
-
--- and where it was stored, these are read back
+-- where a completion was stored, its 16 bytes are read back
 slot-holds : (memory : ℕ → ℕ) (dw0 sqhd sqid cid : ℕ) (phase : Bool) (st : StatusField)
     → bytes_from (stored memory 0 (completion dw0 sqhd sqid cid phase st)) 0 16 ≡ completion dw0 sqhd sqid cid phase st
 slot-holds memory dw0 sqhd sqid cid phase st =

@@ -1,25 +1,24 @@
 //! Lists of commands, read in the controller's own memory.
 
-ghost use Rattle.std.specs.Prelude.{◌≡◌, ◌<◌, ◌≤◌, IfOk, OnOk, length};
+ghost use Rattle.std.specs.Prelude.{◌≡◌, ◌<◌, ◌≤◌, IfOk, length};
 ghost use Rattle.nv_model.specs.Limits.{most_bytes};
 ghost use Rattle.nv_model.specs.Memory.{byte_in, bytes_from};
 ghost use Rattle.nv_model.specs.Transcript.{fed};
-ghost use Rattle.nv_sgl.specs.Parse.{dialogue_of};
+ghost use Rattle.nv_sgl.specs.Parse.{reading_of};
 ghost use Rattle.nv_model.specs.Want.{want_of};
 ghost use Rattle.nv_entry.specs.declared.data_pointer.DataPointer.TheVariants as pointer;
 ghost use Rattle.nv_prp.specs.Parse.{dialogue_of as prp_dialogue_of};
 ghost use Rattle.nv_flat.specs.Listed.{IsListed, IsPartThere, list_reading, reading_by};
 
 use crate::controller::FlatController;
-use bumpalo::Bump;
 use nv_entry::{DataPointer, Sqe, Status, StatusCode};
 use nv_judge::Need;
 use nv_mem::{Host, NoMemory, Places};
 use nv_model::Want;
 use nv_model::limits::MOST_DESCRIPTORS;
 use nv_prp::PrpParse;
-use nv_sgl::SglParse;
-use std::alloc::{Allocator, Global};
+use nv_sgl::PlacesParse;
+use std::alloc::Global;
 
 /// What a command's list says: it is refused, or where the bytes of the transfer lie.
 #[derive(Debug, Drop)]
@@ -30,9 +29,6 @@ pub(crate) enum Listed {
 
 /// The most parts in which a list is read: as many as an SGL has descriptors, since those of PRPs have fewer slots.
 const MOST_PARTS: u32 = MOST_DESCRIPTORS;
-
-/// How many bytes of memory are taken for the descriptors of a list at first.
-const FIRST_ROOM: usize = 4000;
 
 impl FlatController {
     /// Reads the list of a command, for the transfer that it needs.
@@ -71,9 +67,8 @@ impl FlatController {
     fn read_sgl(&self, alloc: Global, sqe: &Sqe, need: Need) -> Result<Listed, NoMemory>
         ensures { IfOk result (λ listed. IsListed listed (reading_by pointer.Sgl self.now sqe.now need)) }
     {
-        let heap = Bump::try_with_capacity(alloc, FIRST_ROOM)?;
-        let mut parse = SglParse::new(
-            &heap,
+        let mut parse = PlacesParse::new(
+            alloc,
             &self.map,
             sqe.sgl(),
             need.dest,
@@ -81,8 +76,8 @@ impl FlatController {
         )?;
         for _part in 0..MOST_PARTS {
             match parse.wants() {
-                Want::Read { addr, len } => feed_sgl(&self.memory, &mut parse, addr, len)?,
-                Want::Done => return Ok(Listed::Named(parse.places(alloc)?)),
+                Want::Read { addr, len } => parse = feed_sgl(&self.memory, parse, addr, len)?,
+                Want::Done => return Ok(Listed::Named(parse.into_places())),
                 Want::Fault(status) => return Ok(Listed::Refused(status)),
                 Want::TooLong => return Ok(Listed::Refused(StatusCode::InternalError.status())),
             }
@@ -93,17 +88,17 @@ impl FlatController {
 
 // Feeds a parse of an SGL the bytes that it wants.
 #[inline(always)]
-fn feed_sgl<A: Allocator + Clone>(
+fn feed_sgl<'a>(
     memory: &Host,
-    parse: &mut SglParse<A>,
+    parse: PlacesParse<'a>,
     addr: u64,
     len: u32,
-) -> Result<(), NoMemory>
-    requires wanted { want_of (dialogue_of parse.old) ≡ Want.Read addr len }
+) -> Result<PlacesParse<'a>, NoMemory>
+    requires wanted { want_of (reading_of parse) ≡ Want.Read addr len }
     requires there { IsPartThere memory.now addr len }
-    ensures { OnOk result (dialogue_of parse.new ≡ fed (dialogue_of parse.old) (bytes_from (byte_in memory.now) addr len)) }
+    ensures { IfOk result (λ more. reading_of more ≡ fed (reading_of parse.entry) (bytes_from (byte_in memory.now) addr len)) }
 {
-    parse.feed(memory.bytes(addr, u64::from(len)))
+    parse.fed(memory.bytes(addr, u64::from(len)))
 }
 
 // Feeds a parse of PRPs the bytes that it wants.

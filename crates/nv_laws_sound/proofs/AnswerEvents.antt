@@ -5,6 +5,7 @@ use Rattle.std.proofs.lemmas.Bool.{cases_eq, cases_lt, eqb-false}
 use Rattle.nv_entry.specs.Completion.{cid_of as completed_cid, completion}
 use Rattle.nv_entry.specs.Layout.{bits, bytes_of_dwords, dword, number_at}
 use Rattle.nv_entry.specs.Status.{StatusField}
+use Rattle.nv_entry.proofs.CompletionLemmas.{length-completion}
 use Rattle.nv_model.specs.Limits.{page}
 use Rattle.nv_model.specs.Memory.{bytes_from, stored}
 use Rattle.nv_model.specs.Queue.{cqe_size, next_slot}
@@ -36,16 +37,12 @@ pub completion-cid : (dw0 sqhd sqid cid : ℕ) (phase : Bool) (st : StatusField)
 unfolding completion bits dword number_at bytes_of_dwords
 completion-cid dw0 sqhd sqid cid phase st below = omega arith
 
-completion-length : (dw0 sqhd sqid cid : ℕ) (phase : Bool) (st : StatusField) → length (completion dw0 sqhd sqid cid phase st) ≡ cqe_size
-unfolding completion bytes_of_dwords
-completion-length dw0 sqhd sqid cid phase st = refl
-
 -- ---- the completion in its slot
 
 module _ (geometry : Geometry) (lanes lane : ℕ) (host : ℕ → ℕ) (d : DeviceLane) (bytes : List ℕ) (sized : length bytes ≡ cqe_size)
     (below : lane < lanes) (posted_below : d.posted < ring_size) where
   -- no other byte of the area changes
-  written-same : (from to : ℕ) → (to ≤ completion_slot geometry.mediator lane d.posted) ⊎ (completion_slot geometry.mediator lane (d.posted + 1) ≤ from)
+  pub written-same : (from to : ℕ) → (to ≤ completion_slot geometry.mediator lane d.posted) ⊎ (completion_slot geometry.mediator lane (d.posted + 1) ≤ from)
       → SameBetween host (stored host (completion_slot geometry.mediator lane d.posted) bytes) from to
   written-same from to away = same-stored host from to (completion_slot geometry.mediator lane d.posted) bytes (beyond away)
     where
@@ -55,7 +52,7 @@ module _ (geometry : Geometry) (lanes lane : ℕ) (host : ℕ → ℕ) (d : Devi
       beyond (inr behind) = inr (omega (arith, behind, sized))
 
   -- no other lane does
-  written-elsewhere : (at : ℕ) → (at == lane) ≡ false → at < lanes
+  pub written-elsewhere : (at : ℕ) → (at == lane) ≡ false → at < lanes
       → SameInLane host (stored host (completion_slot geometry.mediator lane d.posted) bytes) geometry.mediator at
   written-elsewhere at apart at_below =
       written-same (lane_start geometry.mediator at) (lane_start geometry.mediator (at + 1)) (by_order (cases_lt at lane) (cases_eq at lane))
@@ -68,7 +65,7 @@ module _ (geometry : Geometry) (lanes lane : ℕ) (host : ℕ → ℕ) (d : Devi
       by_order (inr most) (inr differ) = inr (omega (arith, most, differ, posted_below))
 
   -- a tag that does not stand in that slot is undisturbed
-  answer-undisturbed : (tag head : ℕ) (helds : List (Option Held)) (phase : Bool) (t : Tag) → tag < tag_count → head < ring_size → d.head < ring_size
+  pub answer-undisturbed : (tag head : ℕ) (helds : List (Option Held)) (phase : Bool) (t : Tag) → tag < tag_count → head < ring_size → d.head < ring_size
       → d.tail < ring_size → far head d.posted < 64
       → IsUndisturbed geometry.mediator lane tag host (stored host (completion_slot geometry.mediator lane d.posted) bytes) head head d
       (record d { posted = next_slot ring_size d.posted; phase = phase; held = helds }) t
@@ -108,7 +105,7 @@ answered-lane geometry lanes lane tag host st l d h command plan aligned below i
     let many = is.answered_count in
     let room : far l.head d.posted < 64 = omega (arith, waiting, many, tags) in
     let bytes = completion 0 d.head (queue_pair lane) tag d.phase st in
-    let sized = completion-length 0 d.head (queue_pair lane) tag d.phase st in
+    let sized = length-completion 0 d.head (queue_pair lane) tag d.phase st in
     let slot = completion_slot geometry.mediator lane d.posted in
     let memory = stored host slot bytes in
     let now = completion_posted tag d in
@@ -184,7 +181,7 @@ module _ (host_bytes : ℕ) (geometry : Geometry) where
       subst (IsConsistent geometry)
       (sym (stands-is w lane tag l d holds.command holds.plan InDevice (Answered d.posted) memory (completion_posted tag) at there flies))
       (world-lane geometry w lane memory (tag_changed tag (Flying holds.command holds.plan (Answered d.posted)) l) (completion_posted tag d) laid.pages
-      (written-elsewhere geometry (length w.lanes) lane w.host d bytes (completion-length 0 d.head (queue_pair lane) tag d.phase st) below before.positions.posted) behind is)
+      (written-elsewhere geometry (length w.lanes) lane w.host d bytes (length-completion 0 d.head (queue_pair lane) tag d.phase st) below before.positions.posted) behind is)
 
   -- where the device holds a command
   held-posted : (w : World) (lane slot : ℕ) (st : StatusField) (d : DeviceLane) (h : Held) → IsLaidOut host_bytes (length w.lanes) geometry

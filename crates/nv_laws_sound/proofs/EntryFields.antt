@@ -4,7 +4,7 @@ use Rattle.nv_entry.specs.Dwords.{dword-bytes_of_dwords_suc, dword-bytes_of_dwor
 use Rattle.nv_entry.specs.Layout.{bits, bytes_of_dwords, dword, number_at, qword}
 use Rattle.nv_entry.specs.Status.{bit}
 use Rattle.nv_entry.specs.Submission.{cid_of, deallocate_of, nlb_of, nr_of, opcode_of, prp1_of, prp2_of, slba_of}
-use Rattle.nv_model.specs.Judge.{Clear, Form, Keep, Manage, Transfer, form_transfer_len, is_fua}
+use Rattle.nv_model.specs.Judge.{Clear, Form, Keep, Manage, Transfer, form_has_blocks, form_transfer_len, is_fua}
 use Rattle.nv_ns.specs.BlockRange.{Extent, block_at}
 use Rattle.nv_prp.specs.declared.prps.Prps.{Prps}
 use Rattle.nv_world_model.specs.Area.{bounce_page, entry_of, form_dwords, list_page, physical_entry, prps_of, tag_count, two_dwords}
@@ -54,7 +54,7 @@ entry-cid plan guest entry mediator lane tag below =
 -- ---- the pages that it names
 
 -- two dwords that are a number are read back
-qword-there : (dwords : List ℕ) (i number : ℕ) → slice_get dwords i ≡ Some (number % 2 ^ 32) → slice_get dwords (i + 1) ≡ Some (number / 2 ^ 32)
+pub qword-there : (dwords : List ℕ) (i number : ℕ) → slice_get dwords i ≡ Some (number % 2 ^ 32) → slice_get dwords (i + 1) ≡ Some (number / 2 ^ 32)
     → number < 2 ^ 64 → qword (bytes_of_dwords dwords) i ≡ number
 unfolding qword number_at
 qword-there dwords i number low high fits =
@@ -133,3 +133,19 @@ form-back Manage opcode tag prps extent entry =
     let same = ranges-back opcode tag prps entry (4 * deallocate_of entry) 0 in
     (ap (λ n. 16 * (n + 1)) same, ap (λ n. n + 1) same)
 form-back Keep opcode tag prps extent entry = (refl, refl)
+
+-- ---- the blocks that it names
+
+-- dwords 10 and 11 of an entry that ends in zeros
+entry-blocks : (opcode tag : ℕ) (prps : Prps) (at c : ℕ) → at < 2 ^ 64 → slba_of (physical_entry opcode tag prps (two_dwords at ++ c ∷ [])) ≡ at
+unfolding physical_entry
+entry-blocks opcode tag prps at c fits = qword-there _ 10 at refl refl fits
+
+-- a command of that form that has blocks names them where they are on the disk
+pub form-start : (form : Form) (opcode tag : ℕ) (prps : Prps) (extent : Extent) (entry : List ℕ) → form_has_blocks form ≡ true
+    → block_at extent (slba_of entry) < 2 ^ 64
+    → slba_of (physical_entry opcode tag prps (form_dwords form extent entry)) ≡ block_at extent (slba_of entry)
+form-start (Transfer dest) opcode tag prps extent entry has fits = entry-blocks opcode tag prps (block_at extent (slba_of entry)) _ fits
+form-start Clear opcode tag prps extent entry has fits = entry-blocks opcode tag prps (block_at extent (slba_of entry)) _ fits
+form-start Manage opcode tag prps extent entry has fits = cc
+form-start Keep opcode tag prps extent entry has fits = cc

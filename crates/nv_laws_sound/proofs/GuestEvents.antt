@@ -29,6 +29,19 @@ use Rattle.nv_laws_sound.proofs.Lists.{slice_get-there}
 use Rattle.nv_laws_sound.proofs.Retags.{is-at, retagged, tag-is}
 use Rattle.nv_laws_sound.proofs.Walks.{either, guest-walk, lane-walk}
 
+-- the tag that is found is free
+pub free-found : (tags : List Tag) (tag : ℕ) → free_tag tags ≡ Some tag → slice_get tags tag ≡ Some Free
+free-found tags tag found =
+    let low = free_tag-lowest tags tag found in
+    let there = slice_get-there tags tag low.there in
+    there.1 ∙ ap (λ t. Some t) (is_free-free there.0 (low.free there.0 there.1))
+  where
+    is_free-free : (t : Tag) → is_free t ≡ true → t ≡ Free
+    is_free-free Free e = refl
+    is_free-free (Taken command reads) e = cc
+    is_free-free (Flying command plan standing) e = cc
+    is_free-free (Ended command st plan) e = cc
+
 module _ (host_bytes : ℕ) (geometry : Geometry) where
   -- a guest's memory is put back
   pub memory-consistent : (w : World) (o : Owner) (memory : ℕ → ℕ) → IsLaidOut host_bytes (length w.lanes) geometry
@@ -105,19 +118,6 @@ module _ (host_bytes : ℕ) (geometry : Geometry) where
       (λ o found. admin-found w o laid is (owner_of-is geometry w number o found))
 
   -- ---- takes
-
-  -- the tag that is found is free
-  free-found : (tags : List Tag) (tag : ℕ) → free_tag tags ≡ Some tag → slice_get tags tag ≡ Some Free
-  free-found tags tag found =
-      let low = free_tag-lowest tags tag found in
-      let there = slice_get-there tags tag low.there in
-      there.1 ∙ ap (λ t. Some t) (is_free-free there.0 (low.free there.0 there.1))
-    where
-      is_free-free : (t : Tag) → is_free t ≡ true → t ≡ Free
-      is_free-free Free e = refl
-      is_free-free (Taken command reads) e = cc
-      is_free-free (Flying command plan standing) e = cc
-      is_free-free (Ended command st plan) e = cc
 
   taken_to-consistent : (w : World) (o : Owner) (addr queue lane tag : ℕ) (l : Lane) → geometry.mediator % page ≡ 0
       → IsConsistent geometry w → IsOwner geometry w o → slice_get w.lanes lane ≡ Some l → free_tag l.tags ≡ Some tag

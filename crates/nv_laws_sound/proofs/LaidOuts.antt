@@ -129,6 +129,7 @@ guest-given s g fits sound =
 -- sizes that fit
 record AreSizes (s : SetUp) : Type 0 where
   pub few : s.host_bytes ≤ most_host_bytes
+  pub few_blocks : s.geometry.disk_blocks ≤ most_disk_blocks
   pub pages : s.geometry.mediator % page ≡ 0
   pub area : s.geometry.mediator + area_bytes s ≤ s.host_bytes
   pub guests : list_all (guest_fits s) s.geometry.guests ≡ true
@@ -141,6 +142,7 @@ sizes-of s fit =
     let most = and-true (nat_le page s.host_bytes) (nat_le s.host_bytes most_host_bytes) each.1.0 in
     record {
       few = leb-true s.host_bytes most_host_bytes most.1;
+      few_blocks = leb-true s.geometry.disk_blocks most_disk_blocks (and-true (nat_le 1 s.geometry.disk_blocks) (nat_le s.geometry.disk_blocks most_disk_blocks) whole.1.0).1;
       pages = eqb-true (s.geometry.mediator % page) 0 each.1.1.1.0;
       area = leb-true (s.geometry.mediator + area_bytes s) s.host_bytes each.1.1.1.1;
       guests = whole.1.1;
@@ -181,6 +183,7 @@ laid-out s none sound =
     λ number guest at. guest-given s guest (all-one (guest_fits s) s.geometry.guests number guest sizes.guests at) (sound number guest at) in
     record {
       few = omega (arith, few);
+      few_blocks = sizes.few_blocks;
       pages = sizes.pages;
       area = area;
       given = given;

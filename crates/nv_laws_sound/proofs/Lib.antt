@@ -21,3 +21,6 @@ pub mod SubmitEvents
 pub mod LaidOuts
 pub mod Steps
 pub mod Slots
+pub mod Commands
+pub mod CountedEvents
+pub mod CountedRuns

@@ -85,7 +85,7 @@ module _ (host_bytes : ℕ) (geometry : Geometry) (lanes lane tag : ℕ) (laid :
     (planned : IsPlanned guest entry plan) (h : Held) (host : ℕ → ℕ) (is : IsInDevice geometry guest entry plan lane tag host h)
     (number : ℕ) (disk : ℕ → ℕ → ℕ) (kept : ℕ → Bool) where
   -- what lies in the area, but not in the tag's bounce pages, is as it was
-  area-same : (from to : ℕ) → geometry.mediator ≤ from → to ≤ lane_start geometry.mediator lanes
+  pub area-same : (from to : ℕ) → geometry.mediator ≤ from → to ≤ lane_start geometry.mediator lanes
       → (to ≤ bounce_page geometry.mediator lane tag) ⊎ (bounce_page geometry.mediator lane tag + most_bytes ≤ from)
       → SameBetween host (device_unit number geometry.disk_blocks h host disk kept).memory from to
   area-same from to low high away at over under =
@@ -99,7 +99,7 @@ module _ (host_bytes : ℕ) (geometry : Geometry) (lanes lane tag : ℕ) (laid :
       beyond (inr behind) = inr (omega (arith, behind, over))
 
   -- the command's opcode
-  held-opcode : io_opcode (opcode_of h.entry) ≡ Some planned.work.opcode
+  pub held-opcode : io_opcode (opcode_of h.entry) ≡ Some planned.work.opcode
   held-opcode =
       ap (λ e. io_opcode (opcode_of e)) is.entry_is ∙ ap io_opcode (entry-opcode plan guest entry geometry.mediator lane tag tag_below)
       ∙ (end-sound (mapped (regions_of guest)) guest.limit (shape_of guest).blocks entry planned.work planned.verdict).opcode
@@ -129,7 +129,7 @@ module _ (host_bytes : ℕ) (geometry : Geometry) (lanes lane tag : ℕ) (laid :
           (sym (unit-same number geometry.disk_blocks h host disk kept planned.work.opcode held-opcode other)) is.pages.ranges
 
   -- another tag's pages, and slots of the rings, are as they were
-  moved-undisturbed : (other head : ℕ) (d : DeviceLane) (held : List (Option Held)) (t : Tag) → (other == tag) ≡ false → other < tag_count
+  pub moved-undisturbed : (other head : ℕ) (d : DeviceLane) (held : List (Option Held)) (t : Tag) → (other == tag) ≡ false → other < tag_count
       → IsUndisturbed geometry.mediator lane other host (device_unit number geometry.disk_blocks h host disk kept).memory head head d (record d { held = held }) t
   moved-undisturbed other head d held t apart other_below =
       record {
@@ -156,7 +156,7 @@ module _ (host_bytes : ℕ) (geometry : Geometry) (lanes lane tag : ℕ) (laid :
           more (inr differ) most = omega (arith, most, differ)
 
   -- and so is each other lane
-  moved-elsewhere : (at : ℕ) → (at == lane) ≡ false → at < lanes
+  pub moved-elsewhere : (at : ℕ) → (at == lane) ≡ false → at < lanes
       → SameInLane host (device_unit number geometry.disk_blocks h host disk kept).memory geometry.mediator at
   moved-elsewhere at apart at_below =
       area-same (lane_start geometry.mediator at) (lane_start geometry.mediator (at + 1)) (omega arith) (omega (arith, at_below)) (lane_away (cases_lt at lane))

@@ -104,7 +104,7 @@ listed-fewer (entry ∷ []) = omega arith
 listed-fewer (entry ∷ next ∷ entries) = omega arith
 
 -- a list has 32 entries at most
-used-few : (list : ℕ) (addresses : List ℕ) → (fit_prp addresses ≡ true) ⊎ (addresses ≡ []) → length addresses ≤ most_bytes
+pub used-few : (list : ℕ) (addresses : List ℕ) → (fit_prp addresses ≡ true) ⊎ (addresses ≡ []) → length addresses ≤ most_bytes
     → (built list addresses).used ≤ 32
 unfolding built met_more
 used-few list [] fit few = omega arith

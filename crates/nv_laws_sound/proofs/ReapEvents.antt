@@ -129,7 +129,7 @@ module _ (geometry : Geometry) (lane : ℕ) (host : ℕ → ℕ) (l : Lane) (d :
 -- ---- the event
 
 -- a tag that was handed on ends, and its lane has read a completion
-ended-is : (w : World) (lane tag : ℕ) (l : Lane) (command : Command) (plan : Plan) (before : Standing) (st : StatusField)
+pub ended-is : (w : World) (lane tag : ℕ) (l : Lane) (command : Command) (plan : Plan) (before : Standing) (st : StatusField)
     → slice_get w.lanes lane ≡ Some l → slice_get l.tags tag ≡ Some (Flying command plan before)
     → ended_at (tag_of w lane tag) st lane tag (with_lane lane completion_read w)
     ≡ record w { lanes = set w.lanes lane (tag_changed tag (Ended command (passed_on st) (Some plan)) (completion_read l)) }

@@ -49,7 +49,7 @@ module _ (geometry : Geometry) (lane : ℕ) (host : ℕ → ℕ) (l : Lane) (d :
       not-full l.head d.posted is.positions.read is.positions.posted (omega (arith, fewer, many, tags))
 
   -- what the device holds under a tag's number
-  held-under : (tag : ℕ) (t : Tag) → slice_get l.tags tag ≡ Some t → (held : Option Held) × (slice_get d.held tag ≡ Some held)
+  pub held-under : (tag : ℕ) (t : Tag) → slice_get l.tags tag ≡ Some t → (held : Option Held) × (slice_get d.held tag ≡ Some held)
   held-under tag t at =
       let among = slice_get-below l.tags tag t at in
       let tags = is.positions.tags in

@@ -282,7 +282,7 @@ module _ (host_bytes lanes : ℕ) (geometry : Geometry) (laid : IsLaidOut host_b
 -- ---- the event
 
 -- the world behind it, lane by lane
-submitted-is : (w : World) (mediator lane tag : ℕ) (command : Command) (plan : Plan) (o : Owner) (l : Lane) (d : DeviceLane)
+pub submitted-is : (w : World) (mediator lane tag : ℕ) (command : Command) (plan : Plan) (o : Owner) (l : Lane) (d : DeviceLane)
     → slice_get w.lanes lane ≡ Some l → slice_get w.device lane ≡ Some d
     → submitted mediator lane tag command plan o d w
     ≡ record w {

@@ -163,30 +163,46 @@ module _ (host_bytes lanes : ℕ) (geometry : Geometry) (laid : IsLaidOut host_b
 
 -- ---- the event
 
+-- the world behind it, lane by lane: what holds of the one holds of the other
+pub took-world : (P : World → Type 0) (geometry : Geometry) (w : World) (lane tag : ℕ) (l : Lane) (d : DeviceLane) (held : Option Held) (t : Tag)
+    → (a : IsQueuedAt geometry lane tag d.head w.host held t) → tag < tag_count
+    → slice_get w.lanes lane ≡ Some l → slice_get w.device lane ≡ Some d → slice_get l.tags tag ≡ Some t
+    → P (record w {
+      lanes = set w.lanes lane (tag_changed tag (Flying a.command a.plan InDevice) l);
+      device = set w.device lane (record d {
+        head = next_slot ring_size d.head;
+        held = set d.held tag (Some (held_of (entry_of a.plan a.guest a.command.entry geometry.mediator lane tag) w.host));
+      });
+    })
+    → P (device_took lane (front_entry geometry.mediator lane d w.host) w)
+unfolding device_took
+took-world P geometry w lane tag l d held t a below at there found holds =
+    let flies : slice_get l.tags tag ≡ Some (Flying a.command a.plan (Queued d.head)) = found ∙ ap (λ x. Some x) a.flies in
+    let entry = entry_of a.plan a.guest a.command.entry geometry.mediator lane tag in
+    let cid : cid_of entry ≡ tag = entry-cid a.plan a.guest a.command.entry geometry.mediator lane tag below in
+    let change : DeviceLane → DeviceLane = λ x. record x { head = next_slot ring_size x.head; held = set x.held tag (Some (held_of entry w.host)) } in
+    let by_tag : P (stands InDevice lane tag (with_device lane change w)) =
+    subst P (sym (stands-is w lane tag l d a.command a.plan (Queued d.head) InDevice w.host change at there flies)) holds in
+    let by_cid : P (stands InDevice lane (cid_of entry) (with_device lane (entry_taken entry w.host) w)) =
+    subst (λ n. P (stands InDevice lane n (with_device lane (λ x. record x { head = next_slot ring_size x.head; held = set x.held n (Some (held_of entry w.host)) }) w)))
+    (sym cid) by_tag in
+    subst (λ e. P (stands InDevice lane (cid_of e) (with_device lane (entry_taken e w.host) w))) (sym a.entry_is) by_cid
+
 took-consistent : (host_bytes : ℕ) (geometry : Geometry) (w : World) (lane tag : ℕ) (l : Lane) (d : DeviceLane) (held : Option Held) (t : Tag)
     → IsLaidOut host_bytes (length w.lanes) geometry → IsConsistent geometry w → slice_get w.lanes lane ≡ Some l → slice_get w.device lane ≡ Some d
     → (d.head ≡ d.tail → ⊥) → slice_get l.tags tag ≡ Some t → slice_get d.held tag ≡ Some held → tag_stands (is_queued_at d.head) t ≡ true
     → IsConsistent geometry (device_took lane (front_entry geometry.mediator lane d w.host) w)
-unfolding device_took
 took-consistent host_bytes geometry w lane tag l d held t laid is at there waits found under next =
     let before = is.lanes lane l d at there in
     let below = slice_get-below w.lanes lane l at in
     let a = queued-at geometry lane tag d.head w.host l.head d held t (before.tags tag t held found under) next in
-    let flies : slice_get l.tags tag ≡ Some (Flying a.command a.plan (Queued d.head)) = found ∙ ap (λ x. Some x) a.flies in
     let tags = before.positions.tags in
     let among = slice_get-below l.tags tag t found in
     let entry = entry_of a.plan a.guest a.command.entry geometry.mediator lane tag in
-    let cid : cid_of entry ≡ tag = entry-cid a.plan a.guest a.command.entry geometry.mediator lane tag (omega (arith, tags, among)) in
     let behind = lane-taken host_bytes (length w.lanes) geometry laid lane below w.host l d before waits tag t held found under a in
     let now = record d { head = next_slot ring_size d.head; held = set d.held tag (Some (held_of entry w.host)) } in
-    let whole = world-lane geometry w lane w.host (tag_changed tag (Flying a.command a.plan InDevice) l) now laid.pages (λ x apart b y low high. refl) behind is in
-    let change : DeviceLane → DeviceLane = λ x. record x { head = next_slot ring_size x.head; held = set x.held tag (Some (held_of entry w.host)) } in
-    let by_tag : IsConsistent geometry (stands InDevice lane tag (with_device lane change w)) =
-    subst (IsConsistent geometry) (sym (stands-is w lane tag l d a.command a.plan (Queued d.head) InDevice w.host change at there flies)) whole in
-    let by_cid : IsConsistent geometry (stands InDevice lane (cid_of entry) (with_device lane (entry_taken entry w.host) w)) =
-    subst (λ n. IsConsistent geometry (stands InDevice lane n (with_device lane (λ x. record x { head = next_slot ring_size x.head; held = set x.held n (Some (held_of entry w.host)) }) w)))
-    (sym cid) by_tag in
-    subst (λ e. IsConsistent geometry (stands InDevice lane (cid_of e) (with_device lane (entry_taken e w.host) w))) (sym a.entry_is) by_cid
+    took-world (IsConsistent geometry) geometry w lane tag l d held t a (omega (arith, tags, among)) at there found
+    (world-lane geometry w lane w.host (tag_changed tag (Flying a.command a.plan InDevice) l) now laid.pages (λ x apart b y low high. refl) behind is)
 
 pub device_takes-consistent : (host_bytes : ℕ) (geometry : Geometry) (w : World) (lane : ℕ) → IsLaidOut host_bytes (length w.lanes) geometry
     → IsConsistent geometry w → IsConsistent geometry (step geometry (event.DevTake lane) w).world

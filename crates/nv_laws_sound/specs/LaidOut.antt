@@ -5,6 +5,7 @@ use Rattle.nv_mem.specs.GuestMap.{IsSound, guest_of}
 use Rattle.nv_model.specs.Limits.{page}
 use Rattle.nv_world_model.specs.Area.{lane_start}
 use Rattle.nv_world_model.specs.Geometry.{Geometry, Guest, regions_of}
+use Rattle.nv_world_model.specs.SetUp.{most_disk_blocks}
 
 -- a guest's map is sound and made for this host, it has blocks, and they are on the disk
 pub record IsGiven (host_bytes disk_blocks : ℕ) (guest : Guest) : Type 0 where
@@ -21,6 +22,7 @@ pub record AreApart (g h : Guest) : Type 0 where
 -- all of it, with so many lanes in a host of that length
 pub record IsLaidOut (host_bytes lanes : ℕ) (geometry : Geometry) : Type 0 where
   pub few : host_bytes ≤ 2 ^ 64
+  pub few_blocks : geometry.disk_blocks ≤ most_disk_blocks
   pub pages : geometry.mediator % page ≡ 0
   pub area : lane_start geometry.mediator lanes ≤ host_bytes
   pub given : (number : ℕ) (guest : Guest) → slice_get geometry.guests number ≡ Some guest

@@ -1,3 +1,4 @@
 pub mod LaidOut
 pub mod Area
 pub mod Consistent
+pub mod Counted

@@ -7,18 +7,19 @@ use Rattle.nv_model.specs.Dialogue.{Dialogue, End, Ask, asked, in_memory}
 use Rattle.nv_model.specs.Transcript.{ReadDone, Settled, Wanted, fed, first_read, in_transcript, met_by, part}
 use Rattle.nv_entry.specs.Layout.{bits}
 use Rattle.nv_entry.specs.Opcode.{io_opcode}
-use Rattle.nv_entry.specs.Submission.{cdw_of, fuse_of, nr_of, opcode_of}
+use Rattle.nv_entry.specs.Submission.{cdw_of, fuse_of, nr_of, opcode_of, slba_of}
+use Rattle.nv_ns.specs.BlockRange.{in_namespace}
 use Rattle.nv_entry.specs.declared.opcode.IoOpcode.{IoOpcode}
 use Rattle.nv_entry.specs.declared.status_code.StatusCode.{StatusCode}
 use Rattle.nv_entry.specs.declared.status_code.StatusCode.TheVariants.{InvalidField}
-use Rattle.nv_model.specs.Judge.{Form, Transfer, Clear, Manage, Keep, Work, Go, count_of, field_refusal, form_has_blocks, form_has_buffer, form_of, form_transfer_len, judge, judge_fields, refusal_by_opcode, transfer_len}
+use Rattle.nv_model.specs.Judge.{Form, Transfer, Clear, Manage, Keep, Work, Go, count_of, field_refusal, form_has_blocks, form_has_buffer, form_of, form_transfer_len, has_blocks, judge, judge_fields, refusal_by_opcode, transfer_len}
 use Rattle.nv_model.specs.Limits.{most_blocks, most_bytes}
 use Rattle.nv_model.specs.Laws.{still_wanted}
 use Rattle.nv_model.specs.Parts.{AsksInParts, UsesUp, in_hand}
 use Rattle.nv_model.specs.Endings.{IsPartFor, MayAsk, MayEndIn}
-use Rattle.nv_model.proofs.Endings.{EndsIn}
+use Rattle.nv_model.proofs.Endings.{EndsIn, and-false, not-false}
 use Rattle.nv_model.proofs.Asking.{AsksIn, IsMappedFrom}
-use Rattle.nv_model.proofs.Judged.{IfGo, IsSoundWork, judge-sound, refusal_by_opcode-few}
+use Rattle.nv_model.proofs.Judged.{IfGo, IsSoundWork, judge-sound, refusal_by_opcode-few, refusal_by_opcode-none}
 use Rattle.nv_model.proofs.Shown.{first_read-length, in_hand-some, length-bytes_from}
 
 -- ---- all ends and questions
@@ -228,3 +229,15 @@ end-short mapped limit blocks entry work may =
     let is = (end-sound mapped limit blocks entry work may).opcode in
     let none = not-refused-by (io_opcode (opcode_of entry)) blocks entry work.opcode is (fuse_of entry == 0) fields in
     short-by (form_of work.opcode) entry (refusal_by_opcode-few blocks entry work.opcode none)
+
+-- and its range of blocks lies in the namespace
+pub end-within : (mapped : ℕ → Bool) (limit blocks : ℕ) (entry : List ℕ) (work : Work)
+    → MayEndIn (judge mapped limit blocks entry) (Go work) → has_blocks work.opcode ≡ true
+    → in_namespace (slba_of entry) (count_of entry) blocks ≡ true
+unfolding judge
+end-within mapped limit blocks entry work may has =
+    let fields = not-refused (field_refusal blocks entry) mapped limit blocks entry work may in
+    let is = (end-sound mapped limit blocks entry work may).opcode in
+    let none = not-refused-by (io_opcode (opcode_of entry)) blocks entry work.opcode is (fuse_of entry == 0) fields in
+    not-false (in_namespace (slba_of entry) (count_of entry) blocks)
+    (and-false (has_blocks work.opcode) (not (in_namespace (slba_of entry) (count_of entry) blocks)) (refusal_by_opcode-none blocks entry work.opcode none) has)

@@ -161,7 +161,7 @@ refusal_by_opcode-few blocks entry opcode none =
     (first_failing-none (has_buffer opcode && has_blocks opcode && nat_lt most_blocks (count_of entry)) InvalidField range behind_pointer).0
 
 -- and the range of blocks in the namespace
-refusal_by_opcode-none : (blocks : ℕ) (entry : List ℕ) (opcode : IoOpcode)
+pub refusal_by_opcode-none : (blocks : ℕ) (entry : List ℕ) (opcode : IoOpcode)
     → refusal_by_opcode blocks entry (Some opcode) ≡ None
     → (has_blocks opcode && not (in_namespace (slba_of entry) (count_of entry) blocks)) ≡ false
 refusal_by_opcode-none blocks entry opcode none =

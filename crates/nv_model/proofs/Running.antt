@@ -53,7 +53,7 @@ put-of_io bag name member each there at =
 -- ---- what keeps a controller and a bag consistent
 
 -- a change of the controller alone that takes and completes nothing
-behind-running : (c d : Controller) (bag : Bag) → IsConsistent c bag → IsBehind c d → IsConsistent d bag
+pub behind-running : (c d : Controller) (bag : Bag) → IsConsistent c bag → IsBehind c d → IsConsistent d bag
 behind-running c d bag was behind =
     record {
       counted = subst (λ (taken : List ℕ). AreCounted taken bag) (sym behind.1) was.counted;
@@ -73,7 +73,7 @@ progress-running c bag name t progress was is =
     }
 
 -- a command is taken
-took-running : (c : Controller) (bag : Bag) (queue name addr : ℕ) (entry : List ℕ) → IsConsistent c bag → 0 < queue
+pub took-running : (c : Controller) (bag : Bag) (queue name addr : ℕ) (entry : List ℕ) → IsConsistent c bag → 0 < queue
     → bag name ≡ None → front c queue ≡ Some addr
     → IsConsistent (took c queue) (put bag name (Some (record { queue = queue; entry = entry; progress = Unjudged })))
 took-running c bag queue name addr entry was io none found =
@@ -91,7 +91,7 @@ took-running c bag queue name addr entry was io none found =
     }
 
 -- a command leaves
-left-running : (c d : Controller) (bag : Bag) (name : ℕ) (t : Taken) → IsConsistent c bag → bag name ≡ Some t
+pub left-running : (c d : Controller) (bag : Bag) (name : ℕ) (t : Taken) → IsConsistent c bag → bag name ≡ Some t
     → IsTogether d → d.taken ≡ taken_less c t.queue
     → IsConsistent d (put bag name None)
 left-running c d bag name t was is together taken =
@@ -118,7 +118,7 @@ module _ (shape : Shape) where
   register_replied-running None p was = was
   register_replied-running (Some value) p was = was
 
-  acted-running : (a : Act) (p : Private) → IsRunning p → IsRunning (acted shape a p).state
+  pub acted-running : (a : Act) (p : Private) → IsRunning p → IsRunning (acted shape a p).state
   acted-running (act.Store addr bytes) p was =
       by_test (λ (a : Acted). IsRunning a.state) (everywhere shape.mapped addr (length bytes)) _ _ (λ _. was) (λ _. was)
   acted-running (act.Load addr len) p was =

@@ -21,7 +21,7 @@ unfolding stored
 stored-elsewhere m at byte addr other = grind (arith, nat_tests)
 
 -- bytes scattered to other places
-scattered-elsewhere : (m : ℕ → ℕ) (places : List Place) (bytes : List ℕ) (addr : ℕ) → All (IsAnother (At addr)) places
+pub scattered-elsewhere : (m : ℕ → ℕ) (places : List Place) (bytes : List ℕ) (addr : ℕ) → All (IsAnother (At addr)) places
     → scattered m places bytes addr ≡ m addr
 unfolding scattered
 scattered-elsewhere m [] bytes addr each = refl

@@ -11,7 +11,7 @@ use Rattle.nv_model.specs.Dialogue.{Dialogue}
 use Rattle.nv_model.specs.Reading.{Reading, unless_faulty}
 use Rattle.nv_model.specs.Sgl.{Array, array_by, fault_by, pieces_by, read_array, read_descriptor}
 use Rattle.nv_sgl.specs.Chain.{pieces_of}
-use Rattle.nv_sgl.specs.Cursor.{array_at, is_asking, reading_from, IsInRange, ReadsPart, StandsBehind}
+use Rattle.nv_sgl.specs.Cursor.{array_at, is_asking, reading_from, IsInRange, NamesPart, ReadsPart, StandsBehind}
 use Rattle.nv_model.specs.Transcript.{fed, units_fed}
 use Rattle.nv_sgl.specs.declared.cursor.Cursor.{Cursor}
 use Rattle.nv_model.proofs.Feedings.{fed-nil, taken-nil}
@@ -192,3 +192,56 @@ Progress-next mapped dest start bytes those now rest these skipped next d more n
     let P : List ℕ → Type 0 = λ l. Progress mapped dest start bytes those next l news in
     let Q : List (List ℕ) → Type 0 = λ l. Progress mapped dest start bytes those next (drop 16 rest) l in
     subst P (sym is_rest) (subst Q (sym news_first) (Progress-step mapped dest start bytes those now rest these next progress asking some behind_first in_range))
+
+-- ---- the same where the pieces alone are kept
+
+-- how far a part was read
+pub record NamesSoFar (mapped : ℕ → Bool) (dest : Bool) (start : Cursor) (bytes : List ℕ) (those : List Piece) (now : Cursor) (rest : List ℕ) (these : List Piece) : Type 0 where
+  pub dialogue : fed (reading_from mapped dest now these) rest ≡ fed (reading_from mapped dest start those) bytes
+  pub total : now.total + total_len those ≡ start.total + total_len these
+  pub in_range : IsInRange now
+  pub whole : length rest % 16 ≡ 0
+
+-- one descriptor further
+NamesSoFar-step : (mapped : ℕ → Bool) (dest : Bool) (start : Cursor) (bytes : List ℕ) (those : List Piece) (now : Cursor) (rest : List ℕ) (these : List Piece) (next : Cursor)
+    → NamesSoFar mapped dest start bytes those now rest these → is_asking now ≡ true → 16 ≤ length rest
+    → StandsBehind mapped dest (past now) (take 16 rest) next → IsInRange next
+    → NamesSoFar mapped dest start bytes those next (drop 16 rest) (these ++ pieces_by (kind_of (take 16 rest)) dest (take 16 rest))
+NamesSoFar-step mapped dest start bytes those now [] these next so_far asking some behind in_range = absurd (omega arith)
+NamesSoFar-step mapped dest start bytes those now (byte ∷ rest) these next so_far asking some behind in_range =
+    let d : List ℕ = take 16 (byte ∷ rest) in
+    let asks : Asks now.fault now.left now.budget = asks_by now.fault now.left now.budget asking in
+    record {
+      dialogue =
+          sym (reading_from-fed mapped dest now next these byte rest asks.sound asks.more asks.may behind)
+          ∙ so_far.dialogue;
+      total =
+          let more : total_len (these ++ pieces_by (kind_of d) dest d) ≡ total_len these + total_len (pieces_by (kind_of d) dest d) =
+          sum_by-append piece_len these (pieces_by (kind_of d) dest d) in
+          omega (arith, more, behind.total, so_far.total);
+      in_range = in_range;
+      whole = let count = length-drop 16 (byte ∷ rest) in let whole = so_far.whole in omega arith;
+    }
+
+-- the same in the names of the code
+pub NamesSoFar-next : (mapped : ℕ → Bool) (dest : Bool) (start : Cursor) (bytes : List ℕ) (those : List Piece) (now : Cursor) (rest : List ℕ) (these : List Piece) (skipped next : Cursor) (d more : List ℕ) (news : List Piece)
+    → NamesSoFar mapped dest start bytes those now rest these → is_asking now ≡ true → 16 ≤ length rest
+    → skipped ≡ past now → d ≡ take 16 rest → more ≡ drop 16 rest → news ≡ these ++ pieces_by (kind_of d) dest d
+    → StandsBehind mapped dest skipped d next → IsInRange next → NamesSoFar mapped dest start bytes those next more news
+NamesSoFar-next mapped dest start bytes those now rest these skipped next d more news so_far asking some is_past is_first is_rest is_more behind in_range =
+    let behind_first : StandsBehind mapped dest (past now) (take 16 rest) next =
+    let P : List ℕ → Type 0 = λ e. StandsBehind mapped dest (past now) e next in
+    let Q : Cursor → Type 0 = λ c. StandsBehind mapped dest c d next in
+    subst P is_first (subst Q is_past behind) in
+    let news_first : news ≡ these ++ pieces_by (kind_of (take 16 rest)) dest (take 16 rest) =
+    is_more ∙ ap (λ (e : List ℕ). these ++ pieces_by (kind_of e) dest e) is_first in
+    let P : List ℕ → Type 0 = λ l. NamesSoFar mapped dest start bytes those next l news in
+    let Q : List Piece → Type 0 = λ l. NamesSoFar mapped dest start bytes those next (drop 16 rest) l in
+    subst P (sym is_rest) (subst Q (sym news_first) (NamesSoFar-step mapped dest start bytes those now rest these next so_far asking some behind_first in_range))
+
+-- nothing more is asked, or nothing is left
+pub NamesSoFar-end : (mapped : ℕ → Bool) (dest : Bool) (start : Cursor) (bytes : List ℕ) (those : List Piece) (now : Cursor) (rest : List ℕ) (these : List Piece)
+    → NamesSoFar mapped dest start bytes those now rest these → HasEnded (reading_from mapped dest now these) rest
+    → NamesPart mapped dest start bytes those now these
+NamesSoFar-end mapped dest start bytes those now rest these so_far ended =
+    record { dialogue = sym ended.fed ∙ so_far.dialogue; total = so_far.total; in_range = so_far.in_range }

@@ -12,13 +12,12 @@ use Rattle.nv_model.specs.Judge.{sized}
 use Rattle.nv_model.specs.Memory.{bytes_from}
 use Rattle.nv_model.specs.Reading.{Reading, unless_faulty}
 use Rattle.nv_model.specs.Sgl.{Array, array_by, fault_by, pieces_by, read_array, read_descriptor, segment_fault}
-use Rattle.nv_sgl.specs.Chain.{pieces_in}
 use Rattle.nv_model.specs.Transcript.{fed}
-use Rattle.nv_sgl.specs.Parse.{Parse, dialogue_of, list_ahead}
+use Rattle.nv_sgl.specs.Parse.{Naming, Parse, dialogue_of, reading_of}
 use Rattle.nv_model.specs.Want.{want_of}
 use Rattle.nv_model.specs.declared.want.Want.TheVariants as want
 use Rattle.nv_model.proofs.Feedings.{drop-bytes_from, fed-and_then, fed-some, in_memory-end, take-bytes_from, KeepsEnd, KeepsEnd-fault, KeepsEnd-nil}
-use Rattle.nv_sgl.proofs.Parses.{want_of-part_of, IsPart}
+use Rattle.nv_sgl.proofs.Parses.{dialogue_of-naming, naming_of, want_of-part_of, IsPart}
 
 KeepsEnd-last : (m : ℕ → ℕ) (d : Dialogue Reading) (from n : ℕ) → n ≡ 0 → KeepsEnd m d (bytes_from m from (16 * n))
 unfolding bytes_from
@@ -76,29 +75,37 @@ KeepsEnd-array m mapped dest (suc n) (suc budget) (suc left) from by_last pieces
           ∙ keeps.same;
     }
 
--- a parse, too
-KeepsEnd-list : (m : ℕ → ℕ) (p : Parse) (addr len : ℕ) → IsPart p.ahead.left p.ahead.from addr len
-    → KeepsEnd m (list_ahead p) (bytes_from m addr len)
-unfolding list_ahead
-KeepsEnd-list m p addr len part =
-    let P : ℕ → Type 0 = λ a. KeepsEnd m (list_ahead p) (bytes_from m a len) in
-    let Q : ℕ → Type 0 = λ k. KeepsEnd m (list_ahead p) (bytes_from m p.ahead.from k) in
+-- a parse that keeps pieces, too
+KeepsEnd-list : (m : ℕ → ℕ) (n : Naming) (addr len : ℕ) → IsPart n.ahead.left n.ahead.from addr len
+    → KeepsEnd m (unless_faulty n.fault (read_array (mapped n.regions) n.dest n.budget n.ahead.left n.ahead.from n.ahead.by_last n.pieces)) (bytes_from m addr len)
+KeepsEnd-list m n addr len part =
+    let list : Dialogue Reading = unless_faulty n.fault (read_array (mapped n.regions) n.dest n.budget n.ahead.left n.ahead.from n.ahead.by_last n.pieces) in
+    let P : ℕ → Type 0 = λ a. KeepsEnd m list (bytes_from m a len) in
+    let Q : ℕ → Type 0 = λ k. KeepsEnd m list (bytes_from m n.ahead.from k) in
     subst
     P (sym part.start)
     (subst
     Q (sym part.size)
     (KeepsEnd-fault
-    m p.fault _ _
+    m n.fault _ _
     (λ none.
     KeepsEnd-array
-    m (mapped p.regions) p.dest part.count p.budget p.ahead.left p.ahead.from p.ahead.by_last (pieces_in p.dest p.chain) part.within)))
+    m (mapped n.regions) n.dest part.count n.budget n.ahead.left n.ahead.from n.ahead.by_last n.pieces part.within)))
 
--- feeding a parse what a memory shows at what it wants leaves its end in this memory as it is
+-- feeding a parse that keeps pieces what a memory shows at what it wants leaves its end in this memory as it is
+pub in_memory-fed_naming : (m : ℕ → ℕ) (n : Naming) (addr len : ℕ) → want_of (reading_of n) ≡ want.Read addr len
+    → in_memory m (fed (reading_of n) (bytes_from m addr len)) ≡ in_memory m (reading_of n)
+unfolding reading_of
+in_memory-fed_naming m n addr len wanted =
+    let list : Dialogue Reading = unless_faulty n.fault (read_array (mapped n.regions) n.dest n.budget n.ahead.left n.ahead.from n.ahead.by_last n.pieces) in
+    ap (in_memory m) (fed-and_then list (sized n.need) (bytes_from m addr len))
+    ∙ in_memory-end m (fed list (bytes_from m addr len)) (sized n.need)
+    ∙ ap (sized n.need) (KeepsEnd-list m n addr len (want_of-part_of n addr len wanted)).same
+    ∙ sym (in_memory-end m list (sized n.need))
+
+-- and so does feeding a parse
 pub in_memory-fed : (m : ℕ → ℕ) (p : Parse) (addr len : ℕ) → want_of (dialogue_of p) ≡ want.Read addr len
     → in_memory m (fed (dialogue_of p) (bytes_from m addr len)) ≡ in_memory m (dialogue_of p)
-unfolding dialogue_of
 in_memory-fed m p addr len wanted =
-    ap (in_memory m) (fed-and_then (list_ahead p) (sized p.need) (bytes_from m addr len))
-    ∙ in_memory-end m (fed (list_ahead p) (bytes_from m addr len)) (sized p.need)
-    ∙ ap (sized p.need) (KeepsEnd-list m p addr len (want_of-part_of p addr len wanted)).same
-    ∙ sym (in_memory-end m (list_ahead p) (sized p.need))
+    let P : Dialogue Reading → Type 0 = λ d. in_memory m (fed d (bytes_from m addr len)) ≡ in_memory m d in
+    subst P (sym (dialogue_of-naming p)) (in_memory-fed_naming m (naming_of p) addr len (ap want_of (sym (dialogue_of-naming p)) ∙ wanted))

@@ -10,7 +10,7 @@ use Rattle.nv_model.specs.Reading.{Reading, unless_faulty}
 use Rattle.nv_model.specs.Sgl.{Array, array_by, fault_by, pieces_by, read_array}
 use Rattle.nv_sgl.specs.Chain.{grown, pieces_in, pieces_of}
 use Rattle.nv_model.specs.Transcript.{fed, units_fed}
-use Rattle.nv_sgl.specs.Parse.{Parse}
+use Rattle.nv_sgl.specs.Parse.{Naming, Parse}
 use Rattle.nv_sgl.specs.declared.cursor.Cursor.{Cursor}
 
 -- what is left of the array
@@ -60,3 +60,19 @@ pub record IsParse (dest : Bool) (c : Cursor) (chain : List (List (List ℕ))) :
 abbrev pub parse_at : List Region → Bool → ℕ → Cursor → List (List (List ℕ)) → Parse
 parse_at regions dest need c chain =
     record { regions = regions; dest = dest; need = need; budget = c.budget; ahead = array_at c; fault = c.fault; chain = chain }
+
+-- the same of a parse that keeps pieces alone
+abbrev pub naming_at : List Region → Bool → ℕ → Cursor → List Piece → Naming
+naming_at regions dest need c pieces =
+    record { regions = regions; dest = dest; need = need; budget = c.budget; ahead = array_at c; fault = c.fault; pieces = pieces }
+
+-- it keeps the total of the bytes that its pieces name
+pub record IsNaming (c : Cursor) (pieces : List Piece) : Type 0 where
+  pub in_range : IsInRange c
+  pub total : c.total ≡ total_len pieces
+
+-- the bytes led from the one cursor to the other, and from those pieces to these
+pub record NamesPart (mapped : ℕ → Bool) (dest : Bool) (from : Cursor) (bytes : List ℕ) (those : List Piece) (to : Cursor) (these : List Piece) : Type 0 where
+  pub dialogue : reading_from mapped dest to these ≡ fed (reading_from mapped dest from those) bytes
+  pub total : to.total + total_len those ≡ from.total + total_len these
+  pub in_range : IsInRange to

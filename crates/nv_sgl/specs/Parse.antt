@@ -3,6 +3,7 @@
 -- Invalid).
 use Rattle.std.specs.Prelude.{ℕ, Bool, List, Option}
 use Rattle.nv_entry.specs.declared.status_code.StatusCode.{StatusCode}
+use Rattle.nv_mem.specs.declared.piece.Piece.{Piece}
 use Rattle.nv_mem.specs.declared.region.Region.{Region}
 use Rattle.nv_mem.specs.GuestMap.{mapped}
 use Rattle.nv_model.specs.Dialogue.{Dialogue, End, and_then}
@@ -30,3 +31,18 @@ list_ahead p =
 -- what is still read, and how it ends
 unfoldable pub dialogue_of : Parse → Dialogue Reading
 dialogue_of p = and_then (list_ahead p) (λ reading. End (sized p.need reading))
+
+-- a parse that keeps the pieces alone that its descriptors name: the rest is as of a parse
+pub record Naming : Type 0 where
+  pub regions : List Region
+  pub dest : Bool
+  pub need : ℕ
+  pub budget : ℕ
+  pub ahead : Array
+  pub fault : Option StatusCode
+  pub pieces : List Piece
+
+-- what it has still to read, and how that ends
+unfoldable pub reading_of : Naming → Dialogue Reading
+reading_of n =
+    and_then (unless_faulty n.fault (read_array (mapped n.regions) n.dest n.budget n.ahead.left n.ahead.from n.ahead.by_last n.pieces)) (λ reading. End (sized n.need reading))

@@ -1,16 +1,25 @@
 //! Where a parse of a scatter gather list stands, and how it goes on descriptor by descriptor.
 
-ghost use Rattle.std.specs.Prelude.{◌≡◌, false, None, Some, ◌+◌, ◌-◌, ◌*◌, ◌<◌, ◌≤◌, ◌^◌, ◌%◌, IsTrue, IfOk, OnErr, true, length, option_to_list};
+ghost use Rattle.std.specs.Prelude.{◌≡◌, Bool, List, false, None, Some, ◌+◌, ◌-◌, ◌*◌, ◌<◌, ◌≤◌, ◌^◌, ◌%◌, ◌++◌, IsTrue, IfOk, OnErr, OnOk, true, length, option_to_list};
 ghost use Rattle.nv_entry.specs.Descriptor.{address_of, kind_of, length_of};
 ghost use Rattle.nv_mem.specs.GuestMap.{mapped, all_mapped};
 ghost use Rattle.nv_mem.specs.Places.{total_len};
 ghost use Rattle.nv_model.specs.Sgl.{array_by, fault_by, pieces_by, segment_fault};
 ghost use Rattle.nv_sgl.specs.Chain.{names_array};
-ghost use Rattle.nv_sgl.specs.Cursor.{array_at, is_asking, IsInRange, ReadsPart, StandsBehind};
+ghost use Rattle.nv_mem.specs.declared.piece.Piece.{Piece};
+ghost use Rattle.nv_mem.specs.declared.region.Region.{Region};
+ghost use Rattle.nv_model.specs.Want.{want_of};
+ghost use Rattle.nv_sgl.specs.Cursor.{array_at, is_asking, naming_at, IsInRange, NamesPart, ReadsPart, StandsBehind};
+ghost use Rattle.nv_sgl.specs.Parse.{reading_of};
 
 use nv_entry::{Descriptor, DescriptorType, StatusCode};
-use nv_mem::{GuestMap, NoMemory, Piece};
+use nv_mem::{GuestMap, NoMemory, Piece, Places};
+use nv_model::Want;
+use nv_model::limits::PART_SIZE;
 use std::alloc::Allocator;
+
+/// How many descriptors of an array are wanted at once, at most.
+const PART: u32 = PART_SIZE / 16;
 
 /// Where a parse stands between two descriptors.
 #[derive(Clone, Copy)]
@@ -59,6 +68,39 @@ impl Cursor {
         ensures { given ≤ result }
     {
         given.max(self.left.min(self.budget) as usize)
+    }
+
+    /// What a parse that stands here wants to be fed, for a transfer of `need` bytes, or how it ended. The bytes of an array are wanted
+    /// from its start on, 4,096 at a time, the last what is left.
+    #[inline(always)]
+    pub fn wants(&self, need: u64) -> Want
+        requires { IsInRange self.now }
+        ensures { (regions : List Region) (dest : Bool) (pieces : List Piece) → self.now.total ≡ total_len pieces →
+            result ≡ want_of (reading_of (naming_at regions dest need self.now pieces)) }
+    {
+        let Cursor {
+            from,
+            left,
+            budget,
+            total,
+            fault,
+            ..
+        } = *self;
+        match fault {
+            Some(code) => Want::Fault(code.refused()),
+            None if left == 0 => {
+                if total == need {
+                    Want::Done
+                } else {
+                    Want::Fault(StatusCode::SglLengthInvalid.refused())
+                }
+            }
+            None if budget == 0 => Want::TooLong,
+            None => Want::Read {
+                addr: from as u64,
+                len: 16 * left.min(PART),
+            },
+        }
     }
 
     /// Goes behind the next descriptor, before it is looked at.
@@ -250,6 +292,47 @@ pub fn read_part<A: Allocator>(
         cursor.pass_one();
         cursor.look_at(map, dest, &d);
         blocks.push_reserved(d);
+        rest = more;
+    }
+    Ok(cursor)
+}
+
+/// Adds the piece that a descriptor names, where it names bytes of the transfer.
+#[inline(always)]
+pub fn push_piece(d: &Descriptor, dest: bool, places: &mut Places) -> Result<(), NoMemory>
+    ensures { OnOk result (places.new ≡ places.old ++ pieces_by (kind_of d.now) dest d.now) }
+{
+    if let Some(piece) = piece_of(d, dest) {
+        places.push(piece)?;
+    }
+    Ok(())
+}
+
+/// Reads the descriptors in these bytes, from the cursor on, adds the pieces that they name, and gives the cursor behind them. Room for
+/// those of the array is taken at once.
+#[inline(always)]
+pub fn read_places(
+    map: &GuestMap,
+    dest: bool,
+    cursor: Cursor,
+    bytes: &[u8],
+    places: &mut Places,
+) -> Result<Cursor, NoMemory>
+    requires whole { length bytes.now % 16 ≡ 0 }
+    requires in_range { IsInRange cursor }
+    ensures { IfOk result (λ c. NamesPart (mapped map.now.regions) dest cursor bytes.now places.old c places.new) }
+{
+    places.reserve(cursor.room(bytes.len() / 16))?;
+    let mut cursor = cursor;
+    let mut rest = bytes;
+    while cursor.is_asking() {
+        let Some((own, more)) = rest.split_first_chunk::<16>() else {
+            break;
+        };
+        let d = Descriptor::of(own);
+        cursor.pass_one();
+        cursor.look_at(map, dest, &d);
+        push_piece(&d, dest, places)?;
         rest = more;
     }
     Ok(cursor)

@@ -10,15 +10,12 @@ ghost use Rattle.nv_model.specs.Sgl.{read_sgl};
 
 use crate::chain::Chain;
 use crate::cursor::Cursor;
-use nv_entry::{Descriptor, StatusCode};
+use nv_entry::Descriptor;
 use nv_mem::{GuestMap, NoMemory, Places};
 use nv_model::Want;
-use nv_model::limits::{MOST_DESCRIPTORS, PART_SIZE};
+use nv_model::limits::MOST_DESCRIPTORS;
 use std::alloc::{Allocator, Global};
 use std::marker::Model;
-
-/// How many descriptors of an array are wanted at once, at most.
-const PART: u32 = PART_SIZE / 16;
 
 /// The reading of a list, part by part. It never looks at the guest's memory itself: it says which bytes it wants, and is fed them.
 #[derive(Drop)]
@@ -26,6 +23,7 @@ pub struct SglParse<'a, A: Allocator + Clone> {
     map: &'a GuestMap,
     dest: bool,
     need: u64,
+    limit: u32,
     cursor: Cursor,
     chain: Chain<A>,
 }
@@ -64,8 +62,8 @@ impl<'a, A: Allocator + Clone> SglParse<'a, A> {
         Self::with_limit(heap, map, first, dest, need, MOST_DESCRIPTORS)
     }
 
-    // The same with another limit on descriptors.
-    fn with_limit(
+    /// The same with another limit on descriptors, the command's own among them: 1 to 4,096.
+    pub fn with_limit(
         heap: A,
         map: &'a GuestMap,
         first: Descriptor,
@@ -84,6 +82,7 @@ impl<'a, A: Allocator + Clone> SglParse<'a, A> {
             map,
             dest,
             need,
+            limit,
             cursor,
             chain: Chain::own(heap, first)?,
         })
@@ -97,6 +96,7 @@ impl<'a, A: Allocator + Clone> SglParse<'a, A> {
             map: self.map,
             dest: self.dest,
             need: self.need,
+            limit: self.limit,
             cursor: self.cursor,
             chain: self.chain.try_clone()?,
         })
@@ -108,29 +108,7 @@ impl<'a, A: Allocator + Clone> SglParse<'a, A> {
     pub fn wants(&self) -> Want
         ensures { result ≡ want_of (dialogue_of self.now) }
     {
-        let Cursor {
-            from,
-            left,
-            budget,
-            total,
-            fault,
-            ..
-        } = self.cursor;
-        match fault {
-            Some(code) => Want::Fault(code.refused()),
-            None if left == 0 => {
-                if total == self.need {
-                    Want::Done
-                } else {
-                    Want::Fault(StatusCode::SglLengthInvalid.refused())
-                }
-            }
-            None if budget == 0 => Want::TooLong,
-            None => Want::Read {
-                addr: from as u64,
-                len: 16 * left.min(PART),
-            },
-        }
+        self.cursor.wants(self.need)
     }
 
     /// Reads on with the bytes that were wanted. Where no memory is left, the parse is as it was.
@@ -158,7 +136,7 @@ impl<'a, A: Allocator + Clone> SglParse<'a, A> {
         ensures { IfOk result (λ places. dialogue_of self.now ≡ End (Spells places)) }
     {
         let mut places = Places::new(alloc);
-        places.reserve(MOST_DESCRIPTORS.saturating_sub(self.cursor.budget) as usize)?;
+        places.reserve(self.limit.saturating_sub(self.cursor.budget) as usize)?;
         self.chain.push_pieces(self.dest, &mut places)?;
         Ok(places)
     }

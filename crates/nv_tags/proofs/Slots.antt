@@ -1,10 +1,9 @@
 -- Tags by their states and their claims, one beside the other.
-use Rattle.std.proofs.Common.{◌≡◌, ◌≢◌, ◌⊎◌, ℕ, zero, suc, ◌+◌, ◌<◌, ◌≤◌, Bool, true, false, cond, List, [], ◌∷◌, length, set, slice_get, slice_index_or, replicate, Option, Some, None, arith, refl, sym, ap, ◌∙◌, subst, inl, inr}
-use Rattle.std.proofs.lemmas.Grind.{common_steps}
+use Rattle.std.proofs.Common.{◌≡◌, ◌≢◌, ◌⊎◌, ℕ, zero, suc, ◌<◌, ◌≤◌, List, [], ◌∷◌, length, set, slice_index_or, replicate, Some, arith, refl, sym, ap, ◌∙◌, subst, inl, inr}
 use Rattle.std.proofs.lemmas.Bool.{cases_lt}
 use Rattle.std.specs.List.{position, position_or_len}
 use Rattle.nv_world_model.specs.World.{Command}
-use Rattle.nv_tags.specs.Tags.{Ended, Flying, Free, Point, Slot, Taken, Used, command_in, command_of, free_slot, is_free, is_free_state, moved_to, slot_at, slot_of, slots_of, state_at, state_of, with_point}
+use Rattle.nv_tags.specs.Tags.{Free, Point, Slot, Taken, Used, command_in, command_of, free_slot, is_free, is_free_state, moved_to, slot_at, slot_of, slots_of, state_at, state_of, with_point}
 use Rattle.nv_tags.specs.declared.claim.Claim.{Claim}
 use Rattle.nv_tags.specs.declared.state.TagState.{TagState}
 use Rattle.nv_tags.specs.declared.state.TagState.TheVariants as state

@@ -88,7 +88,8 @@ mapped-end m addr len sound all some =
 pub submission-fits : (m : Mapping) (c : Controller) (y : ℕ) (q : SubmissionQueue) → IsSound m → QueuesInPlace (mapped m.regions) c
     → submission_queue c y ≡ Some q → q.base + sqe_size * q.size ≤ 2 ^ 64
 submission-fits m c y q sound place is =
-    let has = submission_queue-has (mapped m.regions) (IsSubmissionInPlace (mapped m.regions)) (IsCompletionInPlace (mapped m.regions)) (IsKept-in_place (mapped m.regions)) c y q place is in
+    let test : ℕ → Bool = mapped m.regions in
+    let has = submission_queue-has test (IsSubmissionInPlace test) (IsCompletionInPlace test) (IsKept-in_place test) c y q place is in
     let some = has.0.at_least in
     mapped-end m q.base (sqe_size * q.size) sound has.1 (omega arith)
 
@@ -103,7 +104,8 @@ submission-mapped test c y q place is =
 pub completion-fits : (m : Mapping) (c : Controller) (y : ℕ) (q : CompletionQueue) → IsSound m → QueuesInPlace (mapped m.regions) c
     → completion_queue c y ≡ Some q → q.base + cqe_size * q.size ≤ 2 ^ 64
 completion-fits m c y q sound place is =
-    let has = completion_queue-has (mapped m.regions) (IsSubmissionInPlace (mapped m.regions)) (IsCompletionInPlace (mapped m.regions)) (IsKept-in_place (mapped m.regions)) c y q place is in
+    let test : ℕ → Bool = mapped m.regions in
+    let has = completion_queue-has test (IsSubmissionInPlace test) (IsCompletionInPlace test) (IsKept-in_place test) c y q place is in
     let some = has.0.at_least in
     mapped-end m q.base (cqe_size * q.size) sound has.1 (omega arith)
 
@@ -160,25 +162,20 @@ post-found c y to dw0 cid st q cq full found =
     ∙ ap (λ (b : Bool). cond b None (Some (posted_to c q cq y dw0 cid st))) (sym found.room)
 
 -- a completion is held where its queue is full
-pub post-held : (c : Controller) (y to dw0 cid : ℕ) (st : StatusField) (q : SubmissionQueue) (cq : CompletionQueue) (full : Bool)
+pub post-held : {c : Controller} {y to : ℕ} {q : SubmissionQueue} {cq : CompletionQueue} {full : Bool} (dw0 cid : ℕ) (st : StatusField)
     → AreFound c y to q cq full → full ≡ true → post c y dw0 cid st ≡ None
-post-held c y to dw0 cid st q cq full found is =
+post-held {c} {y} {to} {q} {cq} {full} dw0 cid st found is =
     post-found c y to dw0 cid st q cq full found ∙ ap (λ (b : Bool). cond b None (Some (posted_to c q cq y dw0 cid st))) is
 
 -- and posted where it is not
-pub post-done : (c : Controller) (y to dw0 cid : ℕ) (st : StatusField) (q : SubmissionQueue) (cq : CompletionQueue) (full : Bool)
+pub post-done : {c : Controller} {y to : ℕ} {q : SubmissionQueue} {cq : CompletionQueue} {full : Bool} (dw0 cid : ℕ) (st : StatusField)
     → AreFound c y to q cq full → full ≡ false → post c y dw0 cid st ≡ Some (posted_to c q cq y dw0 cid st)
-post-done c y to dw0 cid st q cq full found is =
+post-done {c} {y} {to} {q} {cq} {full} dw0 cid st found is =
     post-found c y to dw0 cid st q cq full found ∙ ap (λ (b : Bool). cond b None (Some (posted_to c q cq y dw0 cid st))) is
 
--- an entry has 16 bytes
-pub length-completion : (dw0 sqhd sqid cid : ℕ) (phase : Bool) (st : StatusField) → length (completion dw0 sqhd sqid cid phase st) ≡ 16
-unfolding completion bytes_of_dwords
-length-completion dw0 sqhd sqid cid phase st = refl
-
 -- the host behind an entry that is written where the completion that is posted says
-pub host-posted : (rs : List Region) (host after : ℕ → ℕ) (c : Controller) (q : SubmissionQueue) (cq : CompletionQueue) (y dw0 cid head addr : ℕ) (phase : Bool)
-    (st : StatusField) (bytes cqe : List ℕ) → after ≡ put_image rs (stored (image rs host) addr bytes) host → addr ≡ cq.base + cqe_size * cq.tail
+pub host-posted : (rs : List Region) (host after : ℕ → ℕ) (c : Controller) (q : SubmissionQueue) (cq : CompletionQueue)
+    (y dw0 cid head addr : ℕ) (phase : Bool) (st : StatusField) (bytes cqe : List ℕ) → after ≡ put_image rs (stored (image rs host) addr bytes) host → addr ≡ cq.base + cqe_size * cq.tail
     → bytes ≡ cqe → cqe ≡ completion dw0 head y cid phase st → head ≡ q.head → phase ≡ cq.phase
     → after ≡ host_behind rs host (Some (posted_to c q cq y dw0 cid st))
 host-posted rs host after c q cq y dw0 cid head addr phase st bytes cqe written at of entry from tag =
@@ -188,7 +185,8 @@ host-posted rs host after c q cq y dw0 cid head addr phase st bytes cqe written 
     (of ∙ entry ∙ ap (λ (h : ℕ). completion dw0 h y cid phase st) from ∙ ap (λ (p : Bool). completion dw0 q.head y cid p st) tag)
 
 -- what posting to the queues that were found comes to
-pub post-made : (v c : Controller) (y n dw0 cid : ℕ) (st : StatusField) (q : SubmissionQueue) (cq new : CompletionQueue) (to : ℕ) (taken : List ℕ) → v ≡ c
+pub post-made : (v c : Controller) (y n dw0 cid : ℕ) (st : StatusField) (q : SubmissionQueue) (cq new : CompletionQueue)
+    (to : ℕ) (taken : List ℕ) → v ≡ c
     → n ≡ y → to ≡ q.completes_to → new ≡ after_post cq
     → taken ≡ (if n == 0 then v.taken else slice_set v.taken n (slice_index v.taken n - 1))
     → record v { completion_queues = slice_set v.completion_queues to (Some new); taken = taken } ≡ (posted_to c q cq y dw0 cid st).controller

@@ -1,16 +1,15 @@
 -- Each change of a controller keeps what its type keeps of it.
-use Rattle.std.proofs.Common.{◌≡◌, ℕ, zero, suc, ◌<◌, true, false, List, [], ◌∷◌, length, set, slice_get, slice_index, Option, Some, None, IfSome, IsSome, inl, inr, arith, refl, sym, ap, ◌∙◌, subst}
-use Rattle.std.proofs.lemmas.Bool.{cases_lt}
+use Rattle.std.proofs.Common.{◌≡◌, ℕ, zero, suc, ◌<◌, true, false, List, [], ◌∷◌, length, set, slice_get, slice_index, Option, Some, None, IfSome, IsSome, arith, refl, sym, ap, ◌∙◌, subst}
 use Rattle.std.specs.List.{list_any}
 use Rattle.nv_entry.specs.Status.{StatusField}
 use Rattle.nv_model.specs.Admin.{uses}
-use Rattle.nv_model.specs.Controller.{Controller, Deletion, Posted, completion_queue, front, is_enabled, is_ready, opening, post, post_from, post_to, queue_of, ran_out, submission_queue, took, took_of, with_completion, with_submission}
+use Rattle.nv_model.specs.Controller.{Controller, Deletion, Posted, completion_queue, front, is_enabled, is_ready, post, post_from, post_to, queue_of, submission_queue, took, took_of, with_completion, with_submission}
 use Rattle.nv_model.specs.Queue.{SubmissionQueue, CompletionQueue, front_taken, is_full}
 use Rattle.nv_model.specs.Running.{GoTogether, IsTogether}
 use Rattle.nv_model.proofs.Endings.{and-true}
 use Rattle.nv_model.proofs.QueuesKept.{by_test}
 use Rattle.nv_model.proofs.Together.{completion-gone, completion-put, deletion-put, queue_of-set-has, submission-gone, submission-put, there-put}
-use Rattle.nv_model.proofs.TogetherKept.{IsPosted, front-may, opening-together, post-together, ran_out-together, took-together}
+use Rattle.nv_model.proofs.TogetherKept.{IsPosted, front-may, post-together, took-together}
 use Rattle.nv_vctl.specs.Vctl.{IsIoQueue, IsWhole, closed_from, finished_from}
 
 -- what is kept of the admin queue
@@ -45,16 +44,6 @@ completion-below c y q w is =
     let below = queue-below c.completion_queues y (subst (λ (o : Option CompletionQueue). IsSome o) (sym is) refl) in
     let count : length c.completion_queues ≡ 9 = w.together.completion_count in
     omega arith
-
--- the queues of a command that may be completed are there
-pub posting-there : (c : Controller) (y : ℕ) → is_ready c ≡ true → (0 < y → 0 < slice_index c.taken y) → IsWhole c → IsSome (submission_queue c y)
-posting-there c y up some w =
-    elim (cases_lt 0 y) [
-      | inl io ↦ w.together.taken_there (ready-on c up) y (some io)
-      | inr none ↦
-          let zero_is : 0 ≡ y = omega arith in
-          subst (λ (n : ℕ). IsSome (submission_queue c n)) zero_is (w.together.admin_there (ready-on c up) (and-true (is_enabled c) c.ready up).1).0
-    ]
 
 -- ---- queues
 
@@ -131,15 +120,7 @@ whole-finished c d up is idle w =
       admin = queue_of-set-has CompletesToAdmin c.submission d.queue None 0 (λ same. tt) w.admin;
     }
 
--- one more event request is held
-pub whole-held : (c : Controller) (n : ℕ) → IsWhole c → IsWhole (record c { held_requests = n })
-whole-held c n w = record { together = w.together; admin = w.admin }
-
 -- ---- registers
-
-pub whole-opening : IsWhole opening
-unfolding opening
-whole-opening = record { together = opening-together; admin = tt }
 
 -- ---- commands
 
@@ -176,13 +157,9 @@ pub whole-posted : (c : Controller) (y dw0 cid : ℕ) (st : StatusField) (p : Po
 unfolding post
 whole-posted c y dw0 cid st p up is w =
     let together = subst (λ o. IfSome o (IsPosted c y)) is (post-together c y dw0 cid st (ready-on c up) w.together) in
-    let same = subst (λ o. IfSome o (λ (r : Posted). r.controller.submission ≡ c.submission)) is (post_from-submission (submission_queue c y) c y dw0 cid st) in
+    let same = subst (λ o. IfSome o (λ (r : Posted). r.controller.submission ≡ c.submission)) is
+    (post_from-submission (submission_queue c y) c y dw0 cid st) in
     record {
       together = together.0;
       admin = subst (λ (qs : List (Option SubmissionQueue)). CompletesToAdmin (queue_of (slice_get qs 0))) (sym same) w.admin;
     }
-
--- a command runs out
-pub whole-ran_out : (c : Controller) (y : ℕ) → is_enabled c ≡ false → IsWhole c → IsWhole (ran_out c y)
-unfolding ran_out
-whole-ran_out c y off w = record { together = (ran_out-together c y off w.together).0; admin = w.admin }

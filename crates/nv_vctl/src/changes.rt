@@ -27,7 +27,8 @@ impl Vctl {
         requires size { FitsRing size }
         requires completion { IsSome (completion_queue self.old completes_to) }
         ensures state { self.new ≡ with_submission self.old queue (Some (new_submission base size completes_to)) }
-        ensures in_place { (test : ℕ → Bool) → QueuesInPlace test self.old → everywhere test base (sqe_size * size) ≡ true → QueuesInPlace test self.new }
+        ensures in_place { (test : ℕ → Bool) → QueuesInPlace test self.old
+            → everywhere test base (sqe_size * size) ≡ true → QueuesInPlace test self.new }
     {
         let made = SubmissionQueue::new(base, size, completes_to);
         self.submission[usize::from(queue)] = Some(made);
@@ -42,7 +43,8 @@ impl Vctl {
         requires number { IsIoQueue queue }
         requires size { FitsRing size }
         ensures state { self.new ≡ with_completion self.old queue (Some (new_completion base size)) }
-        ensures in_place { (test : ℕ → Bool) → QueuesInPlace test self.old → everywhere test base (cqe_size * size) ≡ true → QueuesInPlace test self.new }
+        ensures in_place { (test : ℕ → Bool) → QueuesInPlace test self.old
+            → everywhere test base (cqe_size * size) ≡ true → QueuesInPlace test self.new }
     {
         let made = CompletionQueue::new(base, size);
         self.completion[usize::from(queue)] = Some(made);

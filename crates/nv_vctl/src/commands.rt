@@ -37,10 +37,10 @@ impl Vctl {
         Some(Sqe::of(&entry))
     }
 
-    #[tactic(auto, unfolding(nv_model::specs::Controller::took))]
     /// The command at the front of a queue is taken: the head moves on, and of an I/O queue one more command is taken.
     ///
     /// The caller knows that one may be taken ([`Vctl::waits`]) and, of an I/O queue, counted ([`Vctl::counts_more`]).
+    #[tactic(auto, unfolding(nv_model::specs::Controller::took))]
     pub fn took(&mut self, queue: u16)
         requires waits { IsSome (front self.old queue) }
         requires counted { 0 < queue → slice_index self.old.taken queue < most_taken }
@@ -105,12 +105,12 @@ impl Vctl {
         Posted::Done
     }
 
-    #[tactic(auto, unfolding(nv_model::specs::Controller::ran_out))]
     /// A taken command of an I/O queue runs out after a reset, without a completion: one command fewer is taken, and CSTS.RDY
     /// falls with the last one.
     ///
     /// The caller knows that the controller is not enabled ([`Vctl::is_enabled`]) and that a command of the queue is taken
     /// ([`Vctl::taken`]).
+    #[tactic(auto, unfolding(nv_model::specs::Controller::ran_out))]
     pub fn ran_out(&mut self, queue: u16)
         requires disabled { is_enabled self.old ≡ false }
         requires io_queue { 0 < queue }

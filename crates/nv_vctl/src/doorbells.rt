@@ -18,13 +18,13 @@ const PAIR: u32 = 8;
 const HEAD: u32 = 4;
 
 impl Vctl {
-    #[tactic(auto, unfolding(nv_model::specs::Controller::doorbell))]
     /// Writes the doorbell at an offset, of which the low 16 bits count: the tail of submission queue y at 1000h + 8 y, the head
     /// of completion queue y at 1004h + 8 y; false, with nothing changed, exactly where the write is ignored (NVMe over PCIe
     /// Transport Specification 1.0, "Doorbell").
     ///
     /// A tail is taken where it is a slot of a queue that does not close, a head where it lies from the old head up to the tail,
     /// going round.
+    #[tactic(auto, unfolding(nv_model::specs::Controller::doorbell))]
     pub fn doorbell(&mut self, offset: u32, value: u32) -> bool
         ensures taken { result ≡ is_some (doorbell self.old offset value) }
         ensures state { self.new ≡ or_unchanged self.old (doorbell self.old offset value) }

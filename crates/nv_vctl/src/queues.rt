@@ -1,10 +1,13 @@
 //! A guest's queues: where they lie in its memory, and where they stand.
 
-ghost use Rattle.std.specs.Prelude.{◌≡◌, ◌+◌, ◌*◌, ◌<◌, ◌≤◌, ◌^◌, ◌&&◌, if◌then◌else◌, Some, is_some, nat_le, nat_lt, not, true, false};
+ghost use Rattle.std.specs.Prelude.{◌≡◌, ◌+◌, ◌*◌, ◌<◌, ◌≤◌, ◌^◌, ◌&&◌, ◌↔◌, IsTrue, if◌then◌else◌, Some, is_some, nat_le, nat_lt, not, true, false};
 ghost use Rattle.nv_model.specs.Controller.{front_of};
 ghost use Rattle.nv_model.specs.Queue.{after_post, ahead, cqe_size, front_taken, is_empty, is_full, new_completion, new_submission, sqe_size, unacknowledged};
+ghost use Rattle.nv_mem.specs.GuestMap.{mapped};
+ghost use Rattle.nv_model.specs.Laws.{IsCompletionInPlace, IsInOrder, IsSubmissionInPlace};
 ghost use Rattle.nv_ring.specs.Ring.{FitsRing};
 
+use nv_mem::GuestMap;
 use nv_ring::{Phase, Ring};
 use std::marker::Model;
 
@@ -29,9 +32,21 @@ impl Model for SubmissionQueue {
 
     ghost Value = { Queue };
 
-    ghost view = { λ q. record { base = q.base; size = q.ring.size; head = q.ring.head; tail = q.ring.tail; completes_to = q.completes_to; closing = q.closing } };
+    ghost view = { λ q. record {
+      base = q.base;
+      size = q.ring.size;
+      head = q.ring.head;
+      tail = q.ring.tail;
+      completes_to = q.completes_to;
+      closing = q.closing;
+    } };
 
-    ghost inverse = { λ q. record { base = q.base; ring = record { size = q.size; head = q.head; tail = q.tail }; completes_to = q.completes_to; closing = q.closing } };
+    ghost inverse = { λ q. record {
+      base = q.base;
+      ring = record { size = q.size; head = q.head; tail = q.tail };
+      completes_to = q.completes_to;
+      closing = q.closing;
+    } };
 }
 
 /// A completion queue: where its first slot lies in the guest's memory, where it stands, and the phase tag of its pass.
@@ -49,7 +64,11 @@ impl Model for CompletionQueue {
 
     ghost view = { λ q. record { base = q.base; size = q.ring.size; head = q.ring.head; tail = q.ring.tail; phase = q.phase } };
 
-    ghost inverse = { λ q. record { base = q.base; ring = record { size = q.size; head = q.head; tail = q.tail }; phase = q.phase } };
+    ghost inverse = { λ q. record {
+      base = q.base;
+      ring = record { size = q.size; head = q.head; tail = q.tail };
+      phase = q.phase;
+    } };
 }
 
 impl SubmissionQueue {
@@ -66,6 +85,13 @@ impl SubmissionQueue {
         }
     }
 
+    /// Whether its slots lie wholly in the map.
+    pub(crate) fn lies_in(&self, map: &GuestMap) -> bool
+        ensures { IsTrue result ↔ IsSubmissionInPlace (mapped map.now.regions) self.now }
+    {
+        map.holds(self.base, SQE_SIZE * u64::from(size_of(self.ring)))
+    }
+
     /// Whether a command waits in it, and it does not close.
     pub(crate) fn waits(&self) -> bool
         ensures { result ≡ is_some (front_of (Some self.now)) }
@@ -75,7 +101,8 @@ impl SubmissionQueue {
 
     /// The slot of the front entry.
     pub(crate) fn head(&self) -> u16
-        ensures { result ≡ self.now.head }
+        ensures value { result ≡ self.now.head }
+        ensures fits { result < self.now.size }
     {
         self.ring.head()
     }
@@ -105,7 +132,7 @@ impl SubmissionQueue {
         requires { self.now.base + sqe_size * self.now.size ≤ 2 ^ 64 }
         ensures { result ≡ self.now.base + sqe_size * self.now.head }
     {
-        self.base + SQE_SIZE * u64::from(self.ring.head())
+        self.base + SQE_SIZE * u64::from(self.head())
     }
 }
 
@@ -120,6 +147,13 @@ impl CompletionQueue {
             ring: Ring::new(size),
             phase: Phase::new(),
         }
+    }
+
+    /// Whether its slots lie wholly in the map.
+    pub(crate) fn lies_in(&self, map: &GuestMap) -> bool
+        ensures { IsTrue result ↔ IsCompletionInPlace (mapped map.now.regions) self.now }
+    {
+        map.holds(self.base, CQE_SIZE * u64::from(size_of(self.ring)))
     }
 
     /// Whether it is full.
@@ -166,4 +200,13 @@ impl CompletionQueue {
         self.phase.go_on(self.ring, self.ring.tail());
         self.ring.put();
     }
+}
+
+// How many slots a ring has, whose head and tail are two of them.
+fn size_of(ring: Ring) -> u16
+    ensures value { result ≡ ring.size }
+    ensures order { IsInOrder ring.size ring.head ring.tail }
+{
+    let (_head, _tail) = (ring.head(), ring.tail());
+    ring.size()
 }

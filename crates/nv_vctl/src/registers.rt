@@ -62,11 +62,11 @@ impl Vctl {
         }
     }
 
-    #[tactic(auto, unfolding(nv_model::specs::Controller::reg_write))]
     /// Writes the dword of the registers at an offset; false, with nothing changed, exactly where the write is ignored.
     ///
     /// A write of CC may enable the controller, which makes the admin queues in the guest's memory or sets CSTS.CFS, or reset
     /// it, which drops all queues (Base Specification 2.0, "Controller Initialization").
+    #[tactic(auto, unfolding(nv_model::specs::Controller::reg_write))]
     pub fn reg_write(&mut self, offset: u32, value: u32, map: &GuestMap) -> bool
         ensures taken { result ≡ is_some (reg_write (mapped map.now.regions) self.old offset value) }
         ensures state { self.new ≡ or_unchanged self.old (reg_write (mapped map.now.regions) self.old offset value) }
@@ -102,7 +102,8 @@ impl Vctl {
     // Writes CC: enables or resets the controller, where EN changes.
     fn write_cc(&mut self, value: u32, map: &GuestMap) -> bool
         ensures taken { result ≡ is_some (cc_written (is_enabled self.old) (bits value 0 0 == 1) (mapped map.now.regions) self.old value) }
-        ensures state { self.new ≡ or_unchanged self.old (cc_written (is_enabled self.old) (bits value 0 0 == 1) (mapped map.now.regions) self.old value) }
+        ensures state { self.new
+            ≡ or_unchanged self.old (cc_written (is_enabled self.old) (bits value 0 0 == 1) (mapped map.now.regions) self.old value) }
     {
         match (self.is_enabled(), enables(value)) {
             (false, true) => {

@@ -1,16 +1,18 @@
 //! The controller, and what can be read of it.
 
-ghost use Rattle.std.specs.Prelude.{◌≡◌, ◌+◌, ◌-◌, ◌*◌, ◌<◌, ◌≤◌, ◌==◌, ℕ, Bool, drop, if◌then◌else◌, not, nat_lt, is_some, length, slice_index, slice_set, sum};
+ghost use Rattle.std.specs.Prelude.{◌≡◌, ◌+◌, ◌-◌, ◌*◌, ◌<◌, ◌≤◌, ◌==◌, ◌↔◌, ℕ, All, Bool, IfSome, IsTrue, drop, if◌then◌else◌, not, nat_lt, is_some, length, slice_index, slice_set, sum};
 ghost use Rattle.std.specs.List.{list_any};
 ghost use Rattle.nv_model.specs.Admin.{has_io_queue, is_queue_full, uses};
 ghost use Rattle.nv_model.specs.Controller.{completion_queue, front, is_enabled, is_ready, opening, running, submission_queue};
-ghost use Rattle.nv_model.specs.Laws.{QueuesInPlace};
+ghost use Rattle.nv_mem.specs.GuestMap.{mapped};
+ghost use Rattle.nv_model.specs.Laws.{IsCompletionInPlace, IsSubmissionInPlace, QueuesInPlace};
 ghost use Rattle.nv_model.specs.Limits.{most_requests};
 ghost use Rattle.nv_vctl.specs.Vctl.{IsWhole, most_taken};
 
 use crate::deletion::Deletion;
 use crate::queues::{CompletionQueue, SubmissionQueue};
 use crate::registers::enables;
+use nv_mem::GuestMap;
 use std::marker::Model;
 
 /// The number of the last I/O queue. Queue 0 is the admin queue.
@@ -50,14 +52,16 @@ impl Model for Vctl {
 
     ghost Value = { Controller };
 
-    ghost view = { λ v. record { cc = v.cc; aqa = v.aqa; asq_low = v.asq_low; asq_high = v.asq_high; acq_low = v.acq_low; acq_high = v.acq_high; ready = v.ready; failed = v.failed; submission = v.submission; completion_queues = v.completion; taken = v.taken; held_requests = v.held_requests; deletion = v.deletion } };
+    ghost use Rattle.nv_vctl.specs.Inside.{controller_of};
 
-    ghost invariant = { λ v. IsWhole (record { cc = v.cc; aqa = v.aqa; asq_low = v.asq_low; asq_high = v.asq_high; acq_low = v.acq_low; acq_high = v.acq_high; ready = v.ready; failed = v.failed; submission = v.submission; completion_queues = v.completion; taken = v.taken; held_requests = v.held_requests; deletion = v.deletion }) };
+    ghost view = { controller_of };
+
+    ghost invariant = { λ v. IsWhole (controller_of v) };
 }
 
 impl Vctl {
-    #[tactic(auto, unfolding(nv_model::specs::Controller::opening))]
     /// The controller at the start: every register is 0 but CAP and VS, and no queue is there.
+    #[tactic(auto, unfolding(nv_model::specs::Controller::opening))]
     pub fn new() -> Self
         ensures state { result ≡ opening }
         ensures in_place { (test : ℕ → Bool) → QueuesInPlace test result }
@@ -161,9 +165,9 @@ impl Vctl {
         self.deletion
     }
 
-    #[tactic(auto, unfolding(nv_model::specs::Controller::front))]
     /// Whether a command of a queue may be taken: the controller is ready, and the queue is there, does not close and has a
     /// command that waits.
+    #[tactic(auto, unfolding(nv_model::specs::Controller::front))]
     pub fn waits(&self, queue: u16) -> bool
         ensures { result ≡ is_some (front self.now queue) }
     {
@@ -178,6 +182,14 @@ impl Vctl {
         ensures { result ≡ nat_lt (slice_index self.now.taken queue) most_taken }
     {
         self.taken(queue) < MOST_TAKEN
+    }
+
+    /// Whether the queues that are there lie wholly in the map, as every call that is lent a map and a host requires. Every call
+    /// keeps it.
+    pub fn lies_in(&self, map: &GuestMap) -> bool
+        ensures { IsTrue result ↔ QueuesInPlace (mapped map.now.regions) self.now }
+    {
+        submissions_lie_in(&self.submission, map) && completions_lie_in(&self.completion, map)
     }
 
     /// The submission queue of a number.
@@ -243,6 +255,20 @@ fn has_io_completion_queue(queues: &[Option<CompletionQueue>; QUEUE_COUNT]) -> b
     ensures { result ≡ list_any is_some (drop 1 queues.now) }
 {
     queues.iter().skip(1).any(|found| found.is_some())
+}
+
+// Whether the submission queues that are there lie in the map.
+fn submissions_lie_in(queues: &[Option<SubmissionQueue>; QUEUE_COUNT], map: &GuestMap) -> bool
+    ensures { IsTrue result ↔ All (λ o. IfSome o (IsSubmissionInPlace (mapped map.now.regions))) queues.now }
+{
+    queues.iter().flatten().all(|found| found.lies_in(map))
+}
+
+// Whether the completion queues that are there lie in the map.
+fn completions_lie_in(queues: &[Option<CompletionQueue>; QUEUE_COUNT], map: &GuestMap) -> bool
+    ensures { IsTrue result ↔ All (λ o. IfSome o (IsCompletionInPlace (mapped map.now.regions))) queues.now }
+{
+    queues.iter().flatten().all(|found| found.lies_in(map))
 }
 
 // Whether there is a queue, and it uses that completion queue.

@@ -5,3 +5,5 @@ pub mod SeatSteps
 pub mod SeatTags
 pub mod SeatPosts
 pub mod SmallWorld
+pub mod LaneReach
+pub mod LaneCounts

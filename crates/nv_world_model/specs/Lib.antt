@@ -15,6 +15,7 @@ pub mod Disciplined
 pub mod Agrees
 pub mod Headline
 pub mod Laws
+pub mod LaneRuns
 pub mod Rows
 pub mod RowsWorlds
 pub mod RowsShown

@@ -327,6 +327,23 @@ fn is_as_expected(alloc: Global, map: &GuestMap, case: &Case) -> Result<bool, No
     Ok(end == case.end.want() && has_pieces(alloc, &parse, case.pieces)?)
 }
 
+// Whether a parse that keeps the places alone comes to the same.
+fn places_are_as_expected(alloc: Global, map: &GuestMap, case: &Case) -> Result<bool, NoMemory> {
+    let memory = memory_of(alloc, case.memory)?;
+    let mut parse = PlacesParse::new(alloc, map, descriptor(case.first), case.dest, case.need)?;
+    for _ in 0..2000 {
+        match parse.wants() {
+            Want::Read { addr, len } => match part(&memory, addr, len) {
+                Some(bytes) => parse = parse.fed(bytes)?,
+                None => return Ok(false),
+            },
+            Want::Done => return Ok(parse.into_places().pieces() == case.pieces),
+            end => return Ok(end == case.end.want()),
+        }
+    }
+    Ok(false)
+}
+
 // Whether a parse that is done names these pieces; where it isn't done, whether they are none.
 fn has_pieces(
     alloc: Global,
@@ -343,6 +360,7 @@ fn has_pieces(
 fn check(rt: &impl Abort, alloc: Global, map: &GuestMap, cases: &[Case]) -> Result<(), NoMemory> {
     for case in cases {
         assert!(rt; is_as_expected(alloc, map, case)?, "{}", case.name);
+        assert!(rt; places_are_as_expected(alloc, map, case)?, "{}", case.name);
     }
     Ok(())
 }

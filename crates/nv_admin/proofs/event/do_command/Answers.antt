@@ -42,19 +42,23 @@ step c =
     let is =
     command-stepped (mapped c.args.map.now.regions) c.args.blocks c.args.vctl.now memory (front c.args.vctl.now 0) c.in-Some.sqe c.in-Some.ensures
     (sym c.if-is_admin_full.ensures)
-    ∙ ap (λ (d : Controller). stepped (admin_command (mapped c.args.map.now.regions) c.args.blocks c.in-Some.sqe d memory) (cid_of c.in-Some.sqe)) (sym c.took.ensures.state)
+    ∙ ap (λ (d : Controller). stepped (admin_command (mapped c.args.map.now.regions) c.args.blocks c.in-Some.sqe d memory) (cid_of c.in-Some.sqe))
+    (sym c.took.ensures.state)
     ∙ ap (λ (n : ℕ). stepped done n) (sym c.cid.ensures) in
-    subst (λ (s : AdminStep). IsStepped c.args.map.now.regions (byte_in c.args.host.now) s c.complete.new.vctl (byte_in c.complete.new.host)) (sym is)
+    subst (λ (s : AdminStep). IsStepped c.args.map.now.regions (byte_in c.args.host.now) s c.complete.new.vctl
+    (byte_in c.complete.new.host)) (sym is)
     (done-stepped c.args.map.now.regions (byte_in c.args.host.now) (byte_in c.carry_out-outcome.new.host) (byte_in c.complete.new.host) done
     c.carry_out-outcome.result c.carry_out-outcome.new.vctl c.complete.new.vctl c.cid.result c.carry_out-outcome.ensures.done c.complete.ensures.step)
 
 pub returns-clause-reply : goal.returns-clause-reply
 returns-clause-reply c =
-    c.complete.ensures.reply ∙ stepped-reply c.args.map.now.regions (byte_in c.args.host.now) _ c.complete.new.vctl (byte_in c.complete.new.host) (step c)
+    c.complete.ensures.reply ∙ stepped-reply c.args.map.now.regions (byte_in c.args.host.now) _ c.complete.new.vctl
+    (byte_in c.complete.new.host) (step c)
 
 pub returns-clause-controller : goal.returns-clause-controller
 returns-clause-controller c =
     stepped-controller c.args.map.now.regions (byte_in c.args.host.now) _ c.args.vctl.now c.complete.new.vctl (byte_in c.complete.new.host) (step c)
 
 pub returns-clause-host : goal.returns-clause-host
-returns-clause-host c = stepped-host c.args.map.now.regions (byte_in c.args.host.now) _ c.complete.new.vctl (byte_in c.complete.new.host) (step c)
+returns-clause-host c = stepped-host c.args.map.now.regions (byte_in c.args.host.now) _ c.complete.new.vctl
+    (byte_in c.complete.new.host) (step c)

@@ -1,4 +1,4 @@
-use Rattle.std.proofs.Common.{◌≡◌, ◌<◌, ℕ, List, sym, ap, subst, ◌∙◌, arith}
+use Rattle.std.proofs.Common.{◌≡◌, ◌<◌, ℕ, List, sym, subst, ◌∙◌, arith}
 use Rattle.nv_entry.specs.Opcode.{io_opcode}
 use Rattle.nv_entry.specs.Submission.{opcode_of}
 use Rattle.nv_mem.specs.declared.piece.Piece.{Piece}

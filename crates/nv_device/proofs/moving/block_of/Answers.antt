@@ -1,4 +1,4 @@
-use Rattle.std.proofs.Common.{◌≡◌, ◌+◌, ◌*◌, ◌≤◌, ℕ, length, drop, refl, arith, ap, sym, ◌∙◌}
+use Rattle.std.proofs.Common.{◌≡◌, ◌*◌, length, drop, refl, arith, ap, ◌∙◌}
 use Rattle.std.proofs.lemmas.List.{length-drop}
 use Rattle.nv_entry.specs.Opcode.{io_opcode}
 use Rattle.nv_entry.specs.Submission.{opcode_of}

@@ -1,4 +1,4 @@
-use Rattle.std.proofs.Common.{◌≡◌, ℕ, false, arith, ap, sym, ◌∙◌}
+use Rattle.std.proofs.Common.{◌≡◌, false, arith, sym}
 use Rattle.nv_entry.specs.Range.{blocks_of, start_of}
 use Rattle.nv_moves.specs.Flat.{flat, moved_of}
 use Rattle.nv_moves.proofs.MoveLemmas.{cleared-none}

@@ -1,9 +1,5 @@
-use Rattle.std.proofs.Common.{◌≡◌, ◌<◌, ℕ, Bool, true, false, not, List, Some, length, refl, sym, ap, subst, ◌∙◌, arith}
+use Rattle.std.proofs.Common.{◌≡◌, ℕ, true, false, List, length, refl, sym, ap, subst, ◌∙◌}
 use Rattle.std.specs.List.{list_all}
-use Rattle.nv_entry.specs.Opcode.{io_opcode}
-use Rattle.nv_entry.specs.Submission.{opcode_of}
-use Rattle.nv_entry.specs.declared.opcode.IoOpcode.TheVariants.{DatasetManagement}
-use Rattle.nv_model.specs.Judge.{deallocates}
 use Rattle.nv_device.specs.Moving.{IsRangeOnDisk}
 use Rattle.nv_device.specs.Pages.{piece_in}
 use Rattle.nv_device.proofs.SpellLemmas.{below-pieces, pieces-below}

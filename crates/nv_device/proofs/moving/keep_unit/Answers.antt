@@ -1,4 +1,4 @@
-use Rattle.std.proofs.Common.{◌≡◌, Bool, false, ap, ◌∙◌}
+use Rattle.std.proofs.Common.{false, ap, ◌∙◌}
 use Rattle.nv_entry.specs.declared.opcode.IoOpcode.TheVariants.{Flush}
 use Rattle.nv_model.specs.Carried.{block_work}
 use Rattle.nv_moves.specs.Flat.{flat, moved_of}

@@ -1,4 +1,4 @@
-use Rattle.std.proofs.Common.{◌≡◌, length, Bool, true, false, not, ap, sym, ◌∙◌}
+use Rattle.std.proofs.Common.{length, ap, sym, ◌∙◌}
 use Rattle.nv_moves.specs.Flat.{flat, moved_of}
 use Rattle.nv_world_model.specs.Device.{range_at}
 use Rattle.nv_device.proofs.UnitLemmas.{deallocate-unit, leave-unit, memory-of, range-there}

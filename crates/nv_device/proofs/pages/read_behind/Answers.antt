@@ -1,10 +1,10 @@
-use Rattle.std.proofs.Common.{◌≡◌, ◌<◌, ◌≤◌, ◌+◌, ◌*◌, ℕ, true, ◌++◌, ◌∷◌, [], List, sym, ap, subst, ◌∙◌, arith}
+use Rattle.std.proofs.Common.{◌≡◌, ℕ, ◌++◌, ◌∷◌, [], List, sym, ap, ◌∙◌, arith}
 use Rattle.nv_mem.specs.declared.piece.Piece.{Piece}
 use Rattle.nv_mem.specs.declared.piece.Piece.TheVariants.{Run}
 use Rattle.nv_model.specs.Prp.{pages_of, slots_of}
-use Rattle.nv_model.specs.Reading.{Reading, Spells}
-use Rattle.nv_device.specs.Pages.{behind_reading, entries_reading, spells}
-use Rattle.nv_device.proofs.PageLemmas.{IsListThere, behind-list, behind-none, behind-one, on_ok}
+use Rattle.nv_model.specs.Reading.{Spells}
+use Rattle.nv_device.specs.Pages.{entries_reading, spells}
+use Rattle.nv_device.proofs.PageLemmas.{behind-list, behind-none, behind-one, on_ok}
 use Rattle.nv_device.proofs.pages.read_behind.Goals as goal
 
 pub read_list-requires-clause-aligned : goal.read_list-requires-clause-aligned

@@ -1,8 +1,6 @@
-use Rattle.std.proofs.Common.{◌≡◌, ◌*◌, ◌+◌, ◌≤◌, List, length, min, arith, sym, ap, ◌∙◌}
+use Rattle.std.proofs.Common.{List, arith, ap, ◌∙◌}
 use Rattle.nv_mem.specs.declared.piece.Piece.{Piece}
-use Rattle.nv_model.specs.Prp.{slots_of}
 use Rattle.nv_model.specs.Reading.{Spells}
-use Rattle.nv_device.specs.Pages.{entries_reading}
 use Rattle.nv_device.proofs.PageLemmas.{listing-end, listing-more, listing-start, spelled-is}
 use Rattle.nv_device.proofs.pages.read_list.Goals as goal
 

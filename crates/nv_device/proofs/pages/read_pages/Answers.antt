@@ -1,7 +1,6 @@
-use Rattle.std.proofs.Common.{◌≡◌, ◌++◌, ◌∷◌, [], List, true, sym, ap, ◌∙◌, arith}
+use Rattle.std.proofs.Common.{◌++◌, ◌∷◌, [], List, sym, ap, ◌∙◌}
 use Rattle.nv_mem.specs.declared.piece.Piece.{Piece}
 use Rattle.nv_mem.specs.declared.piece.Piece.TheVariants.{Run}
-use Rattle.nv_model.specs.Reading.{Reading}
 use Rattle.nv_device.specs.Pages.{spells}
 use Rattle.nv_device.proofs.PageLemmas.{host_reading-behind}
 use Rattle.nv_device.proofs.pages.read_pages.Goals as goal

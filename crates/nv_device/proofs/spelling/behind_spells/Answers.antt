@@ -1,7 +1,7 @@
 use Rattle.std.proofs.Common.{◌≡◌, ◌*◌, ◌&&◌, ◌<◌, min, ℕ, Bool, true, length, sym, ap, ◌∙◌, arith}
 use Rattle.std.specs.Prelude.{is_none}
 use Rattle.nv_model.specs.Prp.{entry_fault, pages_of, slots_of}
-use Rattle.nv_device.specs.Pages.{behind_reading, entries_reading, in_host, spells}
+use Rattle.nv_device.specs.Pages.{entries_reading, in_host, spells}
 use Rattle.nv_device.proofs.SpellLemmas.{list-there, spells-list, spells-none, spells-one}
 use Rattle.nv_device.proofs.spelling.behind_spells.Goals as goal
 

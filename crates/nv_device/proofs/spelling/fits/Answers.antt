@@ -1,4 +1,4 @@
-use Rattle.std.proofs.Common.{◌≡◌, ◌%◌, ◌&&◌, Bool, sym, ap, ◌∙◌, eq-eqb, length}
+use Rattle.std.proofs.Common.{◌%◌, ◌&&◌, Bool, sym, ap, ◌∙◌, eq-eqb, length}
 use Rattle.nv_mem.specs.GuestMap.{everywhere}
 use Rattle.nv_device.specs.Pages.{in_host}
 use Rattle.nv_device.proofs.SpellLemmas.{holds-everywhere, passes-both}

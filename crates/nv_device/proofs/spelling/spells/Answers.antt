@@ -1,4 +1,4 @@
-use Rattle.std.proofs.Common.{◌≡◌, ◌-◌, ◌&&◌, Bool, sym, ap, ◌∙◌}
+use Rattle.std.proofs.Common.{◌-◌, ◌&&◌, Bool, sym, ap, ◌∙◌}
 use Rattle.nv_model.specs.Prp.{pages_of}
 use Rattle.nv_model.specs.Reading.{run}
 use Rattle.nv_device.specs.Pages.{behind_reading, spells}

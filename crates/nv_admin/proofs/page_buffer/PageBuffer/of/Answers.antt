@@ -23,13 +23,15 @@ returns-in_err-check_entry-2-clause-reading c =
 pub returns-in_ok-check_entry-2-clause-reading : goal.returns-in_ok-check_entry-2-clause-reading
 returns-in_ok-check_entry-2-clause-reading c =
     rw (← c.prp1-prp1.ensures, ← c.prp2-prp2.ensures)
-    (page-spells_two (λ _. 0) (mapped c.args.map.now.regions) c.prp1-prp1.result c.prp2-prp2.result c.in_ok-check_entry.ensures.fault c.if-offset-gt0.true
+    (page-spells_two (λ _. 0) (mapped c.args.map.now.regions) c.prp1-prp1.result c.prp2-prp2.result
+    c.in_ok-check_entry.ensures.fault c.if-offset-gt0.true
     c.in_ok-check_entry-2.ensures.fault)
 
 pub returns-else-offset-gt0-clause-reading : goal.returns-else-offset-gt0-clause-reading
 returns-else-offset-gt0-clause-reading c =
     rw (← c.prp1-prp1.ensures, ← c.prp2-prp2.ensures)
-    (page-spells_one (λ _. 0) (mapped c.args.map.now.regions) c.prp1-prp1.result c.prp2-prp2.result c.in_ok-check_entry.ensures.fault (omega arith))
+    (page-spells_one (λ _. 0) (mapped c.args.map.now.regions) c.prp1-prp1.result c.prp2-prp2.result
+    c.in_ok-check_entry.ensures.fault (omega arith))
 
 pub returns-else-offset-gt0-clause-in_map : goal.returns-else-offset-gt0-clause-in_map
 returns-else-offset-gt0-clause-in_map c = record {

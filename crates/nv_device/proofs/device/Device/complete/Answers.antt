@@ -1,7 +1,6 @@
-use Rattle.std.proofs.Common.{◌≡◌, ◌+◌, ◌<◌, ◌≤◌, ℕ, Bool, List, length, sym, ap, subst, ◌∙◌, arith}
-use Rattle.nv_entry.specs.Completion.{completion}
+use Rattle.std.proofs.Common.{◌≡◌, ◌+◌, ◌<◌, ℕ, length, sym, ap, subst, ◌∙◌, arith}
 use Rattle.nv_model.specs.Memory.{byte_in}
-use Rattle.nv_world_model.specs.Area.{completion_slot, queue_pair}
+use Rattle.nv_world_model.specs.Area.{completion_slot}
 use Rattle.nv_world_model.specs.Device.{DeviceLane, completion_posted}
 use Rattle.nv_device.specs.Physical.{Physical, lane_of, with_lane}
 use Rattle.nv_device.proofs.LaneLemmas.{completion-stored, lane-changed, lane-got, same-completion}

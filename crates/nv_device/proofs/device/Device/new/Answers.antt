@@ -1,8 +1,5 @@
-use Rattle.std.proofs.Common.{◌≡◌, ℕ, ◌≤◌, ◌^◌, Bool, false, List, length, replicate, sym, ap, subst, ◌∙◌, arith}
+use Rattle.std.proofs.Common.{false, length, replicate, ap, ◌∙◌}
 use Rattle.std.proofs.lemmas.List.{length-replicate}
-use Rattle.nv_world_model.specs.Area.{lane_start}
-use Rattle.nv_world_model.specs.Device.{DeviceLane, opening_device_lane}
-use Rattle.nv_device.specs.Physical.{AreHeld, IsWhole}
 use Rattle.nv_device.proofs.HeldLemmas.{opening-whole}
 use Rattle.nv_device.proofs.device.Device.new.Goals as goal
 

@@ -1,6 +1,5 @@
-use Rattle.std.proofs.Common.{◌≡◌, ℕ, Bool, true, List, length, replicate, sym, ap, ◌∙◌}
+use Rattle.std.proofs.Common.{Bool, List, length, sym, ap, ◌∙◌}
 use Rattle.std.proofs.lemmas.List.FromFn.{length-range_with_len}
-use Rattle.std.specs.List.{range_with_len}
 use Rattle.nv_device.specs.Units.{numbers_marked}
 use Rattle.nv_device.proofs.UnitMarks.{numbers-all}
 use Rattle.nv_device.proofs.units.Units.new.Goals as goal

@@ -1,4 +1,4 @@
-use Rattle.std.proofs.Common.{◌≡◌, ◌≢◌, List, ℕ, Some, None, refl, sym, ap, ◌∙◌, subst, arith}
+use Rattle.std.proofs.Common.{refl, sym, ap, ◌∙◌, arith}
 use Rattle.nv_tags.specs.Tags.{free_slot}
 use Rattle.nv_tags.proofs.Slots.{claimed-seen, free_slot-is}
 use Rattle.nv_tags.proofs.tags.Tags.claim.Goals as goal

@@ -1,4 +1,4 @@
-use Rattle.std.proofs.Common.{◌≡◌, ◌≢◌, List, ℕ, Some, None, refl, sym, ap, ◌∙◌, subst, arith}
+use Rattle.std.proofs.Common.{arith}
 use Rattle.nv_tags.proofs.Slots.{claim-seen, there}
 use Rattle.nv_tags.proofs.tags.Tags.entry.Goals as goal
 

@@ -1,4 +1,3 @@
-use Rattle.std.proofs.Common.{◌≡◌, ◌≢◌, List, ℕ, Some, None, refl, sym, ap, ◌∙◌, subst, arith}
 use Rattle.nv_tags.proofs.Slots.{slots_of-free}
 use Rattle.nv_tags.proofs.tags.Tags.new.Goals as goal
 

@@ -1,4 +1,4 @@
-use Rattle.std.proofs.Common.{◌≡◌, ◌≢◌, List, ℕ, Some, None, refl, sym, ap, ◌∙◌, subst, arith}
+use Rattle.std.proofs.Common.{arith}
 use Rattle.nv_tags.proofs.Slots.{released-seen, there}
 use Rattle.nv_tags.proofs.tags.Tags.release.Goals as goal
 

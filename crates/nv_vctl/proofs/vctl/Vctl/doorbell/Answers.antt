@@ -10,14 +10,16 @@ pub returns-in-0-clause-taken : goal.returns-in-0-clause-taken
 returns-in-0-clause-taken c =
     c.ring_tail.ensures.taken
     ∙ ap (λ (o : Option Controller). is_some o)
-    (doorbell-tail c.args.self.now c.args.offset c.args.value c.low_half-slot.result (sym c.if-not-is_ready.ensures.value) c.if-offset-lt-DOORBELLS.false
+    (doorbell-tail c.args.self.now c.args.offset c.args.value c.low_half-slot.result
+    (sym c.if-not-is_ready.ensures.value) c.if-offset-lt-DOORBELLS.false
     c.in-0.is c.low_half-slot.ensures)
 
 pub returns-in-0-clause-state : goal.returns-in-0-clause-state
 returns-in-0-clause-state c =
     c.ring_tail.ensures.state
     ∙ ap (or_unchanged c.args.self.now)
-    (doorbell-tail c.args.self.now c.args.offset c.args.value c.low_half-slot.result (sym c.if-not-is_ready.ensures.value) c.if-offset-lt-DOORBELLS.false
+    (doorbell-tail c.args.self.now c.args.offset c.args.value c.low_half-slot.result
+    (sym c.if-not-is_ready.ensures.value) c.if-offset-lt-DOORBELLS.false
     c.in-0.is c.low_half-slot.ensures)
 
 pub returns-in-0-clause-in_place : goal.returns-in-0-clause-in_place
@@ -28,14 +30,16 @@ pub returns-in-4-clause-taken : goal.returns-in-4-clause-taken
 returns-in-4-clause-taken c =
     c.ring_head.ensures.taken
     ∙ ap (λ (o : Option Controller). is_some o)
-    (doorbell-head c.args.self.now c.args.offset c.args.value c.low_half-slot.result (sym c.if-not-is_ready.ensures.value) c.if-offset-lt-DOORBELLS.false
+    (doorbell-head c.args.self.now c.args.offset c.args.value c.low_half-slot.result
+    (sym c.if-not-is_ready.ensures.value) c.if-offset-lt-DOORBELLS.false
     c.in-4.is c.low_half-slot.ensures)
 
 pub returns-in-4-clause-state : goal.returns-in-4-clause-state
 returns-in-4-clause-state c =
     c.ring_head.ensures.state
     ∙ ap (or_unchanged c.args.self.now)
-    (doorbell-head c.args.self.now c.args.offset c.args.value c.low_half-slot.result (sym c.if-not-is_ready.ensures.value) c.if-offset-lt-DOORBELLS.false
+    (doorbell-head c.args.self.now c.args.offset c.args.value c.low_half-slot.result
+    (sym c.if-not-is_ready.ensures.value) c.if-offset-lt-DOORBELLS.false
     c.in-4.is c.low_half-slot.ensures)
 
 pub returns-in-4-clause-in_place : goal.returns-in-4-clause-in_place

@@ -5,7 +5,8 @@ use Rattle.nv_model.specs.Laws.{QueuesInPlace}
 use Rattle.nv_model.specs.Memory.{byte_in}
 use Rattle.nv_model.specs.Queue.{SubmissionQueue, cqe_size}
 use Rattle.nv_vctl.specs.Vctl.{IsWhole, controller_behind, host_behind, posted_or_held}
-use Rattle.nv_vctl.proofs.Entries.{AreFound, completion-fits, completion-mapped, host-posted, length-completion, post-done, post-held, post-made}
+use Rattle.nv_entry.proofs.CompletionLemmas.{length-completion}
+use Rattle.nv_vctl.proofs.Entries.{AreFound, completion-fits, completion-mapped, host-posted, post-done, post-held, post-made}
 use Rattle.nv_vctl.proofs.Places.{in_place-post}
 use Rattle.nv_vctl.proofs.Whole.{completion-below, whole-posted}
 use Rattle.nv_vctl.proofs.vctl.Vctl.post_cqe.Goals as goal
@@ -20,7 +21,7 @@ returns-then-is_full-clause-posted c =
       room = c.is_full.ensures;
     } in
     ap (λ (o : Option Posted). posted_or_held o)
-    (sym (post-held n c.args.queue c.from-completes_to.result c.args.dw0 c.args.cid c.args.status c.in-Some.from c.in-Some-completion_queue.to c.is_full.result found c.if-is_full.true))
+    (sym (post-held c.args.dw0 c.args.cid c.args.status found c.if-is_full.true))
 
 pub returns-then-is_full-clause-state : goal.returns-then-is_full-clause-state
 returns-then-is_full-clause-state c =
@@ -32,7 +33,7 @@ returns-then-is_full-clause-state c =
       room = c.is_full.ensures;
     } in
     ap (controller_behind n)
-    (sym (post-held n c.args.queue c.from-completes_to.result c.args.dw0 c.args.cid c.args.status c.in-Some.from c.in-Some-completion_queue.to c.is_full.result found c.if-is_full.true))
+    (sym (post-held c.args.dw0 c.args.cid c.args.status found c.if-is_full.true))
 
 pub returns-then-is_full-clause-host : goal.returns-then-is_full-clause-host
 returns-then-is_full-clause-host c =
@@ -44,7 +45,7 @@ returns-then-is_full-clause-host c =
       room = c.is_full.ensures;
     } in
     ap (host_behind c.args.map.now.regions (byte_in c.args.host.now))
-    (sym (post-held n c.args.queue c.from-completes_to.result c.args.dw0 c.args.cid c.args.status c.in-Some.from c.in-Some-completion_queue.to c.is_full.result found c.if-is_full.true))
+    (sym (post-held c.args.dw0 c.args.cid c.args.status found c.if-is_full.true))
 
 pub next-requires : goal.next-requires
 next-requires c =
@@ -64,12 +65,14 @@ store-requires-clause-mapped c =
 
 pub bounds-self-inside-completes_to : goal.bounds-self-inside-completes_to
 bounds-self-inside-completes_to c =
-    completion-below c.args.self.now c.from-completes_to.result c.in-Some-completion_queue.to (subst IsWhole c.self.view_is c.self.invariant)
+    completion-below c.args.self.now c.from-completes_to.result c.in-Some-completion_queue.to
+    (subst IsWhole c.self.view_is c.self.invariant)
     (sym c.completion_queue.ensures ∙ c.in-Some-completion_queue.is)
 
 pub listed : goal.listed
 listed c =
-    let below = completion-below c.args.self.now c.from-completes_to.result c.in-Some-completion_queue.to (subst IsWhole c.self.view_is c.self.invariant)
+    let below = completion-below c.args.self.now c.from-completes_to.result c.in-Some-completion_queue.to
+    (subst IsWhole c.self.view_is c.self.invariant)
     (sym c.completion_queue.ensures ∙ c.in-Some-completion_queue.is) in
     let count : length c.self.inside.completion ≡ 9 = c.self.invariant.together.completion_count in
     omega arith
@@ -84,10 +87,11 @@ invariant_of-self c =
       room = c.is_full.ensures;
     } in
     subst IsWhole
-    (sym (post-made _ n c.args.queue c.from-number.result c.args.dw0 c.args.cid c.args.status c.in-Some.from c.in-Some-completion_queue.to c.go_on.new.self
+    (sym (post-made _ n c.args.queue c.from-number.result c.args.dw0 c.args.cid c.args.status
+    c.in-Some.from c.in-Some-completion_queue.to c.go_on.new.self
     c.from-completes_to.result c.count_ended.new.taken c.self.view_is c.from-number.ensures found.goes c.go_on.ensures c.count_ended.ensures))
     (whole-posted n c.args.queue c.args.dw0 c.args.cid c.args.status _ c.requires.ready
-    (post-done n c.args.queue c.from-completes_to.result c.args.dw0 c.args.cid c.args.status c.in-Some.from c.in-Some-completion_queue.to c.is_full.result found c.if-is_full.false)
+    (post-done c.args.dw0 c.args.cid c.args.status found c.if-is_full.false)
     (subst IsWhole c.self.view_is c.self.invariant))
 
 pub returns-clause-posted : goal.returns-clause-posted
@@ -100,7 +104,7 @@ returns-clause-posted c =
       room = c.is_full.ensures;
     } in
     ap (λ (o : Option Posted). posted_or_held o)
-    (sym (post-done n c.args.queue c.from-completes_to.result c.args.dw0 c.args.cid c.args.status c.in-Some.from c.in-Some-completion_queue.to c.is_full.result found c.if-is_full.false))
+    (sym (post-done c.args.dw0 c.args.cid c.args.status found c.if-is_full.false))
 
 pub returns-clause-state : goal.returns-clause-state
 returns-clause-state c =
@@ -114,7 +118,7 @@ returns-clause-state c =
     post-made _ n c.args.queue c.from-number.result c.args.dw0 c.args.cid c.args.status c.in-Some.from c.in-Some-completion_queue.to c.go_on.new.self
     c.from-completes_to.result c.count_ended.new.taken c.self.view_is c.from-number.ensures found.goes c.go_on.ensures c.count_ended.ensures
     ∙ ap (controller_behind n)
-    (sym (post-done n c.args.queue c.from-completes_to.result c.args.dw0 c.args.cid c.args.status c.in-Some.from c.in-Some-completion_queue.to c.is_full.result found c.if-is_full.false))
+    (sym (post-done c.args.dw0 c.args.cid c.args.status found c.if-is_full.false))
 
 pub returns-clause-host : goal.returns-clause-host
 returns-clause-host c =
@@ -125,11 +129,13 @@ returns-clause-host c =
       there = sym c.completion_queue.ensures ∙ c.in-Some-completion_queue.is;
       room = c.is_full.ensures;
     } in
-    host-posted c.args.map.now.regions (byte_in c.args.host.now) (byte_in c.store.new.host) n c.in-Some.from c.in-Some-completion_queue.to c.args.queue
-    c.args.dw0 c.args.cid c.head.result c.next.result c.phase.result c.args.status c.bytes.result c.new-cqe.result c.store.ensures.bytes c.next.ensures
-    c.bytes.ensures c.new-cqe.ensures.bytes c.head.ensures c.phase.ensures
+    host-posted c.args.map.now.regions (byte_in c.args.host.now) (byte_in c.store.new.host) n
+    c.in-Some.from c.in-Some-completion_queue.to c.args.queue
+    c.args.dw0 c.args.cid c.head.result c.next.result c.phase.result c.args.status
+    c.bytes.result c.new-cqe.result c.store.ensures.bytes c.next.ensures
+    c.bytes.ensures c.new-cqe.ensures.bytes c.head.ensures.value c.phase.ensures
     ∙ ap (host_behind c.args.map.now.regions (byte_in c.args.host.now))
-    (sym (post-done n c.args.queue c.from-completes_to.result c.args.dw0 c.args.cid c.args.status c.in-Some.from c.in-Some-completion_queue.to c.is_full.result found c.if-is_full.false))
+    (sym (post-done c.args.dw0 c.args.cid c.args.status found c.if-is_full.false))
 
 pub returns-clause-in_place : goal.returns-clause-in_place
 returns-clause-in_place c =

@@ -11,7 +11,8 @@ invariant_of-self c =
     let q : SubmissionQueue = c.in-Some.found in
     let new : SubmissionQueue = c.ring_tail.new.self in
     let same : new.completes_to ≡ q.completes_to =
-    ap (λ (s : SubmissionQueue). s.completes_to) c.ring_tail.ensures.state ∙ rung-completes (not q.closing && nat_lt c.args.tail q.size) q c.args.tail in
+    ap (λ (s : SubmissionQueue). s.completes_to) c.ring_tail.ensures.state
+    ∙ rung-completes (not q.closing && nat_lt c.args.tail q.size) q c.args.tail in
     subst IsWhole (ap (λ (v : Controller). with_submission v c.args.queue (Some new)) (sym c.self.view_is))
     (whole-changed c.args.self.now c.args.queue q new (ready-on c.args.self.now c.requires.ready) (sym c.submission_queue.ensures ∙ c.in-Some.is) same
     (subst IsWhole c.self.view_is c.self.invariant))

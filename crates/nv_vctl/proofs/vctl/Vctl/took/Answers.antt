@@ -36,7 +36,8 @@ invariant_of-self c =
     let is : submission_queue c.args.self.now c.args.queue ≡ Some c.in-Some.found =
     ap (submission_queue c.args.self.now) (sym c.from-number.ensures) ∙ sym c.submission_queue.ensures ∙ c.in-Some.is in
     subst IsWhole
-    (sym (took-made _ c.args.self.now c.args.queue c.from-number.result c.in-Some.found c.take_front.new.self c.count_taken.new.taken c.self.view_is is
+    (sym (took-made _ c.args.self.now c.args.queue c.from-number.result c.in-Some.found
+    c.take_front.new.self c.count_taken.new.taken c.self.view_is is
     c.from-number.ensures c.take_front.ensures c.count_taken.ensures))
     (whole-took c.args.self.now c.args.queue c.requires.waits (subst IsWhole c.self.view_is c.self.invariant))
 
@@ -45,6 +46,7 @@ returns-clause-in_place c = λ test place.
     let is : submission_queue c.args.self.now c.args.queue ≡ Some c.in-Some.found =
     ap (submission_queue c.args.self.now) (sym c.from-number.ensures) ∙ sym c.submission_queue.ensures ∙ c.in-Some.is in
     subst (QueuesInPlace test)
-    (sym (took-made _ c.args.self.now c.args.queue c.from-number.result c.in-Some.found c.take_front.new.self c.count_taken.new.taken c.self.view_is is
+    (sym (took-made _ c.args.self.now c.args.queue c.from-number.result c.in-Some.found
+    c.take_front.new.self c.count_taken.new.taken c.self.view_is is
     c.from-number.ensures c.take_front.ensures c.count_taken.ensures))
     (in_place-took test c.args.self.now c.args.queue place)

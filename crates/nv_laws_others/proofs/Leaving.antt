@@ -1,0 +1,216 @@
+-- What leaves all but the owner's alone leaves every other guest's view.
+use Rattle.std.proofs.Common.{◌≡◌, ℕ, ◌+◌, ◌<◌, ◌≤◌, ◌⊎◌, inl, inr, true, false, ◌==◌, nat_le, nat_lt, length, slice_get, Option, Some, None, is_some, arith, refl, sym, ap, ◌∙◌, eqb-true, leb-true, ltb-true, subst}
+use Rattle.std.specs.Prelude.{◌≢◌}
+use Rattle.std.specs.List.{range_with_len}
+use Rattle.std.proofs.lemmas.Bool.{cases_eq, cases_lt, le-leb, lt-ltb, ne_eqb}
+use Rattle.std.proofs.lemmas.List.Folds.{list_any_none}
+use Rattle.nv_mem.specs.GuestMap.{guest_of, host_of}
+use Rattle.nv_mem.proofs.Images.{guest_of-host}
+use Rattle.nv_model.specs.Memory.{byte_at_host, image}
+use Rattle.nv_model.proofs.Endings.{and-true}
+use Rattle.nv_ns.specs.BlockRange.{block_at, block_count}
+use Rattle.nv_world_model.specs.Area.{lane_start, ring_size, tag_count}
+use Rattle.nv_world_model.specs.Contained.{LeavesOthers, given_to, in_area, in_extent_of, in_image_of, is_answered_at, is_queued_at, tag_stands}
+use Rattle.nv_world_model.specs.Device.{DeviceLane, Held}
+use Rattle.nv_world_model.specs.Geometry.{Geometry, Guest, regions_of}
+use Rattle.nv_world_model.specs.View.{is_tag_of}
+use Rattle.nv_world_model.specs.World.{Answered, Ended, Flying, Free, InDevice, Lane, Queued, Tag, Taken, World, tag_in, tag_of}
+use Rattle.nv_laws_sound.specs.Consistent.{IsBetween, IsConsistent, IsTag}
+use Rattle.nv_laws_sound.specs.LaidOut.{IsLaidOut}
+use Rattle.nv_laws_sound.proofs.Lists.{slice_get-below}
+use Rattle.nv_laws_sound.proofs.Named.{row-all}
+use Rattle.nv_laws_sound.proofs.Retags.{is-at, tag-is}
+use Rattle.nv_laws_sound.specs.Area.{SameInLane}
+use Rattle.nv_laws_sound.proofs.Slots.{held-under}
+use Rattle.nv_laws_sound.proofs.TagsKept.{IsUndisturbed}
+use Rattle.nv_laws_others.specs.Leaving.{InCompletion, InEntry, InPages, IsBytes, IsShownAt, Leaves}
+use Rattle.nv_laws_others.proofs.Shown.{shown-at}
+
+-- ---- apart from the owner
+
+module _ (host_bytes : ℕ) (geometry : Geometry) (lanes : ℕ) (laid : IsLaidOut host_bytes lanes geometry) where
+  -- a guest's bytes are none of another's
+  image-of : (found : Option Guest) (number other : ℕ) (guest : Guest) (at addr : ℕ) → slice_get geometry.guests other ≡ found
+      → slice_get geometry.guests number ≡ Some guest → number ≢ other → guest_of (regions_of guest) at ≡ Some addr → in_image_of found at ≡ false
+  image-of None number other guest at addr is given differ there = refl
+  image-of (Some g) number other guest at addr is given differ there =
+      ap is_some ((laid.apart number other guest g given is differ).bytes at addr there)
+
+  image-apart : (whose : Option ℕ) (number : ℕ) (guest : Guest) (at addr : ℕ) → slice_get geometry.guests number ≡ Some guest → whose ≢ Some number
+      → guest_of (regions_of guest) at ≡ Some addr → in_image_of (given_to whose geometry) at ≡ false
+  image-apart None number guest at addr given differ there = refl
+  image-apart (Some other) number guest at addr given differ there =
+      image-of (slice_get geometry.guests other) number other guest at addr refl given (λ same. differ (ap (λ n. Some n) (sym same))) there
+
+  -- nor the mediator's
+  area-apart : (w : World) (number : ℕ) (guest : Guest) (at addr : ℕ) → length w.lanes ≡ lanes → slice_get geometry.guests number ≡ Some guest
+      → guest_of (regions_of guest) at ≡ Some addr → in_area geometry w at ≡ false
+  area-apart w number guest at addr sized given there =
+      (elim (in_area geometry w at) as (λ b. in_area geometry w at ≡ b → b ≡ false) [
+        | false ↦ λ out. refl
+        | true ↦ λ inside.
+            (let both = and-true (nat_le geometry.mediator at) (nat_lt at (lane_start geometry.mediator (length w.lanes))) inside in
+            let high = ltb-true at (lane_start geometry.mediator (length w.lanes)) both.1 in
+            let none = laid.outside number guest at given (leb-true geometry.mediator at both.0) (omega (arith, high, sized)) in
+            let bad : Some addr ≡ None = sym there ∙ none in
+            cc)
+      ]) refl
+
+  -- a guest's blocks are none of another's
+  extent-of : (found : Option Guest) (number other : ℕ) (guest : Guest) (lba : ℕ) → slice_get geometry.guests other ≡ found
+      → slice_get geometry.guests number ≡ Some guest → number ≢ other → lba < block_count guest.extent → in_extent_of found (block_at guest.extent lba) ≡ false
+  extent-of None number other guest lba is given differ below = refl
+  extent-of (Some g) number other guest lba is given differ below =
+      list_any_none (λ n. block_at g.extent n == block_at guest.extent lba) (range_with_len 0 (block_count g.extent))
+      (row-all (λ n. (block_at g.extent n == block_at guest.extent lba) ≡ false) 0 (block_count g.extent)
+      (λ n low high. ne_eqb (block_at g.extent n) (block_at guest.extent lba) (λ same. meets n high same (laid.apart number other guest g given is differ).blocks)))
+    where
+      meets : (n : ℕ) → n < 0 + block_count g.extent → block_at g.extent n ≡ block_at guest.extent lba
+          → (guest.extent.base + guest.extent.blocks ≤ g.extent.base) ⊎ (g.extent.base + g.extent.blocks ≤ guest.extent.base) → ⊥
+      meets n high same (inl before) = absurd (omega (arith, high, same, before, below))
+      meets n high same (inr behind) = absurd (omega (arith, high, same, behind, below))
+
+  extent-apart : (whose : Option ℕ) (number : ℕ) (guest : Guest) (lba : ℕ) → slice_get geometry.guests number ≡ Some guest → whose ≢ Some number
+      → lba < block_count guest.extent → in_extent_of (given_to whose geometry) (block_at guest.extent lba) ≡ false
+  extent-apart None number guest lba given differ below = refl
+  extent-apart (Some other) number guest lba given differ below =
+      extent-of (slice_get geometry.guests other) number other guest lba refl given (λ same. differ (ap (λ n. Some n) (sym same))) below
+
+  -- ---- views
+
+  -- a guest's memory is as it was
+  memory-left : (whose : Option ℕ) (w z : World) (number : ℕ) (guest : Guest) (addr : ℕ) → length w.lanes ≡ lanes → slice_get geometry.guests number ≡ Some guest
+      → whose ≢ Some number → Leaves geometry whose w z → (found : Option ℕ) → host_of (regions_of guest) addr ≡ found
+      → byte_at_host w.host found ≡ byte_at_host z.host found
+  memory-left whose w z number guest addr sized given differ leaves None is = refl
+  memory-left whose w z number guest addr sized given differ leaves (Some at) is =
+      let there = guest_of-host (regions_of guest) addr at (laid.given number guest given).sound.apart is in
+      leaves.bytes at (image-apart whose number guest at addr given differ there) (area-apart w number guest at addr sized given there)
+
+  pub leaves-others : (whose : Option ℕ) (w z : World) → length w.lanes ≡ lanes → IsConsistent geometry w → Leaves geometry whose w z
+      → LeavesOthers geometry whose w z
+  unfolding image
+  leaves-others whose w z sized is leaves =
+      record {
+        views = (λ number guest given differ.
+            record {
+              memory = (λ addr. memory-left whose w z number guest addr sized given differ leaves (host_of (regions_of guest) addr) refl);
+              blocks = (λ lba offset below. leaves.blocks (block_at guest.extent lba) offset (extent-apart whose number guest lba given differ below));
+              controller = leaves.controllers number differ;
+              tags = (λ lane tag. leaves.tags number lane tag differ);
+              held = (λ lane tag. leaves.held number lane tag differ);
+              area = (λ addr lies. leaves.area number guest addr given differ (shown-at host_bytes geometry w number guest addr (subst (λ n. IsLaidOut host_bytes n geometry) (sym sized) laid) is given lies));
+            });
+        bytes = leaves.bytes;
+        blocks = leaves.blocks;
+        marks = leaves.marks;
+      }
+
+-- ---- bytes of tags
+
+-- a slot that a tag stands in lies between the positions of its ring
+between-queued : (geometry : Geometry) (lane tag at : ℕ) (host : ℕ → ℕ) (head : ℕ) (d : DeviceLane) (held : Option Held) (t : Tag)
+    → IsTag geometry lane tag host head d held t → tag_stands (is_queued_at at) t ≡ true → IsBetween d.head d.tail at
+between-queued geometry lane tag at host head d held Free is e = cc
+between-queued geometry lane tag at host head d held (Taken command reads) is e = cc
+between-queued geometry lane tag at host head d held (Flying command plan (Queued slot)) is e = subst (IsBetween d.head d.tail) (eqb-true slot at e) is.stands.0.slot
+between-queued geometry lane tag at host head d held (Flying command plan InDevice) is e = cc
+between-queued geometry lane tag at host head d held (Flying command plan (Answered slot)) is e = cc
+between-queued geometry lane tag at host head d held (Ended command st plan) is e = cc
+
+between-answered : (geometry : Geometry) (lane tag at : ℕ) (host : ℕ → ℕ) (head : ℕ) (d : DeviceLane) (held : Option Held) (t : Tag)
+    → IsTag geometry lane tag host head d held t → tag_stands (is_answered_at at) t ≡ true → IsBetween head d.posted at
+between-answered geometry lane tag at host head d held Free is e = cc
+between-answered geometry lane tag at host head d held (Taken command reads) is e = cc
+between-answered geometry lane tag at host head d held (Flying command plan (Queued slot)) is e = cc
+between-answered geometry lane tag at host head d held (Flying command plan InDevice) is e = cc
+between-answered geometry lane tag at host head d held (Flying command plan (Answered slot)) is e = subst (IsBetween head d.posted) (eqb-true slot at e) is.stands.0.slot
+between-answered geometry lane tag at host head d held (Ended command st plan) is e = cc
+
+-- they lie in the tag's lane
+pub record LiesInLane (mediator lane lanes tag addr : ℕ) : Type 0 where
+  pub below : lane < lanes
+  pub tag_below : tag < tag_count
+  pub low : lane_start mediator lane ≤ addr
+  pub high : addr < lane_start mediator (lane + 1)
+
+pub bytes-in-lane : (geometry : Geometry) (w : World) (lane tag addr : ℕ) (t : Tag) → IsConsistent geometry w → tag_of w lane tag ≡ Some t
+    → IsBytes geometry.mediator lane tag t addr → LiesInLane geometry.mediator lane (length w.lanes) tag addr
+bytes-in-lane geometry w lane tag addr t is there bytes =
+    let a = is-at geometry w lane tag t is there in
+    let of_lane = is.lanes lane a.l a.d a.at_lane a.at_device in
+    let tags = of_lane.positions.tags in
+    let among = slice_get-below a.l.tags tag t a.at_tag in
+    let below = slice_get-below w.lanes lane a.l a.at_lane in
+    by_kind (omega (arith, tags, among)) below (λ at stands. (between-queued geometry lane tag at w.host a.l.head a.d a.held t (tag-is geometry w lane tag t is a) stands).slot)
+    (λ at stands. (between-answered geometry lane tag at w.host a.l.head a.d a.held t (tag-is geometry w lane tag t is a) stands).slot) bytes
+  where
+    by_kind : tag < tag_count → lane < length w.lanes → ((at : ℕ) → tag_stands (is_queued_at at) t ≡ true → at < ring_size)
+        → ((at : ℕ) → tag_stands (is_answered_at at) t ≡ true → at < ring_size)
+        → IsBytes geometry.mediator lane tag t addr → LiesInLane geometry.mediator lane (length w.lanes) tag addr
+    by_kind tag_below below queued answered (InPages low high) =
+        record { below = below; tag_below = tag_below; low = omega (arith, low); high = omega (arith, high, tag_below) }
+    by_kind tag_below below queued answered (InEntry at stands low high) =
+        (let slot = queued at stands in record { below = below; tag_below = tag_below; low = omega (arith, low); high = omega (arith, high, slot) })
+    by_kind tag_below below queued answered (InCompletion at stands low high) =
+        (let slot = answered at stands in record { below = below; tag_below = tag_below; low = omega (arith, low); high = omega (arith, high, slot) })
+
+-- ---- what is written in the area
+
+-- an undisturbed tag's bytes are as they were
+pub undisturbed-bytes : (geometry : Geometry) (lane tag addr : ℕ) (host other : ℕ → ℕ) (head now : ℕ) (d e : DeviceLane) (held : Option Held) (t : Tag)
+    → IsUndisturbed geometry.mediator lane tag host other head now d e t → IsTag geometry lane tag host head d held t
+    → IsBytes geometry.mediator lane tag t addr → host addr ≡ other addr
+undisturbed-bytes geometry lane tag addr host other head now d e held t kept is (InPages low high) = kept.pages addr low high
+undisturbed-bytes geometry lane tag addr host other head now d e held t kept is (InEntry at stands low high) =
+    (kept.queued at stands (between-queued geometry lane tag at host head d held t is stands)).1 addr low high
+undisturbed-bytes geometry lane tag addr host other head now d e held t kept is (InCompletion at stands low high) =
+    (kept.answered at stands (between-answered geometry lane tag at host head d held t is stands)).1 addr low high
+
+-- what is outside of the area lies before or behind it
+pub outside-area : (geometry : Geometry) (w : World) (at : ℕ) → in_area geometry w at ≡ false
+    → (at < geometry.mediator) ⊎ (lane_start geometry.mediator (length w.lanes) ≤ at)
+outside-area geometry w at out =
+    elim (cases_lt at geometry.mediator) [
+      | inl before ↦ inl before
+      | inr from ↦ elim (cases_lt at (lane_start geometry.mediator (length w.lanes))) [
+        | inl inside ↦ (let bad : true ≡ false = sym (inside-is from inside) ∙ out in cc)
+        | inr behind ↦ inr behind
+      ]
+    ]
+  where
+    inside-is : geometry.mediator ≤ at → at < lane_start geometry.mediator (length w.lanes) → in_area geometry w at ≡ true
+    inside-is from inside = rw (le-leb geometry.mediator at from, lt-ltb at (lane_start geometry.mediator (length w.lanes)) inside) refl
+
+-- where one lane is written, and in it nothing of other tags, what is shown to others is as it was
+pub area-left : (geometry : Geometry) (w : World) (other : ℕ → ℕ) (lane tag now : ℕ) (l : Lane) (d e : DeviceLane) (number addr : ℕ) → IsConsistent geometry w
+    → slice_get w.lanes lane ≡ Some l → slice_get w.device lane ≡ Some d
+    → ((at : ℕ) → (at == lane) ≡ false → at < length w.lanes → SameInLane w.host other geometry.mediator at)
+    → ((b : ℕ) (x : Tag) → (b == tag) ≡ false → b < tag_count → slice_get l.tags b ≡ Some x → IsUndisturbed geometry.mediator lane b w.host other l.head now d e x)
+    → ((x : Tag) → slice_get l.tags tag ≡ Some x → is_tag_of number (Some x) ≡ false)
+    → IsShownAt number geometry w addr → w.host addr ≡ other addr
+area-left geometry w other lane tag now l d e number addr fine at there elsewhere undisturbed own s =
+    let lies = bytes-in-lane geometry w s.lane s.tag addr s.t fine s.there s.bytes in
+    by_lane lies (cases_eq s.lane lane)
+  where
+    in_lane : s.lane ≡ lane → (s.tag ≡ tag) ⊎ (s.tag ≡ tag → ⊥) → s.tag < tag_count → w.host addr ≡ other addr
+    in_lane same which below =
+        let found : slice_get l.tags s.tag ≡ Some s.t = ap (λ o. tag_in o s.tag) (sym (ap (slice_get w.lanes) same ∙ at)) ∙ s.there in
+        by_tag same found which below
+      where
+        by_tag : s.lane ≡ lane → slice_get l.tags s.tag ≡ Some s.t → (s.tag ≡ tag) ⊎ (s.tag ≡ tag → ⊥) → s.tag < tag_count → w.host addr ≡ other addr
+        by_tag same found (inl one) below =
+            let none = own s.t (subst (λ n. slice_get l.tags n ≡ Some s.t) one found) in
+            let bad : true ≡ false = sym s.own ∙ none in
+            cc
+        by_tag same found (inr other_tag) below =
+            let a = is-at geometry w s.lane s.tag s.t fine s.there in
+            let here : tag_of w lane s.tag ≡ Some s.t = subst (λ n. tag_of w n s.tag ≡ Some s.t) same s.there in
+            let held = held-under geometry lane w.host l d (fine.lanes lane l d at there) s.tag s.t found in
+            undisturbed-bytes geometry lane s.tag addr w.host other l.head now d e held.0 s.t
+            (undisturbed s.tag s.t (ne_eqb s.tag tag other_tag) below found) ((fine.lanes lane l d at there).tags s.tag s.t held.0 found held.1)
+            (subst (λ n. IsBytes geometry.mediator n s.tag s.t addr) same s.bytes)
+
+    by_lane : LiesInLane geometry.mediator s.lane (length w.lanes) s.tag addr → (s.lane ≡ lane) ⊎ (s.lane ≡ lane → ⊥) → w.host addr ≡ other addr
+    by_lane lies (inl same) = in_lane same (cases_eq s.tag tag) lies.tag_below
+    by_lane lies (inr apart) = elsewhere s.lane (ne_eqb s.lane lane apart) lies.below addr lies.low lies.high

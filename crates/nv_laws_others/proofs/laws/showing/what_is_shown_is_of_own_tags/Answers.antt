@@ -1,0 +1,5 @@
+use Rattle.nv_laws_others.proofs.Shown.{shown-at}
+use Rattle.nv_laws_others.proofs.laws.showing.what_is_shown_is_of_own_tags.Goals as goal
+
+pub returns : goal.returns
+returns c = shown-at

@@ -1,0 +1,3 @@
+//! What an event leaves to all but its owner, as functions that do nothing: each contract is a law.
+pub mod leaving;
+pub mod showing;

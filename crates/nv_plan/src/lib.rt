@@ -1,0 +1,37 @@
+//! What the mediator does with a guest's command: it is answered at once, moves no data, or transfers directly or by way of bounce pages.
+//!
+//! - [`make_plan`] makes the [`Plan`] of a [`Job`]: a command, what was read of its lists so far (a [`Transcript`]), and whose tag it
+//!   has. Where something is wanted that was not read, it says what. No guest memory is looked at here: a list is what was read of it,
+//!   and a read that is not the next want is skipped.
+//! - A [`Plan`] carries its job, the guest's map and namespace and the limit on descriptors, and its type keeps that it is what the
+//!   definition says of these. So a plan may be made anywhere, without a lock, and whoever takes it compares these four with what
+//!   stands now, and need not know who made it.
+//! - [`laws`] states what the definition comes to: a plan follows from its job and what the guest was given; its places are mapped and
+//!   as long as the transfer; what is direct can be named by PRP, and spells exactly those addresses; and the ranges of a plan lie in
+//!   the guest's namespace.
+//!
+//! What is read of an SGL lives in an allocator of the caller's choice, and a plan in `Global`; where memory is refused, the job comes
+//! back as it was. A list is gone through once, and so is the transcript. A transfer through one descriptor takes three blocks of
+//! memory: for the descriptor, the places and the copy of the map. Each array of descriptors takes two more, and a Dataset Management
+//! two, for its bytes and its ranges.
+#![tactic(auto)]
+
+mod given;
+mod job;
+mod kind;
+pub mod laws;
+mod lists;
+mod outcome;
+mod outline;
+mod plan;
+mod planned;
+mod planning;
+mod ranges;
+mod transcript;
+
+pub use job::Job;
+pub use kind::PlanKind;
+pub use plan::Plan;
+pub use planned::Planned;
+pub use planning::make_plan;
+pub use transcript::{ReadDone, Transcript};
