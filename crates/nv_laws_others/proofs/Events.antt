@@ -96,7 +96,7 @@ module _ (geometry : Geometry) (whose : Option ℕ) (w : World) where
 -- ---- a guest's memory and controller
 
 -- no byte of a guest's
-not-some : {A : Type 0} (o : Option A) → is_some o ≡ false → o ≡ None
+pub not-some : {A : Type 0} (o : Option A) → is_some o ≡ false → o ≡ None
 not-some None e = refl
 not-some (Some x) e = cc
 

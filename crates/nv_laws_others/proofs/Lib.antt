@@ -5,3 +5,6 @@ pub mod Events
 pub mod TagEvents
 pub mod DeviceEvents
 pub mod RingEvents
+pub mod MoveEvents
+pub mod UnitEvents
+pub mod Every

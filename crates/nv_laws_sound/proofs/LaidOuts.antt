@@ -27,7 +27,7 @@ any-none p (y ∷ ys) zero x e at =
 any-none p (y ∷ ys) (suc i) x e at = any-none p ys i x (or-none (p y) (list_any p ys) e).1 at
 
 -- what all pass, it does
-all-one : {X : Type 0} (p : X → Bool) (xs : List X) (i : ℕ) (x : X) → list_all p xs ≡ true → slice_get xs i ≡ Some x → p x ≡ true
+pub all-one : {X : Type 0} (p : X → Bool) (xs : List X) (i : ℕ) (x : X) → list_all p xs ≡ true → slice_get xs i ≡ Some x → p x ≡ true
 all-one p [] i x e at = cc
 all-one p (y ∷ ys) zero x e at =
     let same : y ≡ x = cc in

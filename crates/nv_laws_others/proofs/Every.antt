@@ -1,0 +1,57 @@
+-- Each event leaves all but its owner as it was, in a consistent world and behind any events since a set-up.
+use Rattle.std.proofs.Common.{refl, sym, subst}
+use Rattle.std.specs.Prelude.{◌≡◌, ℕ, List, None, Some, length, slice_get}
+use Rattle.std.proofs.lemmas.List.{length-replicate}
+use Rattle.nv_mem.specs.GuestMap.{IsSound}
+use Rattle.nv_world_model.specs.declared.event.Event.{Event}
+use Rattle.nv_world_model.specs.declared.event.Event.TheVariants as event
+use Rattle.nv_world_model.specs.Contained.{LeavesOthers, owner}
+use Rattle.nv_world_model.specs.Geometry.{Geometry, Guest}
+use Rattle.nv_world_model.specs.SetUp.{SetUp, refusal_of, world_at_start}
+use Rattle.nv_world_model.specs.Step.{replay, step}
+use Rattle.nv_world_model.specs.World.{World, opening_lane, opening_world}
+use Rattle.nv_laws_sound.specs.Consistent.{IsConsistent}
+use Rattle.nv_laws_sound.specs.LaidOut.{IsLaidOut}
+use Rattle.nv_laws_sound.proofs.LaidOuts.{laid-out}
+use Rattle.nv_laws_sound.proofs.Openings.{opening-consistent}
+use Rattle.nv_laws_sound.proofs.Steps.{replay-consistent, replay-lanes}
+use Rattle.nv_laws_others.specs.Leaving.{Leaves}
+use Rattle.nv_laws_others.proofs.DeviceEvents.{device_fails-leave, device_posts-leave, keeps-leave, submits-leave}
+use Rattle.nv_laws_others.proofs.Events.{acts-leave, admins-leave}
+use Rattle.nv_laws_others.proofs.Leaving.{leaves-others}
+use Rattle.nv_laws_others.proofs.RingEvents.{device_takes-leave, reaps-leave}
+use Rattle.nv_laws_others.proofs.TagEvents.{give_ups-leave, lists-leave, posts-leave, takes-leave}
+use Rattle.nv_laws_others.proofs.UnitEvents.{moves-leave}
+
+module _ (host_bytes : ℕ) (geometry : Geometry) where
+  each-leaves : (w : World) (e : Event) → IsLaidOut host_bytes (length w.lanes) geometry → IsConsistent geometry w
+      → Leaves geometry (owner e w) w (step geometry e w).world
+  each-leaves w (event.Guest number a) laid fine = acts-leave host_bytes geometry w laid fine number a
+  each-leaves w (event.Admin number) laid fine = admins-leave host_bytes geometry w laid fine number
+  each-leaves w (event.Take number queue lane) laid fine = takes-leave host_bytes geometry w laid fine number queue lane
+  each-leaves w (event.List lane tag addr len) laid fine = lists-leave host_bytes geometry w laid fine lane tag addr len
+  each-leaves w (event.Submit lane tag) laid fine = submits-leave host_bytes geometry w laid fine lane tag
+  each-leaves w (event.GiveUp lane tag) laid fine = give_ups-leave host_bytes geometry w laid fine lane tag
+  each-leaves w (event.DevTake lane) laid fine = device_takes-leave host_bytes geometry w laid fine lane
+  each-leaves w (event.DevMove lane slot number) laid fine = moves-leave host_bytes geometry w laid fine lane slot number
+  each-leaves w (event.DevPost lane slot) laid fine = device_posts-leave host_bytes geometry w laid fine lane slot
+  each-leaves w (event.DevFail lane slot st) laid fine = device_fails-leave host_bytes geometry w laid fine lane slot st
+  each-leaves w (event.Keep block) laid fine = keeps-leave host_bytes geometry w laid fine block
+  each-leaves w (event.Reap lane) laid fine = reaps-leave host_bytes geometry w laid fine lane
+  each-leaves w (event.Post lane tag) laid fine = posts-leave host_bytes geometry w laid fine lane tag
+
+  pub each-leaves-others : (w : World) (e : Event) → IsLaidOut host_bytes (length w.lanes) geometry → IsConsistent geometry w
+      → LeavesOthers geometry (owner e w) w (step geometry e w).world
+  each-leaves-others w e laid fine =
+      leaves-others host_bytes geometry _ laid (owner e w) w (step geometry e w).world refl fine (each-leaves w e laid fine)
+
+pub leaves-others-since : (s : SetUp) (events : List Event) (e : Event) → refusal_of s ≡ None
+    → ((number : ℕ) (guest : Guest) → slice_get s.geometry.guests number ≡ Some guest → IsSound guest.memory_map)
+    → LeavesOthers s.geometry (owner e (replay s.geometry events (world_at_start s))) (replay s.geometry events (world_at_start s))
+    (step s.geometry e (replay s.geometry events (world_at_start s))).world
+unfolding opening_world
+leaves-others-since s events e none sound =
+    let laid = subst (λ n. IsLaidOut s.host_bytes n s.geometry) (sym (length-replicate s.lanes opening_lane)) (laid-out s none sound) in
+    each-leaves-others s.host_bytes s.geometry (replay s.geometry events (world_at_start s)) e
+    (subst (λ n. IsLaidOut s.host_bytes n s.geometry) (sym (replay-lanes s.host_bytes s.geometry events (world_at_start s))) laid)
+    (replay-consistent s.host_bytes s.geometry events (world_at_start s) laid (opening-consistent s.geometry s.lanes))
