@@ -5,6 +5,4 @@
 #[cfg(test)]
 mod prp;
 #[cfg(test)]
-mod refusing;
-#[cfg(test)]
 mod sgl;

@@ -1,17 +1,18 @@
 -- Dataset Management, once its list is read
-use Rattle.std.proofs.Common.{◌≡◌, ℕ, ◌+◌, ◌*◌, ◌/◌, ◌≤◌, ◌<◌, Bool, true, false, ◌&&◌, ◌==◌, cond, Result, Ok, Err, List, [], length, take, drop, refl, sym, ap, ◌∙◌, arith, eq-eqb, inl, inr}
+use Rattle.std.proofs.Common.{◌≡◌, ℕ, ◌+◌, ◌*◌, ◌/◌, ◌≤◌, ◌<◌, Bool, true, false, ◌==◌, Err, List, [], length, take, drop, refl, sym, ap, ◌∙◌, arith, eq-eqb, inl, inr}
 use Rattle.std.specs.Prelude.{IsTrue, ◌↔◌}
 use Rattle.std.specs.List.{list_all, range_with_len}
 use Rattle.std.proofs.lemmas.Bool.{cases_eq}
 use Rattle.std.proofs.lemmas.Bool.Decides.{nat_tests}
 use Rattle.nv_entry.specs.Range.{blocks_of, start_of}
 use Rattle.nv_entry.specs.Status.{StatusField}
-use Rattle.nv_entry.specs.StatusCode.{done_with, refused_with}
+use Rattle.nv_entry.specs.StatusCode.{done_with}
 use Rattle.nv_entry.specs.declared.opcode.IoOpcode.TheVariants.{DatasetManagement}
-use Rattle.nv_entry.specs.declared.status_code.StatusCode.TheVariants.{LbaOutOfRange, Success}
+use Rattle.nv_entry.specs.declared.status_code.StatusCode.TheVariants.{Success}
 use Rattle.nv_judge.specs.Need.{need_of}
 use Rattle.nv_judge.specs.Ranges.{ranges_verdict}
-use Rattle.nv_judge.proofs.RangeLemmas.{ranges_in-more, ranges_in-none}
+use Rattle.nv_judge.proofs.RangeLemmas.{both-fit, ranges-leave, ranges_in-more, ranges_in-none}
+use Rattle.nv_model.proofs.JudgeCases.{judge_ranges-fits, judge_ranges-refused}
 use Rattle.std.proofs.Math.Seq.{take-length}
 use Rattle.nv_mem.specs.Places.{Place, places_of}
 use Rattle.nv_mem.specs.declared.piece.Piece.{Piece}
@@ -73,40 +74,23 @@ managed-verdict f entry pieces bytes m =
     (read_source-gathered (byte_in f.memory) pieces [] (usable.runs refl) ∙ sym m.taken)
     ∙ ap (λ (n : ℕ). judge_ranges (length f.disk) DatasetManagement entry pieces (ranges_in n bytes)) count
 
--- the ranges fit, or they don't
-verdict-by_ranges : (all : Bool) (work : Work) (st : StatusField)
-    → ◌≡◌ {A = Result (Unit {0}) StatusField} (cond all (Ok tt) (Err (refused_with LbaOutOfRange))) (Err st)
-    → cond all (Go work) (Refuse (refused_with LbaOutOfRange)) ≡ Refuse st
-verdict-by_ranges true work st e = (cc)
-verdict-by_ranges false work st e = (cc)
-
-pub ranges-fit : (blocks : ℕ) (bytes : List ℕ) → ranges_verdict blocks bytes ≡ Ok tt
-    → list_all (range_fits blocks) (ranges_in (length bytes / 16) bytes) ≡ true
-ranges-fit blocks bytes e = by_test (list_all (range_fits blocks) (ranges_in (length bytes / 16) bytes)) e
-  where
-    by_test : (all : Bool)
-        → ◌≡◌ {A = Result (Unit {0}) StatusField} (cond all (Ok tt) (Err (refused_with LbaOutOfRange))) (Ok tt)
-        → all ≡ true
-    by_test true e = refl
-    by_test false e = (cc)
-
 -- refused by its ranges
 pub managed-refused : (f : Flat) (entry : List ℕ) (pieces : List Piece) (bytes : List ℕ) (st : StatusField)
     → IsManaged f entry pieces bytes
     → ranges_verdict (length f.disk) bytes ≡ Err st → IsRun f entry st f
 managed-refused f entry pieces bytes st m refused =
     refused-run f entry st
-    (managed-verdict f entry pieces bytes m
-    ∙ verdict-by_ranges (list_all (range_fits (length f.disk)) (ranges_in (length bytes / 16) bytes))
-    (work_of (length f.disk) DatasetManagement entry pieces (ranges_in (length bytes / 16) bytes)) st refused)
+    (let leave = ranges-leave (length f.disk) bytes st refused in
+    managed-verdict f entry pieces bytes m
+    ∙ judge_ranges-refused (length f.disk) DatasetManagement entry pieces (ranges_in (length bytes / 16) bytes) leave.0
+    ∙ ap Refuse (sym leave.1))
 
 -- the work of one whose ranges fit
 managed-goes : (f : Flat) (entry : List ℕ) (pieces : List Piece) (bytes : List ℕ) → IsManaged f entry pieces bytes
     → list_all (range_fits (length f.disk)) (ranges_in (length bytes / 16) bytes) ≡ true
     → verdict_in (shape_of f) (byte_in f.memory) entry ≡ Go (work_of (length f.disk) DatasetManagement entry pieces (ranges_in (length bytes / 16) bytes))
 managed-goes f entry pieces bytes m fit =
-    managed-verdict f entry pieces bytes m
-    ∙ ap (λ (b : Bool). cond b (Go (work_of (length f.disk) DatasetManagement entry pieces (ranges_in (length bytes / 16) bytes))) (Refuse (refused_with LbaOutOfRange))) fit
+    managed-verdict f entry pieces bytes m ∙ judge_ranges-fits (length f.disk) DatasetManagement entry pieces (ranges_in (length bytes / 16) bytes) fit
 
 -- deallocated
 pub managed-deallocated : (f g : Flat) (entry : List ℕ) (pieces : List Piece) (bytes : List ℕ)
@@ -149,19 +133,6 @@ pub record IsDeallocating (old : Flat) (all : List ℕ) (f : Flat) (rest : List 
       ≡ units_moved (range_units true (ranges_in (length all / 16) all)) work (moved_of old false)
   pub memory_size : length f.memory ≡ length old.memory
   pub disk_size : length f.disk ≡ length old.disk
-
--- the first range fits, and the others do
-both-fit : (blocks : ℕ) (rest range more : List ℕ) → range ≡ take 16 rest → more ≡ drop 16 rest
-    → length more + 16 ≡ length rest
-    → list_all (range_fits blocks) (ranges_in (length rest / 16) rest) ≡ true
-    → (range_fits blocks range ≡ true) × (list_all (range_fits blocks) (ranges_in (length more / 16) more) ≡ true)
-both-fit blocks rest range more first others sized fit =
-    both (range_fits blocks range) (list_all (range_fits blocks) (ranges_in (length more / 16) more))
-    (sym (ap (list_all (range_fits blocks)) (ranges_in-more rest range more first others sized)) ∙ fit)
-  where
-    both : (a b : Bool) → a && b ≡ true → (a ≡ true) × (b ≡ true)
-    both true b e = (refl, e)
-    both false b e = (cc)
 
 pub IsDeallocating-fits : (old : Flat) (all : List ℕ) (f : Flat) (rest range more : List ℕ)
     → IsDeallocating old all f rest

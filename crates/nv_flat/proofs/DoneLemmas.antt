@@ -24,7 +24,8 @@ use Rattle.nv_flat.specs.Listed.{refusal_of_reading, list_reading}
 use Rattle.nv_flat.specs.One.{HasFieldsInOrder, IsRun, shape_of}
 use Rattle.nv_flat.specs.Transfer.{is_transfer}
 use Rattle.nv_flat.proofs.OneLemmas.{moved-run, refused-run}
-use Rattle.nv_flat.proofs.VerdictLemmas.{field_verdict-err, field_verdict-ok, count-at_most, in-namespace, verdict-listed, verdict-refused, verdict-unlisted}
+use Rattle.nv_judge.proofs.FieldLemmas.{field_verdict-err, field_verdict-ok, count-at_most, in-namespace}
+use Rattle.nv_flat.proofs.VerdictLemmas.{verdict-listed, verdict-refused, verdict-unlisted}
 use Rattle.nv_flat.proofs.WorkLemmas.{units_moved-transfer}
 use Rattle.nv_model.proofs.UnitWords.{units_moved-cleared}
 

@@ -1,5 +1,5 @@
 -- Lemmas on the ranges of Dataset Management.
-use Rattle.std.proofs.Common.{◌≡◌, ℕ, zero, suc, ◌+◌, ◌/◌, ◌<◌, Bool, true, false, ◌&&◌, cond, List, [], ◌∷◌, length, take, drop, Some, None, Result, Ok, Err, sym, ap, ◌∙◌, arith}
+use Rattle.std.proofs.Common.{◌≡◌, ℕ, zero, suc, ◌+◌, ◌/◌, ◌<◌, Bool, true, false, ◌&&◌, cond, List, [], ◌∷◌, length, take, drop, Some, None, Result, Ok, Err, refl, sym, ap, ◌∙◌, arith}
 use Rattle.std.specs.List.{list_all}
 use Rattle.std.specs.Option.{is_some}
 use Rattle.nv_entry.specs.Status.{StatusField}
@@ -50,6 +50,41 @@ unfolding verdict_on
 ranges_verdict-leaves blocks bytes range more first rest sized leaves =
     sym (ap (verdict_on blocks) (ranges_in-more bytes range more first rest sized)
     ∙ ap (λ (b : Bool). cond (b && list_all (range_fits blocks) (ranges_in (length more / 16) more)) (Ok tt) (Err (refused_with LbaOutOfRange))) leaves)
+
+-- the first range fits, and the others do
+pub both-fit : (blocks : ℕ) (rest range more : List ℕ) → range ≡ take 16 rest → more ≡ drop 16 rest
+    → length more + 16 ≡ length rest
+    → list_all (range_fits blocks) (ranges_in (length rest / 16) rest) ≡ true
+    → (range_fits blocks range ≡ true) × (list_all (range_fits blocks) (ranges_in (length more / 16) more) ≡ true)
+both-fit blocks rest range more first others sized fit =
+    both (range_fits blocks range) (list_all (range_fits blocks) (ranges_in (length more / 16) more))
+    (sym (ap (list_all (range_fits blocks)) (ranges_in-more rest range more first others sized)) ∙ fit)
+  where
+    both : (a b : Bool) → a && b ≡ true → (a ≡ true) × (b ≡ true)
+    both true b e = (refl, e)
+    both false b e = (cc)
+
+-- ranges that are not refused all fit
+pub ranges-fit : (blocks : ℕ) (bytes : List ℕ) → ranges_verdict blocks bytes ≡ Ok tt
+    → list_all (range_fits blocks) (ranges_in (length bytes / 16) bytes) ≡ true
+ranges-fit blocks bytes e = by_test (list_all (range_fits blocks) (ranges_in (length bytes / 16) bytes)) e
+  where
+    by_test : (all : Bool)
+        → ◌≡◌ {A = Result (Unit {0}) StatusField} (cond all (Ok tt) (Err (refused_with LbaOutOfRange))) (Ok tt)
+        → all ≡ true
+    by_test true e = refl
+    by_test false e = (cc)
+
+-- and of ranges that are refused one does not
+pub ranges-leave : (blocks : ℕ) (bytes : List ℕ) (st : StatusField) → ranges_verdict blocks bytes ≡ Err st
+    → (list_all (range_fits blocks) (ranges_in (length bytes / 16) bytes) ≡ false) × (st ≡ refused_with LbaOutOfRange)
+ranges-leave blocks bytes st e = by_test (list_all (range_fits blocks) (ranges_in (length bytes / 16) bytes)) e
+  where
+    by_test : (all : Bool)
+        → ◌≡◌ {A = Result (Unit {0}) StatusField} (cond all (Ok tt) (Err (refused_with LbaOutOfRange))) (Err st)
+        → (all ≡ false) × (st ≡ refused_with LbaOutOfRange)
+    by_test true e = (cc)
+    by_test false e = (refl, (cc))
 
 -- a range is in the namespace exactly where it has a disk block
 pub translated-is_some : (ns : Extent) (slba count : ℕ) (some : Bool) → is_some (translated ns slba count) ≡ some

@@ -275,8 +275,16 @@ sized-part rest len TooLong used = tt
 sized-part rest len (Spells pieces) used =
     (elim (total_len pieces == len) as (λ b. IsUsedUp rest (cond b (Spells pieces) (Faulty SglLengthInvalid))) [ true ↦ used | false ↦ tt ])
 
+-- a list whose length is checked
+pub read_buffer-part : (pointer : DataPointer) (mapped : ℕ → Bool) (limit : ℕ) (dest : Bool) (len : ℕ) (entry : List ℕ)
+    → UsesUpTo IsUsedUp 0 0 (and_then (read_by pointer mapped limit dest len entry) (λ reading. End (sized len reading)))
+read_buffer-part pointer mapped limit dest len entry =
+    let list = read_by pointer mapped limit dest len entry in
+    UsesUp-and_then IsUsedUp (λ _. ⊤) IsUsedUp 0 0 list _ (read_by-part pointer mapped limit dest len entry) (EndsIn-any list)
+    (λ at n reading used _. sized-part n len reading used)
+
 -- the ranges are at most a part
-ranges-short : (entry : List ℕ) → 16 * range_count_of entry ≤ 4096
+pub ranges-short : (entry : List ℕ) → 16 * range_count_of entry ≤ 4096
 unfolding bits
 ranges-short entry = omega arith
 
@@ -306,12 +314,9 @@ judge_by-part : (opcode : Option IoOpcode) (mapped : ℕ → Bool) (limit blocks
     → UsesUpTo Any 0 0 (judge_by opcode mapped limit blocks entry)
 judge_by-part None mapped limit blocks entry = tt
 judge_by-part (Some opcode) mapped limit blocks entry =
-    let list = read_by (data_pointer (psdt_of entry)) mapped limit (is_read opcode) (transfer_len opcode entry) entry in
     UsesUp-if Any 0 0 (has_buffer opcode) _ _
     (λ _. UsesUp-and_then IsUsedUp (OfPieces (AreOfLen mapped (transfer_len opcode entry))) Any 0 0 (read_buffer mapped limit opcode entry) (judge_reading blocks entry opcode)
-    (UsesUp-and_then IsUsedUp (λ _. ⊤) IsUsedUp 0 0 list _
-    (read_by-part (data_pointer (psdt_of entry)) mapped limit (is_read opcode) (transfer_len opcode entry) entry) (EndsIn-any list)
-    (λ at n reading used _. sized-part n (transfer_len opcode entry) reading used))
+    (read_buffer-part (data_pointer (psdt_of entry)) mapped limit (is_read opcode) (transfer_len opcode entry) entry)
     (read_buffer-of_len (data_pointer (psdt_of entry)) mapped limit entry (is_read opcode) (transfer_len opcode entry))
     (λ at n reading used there. judge_reading-part mapped blocks entry opcode reading at n used there))
     (λ _. judge_buffer-part (form_of opcode) blocks opcode entry [] 0 0 refl (λ _. omega arith))

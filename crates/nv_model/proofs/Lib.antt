@@ -1,6 +1,7 @@
 pub mod AdminKept
 pub mod Agreeing
 pub mod AnyAnswers
+pub mod AskedOften
 pub mod Asking
 pub mod Bags
 pub mod CarriedOnly
@@ -12,6 +13,8 @@ pub mod Feedings
 pub mod InParts
 pub mod InPlace
 pub mod InTurn
+pub mod ListsFed
+pub mod JudgeCases
 pub mod Judged
 pub mod MemoryAlike
 pub mod MemoryLemmas
@@ -22,6 +25,7 @@ pub mod QueueCounts
 pub mod QueueOrder
 pub mod QueuesKept
 pub mod Running
+pub mod RunPieces
 pub mod RunningFacts
 pub mod SglSequenced
 pub mod Shown

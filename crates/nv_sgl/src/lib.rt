@@ -9,13 +9,13 @@
 //! A parse is seen as what it has still to read: a dialogue that asks for descriptors, goes on with what it is given, and ends in
 //! the list's reading. So `feed` promises that the dialogue is the old one with the bytes given to it, and `wants` tells what that
 //! asks for or how it ended. The first faulty descriptor decides, and the first check that it fails; no descriptor behind it, nor
-//! behind the limit of 1,024, is looked at. That limit, the order of the checks, the alignment of arrays and the parts of 4,096
-//! bytes are this project's own choice (profile).
+//! behind the limit of 1,024 ([`SglParse::with_limit`] takes another), is looked at. That limit, the order of the checks, the
+//! alignment of arrays and the parts of 4,096 bytes are this project's own choice (profile).
 //!
 //! `new`, `feed`, `places` and `try_clone` take memory, and nothing else does. Where it is refused, `feed` leaves the parse as it
 //! was, so it may be fed again. The tests refuse each allocation in turn, by an allocator of their own and by a heap that others
 //! have filled. The arrays of a chain are at most as many as descriptors may be read, and `places` and `try_clone` call themselves
-//! once for each: no more than 1,024 times. Time is linear in the descriptors of the parts that were fed.
+//! once for each: no more often than the limit says. Time is linear in the descriptors of the parts that were fed.
 #![tactic(auto)]
 
 mod chain;

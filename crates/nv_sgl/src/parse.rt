@@ -26,6 +26,7 @@ pub struct SglParse<'a, A: Allocator + Clone> {
     map: &'a GuestMap,
     dest: bool,
     need: u64,
+    limit: u32,
     cursor: Cursor,
     chain: Chain<A>,
 }
@@ -64,8 +65,8 @@ impl<'a, A: Allocator + Clone> SglParse<'a, A> {
         Self::with_limit(heap, map, first, dest, need, MOST_DESCRIPTORS)
     }
 
-    // The same with another limit on descriptors.
-    fn with_limit(
+    /// The same with another limit on descriptors, the command's own among them: 1 to 4,096.
+    pub fn with_limit(
         heap: A,
         map: &'a GuestMap,
         first: Descriptor,
@@ -84,6 +85,7 @@ impl<'a, A: Allocator + Clone> SglParse<'a, A> {
             map,
             dest,
             need,
+            limit,
             cursor,
             chain: Chain::own(heap, first)?,
         })
@@ -97,6 +99,7 @@ impl<'a, A: Allocator + Clone> SglParse<'a, A> {
             map: self.map,
             dest: self.dest,
             need: self.need,
+            limit: self.limit,
             cursor: self.cursor,
             chain: self.chain.try_clone()?,
         })
@@ -158,7 +161,7 @@ impl<'a, A: Allocator + Clone> SglParse<'a, A> {
         ensures { IfOk result (λ places. dialogue_of self.now ≡ End (Spells places)) }
     {
         let mut places = Places::new(alloc);
-        places.reserve(MOST_DESCRIPTORS.saturating_sub(self.cursor.budget) as usize)?;
+        places.reserve(self.limit.saturating_sub(self.cursor.budget) as usize)?;
         self.chain.push_pieces(self.dest, &mut places)?;
         Ok(places)
     }

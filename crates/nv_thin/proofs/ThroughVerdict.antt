@@ -32,7 +32,8 @@ use Rattle.nv_model.specs.Memory.{byte_in}
 use Rattle.nv_moves.specs.Flat.{Flat, moved_of}
 use Rattle.nv_flat.specs.One.{IsDone, IsOutcome, shape_of}
 use Rattle.nv_flat.proofs.OneLemmas.{moved-run, outcome-built, outcome-refused, refused-run}
-use Rattle.nv_flat.proofs.VerdictLemmas.{field_verdict-err, field_verdict-ok, in-namespace, verdict-refused}
+use Rattle.nv_judge.proofs.FieldLemmas.{field_verdict-err, field_verdict-ok, in-namespace}
+use Rattle.nv_flat.proofs.VerdictLemmas.{verdict-refused}
 use Rattle.nv_flat.proofs.WorkLemmas.{units_moved-transfer}
 use Rattle.nv_thin.proofs.OneRunLemmas.{everywhere-identity, own-block, uses-sgl, verdict-sgl}
 use mathlib.Core.Path.{fun_ext}

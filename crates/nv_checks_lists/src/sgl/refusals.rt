@@ -1,10 +1,10 @@
 //! Each allocation refused in turn.
-use crate::refusing::Refusing;
 use crate::sgl::{
     Guest, THREE_ARRAYS, guest_with, guest_with_long_list, has_read_three, parse_of_long_list,
     parse_of_three, step, takes_parts,
 };
 use nv_mem::{GuestMap, NoMemory};
+use nv_refusing::Refusing;
 use nv_sgl::{Chain, SglParse, Want};
 use std::alloc::{Allocator, Global};
 use std::test::Fail;

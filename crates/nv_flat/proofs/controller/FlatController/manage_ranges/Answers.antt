@@ -5,6 +5,7 @@ use Rattle.nv_entry.specs.Submission.{deallocate_of}
 use Rattle.nv_entry.specs.declared.opcode.IoOpcode.TheVariants.{DatasetManagement}
 use Rattle.nv_entry.specs.declared.status_code.StatusCode.TheVariants.{Success}
 use Rattle.nv_judge.specs.Need.{need_of}
+use Rattle.nv_judge.proofs.RangeLemmas.{ranges-fit}
 use Rattle.nv_judge.specs.Ranges.{ranges_verdict}
 use Rattle.nv_mem.specs.Places.{Place, places_of}
 use Rattle.nv_model.specs.Judge.{range_count_of}
@@ -12,7 +13,8 @@ use Rattle.nv_ns.specs.BlockRange.{Extent}
 use Rattle.nv_moves.specs.Buffer.{AreBelow}
 use Rattle.nv_moves.specs.Flat.{Flat}
 use Rattle.nv_flat.specs.One.{IsRun}
-use Rattle.nv_flat.proofs.DatasetLemmas.{IsManaged, is-asked, managed, managed-deallocated, managed-kept, managed-refused, ranges-fit}
+use Rattle.nv_judge.proofs.RangeLemmas.{ranges-fit}
+use Rattle.nv_flat.proofs.DatasetLemmas.{IsManaged, is-asked, managed, managed-deallocated, managed-kept, managed-refused}
 use Rattle.nv_flat.proofs.PieceLemmas.{spelled-usable}
 use Rattle.nv_flat.proofs.controller.FlatController.manage_ranges.Goals as goal
 use Rattle.nv_flat.proofs.controller.FlatController.manage_ranges.Goals.{then-deallocate, else-deallocate}

@@ -38,11 +38,11 @@ use denote.RawPtr.{Ptr, block_ptr, null_ptr, ptr_val, rawptr_vals, rawptr_Tells}
 use denote.Builtin.{usize, RawPtr, RefOf}
 use denote.Triple.Call.{calls_at}
 use Rattle.std.proofs.alloc.Calls.{Al, α, seen, token, gives_key, Gives, at_gives, Gives-goes, Gives-Gives}
-use Rattle.nv_checks_lists.specs.contracts.refusing.Refusing as wrapper
-use Rattle.nv_checks_lists.specs.contracts.refusing.RefusingAllocator.deallocate as F
-use Rattle.nv_checks_lists.specs.contracts.refusing.RefusingAllocator.deallocate.Key as key
-use Rattle.nv_checks_lists.proofs.refusing.RefusingAllocator.deallocate.Statement as stated
-use Rattle.nv_checks_lists.proofs.refusing.RefusingAllocator.deallocate.Code as code
+use Rattle.nv_refusing.specs.contracts.refusing.Refusing as wrapper
+use Rattle.nv_refusing.specs.contracts.refusing.RefusingAllocator.deallocate as F
+use Rattle.nv_refusing.specs.contracts.refusing.RefusingAllocator.deallocate.Key as key
+use Rattle.nv_refusing.proofs.refusing.RefusingAllocator.deallocate.Statement as stated
+use Rattle.nv_refusing.proofs.refusing.RefusingAllocator.deallocate.Code as code
 
 module _ (Z : Al) where
   abbrev args : Args

@@ -1,0 +1,236 @@
+//! A guest of 20000h bytes of memory, which lie in the host from 100000h on, and of 64 blocks, which lie on the disk from block
+//! 1,000 on; and what comes of its commands.
+
+use nv_entry::{Sqe, StatusCode};
+use nv_mem::{Bytes, GuestMap, NoMemory, Piece, Region};
+use nv_model::limits::MOST_DESCRIPTORS;
+use nv_ns::VirtualNs;
+use nv_plan::{Job, Plan, PlanKind, Planned, ReadDone, Transcript, make_plan};
+use std::alloc::{Allocator, Global};
+use std::process::Abort;
+use std::test::Fail;
+
+/// The last byte of a descriptor: its type and subtype.
+pub const DATA: u8 = 0x00;
+
+pub const BUCKET: u8 = 0x10;
+
+pub const SEGMENT: u8 = 0x20;
+
+pub const LAST: u8 = 0x30;
+
+/// A descriptor in the guest's memory: where it stands, its last byte, its address and its length.
+pub type Row = (usize, u8, u64, u32);
+
+/// Dwords of an entry that differ from those of a Read of one block from LBA 5 by one Data Block of 512 bytes at 3000h, CID 7.
+pub type Changes = &'static [(usize, u32)];
+
+const READ: [u32; 16] = [
+    0x0007_4002,
+    1,
+    0,
+    0,
+    0,
+    0,
+    0x3000,
+    0,
+    512,
+    0,
+    5,
+    0,
+    0,
+    0,
+    0,
+    0,
+];
+
+/// What is to come of a job: more is wanted, so many bytes at that address; or a plan of that kind with these places.
+#[derive(Clone, Copy)]
+pub enum Expected {
+    Need(u64, u64),
+    Direct(&'static [Piece]),
+    Bounced(&'static [Piece]),
+    NoData,
+    Refused(StatusCode),
+    TooLong,
+}
+
+/// A guest's memory and its map.
+#[derive(Drop)]
+pub struct Guest {
+    pub memory: Vec<u8>,
+    pub map: GuestMap,
+}
+
+fn store(memory: &mut [u8], at: usize, bytes: &[u8]) {
+    for (place, byte) in memory.iter_mut().skip(at).zip(bytes.iter()) {
+        *place = *byte;
+    }
+}
+
+impl Guest {
+    /// A guest whose memory is mapped by these regions and holds zeros.
+    pub fn mapped(alloc: Global, regions: &[Region]) -> Result<Self, Fail> {
+        let memory = vec![in alloc; 0u8; 0x20000]?;
+        let map = GuestMap::new(0x100_0000, Vec::from_slice(alloc, regions)?)?;
+        Ok(Guest { memory, map })
+    }
+
+    /// The guest.
+    pub fn new(alloc: Global) -> Result<Self, Fail> {
+        let region = Region {
+            guest: 0,
+            host: 0x10_0000,
+            len: 0x2_0000,
+        };
+        Guest::mapped(alloc, &[region])
+    }
+
+    /// The guest, in whose memory these descriptors stand.
+    pub fn with(alloc: Global, rows: &[Row]) -> Result<Self, Fail> {
+        let mut guest = Guest::new(alloc)?;
+        for (at, kind, addr, len) in rows {
+            guest.put_descriptor(*at, *kind, *addr, *len);
+        }
+        Ok(guest)
+    }
+
+    /// Stores a descriptor.
+    pub fn put_descriptor(&mut self, at: usize, kind: u8, addr: u64, len: u32) {
+        let mut bytes = [0; 16];
+        bytes[..8].copy_from_slice(&addr.to_le_bytes());
+        bytes[8..12].copy_from_slice(&len.to_le_bytes());
+        bytes[15] = kind;
+        store(&mut self.memory, at, &bytes);
+    }
+
+    /// Stores the slots of a list page.
+    pub fn put_slots(&mut self, at: usize, slots: &[u64]) {
+        let mut to = at;
+        for slot in slots {
+            store(&mut self.memory, to, &slot.to_le_bytes());
+            to = to.wrapping_add(8);
+        }
+    }
+
+    /// Stores a range of Dataset Management.
+    pub fn put_range(&mut self, at: usize, start: u64, blocks: u32) {
+        let mut bytes = [0; 16];
+        bytes[..4].copy_from_slice(&7u32.to_le_bytes());
+        bytes[4..8].copy_from_slice(&blocks.to_le_bytes());
+        bytes[8..].copy_from_slice(&start.to_le_bytes());
+        store(&mut self.memory, at, &bytes);
+    }
+
+    // The bytes at an address, where they are there.
+    fn bytes(&self, addr: u64, len: u64) -> &[u8] {
+        let from = addr as usize;
+        let len = len as usize;
+        if from <= self.memory.len() && len <= self.memory.len() - from {
+            &self.memory[from..from + len]
+        } else {
+            &[]
+        }
+    }
+
+    /// Reads bytes of the guest's memory into a transcript.
+    pub fn read(
+        &self,
+        alloc: Global,
+        addr: u64,
+        len: u64,
+        to: &mut Transcript,
+    ) -> Result<(), NoMemory> {
+        let bytes = Vec::from_slice(alloc, self.bytes(addr, len))?;
+        to.push(ReadDone::new(addr, Bytes::new(bytes)))
+    }
+
+    /// A job of the command with these reads.
+    pub fn job(&self, alloc: Global, sqe: Sqe, reads: &[(u64, u64)]) -> Result<Job, NoMemory> {
+        let mut transcript = Transcript::new(alloc);
+        for (addr, len) in reads {
+            self.read(alloc, *addr, *len, &mut transcript)?;
+        }
+        Ok(Job {
+            lane: 1,
+            tag: 9,
+            guest: 3,
+            sqe,
+            reads: transcript,
+        })
+    }
+
+    /// What comes of a job, under the usual limit on descriptors.
+    pub fn plan<A: Allocator + Clone>(&self, heap: A, alloc: Global, job: Job) -> Planned {
+        make_plan(heap, alloc, job, &self.map, &range(), MOST_DESCRIPTORS)
+    }
+}
+
+/// The guest's blocks.
+pub fn range() -> VirtualNs {
+    VirtualNs::new(1000, 64)
+}
+
+/// The command with these dwords changed.
+pub fn command(rt: &impl Abort, changes: &[(usize, u32)]) -> Sqe {
+    let mut dwords = READ;
+    for (place, dword) in changes {
+        let place = *place;
+        assert!(rt; place < 16);
+        dwords[place] = *dword;
+    }
+    let mut bytes = [0; 64];
+    for (dword, out) in dwords.iter().zip(bytes.chunks_exact_mut(4)) {
+        out.copy_from_slice(&dword.to_le_bytes());
+    }
+    Sqe::of(&bytes)
+}
+
+// Whether a plan is the expected one.
+fn is_planned(plan: &Plan, expected: &Expected) -> bool {
+    let places = plan.places().pieces();
+    match (plan.kind(), expected) {
+        (PlanKind::Direct, Expected::Direct(pieces)) => places == *pieces,
+        (PlanKind::Bounced, Expected::Bounced(pieces)) => places == *pieces,
+        (PlanKind::NoData, Expected::NoData) => places.is_empty(),
+        (PlanKind::Answer(status), Expected::Refused(code)) => {
+            places.is_empty() && status == code.refused()
+        }
+        (PlanKind::Answer(status), Expected::TooLong) => {
+            places.is_empty() && status == StatusCode::InternalError.status()
+        }
+        _ => false,
+    }
+}
+
+/// Whether that came of a job.
+pub fn is_expected(planned: &Planned, expected: &Expected) -> bool {
+    match planned {
+        Planned::Need(_job, addr, len) => match expected {
+            Expected::Need(wanted, size) => *addr == *wanted && *len == *size,
+            _ => false,
+        },
+        Planned::Plan(plan) => is_planned(plan, expected),
+        Planned::NoMemory(_job) => false,
+    }
+}
+
+/// A command in a guest's memory with what was read, and what comes of it.
+pub struct Case {
+    pub name: &'static str,
+    pub changes: Changes,
+    pub rows: &'static [Row],
+    pub reads: &'static [(u64, u64)],
+    pub expected: Expected,
+}
+
+/// Each of these comes to what is expected.
+pub fn check_all(rt: &impl Abort, alloc: Global, cases: &[Case]) -> Result<(), Fail> {
+    for case in cases {
+        let guest = Guest::with(alloc, case.rows)?;
+        let job = guest.job(alloc, command(rt, case.changes), case.reads)?;
+        let planned = guest.plan(alloc, alloc, job);
+        assert!(rt; is_expected(&planned, &case.expected), "{}", case.name);
+    }
+    Ok(())
+}

@@ -1,0 +1,18 @@
+//! Tests of plans, and of a lane's tags, by public calls alone: a crate with tests is proved twice, so they stand here and not beside
+//! the code.
+#![tactic(auto)]
+
+#[cfg(test)]
+mod answers;
+#[cfg(test)]
+mod guest;
+#[cfg(test)]
+mod plans;
+#[cfg(test)]
+mod ranges;
+#[cfg(test)]
+mod reads;
+#[cfg(test)]
+mod refused;
+#[cfg(test)]
+mod tags;

@@ -1,0 +1,78 @@
+//! Memory that is refused: each allocation of the heap in turn, and then the same call again.
+use crate::guest::{Changes, DATA, Expected, Guest, LAST, Row, command, is_expected};
+use nv_mem::{NoMemory, Piece};
+use nv_plan::{Job, Planned};
+use nv_refusing::Refusing;
+use std::alloc::Global;
+use std::process::Abort;
+use std::test::Fail;
+
+/// A Read by a Segment of two descriptors at 6000h that leads to a Last Segment of one.
+const CHAIN: Changes = &[(6, 0x6000), (8, 32), (9, 0x2000_0000)];
+
+const ROWS: &[Row] = &[(0x6010, LAST, 0x7000, 16), (0x7000, DATA, 0x3000, 512)];
+
+const READS: &[(u64, u64)] = &[(0x6000, 32), (0x7000, 16)];
+
+const PLACES: &[Piece] = &[Piece::Run {
+    addr: 0x3000,
+    len: 512,
+}];
+
+// Whether a job is as it was handed in.
+fn is_as_it_was(job: &Job) -> bool {
+    (job.lane, job.tag, job.guest) == (1, 9, 3) && job.reads.reads().len() == READS.len()
+}
+
+// Plans with that allocation of the heap refused, and then again: whether it came to a refusal, with the job as it was, and to the
+// plan then; nothing where no allocation was refused.
+fn refused_once(
+    heap: &Refusing<Global>,
+    alloc: Global,
+    guest: &Guest,
+    job: Job,
+    granted: u64,
+) -> Option<bool> {
+    heap.refuse_after(granted);
+    let planned = guest.plan(heap, alloc, job);
+    if !heap.has_refused() {
+        return None;
+    }
+    heap.grant_all();
+    match planned {
+        Planned::NoMemory(job) => {
+            let is_back = is_as_it_was(&job);
+            let again = guest.plan(heap, alloc, job);
+            Some(is_back && is_expected(&again, &Expected::Direct(PLACES)))
+        }
+        _ => Some(false),
+    }
+}
+
+// How many allocations of the heap were refused, one after another; nothing where a refusal was not answered as such.
+fn refusals(
+    rt: &impl Abort,
+    heap: &Refusing<Global>,
+    alloc: Global,
+    guest: &Guest,
+) -> Result<Option<u64>, NoMemory> {
+    for granted in 0..100u64 {
+        let job = guest.job(alloc, command(rt, CHAIN), READS)?;
+        match refused_once(heap, alloc, guest, job, granted) {
+            Some(true) => {}
+            Some(false) => return Ok(None),
+            None => return Ok(Some(granted)),
+        }
+    }
+    Ok(None)
+}
+
+#[test]
+fn each_allocation_refused_in_turn(rt: HostRuntime) -> Result<(), Fail> {
+    let alloc = rt.alloc();
+    let guest = Guest::with(alloc, ROWS)?;
+    let heap = Refusing::new(alloc);
+    // the own descriptor takes one block of memory, and each array two
+    assert_eq!(rt; refusals(&rt, &heap, alloc, &guest)?, Some(5));
+    Ok(())
+}

@@ -1,0 +1,6 @@
+pub mod Outline
+pub mod Made
+pub mod Planned
+pub mod Listed
+pub mod Drawn
+pub mod Laws

@@ -1,0 +1,12 @@
+//! What a guest was given.
+
+use nv_mem::GuestMap;
+use nv_ns::VirtualNs;
+
+/// A guest's memory and namespace, and the most descriptors of a list of its.
+#[derive(Drop)]
+pub(crate) struct Given<'a> {
+    pub(crate) map: &'a GuestMap,
+    pub(crate) ns: VirtualNs,
+    pub(crate) limit: u32,
+}

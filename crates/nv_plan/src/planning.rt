@@ -1,0 +1,165 @@
+//! How a job becomes a plan.
+
+ghost use Rattle.std.specs.Prelude.{◌≡◌, ◌<◌, ◌≤◌, ◌/◌, ◌%◌, ℕ, Bool, List, IfOk, length};
+ghost use Rattle.nv_entry.specs.declared.opcode.IoOpcode.{IoOpcode};
+ghost use Rattle.nv_entry.specs.declared.opcode.IoOpcode.TheVariants as opcode;
+ghost use Rattle.nv_judge.specs.Need.{need_of};
+ghost use Rattle.nv_model.specs.Judge.{Transfer, form_of, judge_ranges, ranges_in};
+ghost use Rattle.nv_model.specs.Limits.{most_bytes, range_size};
+ghost use Rattle.nv_world_model.specs.Plan.{plan_of};
+ghost use Rattle.nv_world_model.specs.SetUp.{most_limit};
+ghost use Rattle.nv_plan.specs.Drawn.{drawn, given_of, plan_of_list};
+ghost use Rattle.nv_plan.specs.Made.{outcome_of};
+ghost use Rattle.nv_plan.specs.Outline.{outline_of, outlined};
+ghost use Rattle.nv_plan.specs.Planned.{IsPlanned};
+
+use crate::given::Given;
+use crate::job::Job;
+use crate::kind::PlanKind;
+use crate::outcome::Outcome;
+use crate::outline::Outline;
+use crate::plan::Plan;
+use crate::planned::Planned;
+use crate::ranges::{fetch, translated};
+use crate::transcript::ReadsLeft;
+use nv_entry::{IoOpcode, Sqe};
+use nv_judge::{Need, judge_fields, judge_ranges};
+use nv_mem::{GuestMap, NoMemory, Places};
+use nv_ns::VirtualNs;
+use nv_prp::fits;
+use std::alloc::{Allocator, Global};
+
+/// The plan of a job, or the bytes that are wanted next.
+///
+/// It follows from the command, what was read of its lists, the guest's map and namespace, and the limit on descriptors (1 to 4,096)
+/// alone. What is read of an SGL lives in `heap`, and the plan in `alloc`.
+pub fn make_plan<A: Allocator + Clone>(
+    heap: A,
+    alloc: Global,
+    job: Job,
+    map: &GuestMap,
+    ns: &VirtualNs,
+    limit: u32,
+) -> Planned
+    requires some { 0 < limit }
+    requires most { limit ≤ most_limit }
+    ensures { IsPlanned result job (record { memory_map = map.now; extent = ns.now; limit = limit }) }
+{
+    let given = Given {
+        map,
+        ns: *ns,
+        limit,
+    };
+    match given.outline(heap, alloc, &job) {
+        Ok(Outcome::Wanted { addr, len }) => Planned::Need(job, addr, len),
+        Ok(Outcome::Settled(outline)) => match map.try_clone(alloc) {
+            Ok(map) => Planned::Plan(Plan::new(job, map, *ns, limit, outline)),
+            Err(NoMemory) => Planned::NoMemory(job),
+        },
+        Err(NoMemory) => Planned::NoMemory(job),
+    }
+}
+
+impl<'a> Given<'a> {
+    // What the plan of a job says.
+    fn outline<A: Allocator + Clone>(
+        &self,
+        heap: A,
+        alloc: Global,
+        job: &Job,
+    ) -> Result<Outcome<Outline>, NoMemory>
+        requires { 0 < self.now.limit }
+        ensures { IfOk result (λ outline. drawn outline ≡ outlined self.now.ns (outcome_of (given_of self.now) job.now)) }
+    {
+        let need = match judge_fields(&job.sqe, &self.ns) {
+            Ok(need) => need,
+            Err(status) => return Ok(Outcome::Settled(Outline::answer(alloc, status))),
+        };
+        let Some(opcode) = job.sqe.io_opcode() else {
+            unreachable!()
+        };
+        let mut reads = ReadsLeft::all(&job.reads);
+        match opcode {
+            IoOpcode::Flush | IoOpcode::WriteZeroes => Ok(Outcome::Settled(Outline::no_data(
+                alloc,
+            ))),
+            IoOpcode::Read | IoOpcode::Write | IoOpcode::Compare => self.transfer(
+                heap, alloc, &job.sqe, need, &mut reads,
+            ),
+            IoOpcode::DatasetManagement => self.manage(heap, alloc, &job.sqe, need, &mut reads),
+        }
+    }
+
+    // What the plan of a Read, Write or Compare says, whose fields are in order.
+    fn transfer<A: Allocator + Clone>(
+        &self,
+        heap: A,
+        alloc: Global,
+        sqe: &Sqe,
+        need: Need,
+        reads: &mut ReadsLeft,
+    ) -> Result<Outcome<Outline>, NoMemory>
+        requires limit { 0 < self.now.limit }
+        requires some { 0 < need.bytes }
+        requires most { need.bytes ≤ most_bytes }
+        ensures { IfOk result (λ outline. (opcode : IoOpcode) (dest : Bool) → form_of opcode ≡ Transfer dest → need ≡ need_of sqe.now opcode →
+            drawn outline ≡ outlined self.now.ns (plan_of_list (given_of self.now) opcode sqe.now reads.old)) }
+    {
+        match self.read_list(heap, alloc, sqe, need, reads)? {
+            Outcome::Wanted { addr, len } => Ok(Outcome::Wanted { addr, len }),
+            Outcome::Settled(Err(status)) => Ok(Outcome::Settled(Outline::answer(alloc, status))),
+            Outcome::Settled(Ok(places)) => {
+                let kind = if fits(self.map, &places) {
+                    PlanKind::Direct
+                } else {
+                    PlanKind::Bounced
+                };
+                Ok(Outcome::Settled(Outline::transfer(alloc, kind, places)))
+            }
+        }
+    }
+
+    // What the plan of a Dataset Management says, whose fields are in order.
+    fn manage<A: Allocator + Clone>(
+        &self,
+        heap: A,
+        alloc: Global,
+        sqe: &Sqe,
+        need: Need,
+        reads: &mut ReadsLeft,
+    ) -> Result<Outcome<Outline>, NoMemory>
+        requires limit { 0 < self.now.limit }
+        requires need { need ≡ need_of sqe.now opcode.DatasetManagement }
+        ensures { IfOk result (λ outline. drawn outline ≡ outlined self.now.ns (plan_of_list (given_of self.now) opcode.DatasetManagement sqe.now reads.old)) }
+    {
+        match self.read_list(heap, alloc, sqe, need, reads)? {
+            Outcome::Wanted { addr, len } => Ok(Outcome::Wanted { addr, len }),
+            Outcome::Settled(Err(status)) => Ok(Outcome::Settled(Outline::answer(alloc, status))),
+            Outcome::Settled(Ok(places)) => match fetch(
+                alloc,
+                &places,
+                need.bytes as usize,
+                reads,
+            )? {
+                Outcome::Wanted { addr, len } => Ok(Outcome::Wanted { addr, len }),
+                Outcome::Settled(bytes) => Ok(Outcome::Settled(self.ranged(
+                    alloc,
+                    places,
+                    bytes.as_slice(),
+                )?)),
+            },
+        }
+    }
+
+    // What the plan of a Dataset Management says whose list names these places, at which these bytes stood.
+    fn ranged(&self, alloc: Global, places: Places, bytes: &[u8]) -> Result<Outline, NoMemory>
+        requires { length bytes.now % range_size ≡ 0 }
+        ensures { IfOk result (λ outline. (entry : List ℕ) →
+            outline ≡ outline_of self.now.ns (plan_of self.now.map.now.regions (judge_ranges self.now.ns.blocks opcode.DatasetManagement entry places (ranges_in (length bytes.now / range_size) bytes.now)))) }
+    {
+        if let Err(status) = judge_ranges(bytes, &self.ns) {
+            return Ok(Outline::answer(alloc, status));
+        }
+        Ok(Outline::ranged(places, translated(alloc, bytes, self.ns)?))
+    }
+}

@@ -1,0 +1,6 @@
+//! An allocator for tests, that refuses one allocation.
+#![tactic(auto)]
+
+mod refusing;
+
+pub use refusing::Refusing;
