@@ -1,0 +1,5 @@
+pub mod Placed
+pub mod TagLists
+pub mod LaneTags
+pub mod TakenTags
+pub mod Takes
