@@ -1,11 +1,12 @@
 -- A lane's tags behind its type: what its calls look up and change.
-use Rattle.std.proofs.Common.{◌≡◌, ℕ, zero, suc, ◌<◌, ◌≤◌, Bool, List, [], ◌∷◌, length, set, slice_get, Some, None, arith, refl, sym, ap, ◌∙◌, subst}
+use Rattle.std.proofs.Common.{◌≡◌, ℕ, zero, suc, ◌<◌, ◌≤◌, Bool, List, [], ◌∷◌, length, set, slice_get, Some, None, arith, refl, sym, ap, ◌∙◌, subst, get_or, Option}
+use Rattle.std.proofs.lemmas.Option.{slice_get_read}
 use Rattle.nv_core.specs.Tags.{AreUsed, IsUsed, IsWhole, state_in, state_of as state_of_tag, tag_made, tags_of}
 use Rattle.nv_core.specs.declared.progress.Progress.{Progress}
 use Rattle.nv_core.specs.declared.progress.Progress.TheVariants as progress
 use Rattle.nv_core.proofs.TagLists.{tags-free, tags-past, tags-set, tags-state, used-set}
 use Rattle.nv_entry.specs.Status.{StatusField}
-use Rattle.nv_laws_sound.proofs.Lists.{length-set, some-same}
+use Rattle.nv_laws_sound.proofs.Lists.{length-set, set-same, some-same}
 use Rattle.nv_model.specs.Transcript.{ReadDone}
 use Rattle.nv_tags.specs.Tags.{Slot, free_slot, slot_at, state_at, with_point}
 use Rattle.nv_tags.specs.Tags as slot
@@ -64,6 +65,11 @@ taken-at (s ∷ slots) (p ∷ ps) zero same used e =
 taken-at (s ∷ slots) (p ∷ ps) (suc tag) same used e =
     let at = taken-at slots ps tag (omega arith) used.1 e in
     record { command = at.command; reads = at.reads; below = (let b = at.below in omega arith); is = at.is; slot_is = at.slot_is; progress_is = at.progress_is }
+
+-- the slot of a tag that is used
+pub slot-got : (s : Option Slot) (command : Command) (point : slot.Point) → slot.slot_or_free s ≡ slot.Used command point → s ≡ Some (slot.Used command point)
+slot-got None command point e = cc
+slot-got (Some x) command point e = ap (λ (y : Slot). Some y) e
 
 module _ (head : ℕ) (phase : Bool) (slots : List Slot) (ps : List Progress) (old : Lane) (whole : IsWhole head slots ps)
     (view : (let l : Lane = record { head = head; phase = phase; tags = tags_of slots ps } in l) ≡ old) where
@@ -124,3 +130,24 @@ module _ (head : ℕ) (phase : Bool) (slots : List Slot) (ps : List Progress) (o
   same-taken tag command reads at e =
       let both = some-same (Taken at.command at.reads) (Taken command reads) (sym at.is ∙ ap (λ (ts : List Tag). slice_get ts tag) seen ∙ e) in
       ((cc), (cc))
+
+  -- a tag whose transcript is another now
+  read-slot : (tag : ℕ) → (at : IsTakenAt slots ps tag) → slots ≡ set slots tag (slot.Used at.command slot.Taken)
+  read-slot tag at = sym (set-same slots tag (slot.Used at.command slot.Taken) (slot-got (slice_get slots tag) at.command slot.Taken at.slot_is))
+
+  pub reading-at : (tag i : ℕ) (p : Progress) → (at : IsTakenAt slots ps tag) → i ≡ tag → p ≡ get_or ps i p → p ≡ progress.Reading at.reads
+  reading-at tag i p at number has =
+      some-same p (progress.Reading at.reads)
+      (sym (subst (λ (k : ℕ). slice_get ps k ≡ Some p) number
+      (slice_get_read ps (length ps) i p refl (let b = at.below in let e = same in omega arith) has)) ∙ at.progress_is)
+
+  pub read-whole : (tag i : ℕ) (p : Progress) (reads : List ReadDone) → IsTakenAt slots ps tag → i ≡ tag → p ≡ progress.Reading reads → IsWhole head slots (set ps i p)
+  read-whole tag i p reads at number is =
+      lane-whole tag i (slot.Used at.command slot.Taken) p slots number (read-slot tag at)
+      (subst (λ (q : Progress). IsUsed (slot.Used at.command slot.Taken) (tag_made (slot.Used at.command slot.Taken) q)) (sym is) tt)
+
+  pub read-changed : (tag i : ℕ) (p : Progress) (reads : List ReadDone) → (at : IsTakenAt slots ps tag) → i ≡ tag → p ≡ progress.Reading reads
+      → (let l : Lane = record { head = head; phase = phase; tags = tags_of slots (set ps i p) } in l) ≡ tag_changed tag (Taken at.command reads) old
+  read-changed tag i p reads at number is =
+      lane-changed tag i (slot.Used at.command slot.Taken) p (Taken at.command reads) slots number (read-slot tag at)
+      (ap (λ (q : Progress). tag_made (slot.Used at.command slot.Taken) q) is)

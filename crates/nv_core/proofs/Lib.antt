@@ -3,3 +3,4 @@ pub mod TagLists
 pub mod LaneTags
 pub mod TakenTags
 pub mod Takes
+pub mod ListReads

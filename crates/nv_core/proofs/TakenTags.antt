@@ -70,6 +70,11 @@ pub taken-state : (lanes : List Lane) (lane tag i : ℕ) (l : Lane) → IsTaken 
 taken-state lanes lane tag i l t at has =
     ap (λ (k : Lane). state_in (slice_get k.tags tag)) (sym (taken-lane lanes lane tag i l t at has)) ∙ ap state_in t.there
 
+pub taken-there : (lanes : List Lane) (lane tag i : ℕ) (l : Lane) → (t : IsTaken lanes lane tag) → i ≡ lane → l ≡ get_or lanes i l
+    → slice_get l.tags tag ≡ Some (Taken t.command t.reads)
+taken-there lanes lane tag i l t at has =
+    subst (λ (k : Lane). slice_get k.tags tag ≡ Some (Taken t.command t.reads)) (taken-lane lanes lane tag i l t at has) t.there
+
 -- ---- worlds
 
 -- a tag is changed in its lane

@@ -1,7 +1,7 @@
 //! The mediator's side of a lane.
 
 ghost use Rattle.std.specs.Prelude.{◌≡◌, ◌∷◌, ◌++◌, [], List, IfSome, MatchOption, None, OnErr, OnOk, Some, slice_get};
-ghost use Rattle.nv_core.specs.Tags.{state_in};
+ghost use Rattle.nv_core.specs.Tags.{IsReading, state_in};
 ghost use Rattle.nv_core.specs.declared.progress.Progress.TheVariants as progress;
 ghost use Rattle.nv_entry.specs.StatusCode.{done_with};
 ghost use Rattle.nv_entry.specs.declared.status_code.StatusCode.TheVariants.{InternalError};
@@ -74,4 +74,36 @@ impl Lane {
         self.tags.end(tag, StatusCode::InternalError.status());
         self.progress[usize::from(tag)] = Progress::Nothing;
     }
+
+    /// The command of a tag that was taken.
+    pub(crate) fn claimed(&self, tag: u8) -> &Claim
+        requires { state_in (slice_get self.now.tags tag) ≡ Some state.Taken }
+        ensures { (command : Command) (reads : List Read) → slice_get self.now.tags tag ≡ Some (Taken command reads) → command_of result.now ≡ command }
+    {
+        self.tags.entry(tag)
+    }
+
+    /// A read joins the transcript of a tag that was taken. Where no memory is left, nothing has changed.
+    pub(crate) fn push_read(&mut self, tag: u8, read: ReadDone) -> Result<(), NoMemory>
+        requires { state_in (slice_get self.old.tags tag) ≡ Some state.Taken }
+        ensures ok { (command : Command) (reads : List Read) → slice_get self.old.tags tag ≡ Some (Taken command reads) →
+            OnOk result (self.new ≡ tag_changed tag (Taken command (reads ++ read ∷ [])) self.old) }
+        ensures err { OnErr result (self.new ≡ self.old) }
+    {
+        let kept = &mut self.progress[usize::from(tag)];
+        push_to(kept, read)?;
+        Ok(())
+    }
+}
+
+// A read joins what is kept of a command that was taken.
+fn push_to(kept: &mut Progress, read: ReadDone) -> Result<(), NoMemory>
+    requires { IsReading kept.old }
+    ensures ok { (reads : List Read) → kept.old ≡ progress.Reading reads → OnOk result (kept.new ≡ progress.Reading (reads ++ read ∷ [])) }
+    ensures err { OnErr result (kept.new ≡ kept.old) }
+{
+    if let Progress::Reading(transcript) = kept {
+        transcript.push(read)?;
+    }
+    Ok(())
 }
