@@ -21,11 +21,13 @@ pub record IsUnder (tag addr guest queue : ℕ) (memory : ℕ → ℕ) (r : Repl
   pub lane : l_new ≡ tag_changed tag (Taken (record { guest = guest; queue = queue; entry = bytes_from memory addr sqe_size }) []) l
 
 -- the entry at that address was taken, where a tag is free
-abbrev pub IsTagged : Option ℕ → (addr guest queue : ℕ) → (memory : ℕ → ℕ) → Reply → (c c_new : Controller) → (l l_new : Lane) → Type 0
+abbrev pub IsTagged : Option ℕ → (addr guest queue : ℕ) → (memory : ℕ → ℕ) → Reply → (c c_new : Controller)
+    → (l l_new : Lane) → Type 0
 IsTagged None addr guest queue memory r c c_new l l_new = IsNothingTaken reply.Busy r c c_new l l_new
 IsTagged (Some tag) addr guest queue memory r c c_new l l_new = IsUnder tag addr guest queue memory r c c_new l l_new
 
 -- the front entry of a queue was taken, where there is one
-abbrev pub IsFrontTaken : Option ℕ → (guest queue : ℕ) → (memory : ℕ → ℕ) → Reply → (c c_new : Controller) → (l l_new : Lane) → Type 0
+abbrev pub IsFrontTaken : Option ℕ → (guest queue : ℕ) → (memory : ℕ → ℕ) → Reply → (c c_new : Controller)
+    → (l l_new : Lane) → Type 0
 IsFrontTaken None guest queue memory r c c_new l l_new = IsNothingTaken reply.Idle r c c_new l l_new
 IsFrontTaken (Some addr) guest queue memory r c c_new l l_new = IsTagged (free_tag l.tags) addr guest queue memory r c c_new l l_new

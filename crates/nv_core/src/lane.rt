@@ -78,7 +78,8 @@ impl Lane {
     /// The command of a tag that was taken.
     pub(crate) fn claimed(&self, tag: u8) -> &Claim
         requires { state_in (slice_get self.now.tags tag) ≡ Some state.Taken }
-        ensures { (command : Command) (reads : List Read) → slice_get self.now.tags tag ≡ Some (Taken command reads) → command_of result.now ≡ command }
+        ensures { (command : Command) (reads : List Read) → slice_get self.now.tags tag ≡ Some (Taken command reads) →
+            command_of result.now ≡ command }
     {
         self.tags.entry(tag)
     }

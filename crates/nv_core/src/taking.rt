@@ -70,7 +70,8 @@ fn take_front(
     requires host { given.now.memory_map.host_len ≡ length host.now }
     requires in_place { QueuesInPlace (mapped given.now.memory_map.regions) vctl.old }
     requires counted { slice_index vctl.old.taken queue < most_taken }
-    ensures { IsFrontTaken (front vctl.old queue) guest queue (image given.now.memory_map.regions (byte_in host.now)) result vctl.old vctl.new ring.old ring.new }
+    ensures { let memory = image given.now.memory_map.regions (byte_in host.now) in
+        IsFrontTaken (front vctl.old queue) guest queue memory result vctl.old vctl.new ring.old ring.new }
 {
     let Some(entry) = vctl.peek_sqe(queue, given.map(), host) else {
         return Reply::Idle;
