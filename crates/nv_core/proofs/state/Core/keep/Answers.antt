@@ -1,0 +1,19 @@
+use Rattle.std.proofs.Common.{◌≤◌, ◌<◌, subst, sym, arith}
+use Rattle.nv_core.proofs.Placed.{keep-marks, keep-not, same-size}
+use Rattle.nv_core.specs.State.{State, IsStep, world_of}
+use Rattle.nv_device.specs.Physical.{Physical}
+use Rattle.nv_model.specs.declared.reply.Reply.TheVariants as reply
+use Rattle.nv_world_model.specs.declared.event.Event.TheVariants as event
+use Rattle.nv_core.proofs.state.Core.keep.Goals as goal
+
+pub returns-then-block-disk_blocks : goal.returns-then-block-disk_blocks
+returns-then-block-disk_blocks c =
+    let past : c.args.layout.now.disk_blocks ≤ c.args.block = (let e = c.disk_blocks.ensures in let p = c.if-block-disk_blocks.true in omega arith) in
+    record { after = sym (keep-not c.args.layout.now (world_of c.args.self.now) c.args.block past); size = same-size c.args.self.now }
+
+pub returns : goal.returns
+returns c =
+    let below : c.args.block < c.args.layout.now.disk_blocks = (let e = c.disk_blocks.ensures in let p = c.if-block-disk_blocks.false in omega arith) in
+    let s : State = record { host = c.self.inside.host; device = c.self.inside.device; lanes = c.self.inside.lanes.items; controllers = c.self.inside.controllers.items } in
+    subst (λ (d : Physical). IsStep c.args.layout.now (event.Keep c.args.block) c.args.self.now reply.Done (record s { device = d })) (sym c.keep.ensures.state)
+    (keep-marks c.args.layout.now s c.args.self.now c.args.block c.self.view_is c.requires c.blocks-marked.ensures.marked below)

@@ -1,0 +1,55 @@
+use Rattle.std.proofs.Common.{◌≤◌, ◌<◌, ◌∙◌, length, subst, sym, refl, arith}
+use Rattle.nv_core.proofs.Placed.{has-controller, in-place}
+use Rattle.nv_core.proofs.Takes.{looked-up, take-done, take-no_lane, take-no_queue, take-nobody}
+use Rattle.nv_core.specs.State.{CountsMore, State}
+use Rattle.nv_laws_sound.proofs.Lists.{slice_get-there}
+use Rattle.nv_core.proofs.state.Core.take.Goals as goal
+
+pub returns-in_default : goal.returns-in_default
+returns-in_default c = take-nobody c.args.layout.now c.args.self.now c.args.self.now c.args.guest c.args.queue c.args.lane c.in_default.ensures
+
+pub returns-then-number-len : goal.returns-then-number-len
+returns-then-number-len c =
+    let past : length c.self.inside.controllers.items ≤ c.args.guest =
+    (let l = c.len.ensures in let n = c.from-number.ensures in let t = c.if-number-len.true in omega arith) in
+    absurd (has-controller c.args.layout.now c.args.self.now c.args.self.now c.args.guest c.in-Some.given.now c.requires.of c.in-Some.ensures
+    (subst (λ (o : State). length o.controllers ≤ c.args.guest) c.self.view_is past))
+
+pub returns-then-at-len : goal.returns-then-at-len
+returns-then-at-len c =
+    let s : State = record { host = c.self.inside.host; device = c.self.inside.device; lanes = c.self.inside.lanes.items; controllers = c.self.inside.controllers.items } in
+    let here = slice_get-there c.self.inside.controllers.items c.args.guest (let n = c.from-number.ensures in let l = c.len.ensures in let t = c.if-number-len.false in omega arith) in
+    take-no_lane c.args.layout.now s c.args.self.now c.args.guest c.args.queue c.args.lane c.in-Some.given.now here.0 c.self.view_is c.in-Some.ensures here.1
+    (let l = c.len-2.ensures in let n = c.from-at.ensures in let t = c.if-at-len.true in omega arith)
+
+pub returns-then-not-is_io_queue : goal.returns-then-not-is_io_queue
+returns-then-not-is_io_queue c =
+    let s : State = record { host = c.self.inside.host; device = c.self.inside.device; lanes = c.self.inside.lanes.items; controllers = c.self.inside.controllers.items } in
+    let here = slice_get-there c.self.inside.controllers.items c.args.guest (let n = c.from-number.ensures in let l = c.len.ensures in let t = c.if-number-len.false in omega arith) in
+    let lane = slice_get-there c.self.inside.lanes.items c.args.lane (let n = c.from-at.ensures in let l = c.len-2.ensures in let t = c.if-at-len.false in omega arith) in
+    take-no_queue c.args.layout.now s c.args.self.now c.args.guest c.args.queue c.args.lane c.in-Some.given.now here.0 c.self.view_is c.in-Some.ensures here.1
+    lane.0 lane.1 (sym c.is_io_queue.ensures ∙ c.if-not-is_io_queue.true)
+
+pub take_front-requires-clause-in_place : goal.take_front-requires-clause-in_place
+take_front-requires-clause-in_place c =
+    let s : State = record { host = c.self.inside.host; device = c.self.inside.device; lanes = c.self.inside.lanes.items; controllers = c.self.inside.controllers.items } in
+    let below : c.from-number.result < length c.self.inside.controllers.items = (let l = c.len.ensures in let t = c.if-number-len.false in omega arith) in
+    in-place c.args.layout.now s c.args.self.now c.args.guest c.from-number.result c.in-Some.given.now c.index_mut-vctl.result.now c.in-Some.given.now.memory_map
+    c.self.view_is c.requires.of c.from-number.ensures below c.index_mut-vctl.ensures.value c.in-Some.ensures refl
+
+pub take_front-requires-clause-counted : goal.take_front-requires-clause-counted
+take_front-requires-clause-counted c =
+    let below : c.from-number.result < length c.self.inside.controllers.items = (let l = c.len.ensures in let t = c.if-number-len.false in omega arith) in
+    let found = looked-up c.self.inside.controllers.items c.args.guest c.from-number.result c.index_mut-vctl.result.now c.from-number.ensures below c.index_mut-vctl.ensures.value in
+    subst (CountsMore c.args.guest) (sym c.self.view_is) c.requires.counted c.index_mut-vctl.result.now c.args.queue found
+
+pub returns : goal.returns
+returns c =
+    let s : State = record { host = c.self.inside.host; device = c.self.inside.device; lanes = c.self.inside.lanes.items; controllers = c.self.inside.controllers.items } in
+    let below : c.from-number.result < length c.self.inside.controllers.items = (let l = c.len.ensures in let t = c.if-number-len.false in omega arith) in
+    let found = looked-up c.self.inside.controllers.items c.args.guest c.from-number.result c.index_mut-vctl.result.now c.from-number.ensures below c.index_mut-vctl.ensures.value in
+    let below_lane : c.from-at.result < length c.self.inside.lanes.items = (let l = c.len-2.ensures in let t = c.if-at-len.false in omega arith) in
+    let found_lane = looked-up c.self.inside.lanes.items c.args.lane c.from-at.result c.index_mut-ring.result.now c.from-at.ensures below_lane c.index_mut-ring.ensures.value in
+    take-done c.args.layout.now s c.args.self.now c.args.guest c.args.queue c.args.lane c.in-Some.given.now c.index_mut-vctl.result.now c.self.view_is c.in-Some.ensures found
+    c.index_mut-ring.result.now found_lane c.from-number.result c.from-at.result c.take_front.new.vctl c.take_front.new.ring c.take_front.result
+    c.from-number.ensures c.from-at.ensures (sym c.is_io_queue.ensures ∙ c.if-not-is_io_queue.false) c.take_front.ensures

@@ -1,0 +1,4 @@
+pub mod State
+pub mod Tags
+pub mod Seat
+pub mod Take

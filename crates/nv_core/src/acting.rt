@@ -1,0 +1,64 @@
+//! What guests do.
+
+ghost use Rattle.std.specs.Prelude.{◌≡◌, OnErr, IfOk, length};
+ghost use Rattle.nv_core.specs.Seat.{IsActed};
+ghost use Rattle.nv_core.specs.State.{IsOf, IsStep};
+ghost use Rattle.nv_model.specs.Memory.{byte_in};
+
+use crate::layout::{Given, Layout};
+use crate::seat;
+use crate::state::Core;
+use nv_mem::{Host, NoMemory};
+use nv_model::{Act, Reply};
+use nv_vctl::Vctl;
+use nv_world_model::Event;
+use std::alloc::Global;
+
+impl Core {
+    /// A guest acts: it reads and writes its memory, its controller's registers and its doorbells. Ignored where there is no such guest.
+    /// Memory is taken for the bytes of the reply alone; where none is left, nothing has changed.
+    pub fn act(
+        &mut self,
+        alloc: Global,
+        layout: &Layout,
+        guest: u8,
+        act: &Act,
+    ) -> Result<Reply, NoMemory>
+        requires { IsOf layout.now self.old }
+        ensures ok { IfOk result (λ reply. IsStep layout.now (Event.Guest guest act.now) self.old reply self.new) }
+        ensures err { OnErr result (self.new ≡ self.old) }
+    {
+        let Some(given) = layout.guest(guest) else {
+            return Ok(Reply::Ignored);
+        };
+        let number = usize::from(guest);
+        if number >= self.controllers.len() {
+            return Ok(Reply::Ignored);
+        }
+        let vctl = &mut self.controllers[number];
+        let reply = act_in_seat(alloc, given, act, vctl, &mut self.host)?;
+        Ok(reply)
+    }
+}
+
+// An act on a guest's part of the host and on its controller.
+fn act_in_seat(
+    alloc: Global,
+    given: &Given,
+    act: &Act,
+    vctl: &mut Vctl,
+    host: &mut Host,
+) -> Result<Reply, NoMemory>
+    requires { given.now.memory_map.host_len ≡ length host.old }
+    ensures ok { IfOk result (λ reply. IsActed given.now act.now (byte_in host.old) vctl.old reply (byte_in host.new) vctl.new) }
+    ensures err { OnErr result ((vctl.new ≡ vctl.old) × (host.new ≡ host.old)) }
+    ensures len { length host.new ≡ length host.old }
+{
+    match act {
+        Act::Store { addr, bytes } => Ok(seat::store(given, *addr, bytes, host)),
+        Act::Load { addr, len } => seat::load(alloc, given, *addr, *len, host),
+        Act::RegRead { offset } => seat::read_register(alloc, given, vctl, *offset),
+        Act::RegWrite { offset, value } => Ok(seat::write_register(given, vctl, *offset, *value)),
+        Act::Doorbell { offset, value } => Ok(seat::ring_doorbell(given, vctl, *offset, *value)),
+    }
+}

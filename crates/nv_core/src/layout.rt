@@ -1,0 +1,96 @@
+//! What stays as it is while a world runs.
+
+ghost use Rattle.std.specs.Prelude.{◌≡◌, MatchOption, None, Some, slice_get};
+
+use nv_mem::GuestMap;
+use nv_ns::VirtualNs;
+use std::marker::Model;
+
+/// What a guest was given: its memory, its namespace, and the most descriptors of a list.
+#[derive(Debug, Drop)]
+pub struct Given {
+    pub(crate) map: GuestMap,
+    pub(crate) ns: VirtualNs,
+    pub(crate) limit: u32,
+}
+
+impl Model for Given {
+    ghost use Rattle.nv_world_model.specs.Geometry.{Guest};
+
+    ghost Value = { Guest };
+
+    ghost view = { λ g. record { memory_map = g.map; extent = g.ns; limit = g.limit } };
+}
+
+impl Given {
+    /// This memory, this namespace, and this limit on descriptors.
+    pub fn new(map: GuestMap, ns: VirtualNs, limit: u32) -> Self
+        ensures { result ≡ record { memory_map = map; extent = ns; limit = limit } }
+    {
+        Given { map, ns, limit }
+    }
+
+    /// The guest's memory.
+    pub fn map(&self) -> &GuestMap
+        ensures { result.now ≡ self.now.memory_map }
+    {
+        &self.map
+    }
+
+    /// The guest's namespace.
+    pub fn ns(&self) -> VirtualNs
+        ensures { result ≡ self.now.extent }
+    {
+        self.ns
+    }
+
+    /// The most descriptors of a list.
+    pub fn limit(&self) -> u32
+        ensures { result ≡ self.now.limit }
+    {
+        self.limit
+    }
+}
+
+/// Where the mediator's area begins in the host's memory, how many blocks the disk has, and what each guest was given.
+#[derive(Debug, Drop)]
+pub struct Layout {
+    pub(crate) mediator: u64,
+    pub(crate) disk_blocks: u64,
+    pub(crate) guests: Vec<Given>,
+}
+
+impl Model for Layout {
+    ghost use Rattle.nv_world_model.specs.Geometry.{Geometry};
+
+    ghost Value = { Geometry };
+
+    ghost view = { λ l. record { mediator = l.mediator; disk_blocks = l.disk_blocks; guests = l.guests.items } };
+}
+
+impl Layout {
+    /// An area that begins there, a disk of so many blocks, and guests by number.
+    pub fn new(mediator: u64, disk_blocks: u64, guests: Vec<Given>) -> Self
+        ensures { result ≡ record { mediator = mediator; disk_blocks = disk_blocks; guests = guests.items } }
+    {
+        Layout {
+            mediator,
+            disk_blocks,
+            guests,
+        }
+    }
+
+    /// How many blocks the disk has.
+    pub fn disk_blocks(&self) -> u64
+        ensures { result ≡ self.now.disk_blocks }
+    {
+        self.disk_blocks
+    }
+
+    /// What the guest of that number was given, where there is one.
+    pub fn guest(&self, guest: u8) -> Option<&Given>
+        ensures { MatchOption result (slice_get self.now.guests guest ≡ None) (λ given. slice_get self.now.guests guest ≡ Some given.now) }
+    {
+        self.guests.get(usize::from(guest))
+    }
+}

@@ -1,0 +1,115 @@
+//! Acts in a guest's seat: on its part of the host and on its controller.
+
+ghost use Rattle.std.specs.Prelude.{◌≡◌, ℕ, IfOk, length, true};
+ghost use Rattle.nv_core.specs.Seat.{IsActed};
+ghost use Rattle.nv_mem.specs.GuestMap.{everywhere, mapped};
+ghost use Rattle.nv_model.specs.Controller.{Controller};
+ghost use Rattle.nv_model.specs.Memory.{byte_in, bytes_from, image};
+
+use crate::layout::Given;
+use nv_mem::{Bytes, Host, NoMemory};
+use nv_model::{Act, Reply};
+use nv_vctl::Vctl;
+use std::alloc::Global;
+
+/// Stores bytes from guest address `addr` on.
+pub(crate) fn store(given: &Given, addr: u64, bytes: &Bytes, host: &mut Host) -> Reply
+    requires { given.now.memory_map.host_len ≡ length host.old }
+    ensures acted { (c : Controller) → IsActed given.now (Act.Store addr bytes.now) (byte_in host.old) c result (byte_in host.new) c }
+    ensures len { length host.new ≡ length host.old }
+{
+    // With the length of the host comes what is known of every map.
+    let map = given.map();
+    let _host_len = map.host_len();
+    let bytes = bytes.as_slice();
+    if !map.holds(addr, bytes.len() as u64) {
+        return Reply::Unmapped;
+    }
+    nv_bounce::store(bytes, addr, map, host);
+    Reply::Done
+}
+
+/// Loads `len` bytes from guest address `addr` on.
+pub(crate) fn load(
+    alloc: Global,
+    given: &Given,
+    addr: u64,
+    len: u64,
+    host: &Host,
+) -> Result<Reply, NoMemory>
+    requires { given.now.memory_map.host_len ≡ length host.now }
+    ensures { IfOk result (λ reply. (c : Controller) → IsActed given.now (Act.Load addr len) (byte_in host.now) c reply (byte_in host.now) c) }
+{
+    // With the length of the host comes what is known of every map.
+    let map = given.map();
+    let _host_len = map.host_len();
+    if !map.holds(addr, len) {
+        return Ok(Reply::Unmapped);
+    }
+    let bytes = read_bytes(alloc, given, addr, len, host)?;
+    Ok(Reply::Bytes(bytes))
+}
+
+/// The `len` bytes from guest address `addr` on, which are mapped.
+pub(crate) fn read_bytes(
+    alloc: Global,
+    given: &Given,
+    addr: u64,
+    len: u64,
+    host: &Host,
+) -> Result<Bytes, NoMemory>
+    requires host { given.now.memory_map.host_len ≡ length host.now }
+    requires mapped { everywhere (mapped given.now.memory_map.regions) addr len ≡ true }
+    ensures { IfOk result (λ bytes. bytes ≡ bytes_from (image given.now.memory_map.regions (byte_in host.now)) addr len) }
+{
+    let mut bytes = vec![in alloc; 0; len as usize]?;
+    nv_bounce::load(addr, given.map(), host, &mut bytes);
+    Ok(Bytes::new(bytes))
+}
+
+/// Reads the dword of the register at an offset.
+pub(crate) fn read_register(
+    alloc: Global,
+    given: &Given,
+    vctl: &Vctl,
+    offset: u32,
+) -> Result<Reply, NoMemory>
+    ensures { IfOk result (λ reply. (host : ℕ → ℕ) → IsActed given.now (Act.RegRead offset) host vctl.now reply host vctl.now) }
+{
+    // With the length of the host comes what is known of every map.
+    let map = given.map();
+    let _host_len = map.host_len();
+    let Some(value) = vctl.reg_read(offset) else {
+        return Ok(Reply::Ignored);
+    };
+    let bytes = Vec::from_slice(alloc, &value.to_le_bytes())?;
+    Ok(Reply::Bytes(Bytes::new(bytes)))
+}
+
+/// Writes the dword of the register at an offset.
+pub(crate) fn write_register(given: &Given, vctl: &mut Vctl, offset: u32, value: u32) -> Reply
+    ensures { (host : ℕ → ℕ) → IsActed given.now (Act.RegWrite offset value) host vctl.old result host vctl.new }
+{
+    // With the length of the host comes what is known of every map.
+    let map = given.map();
+    let _host_len = map.host_len();
+    if vctl.reg_write(offset, value, map) {
+        Reply::Done
+    } else {
+        Reply::Ignored
+    }
+}
+
+/// Writes the doorbell at an offset.
+pub(crate) fn ring_doorbell(given: &Given, vctl: &mut Vctl, offset: u32, value: u32) -> Reply
+    ensures { (host : ℕ → ℕ) → IsActed given.now (Act.Doorbell offset value) host vctl.old result host vctl.new }
+{
+    // With the length of the host comes what is known of every map.
+    let map = given.map();
+    let _host_len = map.host_len();
+    if vctl.doorbell(offset, value) {
+        Reply::Done
+    } else {
+        Reply::Ignored
+    }
+}

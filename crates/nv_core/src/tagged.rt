@@ -1,0 +1,101 @@
+//! Events of tags that were taken.
+
+ghost use Rattle.std.specs.Prelude.{◌≡◌, ◌&&◌, IfOk, OnErr, nat_le};
+ghost use Rattle.nv_model.specs.Limits.{part_size};
+ghost use Rattle.nv_core.specs.State.{IsOf, IsStep, world_of};
+ghost use Rattle.nv_core.specs.Tags.{state_in, untaken};
+ghost use Rattle.nv_world_model.specs.World.{tag_of};
+
+use crate::layout::Layout;
+use crate::seat;
+use crate::state::Core;
+use nv_mem::NoMemory;
+use nv_model::Reply;
+use nv_model::limits::PART_SIZE;
+use nv_plan::ReadDone;
+use nv_tags::TagState;
+use nv_world_model::Event;
+use std::alloc::Global;
+
+impl Core {
+    /// Ends the command of a tag that was taken with Internal Error. Stale where the tag is at another point, Ignored where there is no
+    /// such tag.
+    pub fn give_up(&mut self, _layout: &Layout, lane: u8, tag: u8) -> Reply
+        requires { IsOf _layout.now self.old }
+        ensures { IsStep _layout.now (Event.GiveUp lane tag) self.old result self.new }
+    {
+        if let Some(reply) = untaken(self.state(lane, tag)) {
+            return reply;
+        }
+        self.lanes[usize::from(lane)].give_up(tag);
+        Reply::Done
+    }
+
+    /// Bytes of the guest's memory join the transcript of a tag that was taken, and are the reply. Stale where the tag is at another point,
+    /// Ignored where there is no such tag, Unmapped where not all of the bytes are mapped, and Ignored where they are none or more than
+    /// 4,096. Where no memory is left, nothing has changed.
+    pub fn list(
+        &mut self,
+        alloc: Global,
+        layout: &Layout,
+        lane: u8,
+        tag: u8,
+        addr: u64,
+        len: u64,
+    ) -> Result<Reply, NoMemory>
+        requires { IsOf layout.now self.old }
+        ensures ok { IfOk result (λ reply. IsStep layout.now (Event.List lane tag addr len) self.old reply self.new) }
+        ensures err { OnErr result (self.new ≡ self.old) }
+    {
+        if let Some(reply) = untaken(self.state(lane, tag)) {
+            return Ok(reply);
+        }
+        let at = usize::from(lane);
+        let guest = self.lanes[at].claimed(tag).guest;
+        let Some(given) = layout.guest(guest) else {
+            return Ok(Reply::Stale);
+        };
+        let map = given.map();
+        let _host_len = map.host_len();
+        if !map.holds(addr, len) {
+            return Ok(Reply::Unmapped);
+        }
+        if !is_part(len) {
+            return Ok(Reply::Ignored);
+        }
+        let shown = seat::read_bytes(alloc, given, addr, len, &self.host)?;
+        let kept = seat::read_bytes(alloc, given, addr, len, &self.host)?;
+        let ring = &mut self.lanes[at];
+        ring.push_read(tag, ReadDone::new(addr, kept))?;
+        Ok(Reply::Bytes(shown))
+    }
+
+    /// Where a tag of a lane is; `None` where there is no such tag.
+    pub(crate) fn state(&self, lane: u8, tag: u8) -> Option<TagState>
+        ensures { result ≡ state_in (tag_of (world_of self.now) lane tag) }
+    {
+        let number = usize::from(lane);
+        if number >= self.lanes.len() {
+            return None;
+        }
+        self.lanes[number].state(tag)
+    }
+}
+
+// What is answered where an event wants a tag that was taken; `None` where it is one.
+fn untaken(state: Option<TagState>) -> Option<Reply>
+    ensures { result ≡ untaken state }
+{
+    match state {
+        None => Some(Reply::Ignored),
+        Some(TagState::Taken) => None,
+        Some(_) => Some(Reply::Stale),
+    }
+}
+
+// Whether so many bytes may be read of a list at once.
+fn is_part(len: u64) -> bool
+    ensures { result ≡ (nat_le 1 len && nat_le len part_size) }
+{
+    1 <= len && len <= u64::from(PART_SIZE)
+}

@@ -1,0 +1,89 @@
+//! Commands that are taken from the guests' queues.
+
+ghost use Rattle.std.specs.Prelude.{◌≡◌, ◌<◌, length, slice_index};
+ghost use Rattle.nv_core.specs.State.{CountsMore, IsOf, IsStep};
+ghost use Rattle.nv_core.specs.Take.{IsFrontTaken};
+ghost use Rattle.nv_mem.specs.GuestMap.{mapped};
+ghost use Rattle.nv_model.specs.Controller.{front};
+ghost use Rattle.nv_model.specs.Laws.{QueuesInPlace};
+ghost use Rattle.nv_model.specs.Memory.{byte_in, image};
+ghost use Rattle.nv_vctl.specs.Vctl.{most_taken};
+ghost use Rattle.nv_world_model.specs.Step.{is_io_queue};
+
+use crate::lane::Lane;
+use crate::layout::{Given, Layout};
+use crate::state::Core;
+use nv_mem::Host;
+use nv_model::Reply;
+use nv_tags::Claim;
+use nv_vctl::{LAST_QUEUE, Vctl};
+use nv_world_model::Event;
+use std::alloc::Global;
+
+impl Core {
+    /// The command at the front of a guest's I/O queue gets the lowest free tag of a lane. Idle where none may be taken, Busy where no tag
+    /// is free, Ignored where there is no such guest or lane, or the queue is none of 1 to 8.
+    ///
+    /// The caller knows that one more taken command can be counted.
+    pub fn take(&mut self, alloc: Global, layout: &Layout, guest: u8, queue: u16, lane: u8) -> Reply
+        requires of { IsOf layout.now self.old }
+        requires counted { CountsMore guest self.old }
+        ensures { IsStep layout.now (Event.Take guest queue lane) self.old result self.new }
+    {
+        let Some(given) = layout.guest(guest) else {
+            return Reply::Ignored;
+        };
+        let number = usize::from(guest);
+        if number >= self.controllers.len() {
+            return Reply::Ignored;
+        }
+        let at = usize::from(lane);
+        if at >= self.lanes.len() {
+            return Reply::Ignored;
+        }
+        if !is_io_queue(queue) {
+            return Reply::Ignored;
+        }
+        let vctl = &mut self.controllers[number];
+        let ring = &mut self.lanes[at];
+        take_front(alloc, guest, queue, given, &self.host, vctl, ring)
+    }
+}
+
+// Whether a number is that of an I/O queue.
+fn is_io_queue(queue: u16) -> bool
+    ensures { result ≡ is_io_queue queue }
+{
+    1 <= queue && queue <= LAST_QUEUE
+}
+
+// The command at the front of a queue gets a tag.
+fn take_front(
+    alloc: Global,
+    guest: u8,
+    queue: u16,
+    given: &Given,
+    host: &Host,
+    vctl: &mut Vctl,
+    ring: &mut Lane,
+) -> Reply
+    requires host { given.now.memory_map.host_len ≡ length host.now }
+    requires in_place { QueuesInPlace (mapped given.now.memory_map.regions) vctl.old }
+    requires counted { slice_index vctl.old.taken queue < most_taken }
+    ensures { let memory = image given.now.memory_map.regions (byte_in host.now) in
+        IsFrontTaken (front vctl.old queue) guest queue memory result vctl.old vctl.new ring.old ring.new }
+{
+    let Some(entry) = vctl.peek_sqe(queue, given.map(), host) else {
+        return Reply::Idle;
+    };
+    let claim = Claim {
+        guest,
+        queue,
+        entry,
+    };
+    if ring.claim(alloc, claim).is_none() {
+        return Reply::Busy;
+    }
+    vctl.took(queue);
+    Reply::Done
+}
