@@ -1,15 +1,17 @@
 -- Each event leaves all but its owner as it was, in a consistent world and behind any events since a set-up.
-use Rattle.std.proofs.Common.{refl, sym, subst}
+use Rattle.std.proofs.Common.{◌+◌, Bool, true, false, cond, nat_le, refl, sym, ap, eq-eqb, subst, ◌∙◌}
 use Rattle.std.specs.Prelude.{◌≡◌, ℕ, List, None, Some, length, slice_get}
 use Rattle.std.proofs.lemmas.List.{length-replicate}
 use Rattle.nv_mem.specs.GuestMap.{IsSound}
 use Rattle.nv_world_model.specs.declared.event.Event.{Event}
 use Rattle.nv_world_model.specs.declared.event.Event.TheVariants as event
-use Rattle.nv_world_model.specs.Contained.{LeavesOthers, owner}
+use Rattle.nv_model.specs.declared.reply.Reply.TheVariants as reply
+use Rattle.nv_world_model.specs.Contained.{Contained, LeavesOthers, RaisesOne, owner}
 use Rattle.nv_world_model.specs.Geometry.{Geometry, Guest}
 use Rattle.nv_world_model.specs.SetUp.{SetUp, refusal_of, world_at_start}
-use Rattle.nv_world_model.specs.Step.{replay, step}
+use Rattle.nv_world_model.specs.Step.{kept_block, replay, replied, step}
 use Rattle.nv_world_model.specs.World.{World, opening_lane, opening_world}
+use Rattle.nv_world_model.proofs.Replies.{step-answers}
 use Rattle.nv_laws_sound.specs.Consistent.{IsConsistent}
 use Rattle.nv_laws_sound.specs.LaidOut.{IsLaidOut}
 use Rattle.nv_laws_sound.proofs.LaidOuts.{laid-out}
@@ -55,3 +57,31 @@ leaves-others-since s events e none sound =
     each-leaves-others s.host_bytes s.geometry (replay s.geometry events (world_at_start s)) e
     (subst (λ n. IsLaidOut s.host_bytes n s.geometry) (sym (replay-lanes s.host_bytes s.geometry events (world_at_start s))) laid)
     (replay-consistent s.host_bytes s.geometry events (world_at_start s) laid (opening-consistent s.geometry s.lanes))
+
+-- ---- events of nobody
+
+-- one mark at most rises
+raised-one : (geometry : Geometry) (w : World) (block : ℕ) (there : Bool)
+    → RaisesOne block w (cond there (replied reply.Done (kept_block block w)) (replied reply.Idle w)).world
+unfolding kept_block
+raised-one geometry w block true =
+    record {
+      others = refl;
+      marks = (λ at other. sym (ap (λ b. cond b true (w.kept at)) other));
+      rises = (λ was. ap (λ b. cond b true (w.kept block)) (eq-eqb block block refl));
+    }
+raised-one geometry w block false = record { others = refl; marks = (λ at other. refl); rises = (λ was. was) }
+
+pub keep-raises : (geometry : Geometry) (w : World) (block : ℕ) → RaisesOne block w (step geometry (event.Keep block) w).world
+unfolding step
+keep-raises geometry w block = raised-one geometry w block (nat_le (block + 1) geometry.disk_blocks)
+
+pub nobodys-contained : (host_bytes : ℕ) (geometry : Geometry) (w : World) (e : Event) → IsLaidOut host_bytes (length w.lanes) geometry
+    → IsConsistent geometry w → owner e w ≡ None → Contained geometry e w
+nobodys-contained host_bytes geometry w e laid fine nobody =
+    record {
+      others = each-leaves-others host_bytes geometry w e laid fine;
+      own = (λ number guest given mine. (let bad : None ≡ Some number = sym nobody ∙ mine in cc));
+      keep = (λ block is. subst (λ x. RaisesOne block w (step geometry x w).world) (sym is) (keep-raises geometry w block));
+      dull = (step-answers geometry e w).dull;
+    }

@@ -8,3 +8,4 @@ pub mod RingEvents
 pub mod MoveEvents
 pub mod UnitEvents
 pub mod Every
+pub mod Cuts

@@ -1,3 +1,4 @@
 //! What an event leaves to all but its owner, as functions that do nothing: each contract is a law.
+pub mod cutting;
 pub mod leaving;
 pub mod showing;

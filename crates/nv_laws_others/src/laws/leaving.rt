@@ -3,7 +3,8 @@
 ghost use Rattle.std.specs.Prelude.{◌≡◌, ℕ, List, None, Some, length, slice_get};
 ghost use Rattle.nv_mem.specs.GuestMap.{IsSound};
 ghost use Rattle.nv_world_model.specs.declared.event.Event.{Event};
-ghost use Rattle.nv_world_model.specs.Contained.{LeavesOthers, owner};
+ghost use Rattle.nv_world_model.specs.declared.event.Event.TheVariants as event;
+ghost use Rattle.nv_world_model.specs.Contained.{Contained, LeavesOthers, RaisesOne, owner};
 ghost use Rattle.nv_world_model.specs.Geometry.{Geometry, Guest};
 ghost use Rattle.nv_world_model.specs.SetUp.{SetUp, refusal_of, world_at_start};
 ghost use Rattle.nv_world_model.specs.Step.{replay, step};
@@ -21,4 +22,11 @@ pub fn events_leave_others()
         ((number : ℕ) (guest : Guest) → slice_get s.geometry.guests number ≡ Some guest → IsSound guest.memory_map) →
         let w = replay s.geometry events (world_at_start s) in
         LeavesOthers s.geometry (owner e w) w (step s.geometry e w).world }
+{}
+
+/// A Keep raises one block's mark at most; and an event that is no guest's, as one that names a tag that is free, is contained, whole.
+pub fn events_of_nobody_are_contained()
+    ensures keep { (geometry : Geometry) (w : World) (block : ℕ) → RaisesOne block w (step geometry (event.Keep block) w).world }
+    ensures contained { (host_bytes : ℕ) (geometry : Geometry) (w : World) (e : Event) → IsLaidOut host_bytes (length w.lanes) geometry → IsConsistent geometry w →
+        owner e w ≡ None → Contained geometry e w }
 {}
