@@ -9,3 +9,4 @@ pub mod MoveEvents
 pub mod UnitEvents
 pub mod Every
 pub mod Cuts
+pub mod AlikeReplies
