@@ -1,4 +1,4 @@
--- What an event of the admin queue comes to, for its caller.
+-- What an event of the admin queue comes to, for its caller (profile).
 use Rattle.std.specs.Prelude.{◌≡◌, ℕ, List}
 use Rattle.nv_mem.specs.declared.region.Region.{Region}
 use Rattle.nv_model.specs.Admin.{AdminStep, NothingToDo, QueueFull, Stepped}

@@ -1,4 +1,4 @@
--- What an act comes to in a guest's seat: its host and its controller behind it, and the reply.
+-- What an act comes to in a guest's seat: its host and its controller behind it, and the reply (profile).
 use Rattle.std.specs.Prelude.{◌≡◌, ℕ, Bool, List}
 use Rattle.nv_admin.specs.declared.reply.Admin.{Admin}
 use Rattle.nv_admin.specs.declared.reply.Admin.TheVariants as admin

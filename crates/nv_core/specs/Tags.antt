@@ -1,4 +1,4 @@
--- A lane's tags as they are kept: whose each is and at which point its command is, and beside it what else is kept of the command.
+-- A lane's tags as they are kept: whose each is and at which point its command is, and beside it what else is kept of the command (profile).
 use Rattle.std.specs.Prelude.{◌≡◌, ℕ, ◌<◌, false, List, [], ◌∷◌, length, Option, Some, None}
 use Rattle.std.specs.Bool.{⊤}
 use Rattle.nv_core.specs.declared.progress.Progress.{Progress}

@@ -1,4 +1,4 @@
--- What a Take comes to for the guest's controller and the lane.
+-- What a Take comes to for the guest's controller and the lane (profile).
 use Rattle.std.specs.Prelude.{◌≡◌, ℕ, [], Option, Some, None}
 use Rattle.nv_model.specs.Controller.{Controller, took}
 use Rattle.nv_model.specs.Memory.{bytes_from}

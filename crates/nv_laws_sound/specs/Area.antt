@@ -1,4 +1,4 @@
--- What stands in the mediator's area: bytes that were written there.
+-- What stands in the mediator's area: bytes that were written there (profile).
 use Rattle.std.specs.Prelude.{◌≡◌, ℕ, ◌+◌, ◌<◌, ◌≤◌, List, [], flat_map, length}
 use Rattle.nv_model.specs.Judge.{Clear, Form, Keep, Manage, Transfer, Work, form_of}
 use Rattle.nv_model.specs.Memory.{bytes_from}

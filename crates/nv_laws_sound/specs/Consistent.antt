@@ -1,5 +1,5 @@
 -- What holds of every world that events lead to: each tag that was handed on stands in one place, where its command's bytes are, and
--- each entry and completion that waits in a ring is that of one tag. No promise cites it; the laws behind them rest on it.
+-- each entry and completion that waits in a ring is that of one tag. No promise cites it; the laws behind them rest on it (profile).
 use Rattle.std.specs.Prelude.{◌≡◌, ℕ, ◌<◌, Bool, true, false, List, All, length, map, slice_get, Option, Some, None}
 use Rattle.std.specs.Bool.{⊤}
 use Rattle.std.specs.List.{count_by}

@@ -1,4 +1,4 @@
--- A guest's taken commands in the world, and that its controller counts them, as it does along every run of the private controller.
+-- A guest's taken commands in the world, and that its controller counts them, as it does along every run of the private controller (profile).
 use Rattle.std.specs.Prelude.{◌≡◌, ℕ, ◌/◌, ◌%◌, slice_get, Option, Some, None}
 use Rattle.nv_model.specs.Controller.{Controller}
 use Rattle.nv_model.specs.Private.{Bag, Unjudged, Taken as Member}

@@ -1,4 +1,4 @@
--- What comes of a job, and what a plan keeps
+-- What comes of a job, and what a plan keeps (profile)
 use Rattle.std.specs.Prelude.{◌≡◌}
 use Rattle.nv_model.specs.Transcript.{Settled, Wanted}
 use Rattle.nv_world_model.specs.Geometry.{Guest}

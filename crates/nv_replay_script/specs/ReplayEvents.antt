@@ -1,4 +1,4 @@
--- One event, as a line writes it
+-- One event, as a line writes it (profile)
 use Rattle.std.specs.Prelude.{ℕ, ◌==◌, List, [], ◌∷◌, replicate, Result, Ok, Err}
 use Rattle.nv_entry.specs.Status.{StatusField, status}
 use Rattle.nv_model.specs.declared.act.Act.TheVariants as act

@@ -1,4 +1,4 @@
--- A whole script of `replay`: the set-up first, then its events; the first faulty line decides
+-- A whole script of `replay`: the set-up first, then its events; the first faulty line decides (profile)
 use Rattle.std.specs.Prelude.{ℕ, ◌+◌, List, [], ◌∷◌, ◌++◌, map, length, slice_set, slice_index_or, Result, Ok, Err, Bool, true, false}
 use Rattle.std.specs.Option.{ok_or}
 use Rattle.nv_mem.specs.declared.region.Region.{Region}

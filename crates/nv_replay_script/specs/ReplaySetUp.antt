@@ -1,4 +1,4 @@
--- The set-up of a script: four sizes, the guests in order, and the regions of each
+-- The set-up of a script: four sizes, the guests in order, and the regions of each (profile)
 use Rattle.std.specs.Prelude.{ℕ, ◌==◌, ◌&&◌, nat_le, nat_lt, Bool, List, [], ◌∷◌, codes, Option, Some, None, Result, Ok, Err, if◌then◌else◌}
 use Rattle.std.specs.Str.{bytes_eq}
 use Rattle.nv_mem.specs.declared.region.Region.{Region}

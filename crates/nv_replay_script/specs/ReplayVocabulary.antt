@@ -1,4 +1,4 @@
--- The first words of lines, under `replay`
+-- The first words of lines, under `replay` (profile)
 use Rattle.std.specs.Prelude.{ℕ, List, [], ◌∷◌, codes, Option}
 use Rattle.std.specs.Map.{lookup}
 use Rattle.std.specs.Str.{bytes_eq}

@@ -1,4 +1,4 @@
--- A virtual controller as it is kept, in the words of the definitions
+-- A virtual controller as it is kept, in the words of the definitions (profile)
 use Rattle.nv_model.specs.Controller.{Controller}
 use Rattle.nv_vctl.specs.declared.vctl.Vctl.TheInside.{Inside}
 
