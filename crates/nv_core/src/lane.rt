@@ -24,10 +24,10 @@ use std::marker::Model;
 /// what is kept of each tag's command.
 #[derive(Drop)]
 pub(crate) struct Lane {
-    head: u16,
-    phase: Phase,
-    tags: Tags,
-    progress: Vec<Progress>,
+    pub(crate) head: u16,
+    pub(crate) phase: Phase,
+    pub(crate) tags: Tags,
+    pub(crate) progress: Vec<Progress>,
 }
 
 impl Model for Lane {

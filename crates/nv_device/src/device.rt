@@ -118,6 +118,24 @@ impl Device {
         self.lanes[usize::from(lane)].ring(tail);
     }
 
+    /// The tail of a lane's submission ring, as it was rung: the slot in which the next entry will stand.
+    pub fn tail(&self, lane: u8) -> u16
+        requires { lane < length self.now.lanes }
+        ensures value { result ≡ (lane_of self.now lane).tail }
+        ensures fits { result < ring_size }
+    {
+        self.lanes[usize::from(lane)].tail()
+    }
+
+    /// The slot of a lane's completion ring that is written next.
+    pub fn posted(&self, lane: u8) -> u16
+        requires { lane < length self.now.lanes }
+        ensures value { result ≡ (lane_of self.now lane).posted }
+        ensures fits { result < ring_size }
+    {
+        self.lanes[usize::from(lane)].posted()
+    }
+
     /// A block becomes kept, as a device may make it at any time. Idle where there is no such block.
     pub fn keep(&mut self, block: u64) -> Response
         ensures response { result ≡ done_where (nat_lt block (length self.old.disk)) }

@@ -73,6 +73,14 @@ impl Lane {
         self.submissions.head()
     }
 
+    /// The slot of the submission ring behind the last entry that stands there.
+    pub(crate) fn tail(&self) -> u16
+        ensures value { result ≡ self.now.tail }
+        ensures fits { result < ring_size }
+    {
+        self.submissions.tail()
+    }
+
     /// The slot of the completion ring that is written next.
     pub(crate) fn posted(&self) -> u16
         ensures value { result ≡ self.now.posted }
