@@ -12,7 +12,7 @@ use Rattle.nv_moves.specs.Marks.{mark_of}
 use Rattle.nv_vctl.specs.Vctl.{most_taken}
 use Rattle.nv_world_model.specs.Geometry.{Geometry}
 use Rattle.nv_world_model.specs.Step.{step}
-use Rattle.nv_world_model.specs.World.{Lane, World}
+use Rattle.nv_world_model.specs.World.{Lane, World, opening_world}
 use Rattle.nv_world_model.specs.declared.event.Event.{Event}
 
 -- ---- the state
@@ -62,3 +62,12 @@ pub record IsSameSize (old new : State) : Type 0 where
 pub record IsStep (geometry : Geometry) (e : Event) (old : State) (reply : Reply) (new : State) : Type 0 where
   pub after : record { world = world_of new; reply = reply } ≡ step geometry e (world_of old)
   pub size : IsSameSize old new
+
+-- ---- the start
+
+-- the world is that of the start, in a host of that many bytes and with so many lanes
+pub record IsOpening (geometry : Geometry) (host_bytes lanes : ℕ) (s : State) : Type 0 where
+  pub world : world_of s ≡ opening_world geometry lanes
+  pub host : length s.host ≡ host_bytes
+  pub mediator : s.device.mediator ≡ geometry.mediator
+  pub blocks : length s.device.disk ≡ geometry.disk_blocks
