@@ -1,5 +1,5 @@
 -- What an act comes to in a guest's seat: its host and its controller behind it, and the reply (profile).
-use Rattle.std.specs.Prelude.{◌≡◌, ℕ, Bool, List}
+use Rattle.std.specs.Prelude.{◌≡◌, ℕ, Bool, List, Option, Some, None}
 use Rattle.nv_admin.specs.declared.reply.Admin.{Admin}
 use Rattle.nv_admin.specs.declared.reply.Admin.TheVariants as admin
 use Rattle.nv_mem.specs.declared.region.Region.{Region}
@@ -33,3 +33,15 @@ abbrev pub told_by : Admin → Reply
 told_by admin.Done = reply.Done
 told_by admin.Idle = reply.Idle
 told_by admin.Held = reply.Held
+
+-- the bytes that a reply tells, where it tells some
+abbrev pub bytes_told : Reply → Option (List ℕ)
+bytes_told reply.Done = None
+bytes_told (reply.Bytes bytes) = Some bytes
+bytes_told reply.Idle = None
+bytes_told reply.Busy = None
+bytes_told reply.Held = None
+bytes_told reply.Stale = None
+bytes_told reply.Unmapped = None
+bytes_told reply.Ignored = None
+bytes_told reply.NoMemory = None

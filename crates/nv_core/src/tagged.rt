@@ -3,13 +3,14 @@
 ghost use Rattle.std.specs.Prelude.{◌≡◌, ◌&&◌, IfOk, OnErr, nat_le};
 ghost use Rattle.nv_model.specs.Limits.{part_size};
 ghost use Rattle.nv_core.specs.State.{IsOf, IsStep, world_of};
+ghost use Rattle.nv_core.specs.Seat.{bytes_told};
 ghost use Rattle.nv_core.specs.Tags.{state_in, untaken};
 ghost use Rattle.nv_world_model.specs.World.{tag_of};
 
 use crate::layout::Layout;
 use crate::seat;
 use crate::state::Core;
-use nv_mem::NoMemory;
+use nv_mem::{Bytes, NoMemory};
 use nv_model::Reply;
 use nv_model::limits::PART_SIZE;
 use nv_plan::ReadDone;
@@ -34,6 +35,8 @@ impl Core {
     /// Bytes of the guest's memory join the transcript of a tag that was taken, and are the reply. Stale where the tag is at another point,
     /// Ignored where there is no such tag, Unmapped where not all of the bytes are mapped, and Ignored where they are none or more than
     /// 4,096. Where no memory is left, nothing has changed.
+    ///
+    /// Bytes that are the reply come once more, for a log: behind the event memory for a copy might be wanting.
     pub fn list(
         &mut self,
         alloc: Global,
@@ -42,32 +45,34 @@ impl Core {
         tag: u8,
         addr: u64,
         len: u64,
-    ) -> Result<Reply, NoMemory>
+    ) -> Result<(Reply, Option<Bytes>), NoMemory>
         requires { IsOf layout.now self.old }
-        ensures ok { IfOk result (λ reply. IsStep layout.now (Event.List lane tag addr len) self.old reply self.new) }
+        ensures ok { IfOk result (λ told. IsStep layout.now (Event.List lane tag addr len) self.old told.0 self.new) }
+        ensures again { IfOk result (λ told. told.1 ≡ bytes_told told.0) }
         ensures err { OnErr result (self.new ≡ self.old) }
     {
         if let Some(reply) = untaken(self.state(lane, tag)) {
-            return Ok(reply);
+            return Ok((reply, None));
         }
         let at = usize::from(lane);
         let guest = self.lanes[at].claimed(tag).guest;
         let Some(given) = layout.guest(guest) else {
-            return Ok(Reply::Stale);
+            return Ok((Reply::Stale, None));
         };
         let map = given.map();
         let _host_len = map.host_len();
         if !map.holds(addr, len) {
-            return Ok(Reply::Unmapped);
+            return Ok((Reply::Unmapped, None));
         }
         if !is_part(len) {
-            return Ok(Reply::Ignored);
+            return Ok((Reply::Ignored, None));
         }
         let shown = seat::read_bytes(alloc, given, addr, len, &self.host)?;
+        let again = seat::read_bytes(alloc, given, addr, len, &self.host)?;
         let kept = seat::read_bytes(alloc, given, addr, len, &self.host)?;
         let ring = &mut self.lanes[at];
         ring.push_read(tag, ReadDone::new(addr, kept))?;
-        Ok(Reply::Bytes(shown))
+        Ok((Reply::Bytes(shown), Some(again)))
     }
 
     /// Where a tag of a lane is; `None` where there is no such tag.
