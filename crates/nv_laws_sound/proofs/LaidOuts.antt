@@ -47,7 +47,7 @@ two-none meet (z ∷ zs) (suc i) (suc j) x y e less at there =
 
 -- ---- a set-up that is not refused
 
-record IsAccepted (s : SetUp) : Type 0 where
+pub record IsAccepted (s : SetUp) : Type 0 where
   pub ranges : any_two blocks_meet s.geometry.guests ≡ false
   pub maps : any_two maps_meet s.geometry.guests ≡ false
   pub area : list_any (meets_area s) s.geometry.guests ≡ false
@@ -57,7 +57,7 @@ if-none : (b : Bool) (r : Refusal) (rest : Option Refusal) → cond b (Some r) r
 if-none true r rest e = cc
 if-none false r rest e = (refl, e)
 
-accepted : (s : SetUp) → refusal_of s ≡ None → IsAccepted s
+pub accepted : (s : SetUp) → refusal_of s ≡ None → IsAccepted s
 unfolding refusal_of
 accepted s none =
     let first = if-none (nat_lt most_guests (length s.geometry.guests)) _ _ none in
@@ -126,26 +126,44 @@ guest-given s g fits sound =
       on_disk = leb-true (g.extent.base + g.extent.blocks) s.geometry.disk_blocks each.1.1.1.0;
     }
 
+-- such a guest's blocks are on the disk
+pub on-disk : (s : SetUp) (g : Guest) → guest_fits s g ≡ true → g.extent.base + g.extent.blocks ≤ s.geometry.disk_blocks
+on-disk s g fits =
+    let host = g.memory_map.host_len == s.host_bytes in
+    let regions = nat_le (length (regions_of g)) most_regions in
+    let some = nat_le 1 g.extent.blocks in
+    let disk = nat_le (g.extent.base + g.extent.blocks) s.geometry.disk_blocks in
+    let limit = between 1 most_limit g.limit in
+    leb-true (g.extent.base + g.extent.blocks) s.geometry.disk_blocks (all_five host regions some disk limit fits).1.1.1.0
+
 -- sizes that fit
-record AreSizes (s : SetUp) : Type 0 where
+pub record AreSizes (s : SetUp) : Type 0 where
   pub few : s.host_bytes ≤ most_host_bytes
   pub few_blocks : s.geometry.disk_blocks ≤ most_disk_blocks
   pub pages : s.geometry.mediator % page ≡ 0
   pub area : s.geometry.mediator + area_bytes s ≤ s.host_bytes
   pub guests : list_all (guest_fits s) s.geometry.guests ≡ true
+  pub some_lanes : 1 ≤ s.lanes
+  pub few_lanes : s.lanes ≤ most_lanes
+  pub some_blocks : 1 ≤ s.geometry.disk_blocks
 
-sizes-of : (s : SetUp) → sizes_fit s ≡ true → AreSizes s
+pub sizes-of : (s : SetUp) → sizes_fit s ≡ true → AreSizes s
 sizes-of s fit =
     let whole = all_three (host_fits s) (between 1 most_disk_blocks s.geometry.disk_blocks) (list_all (guest_fits s) s.geometry.guests) fit in
     let each = all_five (s.host_bytes % page == 0) (between page most_host_bytes s.host_bytes) (between 1 most_lanes s.lanes) (s.geometry.mediator % page == 0)
     (nat_le (s.geometry.mediator + area_bytes s) s.host_bytes) whole.0 in
     let most = and-true (nat_le page s.host_bytes) (nat_le s.host_bytes most_host_bytes) each.1.0 in
+    let lanes = and-true (nat_le 1 s.lanes) (nat_le s.lanes most_lanes) each.1.1.0 in
+    let blocks = and-true (nat_le 1 s.geometry.disk_blocks) (nat_le s.geometry.disk_blocks most_disk_blocks) whole.1.0 in
     record {
       few = leb-true s.host_bytes most_host_bytes most.1;
-      few_blocks = leb-true s.geometry.disk_blocks most_disk_blocks (and-true (nat_le 1 s.geometry.disk_blocks) (nat_le s.geometry.disk_blocks most_disk_blocks) whole.1.0).1;
+      few_blocks = leb-true s.geometry.disk_blocks most_disk_blocks blocks.1;
       pages = eqb-true (s.geometry.mediator % page) 0 each.1.1.1.0;
       area = leb-true (s.geometry.mediator + area_bytes s) s.host_bytes each.1.1.1.1;
       guests = whole.1.1;
+      some_lanes = leb-true 1 s.lanes lanes.0;
+      few_lanes = leb-true s.lanes most_lanes lanes.1;
+      some_blocks = leb-true 1 s.geometry.disk_blocks blocks.0;
     }
 
 -- guests of two numbers are apart

@@ -1,0 +1,3 @@
+pub mod Twos
+pub mod Areas
+pub mod Starts

@@ -1,0 +1,111 @@
+-- The world of a set-up that is not refused, at its start.
+use Rattle.std.proofs.Common.{◌≡◌, ℕ, zero, suc, ◌+◌, ◌*◌, ◌^◌, ◌<◌, ◌≤◌, List, [], ◌∷◌, ◌++◌, length, slice_get, None, Some, arith, refl, sym, subst, ap, ◌∙◌}
+use Rattle.std.proofs.lemmas.List.{length-replicate}
+use Rattle.nv_core.specs.State.{IsOf, IsOpening, State, world_of}
+use Rattle.nv_device.specs.Physical.{FitsLimits}
+use Rattle.nv_laws_sound.proofs.CountedRuns.{opening-counted}
+use Rattle.nv_laws_sound.proofs.LaidOuts.{accepted, all-one, laid-out, on-disk, sizes-of}
+use Rattle.nv_laws_sound.proofs.Openings.{opening-consistent}
+use Rattle.nv_laws_sound.specs.Consistent.{IsConsistent}
+use Rattle.nv_laws_sound.specs.Counted.{IsCounted}
+use Rattle.nv_laws_sound.specs.LaidOut.{IsLaidOut}
+use Rattle.nv_mem.specs.GuestMap.{IsSound}
+use Rattle.nv_model.specs.declared.reply.Reply.{Reply}
+use Rattle.nv_world.specs.Mediated.{IsRunning, Kept, Mediated, mediated, opened, setup_of}
+use Rattle.nv_world_model.specs.Area.{lane_start}
+use Rattle.nv_world_model.specs.Geometry.{Geometry, Guest}
+use Rattle.nv_world_model.specs.Log.{IsReplay}
+use Rattle.nv_world_model.specs.declared.logged.Logged.{Logged}
+use Rattle.nv_world_model.specs.SetUp.{SetUp, guest_fits, most_disk_blocks, refusal_of, world_at_start}
+use Rattle.nv_world_model.specs.Step.{replay, replies}
+use Rattle.nv_world_model.specs.World.{Lane, World, opening_lane, opening_world}
+
+-- what its guests' ranges and its sizes come to
+pub ranges-small : (s : SetUp) → refusal_of s ≡ None → (number : ℕ) (guest : Guest) → slice_get s.geometry.guests number ≡ Some guest
+    → guest.extent.base + guest.extent.blocks < 2 ^ 64
+ranges-small s none number guest at =
+    let sizes = sizes-of s (accepted s none).sizes in
+    let disk = on-disk s guest (all-one (guest_fits s) s.geometry.guests number guest sizes.guests at) in
+    let few = sizes.few_blocks in
+    omega (arith, disk, few)
+
+pub lanes-small : (s : SetUp) → refusal_of s ≡ None → s.lanes < 256
+lanes-small s none = let few = (sizes-of s (accepted s none).sizes).few_lanes in omega (arith, few)
+
+pub fits-limits : (s : SetUp) → refusal_of s ≡ None → FitsLimits s.geometry.mediator s.lanes s.geometry.disk_blocks
+fits-limits s none =
+    let sizes = sizes-of s (accepted s none).sizes in
+    let some = sizes.some_lanes in
+    let blocks = sizes.some_blocks in
+    let area = sizes.area in
+    let few = sizes.few in
+    record {
+      pages = sizes.pages;
+      some_lanes = omega (arith, some);
+      most_lanes = sizes.few_lanes;
+      some_blocks = omega (arith, blocks);
+      most_blocks = sizes.few_blocks;
+      area = omega (arith, area, few);
+    }
+
+module _ (s : SetUp) (core : State) (opening : IsOpening s.geometry s.host_bytes s.lanes core) where
+  lanes-are : length core.lanes ≡ s.lanes
+  unfolding opening_world
+  lanes-are = ap (λ (w : World). length w.lanes) opening.world ∙ length-replicate s.lanes opening_lane
+
+  setup-is : setup_of (record { geometry = s.geometry; state = core; log = [] }) ≡ s
+  setup-is =
+      ap (λ (n : ℕ). let t : SetUp = record { host_bytes = n; lanes = length core.lanes; geometry = s.geometry } in t) opening.host
+      ∙ ap (λ (n : ℕ). let t : SetUp = record { host_bytes = s.host_bytes; lanes = n; geometry = s.geometry } in t) lanes-are
+
+  starts-so : mediated (record { geometry = s.geometry; state = core; log = [] }) ≡ opened s
+  starts-so =
+      ap (λ (t : SetUp). let m : Mediated = record { setup = t; log = []; world = world_of core } in m) setup-is
+      ∙ ap (λ (w : World). let m : Mediated = record { setup = s; log = []; world = w } in m) opening.world
+
+  runs-so : refusal_of s ≡ None → ((number : ℕ) (guest : Guest) → slice_get s.geometry.guests number ≡ Some guest → IsSound guest.memory_map)
+      → IsRunning (record { geometry = s.geometry; state = core; log = [] })
+  unfolding opening_world replay replies
+  runs-so none sound = record {
+        accepted = ap refusal_of setup-is ∙ none;
+        of = record {
+          mediator = opening.mediator;
+          blocks = opening.blocks;
+          laid_out =
+              subst (λ (n : ℕ). IsLaidOut n (length core.lanes) s.geometry) (sym opening.host)
+              (subst (λ (n : ℕ). IsLaidOut s.host_bytes n s.geometry) (sym lanes-are) (laid-out s none sound));
+          consistent = subst (IsConsistent s.geometry) (sym opening.world) (opening-consistent s.geometry s.lanes);
+        };
+        counted = subst (IsCounted s.geometry) (sym opening.world) (opening-counted s.geometry s.lanes);
+        replayed = record { end = ap world_at_start setup-is ∙ sym opening.world; told = refl };
+      }
+
+-- as `open` makes them: the set-up as handed in, what the layout is, and the log
+module _ (a s : SetUp) (g : Geometry) (core : State) (log : List Logged) (same : s ≡ a) (is : g ≡ s.geometry) (empty : log ≡ [])
+    (opening : IsOpening g s.host_bytes s.lanes core) where
+  kept-is : ◌≡◌ {A = Kept} (record { geometry = s.geometry; state = core; log = [] }) (record { geometry = g; state = core; log = log })
+  kept-is =
+      ap (λ (x : Geometry). let k : Kept = record { geometry = x; state = core; log = [] } in k) (sym is)
+      ∙ ap (λ (l : List Logged). let k : Kept = record { geometry = g; state = core; log = l } in k) (sym empty)
+
+  opening-there : IsOpening s.geometry s.host_bytes s.lanes core
+  opening-there = subst (λ (x : Geometry). IsOpening x s.host_bytes s.lanes core) is opening
+
+  pub starts-as : mediated (record { geometry = g; state = core; log = log }) ≡ opened a
+  starts-as = ap mediated (sym kept-is) ∙ starts-so s core opening-there ∙ ap opened same
+
+  pub starts-running : refusal_of a ≡ None
+      → ((number : ℕ) (guest : Guest) → slice_get g.guests number ≡ Some guest → IsSound guest.memory_map)
+      → IsRunning (record { geometry = g; state = core; log = log })
+  starts-running none sound =
+      subst IsRunning kept-is
+      (runs-so s core opening-there (ap refusal_of same ∙ none)
+      (subst (λ (x : Geometry). (number : ℕ) (guest : Guest) → slice_get x.guests number ≡ Some guest → IsSound guest.memory_map) is sound))
+
+-- what holds of each member, and of one more behind them
+pub holds-more : {X : Type 0} (P : X → Type 0) (xs : List X) (y : X) → ((i : ℕ) (x : X) → slice_get xs i ≡ Some x → P x) → P y
+    → (i : ℕ) (x : X) → slice_get (xs ++ y ∷ []) i ≡ Some x → P x
+holds-more P [] y all holds zero x at = let same : y ≡ x = cc in subst P same holds
+holds-more P [] y all holds (suc i) x at = cc
+holds-more P (z ∷ zs) y all holds zero x at = all zero x at
+holds-more P (z ∷ zs) y all holds (suc i) x at = holds-more P zs y (λ j. all (suc j)) holds i x at

@@ -1,0 +1,2 @@
+pub mod Mediated
+pub mod Refused

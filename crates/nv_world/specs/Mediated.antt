@@ -1,0 +1,76 @@
+-- The mediator as its callers see it: its set-up, the log of what has happened, and the world behind it (profile).
+use Rattle.std.specs.Prelude.{◌≡◌, ◌⊎◌, List, [], ◌∷◌, ◌++◌, length, Option, Some, None}
+use Rattle.nv_core.specs.State.{IsOf, State, world_of}
+use Rattle.nv_laws_sound.specs.Counted.{IsCounted}
+use Rattle.nv_mem.specs.GuestMap.{Mapping}
+use Rattle.nv_ns.specs.BlockRange.{Extent}
+use Rattle.nv_model.specs.declared.reply.Reply.{Reply}
+use Rattle.nv_model.specs.declared.reply.Reply.TheVariants as reply
+use Rattle.nv_world_model.specs.declared.event.Event.{Event}
+use Rattle.nv_world_model.specs.declared.logged.Logged.{Logged}
+use Rattle.nv_world_model.specs.Geometry.{Geometry, Guest}
+use Rattle.nv_world_model.specs.Log.{IsReplay}
+use Rattle.nv_world_model.specs.SetUp.{SetUp, refusal_of, world_at_start}
+use Rattle.nv_world_model.specs.Step.{step}
+use Rattle.nv_world_model.specs.World.{World}
+
+pub record Mediated : Type 0 where
+  pub setup : SetUp
+  pub log : List Logged
+  pub world : World
+
+-- at the start of a set-up nothing has happened
+abbrev pub opened : SetUp → Mediated
+opened s = record { setup = s; log = []; world = world_at_start s }
+
+-- ---- a step
+
+-- the event was carried out, and stands in the log with its reply
+pub record IsLogged (e : Event) (old : Mediated) (r : Reply) (new : Mediated) : Type 0 where
+  pub after : record { world = new.world; reply = r } ≡ step old.setup.geometry e old.world
+  pub log : new.log ≡ old.log ++ record { event = e; reply = r } ∷ []
+  pub setup : new.setup ≡ old.setup
+
+-- or there was no memory for it, and nothing has changed
+abbrev pub IsStepped : Event → (old : Mediated) → Reply → (new : Mediated) → Type 0
+IsStepped e old r new = (r ≡ reply.NoMemory) × (new ≡ old) ⊎ IsLogged e old r new
+
+-- these events one after another, and what they are answered
+unfoldable pub AreStepped : List Event → (old : Mediated) → List Reply → (new : Mediated) → Type 0
+AreStepped [] old [] new = new ≡ old
+AreStepped [] old (r ∷ rs) new = ⊥
+AreStepped (e ∷ es) old [] new = ⊥
+AreStepped (e ∷ es) old (r ∷ rs) new = (between : Mediated) × (IsStepped e old r between × AreStepped es between rs new)
+
+-- ---- what a mediator keeps
+
+-- what the code holds: what stays as it is, the state on lists, and the log
+pub record Kept : Type 0 where
+  pub geometry : Geometry
+  pub state : State
+  pub log : List Logged
+
+-- its set-up
+abbrev pub setup_of : Kept → SetUp
+setup_of k = record { host_bytes = length k.state.host; lanes = length k.state.lanes; geometry = k.geometry }
+
+-- what it is to its callers
+abbrev pub mediated : Kept → Mediated
+mediated k = record { setup = setup_of k; log = k.log; world = world_of k.state }
+
+-- its set-up was not refused, its parts are that set-up's, its world is consistent, and it is where the log leads
+pub record IsRunning (k : Kept) : Type 0 where
+  pub accepted : refusal_of (setup_of k) ≡ None
+  pub of : IsOf k.geometry k.state
+  pub counted : IsCounted k.geometry (world_of k.state)
+  pub replayed : IsReplay k.geometry (world_at_start (setup_of k)) k.log (world_of k.state)
+
+-- ---- what a guest has
+
+abbrev pub map_of : Option Guest → Option Mapping
+map_of None = None
+map_of (Some guest) = Some guest.memory_map
+
+abbrev pub range_of : Option Guest → Option Extent
+range_of None = None
+range_of (Some guest) = Some guest.extent

@@ -1,0 +1,67 @@
+//! The world of a set-up that is not refused.
+
+ghost use Rattle.std.specs.Prelude.{◌≡◌, ◌+◌, ◌<◌, ◌^◌, ℕ, IfOk, None, Some, slice_get};
+ghost use Rattle.nv_mem.specs.GuestMap.{IsSound};
+ghost use Rattle.nv_world.specs.Mediated.{mediated, opened};
+ghost use Rattle.nv_world_model.specs.Geometry.{Guest};
+ghost use Rattle.nv_world_model.specs.SetUp.{refusal_of};
+
+use crate::setup::{GuestSetup, Setup};
+use crate::world::World;
+use nv_core::{Core, Given, Layout};
+use nv_mem::NoMemory;
+use nv_ns::VirtualNs;
+use std::alloc::Global;
+
+impl World {
+    /// The world of a set-up that is not refused, at its start.
+    pub(crate) fn open(alloc: Global, setup: Setup) -> Result<Self, NoMemory>
+        requires { refusal_of setup ≡ None }
+        ensures { IfOk result (λ world. mediated world ≡ opened setup) }
+    {
+        let Setup {
+            host_bytes,
+            mediator,
+            disk_blocks,
+            lanes,
+            guests,
+        } = setup;
+        let guests = all_given(alloc, guests)?;
+        let layout = Layout::new(mediator, disk_blocks, guests);
+        let core = Core::new(alloc, &layout, host_bytes, lanes as u8)?;
+        Ok(World {
+            layout,
+            core,
+            log: Vec::new(alloc),
+        })
+    }
+}
+
+// What the guests have, by number. With each map comes what is known of it.
+fn all_given(alloc: Global, guests: Vec<GuestSetup>) -> Result<Vec<Given>, NoMemory>
+    requires { (number : ℕ) (guest : Guest) → slice_get guests.items number ≡ Some guest → guest.extent.base + guest.extent.blocks < 2 ^ 64 }
+    ensures given { IfOk result (λ given. given.items ≡ guests.items) }
+    ensures sound { IfOk result (λ given. (number : ℕ) (guest : Guest) → slice_get given.items number ≡ Some guest → IsSound guest.memory_map) }
+{
+    let mut given = Vec::with_capacity(alloc, guests.len())?;
+    for guest in guests {
+        given.push(given_of(guest))?;
+    }
+    Ok(given)
+}
+
+// What a guest has.
+fn given_of(guest: GuestSetup) -> Given
+    requires { guest.extent.base + guest.extent.blocks < 2 ^ 64 }
+    ensures value { result ≡ guest }
+    ensures sound { IsSound result.memory_map }
+{
+    let GuestSetup {
+        map,
+        base,
+        blocks,
+        limit,
+    } = guest;
+    let _host_len = map.host_len();
+    Given::new(map, VirtualNs::new(base, blocks), limit)
+}

@@ -1,0 +1,81 @@
+//! The world, with the log of what has happened in it.
+
+ghost use Rattle.std.specs.Prelude.{◌≡◌, ◌⊎◌, IfOk, IfErr, MatchOption, None, Some, slice_get};
+ghost use Rattle.nv_core.specs.State.{world_of};
+ghost use Rattle.nv_world.specs.Mediated.{map_of, mediated, opened, range_of, setup_of};
+ghost use Rattle.nv_world.specs.Refused.{refused};
+ghost use Rattle.nv_world_model.specs.Log.{IsReplay};
+ghost use Rattle.nv_world_model.specs.SetUp.{refusal_of, world_at_start};
+
+use crate::checking;
+use crate::refusal::Refusal;
+use crate::setup::Setup;
+use nv_core::{Core, Layout};
+use nv_mem::GuestMap;
+use nv_ns::VirtualNs;
+use nv_world_model::Logged;
+use std::alloc::Global;
+use std::marker::Model;
+
+/// The mediated world: up to 16 guests, the physical controller and the mediator between them, and a log of each event with its reply.
+///
+/// Its type keeps that the world is where the log leads, from the start of the set-up on, by the definition's steps.
+#[derive(Drop)]
+pub struct World {
+    pub(crate) layout: Layout,
+    pub(crate) core: Core,
+    pub(crate) log: Vec<Logged>,
+}
+
+impl Model for World {
+    ghost use Rattle.nv_world.specs.Mediated.{IsRunning, Kept};
+
+    ghost Value = { Kept };
+
+    ghost view = { λ w. record { geometry = w.layout; state = w.core; log = w.log.items } };
+
+    ghost invariant = { λ w. IsRunning (record { geometry = w.layout; state = w.core; log = w.log.items }) };
+}
+
+impl World {
+    /// The world of a set-up at its start, with an empty log.
+    ///
+    /// # Errors
+    ///
+    /// The first reason for which the set-up is refused, or that memory was.
+    pub fn new(alloc: Global, setup: Setup) -> Result<Self, Refusal>
+        ensures ok { IfOk result (λ world. mediated world ≡ opened setup) }
+        ensures accepted { IfOk result (λ _. refusal_of setup ≡ None) }
+        ensures err { IfErr result (λ refusal. (refused (refusal_of setup) ≡ Some refusal) ⊎ ((refusal ≡ Refusal.NoMemory) × (refusal_of setup ≡ None))) }
+    {
+        if let Some(refusal) = checking::refusal_of(&setup) {
+            return Err(refusal);
+        }
+        Self::open(alloc, setup).map_err(|_| Refusal::NoMemory)
+    }
+
+    /// The events so far, each with its reply, in order. The world is where they lead, from the start of the set-up on.
+    pub fn log(&self) -> &[Logged]
+        ensures value { result.now ≡ self.now.log }
+        ensures accepted { refusal_of (setup_of self.now) ≡ None }
+        ensures replayed { IsReplay self.now.geometry (world_at_start (setup_of self.now)) self.now.log (world_of self.now.state) }
+    {
+        let _running = &self.core;
+        &self.log
+    }
+
+    /// The memory of the guest of that number; `None` where there is no such guest.
+    pub fn map(&self, guest: u8) -> Option<&GuestMap>
+        ensures { MatchOption result (slice_get self.now.geometry.guests guest ≡ None)
+            (λ map. Some map.now ≡ map_of (slice_get self.now.geometry.guests guest)) }
+    {
+        Some(self.layout.guest(guest)?.map())
+    }
+
+    /// The blocks of the guest of that number; `None` where there is no such guest.
+    pub fn range(&self, guest: u8) -> Option<VirtualNs>
+        ensures { result ≡ range_of (slice_get self.now.geometry.guests guest) }
+    {
+        Some(self.layout.guest(guest)?.ns())
+    }
+}
