@@ -11,6 +11,7 @@ mod acting;
 mod administering;
 mod keeping;
 mod lane;
+mod lane_standing;
 mod layout;
 mod progress;
 mod seat;
