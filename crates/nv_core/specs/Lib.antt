@@ -3,3 +3,4 @@ pub mod Tags
 pub mod Seat
 pub mod Take
 pub mod Going
+pub mod Answers
