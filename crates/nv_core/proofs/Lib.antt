@@ -5,3 +5,9 @@ pub mod TakenTags
 pub mod Takes
 pub mod ListReads
 pub mod Openings
+pub mod Standings
+pub mod Takeable
+pub mod DeviceNeeds
+pub mod DeviceSteps
+pub mod DevicePosts
+pub mod DeviceTakes

@@ -2,3 +2,5 @@ pub mod State
 pub mod Tags
 pub mod Seat
 pub mod Take
+pub mod Going
+pub mod Answers

@@ -1,4 +1,5 @@
 mod HeldLemmas
+pub mod HostReads
 mod LaneLemmas
 mod MoveLemmas
 mod PageLemmas

@@ -57,6 +57,16 @@ impl Device {
         Response::Done
     }
 
+    /// Whether the device holds a command at a slot.
+    pub fn holds(&self, lane: u8, slot: u8) -> bool
+        requires lane { lane < length self.now.lanes }
+        requires slot { slot < tag_count }
+        ensures { result ≡ is_some (held_at self.now lane slot) }
+    {
+        let ring = &self.lanes[usize::from(lane)];
+        ring.command(slot).is_some()
+    }
+
     /// Posts a completion of that status, and drops the command.
     fn complete(&mut self, lane: u8, slot: u8, status: Status, host: &mut Host)
         requires lane { lane < length self.old.lanes }

@@ -3,7 +3,7 @@ use Rattle.std.proofs.Common.{◌≡◌, ℕ, ◌+◌, ◌-◌, ◌%◌, ◌^◌
 use Rattle.std.specs.List.{list_all}
 use Rattle.std.proofs.lemmas.Bool.{ne_eqb}
 use Rattle.std.proofs.Math.Seq.{take-append_seam}
-use Rattle.std.proofs.lemmas.List.Elements.{All-drop, All-filter, All-head, All-nil, All-tail}
+use Rattle.std.proofs.lemmas.List.Elements.{All-drop, All-filter, All-head, All-nil, All-tail, All-weaker}
 use Rattle.std.proofs.lemmas.List.FromFn.{length-range_with_len}
 use Rattle.byteorder.specs.Numbers.{little_number-reads_back}
 use Rattle.nv_entry.specs.Layout.{number_at, number_bytes}
@@ -43,25 +43,33 @@ use Rattle.nv_laws_sound.proofs.Shows.{shows-append}
 abbrev Fits64 : ℕ → Type 0
 Fits64 number = number < 2 ^ 64
 
--- the addresses of a plan have
-addresses-fit : (host_bytes lanes : ℕ) (geometry : Geometry) (owner : ℕ) (guest : Guest) (entry : List ℕ) (plan : Plan) (lane tag : ℕ)
+-- the addresses of a plan lie in the host
+pub addresses-below : (host_bytes lanes : ℕ) (geometry : Geometry) (owner : ℕ) (guest : Guest) (entry : List ℕ) (plan : Plan) (lane tag : ℕ)
     → IsLaidOut host_bytes lanes geometry → slice_get geometry.guests owner ≡ Some guest → lane < lanes → tag < tag_count
-    → IsPlanned guest entry plan → All Fits64 (addresses_of plan guest (bounce_page geometry.mediator lane tag))
-addresses-fit host_bytes lanes geometry owner guest entry plan lane tag laid given below tag_below is =
+    → IsPlanned guest entry plan → All (λ a. a < host_bytes) (addresses_of plan guest (bounce_page geometry.mediator lane tag))
+addresses-below host_bytes lanes geometry owner guest entry plan lane tag laid given below tag_below is =
     let short = end-short (mapped (regions_of guest)) guest.limit (shape_of guest).blocks entry is.work is.verdict in
     let total = (end-sound (mapped (regions_of guest)) guest.limit (shape_of guest).blocks entry is.work is.verdict).total in
     let few : total_len is.work.pieces ≤ most_bytes = rw total short in
     let bounce = bounce_page geometry.mediator lane tag in
     let whose = laid.given owner guest given in
     let area = laid.area in
-    let small = laid.few in
     let length = whose.host in
-    planned-kinds (λ p. All Fits64 (addresses_of p guest bounce)) guest entry plan is
-    (All-nil Fits64)
-    (λ fits. hosts-all Fits64 (regions_of guest) (places_of is.work.pieces) (λ addr host found.
+    planned-kinds (λ p. All (λ a. a < host_bytes) (addresses_of p guest bounce)) guest entry plan is
+    (All-nil (λ a. a < host_bytes))
+    (λ fits. hosts-all (λ a. a < host_bytes) (regions_of guest) (places_of is.work.pieces) (λ addr host found.
     (let within = host_of-inside guest.memory_map.host_len (regions_of guest) addr host whose.sound.inside found in
-    omega (arith, within, length, small))))
-    (row-all Fits64 bounce (total_len is.work.pieces) (λ at low high. omega (arith, high, few, area, small, below, tag_below)))
+    omega (arith, within, length))))
+    (row-all (λ a. a < host_bytes) bounce (total_len is.work.pieces) (λ at low high. omega (arith, high, few, area, below, tag_below)))
+
+-- so they have 64 bits at most
+addresses-fit : (host_bytes lanes : ℕ) (geometry : Geometry) (owner : ℕ) (guest : Guest) (entry : List ℕ) (plan : Plan) (lane tag : ℕ)
+    → IsLaidOut host_bytes lanes geometry → slice_get geometry.guests owner ≡ Some guest → lane < lanes → tag < tag_count
+    → IsPlanned guest entry plan → All Fits64 (addresses_of plan guest (bounce_page geometry.mediator lane tag))
+addresses-fit host_bytes lanes geometry owner guest entry plan lane tag laid given below tag_below is =
+    let small = laid.few in
+    All-weaker (λ a. a < host_bytes) Fits64 (λ a inside. omega (arith, inside, small)) (addresses_of plan guest (bounce_page geometry.mediator lane tag))
+    (addresses-below host_bytes lanes geometry owner guest entry plan lane tag laid given below tag_below is)
 
 first-fits : (addresses : List ℕ) → All Fits64 addresses → slice_index addresses 0 < 2 ^ 64
 first-fits [] each = omega arith
@@ -167,7 +175,7 @@ module _ (host_bytes lanes : ℕ) (geometry : Geometry) (laid : IsLaidOut host_b
   physical p = entry_of p guest entry geometry.mediator lane tag
 
   -- the opcode of each is the work's
-  physical-opcode : (p : Plan) → io_opcode (opcode_of (physical p)) ≡ Some is.work.opcode
+  pub physical-opcode : (p : Plan) → io_opcode (opcode_of (physical p)) ≡ Some is.work.opcode
   physical-opcode p =
       ap io_opcode (entry-opcode p guest entry geometry.mediator lane tag tag_below)
       ∙ (end-sound (mapped (regions_of guest)) guest.limit (shape_of guest).blocks entry is.work is.verdict).opcode
@@ -209,15 +217,36 @@ module _ (host_bytes lanes : ℕ) (geometry : Geometry) (laid : IsLaidOut host_b
       let back = form-back (form_of is.work.opcode) (opcode_of entry) tag (prps_of p guest list bounce) guest.extent entry in
       (ap (λ e. form_transfer_len (form_of is.work.opcode) e) as_built ∙ back.0, ap (λ e. form_unit_count (form_of is.work.opcode) e) as_built ∙ back.1)
 
-  plan-lengths : (transfer_len is.work.opcode (physical plan) ≡ transfer_len is.work.opcode entry)
+  pub plan-lengths : (transfer_len is.work.opcode (physical plan) ≡ transfer_len is.work.opcode entry)
       × (form_unit_count (form_of is.work.opcode) (physical plan) ≡ form_unit_count (form_of is.work.opcode) entry)
   plan-lengths =
       planned-kinds (λ p. (transfer_len is.work.opcode (physical p) ≡ transfer_len is.work.opcode entry)
       × (form_unit_count (form_of is.work.opcode) (physical p) ≡ form_unit_count (form_of is.work.opcode) entry)) guest entry plan is
       (form-lengths (NoData is.work) refl) (λ fits. form-lengths (Direct is.work) refl) (form-lengths (Bounced is.work) refl)
 
+  -- its PRP1 and PRP2 are the plan's
+  pub plan-prps : (prp1_of (physical plan) ≡ (prps_of plan guest list bounce).prp1) × (prp2_of (physical plan) ≡ (prps_of plan guest list bounce).prp2)
+  plan-prps =
+      let area = laid.area in
+      let small = laid.few in
+      let within : list < 2 ^ 64 = omega (arith, area, small, below, tag_below) in
+      let prps = prps-fit list (addresses_of plan guest bounce) within
+      (addresses-fit host_bytes lanes geometry owner guest entry plan lane tag laid given below tag_below is) in
+      entry-prps plan guest entry geometry.mediator lane tag prps.0 prps.1
+
+  -- a command with a buffer has an address for each of its bytes
+  pub plan-counts : has_buffer is.work.opcode ≡ true → length (addresses_of plan guest bounce) ≡ transfer_len is.work.opcode entry
+  plan-counts has =
+      let sound = end-sound (mapped (regions_of guest)) guest.limit (shape_of guest).blocks entry is.work is.verdict in
+      planned-by (λ p. length (addresses_of p guest bounce) ≡ transfer_len is.work.opcode entry) guest entry plan is
+      (λ none. (let bad : true ≡ false = sym has ∙ none in cc))
+      (λ buffer fits.
+      (let both = and-true (list_all is_run is.work.pieces) (fit_prp (host_addresses (regions_of guest) is.work.pieces)) fits in
+      length-mapped_runs (regions_of guest) is.work.pieces sound.mapped_each both.0 ∙ sound.total))
+      (λ buffer. length-range_with_len bounce (total_len is.work.pieces) ∙ sound.total)
+
   -- the device finds the plan's addresses
-  plan-reads : Shows host list (list_bytes (prps_of plan guest list bounce)) → Reads plan
+  pub plan-reads : Shows host list (list_bytes (prps_of plan guest list bounce)) → Reads plan
   plan-reads =
       let sound = end-sound (mapped (regions_of guest)) guest.limit (shape_of guest).blocks entry is.work is.verdict in
       planned-by (λ p. All Fits64 (addresses_of p guest bounce) → Shows host list (list_bytes (prps_of p guest list bounce)) → Reads p) guest entry plan is

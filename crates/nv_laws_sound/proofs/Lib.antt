@@ -16,6 +16,7 @@ pub mod AnswerEvents
 pub mod ReapEvents
 pub mod HeldEntries
 pub mod TakenEvents
+pub mod OnDisk
 pub mod Planned
 pub mod SubmitEvents
 pub mod LaidOuts

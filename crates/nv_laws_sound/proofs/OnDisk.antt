@@ -1,0 +1,162 @@
+-- The blocks that a physical command names on the disk, itself or in its ranges, are its guest's.
+use Rattle.std.proofs.Common.{◌≡◌, ℕ, zero, suc, ◌+◌, ◌-◌, ◌*◌, ◌^◌, ◌<◌, ◌≤◌, true, false, ◌||◌, ◌==◌, nat_le, List, [], ◌∷◌, All, drop, flat_map, length, map, slice_get, take, Some, arith, refl, ap, ◌∙◌, eqb-true, leb-true, subst}
+use Rattle.std.specs.List.{list_any, range_with_len}
+use Rattle.std.proofs.lemmas.List.{drop-map}
+use Rattle.std.proofs.lemmas.List.Elements.{All-head, All-tail}
+use Rattle.std.proofs.lemmas.List.FromFn.{take-map-range_with_len}
+use Rattle.byteorder.specs.Numbers.{little_number-reads_back}
+use Rattle.nv_entry.specs.Layout.{dword, number_at, number_bytes, qword}
+use Rattle.nv_entry.specs.Range.{blocks_of, start_of}
+use Rattle.nv_entry.specs.Submission.{opcode_of, slba_of}
+use Rattle.nv_mem.specs.GuestMap.{mapped}
+use Rattle.nv_mem.specs.Places.{At, addresses, places_of, total_len}
+use Rattle.nv_model.specs.Judge.{Clear, Form, Keep, Manage, Transfer, count_of, form_has_blocks, form_of, form_transfer_len, has_blocks, range_count_of, range_fits}
+use Rattle.nv_model.specs.Memory.{bytes_from, gathered}
+use Rattle.nv_model.proofs.AnyAnswers.{end-sound, end-within}
+use Rattle.nv_model.proofs.Endings.{and-true}
+use Rattle.nv_model.proofs.Judged.{IsSoundWork}
+use Rattle.nv_model.proofs.MemoryLemmas.{gathered-addresses}
+use Rattle.nv_ns.specs.BlockRange.{Extent, block_at, block_count}
+use Rattle.nv_world_model.specs.Area.{addresses_of, bounce_page, entry_of, list_page, prps_of, translated_range}
+use Rattle.nv_world_model.specs.Device.{Held, form_unit_count, range_at, unit_count}
+use Rattle.nv_world_model.specs.Geometry.{Geometry, Guest, regions_of, shape_of}
+use Rattle.nv_world_model.specs.Plan.{Bounced, Direct, NoData, Plan, go_plan}
+use Rattle.nv_laws_sound.specs.Area.{Shows, form_ranges, ranges_of}
+use Rattle.nv_laws_sound.specs.Consistent.{IsInDevice, IsPlanned}
+use Rattle.nv_laws_sound.specs.LaidOut.{IsLaidOut}
+use Rattle.nv_laws_sound.proofs.EntryFields.{form-start}
+use Rattle.nv_laws_sound.proofs.LaidOuts.{all-one}
+use Rattle.nv_laws_sound.proofs.Lists.{slice_get-there}
+use Rattle.nv_laws_sound.proofs.PlanSizes.{planned-kinds}
+use Rattle.nv_laws_sound.proofs.Shows.{shows-append}
+
+-- ---- a translated range
+
+-- what is read back of it
+translated-blocks : (extent : Extent) (range : List ℕ) → blocks_of range < 2 ^ 32 → blocks_of (translated_range extent range) ≡ blocks_of range
+unfolding dword number_at
+translated-blocks extent range fits = little_number-reads_back 4 (blocks_of range) (number_bytes 8 (block_at extent (start_of range))) fits
+
+translated-start : (extent : Extent) (range : List ℕ) → block_at extent (start_of range) < 2 ^ 64
+    → start_of (translated_range extent range) ≡ block_at extent (start_of range)
+unfolding qword number_at
+translated-start extent range fits = little_number-reads_back 8 (block_at extent (start_of range)) [] fits
+
+-- a range that was written stands in its place
+shown-range : (extent : Extent) (memory : ℕ → ℕ) (ranges : List (List ℕ)) (n : ℕ) (at : ℕ) (range : List ℕ) → slice_get ranges n ≡ Some range
+    → Shows memory at (flat_map (translated_range extent) ranges) → bytes_from memory (at + 16 * n) 16 ≡ translated_range extent range
+shown-range extent memory [] n at range found shown = cc
+shown-range extent memory (r ∷ ranges) zero at range found shown =
+    let same : r ≡ range = cc in
+    let parts = shows-append memory at (translated_range extent r) (flat_map (translated_range extent) ranges) shown in
+    let here : at + 16 * 0 ≡ at = omega arith in
+    rw here (parts.0 ∙ ap (translated_range extent) same)
+shown-range extent memory (r ∷ ranges) (suc n) at range found shown =
+    let parts = shows-append memory at (translated_range extent r) (flat_map (translated_range extent) ranges) shown in
+    let rest = shown-range extent memory ranges n (at + 16) range found parts.1 in
+    let here : at + 16 * suc n ≡ at + 16 + 16 * n = omega arith in
+    rw here rest
+
+-- dropping a row's front leaves its end
+drop-row : (k from len : ℕ) → drop k (range_with_len from (k + len)) ≡ range_with_len (from + k) len
+drop-row zero from len =
+    let here : from + 0 ≡ from = omega arith in
+    let none : 0 + len ≡ len = omega arith in
+    rw (here, none) refl
+drop-row (suc k) from len =
+    let more : suc k + len ≡ suc (k + len) = omega arith in
+    let here : from + suc k ≡ from + 1 + k = omega arith in
+    rw (more, here) (drop-row k (from + 1) len)
+
+-- the bytes of 16 places of a row
+row-bytes : (memory : ℕ → ℕ) (bounce k rest : ℕ) → gathered memory (take 16 (drop k (map At (range_with_len bounce (k + (16 + rest)))))) ≡ bytes_from memory (bounce + k) 16
+unfolding addresses
+row-bytes memory bounce k rest =
+    ap (λ ps. gathered memory (take 16 ps)) (drop-map At k (range_with_len bounce (k + (16 + rest))) ∙ ap (map At) (drop-row k bounce (16 + rest)))
+    ∙ ap (gathered memory) (take-map-range_with_len At (bounce + k) (16 + rest) 16 (omega arith))
+    ∙ gathered-addresses memory (bounce + k) 16
+
+-- ---- the units of a command
+
+-- a number that is among others has what each has
+pub among : (P : ℕ → Type 0) (n : ℕ) (xs : List ℕ) → All P xs → list_any (λ k. k == n) xs ≡ true → P n
+among P n [] each e = cc
+among P n (x ∷ xs) each e =
+    (elim (x == n) as (λ b. (x == n) ≡ b → (b || list_any (λ k. k == n) xs) ≡ true → P n) [
+      | true ↦ λ is any. subst P (eqb-true x n is) (All-head P x xs each)
+      | false ↦ λ is any. among P n xs (All-tail P x xs each) any
+    ]) refl e
+
+-- a command with blocks has a unit for each
+pub blocks-counted : (form : Form) (entry : List ℕ) → form_has_blocks form ≡ true → form_unit_count form entry ≡ count_of entry
+blocks-counted (Transfer dest) entry has = refl
+blocks-counted Clear entry has = refl
+blocks-counted Manage entry has = cc
+blocks-counted Keep entry has = cc
+
+-- ---- on the disk
+
+-- these blocks are the guest's
+pub record AreOwn (extent : Extent) (start count : ℕ) : Type 0 where
+  pub from : extent.base ≤ start
+  pub to : start + count ≤ extent.base + extent.blocks
+
+module _ (host_bytes lanes : ℕ) (geometry : Geometry) (laid : IsLaidOut host_bytes lanes geometry) (owner : ℕ) (guest : Guest)
+    (given : slice_get geometry.guests owner ≡ Some guest) (entry : List ℕ) (plan : Plan) (is : IsPlanned guest entry plan) (lane tag : ℕ) where
+  sound : IsSoundWork (mapped (regions_of guest)) (shape_of guest).blocks entry is.work
+  sound = end-sound (mapped (regions_of guest)) guest.limit (shape_of guest).blocks entry is.work is.verdict
+
+  -- the blocks that a command's physical entry names
+  pub entry-own : has_blocks is.work.opcode ≡ true → AreOwn guest.extent (slba_of (entry_of plan guest entry geometry.mediator lane tag)) (count_of entry)
+  entry-own has =
+      let within = end-within (mapped (regions_of guest)) guest.limit (shape_of guest).blocks entry is.work is.verdict has in
+      let both = and-true (nat_le (count_of entry) (block_count guest.extent)) (nat_le (slba_of entry) (block_count guest.extent - count_of entry)) within in
+      let some = leb-true (count_of entry) (block_count guest.extent) both.0 in
+      let most = leb-true (slba_of entry) (block_count guest.extent - count_of entry) both.1 in
+      let disk = (laid.given owner guest given).on_disk in
+      let few = laid.few_blocks in
+      let start : slba_of (entry_of plan guest entry geometry.mediator lane tag) ≡ block_at guest.extent (slba_of entry) =
+      planned-kinds (λ p. slba_of (entry_of p guest entry geometry.mediator lane tag) ≡ block_at guest.extent (slba_of entry)) guest entry plan is
+      (form-start (form_of is.work.opcode) (opcode_of entry) tag (prps_of (NoData is.work) guest (list_page geometry.mediator lane tag) (bounce_page geometry.mediator lane tag)) guest.extent entry has (omega (arith, most, disk, few)))
+      (λ fits. form-start (form_of is.work.opcode) (opcode_of entry) tag (prps_of (Direct is.work) guest (list_page geometry.mediator lane tag) (bounce_page geometry.mediator lane tag)) guest.extent entry has (omega (arith, most, disk, few)))
+      (form-start (form_of is.work.opcode) (opcode_of entry) tag (prps_of (Bounced is.work) guest (list_page geometry.mediator lane tag) (bounce_page geometry.mediator lane tag)) guest.extent entry has (omega (arith, most, disk, few))) in
+      record { from = omega (arith, start); to = omega (arith, start, some, most) }
+
+  module _ (h : Held) (host : ℕ → ℕ) (in_device : IsInDevice geometry guest entry plan lane tag host h) (number : ℕ)
+      (left : list_any (λ k. k == number) h.left ≡ true) where
+    -- a unit that is left is one of the command's
+    pub unit-below : number < form_unit_count (form_of is.work.opcode) entry
+    unit-below =
+        among (λ k. k < form_unit_count (form_of is.work.opcode) entry) number h.left
+        (subst (λ o. All (λ k. k < unit_count o entry) h.left) sound.opcode in_device.left) left
+
+    -- the blocks of its range, where it has one
+    pub range-own : form_of is.work.opcode ≡ Manage
+        → AreOwn guest.extent (start_of (range_at number h.pieces host)) (blocks_of (range_at number h.pieces host))
+    range-own form =
+        let few : number < range_count_of entry = subst (λ f. number < form_unit_count f entry) form unit-below in
+        let many : length is.work.ranges ≡ range_count_of entry = sound.counted form in
+        let range = slice_get-there is.work.ranges number (omega (arith, few, many)) in
+        let fits = all-one (range_fits (shape_of guest).blocks) is.work.ranges number range.0 sound.fit range.1 in
+        let both = and-true (nat_le (blocks_of range.0) (block_count guest.extent)) (nat_le (start_of range.0) (block_count guest.extent - blocks_of range.0)) fits in
+        let some = leb-true (blocks_of range.0) (block_count guest.extent) both.0 in
+        let most = leb-true (start_of range.0) (block_count guest.extent - blocks_of range.0) both.1 in
+        let disk = (laid.given owner guest given).on_disk in
+        let few_blocks = laid.few_blocks in
+        let bounced : plan ≡ Bounced is.work = is.plan_is ∙ ap (λ f. go_plan f (regions_of guest) is.work) form in
+        let bounce = bounce_page geometry.mediator lane tag in
+        let ranges_shown : Shows host bounce (flat_map (translated_range guest.extent) is.work.ranges) =
+        subst (λ f. Shows host bounce (form_ranges f guest is.work)) form (subst (λ p. Shows host bounce (ranges_of p guest)) bounced in_device.pages.ranges) in
+        let places : places_of h.pieces ≡ map At (range_with_len bounce (total_len is.work.pieces)) =
+        in_device.places ∙ ap (λ p. map At (addresses_of p guest bounce)) bounced in
+        let total : total_len is.work.pieces ≡ 16 * range_count_of entry = sound.total ∙ ap (λ f. form_transfer_len f entry) form in
+        let split : total_len is.work.pieces ≡ 16 * number + (16 + (16 * range_count_of entry - (16 * number + 16))) = omega (arith, total, few) in
+        let read : range_at number h.pieces host ≡ translated_range guest.extent range.0 =
+        ap (λ ps. gathered host (take 16 (drop (16 * number) ps))) (places ∙ ap (λ n. map At (range_with_len bounce n)) split)
+        ∙ row-bytes host bounce (16 * number) (16 * range_count_of entry - (16 * number + 16))
+        ∙ shown-range guest.extent host is.work.ranges number bounce range.0 range.1 ranges_shown in
+        let start : start_of (range_at number h.pieces host) ≡ block_at guest.extent (start_of range.0) =
+        ap start_of read ∙ translated-start guest.extent range.0 (omega (arith, most, disk, few_blocks)) in
+        let blocks : blocks_of (range_at number h.pieces host) ≡ blocks_of range.0 =
+        ap blocks_of read ∙ translated-blocks guest.extent range.0 (omega (arith, some, disk, few_blocks)) in
+        record { from = omega (arith, start); to = omega (arith, start, blocks, some, most) }
