@@ -4,3 +4,5 @@ pub mod LaneTags
 pub mod TakenTags
 pub mod Takes
 pub mod ListReads
+pub mod EndingTags
+pub mod Reaps
