@@ -11,3 +11,5 @@ pub mod DeviceNeeds
 pub mod DeviceSteps
 pub mod DevicePosts
 pub mod DeviceTakes
+pub mod EndingTags
+pub mod Reaps

@@ -4,3 +4,4 @@ pub mod Seat
 pub mod Take
 pub mod Going
 pub mod Answers
+pub mod Ending

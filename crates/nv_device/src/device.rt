@@ -175,7 +175,7 @@ impl Device {
     }
 
     /// Where a slot of a lane's completion ring lies in the host.
-    pub(crate) fn completion_slot(&self, lane: u8, at: u16) -> u64
+    pub fn completion_slot(&self, lane: u8, at: u16) -> u64
         requires lane { lane < length self.now.lanes }
         requires at { at < ring_size }
         ensures value { result ≡ completion_slot self.now.mediator lane at }

@@ -80,6 +80,13 @@ is_free_state state.Taken = false
 is_free_state state.Flying = false
 is_free_state (state.Ended st) = false
 
+-- the status that a tag's command has ended with
+abbrev pub ended_with : TagState → Option StatusField
+ended_with state.Free = None
+ended_with state.Taken = None
+ended_with state.Flying = None
+ended_with (state.Ended st) = Some st
+
 -- ---- as they are kept
 
 -- tags by their states and their claims, one beside the other

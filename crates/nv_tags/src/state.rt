@@ -1,7 +1,7 @@
 //! Where a tag's command is.
 
 ghost use Rattle.std.specs.Prelude.{◌≡◌};
-ghost use Rattle.nv_tags.specs.Tags.{is_free_state};
+ghost use Rattle.nv_tags.specs.Tags.{ended_with, is_free_state};
 
 use nv_entry::Status;
 
@@ -24,5 +24,15 @@ impl TagState {
         ensures { result ≡ is_free_state self }
     {
         matches!(self, TagState::Free)
+    }
+
+    /// The status that the command has ended with; `None` where there is no command, or it has not ended.
+    pub fn ended(self) -> Option<Status>
+        ensures { result ≡ ended_with self }
+    {
+        match self {
+            TagState::Ended(status) => Some(status),
+            _ => None,
+        }
     }
 }

@@ -3,7 +3,8 @@
 ghost use Rattle.std.specs.Prelude.{◌≡◌, ◌+◌, ◌-◌, ◌*◌, ◌<◌, ◌≤◌, ◌==◌, ◌↔◌, ℕ, All, Bool, IfSome, IsTrue, drop, if◌then◌else◌, not, nat_lt, is_some, length, slice_index, slice_set, sum};
 ghost use Rattle.std.specs.List.{list_any};
 ghost use Rattle.nv_model.specs.Admin.{has_io_queue, is_queue_full, uses};
-ghost use Rattle.nv_model.specs.Controller.{completion_queue, front, is_enabled, is_ready, opening, running, submission_queue};
+ghost use Rattle.nv_entry.specs.Status.{StatusField};
+ghost use Rattle.nv_model.specs.Controller.{completion_queue, front, is_enabled, is_ready, opening, post, running, submission_queue};
 ghost use Rattle.nv_mem.specs.GuestMap.{mapped};
 ghost use Rattle.nv_model.specs.Laws.{IsCompletionInPlace, IsSubmissionInPlace, QueuesInPlace};
 ghost use Rattle.nv_model.specs.Limits.{most_requests};
@@ -149,6 +150,20 @@ impl Vctl {
             Some(queue) => queue.is_full(),
             None => false,
         }
+    }
+
+    /// Whether a completion of a command of a queue can be posted: the queue is there, and its completion queue has room.
+    #[tactic(auto, unfolding(nv_model::specs::Controller::post))]
+    pub fn has_room(&self, queue: u16) -> bool
+        ensures { (dw0 cid : ℕ) (st : StatusField) → result ≡ is_some (post self.now queue dw0 cid st) }
+    {
+        let Some(from) = self.submission_queue(usize::from(queue)) else {
+            return false;
+        };
+        let Some(to) = self.completion_queue(usize::from(from.completes_to)) else {
+            return false;
+        };
+        !to.is_full()
     }
 
     /// Whether one more event request can be held.

@@ -1,0 +1,8 @@
+use Rattle.std.proofs.Common.{◌∙◌, sym, lit<}
+use Rattle.nv_model.proofs.MemoryLemmas.{bytes_from-list}
+use Rattle.nv_model.specs.Memory.{byte_in}
+use Rattle.nv_core.proofs.reaping.completion_at.Goals as goal
+
+pub returns : goal.returns
+unfolding byte_in
+returns c = c.of.ensures ∙ c.load.ensures ∙ sym (bytes_from-list c.args.host.now c.args.addr 16 (c.requires (lit< tt)))
