@@ -1,3 +1,7 @@
 pub mod Twos
 pub mod Areas
 pub mod Starts
+pub mod Counts
+pub mod Steps
+pub mod Quiet
+pub mod Runs

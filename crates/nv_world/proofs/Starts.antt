@@ -67,18 +67,18 @@ module _ (s : SetUp) (core : State) (opening : IsOpening s.geometry s.host_bytes
       → IsRunning (record { geometry = s.geometry; state = core; log = [] })
   unfolding opening_world replay replies
   runs-so none sound = record {
-        accepted = ap refusal_of setup-is ∙ none;
-        of = record {
-          mediator = opening.mediator;
-          blocks = opening.blocks;
-          laid_out =
-              subst (λ (n : ℕ). IsLaidOut n (length core.lanes) s.geometry) (sym opening.host)
-              (subst (λ (n : ℕ). IsLaidOut s.host_bytes n s.geometry) (sym lanes-are) (laid-out s none sound));
-          consistent = subst (IsConsistent s.geometry) (sym opening.world) (opening-consistent s.geometry s.lanes);
-        };
-        counted = subst (IsCounted s.geometry) (sym opening.world) (opening-counted s.geometry s.lanes);
-        replayed = record { end = ap world_at_start setup-is ∙ sym opening.world; told = refl };
-      }
+    accepted = ap refusal_of setup-is ∙ none;
+    of = record {
+      mediator = opening.mediator;
+      blocks = opening.blocks;
+      laid_out =
+          subst (λ (n : ℕ). IsLaidOut n (length core.lanes) s.geometry) (sym opening.host)
+          (subst (λ (n : ℕ). IsLaidOut s.host_bytes n s.geometry) (sym lanes-are) (laid-out s none sound));
+      consistent = subst (IsConsistent s.geometry) (sym opening.world) (opening-consistent s.geometry s.lanes);
+    };
+    counted = subst (IsCounted s.geometry) (sym opening.world) (opening-counted s.geometry s.lanes);
+    replayed = record { end = ap world_at_start setup-is ∙ sym opening.world; told = refl };
+  }
 
 -- as `open` makes them: the set-up as handed in, what the layout is, and the log
 module _ (a s : SetUp) (g : Geometry) (core : State) (log : List Logged) (same : s ≡ a) (is : g ≡ s.geometry) (empty : log ≡ [])

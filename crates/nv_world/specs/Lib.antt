@@ -1,2 +1,3 @@
 pub mod Mediated
 pub mod Refused
+pub mod Told

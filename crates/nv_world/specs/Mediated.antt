@@ -1,6 +1,6 @@
 -- The mediator as its callers see it: its set-up, the log of what has happened, and the world behind it (profile).
-use Rattle.std.specs.Prelude.{◌≡◌, ◌⊎◌, List, [], ◌∷◌, ◌++◌, length, Option, Some, None}
-use Rattle.nv_core.specs.State.{IsOf, State, world_of}
+use Rattle.std.specs.Prelude.{◌≡◌, ◌⊎◌, ℕ, List, [], ◌∷◌, ◌++◌, length, Option, Some, None}
+use Rattle.nv_core.specs.State.{CountsMore, IsOf, IsSameSize, State, world_of}
 use Rattle.nv_laws_sound.specs.Counted.{IsCounted}
 use Rattle.nv_mem.specs.GuestMap.{Mapping}
 use Rattle.nv_ns.specs.BlockRange.{Extent}
@@ -42,6 +42,12 @@ AreStepped [] old (r ∷ rs) new = ⊥
 AreStepped (e ∷ es) old [] new = ⊥
 AreStepped (e ∷ es) old (r ∷ rs) new = (between : Mediated) × (IsStepped e old r between × AreStepped es between rs new)
 
+-- and these replies were put behind others
+pub record AreAnswered (es : List Event) (old : Mediated) (before after : List Reply) (new : Mediated) : Type 0 where
+  pub replies : List Reply
+  pub stepped : AreStepped es old replies new
+  pub joined : after ≡ before ++ replies
+
 -- ---- what a mediator keeps
 
 -- what the code holds: what stays as it is, the state on lists, and the log
@@ -57,6 +63,15 @@ setup_of k = record { host_bytes = length k.state.host; lanes = length k.state.l
 -- what it is to its callers
 abbrev pub mediated : Kept → Mediated
 mediated k = record { setup = setup_of k; log = k.log; world = world_of k.state }
+
+-- the world is as it was, in parts as large as they were
+pub record IsUnchanged (old new : State) : Type 0 where
+  pub world : world_of new ≡ world_of old
+  pub size : IsSameSize old new
+
+-- one more taken command of each queue of each guest can be counted
+abbrev pub CanCount : State → Type 0
+CanCount s = (guest : ℕ) → CountsMore guest s
 
 -- its set-up was not refused, its parts are that set-up's, its world is consistent, and it is where the log leads
 pub record IsRunning (k : Kept) : Type 0 where

@@ -2,9 +2,13 @@
 #![tactic(auto)]
 
 mod checking;
+mod copies;
 mod opening;
+mod performing;
 mod refusal;
+mod running;
 mod setup;
+mod stepping;
 mod world;
 
 pub use refusal::Refusal;

@@ -1,0 +1,136 @@
+-- An event that tells bytes changes nothing, but for a read of a list.
+use Rattle.std.proofs.Common.{◌≡◌, ℕ, Bool, true, false, ◌&&◌, inl, inr, List, [], ◌∷◌, length, Option, Some, None, refl, sym, subst, ap, ◌∙◌}
+use Rattle.std.specs.Prelude.{Err, IsSome, Ok, OnErr, Result}
+use Rattle.nv_core.specs.Seat.{bytes_told}
+use Rattle.nv_core.specs.State.{IsSameSize, IsStep, State, world_of}
+use Rattle.nv_model.specs.Private.{Acted, Private, acted}
+use Rattle.nv_model.specs.declared.act.Act.{Act}
+use Rattle.nv_model.specs.declared.reply.Reply.{Reply}
+use Rattle.nv_model.specs.declared.reply.Reply.TheVariants as reply
+use Rattle.nv_world.specs.Mediated.{IsUnchanged}
+use Rattle.nv_world.specs.Told.{IsAgain}
+use Rattle.nv_world_model.proofs.Replies.{step-answers}
+use Rattle.nv_world_model.specs.declared.event.Event.{Event}
+use Rattle.nv_world_model.specs.declared.event.Event.TheVariants as event
+use Rattle.nv_world_model.specs.Geometry.{Geometry, shape_of}
+use Rattle.nv_world_model.specs.Laws.{IsAmong}
+use Rattle.nv_world_model.specs.Seat.{Owner, owner_of, seat}
+use Rattle.nv_world_model.specs.Step.{After, act_put_back, acted_in, for_guest, step}
+use Rattle.nv_world_model.specs.World.{World}
+
+-- replies without bytes
+abbrev is_plain : Option (List ℕ) → Bool
+is_plain None = true
+is_plain (Some bytes) = false
+
+abbrev are_plain : List Reply → Bool
+are_plain [] = true
+are_plain (x ∷ xs) = is_plain (bytes_told x) && are_plain xs
+
+plain-not : (o : Option (List ℕ)) (bytes : List ℕ) (rest : Bool) → (is_plain o && rest) ≡ true → o ≡ Some bytes → {A : Type 0} → A
+plain-not None bytes rest plain told = cc
+plain-not (Some b) bytes rest plain told = cc
+
+plain-rest : (a b : Bool) → (a && b) ≡ true → b ≡ true
+plain-rest true b e = e
+plain-rest false b e = cc
+
+among-plain : (xs : List Reply) (r : Reply) (bytes : List ℕ) → are_plain xs ≡ true → IsAmong xs r → bytes_told r ≡ Some bytes → {A : Type 0} → A
+among-plain [] r bytes plain is told = absurd is
+among-plain (x ∷ xs) r bytes plain (inl same) told = plain-not (bytes_told x) bytes (are_plain xs) plain (ap bytes_told (sym same) ∙ told)
+among-plain (x ∷ xs) r bytes plain (inr is) told =
+    among-plain xs r bytes (plain-rest (is_plain (bytes_told x)) (are_plain xs) plain) is told
+
+-- an act that tells bytes
+put-back-same : (x : Reply) (p : Private) (o : Owner) (w : World) (bytes : List ℕ) → bytes_told (act_put_back x p o w).reply ≡ Some bytes
+    → (act_put_back x p o w).world ≡ w
+put-back-same reply.Done p o w bytes told = cc
+put-back-same (reply.Bytes b) p o w bytes told = refl
+put-back-same reply.Idle p o w bytes told = refl
+put-back-same reply.Busy p o w bytes told = refl
+put-back-same reply.Held p o w bytes told = refl
+put-back-same reply.Stale p o w bytes told = refl
+put-back-same reply.Unmapped p o w bytes told = refl
+put-back-same reply.Ignored p o w bytes told = refl
+put-back-same reply.NoMemory p o w bytes told = refl
+
+act-same : (geometry : Geometry) (a : Act) (x : Option Owner) (w : World) (bytes : List ℕ)
+    → bytes_told (for_guest x w (λ o. acted_in geometry a o w)).reply ≡ Some bytes → (for_guest x w (λ o. acted_in geometry a o w)).world ≡ w
+unfolding acted_in
+act-same geometry a None w bytes told = refl
+act-same geometry a (Some o) w bytes told =
+    (let done : Acted = acted (shape_of o.given) a (seat geometry o w) in put-back-same done.reply done.state o w bytes told)
+
+module _ (geometry : Geometry) (w : World) (bytes : List ℕ) where
+  not-told : (xs : List Reply) (e : Event) → are_plain xs ≡ true → IsAmong xs (step geometry e w).reply → bytes_told (step geometry e w).reply ≡ Some bytes
+      → (step geometry e w).world ≡ w
+  not-told xs e plain is told = among-plain xs (step geometry e w).reply bytes plain is told
+
+  same-behind : (e : Event) → IsAgain e (step geometry e w).reply None → bytes_told (step geometry e w).reply ≡ Some bytes → (step geometry e w).world ≡ w
+  unfolding step
+  same-behind (event.Guest guest a) is told = act-same geometry a (owner_of geometry w guest) w bytes told
+  same-behind (event.Admin guest) is told =
+      not-told (reply.Done ∷ reply.Idle ∷ reply.Held ∷ reply.Ignored ∷ []) (event.Admin guest) refl (step-answers geometry (event.Admin guest) w).may told
+  same-behind (event.Take guest queue lane) is told =
+      not-told (reply.Done ∷ reply.Idle ∷ reply.Busy ∷ reply.Ignored ∷ []) (event.Take guest queue lane) refl (step-answers geometry (event.Take guest queue lane) w).may told
+  same-behind (event.List lane tag addr len) is told = (let no : None ≡ Some bytes = is ∙ told in cc)
+  same-behind (event.Submit lane tag) is told =
+      not-told (reply.Done ∷ reply.Stale ∷ reply.Ignored ∷ []) (event.Submit lane tag) refl (step-answers geometry (event.Submit lane tag) w).may told
+  same-behind (event.GiveUp lane tag) is told =
+      not-told (reply.Done ∷ reply.Stale ∷ reply.Ignored ∷ []) (event.GiveUp lane tag) refl (step-answers geometry (event.GiveUp lane tag) w).may told
+  same-behind (event.DevTake lane) is told =
+      not-told (reply.Done ∷ reply.Idle ∷ reply.Ignored ∷ []) (event.DevTake lane) refl (step-answers geometry (event.DevTake lane) w).may told
+  same-behind (event.DevMove lane slot number) is told =
+      not-told (reply.Done ∷ reply.Idle ∷ reply.Ignored ∷ []) (event.DevMove lane slot number) refl (step-answers geometry (event.DevMove lane slot number) w).may told
+  same-behind (event.DevPost lane slot) is told =
+      not-told (reply.Done ∷ reply.Idle ∷ reply.Ignored ∷ []) (event.DevPost lane slot) refl (step-answers geometry (event.DevPost lane slot) w).may told
+  same-behind (event.DevFail lane slot st) is told =
+      not-told (reply.Done ∷ reply.Idle ∷ reply.Ignored ∷ []) (event.DevFail lane slot st) refl (step-answers geometry (event.DevFail lane slot st) w).may told
+  same-behind (event.Keep block) is told =
+      not-told (reply.Done ∷ reply.Idle ∷ []) (event.Keep block) refl (step-answers geometry (event.Keep block) w).may told
+  same-behind (event.Reap lane) is told =
+      not-told (reply.Done ∷ reply.Idle ∷ reply.Ignored ∷ []) (event.Reap lane) refl (step-answers geometry (event.Reap lane) w).may told
+  same-behind (event.Post lane tag) is told =
+      not-told (reply.Done ∷ reply.Stale ∷ reply.Held ∷ reply.Ignored ∷ []) (event.Post lane tag) refl (step-answers geometry (event.Post lane tag) w).may told
+
+-- so nothing is to be undone where its bytes can't be kept
+pub unchanged : (geometry : Geometry) (e : Event) (old new : State) (r : Reply) (bytes : List ℕ) → IsStep geometry e old r new
+    → IsAgain e r None → bytes_told r ≡ Some bytes → IsUnchanged old new
+unchanged geometry e old new r bytes is again told =
+    let same : r ≡ (step geometry e (world_of old)).reply = ap (λ (a : After). a.reply) is.after in
+    record {
+      world = ap (λ (a : After). a.world) is.after
+          ∙ same-behind geometry (world_of old) bytes e (subst (λ (x : Reply). IsAgain e x None) same again) (ap bytes_told (sym same) ∙ told);
+      size = is.size;
+    }
+
+told-some : (o : Option (List ℕ)) → IsSome o → (bytes : List ℕ) × (o ≡ Some bytes)
+told-some None some = cc
+told-some (Some bytes) some = (bytes, refl)
+
+pub unchanged-told : (geometry : Geometry) (e : Event) (old new : State) (r : Reply) (again : Option (List ℕ)) → IsStep geometry e old r new
+    → IsAgain e r again → again ≡ None → IsSome (bytes_told r) → IsUnchanged old new
+unchanged-told geometry e old new r again is told none some =
+    let bytes = told-some (bytes_told r) some in
+    unchanged geometry e old new r bytes.0 is (subst (IsAgain e r) none told) bytes.1
+
+-- whatever the error
+pub on-err : {T E : Type 0} (r : Result T E) (P : Type 0) → P → OnErr r P
+on-err (Ok x) P p = tt
+on-err (Err e) P p = p
+
+-- what comes once more is the reply's bytes
+pub again-told : (e : Event) (r : Reply) (bytes : List ℕ) → IsAgain e r (Some bytes) → bytes_told r ≡ Some bytes
+again-told (event.Guest guest a) r bytes is = cc
+again-told (event.Admin guest) r bytes is = cc
+again-told (event.Take guest queue lane) r bytes is = cc
+again-told (event.List lane tag addr len) r bytes is = sym is
+again-told (event.Submit lane tag) r bytes is = cc
+again-told (event.GiveUp lane tag) r bytes is = cc
+again-told (event.DevTake lane) r bytes is = cc
+again-told (event.DevMove lane slot number) r bytes is = cc
+again-told (event.DevPost lane slot) r bytes is = cc
+again-told (event.DevFail lane slot st) r bytes is = cc
+again-told (event.Keep block) r bytes is = cc
+again-told (event.Reap lane) r bytes is = cc
+again-told (event.Post lane tag) r bytes is = cc
