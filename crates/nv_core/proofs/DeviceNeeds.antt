@@ -1,24 +1,20 @@
 -- What the device's calls want of host and device: it follows of a consistent world.
-use Rattle.std.proofs.Common.{◌≡◌, ℕ, zero, suc, ◌+◌, ◌<◌, ◌≤◌, true, false, not, ◌==◌, Bool, List, [], ◌∷◌, get_or, length, slice_get, Option, Some, None, arith, refl, sym, ap, ◌∙◌, subst, eqb-true, eq-eqb}
+use Rattle.std.proofs.Common.{◌≡◌, ℕ, zero, suc, ◌<◌, true, false, not, ◌==◌, List, [], ◌∷◌, get_or, length, slice_get, Option, Some, None, arith, refl, sym, ap, ◌∙◌, subst, eq-eqb}
 use Rattle.std.specs.Prelude.{IfSome}
 use Rattle.std.specs.List.{list_any}
-use Rattle.std.proofs.lemmas.Bool.{eqb-false}
 use Rattle.nv_core.specs.State.{IsOf, State}
 use Rattle.nv_device.specs.Moving.{IsMovable, MayMove}
-use Rattle.nv_device.specs.Physical.{HoldsArea, Physical, held_at, lane_of}
+use Rattle.nv_device.specs.Physical.{HoldsArea, held_at, lane_of}
 use Rattle.nv_device.specs.Taking.{IsTakeable, MayTake, front_of, waits}
-use Rattle.nv_entry.specs.Opcode.{io_opcode}
-use Rattle.nv_entry.specs.Submission.{cid_of, opcode_of}
-use Rattle.nv_entry.specs.declared.opcode.IoOpcode.{IoOpcode}
+use Rattle.nv_entry.specs.Submission.{cid_of}
 use Rattle.nv_entry.specs.declared.opcode.IoOpcode.TheVariants.{DatasetManagement}
-use Rattle.nv_mem.specs.Places.{places_of}
-use Rattle.nv_model.specs.Judge.{deallocates, form_of}
-use Rattle.nv_model.specs.Memory.{byte_in, bytes_from}
-use Rattle.nv_model.specs.Queue.{is_empty, sqe_size}
+use Rattle.nv_model.specs.Judge.{form_of}
+use Rattle.nv_model.specs.Memory.{byte_in}
+use Rattle.nv_model.specs.Queue.{is_empty}
 use Rattle.nv_moves.specs.Buffer.{AreBelow}
 use Rattle.nv_moves.specs.Flat.{byte_of_block}
 use Rattle.nv_moves.specs.Marks.{mark_of}
-use Rattle.nv_world_model.specs.Area.{entry_of, submission_slot, tag_count}
+use Rattle.nv_world_model.specs.Area.{entry_of, tag_count}
 use Rattle.nv_world_model.specs.Device.{DeviceLane, Held, front_entry}
 use Rattle.nv_world_model.specs.Geometry.{Geometry}
 use Rattle.nv_world_model.specs.World.{Lane, Tag}

@@ -8,12 +8,10 @@ use Rattle.nv_core.proofs.DeviceSteps.{after, held_event, no-slot, none-held, sa
 use Rattle.nv_core.proofs.Placed.{same-size}
 use Rattle.nv_device.specs.Physical.{Physical, done_where, has_ended, held_at, is_over, lane_of}
 use Rattle.nv_device.specs.Posting.{IsPosted}
-use Rattle.nv_device.specs.declared.response.Response.{Response}
 use Rattle.nv_device.specs.declared.response.Response.TheVariants as response
 use Rattle.nv_entry.specs.Status.{StatusField}
 use Rattle.nv_model.specs.Memory.{byte_in}
 use Rattle.nv_model.proofs.Endings.{and-true}
-use Rattle.nv_model.specs.declared.reply.Reply.{Reply}
 use Rattle.nv_model.specs.declared.reply.Reply.TheVariants as reply
 use Rattle.nv_moves.specs.Flat.{byte_of_block}
 use Rattle.nv_moves.specs.Marks.{mark_of}

@@ -1,4 +1,4 @@
-use Rattle.std.proofs.Common.{◌∙◌, sym, subst, arith}
+use Rattle.std.proofs.Common.{sym, subst, arith}
 use Rattle.nv_core.proofs.Standings.{going-at, lane-flying, stands-changed, stands-whole}
 use Rattle.nv_core.specs.Going.{IsGoing}
 use Rattle.nv_core.proofs.lane.Lane.stands.Goals as goal
