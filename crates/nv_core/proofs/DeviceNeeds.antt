@@ -1,24 +1,21 @@
 -- What the device's calls want of host and device: it follows of a consistent world.
-use Rattle.std.proofs.Common.{◌≡◌, ℕ, zero, suc, ◌+◌, ◌<◌, ◌≤◌, true, false, not, ◌==◌, Bool, List, [], ◌∷◌, get_or, length, slice_get, Option, Some, None, arith, refl, sym, ap, ◌∙◌, subst, eqb-true, eq-eqb}
+use Rattle.std.proofs.Common.{◌≡◌, ℕ, zero, suc, ◌<◌, true, false, not, ◌==◌, List, [], ◌∷◌, get_or, length, slice_get, Option, Some, None, arith, refl, sym, ap, ◌∙◌, subst, eq-eqb}
 use Rattle.std.specs.Prelude.{IfSome}
 use Rattle.std.specs.List.{list_any}
-use Rattle.std.proofs.lemmas.Bool.{eqb-false}
+use Rattle.std.proofs.lemmas.Option.{get_or_from_slice_get}
 use Rattle.nv_core.specs.State.{IsOf, State}
 use Rattle.nv_device.specs.Moving.{IsMovable, MayMove}
-use Rattle.nv_device.specs.Physical.{HoldsArea, Physical, held_at, lane_of}
+use Rattle.nv_device.specs.Physical.{HoldsArea, held_at, lane_of}
 use Rattle.nv_device.specs.Taking.{IsTakeable, MayTake, front_of, waits}
-use Rattle.nv_entry.specs.Opcode.{io_opcode}
-use Rattle.nv_entry.specs.Submission.{cid_of, opcode_of}
-use Rattle.nv_entry.specs.declared.opcode.IoOpcode.{IoOpcode}
+use Rattle.nv_entry.specs.Submission.{cid_of}
 use Rattle.nv_entry.specs.declared.opcode.IoOpcode.TheVariants.{DatasetManagement}
-use Rattle.nv_mem.specs.Places.{places_of}
-use Rattle.nv_model.specs.Judge.{deallocates, form_of}
-use Rattle.nv_model.specs.Memory.{byte_in, bytes_from}
-use Rattle.nv_model.specs.Queue.{is_empty, sqe_size}
+use Rattle.nv_model.specs.Judge.{form_of}
+use Rattle.nv_model.specs.Memory.{byte_in}
+use Rattle.nv_model.specs.Queue.{is_empty}
 use Rattle.nv_moves.specs.Buffer.{AreBelow}
 use Rattle.nv_moves.specs.Flat.{byte_of_block}
 use Rattle.nv_moves.specs.Marks.{mark_of}
-use Rattle.nv_world_model.specs.Area.{entry_of, submission_slot, tag_count}
+use Rattle.nv_world_model.specs.Area.{entry_of, tag_count}
 use Rattle.nv_world_model.specs.Device.{DeviceLane, Held, front_entry}
 use Rattle.nv_world_model.specs.Geometry.{Geometry}
 use Rattle.nv_world_model.specs.World.{Lane, Tag}
@@ -32,13 +29,7 @@ use Rattle.nv_core.proofs.Takeable.{entry-takeable, places-below}
 
 -- ---- looked up
 
--- what is there is what is read
-pub got-there : {X : Type 0} (xs : List X) (i : ℕ) (x other : X) → slice_get xs i ≡ Some x → get_or xs i other ≡ x
-got-there [] i x other e = cc
-got-there (y ∷ ys) zero x other e = cc
-got-there (y ∷ ys) (suc i) x other e = got-there ys i x other e
-
--- and what is read of some is there
+-- what is read of some is there
 pub some-there : {X : Type 0} (xs : List (Option X)) (i : ℕ) (x : X) → get_or xs i None ≡ Some x → slice_get xs i ≡ Some (Some x)
 some-there [] i x e = cc
 some-there (y ∷ ys) zero x e = ap (λ (o : Option _). Some o) e
@@ -73,7 +64,7 @@ has-sides geometry s lane is below =
       d = d.0;
       at_lane = l.1;
       at_device = d.1;
-      seen = got-there s.device.lanes lane d.0 _ d.1;
+      seen = get_or_from_slice_get s.device.lanes lane d.0 _ d.1;
       below = omega (arith, sides, below);
     }
 
@@ -210,7 +201,7 @@ may-take geometry s lane is below waiting =
     let b = a.next in
     let free : held_at s.device lane (cid_of (front_of lane s.host s.device)) ≡ None =
     ap (held_at s.device lane) a.cid_is ∙ ap (λ (x : DeviceLane). get_or x.held a.tag None) a.sides.seen
-    ∙ got-there a.sides.d.held a.tag a.held None a.at_held ∙ b.not_held in
+    ∙ get_or_from_slice_get a.sides.d.held a.tag a.held None a.at_held ∙ b.not_held in
     subst (IsTakeable (length s.device.disk) s.host (held_at s.device lane (cid_of (front_of lane s.host s.device)))) (sym a.front_is)
     (entry-takeable (length s.lanes) geometry s.host is.laid_out b.command.guest b.guest b.is.given lane a.tag a.sides.below a.tag_below b.command.entry b.plan b.planned
     (length s.device.disk) (held_at s.device lane (cid_of (front_of lane s.host s.device))) (sym is.blocks) free b.pages.list)

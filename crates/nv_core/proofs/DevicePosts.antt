@@ -1,19 +1,18 @@
 -- Completions that the physical controller posts, from the device to the world.
 use Rattle.std.proofs.Common.{◌≡◌, ℕ, ◌<◌, Bool, true, false, cond, ◌&&◌, ◌==◌, eq-eqb, eqb-true, nat_lt, List, [], ◌∷◌, get_or, length, set, slice_get, Option, Some, None, is_some, refl, sym, ap, ◌∙◌, subst}
 use Rattle.std.specs.Prelude.{◌↔◌, IfSome, IsTrue}
+use Rattle.std.proofs.lemmas.Option.{get_or_from_slice_get}
 use Rattle.nv_core.specs.State.{IsOf, IsSameSize, IsStep, State, world_of}
 use Rattle.nv_core.specs.Tags.{state_in}
-use Rattle.nv_core.proofs.DeviceNeeds.{IsHoldingAt, got-there, holding-at}
+use Rattle.nv_core.proofs.DeviceNeeds.{IsHoldingAt, holding-at}
 use Rattle.nv_core.proofs.DeviceSteps.{after, held_event, no-slot, none-held, same-world, some-held, stays}
 use Rattle.nv_core.proofs.Placed.{same-size}
 use Rattle.nv_device.specs.Physical.{Physical, done_where, has_ended, held_at, is_over, lane_of}
 use Rattle.nv_device.specs.Posting.{IsPosted}
-use Rattle.nv_device.specs.declared.response.Response.{Response}
 use Rattle.nv_device.specs.declared.response.Response.TheVariants as response
 use Rattle.nv_entry.specs.Status.{StatusField}
 use Rattle.nv_model.specs.Memory.{byte_in}
 use Rattle.nv_model.proofs.Endings.{and-true}
-use Rattle.nv_model.specs.declared.reply.Reply.{Reply}
 use Rattle.nv_model.specs.declared.reply.Reply.TheVariants as reply
 use Rattle.nv_moves.specs.Flat.{byte_of_block}
 use Rattle.nv_moves.specs.Marks.{mark_of}
@@ -31,7 +30,7 @@ use Rattle.nv_laws_sound.proofs.Retags.{stands-is}
 
 -- the lane that was looked up is the one that is there
 pub lane-looked : (lanes : List Lane) (lane i : ℕ) (l x : Lane) → slice_get lanes lane ≡ Some x → i ≡ lane → l ≡ get_or lanes i l → l ≡ x
-lane-looked lanes lane i l x found at is = is ∙ ap (λ (k : ℕ). get_or lanes k l) at ∙ got-there lanes lane x l found
+lane-looked lanes lane i l x found at is = is ∙ ap (λ (k : ℕ). get_or lanes k l) at ∙ get_or_from_slice_get lanes lane x l found
 
 -- a tag's command stands there now, whatever its command and its plan are
 abbrev pub StandsNow : (tag : ℕ) → Standing → (l new : Lane) → Type 0

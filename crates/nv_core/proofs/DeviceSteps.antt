@@ -1,42 +1,31 @@
 -- Events of the physical controller, from the device to the world.
-use Rattle.std.proofs.Common.{◌≡◌, ℕ, ◌<◌, ◌≤◌, Bool, true, false, cond, not, ◌&&◌, ◌==◌, nat_lt, zero, suc, List, [], ◌∷◌, get_or, length, set, slice_get, Option, Some, None, arith, refl, sym, ap, ◌∙◌, subst}
+use Rattle.std.proofs.Common.{◌≡◌, ℕ, ◌<◌, ◌≤◌, Bool, true, false, cond, ◌&&◌, ◌==◌, nat_lt, zero, suc, List, [], ◌∷◌, get_or, length, set, slice_get, Option, Some, None, arith, refl, sym, ap, ◌∙◌, subst}
 use Rattle.std.specs.Prelude.{IfSome}
 use Rattle.std.specs.List.{list_any}
 use Rattle.std.proofs.lemmas.Bool.Decides.{nat_tests}
 use Rattle.std.proofs.lemmas.Option.{slice_get_past}
 use Rattle.nv_core.specs.Answers.{said}
 use Rattle.nv_core.specs.State.{IsOf, IsStep, State, world_of}
-use Rattle.nv_core.specs.Tags.{state_in}
-use Rattle.nv_core.proofs.DeviceNeeds.{HasSides, IsHoldingAt, IsNext, got-there, has-sides, holding-at, next-at}
+use Rattle.nv_core.proofs.DeviceNeeds.{IsHoldingAt, has-sides, holding-at}
 use Rattle.nv_core.proofs.Placed.{same-size}
-use Rattle.nv_device.specs.Moving.{IsMoved, unit_of}
-use Rattle.nv_device.specs.Physical.{Physical, done_where, has_left, held_at, lane_of}
-use Rattle.nv_device.specs.Posting.{IsPosted}
-use Rattle.nv_device.specs.Taking.{front_of, taken, waits}
+use Rattle.nv_device.specs.Moving.{IsMoved}
+use Rattle.nv_device.specs.Physical.{Physical, done_where, has_left, held_at}
 use Rattle.nv_device.specs.declared.response.Response.{Response}
 use Rattle.nv_device.specs.declared.response.Response.TheVariants as response
-use Rattle.nv_entry.specs.Status.{StatusField}
-use Rattle.nv_entry.specs.Submission.{cid_of}
 use Rattle.nv_model.specs.Controller.{Controller}
 use Rattle.nv_model.specs.Memory.{byte_in}
 use Rattle.nv_model.specs.Private.{Moved}
-use Rattle.nv_model.specs.Queue.{is_empty, next_slot}
 use Rattle.nv_model.specs.declared.reply.Reply.{Reply}
 use Rattle.nv_model.specs.declared.reply.Reply.TheVariants as reply
-use Rattle.nv_moves.specs.Flat.{byte_of_block, flat, moved_of}
+use Rattle.nv_moves.specs.Flat.{byte_of_block, moved_of}
 use Rattle.nv_moves.specs.Marks.{mark_of}
-use Rattle.nv_tags.specs.declared.state.TagState.TheVariants as state
-use Rattle.nv_world_model.specs.Area.{ring_size, tag_count}
-use Rattle.nv_world_model.specs.Device.{DeviceLane, Held, completion_posted, completion_written, device_unit, entry_taken, front_entry, held_of, unit_gone, with_held}
+use Rattle.nv_world_model.specs.Area.{tag_count}
+use Rattle.nv_world_model.specs.Device.{DeviceLane, Held, device_unit, unit_gone, with_held}
 use Rattle.nv_world_model.specs.Geometry.{Geometry}
-use Rattle.nv_world_model.specs.Plan.{Plan}
-use Rattle.nv_world_model.specs.Step.{After, device_fail, device_move, device_moved, device_post, device_posted, device_take, device_took, for_device, for_held, is_success, replied, step}
-use Rattle.nv_world_model.specs.World.{Answered, Command, Flying, InDevice, Lane, Standing, World, changed_at, tag_changed}
+use Rattle.nv_world_model.specs.Step.{After, device_move, device_moved, for_device, for_held, replied, step}
+use Rattle.nv_world_model.specs.World.{Lane, World, changed_at}
 use Rattle.nv_world_model.specs.declared.event.Event.{Event}
 use Rattle.nv_world_model.specs.declared.event.Event.TheVariants as event
-use Rattle.nv_laws_sound.proofs.EntryFields.{entry-cid}
-use Rattle.nv_laws_sound.proofs.Retags.{stands-is}
-use Rattle.nv_laws_sound.proofs.TakenEvents.{took-world}
 
 -- ---- worlds
 

@@ -1,5 +1,5 @@
 -- Where the command of a tag stands that was handed on, in its lane.
-use Rattle.std.proofs.Common.{◌≡◌, ℕ, zero, suc, ◌<◌, Bool, List, [], ◌∷◌, length, set, slice_get, Option, Some, arith, refl, sym, ap, ◌∙◌, subst, get_or}
+use Rattle.std.proofs.Common.{◌≡◌, ℕ, zero, suc, ◌<◌, Bool, List, [], ◌∷◌, length, set, slice_get, Some, arith, refl, sym, ap, ◌∙◌, subst, get_or}
 use Rattle.std.proofs.lemmas.Option.{slice_get_read}
 use Rattle.nv_core.specs.Tags.{AreUsed, IsUsed, IsWhole, plan_made, standing_of, state_in, state_of as state_of_tag, tag_made, tags_of}
 use Rattle.nv_core.specs.declared.progress.Progress.{Progress}

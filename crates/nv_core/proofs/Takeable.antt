@@ -1,17 +1,16 @@
 -- The physical entry of a plan is one that the device may take: what it names lies in the host, and its blocks on the disk.
-use Rattle.std.proofs.Common.{◌≡◌, ℕ, suc, ◌+◌, ◌-◌, ◌%◌, ◌<◌, ◌≤◌, ◌⊎◌, inl, inr, Bool, true, false, cond, ◌==◌, List, [], ◌∷◌, All, length, map, slice_get, Option, Some, None, arith, refl, sym, ap, ◌∙◌, subst}
+use Rattle.std.proofs.Common.{◌≡◌, ℕ, suc, ◌+◌, ◌-◌, ◌%◌, ◌<◌, ◌≤◌, ◌⊎◌, inl, inr, Bool, true, cond, List, [], ◌∷◌, length, map, slice_get, Option, Some, None, arith, refl, sym, ap, ◌∙◌, subst}
 use Rattle.std.specs.List.{filter}
 use Rattle.std.proofs.lemmas.Bool.{ne_eqb}
 use Rattle.std.proofs.lemmas.List.Elements.{All-map}
 use Rattle.nv_entry.specs.Opcode.{io_opcode}
-use Rattle.nv_entry.specs.Submission.{cid_of, opcode_of, prp1_of, prp2_of, slba_of}
-use Rattle.nv_entry.specs.declared.opcode.IoOpcode.{IoOpcode}
+use Rattle.nv_entry.specs.Submission.{opcode_of, prp1_of, prp2_of, slba_of}
 use Rattle.nv_mem.specs.GuestMap.{mapped}
-use Rattle.nv_mem.specs.Places.{At, Place, places_of}
+use Rattle.nv_mem.specs.Places.{At, places_of}
 use Rattle.nv_mem.specs.declared.piece.Piece.{Piece}
 use Rattle.nv_model.specs.Dialogue.{in_memory}
-use Rattle.nv_model.specs.Judge.{Clear, Form, Keep, Manage, Transfer, count_of, form_has_buffer, form_of, form_transfer_len, has_blocks, has_buffer, transfer_len}
-use Rattle.nv_model.specs.Limits.{most_bytes, page}
+use Rattle.nv_model.specs.Judge.{Clear, Form, Keep, Manage, Transfer, count_of, form_has_buffer, form_of, form_transfer_len, transfer_len}
+use Rattle.nv_model.specs.Limits.{most_bytes}
 use Rattle.nv_model.specs.Memory.{byte_in}
 use Rattle.nv_model.specs.Prp.{first_len, pages_of, read_prp}
 use Rattle.nv_model.specs.Reading.{Faulty, Reading, Spells, TooLong}

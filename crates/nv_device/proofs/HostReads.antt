@@ -1,24 +1,24 @@
 -- What PRPs spell where every address is there, they spell in a host in which its places and its list lie.
-use Rattle.std.proofs.Common.{◌≡◌, ℕ, zero, suc, ◌+◌, ◌-◌, ◌*◌, ◌%◌, ◌<◌, ◌≤◌, min, Bool, true, false, cond, not, ◌&&◌, ◌==◌, nat_lt, List, [], ◌∷◌, ◌++◌, length, Some, None, arith, refl, sym, ap, ◌∙◌, append_assoc, append-nil}
+use Rattle.std.proofs.Common.{◌≡◌, ℕ, zero, suc, ◌+◌, ◌-◌, ◌*◌, ◌<◌, ◌≤◌, min, Bool, true, false, ◌&&◌, ◌==◌, nat_lt, List, [], ◌++◌, length, arith, refl, sym, ap, ◌∙◌, append_assoc, append-nil}
 use Rattle.std.specs.List.{list_all}
 use Rattle.std.proofs.lemmas.Bool.Decides.{nat_tests}
+use Rattle.std.proofs.lemmas.List.Folds.{list_all-append}
 use Rattle.nv_entry.specs.Layout.{number_at}
-use Rattle.nv_entry.specs.declared.status_code.StatusCode.TheVariants.{DataTransferError, PrpOffsetInvalid}
 use Rattle.nv_mem.specs.GuestMap.{everywhere}
 use Rattle.nv_mem.specs.Places.{places_of}
 use Rattle.nv_mem.specs.declared.piece.Piece.{Piece}
 use Rattle.nv_mem.specs.declared.piece.Piece.TheVariants.{Run}
-use Rattle.nv_model.specs.Dialogue.{Dialogue, End, in_memory}
+use Rattle.nv_model.specs.Dialogue.{End, in_memory}
 use Rattle.nv_model.specs.Limits.{page}
 use Rattle.nv_model.specs.Memory.{byte_in, bytes_from}
 use Rattle.nv_model.specs.Prp.{entry_fault, first_len, pages_of, read_entries, read_prp, read_prp2, slots_of}
-use Rattle.nv_model.specs.Reading.{Reading, Spells, run}
+use Rattle.nv_model.specs.Reading.{Spells, run}
 use Rattle.nv_model.proofs.Endings.{and-true}
 use Rattle.nv_moves.specs.Buffer.{AreBelow}
 use Rattle.nv_prp.proofs.Cursors.{run-some}
 use Rattle.nv_device.specs.Pages.{host_reading, in_host, piece_in}
-use Rattle.nv_device.proofs.PageLemmas.{checked, entry-passed, passed, passes}
-use Rattle.nv_device.proofs.SpellLemmas.{below-pieces}
+use Rattle.nv_device.proofs.PageLemmas.{entry-passed, fault-there, passed, passes, taken_false}
+use Rattle.nv_device.proofs.SpellLemmas.{below-pieces, in_host-all}
 
 -- every address may be named
 abbrev any : ℕ → Bool
@@ -33,11 +33,7 @@ pub record IsListIn (host_len pages prp2 : ℕ) : Type 0 where
 
 -- of all of them, those at the front do, and those behind
 all-parts : {X : Type 0} (p : X → Bool) (xs ys : List X) → list_all p (xs ++ ys) ≡ true → (list_all p xs ≡ true) × (list_all p ys ≡ true)
-all-parts p [] ys each = (refl, each)
-all-parts p (x ∷ xs) ys each =
-    let parts = and-true (p x) (list_all p (xs ++ ys)) each in
-    let rest = all-parts p xs ys parts.1 in
-    (ap (λ (b : Bool). b && list_all p xs) parts.0 ∙ rest.0, rest.1)
+all-parts p xs ys each = and-true (list_all p xs) (list_all p ys) (sym (list_all-append p xs ys) ∙ each)
 
 run-in : (n addr len : ℕ) → list_all (piece_in n) (run addr len) ≡ true → everywhere (in_host n) addr len ≡ true
 unfolding everywhere
@@ -53,36 +49,11 @@ run-among n addr len front rest r is each =
     (all-parts (piece_in n) front (run addr len)
     (all-parts (piece_in n) (front ++ run addr len) rest (sym (ap (list_all (piece_in n)) is) ∙ each)).0).1
 
--- addresses below the end do
-below-in : (n addr len : ℕ) → addr + len ≤ n → everywhere (in_host n) addr len ≡ true
-unfolding everywhere
-below-in n addr zero within = refl
-below-in n addr (suc len) within =
-    let below : nat_lt (addr + len) n ≡ true = grind (arith, nat_tests) in
-    ap (λ (b : Bool). b && everywhere (in_host n) addr len) below ∙ below-in n addr len (omega arith)
-
--- ---- checks
-
--- a check that is passed where every address is there is passed in a host that has the bytes
-fault-in : (n alignment addr len : ℕ) → entry_fault any alignment addr len ≡ None → everywhere (in_host n) addr len ≡ true
-    → entry_fault (in_host n) alignment addr len ≡ None
-fault-in n alignment addr len none inside =
-    neither (addr % alignment == 0) (everywhere (in_host n) addr len) (checked any alignment addr len none).0 inside
-  where
-    neither : (a b : Bool) → a ≡ true → b ≡ true → cond (not a) (Some PrpOffsetInvalid) (cond (not b) (Some DataTransferError) None) ≡ None
-    neither true true one other = refl
-    neither true false one other = absurd (cc)
-    neither false b one other = absurd (cc)
+-- ---- the entries of a list
 
 -- the last slot that is needed is no pointer
 plain-slot : (slots pages : ℕ) → suc pages ≤ slots → (slots == 1 && nat_lt 0 pages) ≡ false
 plain-slot slots pages fits = grind (arith, nat_tests)
-
-behind-plain : (m : ℕ → ℕ) (b : Bool) (d e : Dialogue Reading) → b ≡ false → in_memory m (cond b d e) ≡ in_memory m e
-behind-plain m true d e is = absurd (cc)
-behind-plain m false d e is = refl
-
--- ---- the entries of a list
 
 -- what is read behind pieces spells these first
 entries-grow : (m : ℕ → ℕ) (pages slots from bytes : ℕ) (pieces r : List Piece) → pages ≤ slots
@@ -106,9 +77,9 @@ entries-in m n (suc pages) slots from bytes pieces r fits is each =
     let behind = entry-passed m any pages slots from bytes pieces r plain is in
     let more = pieces ++ run addr (min bytes page) in
     let rest = entries-grow m pages (slots - 1) (from + 8) (bytes - page) more r (omega arith) behind.1 in
-    behind-plain m (slots == 1 && nat_lt 0 pages) _ _ plain
+    taken_false m (slots == 1 && nat_lt 0 pages) _ _ plain
     ∙ passes m (entry_fault (in_host n) page addr (min bytes page)) (read_entries (in_host n) pages (slots - 1) (from + 8) (bytes - page) more) r
-    (fault-in n page addr (min bytes page) behind.0 (run-among n addr (min bytes page) pieces rest.0 r rest.1 each))
+    (fault-there any (in_host n) page addr (min bytes page) behind.0 (run-among n addr (min bytes page) pieces rest.0 r rest.1 each))
     (entries-in m n pages (slots - 1) (from + 8) (bytes - page) more r (omega arith) behind.1 each)
 
 -- ---- what is behind PRP1's page
@@ -135,7 +106,7 @@ prp2-in m n (suc zero) prp2 bytes pieces r list is each =
     let same : Spells (pieces ++ last) ≡ Spells r = behind.1 in
     let whole : r ≡ (pieces ++ last) ++ [] = (let e : pieces ++ last ≡ r = cc in sym e ∙ sym (append-nil (pieces ++ last))) in
     passes m (entry_fault (in_host n) page prp2 (min bytes page)) (End (Spells (pieces ++ last))) r
-    (fault-in n page prp2 (min bytes page) behind.0 (run-among n prp2 (min bytes page) pieces [] r whole each)) behind.1
+    (fault-there any (in_host n) page prp2 (min bytes page) behind.0 (run-among n prp2 (min bytes page) pieces [] r whole each)) behind.1
 prp2-in m n (suc (suc pages)) prp2 bytes pieces r list is each =
     let needed = 8 * min (slots_of prp2) (suc (suc pages)) in
     let behind = passed m (entry_fault any 8 prp2 needed) (read_entries any (suc (suc pages)) (slots_of prp2) prp2 bytes pieces) r is in
@@ -143,7 +114,7 @@ prp2-in m n (suc (suc pages)) prp2 bytes pieces r list is each =
     let fits = lies.fits in
     let there = lies.there in
     passes m (entry_fault (in_host n) 8 prp2 needed) (read_entries (in_host n) (suc (suc pages)) (slots_of prp2) prp2 bytes pieces) r
-    (fault-in n 8 prp2 needed behind.0 (below-in n prp2 needed (omega (arith, fits, there))))
+    (fault-there any (in_host n) 8 prp2 needed behind.0 (in_host-all n prp2 needed (omega (arith, fits, there))))
     (entries-in m n (suc (suc pages)) (slots_of prp2) prp2 bytes pieces r fits behind.1 each)
 
 -- ---- a transfer
@@ -162,5 +133,5 @@ host_reading-there host prp1 prp2 len r is below list =
     let behind = passed m (entry_fault any 4 prp1 first) (read_prp2 any pages prp2 (len - first) (run prp1 first)) r is in
     let rest = prp2-grows m pages prp2 (len - first) (run prp1 first) r (λ more. (list more).fits) behind.1 in
     passes m (entry_fault (in_host n) 4 prp1 first) (read_prp2 (in_host n) pages prp2 (len - first) (run prp1 first)) r
-    (fault-in n 4 prp1 first behind.0 (run-among n prp1 first [] rest.0 r rest.1 each))
+    (fault-there any (in_host n) 4 prp1 first behind.0 (run-among n prp1 first [] rest.0 r rest.1 each))
     (prp2-in m n pages prp2 (len - first) (run prp1 first) r list behind.1 each)

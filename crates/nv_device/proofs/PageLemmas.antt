@@ -61,7 +61,7 @@ all-in_host host_len addr (suc len) is some = last (nat_lt (addr + len) host_len
 -- ---- one slot
 
 -- the branch that is taken
-taken_false : (m : ℕ → ℕ) (b : Bool) (d e : Dialogue Reading) → b ≡ false → in_memory m (cond b d e) ≡ in_memory m e
+pub taken_false : (m : ℕ → ℕ) (b : Bool) (d e : Dialogue Reading) → b ≡ false → in_memory m (cond b d e) ≡ in_memory m e
 taken_false m true d e is = absurd (cc)
 taken_false m false d e is = refl
 
@@ -100,16 +100,20 @@ unfolding everywhere
 everywhere-there addr zero = refl
 everywhere-there addr (suc len) = everywhere-there addr len
 
--- a check that is passed where some addresses are there is passed where all are
-fault-anywhere : (mapped : ℕ → Bool) (alignment addr len : ℕ) → entry_fault mapped alignment addr len ≡ None
-    → entry_fault (λ _. true) alignment addr len ≡ None
-fault-anywhere mapped alignment addr len none =
-    neither (addr % alignment == 0) (everywhere (λ _. true) addr len) (checked mapped alignment addr len none).0 (everywhere-there addr len)
+-- a check that is passed where some addresses are there is passed where others are that have its bytes
+pub fault-there : (mapped there : ℕ → Bool) (alignment addr len : ℕ) → entry_fault mapped alignment addr len ≡ None → everywhere there addr len ≡ true
+    → entry_fault there alignment addr len ≡ None
+fault-there mapped there alignment addr len none has =
+    neither (addr % alignment == 0) (everywhere there addr len) (checked mapped alignment addr len none).0 has
   where
     neither : (a b : Bool) → a ≡ true → b ≡ true → cond (not a) (Some PrpOffsetInvalid) (cond (not b) (Some DataTransferError) None) ≡ None
     neither true true one other = refl
     neither true false one other = absurd (cc)
     neither false b one other = absurd (cc)
+
+fault-anywhere : (mapped : ℕ → Bool) (alignment addr len : ℕ) → entry_fault mapped alignment addr len ≡ None
+    → entry_fault (λ _. true) alignment addr len ≡ None
+fault-anywhere mapped alignment addr len none = fault-there mapped (λ _. true) alignment addr len none (everywhere-there addr len)
 
 -- that the last pages' entries spell where every address is there what they spell where some are
 abbrev EntriesAnywhere : (m : ℕ → ℕ) (mapped : ℕ → Bool) (pages : ℕ) (r : List Piece) → Type 0

@@ -32,7 +32,7 @@ same-test false false right left = refl
 -- ---- one check
 
 -- addresses that lie in the host
-in_host-all : (host_len addr len : ℕ) → addr + len ≤ host_len → everywhere (in_host host_len) addr len ≡ true
+pub in_host-all : (host_len addr len : ℕ) → addr + len ≤ host_len → everywhere (in_host host_len) addr len ≡ true
 unfolding everywhere
 in_host-all host_len addr zero inside = refl
 in_host-all host_len addr (suc len) inside =

@@ -17,6 +17,7 @@ use Rattle.nv_model.proofs.Endings.{and-true}
 use Rattle.nv_model.proofs.Judged.{IsSoundWork}
 use Rattle.nv_model.proofs.MemoryLemmas.{gathered-addresses}
 use Rattle.nv_ns.specs.BlockRange.{Extent, block_at, block_count}
+use Rattle.nv_prp.specs.declared.prps.Prps.{Prps}
 use Rattle.nv_world_model.specs.Area.{addresses_of, bounce_page, entry_of, list_page, prps_of, translated_range}
 use Rattle.nv_world_model.specs.Device.{Held, form_unit_count, range_at, unit_count}
 use Rattle.nv_world_model.specs.Geometry.{Geometry, Guest, regions_of, shape_of}
@@ -115,11 +116,14 @@ module _ (host_bytes lanes : ℕ) (geometry : Geometry) (laid : IsLaidOut host_b
       let most = leb-true (slba_of entry) (block_count guest.extent - count_of entry) both.1 in
       let disk = (laid.given owner guest given).on_disk in
       let few = laid.few_blocks in
+      let list = list_page geometry.mediator lane tag in
+      let bounce = bounce_page geometry.mediator lane tag in
+      let fits : block_at guest.extent (slba_of entry) < 2 ^ 64 = omega (arith, most, disk, few) in
+      let started = λ (prps : Prps). form-start (form_of is.work.opcode) (opcode_of entry) tag prps guest.extent entry has fits in
       let start : slba_of (entry_of plan guest entry geometry.mediator lane tag) ≡ block_at guest.extent (slba_of entry) =
       planned-kinds (λ p. slba_of (entry_of p guest entry geometry.mediator lane tag) ≡ block_at guest.extent (slba_of entry)) guest entry plan is
-      (form-start (form_of is.work.opcode) (opcode_of entry) tag (prps_of (NoData is.work) guest (list_page geometry.mediator lane tag) (bounce_page geometry.mediator lane tag)) guest.extent entry has (omega (arith, most, disk, few)))
-      (λ fits. form-start (form_of is.work.opcode) (opcode_of entry) tag (prps_of (Direct is.work) guest (list_page geometry.mediator lane tag) (bounce_page geometry.mediator lane tag)) guest.extent entry has (omega (arith, most, disk, few)))
-      (form-start (form_of is.work.opcode) (opcode_of entry) tag (prps_of (Bounced is.work) guest (list_page geometry.mediator lane tag) (bounce_page geometry.mediator lane tag)) guest.extent entry has (omega (arith, most, disk, few))) in
+      (started (prps_of (NoData is.work) guest list bounce)) (λ direct. started (prps_of (Direct is.work) guest list bounce))
+      (started (prps_of (Bounced is.work) guest list bounce)) in
       record { from = omega (arith, start); to = omega (arith, start, some, most) }
 
   module _ (h : Held) (host : ℕ → ℕ) (in_device : IsInDevice geometry guest entry plan lane tag host h) (number : ℕ)

@@ -1,4 +1,4 @@
-use Rattle.std.proofs.Common.{◌≡◌, ◌&&◌, ◌∙◌, length, nat_lt, refl, set, sym, ap, subst, is_some}
+use Rattle.std.proofs.Common.{◌≡◌, ◌&&◌, ◌∙◌, length, nat_lt, set, sym, ap, subst}
 use Rattle.nv_core.proofs.DeviceNeeds.{holding-at}
 use Rattle.nv_core.proofs.DevicePosts.{fail-done, fail-idle, fail-no_slot, fail-success, held-flying, some-there_by, success-told}
 use Rattle.nv_core.proofs.DeviceSteps.{both-below}

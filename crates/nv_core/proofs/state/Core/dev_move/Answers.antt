@@ -5,7 +5,6 @@ use Rattle.nv_core.specs.State.{IsOf, IsStep, State}
 use Rattle.nv_model.specs.declared.reply.Reply.{Reply}
 use Rattle.nv_world_model.specs.Area.{tag_count}
 use Rattle.nv_world_model.specs.declared.event.Event.TheVariants as event
-use Rattle.nv_core.specs.Answers.{said}
 use Rattle.nv_core.proofs.state.Core.dev_move.Goals as goal
 
 pub returns-then-not-has_slot : goal.returns-then-not-has_slot

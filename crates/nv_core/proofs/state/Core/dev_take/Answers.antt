@@ -1,4 +1,4 @@
-use Rattle.std.proofs.Common.{◌≡◌, ◌<◌, ◌≤◌, ◌∙◌, ◌^◌, length, refl, set, sym, subst, arith}
+use Rattle.std.proofs.Common.{◌<◌, ◌≤◌, ◌∙◌, length, set, sym, subst, arith}
 use Rattle.nv_core.proofs.DeviceNeeds.{may-take, next-at}
 use Rattle.nv_core.proofs.DeviceTakes.{next-flying, none-waits, one-waits, take-done, take-idle, take-no_device}
 use Rattle.nv_core.specs.State.{IsOf, IsStep, State}
