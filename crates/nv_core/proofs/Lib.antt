@@ -6,3 +6,6 @@ pub mod Takes
 pub mod ListReads
 pub mod EndingTags
 pub mod Reaps
+pub mod Delivers
+pub mod Clear
+pub mod Posts

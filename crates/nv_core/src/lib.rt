@@ -13,6 +13,7 @@ mod keeping;
 mod lane;
 mod lane_ending;
 mod layout;
+mod posting;
 mod progress;
 mod reaping;
 mod seat;
