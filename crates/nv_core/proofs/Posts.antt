@@ -131,7 +131,10 @@ delivered-is (Some (Direct work)) st bounce o w = refl
 delivered-is (Some (Bounced work)) st bounce o w = by_read (is_read work.opcode && is_success st)
   where
     by_read : (b : Bool) → cond b (scattered_to bounce work o w) w
-        ≡ with_host (cond b (put_image (regions_of o.given) (scattered (image (regions_of o.given) w.host) (places_of work.pieces) (bytes_from w.host bounce (total_len work.pieces))) w.host) w.host) w
+        ≡ with_host
+        (cond b
+        (put_image (regions_of o.given)
+        (scattered (image (regions_of o.given) w.host) (places_of work.pieces) (bytes_from w.host bounce (total_len work.pieces))) w.host) w.host) w
     by_read true = refl
     by_read false = refl
 
@@ -190,13 +193,15 @@ module _ (command : Command) (st : StatusField) (plan : Option Plan) (bounce lan
       → (let x : Settled = record { became = b; host = host; controller = d } in x) ≡ settled command st plan bounce (regions_of guest) w.host c
       → (post_at command st plan bounce lane tag (owner number guest c) w ≡ replied reply.Held w) × ((host ≡ w.host) × (d ≡ c))
   settled-held b host d held is =
-      held-by (record { became = b; host = host; controller = d }) _ (subst (λ (x : Settled). IsSettledAs x (post_at command st plan bounce lane tag (owner number guest c) w)) (sym is) settles) held
+      held-by (record { became = b; host = host; controller = d }) _
+      (subst (λ (x : Settled). IsSettledAs x (post_at command st plan bounce lane tag (owner number guest c) w)) (sym is) settles) held
 
   pub settled-done : (b : Became) (host : ℕ → ℕ) (d : Controller) → b ≡ became.Done
       → (let x : Settled = record { became = b; host = host; controller = d } in x) ≡ settled command st plan bounce (regions_of guest) w.host c
       → post_at command st plan bounce lane tag (owner number guest c) w ≡ replied reply.Done (with_tag lane tag Free (with_controller number d (with_host host w)))
   settled-done b host d done is =
-      done-by (record { became = b; host = host; controller = d }) _ (subst (λ (x : Settled). IsSettledAs x (post_at command st plan bounce lane tag (owner number guest c) w)) (sym is) settles) done
+      done-by (record { became = b; host = host; controller = d }) _
+      (subst (λ (x : Settled). IsSettledAs x (post_at command st plan bounce lane tag (owner number guest c) w)) (sym is) settles) done
 
 -- ---- what may be delivered
 
@@ -249,7 +254,8 @@ module _ (geometry : Geometry) (s old : State) (lane tag : ℕ) where
     unfolding step
     post-step =
         let w = world_of s in
-        ap (λ (x : Option Tag). for_ended x w (λ command st plan. for_owner (owner_of geometry w command.guest) w (λ o. post_at command st plan (bounce_page geometry.mediator lane tag) lane tag o w)))
+        ap (λ (x : Option Tag). for_ended x w
+        (λ command st plan. for_owner (owner_of geometry w command.guest) w (λ o. post_at command st plan (bounce_page geometry.mediator lane tag) lane tag o w)))
         (ap (λ (x : Option Lane). tag_in x tag) t.found ∙ t.there)
 
     -- nobody's command
@@ -384,7 +390,8 @@ module _ (geometry : Geometry) (s old : State) (lane tag : ℕ) where
                 after =
                     ap (λ (h : ℕ → ℕ). let a : After = record { world = record w { host = h; controllers = set w.controllers t.command.guest c_new }; reply = reply.Held } in a) r.1.0
                     ∙ ap (λ (k : Controller). let a : After = record { world = record w { controllers = set w.controllers t.command.guest k }; reply = reply.Held } in a) r.1.1
-                    ∙ ap (λ (cs : List Controller). let a : After = record { world = record w { controllers = cs }; reply = reply.Held } in a) (set-same w.controllers t.command.guest c found-c)
+                    ∙ ap (λ (cs : List Controller). let a : After = record { world = record w { controllers = cs }; reply = reply.Held } in a)
+                    (set-same w.controllers t.command.guest c found-c)
                     ∙ sym (post-owned ∙ r.0);
                 size = record { host = sized; mediator = refl; blocks = refl };
               }))
@@ -395,9 +402,14 @@ module _ (geometry : Geometry) (s old : State) (lane tag : ℕ) where
               let w = world_of s in
               let r = settled-done t.command st t.plan (bounce_page geometry.mediator lane tag) lane tag t.command.guest guest c w b (byte_in host_new) c_new done settled-own in
               let v : World = with_controller t.command.guest c_new (with_host (byte_in host_new) w) in
-              subst (λ (o : State). IsStep geometry (event.Post lane tag) o reply.Done (record s { host = host_new; controllers = set s.controllers j c_new; lanes = set s.lanes i l_new })) same
-              (subst (λ (k : ℕ). IsStep geometry (event.Post lane tag) s reply.Done (record s { host = host_new; controllers = set s.controllers k c_new; lanes = set s.lanes i l_new })) (sym (at_number ∙ whose))
-              (subst (λ (k : ℕ). IsStep geometry (event.Post lane tag) s reply.Done (record s { host = host_new; controllers = set s.controllers t.command.guest c_new; lanes = set s.lanes k l_new })) (sym at)
+              subst (λ (o : State). IsStep geometry (event.Post lane tag) o reply.Done
+              (record s { host = host_new; controllers = set s.controllers j c_new; lanes = set s.lanes i l_new })) same
+              (subst
+              (λ (k : ℕ). IsStep geometry (event.Post lane tag) s reply.Done
+              (record s { host = host_new; controllers = set s.controllers k c_new; lanes = set s.lanes i l_new })) (sym (at_number ∙ whose))
+              (subst
+              (λ (k : ℕ). IsStep geometry (event.Post lane tag) s reply.Done
+              (record s { host = host_new; controllers = set s.controllers t.command.guest c_new; lanes = set s.lanes k l_new })) (sym at)
               (record {
                 after =
                     ap (λ (k : Lane). let a : After = record { world = record v { lanes = set w.lanes lane k }; reply = reply.Done } in a) freed

@@ -20,58 +20,80 @@ returns-in_default-ended c =
 pub index-ring-requires : goal.index-ring-requires
 index-ring-requires c =
     let s : State = record { host = c.self.inside.host; device = c.self.inside.device; lanes = c.self.inside.lanes.items; controllers = c.self.inside.controllers.items } in
-    let t = ended-here s c.args.self.now c.args.lane c.args.tag c.state.result c.in-Some.point c.ended.result c.in-Some-ended.status c.self.view_is c.state.ensures c.in-Some.is c.ended.ensures c.in-Some-ended.is in
+    let t = ended-here s c.args.self.now c.args.lane c.args.tag c.state.result c.in-Some.point c.ended.result c.in-Some-ended.status c.self.view_is
+    c.state.ensures c.in-Some.is c.ended.ensures c.in-Some-ended.is in
     let below = ended-below c.self.inside.lanes.items c.args.lane c.args.tag c.in-Some-ended.status t in
     let number = c.from-at.ensures in omega arith
 
 pub ended-requires-2 : goal.ended-requires-2
 ended-requires-2 c =
     let s : State = record { host = c.self.inside.host; device = c.self.inside.device; lanes = c.self.inside.lanes.items; controllers = c.self.inside.controllers.items } in
-    let t = ended-here s c.args.self.now c.args.lane c.args.tag c.state.result c.in-Some.point c.ended.result c.in-Some-ended.status c.self.view_is c.state.ensures c.in-Some.is c.ended.ensures c.in-Some-ended.is in
+    let t = ended-here s c.args.self.now c.args.lane c.args.tag c.state.result c.in-Some.point c.ended.result c.in-Some-ended.status c.self.view_is
+    c.state.ensures c.in-Some.is c.ended.ensures c.in-Some-ended.is in
     is-ended c.self.inside.lanes.items c.args.lane c.args.tag c.from-at.result c.index-ring.result.now c.in-Some-ended.status t c.from-at.ensures c.index-ring.ensures
 
 pub returns-in_default-guest : goal.returns-in_default-guest
 returns-in_default-guest c =
     let s : State = record { host = c.self.inside.host; device = c.self.inside.device; lanes = c.self.inside.lanes.items; controllers = c.self.inside.controllers.items } in
-    let t = ended-here s c.args.self.now c.args.lane c.args.tag c.state.result c.in-Some.point c.ended.result c.in-Some-ended.status c.self.view_is c.state.ensures c.in-Some.is c.ended.ensures c.in-Some-ended.is in
-    let guest = ap (λ (d : Command). d.guest) (c.ended-2.ensures t.command c.in-Some-ended.status t.plan (ended-there c.self.inside.lanes.items c.args.lane c.args.tag c.from-at.result c.index-ring.result.now c.in-Some-ended.status t c.from-at.ensures c.index-ring.ensures)) in
-    post-nobody c.args.layout.now s c.args.self.now c.args.lane c.args.tag c.self.view_is c.requires.of c.in-Some-ended.status t c.from-at.result c.index-ring.result.now c.from-at.ensures c.index-ring.ensures
+    let t = ended-here s c.args.self.now c.args.lane c.args.tag c.state.result c.in-Some.point c.ended.result c.in-Some-ended.status c.self.view_is
+    c.state.ensures c.in-Some.is c.ended.ensures c.in-Some-ended.is in
+    let guest = ap (λ (d : Command). d.guest)
+    (c.ended-2.ensures t.command c.in-Some-ended.status t.plan
+    (ended-there c.self.inside.lanes.items c.args.lane c.args.tag c.from-at.result c.index-ring.result.now c.in-Some-ended.status t c.from-at.ensures
+    c.index-ring.ensures)) in
+    post-nobody c.args.layout.now s c.args.self.now c.args.lane c.args.tag c.self.view_is c.requires.of c.in-Some-ended.status t c.from-at.result
+    c.index-ring.result.now c.from-at.ensures c.index-ring.ensures
     c.ended-2.result.now.guest guest c.in_default-guest.ensures
 
 pub bounce_page-slot-requires-clause-area : goal.bounce_page-slot-requires-clause-area
 bounce_page-slot-requires-clause-area c =
     let s : State = record { host = c.self.inside.host; device = c.self.inside.device; lanes = c.self.inside.lanes.items; controllers = c.self.inside.controllers.items } in
-    let t = ended-here s c.args.self.now c.args.lane c.args.tag c.state.result c.in-Some.point c.ended.result c.in-Some-ended.status c.self.view_is c.state.ensures c.in-Some.is c.ended.ensures c.in-Some-ended.is in
-    area-fits c.args.layout.now s c.args.self.now c.args.lane c.args.tag c.self.view_is c.requires.of c.in-Some-ended.status t c.from-at.result c.index-ring.result.now c.from-at.ensures c.index-ring.ensures
+    let t = ended-here s c.args.self.now c.args.lane c.args.tag c.state.result c.in-Some.point c.ended.result c.in-Some-ended.status c.self.view_is
+    c.state.ensures c.in-Some.is c.ended.ensures c.in-Some-ended.is in
+    area-fits c.args.layout.now s c.args.self.now c.args.lane c.args.tag c.self.view_is c.requires.of c.in-Some-ended.status t c.from-at.result
+    c.index-ring.result.now c.from-at.ensures c.index-ring.ensures
     c.layout.inside.mediator (ap (λ (g : Geometry). g.mediator) c.layout.view_is)
 
 pub bounce_page-slot-requires-clause-tag : goal.bounce_page-slot-requires-clause-tag
 bounce_page-slot-requires-clause-tag c =
     let s : State = record { host = c.self.inside.host; device = c.self.inside.device; lanes = c.self.inside.lanes.items; controllers = c.self.inside.controllers.items } in
-    let t = ended-here s c.args.self.now c.args.lane c.args.tag c.state.result c.in-Some.point c.ended.result c.in-Some-ended.status c.self.view_is c.state.ensures c.in-Some.is c.ended.ensures c.in-Some-ended.is in
-    tag-below c.args.layout.now s c.args.self.now c.args.lane c.args.tag c.self.view_is c.requires.of c.in-Some-ended.status t c.from-at.result c.index-ring.result.now c.from-at.ensures c.index-ring.ensures
+    let t = ended-here s c.args.self.now c.args.lane c.args.tag c.state.result c.in-Some.point c.ended.result c.in-Some-ended.status c.self.view_is
+    c.state.ensures c.in-Some.is c.ended.ensures c.in-Some-ended.is in
+    tag-below c.args.layout.now s c.args.self.now c.args.lane c.args.tag c.self.view_is c.requires.of c.in-Some-ended.status t c.from-at.result
+    c.index-ring.result.now c.from-at.ensures c.index-ring.ensures
 
 pub index_mut-vctl-requires : goal.index_mut-vctl-requires
 index_mut-vctl-requires c =
     let s : State = record { host = c.self.inside.host; device = c.self.inside.device; lanes = c.self.inside.lanes.items; controllers = c.self.inside.controllers.items } in
-    let t = ended-here s c.args.self.now c.args.lane c.args.tag c.state.result c.in-Some.point c.ended.result c.in-Some-ended.status c.self.view_is c.state.ensures c.in-Some.is c.ended.ensures c.in-Some-ended.is in
-    let guest = ap (λ (d : Command). d.guest) (c.ended-2.ensures t.command c.in-Some-ended.status t.plan (ended-there c.self.inside.lanes.items c.args.lane c.args.tag c.from-at.result c.index-ring.result.now c.in-Some-ended.status t c.from-at.ensures c.index-ring.ensures)) in
-    let below = has-controller c.args.layout.now s c.args.self.now c.args.lane c.args.tag c.self.view_is c.requires.of c.in-Some-ended.status t c.from-at.result c.index-ring.result.now c.from-at.ensures c.index-ring.ensures
+    let t = ended-here s c.args.self.now c.args.lane c.args.tag c.state.result c.in-Some.point c.ended.result c.in-Some-ended.status c.self.view_is
+    c.state.ensures c.in-Some.is c.ended.ensures c.in-Some-ended.is in
+    let guest = ap (λ (d : Command). d.guest)
+    (c.ended-2.ensures t.command c.in-Some-ended.status t.plan
+    (ended-there c.self.inside.lanes.items c.args.lane c.args.tag c.from-at.result c.index-ring.result.now c.in-Some-ended.status t c.from-at.ensures
+    c.index-ring.ensures)) in
+    let below = has-controller c.args.layout.now s c.args.self.now c.args.lane c.args.tag c.self.view_is c.requires.of c.in-Some-ended.status t
+    c.from-at.result c.index-ring.result.now c.from-at.ensures c.index-ring.ensures
     c.ended-2.result.now.guest c.in-Some-guest.given.now guest c.in-Some-guest.ensures in
     let number = c.from.ensures in omega arith
 
 pub settle-requires-clause-ended : goal.settle-requires-clause-ended
 settle-requires-clause-ended c =
     let s : State = record { host = c.self.inside.host; device = c.self.inside.device; lanes = c.self.inside.lanes.items; controllers = c.self.inside.controllers.items } in
-    let t = ended-here s c.args.self.now c.args.lane c.args.tag c.state.result c.in-Some.point c.ended.result c.in-Some-ended.status c.self.view_is c.state.ensures c.in-Some.is c.ended.ensures c.in-Some-ended.is in
+    let t = ended-here s c.args.self.now c.args.lane c.args.tag c.state.result c.in-Some.point c.ended.result c.in-Some-ended.status c.self.view_is
+    c.state.ensures c.in-Some.is c.ended.ensures c.in-Some-ended.is in
     ended-state c.self.inside.lanes.items c.args.lane c.args.tag c.from-at.result c.index-ring.result.now c.in-Some-ended.status t c.from-at.ensures c.index-ring.ensures
 
 pub settle-requires-clause-may : goal.settle-requires-clause-may
 settle-requires-clause-may c =
     let s : State = record { host = c.self.inside.host; device = c.self.inside.device; lanes = c.self.inside.lanes.items; controllers = c.self.inside.controllers.items } in
-    let t = ended-here s c.args.self.now c.args.lane c.args.tag c.state.result c.in-Some.point c.ended.result c.in-Some-ended.status c.self.view_is c.state.ensures c.in-Some.is c.ended.ensures c.in-Some-ended.is in
-    let guest = ap (λ (d : Command). d.guest) (c.ended-2.ensures t.command c.in-Some-ended.status t.plan (ended-there c.self.inside.lanes.items c.args.lane c.args.tag c.from-at.result c.index-ring.result.now c.in-Some-ended.status t c.from-at.ensures c.index-ring.ensures)) in
-    may-settle c.args.layout.now s c.args.self.now c.args.lane c.args.tag c.self.view_is c.requires.of c.in-Some-ended.status t c.from-at.result c.index-ring.result.now c.from-at.ensures c.index-ring.ensures
+    let t = ended-here s c.args.self.now c.args.lane c.args.tag c.state.result c.in-Some.point c.ended.result c.in-Some-ended.status c.self.view_is
+    c.state.ensures c.in-Some.is c.ended.ensures c.in-Some-ended.is in
+    let guest = ap (λ (d : Command). d.guest)
+    (c.ended-2.ensures t.command c.in-Some-ended.status t.plan
+    (ended-there c.self.inside.lanes.items c.args.lane c.args.tag c.from-at.result c.index-ring.result.now c.in-Some-ended.status t c.from-at.ensures
+    c.index-ring.ensures)) in
+    may-settle c.args.layout.now s c.args.self.now c.args.lane c.args.tag c.self.view_is c.requires.of c.in-Some-ended.status t c.from-at.result
+    c.index-ring.result.now c.from-at.ensures c.index-ring.ensures
     c.ended-2.result.now.guest c.in-Some-guest.given.now guest c.in-Some-guest.ensures c.from.result c.index_mut-vctl.result.now c.from.ensures c.index_mut-vctl.ensures.value
     c.bounce_page-slot.result c.map.result.now c.requires.counted
     (c.bounce_page-slot.ensures ∙ ap (λ (g : Geometry). bounce_page g.mediator c.args.lane c.args.tag) c.layout.view_is) c.map.ensures
@@ -79,31 +101,43 @@ settle-requires-clause-may c =
 pub settle-requires-clause-in_place : goal.settle-requires-clause-in_place
 settle-requires-clause-in_place c =
     let s : State = record { host = c.self.inside.host; device = c.self.inside.device; lanes = c.self.inside.lanes.items; controllers = c.self.inside.controllers.items } in
-    let t = ended-here s c.args.self.now c.args.lane c.args.tag c.state.result c.in-Some.point c.ended.result c.in-Some-ended.status c.self.view_is c.state.ensures c.in-Some.is c.ended.ensures c.in-Some-ended.is in
-    let guest = ap (λ (d : Command). d.guest) (c.ended-2.ensures t.command c.in-Some-ended.status t.plan (ended-there c.self.inside.lanes.items c.args.lane c.args.tag c.from-at.result c.index-ring.result.now c.in-Some-ended.status t c.from-at.ensures c.index-ring.ensures)) in
-    queues-there c.args.layout.now s c.args.self.now c.args.lane c.args.tag c.self.view_is c.requires.of c.in-Some-ended.status t c.from-at.result c.index-ring.result.now c.from-at.ensures c.index-ring.ensures
+    let t = ended-here s c.args.self.now c.args.lane c.args.tag c.state.result c.in-Some.point c.ended.result c.in-Some-ended.status c.self.view_is
+    c.state.ensures c.in-Some.is c.ended.ensures c.in-Some-ended.is in
+    let guest = ap (λ (d : Command). d.guest)
+    (c.ended-2.ensures t.command c.in-Some-ended.status t.plan
+    (ended-there c.self.inside.lanes.items c.args.lane c.args.tag c.from-at.result c.index-ring.result.now c.in-Some-ended.status t c.from-at.ensures
+    c.index-ring.ensures)) in
+    queues-there c.args.layout.now s c.args.self.now c.args.lane c.args.tag c.self.view_is c.requires.of c.in-Some-ended.status t c.from-at.result
+    c.index-ring.result.now c.from-at.ensures c.index-ring.ensures
     c.ended-2.result.now.guest c.in-Some-guest.given.now guest c.in-Some-guest.ensures c.from.result c.index_mut-vctl.result.now c.from.ensures c.index_mut-vctl.ensures.value
     c.map.result.now c.map.ensures
 
 pub index_mut-requires : goal.index_mut-requires
 index_mut-requires c =
     let s : State = record { host = c.self.inside.host; device = c.self.inside.device; lanes = c.self.inside.lanes.items; controllers = c.self.inside.controllers.items } in
-    let t = ended-here s c.args.self.now c.args.lane c.args.tag c.state.result c.in-Some.point c.ended.result c.in-Some-ended.status c.self.view_is c.state.ensures c.in-Some.is c.ended.ensures c.in-Some-ended.is in
+    let t = ended-here s c.args.self.now c.args.lane c.args.tag c.state.result c.in-Some.point c.ended.result c.in-Some-ended.status c.self.view_is
+    c.state.ensures c.in-Some.is c.ended.ensures c.in-Some-ended.is in
     let below = ended-below c.self.inside.lanes.items c.args.lane c.args.tag c.in-Some-ended.status t in
     let number = c.from-at.ensures in omega arith
 
 pub release-requires : goal.release-requires
 release-requires c =
     let s : State = record { host = c.self.inside.host; device = c.self.inside.device; lanes = c.self.inside.lanes.items; controllers = c.self.inside.controllers.items } in
-    let t = ended-here s c.args.self.now c.args.lane c.args.tag c.state.result c.in-Some.point c.ended.result c.in-Some-ended.status c.self.view_is c.state.ensures c.in-Some.is c.ended.ensures c.in-Some-ended.is in
+    let t = ended-here s c.args.self.now c.args.lane c.args.tag c.state.result c.in-Some.point c.ended.result c.in-Some-ended.status c.self.view_is
+    c.state.ensures c.in-Some.is c.ended.ensures c.in-Some-ended.is in
     is-ended c.self.inside.lanes.items c.args.lane c.args.tag c.from-at.result c.index_mut.result.now c.in-Some-ended.status t c.from-at.ensures c.index_mut.ensures.value
 
 pub returns-in-Held : goal.returns-in-Held
 returns-in-Held c =
     let s : State = record { host = c.self.inside.host; device = c.self.inside.device; lanes = c.self.inside.lanes.items; controllers = c.self.inside.controllers.items } in
-    let t = ended-here s c.args.self.now c.args.lane c.args.tag c.state.result c.in-Some.point c.ended.result c.in-Some-ended.status c.self.view_is c.state.ensures c.in-Some.is c.ended.ensures c.in-Some-ended.is in
-    let guest = ap (λ (d : Command). d.guest) (c.ended-2.ensures t.command c.in-Some-ended.status t.plan (ended-there c.self.inside.lanes.items c.args.lane c.args.tag c.from-at.result c.index-ring.result.now c.in-Some-ended.status t c.from-at.ensures c.index-ring.ensures)) in
-    post-held c.args.layout.now s c.args.self.now c.args.lane c.args.tag c.self.view_is c.requires.of c.in-Some-ended.status t c.from-at.result c.index-ring.result.now c.from-at.ensures c.index-ring.ensures
+    let t = ended-here s c.args.self.now c.args.lane c.args.tag c.state.result c.in-Some.point c.ended.result c.in-Some-ended.status c.self.view_is
+    c.state.ensures c.in-Some.is c.ended.ensures c.in-Some-ended.is in
+    let guest = ap (λ (d : Command). d.guest)
+    (c.ended-2.ensures t.command c.in-Some-ended.status t.plan
+    (ended-there c.self.inside.lanes.items c.args.lane c.args.tag c.from-at.result c.index-ring.result.now c.in-Some-ended.status t c.from-at.ensures
+    c.index-ring.ensures)) in
+    post-held c.args.layout.now s c.args.self.now c.args.lane c.args.tag c.self.view_is c.requires.of c.in-Some-ended.status t c.from-at.result
+    c.index-ring.result.now c.from-at.ensures c.index-ring.ensures
     c.ended-2.result.now.guest c.in-Some-guest.given.now guest c.in-Some-guest.ensures c.from.result c.index_mut-vctl.result.now c.from.ensures c.index_mut-vctl.ensures.value
     c.bounce_page-slot.result c.map.result.now
     (c.bounce_page-slot.ensures ∙ ap (λ (g : Geometry). bounce_page g.mediator c.args.lane c.args.tag) c.layout.view_is) c.map.ensures
@@ -112,9 +146,14 @@ returns-in-Held c =
 pub returns-in-Done : goal.returns-in-Done
 returns-in-Done c =
     let s : State = record { host = c.self.inside.host; device = c.self.inside.device; lanes = c.self.inside.lanes.items; controllers = c.self.inside.controllers.items } in
-    let t = ended-here s c.args.self.now c.args.lane c.args.tag c.state.result c.in-Some.point c.ended.result c.in-Some-ended.status c.self.view_is c.state.ensures c.in-Some.is c.ended.ensures c.in-Some-ended.is in
-    let guest = ap (λ (d : Command). d.guest) (c.ended-2.ensures t.command c.in-Some-ended.status t.plan (ended-there c.self.inside.lanes.items c.args.lane c.args.tag c.from-at.result c.index-ring.result.now c.in-Some-ended.status t c.from-at.ensures c.index-ring.ensures)) in
-    post-done c.args.layout.now s c.args.self.now c.args.lane c.args.tag c.self.view_is c.requires.of c.in-Some-ended.status t c.from-at.result c.index_mut.result.now c.from-at.ensures c.index_mut.ensures.value
+    let t = ended-here s c.args.self.now c.args.lane c.args.tag c.state.result c.in-Some.point c.ended.result c.in-Some-ended.status c.self.view_is
+    c.state.ensures c.in-Some.is c.ended.ensures c.in-Some-ended.is in
+    let guest = ap (λ (d : Command). d.guest)
+    (c.ended-2.ensures t.command c.in-Some-ended.status t.plan
+    (ended-there c.self.inside.lanes.items c.args.lane c.args.tag c.from-at.result c.index-ring.result.now c.in-Some-ended.status t c.from-at.ensures
+    c.index-ring.ensures)) in
+    post-done c.args.layout.now s c.args.self.now c.args.lane c.args.tag c.self.view_is c.requires.of c.in-Some-ended.status t c.from-at.result
+    c.index_mut.result.now c.from-at.ensures c.index_mut.ensures.value
     c.ended-2.result.now.guest c.in-Some-guest.given.now guest c.in-Some-guest.ensures c.from.result c.index_mut-vctl.result.now c.from.ensures c.index_mut-vctl.ensures.value
     c.bounce_page-slot.result c.map.result.now
     (c.bounce_page-slot.ensures ∙ ap (λ (g : Geometry). bounce_page g.mediator c.args.lane c.args.tag) c.layout.view_is) c.map.ensures
