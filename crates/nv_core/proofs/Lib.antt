@@ -13,3 +13,6 @@ pub mod DevicePosts
 pub mod DeviceTakes
 pub mod EndingTags
 pub mod Reaps
+pub mod Delivers
+pub mod Clear
+pub mod Posts

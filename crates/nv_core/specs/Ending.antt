@@ -1,6 +1,6 @@
 -- How a command ends in the mediator: its completion is read, and later it is delivered and completed for its guest (profile; posting:
 -- Base Specification 2.0, "Memory-based Transport Queue Model").
-use Rattle.std.specs.Prelude.{◌≡◌, ℕ, ◌<◌, ◌&&◌, Bool, false, if◌then◌else◌, List, All, Option, Some, None, Result, Ok, Err, slice_index}
+use Rattle.std.specs.Prelude.{◌≡◌, ℕ, ◌<◌, ◌&&◌, Bool, true, false, if◌then◌else◌, List, All, Option, Some, None, slice_index}
 use Rattle.std.specs.Bool.{⊤}
 use Rattle.nv_entry.specs.Opcode.{io_opcode}
 use Rattle.nv_entry.specs.Status.{StatusField}
@@ -14,10 +14,8 @@ use Rattle.nv_model.specs.Controller.{Controller, Posted, is_enabled, post, ran_
 use Rattle.nv_model.specs.Judge.{Work, is_read}
 use Rattle.nv_model.specs.Laws.{IsMappedPiece}
 use Rattle.nv_model.specs.Memory.{bytes_from, image, put_image, scattered, stored}
-use Rattle.nv_model.specs.declared.reply.Reply.{Reply}
-use Rattle.nv_model.specs.declared.reply.Reply.TheVariants as reply
-use Rattle.nv_tags.specs.declared.state.TagState.{TagState}
-use Rattle.nv_tags.specs.declared.state.TagState.TheVariants as state
+use Rattle.nv_plan.specs.declared.kind.PlanKind.{PlanKind}
+use Rattle.nv_plan.specs.declared.kind.PlanKind.TheVariants as kind
 use Rattle.nv_vctl.specs.declared.posted.Posted.{Posted as Became}
 use Rattle.nv_vctl.specs.declared.posted.Posted.TheVariants as became
 use Rattle.nv_world_model.specs.Plan.{Answer, Bounced, Direct, NoData, Plan}
@@ -33,20 +31,23 @@ pub record IsEnded (t : Option Tag) : Type 0 where
   pub plan : Option Plan
   pub is : t ≡ Some (Ended command status plan)
 
--- the status that a tag's command has ended with, or what is answered where it has not ended
-abbrev pub ended_with : Option TagState → Result StatusField Reply
-ended_with None = Err reply.Ignored
-ended_with (Some state.Free) = Err reply.Stale
-ended_with (Some state.Taken) = Err reply.Stale
-ended_with (Some state.Flying) = Err reply.Stale
-ended_with (Some (state.Ended st)) = Ok st
-
 -- ---- what is delivered
 
 -- whether a command of that opcode has a buffer that is a destination
 abbrev pub is_read_of : Option IoOpcode → Bool
 is_read_of None = false
 is_read_of (Some opcode) = is_read opcode
+
+-- whether a plan of that kind goes by way of the bounce pages
+abbrev pub is_bounced : PlanKind → Bool
+is_bounced kind.Direct = false
+is_bounced kind.Bounced = true
+is_bounced kind.NoData = false
+is_bounced (kind.Answer st) = false
+
+-- whether a command of that plan and entry, which has ended with that status, is a bounced Read that succeeded
+abbrev pub delivers : PlanKind → (entry : List ℕ) → StatusField → Bool
+delivers plan entry st = is_bounced plan && is_read_of (io_opcode (opcode_of entry)) && is_success st
 
 -- the host behind what a command delivers to a guest of these regions: the bytes of a bounced Read that succeeded, place by place in order
 abbrev pub delivered_host : Option Plan → StatusField → (slot : ℕ) → List Region → (host : ℕ → ℕ) → ℕ → ℕ

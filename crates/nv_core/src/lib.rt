@@ -18,6 +18,7 @@ mod lane_standing;
 mod lane_ending;
 mod layout;
 mod opening;
+mod posting;
 mod progress;
 mod reaping;
 mod seat;

@@ -163,14 +163,14 @@ module _ (geometry : Geometry) where
   -- ---- takes
 
   -- whose a command is
-  owned-by : (number : ℕ) (command : Command) → command.guest ≡ number → member_of number command Unjudged ≡ Some (record { queue = command.queue; entry = command.entry; progress = Unjudged })
+  pub owned-by : (number : ℕ) (command : Command) → command.guest ≡ number → member_of number command Unjudged ≡ Some (record { queue = command.queue; entry = command.entry; progress = Unjudged })
   owned-by number command same = ap (λ b. cond b (Some (record { queue = command.queue; entry = command.entry; progress = Unjudged })) None) (eq-eqb command.guest number same)
 
   others-command : (number : ℕ) (command : Command) → (command.guest ≡ number → ⊥) → member_of number command Unjudged ≡ None
   others-command number command apart = ap (λ b. cond b (Some (record { queue = command.queue; entry = command.entry; progress = Unjudged })) None) (ne_eqb command.guest number apart)
 
   -- the name of a tag that stands for that
-  commands-at : (w : World) (number lane tag : ℕ) (t : Tag) → tag < tag_count → tag_of w lane tag ≡ Some t
+  pub commands-at : (w : World) (number lane tag : ℕ) (t : Tag) → tag < tag_count → tag_of w lane tag ≡ Some t
       → commands w number (name_of lane tag) ≡ command_in (Some t) number
   unfolding commands
   commands-at w number lane tag t below there =
