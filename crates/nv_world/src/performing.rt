@@ -63,7 +63,7 @@ fn carry_out(
         Event::DevFail(lane, slot, status) => core.dev_fail(layout, *lane, *slot, *status),
         Event::Keep(block) => core.keep(layout, *block),
         Event::Reap(lane) => core.reap(layout, *lane),
-        Event::Post(_lane, _tag) => return Err(NoMemory),
+        Event::Post(lane, tag) => core.post(layout, *lane, *tag),
     };
     Ok((reply, None))
 }
