@@ -10,3 +10,7 @@ pub mod UnitEvents
 pub mod Every
 pub mod Cuts
 pub mod AlikeReplies
+pub mod ShownTags
+pub mod Behind
+pub mod AlikeWalks
+pub mod AlikeGuests

@@ -1,4 +1,5 @@
 //! What an event leaves to all but its owner, as functions that do nothing: each contract is a law.
+pub mod alike;
 pub mod cutting;
 pub mod leaving;
 pub mod reading;
