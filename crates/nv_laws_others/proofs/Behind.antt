@@ -99,7 +99,7 @@ module _ (geometry : Geometry) (number : ℕ) (guest : Guest) (w z : World) (ali
   memory-by v u kept addr None is same = refl
   memory-by v u kept addr (Some at) is same = kept at same
 
-  memory-behind : (v u : World) → ((addr : ℕ) → w.host addr ≡ z.host addr → v.host addr ≡ u.host addr) → (addr : ℕ)
+  pub memory-behind : (v u : World) → ((addr : ℕ) → w.host addr ≡ z.host addr → v.host addr ≡ u.host addr) → (addr : ℕ)
       → image (regions_of guest) v.host addr ≡ image (regions_of guest) u.host addr
   unfolding image
   memory-behind v u kept addr = memory-by v u kept addr (host_of (regions_of guest) addr) refl (alike.view.memory addr)

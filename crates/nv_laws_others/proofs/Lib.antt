@@ -14,3 +14,6 @@ pub mod ShownTags
 pub mod Behind
 pub mod AlikeWalks
 pub mod AlikeGuests
+pub mod AlikeLanes
+pub mod AlikeRings
+pub mod AlikePosts
