@@ -17,3 +17,5 @@ pub mod AlikeGuests
 pub mod AlikeLanes
 pub mod AlikeRings
 pub mod AlikePosts
+pub mod AlikeSubmits
+pub mod AlikeUnits

@@ -134,7 +134,7 @@ shown-range extent memory (r ∷ ranges) (suc n) at range found shown =
     rw here rest
 
 -- dropping a row's front leaves its end
-drop-row : (k from len : ℕ) → drop k (range_with_len from (k + len)) ≡ range_with_len (from + k) len
+pub drop-row : (k from len : ℕ) → drop k (range_with_len from (k + len)) ≡ range_with_len (from + k) len
 drop-row zero from len =
     let here : from + 0 ≡ from = omega arith in
     let none : 0 + len ≡ len = omega arith in
@@ -187,13 +187,13 @@ module _ (host_bytes lanes : ℕ) (geometry : Geometry) (laid : IsLaidOut host_b
   sound = end-sound (mapped (regions_of guest)) guest.limit (shape_of guest).blocks entry is.work is.verdict
 
   -- the unit is one of the command's
-  below : number < form_unit_count (form_of is.work.opcode) entry
+  pub below : number < form_unit_count (form_of is.work.opcode) entry
   below =
       among (λ k. k < form_unit_count (form_of is.work.opcode) entry) number h.left
       (subst (λ o. All (λ k. k < unit_count o entry) h.left) sound.opcode in_device.left) left
 
   -- its blocks begin where the guest's do on the disk
-  starts : has_blocks is.work.opcode ≡ true → in_namespace (slba_of entry) (count_of entry) (block_count guest.extent) ≡ true
+  pub starts : has_blocks is.work.opcode ≡ true → in_namespace (slba_of entry) (count_of entry) (block_count guest.extent) ≡ true
       → slba_of h.entry ≡ block_at guest.extent (slba_of entry)
   starts has within =
       let both = and-true (nat_le (count_of entry) (block_count guest.extent)) (nat_le (slba_of entry) (block_count guest.extent - count_of entry)) within in
