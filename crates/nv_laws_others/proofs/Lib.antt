@@ -19,3 +19,4 @@ pub mod AlikeRings
 pub mod AlikePosts
 pub mod AlikeSubmits
 pub mod AlikeUnits
+pub mod AlikeMoves
