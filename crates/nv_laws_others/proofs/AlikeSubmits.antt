@@ -53,7 +53,7 @@ length-eights (number ∷ numbers) =
     length-append (number_bytes 8 number) (flat_map (number_bytes 8) numbers) ∙ omega (arith, one, rest)
 
 -- a list has eight bytes an entry
-list-length : (list : ℕ) (addresses : List ℕ) → length (list_bytes (built list addresses)) ≡ 8 * (built list addresses).used
+pub list-length : (list : ℕ) (addresses : List ℕ) → length (list_bytes (built list addresses)) ≡ 8 * (built list addresses).used
 unfolding built
 list-length list addresses =
     let numbers = listed (entries_of addresses) in

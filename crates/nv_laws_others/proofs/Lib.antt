@@ -20,3 +20,4 @@ pub mod AlikePosts
 pub mod AlikeSubmits
 pub mod AlikeUnits
 pub mod AlikeMoves
+pub mod AlikeTakes
