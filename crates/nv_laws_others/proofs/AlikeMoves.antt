@@ -1,6 +1,6 @@
 -- Units of a guest's commands that move, in worlds that look alike to it: they look alike behind them. What a unit reads is the guest's memory or a source that is
 -- shown, or blocks of the guest's; a unit of a bounced Read is shown once it has moved.
-use Rattle.std.proofs.Common.{◌≡◌, ℕ, ◌+◌, ◌-◌, ◌*◌, ◌<◌, ◌≤◌, ◌⊎◌, inl, inr, Bool, true, false, cond, not, ◌&&◌, ◌==◌, nat_le, List, [], ◌∷◌, All, drop, length, map, set, slice_get, take, Option, Some, None, arith, refl, sym, ap, ◌∙◌, eq-eqb, leb-true, subst}
+use Rattle.std.proofs.Common.{◌≡◌, ℕ, ◌+◌, ◌-◌, ◌*◌, ◌<◌, ◌≤◌, ◌⊎◌, inl, inr, true, false, cond, ◌==◌, nat_le, [], ◌∷◌, All, drop, length, map, set, slice_get, take, Some, arith, refl, sym, ap, ◌∙◌, eq-eqb, leb-true, subst}
 use mathlib.Core.Path.{fun_ext}
 use Rattle.std.specs.List.{list_any, range_with_len}
 use Rattle.std.proofs.lemmas.List.{drop-map}
@@ -11,9 +11,9 @@ use Rattle.nv_entry.specs.Submission.{opcode_of, slba_of}
 use Rattle.nv_entry.specs.declared.opcode.IoOpcode.{IoOpcode}
 use Rattle.nv_entry.specs.declared.opcode.IoOpcode.TheVariants.{Flush, Write, Read, Compare, WriteZeroes, DatasetManagement}
 use Rattle.nv_mem.specs.GuestMap.{host_of, mapped}
-use Rattle.nv_mem.specs.Places.{At, Place, addresses, places_of, total_len}
-use Rattle.nv_model.specs.Carried.{block_work, units_moved}
-use Rattle.nv_model.specs.Judge.{Clear, Form, Keep, Manage, Transfer, Work, count_of, form_has_blocks, form_of, form_transfer_len, has_blocks, is_fua, is_read}
+use Rattle.nv_mem.specs.Places.{At, addresses, places_of, total_len}
+use Rattle.nv_model.specs.Carried.{units_moved}
+use Rattle.nv_model.specs.Judge.{Clear, Form, Keep, Manage, Transfer, count_of, form_has_blocks, form_of, has_blocks, is_read}
 use Rattle.nv_model.specs.Limits.{block, range_size}
 use Rattle.nv_model.specs.Memory.{byte_at_host, byte_at_place, bytes_from, gathered, image, scattered, stored}
 use Rattle.nv_model.specs.Private.{Moved, block_bytes, others}
@@ -23,12 +23,12 @@ use Rattle.nv_model.proofs.MemoryLemmas.{scattered-addresses}
 use Rattle.nv_model.proofs.Shown.{length-bytes_from}
 use Rattle.nv_ns.specs.BlockRange.{block_at, block_count}
 use Rattle.nv_world_model.specs.declared.event.Event.TheVariants as event
-use Rattle.nv_world_model.specs.Area.{addresses_of, bounce_page, list_page, tag_count}
+use Rattle.nv_world_model.specs.Area.{addresses_of, bounce_page, tag_count}
 use Rattle.nv_world_model.specs.Contained.{guest_of_one}
 use Rattle.nv_world_model.specs.Device.{DeviceLane, Held, device_unit, form_unit_count, moved_by, unit_gone, with_held}
 use Rattle.nv_world_model.specs.Geometry.{Geometry, Guest, regions_of, shape_of}
-use Rattle.nv_world_model.specs.LaneRuns.{form_places, unit_places}
-use Rattle.nv_world_model.specs.Plan.{Bounced, Direct, NoData, Plan}
+use Rattle.nv_world_model.specs.LaneRuns.{form_places}
+use Rattle.nv_world_model.specs.Plan.{Bounced, Plan}
 use Rattle.nv_world_model.specs.Seat.{held_by, held_in}
 use Rattle.nv_world_model.specs.Step.{device_move, device_moved, step}
 use Rattle.nv_world_model.specs.View.{IsAlike, is_tag_of, lane_numbers, moved_shown, own_held, ring_numbers, source_shown, units_shown}
@@ -238,7 +238,18 @@ module _ (host_bytes : ℕ) (geometry : Geometry) (w z : World) (laid : IsLaidOu
       let mine : is_tag_of number (Some was) ≡ true = eq-eqb command.guest number named in
       let flies_too : slice_get m.tags tag ≡ Some was = sym (ap (λ o. tag_in o tag) too) ∙ tag-too geometry w z number guest given alike lane tag was here mine in
       let x : IsInBoth w z lane tag was was = record {
-        l = l; m = m; d = d; e = e; lane_one = at; lane_two = too; device_one = there; device_two = again; tag_one = flies; tag_two = flies_too; lanes = numbers; rings = rings;
+        l = l;
+        m = m;
+        d = d;
+        e = e;
+        lane_one = at;
+        lane_two = too;
+        device_one = there;
+        device_two = again;
+        tag_one = flies;
+        tag_two = flies_too;
+        lanes = numbers;
+        rings = rings;
       } in
       let same_guest : holds.guest ≡ guest = some-same holds.guest guest (sym holds.is.given ∙ ap (slice_get geometry.guests) named ∙ given) in
       let whose : slice_get geometry.guests command.guest ≡ Some guest = ap (slice_get geometry.guests) named ∙ given in

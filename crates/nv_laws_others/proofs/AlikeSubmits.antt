@@ -1,6 +1,6 @@
 -- A guest's commands that are handed on, in worlds that look alike to it: they look alike behind it. What is shown of such a command is its entry, its list, and a
 -- source that is bounced, all of which are written by the event.
-use Rattle.std.proofs.Common.{◌≡◌, ℕ, ◌+◌, ◌-◌, ◌*◌, ◌<◌, ◌≤◌, Bool, true, false, cond, List, [], ◌∷◌, ◌++◌, flat_map, length, map, replicate, set, slice_get, take, Option, Some, None, arith, refl, sym, ap, ◌∙◌, eq-eqb, length-append, subst}
+use Rattle.std.proofs.Common.{◌≡◌, ℕ, ◌+◌, ◌-◌, ◌*◌, ◌<◌, ◌≤◌, true, false, cond, List, [], ◌∷◌, flat_map, length, replicate, set, slice_get, Some, arith, refl, sym, ap, ◌∙◌, eq-eqb, length-append, subst}
 use mathlib.Core.Path.{fun_ext}
 use Rattle.std.specs.List.{list_any}
 use Rattle.std.proofs.Math.Seq.{take-append_seam}
@@ -17,15 +17,15 @@ use Rattle.nv_model.proofs.AnyAnswers.{end-sound}
 use Rattle.nv_model.proofs.MemoryLemmas.{length-gathered}
 use Rattle.nv_prp.specs.Built.{built, entries_of, listed}
 use Rattle.nv_world_model.specs.declared.event.Event.TheVariants as event
-use Rattle.nv_world_model.specs.Area.{addresses_of, bounce_page, bounced_bytes, entry_of, form_bounced, list_bytes, list_page, prps_of, ring_size, source_bytes, submission_slot, tag_count, translated_range, written}
+use Rattle.nv_world_model.specs.Area.{addresses_of, bounce_page, bounced_bytes, entry_of, form_bounced, list_bytes, list_page, prps_of, ring_size, submission_slot, tag_count, translated_range, written}
 use Rattle.nv_world_model.specs.Contained.{guest_of_one, tag_stands}
 use Rattle.nv_world_model.specs.Device.{DeviceLane, rung}
 use Rattle.nv_world_model.specs.Geometry.{Geometry, Guest, regions_of, shape_of}
 use Rattle.nv_world_model.specs.Plan.{Answer, Bounced, Direct, NoData, Plan, plan_over}
-use Rattle.nv_world_model.specs.Seat.{Owner, held_by, held_in, owner_of}
-use Rattle.nv_world_model.specs.Step.{After, carry_out, for_device, for_owner, for_taken, step, submit_by, submitted}
-use Rattle.nv_world_model.specs.View.{IsAlike, is_tag_of, lane_numbers, own_held, ring_numbers, source_shown}
-use Rattle.nv_world_model.specs.World.{Command, Flying, Lane, Queued, Tag, Taken, World, tag_changed, tag_in, tag_of}
+use Rattle.nv_world_model.specs.Seat.{Owner, held_in, owner_of}
+use Rattle.nv_world_model.specs.Step.{carry_out, for_device, for_owner, for_taken, step, submit_by, submitted}
+use Rattle.nv_world_model.specs.View.{IsAlike, is_tag_of, own_held, ring_numbers, source_shown}
+use Rattle.nv_world_model.specs.World.{Command, Flying, Queued, Taken, World, tag_changed, tag_in, tag_of}
 use Rattle.nv_laws_sound.specs.Consistent.{IsConsistent, IsPlanned, waits_for_device}
 use Rattle.nv_laws_sound.specs.LaidOut.{IsLaidOut}
 use Rattle.nv_laws_sound.proofs.Lists.{count-fewer, slice_get-below}
@@ -178,8 +178,18 @@ module _ (host_bytes : ℕ) (geometry : Geometry) (w z : World) (laid : IsLaidOu
       let l = a.l in
       let m = lane-too geometry w z number guest given alike lane l a.at_lane in
       let x : IsInBoth w z lane tag t t = record {
-        l = l; m = m.0; d = d; e = e; lane_one = a.at_lane; lane_two = m.1; device_one = there; device_two = again; tag_one = a.at_tag;
-        tag_two = sym (ap (λ o. tag_in o tag) m.1) ∙ tag-too geometry w z number guest given alike lane tag t here mine; lanes = m.2; rings = rings;
+        l = l;
+        m = m.0;
+        d = d;
+        e = e;
+        lane_one = a.at_lane;
+        lane_two = m.1;
+        device_one = there;
+        device_two = again;
+        tag_one = a.at_tag;
+        tag_two = sym (ap (λ o. tag_in o tag) m.1) ∙ tag-too geometry w z number guest given alike lane tag t here mine;
+        lanes = m.2;
+        rings = rings;
       } in
       let before = fine.lanes lane l d a.at_lane there in
       let tags = before.positions.tags in

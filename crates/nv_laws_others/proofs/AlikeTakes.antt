@@ -1,10 +1,10 @@
 -- A guest's entries that the device takes, in worlds that look alike to it: they look alike behind it. The device reads the entry and its list, which are shown.
-use Rattle.std.proofs.Common.{◌≡◌, ℕ, zero, suc, ◌+◌, ◌*◌, ◌<◌, ◌≤◌, ◌⊎◌, inl, inr, Bool, true, false, cond, not, ◌||◌, ◌==◌, List, [], ◌∷◌, filter, length, map, set, slice_get, Option, Some, None, arith, refl, sym, ap, ◌∙◌, eq-eqb, subst}
+use Rattle.std.proofs.Common.{◌≡◌, ℕ, zero, suc, ◌+◌, ◌*◌, ◌<◌, ◌≤◌, inl, inr, true, false, cond, not, ◌||◌, ◌==◌, List, ◌∷◌, filter, length, map, set, slice_get, Option, Some, arith, refl, sym, ap, ◌∙◌, eq-eqb, subst}
 use Rattle.std.specs.List.{list_any, range_with_len}
 use Rattle.std.proofs.lemmas.Bool.{cases_eq, eqb-false}
 use Rattle.nv_entry.specs.Submission.{cid_of}
 use Rattle.nv_mem.specs.GuestMap.{mapped}
-use Rattle.nv_model.specs.Judge.{Clear, Form, Keep, Manage, Transfer, count_of, form_is_read, form_of, form_transfer_len, is_read}
+use Rattle.nv_model.specs.Judge.{Clear, Form, Keep, Manage, Transfer, form_is_read, form_of, form_transfer_len, is_read}
 use Rattle.nv_model.specs.Limits.{block}
 use Rattle.nv_model.specs.Memory.{bytes_from}
 use Rattle.nv_model.specs.Queue.{is_empty, next_slot, sqe_size}
@@ -14,7 +14,7 @@ use Rattle.nv_world_model.specs.Area.{addresses_of, bounce_page, entry_of, list_
 use Rattle.nv_world_model.specs.Contained.{front_guest, guest_of_one, is_queued_at, tag_stands}
 use Rattle.nv_world_model.specs.Device.{DeviceLane, Held, entry_taken, form_unit_count, front_entry, held_of}
 use Rattle.nv_world_model.specs.Geometry.{Geometry, Guest, regions_of, shape_of}
-use Rattle.nv_world_model.specs.Plan.{Bounced, Direct, NoData, Plan}
+use Rattle.nv_world_model.specs.Plan.{Plan}
 use Rattle.nv_world_model.specs.Seat.{held_by, held_in}
 use Rattle.nv_world_model.specs.Step.{device_take, device_took, stands, step}
 use Rattle.nv_world_model.specs.View.{IsAlike, guest_of_tag, is_tag_of, lane_numbers, moved_shown, own_held, ring_numbers, units_shown}
@@ -138,7 +138,18 @@ module _ (host_bytes : ℕ) (geometry : Geometry) (w z : World) (laid : IsLaidOu
       let mine : is_tag_of number (Some was) ≡ true = eq-eqb command.guest number named in
       let flies_too : slice_get m.tags tag ≡ Some was = sym (ap (λ o. tag_in o tag) too) ∙ tag-too geometry w z number guest given alike lane tag was here mine in
       let x : IsInBoth w z lane tag was was = record {
-        l = l; m = m; d = d; e = e; lane_one = at; lane_two = too; device_one = there; device_two = again; tag_one = flies; tag_two = flies_too; lanes = numbers; rings = rings;
+        l = l;
+        m = m;
+        d = d;
+        e = e;
+        lane_one = at;
+        lane_two = too;
+        device_one = there;
+        device_two = again;
+        tag_one = flies;
+        tag_two = flies_too;
+        lanes = numbers;
+        rings = rings;
       } in
       let same_guest : a.guest ≡ guest = some-same a.guest guest (sym a.is.given ∙ ap (slice_get geometry.guests) named ∙ given) in
       let whose : slice_get geometry.guests command.guest ≡ Some guest = ap (slice_get geometry.guests) named ∙ given in

@@ -1,5 +1,5 @@
 -- A unit of a command does the same to the blocks of a guest in two worlds that have those alike, where the bytes that it reads are the same.
-use Rattle.std.proofs.Common.{◌≡◌, ℕ, zero, suc, ◌+◌, ◌*◌, ◌<◌, ◌≤◌, ◌⊎◌, inl, inr, Bool, true, false, cond, not, ◌&&◌, ◌||◌, ◌==◌, nat_lt, List, [], ◌∷◌, ◌++◌, All, drop, filter, length, map, replicate, take, Option, Some, None, arith, refl, sym, ap, ◌∙◌, eqb-true, subst}
+use Rattle.std.proofs.Common.{◌≡◌, ℕ, zero, suc, ◌+◌, ◌*◌, ◌<◌, ◌≤◌, ◌⊎◌, inl, inr, Bool, true, false, cond, not, ◌&&◌, ◌||◌, ◌==◌, nat_lt, List, [], ◌∷◌, All, drop, filter, map, replicate, take, Some, arith, refl, sym, ap, ◌∙◌, eqb-true, subst}
 use Rattle.std.specs.List.{list_any, range_with_len}
 use Rattle.std.proofs.lemmas.Bool.{cases_eq, ne_eqb}
 use Rattle.std.proofs.lemmas.List.Elements.{All-drop, All-head, All-tail, All-take}
@@ -8,8 +8,8 @@ use Rattle.nv_entry.specs.Submission.{slba_of}
 use Rattle.nv_entry.specs.declared.opcode.IoOpcode.{IoOpcode}
 use Rattle.nv_entry.specs.declared.opcode.IoOpcode.TheVariants.{Flush, Write, Read, Compare, WriteZeroes, DatasetManagement}
 use Rattle.nv_mem.specs.Places.{Place, places_of}
-use Rattle.nv_model.specs.Carried.{block_work, cleared, cleared_one, moved_on, units_moved}
-use Rattle.nv_model.specs.Judge.{MoveBlock, Work, deallocates, form_has_blocks, form_of, has_blocks, is_fua, is_read, one_range_units}
+use Rattle.nv_model.specs.Carried.{block_work, cleared, cleared_one, units_moved}
+use Rattle.nv_model.specs.Judge.{Work, deallocates, has_blocks, is_fua, is_read, one_range_units}
 use Rattle.nv_model.specs.Limits.{block}
 use Rattle.nv_model.specs.Memory.{byte_at_place, gathered, scattered, stored}
 use Rattle.nv_model.specs.Private.{Moved, block_bytes, block_moved, differs, places_of_block, others}

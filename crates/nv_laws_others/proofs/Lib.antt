@@ -21,3 +21,4 @@ pub mod AlikeSubmits
 pub mod AlikeUnits
 pub mod AlikeMoves
 pub mod AlikeTakes
+pub mod Containing
