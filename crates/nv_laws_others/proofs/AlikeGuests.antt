@@ -182,8 +182,10 @@ module _ (host_bytes : ℕ) (geometry : Geometry) (w z : World) (laid : IsLaidOu
       → Behind v u
   retag-alike lane tag t s new x v u lanes lanes_too device device_too bytes left disk disk_too kept kept_too controller many many_too written held =
       alike-retagged geometry number guest w z alike lane tag new v u
-      (retagged-by w v lane tag x.l (tag_changed tag new x.l) x.d x.d t new x.lane_one x.device_one x.tag_one refl lanes (device ∙ sym (set-same w.device lane x.d x.device_one)) (λ b apart. refl))
-      (retagged-by z u lane tag x.m (tag_changed tag new x.m) x.e x.e s new x.lane_two x.device_two x.tag_two refl lanes_too (device_too ∙ sym (set-same z.device lane x.e x.device_two)) (λ b apart. refl))
+      (retagged-by w v lane tag x.l (tag_changed tag new x.l) x.d x.d t new x.lane_one x.device_one x.tag_one refl lanes
+      (device ∙ sym (set-same w.device lane x.d x.device_one)) (λ b apart. refl))
+      (retagged-by z u lane tag x.m (tag_changed tag new x.m) x.e x.e s new x.lane_two x.device_two x.tag_two refl lanes_too
+      (device_too ∙ sym (set-same z.device lane x.e x.device_two)) (λ b apart. refl))
       (record {
         bytes = bytes;
         blocks = (λ lba offset below. ap (λ f. f (block_at guest.extent lba) offset) disk ∙ alike.view.blocks lba offset below ∙ sym (ap (λ f. f (block_at guest.extent lba) offset) disk_too));

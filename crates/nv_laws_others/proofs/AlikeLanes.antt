@@ -121,7 +121,8 @@ module _ (geometry : Geometry) (number : ℕ) (guest : Guest) (w z : World) (ali
       → ((addr : ℕ) → is_tag_of number (Some new) ≡ true → list_any (in_span addr) (tag_spans guest geometry v lane tag new) ≡ true → v.host addr ≡ u.host addr)
       → own_held number (Some new) (held_by (slice_get behind.held tag)) ≡ own_held number (Some new) (held_by (slice_get after.held tag))
       → IsAlike number guest geometry v u
-  lane-alike lane tag t s new x now again behind after v u tags tags_too numbers lanes lanes_too device device_too rings held held_too bytes left blocks marks controllers controllers_too written here =
+  lane-alike lane tag t s new x now again behind after v u tags tags_too numbers lanes lanes_too device device_too rings held held_too bytes left blocks marks
+      controllers controllers_too written here =
       alike-retagged geometry number guest w z alike lane tag new v u
       (retagged-by w v lane tag x.l now x.d behind t new x.lane_one x.device_one x.tag_one tags lanes device held)
       (retagged-by z u lane tag x.m again x.e after s new x.lane_two x.device_two x.tag_two tags_too lanes_too device_too held_too)

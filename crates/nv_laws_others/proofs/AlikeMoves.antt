@@ -137,7 +137,8 @@ module _ (host_bytes : ℕ) (geometry : Geometry) (w z : World) (laid : IsLaidOu
     -- the bytes of its places, where it is no Read
     source-same : is_read is.work.opcode ≡ false → All (λ a. w.host a ≡ z.host a) (addresses_of plan guest bounce)
     source-same other =
-        planned-kinds (λ p. ((addr : ℕ) → list_any (in_span addr) (source_shown p bounce) ≡ true → w.host addr ≡ z.host addr) → All (λ a. w.host a ≡ z.host a) (addresses_of p guest bounce)) guest command.entry plan is
+        planned-kinds (λ p. ((addr : ℕ) → list_any (in_span addr) (source_shown p bounce) ≡ true → w.host addr ≡ z.host addr)
+        → All (λ a. w.host a ≡ z.host a) (addresses_of p guest bounce)) guest command.entry plan is
         (λ shown. All-nil (λ a. w.host a ≡ z.host a))
         (λ fits shown. hosts-all (λ a. w.host a ≡ z.host a) (regions_of guest) (places_of is.work.pieces) (λ addr host found. host-same addr host found))
         (λ shown. row-all (λ a. w.host a ≡ z.host a) bounce (total_len is.work.pieces) (λ at low high.
@@ -278,7 +279,9 @@ module _ (host_bytes : ℕ) (geometry : Geometry) (w z : World) (laid : IsLaidOu
       kept
       (bytes-elsewhere geometry w r.memory lane tag l.head l d (record d { held = set d.held tag (Some (unit_gone k r.differed h)) }) fine at there
       (moved-elsewhere host_bytes geometry (length w.lanes) lane tag laid lane_below tag_below guest command.guest whose command.entry plan planned h w.host in_device k w.disk w.kept)
-      (λ b y apart b_below is. moved-undisturbed host_bytes geometry (length w.lanes) lane tag laid lane_below tag_below guest command.guest whose command.entry plan planned h w.host in_device k w.disk w.kept b l.head d (set d.held tag (Some (unit_gone k r.differed h))) y apart b_below))
+      (λ b y apart b_below is.
+      moved-undisturbed host_bytes geometry (length w.lanes) lane tag laid lane_below tag_below guest command.guest whose command.entry plan planned h w.host in_device k
+      w.disk w.kept b l.head d (set d.held tag (Some (unit_gone k r.differed h))) y apart b_below))
       effect.disk effect.kept refl refl
       (λ addr is lies.
       flying-shows guest geometry v lane tag command plan InDevice addr (v.host addr ≡ u.host addr) lies (λ by_slot. cc)

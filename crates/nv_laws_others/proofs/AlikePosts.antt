@@ -81,7 +81,8 @@ module _ (host_bytes : ℕ) (geometry : Geometry) (w z : World) (laid : IsLaidOu
       let same : planned.work ≡ work = bounced-work g command.entry work planned in
       let sound = end-sound (mapped (regions_of g)) g.limit (shape_of g).blocks command.entry planned.work planned.verdict in
       let few : block * length planned.work.units ≡ total_len planned.work.pieces =
-      units-few geometry.mediator lane tag laid.pages 0 (form_of planned.work.opcode) command.entry (shape_of g).blocks planned.work.ranges planned.work.units (ap (λ x. is_read x.opcode) same ∙ reads) sound.units ∙ sym sound.total in
+      units-few geometry.mediator lane tag laid.pages 0 (form_of planned.work.opcode) command.entry (shape_of g).blocks planned.work.ranges planned.work.units
+      (ap (λ x. is_read x.opcode) same ∙ reads) sound.units ∙ sym sound.total in
       let many : block * length work.units ≡ total_len work.pieces = subst (λ (x : Work). block * length x.units ≡ total_len x.pieces) same few in
       let bounce = bounce_page geometry.mediator lane tag in
       bytes_from-between w.host z.host bounce (bounce + total_len work.pieces) bounce (total_len work.pieces)
@@ -126,7 +127,8 @@ module _ (host_bytes : ℕ) (geometry : Geometry) (w z : World) (laid : IsLaidOu
         one = refl;
         two = refl;
         bytes = (λ addr is_same.
-            put_image-both (regions_of guest) (scattered (image (regions_of guest) w.host) (places_of work.pieces) bytes) (scattered (image (regions_of guest) z.host) (places_of work.pieces) again) w.host z.host addr
+            put_image-both (regions_of guest) (scattered (image (regions_of guest) w.host) (places_of work.pieces) bytes)
+            (scattered (image (regions_of guest) z.host) (places_of work.pieces) again) w.host z.host addr
             (ap (λ m. scattered m (places_of work.pieces) bytes) images-same ∙ ap (scattered (image (regions_of guest) z.host) (places_of work.pieces)) same) is_same);
         left = (λ a b t addr is_there lies. area-left (scattered (image (regions_of guest) w.host) (places_of work.pieces) bytes) w.host a b t addr is_there lies);
       }

@@ -242,7 +242,9 @@ module _ (host_bytes : ℕ) (geometry : Geometry) (w z : World) (laid : IsLaidOu
       kept
       (bytes-elsewhere geometry w v.host lane tag l.head l d (completion_posted tag d) fine at there
       (written-elsewhere geometry (length w.lanes) lane w.host d bytes sized lane_below before.positions.posted)
-      (λ b y apart b_below is. answer-undisturbed geometry (length w.lanes) lane w.host d bytes sized lane_below before.positions.posted b l.head (set d.held tag None) (next_phase d.posted d.phase) y b_below before.positions.read before.positions.head before.positions.tail room))
+      (λ b y apart b_below is.
+      answer-undisturbed geometry (length w.lanes) lane w.host d bytes sized lane_below before.positions.posted b l.head (set d.held tag None)
+      (next_phase d.posted d.phase) y b_below before.positions.read before.positions.head before.positions.tail room))
       alike.view.blocks alike.marks refl refl
       (λ addr is lies.
       flying-shows guest geometry v lane tag command plan (Answered d.posted) addr (v.host addr ≡ u.host addr) lies

@@ -224,7 +224,8 @@ module _ (host_bytes : ℕ) (geometry : Geometry) (w z : World) (laid : IsLaidOu
       (λ b apart. refl) (λ b apart. refl) kept
       (bytes-elsewhere geometry w host lane tag l.head l d (rung d) fine a.at_lane there
       (λ at apart below. entered-elsewhere host_bytes (length w.lanes) geometry laid guest command.entry plan planned lane tag d.tail tag_below before.positions.tail w.host at apart)
-      (λ b y apart b_below is. entered-undisturbed host_bytes (length w.lanes) geometry laid guest command.entry plan planned lane tag d.tail tag_below before.positions.tail w.host b l.head d y apart b_below refl before.positions.head before.positions.tail room))
+      (λ b y apart b_below is.
+      entered-undisturbed host_bytes (length w.lanes) geometry laid guest command.entry plan planned lane tag d.tail tag_below before.positions.tail w.host b l.head d y apart b_below refl before.positions.head before.positions.tail room))
       alike.view.blocks alike.marks refl refl
       (λ addr is lies.
       flying-shows guest geometry v lane tag command plan (Queued d.tail) addr (host addr ≡ other addr) lies

@@ -1,5 +1,5 @@
 -- A guest's entries that the device takes, in worlds that look alike to it: they look alike behind it. The device reads the entry and its list, which are shown.
-use Rattle.std.proofs.Common.{◌≡◌, ℕ, zero, suc, ◌+◌, ◌*◌, ◌<◌, ◌≤◌, inl, inr, true, false, cond, not, ◌||◌, ◌==◌, List, ◌∷◌, filter, length, map, set, slice_get, Option, Some, arith, refl, sym, ap, ◌∙◌, eq-eqb, subst}
+use Rattle.std.proofs.Common.{◌≡◌, ℕ, zero, suc, ◌+◌, ◌*◌, ◌<◌, ◌≤◌, inl, inr, true, false, not, ◌||◌, ◌==◌, List, length, set, slice_get, Option, Some, arith, refl, sym, ap, ◌∙◌, eq-eqb, subst}
 use Rattle.std.specs.List.{list_any, range_with_len}
 use Rattle.std.proofs.lemmas.Bool.{cases_eq, eqb-false}
 use Rattle.nv_entry.specs.Submission.{cid_of}
@@ -34,7 +34,7 @@ use Rattle.nv_laws_sound.proofs.TakenEvents.{queued-at}
 use Rattle.nv_laws_others.proofs.AlikeLanes.{entry-same, flying-shows, lane-alike, list-is, one-in, own-same, source-is}
 use Rattle.nv_laws_others.proofs.AlikeReplies.{rings-same, slot-here}
 use Rattle.nv_laws_others.proofs.AlikeSubmits.{list-length}
-use Rattle.nv_laws_others.proofs.AlikeUnits.{unit_spans}
+use Rattle.nv_laws_others.proofs.AlikeUnits.{spans_with, unit_spans}
 use Rattle.nv_laws_others.proofs.AlikeWalks.{IsInBoth, device-both, either-both, lane-too, tag-too}
 use Rattle.nv_laws_others.proofs.Behind.{numbers-retagged}
 use Rattle.nv_laws_others.proofs.Parts.{held-put}
@@ -82,7 +82,7 @@ units-none : (addr bounce : ℕ) (left : List ℕ) (n from : ℕ) → ((k : ℕ)
 units-none addr bounce left zero from each = refl
 units-none addr bounce left (suc n) from each =
     ap (λ b.
-    list_any (in_span addr) (map (λ k. (bounce + block * k, block)) (cond (not b) (from ∷ filter (λ k. not (list_any (λ other. other == k) left)) (range_with_len (from + 1) n)) (filter (λ k. not (list_any (λ other. other == k) left)) (range_with_len (from + 1) n)))))
+    list_any (in_span addr) (spans_with bounce left from n (not b)))
     (each from (omega arith) (omega arith))
     ∙ units-none addr bounce left n (from + 1) (λ k low high. each k (omega (arith, low)) (omega (arith, high)))
 
@@ -162,7 +162,8 @@ module _ (host_bytes : ℕ) (geometry : Geometry) (w z : World) (laid : IsLaidOu
       shows-between w.host z.host list (list + length (list_bytes (prps_of plan guest list bounce))) list (list_bytes (prps_of plan guest list bounce))
       (λ addr low high.
       own-same geometry number guest w z alike lane tag was addr here mine
-      (list-is guest geometry w lane tag command plan (Queued d.head) addr (one-in addr list (8 * (prps_of plan guest list bounce).used) low (omega (arith, high, long))))) (omega arith) (omega arith) shown in
+      (list-is guest geometry w lane tag command plan (Queued d.head) addr
+      (one-in addr list (8 * (prps_of plan guest list bounce).used) low (omega (arith, high, long))))) (omega arith) (omega arith) shown in
       let entry = entry_of plan guest command.entry geometry.mediator lane tag in
       let front : front_entry geometry.mediator lane d w.host ≡ entry = a.entry_is ∙ ap (λ g. entry_of plan g command.entry geometry.mediator lane tag) same_guest in
       let front_too : front_entry geometry.mediator lane e z.host ≡ entry =

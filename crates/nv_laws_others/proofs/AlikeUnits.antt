@@ -143,7 +143,8 @@ module _ (extent : Extent) where
       record { disk = one.disk; kept = one.kept; differed = ap (λ b. b || false) alike.differed }
   unit-alike DatasetManagement number disk_blocks h m n alike gather bytes =
       let work = block_work DatasetManagement h.pieces (has_blocks DatasetManagement && is_fua h.entry) in
-      subst (λ range. AreAlike extent (units_moved (one_range_units (deallocates h.entry) (range_at number h.pieces m.memory)) work m) (units_moved (one_range_units (deallocates h.entry) range) work n))
+      let moved = λ (range : List ℕ) (x : Moved). units_moved (one_range_units (deallocates h.entry) range) work x in
+      subst (λ range. AreAlike extent (moved (range_at number h.pieces m.memory) m) (moved range n))
       (gather refl) (range-alike (deallocates h.entry) (range_at number h.pieces m.memory) work m n alike)
   unit-alike Flush number disk_blocks h m n alike gather bytes =
       record {
@@ -203,6 +204,12 @@ others-same k number (x ∷ left) apart =
 abbrev pub unit_spans : (bounce : ℕ) → (left : List ℕ) → (from n : ℕ) → List Span
 unit_spans bounce left from n = map (λ k. (bounce + block * k, block)) (filter (λ k. not (list_any (λ other. other == k) left)) (range_with_len from n))
 
+-- the same where a first number is taken, or isn't
+abbrev pub spans_with : (bounce : ℕ) → (left : List ℕ) → (from n : ℕ) → Bool → List Span
+spans_with bounce left from n b =
+    (let behind = filter (λ k. not (list_any (λ other. other == k) left)) (range_with_len (from + 1) n) in
+    map (λ k. (bounce + block * k, block)) (cond b (from ∷ behind) behind))
+
 -- with one unit gone it is one of that unit, or was one before
 pub record IsOfUnit (addr bounce number from n : ℕ) : Type 0 where
   pub low : bounce + block * number ≤ addr
@@ -212,7 +219,7 @@ pub record IsOfUnit (addr bounce number from n : ℕ) : Type 0 where
 
 module _ (addr bounce number : ℕ) (left : List ℕ) where
   taken-more : (b : Bool) (from : ℕ) (n : ℕ) → list_any (in_span addr) (unit_spans bounce left (from + 1) n) ≡ true
-      → list_any (in_span addr) (map (λ k. (bounce + block * k, block)) (cond b (from ∷ filter (λ k. not (list_any (λ other. other == k) left)) (range_with_len (from + 1) n)) (filter (λ k. not (list_any (λ other. other == k) left)) (range_with_len (from + 1) n)))) ≡ true
+      → list_any (in_span addr) (spans_with bounce left from n b) ≡ true
   taken-more true from n e = any-behind (in_span addr) ((bounce + block * from, block) ∷ []) (unit_spans bounce left (from + 1) n) e
   taken-more false from n e = e
 
@@ -232,7 +239,7 @@ module _ (addr bounce number : ℕ) (left : List ℕ) where
       inr (record { low = omega (arith, low, same); high = omega (arith, high, same); at_least = omega (arith, same); below = omega (arith, same) })
   here-first from n (inr apart) gone here =
       let was : not (list_any (λ other. other == from) left) ≡ true = sym (ap not (others-same from number left apart)) ∙ gone in
-      inl (ap (λ b. list_any (in_span addr) (map (λ k. (bounce + block * k, block)) (cond b (from ∷ filter (λ k. not (list_any (λ other. other == k) left)) (range_with_len (from + 1) n)) (filter (λ k. not (list_any (λ other. other == k) left)) (range_with_len (from + 1) n))))) was
+      inl (ap (λ b. list_any (in_span addr) (spans_with bounce left from n b)) was
       ∙ any-front (in_span addr) ((bounce + block * from, block) ∷ []) (unit_spans bounce left (from + 1) n) here)
 
   pub units-split : (n from : ℕ) → list_any (in_span addr) (unit_spans bounce (others number left) from n) ≡ true
@@ -240,7 +247,7 @@ module _ (addr bounce number : ℕ) (left : List ℕ) where
   units-split zero from e = cc
   units-split (suc n) from e =
       (elim (not (list_any (λ other. other == from) (others number left))) as (λ b. not (list_any (λ other. other == from) (others number left)) ≡ b →
-      list_any (in_span addr) (map (λ k. (bounce + block * k, block)) (cond b (from ∷ filter (λ k. not (list_any (λ other. other == k) (others number left))) (range_with_len (from + 1) n)) (filter (λ k. not (list_any (λ other. other == k) (others number left))) (range_with_len (from + 1) n)))) ≡ true
+      list_any (in_span addr) (spans_with bounce (others number left) from n b) ≡ true
       → (list_any (in_span addr) (unit_spans bounce left from (suc n)) ≡ true) ⊎ IsOfUnit addr bounce number from (suc n)) [
         | true ↦ λ gone any.
             elim (any-append (in_span addr) ((bounce + block * from, block) ∷ []) (unit_spans bounce (others number left) (from + 1) n) any) [

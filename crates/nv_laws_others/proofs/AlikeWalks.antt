@@ -148,7 +148,8 @@ module _ (geometry : Geometry) (w z : World) (number : ℕ) (guest : Guest) (giv
         → P (for_guest (owner_of geometry w n) w more).world (for_guest (owner_of geometry z n) z again).world
     guest-both n same more again each =
         subst (λ o. P (for_guest o w more).world (for_guest (owner_of geometry z n) z again).world) (sym (by-controller geometry w z number guest given alike n same))
-        (subst (λ o. P (for_guest (owner_by number (Some guest) (slice_get z.controllers number)) w more).world (for_guest o z again).world) (sym (by-guest geometry w z number guest given alike n same z))
+        (subst (λ o. P (for_guest (owner_by number (Some guest) (slice_get z.controllers number)) w more).world (for_guest o z again).world)
+        (sym (by-guest geometry w z number guest given alike n same z))
         (owner-there (slice_get z.controllers number) alike.view.controller refl (λ o. P (for_guest o w more).world (for_guest o z again).world) holds each))
 
     pub owner-both : (n : ℕ) → n ≡ number → (more again : Owner → After)
@@ -157,5 +158,6 @@ module _ (geometry : Geometry) (w z : World) (number : ℕ) (guest : Guest) (giv
         → P (for_owner (owner_of geometry w n) w more).world (for_owner (owner_of geometry z n) z again).world
     owner-both n same more again each =
         subst (λ o. P (for_owner o w more).world (for_owner (owner_of geometry z n) z again).world) (sym (by-controller geometry w z number guest given alike n same))
-        (subst (λ o. P (for_owner (owner_by number (Some guest) (slice_get z.controllers number)) w more).world (for_owner o z again).world) (sym (by-guest geometry w z number guest given alike n same z))
+        (subst (λ o. P (for_owner (owner_by number (Some guest) (slice_get z.controllers number)) w more).world (for_owner o z again).world)
+        (sym (by-guest geometry w z number guest given alike n same z))
         (owner-there (slice_get z.controllers number) alike.view.controller refl (λ o. P (for_owner o w more).world (for_owner o z again).world) holds each))
