@@ -106,18 +106,18 @@ module _ (host_bytes : ℕ) (geometry : Geometry) (w z : World) (laid : IsLaidOu
   Behind v u = IsAlike number guest geometry v u
 
   -- what is put back to its memory leaves all bytes of tags
-  pub image-left : (memory : ℕ → ℕ) (a b : ℕ) (t : Tag) (addr : ℕ) → tag_of w a b ≡ Some t → IsBytes geometry.mediator a b t addr
-      → w.host addr ≡ put_image (regions_of guest) memory w.host addr
-  image-left memory a b t addr there bytes =
+  pub image-left : (memory host : ℕ → ℕ) (a b : ℕ) (t : Tag) (addr : ℕ) → tag_of w a b ≡ Some t → IsBytes geometry.mediator a b t addr
+      → host addr ≡ put_image (regions_of guest) memory host addr
+  image-left memory host a b t addr there bytes =
       let lies = bytes-in-lane geometry w a b addr t fine there bytes in
-      put_image-area host_bytes (length w.lanes) geometry number guest memory w.host a laid given lies.below addr lies.low lies.high
+      put_image-area host_bytes (length w.lanes) geometry number guest memory host a laid given lies.below addr lies.low lies.high
 
   put_back-alike : (c now then_too : Controller) (memory again : ℕ → ℕ) → slice_get w.controllers number ≡ Some c → slice_get z.controllers number ≡ Some c
       → memory ≡ again → now ≡ then_too → Behind (put_back (me c) memory now w) (put_back (me c) again then_too z)
   unfolding put_back
   put_back-alike c now then_too memory again one two same also =
       alike-lanes geometry number guest w z alike (put_back (me c) memory now w) (put_back (me c) again then_too z) refl refl refl refl
-      (λ a b t addr there bytes. image-left memory a b t addr there bytes)
+      (image-left memory w.host)
       (record {
         bytes = (λ addr bytes. put_image-both (regions_of guest) memory again w.host z.host addr same bytes);
         blocks = alike.view.blocks;

@@ -25,18 +25,16 @@ use Rattle.nv_world_model.specs.World.{Command, Ended, Free, Tag, World, changed
 use Rattle.nv_world_model.proofs.Seats.{slice_get-set}
 use Rattle.nv_laws_sound.specs.Consistent.{IsConsistent, IsPlanned}
 use Rattle.nv_laws_sound.specs.LaidOut.{IsLaidOut}
-use Rattle.nv_laws_sound.proofs.Changes.{put_image-area}
 use Rattle.nv_laws_sound.proofs.Lists.{length-set}
 use Rattle.nv_laws_sound.proofs.PlanSizes.{planned-kinds}
 use Rattle.nv_laws_sound.proofs.Retags.{is-at, tag-is}
 use Rattle.nv_laws_sound.proofs.Shows.{bytes_from-between}
 use Rattle.nv_laws_others.specs.Leaving.{IsBytes}
-use Rattle.nv_laws_others.proofs.AlikeGuests.{put_image-both, retag-alike}
+use Rattle.nv_laws_others.proofs.AlikeGuests.{image-left, put_image-both, retag-alike}
 use Rattle.nv_laws_others.proofs.AlikeLanes.{one-in, own-same}
-use Rattle.nv_laws_others.proofs.AlikeReplies.{own, tag-here}
+use Rattle.nv_laws_others.proofs.AlikeReplies.{memory, own, tag-here}
 use Rattle.nv_laws_others.proofs.AlikeWalks.{either-both, ended-both, in-both, owner-both}
 use Rattle.nv_laws_others.proofs.Behind.{memory-behind}
-use Rattle.nv_laws_others.proofs.Leaving.{bytes-in-lane}
 use Rattle.nv_laws_others.proofs.Shown.{in_span, units-few}
 use Rattle.nv_laws_others.proofs.ShownTags.{any-behind, any-front}
 
@@ -102,15 +100,12 @@ module _ (host_bytes : ℕ) (geometry : Geometry) (w z : World) (laid : IsLaidOu
   delivered-nothing : AreDelivered w z
   delivered-nothing = record { one = refl; two = refl; bytes = (λ addr same. same); left = (λ a b t addr there bytes. refl) }
 
-  -- what is put back to its memory leaves all bytes of tags
-  area-left : (memory host : ℕ → ℕ) (a b : ℕ) (t : Tag) (addr : ℕ) → tag_of w a b ≡ Some t → IsBytes geometry.mediator a b t addr
-      → host addr ≡ put_image (regions_of guest) memory host addr
-  area-left memory host a b t addr there bytes =
-      let lies = bytes-in-lane geometry w a b addr t fine there bytes in
-      put_image-area host_bytes (length w.lanes) geometry number guest memory host a laid given lies.below addr lies.low lies.high
-
   images-same : image (regions_of guest) w.host ≡ image (regions_of guest) z.host
-  images-same = fun_ext (λ addr. alike.view.memory addr)
+  images-same = memory geometry w z number guest given alike
+
+  abbrev left-by : (memory host : ℕ → ℕ) (a b : ℕ) (t : Tag) (addr : ℕ) → tag_of w a b ≡ Some t → IsBytes geometry.mediator a b t addr
+      → host addr ≡ put_image (regions_of guest) memory host addr
+  left-by = image-left host_bytes geometry w z laid fine number guest given alike
 
   delivered-read : (b : Bool) (lane tag : ℕ) (command : Command) (st : StatusField) (work : Work) (c : Controller) → (is_read work.opcode && is_success st) ≡ b
       → tag_of w lane tag ≡ Some (Ended command st (Some (Bounced work))) → command.guest ≡ number
@@ -130,7 +125,7 @@ module _ (host_bytes : ℕ) (geometry : Geometry) (w z : World) (laid : IsLaidOu
             put_image-both (regions_of guest) (scattered (image (regions_of guest) w.host) (places_of work.pieces) bytes)
             (scattered (image (regions_of guest) z.host) (places_of work.pieces) again) w.host z.host addr
             (ap (λ m. scattered m (places_of work.pieces) bytes) images-same ∙ ap (scattered (image (regions_of guest) z.host) (places_of work.pieces)) same) is_same);
-        left = (λ a b t addr is_there lies. area-left (scattered (image (regions_of guest) w.host) (places_of work.pieces) bytes) w.host a b t addr is_there lies);
+        left = (λ a b t addr is_there lies. left-by (scattered (image (regions_of guest) w.host) (places_of work.pieces) bytes) w.host a b t addr is_there lies);
       }
 
   are-delivered : (lane tag : ℕ) (command : Command) (st : StatusField) (plan : Option Plan) (c : Controller) → tag_of w lane tag ≡ Some (Ended command st plan) → command.guest ≡ number
@@ -180,7 +175,7 @@ module _ (host_bytes : ℕ) (geometry : Geometry) (w z : World) (laid : IsLaidOu
       (λ addr is_same.
       put_image-both (regions_of guest) (stored (image (regions_of guest) v.host) posted.addr posted.entry) (stored (image (regions_of guest) u.host) posted.addr posted.entry) v.host u.host addr
       (ap (λ m. stored m posted.addr posted.entry) same) is_same)
-      (λ a b t addr is_there lies. area-left (stored (image (regions_of guest) v.host) posted.addr posted.entry) v.host a b t addr is_there lies)
+      (λ a b t addr is_there lies. left-by (stored (image (regions_of guest) v.host) posted.addr posted.entry) v.host a b t addr is_there lies)
 
   run_out-alike : (v u : World) (queue lane tag : ℕ) (command : Command) (st : StatusField) (plan : Option Plan) (c : Controller) → AreDelivered v u
       → slice_get w.controllers number ≡ Some c → slice_get z.controllers number ≡ Some c → tag_of w lane tag ≡ Some (Ended command st plan) → command.guest ≡ number

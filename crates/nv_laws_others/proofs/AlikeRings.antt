@@ -4,7 +4,7 @@ use Rattle.std.specs.List.{list_any}
 use Rattle.std.proofs.lemmas.Bool.{eqb-false}
 use Rattle.nv_entry.specs.Completion.{completion, sc_of, sct_of, status_of}
 use Rattle.nv_entry.specs.Layout.{bits, bytes_of_dwords, dword, number_at}
-use Rattle.nv_entry.specs.Status.{StatusField, bit}
+use Rattle.nv_entry.specs.Status.{StatusField}
 use Rattle.nv_entry.specs.StatusCode.{done_with}
 use Rattle.nv_entry.specs.declared.status_code.StatusCode.TheVariants.{InternalError, Success}
 use Rattle.nv_entry.proofs.CompletionLemmas.{bit-lt, length-completion}
@@ -50,10 +50,6 @@ passed-success st =
     ]) refl
 
 -- a status is read back from its completion
-bit-back : (b : Bool) → (bit b == 1) ≡ b
-bit-back true = refl
-bit-back false = refl
-
 completion-sct : (dw0 sqhd sqid cid : ℕ) (phase : Bool) (st : StatusField) → cid < 2 ^ 16 → st.sct < 8 → st.sc < 256
     → sct_of (completion dw0 sqhd sqid cid phase st) ≡ st.sct
 unfolding completion bits dword number_at bytes_of_dwords
@@ -127,7 +123,6 @@ module _ (host_bytes : ℕ) (geometry : Geometry) (w z : World) (laid : IsLaidOu
       let now = tag_changed tag new (completion_read l) in
       let now_too = tag_changed tag new (completion_read m) in
       let bounce = bounce_page geometry.mediator lane tag in
-      let one : World → Type 0 = λ v. Behind v (reaped lane (completion_at geometry z lane m.head) z) in
       subst (λ bs. Behind (reaped lane bytes w) (reaped lane bs z)) same
       (subst (λ n. Behind (ended_at (tag_of w lane n) st lane n (with_lane lane completion_read w)) (ended_at (tag_of z lane n) st lane n (with_lane lane completion_read z))) (sym a.identifier)
       (subst (λ v. Behind v (ended_at (tag_of z lane tag) st lane tag (with_lane lane completion_read z))) (sym (ended-is w lane tag l a.command a.plan (Answered l.head) st at flies))

@@ -1,7 +1,6 @@
 -- A guest's commands that are handed on, in worlds that look alike to it: they look alike behind it. What is shown of such a command is its entry, its list, and a
 -- source that is bounced, all of which are written by the event.
 use Rattle.std.proofs.Common.{◌≡◌, ℕ, ◌+◌, ◌-◌, ◌*◌, ◌<◌, ◌≤◌, true, false, cond, List, [], ◌∷◌, flat_map, length, replicate, set, slice_get, Some, arith, refl, sym, ap, ◌∙◌, eq-eqb, length-append, subst}
-use mathlib.Core.Path.{fun_ext}
 use Rattle.std.specs.List.{list_any}
 use Rattle.std.proofs.Math.Seq.{take-append_seam}
 use Rattle.nv_entry.specs.Layout.{number_bytes}
@@ -36,7 +35,7 @@ use Rattle.nv_laws_sound.proofs.Rings.{far}
 use Rattle.nv_laws_sound.proofs.SubmitEvents.{entered-elsewhere, entered-undisturbed, submitted-is}
 use Rattle.nv_laws_others.proofs.AlikeGuests.{ended-alike}
 use Rattle.nv_laws_others.proofs.AlikeLanes.{flying-shows, lane-alike, stored-both}
-use Rattle.nv_laws_others.proofs.AlikeReplies.{own, rings-same, tag-here}
+use Rattle.nv_laws_others.proofs.AlikeReplies.{memory, own, rings-same, tag-here}
 use Rattle.nv_laws_others.proofs.AlikeRings.{stored-same}
 use Rattle.nv_laws_others.proofs.AlikeWalks.{IsInBoth, device-both, held-too, lane-too, owner-both, tag-too, taken-both}
 use Rattle.nv_laws_others.proofs.Behind.{numbers-retagged}
@@ -199,7 +198,7 @@ module _ (host_bytes : ℕ) (geometry : Geometry) (w z : World) (laid : IsLaidOu
       let many = before.queued_count in
       let room : far d.head d.tail < 64 = omega (arith, waiting, many, tags) in
       let new = Flying command plan (Queued d.tail) in
-      let images : image (regions_of guest) w.host ≡ image (regions_of guest) z.host = fun_ext (λ addr. alike.view.memory addr) in
+      let images = memory geometry w z number guest given alike in
       let host = written plan guest command.entry geometry.mediator lane tag d.tail w.host in
       let other = written plan guest command.entry geometry.mediator lane tag d.tail z.host in
       let v = record w { host = host; lanes = set w.lanes lane (tag_changed tag new l); device = set w.device lane (rung d) } in
@@ -225,7 +224,8 @@ module _ (host_bytes : ℕ) (geometry : Geometry) (w z : World) (laid : IsLaidOu
       (bytes-elsewhere geometry w host lane tag l.head l d (rung d) fine a.at_lane there
       (λ at apart below. entered-elsewhere host_bytes (length w.lanes) geometry laid guest command.entry plan planned lane tag d.tail tag_below before.positions.tail w.host at apart)
       (λ b y apart b_below is.
-      entered-undisturbed host_bytes (length w.lanes) geometry laid guest command.entry plan planned lane tag d.tail tag_below before.positions.tail w.host b l.head d y apart b_below refl before.positions.head before.positions.tail room))
+      entered-undisturbed host_bytes (length w.lanes) geometry laid guest command.entry plan planned lane tag d.tail tag_below before.positions.tail w.host b l.head d y apart
+      b_below refl before.positions.head before.positions.tail room))
       alike.view.blocks alike.marks refl refl
       (λ addr is lies.
       flying-shows guest geometry v lane tag command plan (Queued d.tail) addr (host addr ≡ other addr) lies
