@@ -1,5 +1,5 @@
 -- A guest's acts, admin steps, takes and reads of lists, and commands that are given up, in worlds that look alike to it: they look alike behind them.
-use Rattle.std.proofs.Common.{◌≡◌, ℕ, Bool, true, false, cond, ◌&&◌, nat_le, List, [], ◌∷◌, ◌++◌, length, map, set, slice_get, Option, Some, None, refl, sym, ap, ◌∙◌, eq-eqb, subst}
+use Rattle.std.proofs.Common.{◌≡◌, ℕ, Bool, true, false, cond, ◌&&◌, nat_le, List, [], ◌∷◌, ◌++◌, length, set, slice_get, Option, Some, None, refl, sym, ap, ◌∙◌, eq-eqb, subst}
 use Rattle.std.specs.List.{list_any}
 use Rattle.nv_entry.specs.Status.{StatusField}
 use Rattle.nv_entry.specs.StatusCode.{done_with}
@@ -23,7 +23,7 @@ use Rattle.nv_world_model.specs.Contained.{guest_of_one}
 use Rattle.nv_world_model.specs.Geometry.{Geometry, Guest, regions_of, shape_of}
 use Rattle.nv_world_model.specs.Seat.{Owner, held_by, held_in, owner_of, put_back, seat}
 use Rattle.nv_world_model.specs.Step.{act_put_back, acted_in, administered_by, administered_in, ended_at_once, for_lane, for_owner, for_taken, free_tag, is_free, is_io_queue, list_at, listed, replied, step, take_from, take_front, take_tag, taken_to}
-use Rattle.nv_world_model.specs.View.{IsAlike, is_tag_of, lane_numbers, own_held, ring_numbers}
+use Rattle.nv_world_model.specs.View.{IsAlike, is_tag_of, lane_numbers, own_held}
 use Rattle.nv_world_model.specs.World.{Command, Ended, Free, Lane, Tag, Taken, World, changed_at, tag_changed, tag_in, tag_of, with_controller, with_tag}
 use Rattle.nv_world_model.proofs.Seats.{slice_get-set}
 use Rattle.nv_laws_sound.specs.Consistent.{IsConsistent}
@@ -34,9 +34,10 @@ use Rattle.nv_laws_sound.proofs.Lists.{length-set, set-same}
 use Rattle.nv_laws_sound.proofs.Retags.{is-at, tag-is, with_tag-is}
 use Rattle.nv_laws_others.specs.Leaving.{IsBytes}
 use Rattle.nv_laws_others.specs.Alike.{HoldsNothingFree}
+use Rattle.nv_laws_others.proofs.AlikeLanes.{lane-alike}
 use Rattle.nv_laws_others.proofs.AlikeReplies.{acted-same, lanes-same, memory, own, same-position, tag-here}
 use Rattle.nv_laws_others.proofs.AlikeWalks.{IsInBoth, either-both, guest-both, held-too, in-both, lane-both, device-too, owner-both, taken-both}
-use Rattle.nv_laws_others.proofs.Behind.{alike-lanes, alike-retagged, guests-shared, lanes-shared, numbers-retagged, put-same, retagged-by, rings-shared, shared-of}
+use Rattle.nv_laws_others.proofs.Behind.{alike-lanes, guests-shared, lanes-shared, numbers-retagged, rings-shared, shared-of}
 use Rattle.nv_laws_others.proofs.Leaving.{bytes-in-lane}
 use Rattle.nv_laws_others.proofs.Shown.{in_span}
 use Rattle.nv_laws_others.proofs.ShownTags.{tag_spans}
@@ -181,27 +182,15 @@ module _ (host_bytes : ℕ) (geometry : Geometry) (w z : World) (laid : IsLaidOu
       → own_held number (Some new) (held_in (slice_get w.device lane) tag) ≡ own_held number (Some new) (held_in (slice_get z.device lane) tag)
       → Behind v u
   retag-alike lane tag t s new x v u lanes lanes_too device device_too bytes left disk disk_too kept kept_too controller many many_too written held =
-      alike-retagged geometry number guest w z alike lane tag new v u
-      (retagged-by w v lane tag x.l (tag_changed tag new x.l) x.d x.d t new x.lane_one x.device_one x.tag_one refl lanes
-      (device ∙ sym (set-same w.device lane x.d x.device_one)) (λ b apart. refl))
-      (retagged-by z u lane tag x.m (tag_changed tag new x.m) x.e x.e s new x.lane_two x.device_two x.tag_two refl lanes_too
-      (device_too ∙ sym (set-same z.device lane x.e x.device_two)) (λ b apart. refl))
-      (record {
-        bytes = bytes;
-        blocks = (λ lba offset below. ap (λ f. f (block_at guest.extent lba) offset) disk ∙ alike.view.blocks lba offset below ∙ sym (ap (λ f. f (block_at guest.extent lba) offset) disk_too));
-        marks = (λ lba below. ap (λ f. f (block_at guest.extent lba)) kept ∙ alike.marks lba below ∙ sym (ap (λ f. f (block_at guest.extent lba)) kept_too));
-        controller = controller;
-        shared =
-            shared-of v u
-            (ap (map lane_numbers) lanes
-            ∙ put-same lane_numbers w.lanes z.lanes lane (tag_changed tag new x.l) (tag_changed tag new x.m) (lanes-shared w z alike.shared) (numbers-retagged x.l x.m tag new x.lanes)
-            ∙ sym (ap (map lane_numbers) lanes_too))
-            (ap (map ring_numbers) device ∙ rings-shared w z alike.shared ∙ sym (ap (map ring_numbers) device_too))
-            (many ∙ guests-shared w z alike.shared ∙ sym many_too);
-      })
-      (λ a b t addr apart there lies. left a b t addr there lies)
-      written
-      (ap (λ ds. own_held number (Some new) (held_in (slice_get ds lane) tag)) device ∙ held ∙ sym (ap (λ ds. own_held number (Some new) (held_in (slice_get ds lane) tag)) device_too))
+      lane-alike geometry number guest w z alike lane tag t s new x (tag_changed tag new x.l) (tag_changed tag new x.m) x.d x.e v u
+      refl refl (numbers-retagged x.l x.m tag new x.lanes) lanes lanes_too
+      (device ∙ sym (set-same w.device lane x.d x.device_one)) (device_too ∙ sym (set-same z.device lane x.e x.device_two)) x.rings (λ b apart. refl) (λ b apart. refl)
+      bytes (λ a b y addr apart there lies. left a b y addr there lies)
+      (λ lba offset below.
+      ap (λ f. f (block_at guest.extent lba) offset) disk ∙ alike.view.blocks lba offset below ∙ sym (ap (λ f. f (block_at guest.extent lba) offset) disk_too))
+      (λ lba below. ap (λ f. f (block_at guest.extent lba)) kept ∙ alike.marks lba below ∙ sym (ap (λ f. f (block_at guest.extent lba)) kept_too))
+      controller many many_too written
+      (sym (ap (λ o. own_held number (Some new) (held_in o tag)) x.device_one) ∙ held ∙ ap (λ o. own_held number (Some new) (held_in o tag)) x.device_two)
 
   -- a tag of its own changes, and is shown no more of
   own-alike : (lane tag : ℕ) (t new : Tag) → tag_of w lane tag ≡ Some t → is_tag_of number (Some t) ≡ true

@@ -117,12 +117,13 @@ module _ (geometry : Geometry) (number : ℕ) (guest : Guest) (w z : World) (ali
       → ((addr : ℕ) → w.host addr ≡ z.host addr → v.host addr ≡ u.host addr)
       → ((a b : ℕ) (t : Tag) (addr : ℕ) → ((a ≡ lane) → (b ≡ tag) → ⊥) → tag_of w a b ≡ Some t → IsBytes geometry.mediator a b t addr → w.host addr ≡ v.host addr)
       → ((lba offset : ℕ) → lba < block_count guest.extent → v.disk (block_at guest.extent lba) offset ≡ u.disk (block_at guest.extent lba) offset)
-      → SameMarks guest v u → v.controllers ≡ w.controllers → u.controllers ≡ z.controllers
+      → SameMarks guest v u → slice_get v.controllers number ≡ slice_get u.controllers number
+      → length v.controllers ≡ length w.controllers → length u.controllers ≡ length z.controllers
       → ((addr : ℕ) → is_tag_of number (Some new) ≡ true → list_any (in_span addr) (tag_spans guest geometry v lane tag new) ≡ true → v.host addr ≡ u.host addr)
       → own_held number (Some new) (held_by (slice_get behind.held tag)) ≡ own_held number (Some new) (held_by (slice_get after.held tag))
       → IsAlike number guest geometry v u
   lane-alike lane tag t s new x now again behind after v u tags tags_too numbers lanes lanes_too device device_too rings held held_too bytes left blocks marks
-      controllers controllers_too written here =
+      controller many many_too written here =
       alike-retagged geometry number guest w z alike lane tag new v u
       (retagged-by w v lane tag x.l now x.d behind t new x.lane_one x.device_one x.tag_one tags lanes device held)
       (retagged-by z u lane tag x.m again x.e after s new x.lane_two x.device_two x.tag_two tags_too lanes_too device_too held_too)
@@ -130,12 +131,12 @@ module _ (geometry : Geometry) (number : ℕ) (guest : Guest) (w z : World) (ali
         bytes = bytes;
         blocks = blocks;
         marks = marks;
-        controller = ap (λ cs. slice_get cs number) controllers ∙ alike.view.controller ∙ sym (ap (λ cs. slice_get cs number) controllers_too);
+        controller = controller;
         shared =
             shared-of v u
             (ap (map lane_numbers) lanes ∙ put-same lane_numbers w.lanes z.lanes lane now again (lanes-shared w z alike.shared) numbers ∙ sym (ap (map lane_numbers) lanes_too))
             (ap (map ring_numbers) device ∙ put-same ring_numbers w.device z.device lane behind after (rings-shared w z alike.shared) rings ∙ sym (ap (map ring_numbers) device_too))
-            (ap length controllers ∙ guests-shared w z alike.shared ∙ sym (ap length controllers_too));
+            (many ∙ guests-shared w z alike.shared ∙ sym many_too);
       })
       left written
       (ap (own_held number (Some new)) (ap (λ ds. held_in (slice_get ds lane) tag) device ∙ ap (λ o. held_in o tag) (slice_get-set w.device lane x.d behind x.device_one))

@@ -282,7 +282,7 @@ module _ (host_bytes : ℕ) (geometry : Geometry) (w z : World) (laid : IsLaidOu
       (λ b y apart b_below is.
       moved-undisturbed host_bytes geometry (length w.lanes) lane tag laid lane_below tag_below guest command.guest whose command.entry plan planned h w.host in_device k
       w.disk w.kept b l.head d (set d.held tag (Some (unit_gone k r.differed h))) y apart b_below))
-      effect.disk effect.kept refl refl
+      effect.disk effect.kept alike.view.controller refl refl
       (λ addr is lies.
       flying-shows guest geometry v lane tag command plan InDevice addr (v.host addr ≡ u.host addr) lies (λ by_slot. cc)
       (λ by_list. kept addr (own-same geometry number guest w z alike lane tag was addr here mine (list-is guest geometry w lane tag command plan InDevice addr by_list)))

@@ -130,7 +130,7 @@ module _ (host_bytes : ℕ) (geometry : Geometry) (w z : World) (laid : IsLaidOu
       (lane-alike geometry number guest w z alike lane tag was was new x now now_too d e (record w { lanes = set w.lanes lane now }) (record z { lanes = set z.lanes lane now_too })
       refl refl (numbers-retagged (completion_read l) (completion_read m) tag new (numbers-read l m numbers)) refl refl
       (sym (set-same w.device lane d there)) (sym (set-same z.device lane e again)) rings (λ b apart. refl) (λ b apart. refl)
-      (λ addr is. is) (λ g b y addr apart is lies. refl) alike.view.blocks alike.marks refl refl
+      (λ addr is. is) (λ g b y addr apart is lies. refl) alike.view.blocks alike.marks alike.view.controller refl refl
       (λ addr is lies.
       own-same geometry number guest w z alike lane tag was addr here mine
       (read-is guest geometry w lane tag a.command a.plan (Answered l.head) addr
@@ -240,7 +240,7 @@ module _ (host_bytes : ℕ) (geometry : Geometry) (w z : World) (laid : IsLaidOu
       (λ b y apart b_below is.
       answer-undisturbed geometry (length w.lanes) lane w.host d bytes sized lane_below before.positions.posted b l.head (set d.held tag None)
       (next_phase d.posted d.phase) y b_below before.positions.read before.positions.head before.positions.tail room))
-      alike.view.blocks alike.marks refl refl
+      alike.view.blocks alike.marks alike.view.controller refl refl
       (λ addr is lies.
       flying-shows guest geometry v lane tag command plan (Answered d.posted) addr (v.host addr ≡ u.host addr) lies
       (λ by_slot.

@@ -226,7 +226,7 @@ module _ (host_bytes : ℕ) (geometry : Geometry) (w z : World) (laid : IsLaidOu
       (λ b y apart b_below is.
       entered-undisturbed host_bytes (length w.lanes) geometry laid guest command.entry plan planned lane tag d.tail tag_below before.positions.tail w.host b l.head d y apart
       b_below refl before.positions.head before.positions.tail room))
-      alike.view.blocks alike.marks refl refl
+      alike.view.blocks alike.marks alike.view.controller refl refl
       (λ addr is lies.
       flying-shows guest geometry v lane tag command plan (Queued d.tail) addr (host addr ≡ other addr) lies
       (λ by_slot.

@@ -186,7 +186,7 @@ module _ (host_bytes : ℕ) (geometry : Geometry) (w z : World) (laid : IsLaidOu
       (lane-alike geometry number guest w z alike lane tag was was new x (tag_changed tag new l) (tag_changed tag new m) now later v u
       refl refl (numbers-retagged l m tag new numbers) refl refl refl refl (numbers-taken d e tag (Some h) (Some g) rings)
       (λ b apart. held-put d.held tag (Some h) b apart) (λ b apart. held-put e.held tag (Some g) b apart)
-      (λ addr is. is) (λ p q y addr apart is lies. refl) alike.view.blocks alike.marks refl refl
+      (λ addr is. is) (λ p q y addr apart is lies. refl) alike.view.blocks alike.marks alike.view.controller refl refl
       (λ addr is lies.
       flying-shows guest geometry v lane tag command plan InDevice addr (w.host addr ≡ z.host addr) lies (λ by_slot. cc)
       (λ by_list. own-same geometry number guest w z alike lane tag was addr here mine (list-is guest geometry w lane tag command plan (Queued d.head) addr by_list))
