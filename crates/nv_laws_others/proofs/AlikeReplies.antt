@@ -44,7 +44,7 @@ rest [] = []
 rest (b ∷ bs) = bs
 
 module _ {X : Type 0} (p : X → Bool) where
-  same-length : (xs ys : List X) → map p xs ≡ map p ys → length xs ≡ length ys
+  pub same-length : (xs ys : List X) → map p xs ≡ map p ys → length xs ≡ length ys
   same-length [] [] e = refl
   same-length [] (y ∷ ys) e = cc
   same-length (x ∷ xs) [] e = cc
@@ -58,13 +58,13 @@ module _ {X : Type 0} (p : X → Bool) where
       ap (λ b. cond (not b) (1 + prefix_len (λ z. not (p z)) xs) 0) (ap first e)
       ∙ ap (λ n. cond (not (p y)) (1 + n) 0) (same-prefix xs ys (ap rest e))
 
-  same-position : (xs ys : List X) → map p xs ≡ map p ys → position p xs ≡ position p ys
+  pub same-position : (xs ys : List X) → map p xs ≡ map p ys → position p xs ≡ position p ys
   same-position xs ys e =
       ap (λ n. cond (nat_lt n (length xs)) (Some n) None) (same-prefix xs ys e)
       ∙ ap (λ n. cond (nat_lt (prefix_len (λ x. not (p x)) ys) n) (Some (prefix_len (λ x. not (p x)) ys)) None) (same-length xs ys e)
 
 -- the same is held at a place of lists of one length
-same-slot : (xs ys : List (Option Held)) (i : ℕ) → length xs ≡ length ys → held_by (slice_get xs i) ≡ held_by (slice_get ys i)
+pub same-slot : (xs ys : List (Option Held)) (i : ℕ) → length xs ≡ length ys → held_by (slice_get xs i) ≡ held_by (slice_get ys i)
     → slice_get xs i ≡ slice_get ys i
 same-slot [] [] i sized same = refl
 same-slot [] (y ∷ ys) i sized same = absurd (omega (arith, sized))
@@ -150,7 +150,7 @@ register-same None p q = refl
 register-same (Some value) p q = refl
 
 -- an act is answered by memory and controller alone
-acted-same : (shape : Shape) (a : Act) (p q : Private) → p.memory ≡ q.memory → p.controller ≡ q.controller
+pub acted-same : (shape : Shape) (a : Act) (p q : Private) → p.memory ≡ q.memory → p.controller ≡ q.controller
     → (acted shape a p).reply ≡ (acted shape a q).reply
 acted-same shape (act.Store addr bytes) p q memory controller = either-act (everywhere shape.mapped addr (length bytes)) _ _ _ _ refl refl
 acted-same shape (act.Load addr len) p q memory controller =
@@ -171,7 +171,7 @@ administered-same (Stepped c memory) o w z = refl
 -- ---- tags
 
 -- a tag that is that guest's in one is the same in both
-tag-same : (number : ℕ) (t u : Option Tag) → own_tag number t ≡ own_tag number u → is_tag_of number t ≡ true → t ≡ u
+pub tag-same : (number : ℕ) (t u : Option Tag) → own_tag number t ≡ own_tag number u → is_tag_of number t ≡ true → t ≡ u
 tag-same number None u same own = cc
 tag-same number (Some t) u same own =
     (elim (is_tag_of number u) as (λ b. cond (is_tag_of number (Some t)) (Some t) None ≡ cond b u None → Some t ≡ u) [
@@ -179,12 +179,12 @@ tag-same number (Some t) u same own =
       | false ↦ λ e. (let bad : Some t ≡ None = sym (ap (λ b. cond b (Some t) None) own) ∙ e in cc)
     ]) same
 
-tag-own : (number : ℕ) (t : Option Tag) → guest_of_one t ≡ Some number → is_tag_of number t ≡ true
+pub tag-own : (number : ℕ) (t : Option Tag) → guest_of_one t ≡ Some number → is_tag_of number t ≡ true
 tag-own number None own = cc
 tag-own number (Some t) own = ap (is_guest number) own ∙ eq-eqb number number refl
 
 -- what is held under it
-held-alike : (number : ℕ) (t u : Option Tag) (g h : Option Held) → own_held number t g ≡ own_held number u h → t ≡ u → is_tag_of number t ≡ true → g ≡ h
+pub held-alike : (number : ℕ) (t u : Option Tag) (g h : Option Held) → own_held number t g ≡ own_held number u h → t ≡ u → is_tag_of number t ≡ true → g ≡ h
 held-alike number t u g h same tags own =
     sym (ap (λ b. cond b g None) own) ∙ same ∙ ap (λ x. own_held number x h) (sym tags) ∙ ap (λ b. cond b h None) own
 
@@ -192,18 +192,18 @@ held-alike number t u g h same tags own =
 
 module _ (geometry : Geometry) (w z : World) (number : ℕ) (guest : Guest) (given : slice_get geometry.guests number ≡ Some guest)
     (alike : IsAlike number guest geometry w z) where
-  memory : image (regions_of guest) w.host ≡ image (regions_of guest) z.host
+  pub memory : image (regions_of guest) w.host ≡ image (regions_of guest) z.host
   memory = fun_ext (λ addr. alike.view.memory addr)
 
-  abbrev own : Controller → Owner
+  abbrev pub own : Controller → Owner
   own c = record { number = number; given = guest; controller = c }
 
   -- its owner is the same
-  by-guest : (n : ℕ) → n ≡ number → (v : World) → owner_of geometry v n ≡ owner_by number (Some guest) (slice_get v.controllers number)
+  pub by-guest : (n : ℕ) → n ≡ number → (v : World) → owner_of geometry v n ≡ owner_by number (Some guest) (slice_get v.controllers number)
   by-guest n same v =
       ap (λ m. owner_of geometry v m) same ∙ ap (λ g. owner_by number g (slice_get v.controllers number)) given
 
-  by-controller : (n : ℕ) → n ≡ number → owner_of geometry w n ≡ owner_by number (Some guest) (slice_get z.controllers number)
+  pub by-controller : (n : ℕ) → n ≡ number → owner_of geometry w n ≡ owner_by number (Some guest) (slice_get z.controllers number)
   by-controller n same = by-guest n same w ∙ ap (owner_by number (Some guest)) alike.view.controller
 
   guest-same : (n : ℕ) → n ≡ number → (more again : Owner → After) → ((c : Controller) → (more (own c)).reply ≡ (again (own c)).reply)
@@ -229,23 +229,23 @@ module _ (geometry : Geometry) (w z : World) (number : ℕ) (guest : Guest) (giv
       by_there (Some c) = replies c
 
   -- the shared numbers of a lane
-  lanes-same : (lane : ℕ) → option_map lane_numbers (slice_get w.lanes lane) ≡ option_map lane_numbers (slice_get z.lanes lane)
+  pub lanes-same : (lane : ℕ) → option_map lane_numbers (slice_get w.lanes lane) ≡ option_map lane_numbers (slice_get z.lanes lane)
   unfolding shared_numbers
   lanes-same lane =
       sym (slice_get-map lane_numbers w.lanes lane) ∙ ap (λ n. slice_get n.lanes lane) alike.shared ∙ slice_get-map lane_numbers z.lanes lane
 
-  rings-same : (lane : ℕ) → option_map ring_numbers (slice_get w.device lane) ≡ option_map ring_numbers (slice_get z.device lane)
+  pub rings-same : (lane : ℕ) → option_map ring_numbers (slice_get w.device lane) ≡ option_map ring_numbers (slice_get z.device lane)
   unfolding shared_numbers
   rings-same lane =
       sym (slice_get-map ring_numbers w.device lane) ∙ ap (λ n. slice_get n.rings lane) alike.shared ∙ slice_get-map ring_numbers z.device lane
 
   -- its tags
-  tag-here : (lane tag : ℕ) → guest_of_one (tag_of w lane tag) ≡ Some number → tag_of w lane tag ≡ tag_of z lane tag
+  pub tag-here : (lane tag : ℕ) → guest_of_one (tag_of w lane tag) ≡ Some number → tag_of w lane tag ≡ tag_of z lane tag
   tag-here lane tag mine =
       tag-same number (tag_of w lane tag) (tag_of z lane tag) (alike.view.tags lane tag) (tag-own number (tag_of w lane tag) mine)
 
   -- what the device holds of them
-  slot-here : (lane slot : ℕ) (d e : DeviceLane) → slice_get w.device lane ≡ Some d → slice_get z.device lane ≡ Some e → ring_numbers d ≡ ring_numbers e
+  pub slot-here : (lane slot : ℕ) (d e : DeviceLane) → slice_get w.device lane ≡ Some d → slice_get z.device lane ≡ Some e → ring_numbers d ≡ ring_numbers e
       → guest_of_one (tag_of w lane slot) ≡ Some number → slice_get d.held slot ≡ slice_get e.held slot
   slot-here lane slot d e there again numbers mine =
       let held = held-alike number (tag_of w lane slot) (tag_of z lane slot) _ _ (alike.view.held lane slot) (tag-here lane slot mine) (tag-own number (tag_of w lane slot) mine) in

@@ -191,11 +191,11 @@ module _ (host_bytes lanes : ℕ) (geometry : Geometry) (laid : IsLaidOut host_b
   tags-same lane tag =
       tags-kept number (length geometry.guests) nobody-apart (tag_of w lane tag) ∙ sym (ap (own_tag number) (tag-cut lane tag))
 
-  owns-same : (lane tag : ℕ) → is_tag_of number (tag_of w lane tag) ≡ is_tag_of number (tag_of (cut number guest geometry w) lane tag)
+  pub owns-same : (lane tag : ℕ) → is_tag_of number (tag_of w lane tag) ≡ is_tag_of number (tag_of (cut number guest geometry w) lane tag)
   owns-same lane tag =
       owns-kept number (length geometry.guests) nobody-apart (tag_of w lane tag) ∙ sym (ap (is_tag_of number) (tag-cut lane tag))
 
-  device-cut : (lane tag : ℕ) → own_held number (tag_of w lane tag) (held_in (slice_get w.device lane) tag)
+  pub device-cut : (lane tag : ℕ) → own_held number (tag_of w lane tag) (held_in (slice_get w.device lane) tag)
       ≡ held_in (slice_get (cut number guest geometry w).device lane) tag
   unfolding cut
   device-cut lane tag =

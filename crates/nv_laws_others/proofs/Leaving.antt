@@ -182,7 +182,28 @@ outside-area geometry w at out =
     inside-is : geometry.mediator ≤ at → at < lane_start geometry.mediator (length w.lanes) → in_area geometry w at ≡ true
     inside-is from inside = rw (le-leb geometry.mediator at from, lt-ltb at (lane_start geometry.mediator (length w.lanes)) inside) refl
 
--- where one lane is written, and in it nothing of other tags, what is shown to others is as it was
+-- where one lane is written, and in it nothing of other tags, the bytes of those are as they were
+pub bytes-elsewhere : (geometry : Geometry) (w : World) (other : ℕ → ℕ) (lane tag now : ℕ) (l : Lane) (d e : DeviceLane) → IsConsistent geometry w
+    → slice_get w.lanes lane ≡ Some l → slice_get w.device lane ≡ Some d
+    → ((at : ℕ) → (at == lane) ≡ false → at < length w.lanes → SameInLane w.host other geometry.mediator at)
+    → ((b : ℕ) (x : Tag) → (b == tag) ≡ false → b < tag_count → slice_get l.tags b ≡ Some x → IsUndisturbed geometry.mediator lane b w.host other l.head now d e x)
+    → (a b : ℕ) (t : Tag) (addr : ℕ) → ((a ≡ lane) → (b ≡ tag) → ⊥) → tag_of w a b ≡ Some t → IsBytes geometry.mediator a b t addr → w.host addr ≡ other addr
+bytes-elsewhere geometry w other lane tag now l d e fine at there elsewhere undisturbed a b t addr apart found bytes =
+    by_lane (bytes-in-lane geometry w a b addr t fine found bytes) (cases_eq a lane)
+  where
+    in_lane : a ≡ lane → b < tag_count → w.host addr ≡ other addr
+    in_lane same below =
+        let here : slice_get l.tags b ≡ Some t = ap (λ o. tag_in o b) (sym (ap (slice_get w.lanes) same ∙ at)) ∙ found in
+        let held = held-under geometry lane w.host l d (fine.lanes lane l d at there) b t here in
+        undisturbed-bytes geometry lane b addr w.host other l.head now d e held.0 t
+        (undisturbed b t (ne_eqb b tag (apart same)) below here) ((fine.lanes lane l d at there).tags b t held.0 here held.1)
+        (subst (λ n. IsBytes geometry.mediator n b t addr) same bytes)
+
+    by_lane : LiesInLane geometry.mediator a (length w.lanes) b addr → (a ≡ lane) ⊎ (a ≡ lane → ⊥) → w.host addr ≡ other addr
+    by_lane lies (inl same) = in_lane same lies.tag_below
+    by_lane lies (inr away) = elsewhere a (ne_eqb a lane away) lies.below addr lies.low lies.high
+
+-- so what is shown to others is as it was
 pub area-left : (geometry : Geometry) (w : World) (other : ℕ → ℕ) (lane tag now : ℕ) (l : Lane) (d e : DeviceLane) (number addr : ℕ) → IsConsistent geometry w
     → slice_get w.lanes lane ≡ Some l → slice_get w.device lane ≡ Some d
     → ((at : ℕ) → (at == lane) ≡ false → at < length w.lanes → SameInLane w.host other geometry.mediator at)
@@ -190,27 +211,11 @@ pub area-left : (geometry : Geometry) (w : World) (other : ℕ → ℕ) (lane ta
     → ((x : Tag) → slice_get l.tags tag ≡ Some x → is_tag_of number (Some x) ≡ false)
     → IsShownAt number geometry w addr → w.host addr ≡ other addr
 area-left geometry w other lane tag now l d e number addr fine at there elsewhere undisturbed own s =
-    let lies = bytes-in-lane geometry w s.lane s.tag addr s.t fine s.there s.bytes in
-    by_lane lies (cases_eq s.lane lane)
+    bytes-elsewhere geometry w other lane tag now l d e fine at there elsewhere undisturbed s.lane s.tag s.t addr not_it s.there s.bytes
   where
-    in_lane : s.lane ≡ lane → (s.tag ≡ tag) ⊎ (s.tag ≡ tag → ⊥) → s.tag < tag_count → w.host addr ≡ other addr
-    in_lane same which below =
+    not_it : (s.lane ≡ lane) → (s.tag ≡ tag) → ⊥
+    not_it same also =
         let found : slice_get l.tags s.tag ≡ Some s.t = ap (λ o. tag_in o s.tag) (sym (ap (slice_get w.lanes) same ∙ at)) ∙ s.there in
-        by_tag same found which below
-      where
-        by_tag : s.lane ≡ lane → slice_get l.tags s.tag ≡ Some s.t → (s.tag ≡ tag) ⊎ (s.tag ≡ tag → ⊥) → s.tag < tag_count → w.host addr ≡ other addr
-        by_tag same found (inl one) below =
-            let none = own s.t (subst (λ n. slice_get l.tags n ≡ Some s.t) one found) in
-            let bad : true ≡ false = sym s.own ∙ none in
-            cc
-        by_tag same found (inr other_tag) below =
-            let a = is-at geometry w s.lane s.tag s.t fine s.there in
-            let here : tag_of w lane s.tag ≡ Some s.t = subst (λ n. tag_of w n s.tag ≡ Some s.t) same s.there in
-            let held = held-under geometry lane w.host l d (fine.lanes lane l d at there) s.tag s.t found in
-            undisturbed-bytes geometry lane s.tag addr w.host other l.head now d e held.0 s.t
-            (undisturbed s.tag s.t (ne_eqb s.tag tag other_tag) below found) ((fine.lanes lane l d at there).tags s.tag s.t held.0 found held.1)
-            (subst (λ n. IsBytes geometry.mediator n s.tag s.t addr) same s.bytes)
-
-    by_lane : LiesInLane geometry.mediator s.lane (length w.lanes) s.tag addr → (s.lane ≡ lane) ⊎ (s.lane ≡ lane → ⊥) → w.host addr ≡ other addr
-    by_lane lies (inl same) = in_lane same (cases_eq s.tag tag) lies.tag_below
-    by_lane lies (inr apart) = elsewhere s.lane (ne_eqb s.lane lane apart) lies.below addr lies.low lies.high
+        let none = own s.t (subst (λ n. slice_get l.tags n ≡ Some s.t) also found) in
+        let bad : true ≡ false = sym s.own ∙ none in
+        cc

@@ -10,3 +10,15 @@ pub mod UnitEvents
 pub mod Every
 pub mod Cuts
 pub mod AlikeReplies
+pub mod ShownTags
+pub mod Behind
+pub mod AlikeWalks
+pub mod AlikeGuests
+pub mod AlikeLanes
+pub mod AlikeRings
+pub mod AlikePosts
+pub mod AlikeSubmits
+pub mod AlikeUnits
+pub mod AlikeMoves
+pub mod AlikeTakes
+pub mod Containing

@@ -68,7 +68,7 @@ module _ (host_bytes : ℕ) (geometry : Geometry) (w : World) (laid : IsLaidOut 
       (λ number differ. tag-apart (guest_of_tag t) number t refl differ) (λ number differ. tag-apart (guest_of_tag t) number new (sym own) differ)
       (rest-lanes (guest_of_tag t) (set w.lanes lane (tag_changed tag new l)) (set w.device lane behind)))
 
-  front-is : (lane : ℕ) (l : Lane) (d : DeviceLane) (tag : ℕ) (t : Tag) → slice_get w.lanes lane ≡ Some l → slice_get w.device lane ≡ Some d
+  pub front-is : (lane : ℕ) (l : Lane) (d : DeviceLane) (tag : ℕ) (t : Tag) → slice_get w.lanes lane ≡ Some l → slice_get w.device lane ≡ Some d
       → slice_get l.tags tag ≡ Some t → tag_stands (is_queued_at d.head) t ≡ true → front_guest (slice_get w.lanes lane) (slice_get w.device lane) ≡ guest_of_tag t
   front-is lane l d tag t at there found next =
       ap (λ o. front_guest o (slice_get w.device lane)) at ∙ ap (λ o. front_guest (Some l) o) there
@@ -117,7 +117,7 @@ module _ (host_bytes : ℕ) (geometry : Geometry) (w : World) (laid : IsLaidOut 
       (λ number differ. tag-apart (guest_of_tag t) number t refl differ) (λ number differ. tag-apart (guest_of_tag t) number new (sym own) differ)
       (rest-lanes (guest_of_tag t) (set w.lanes lane now) w.device)))
 
-  next-is : (lane : ℕ) (l : Lane) (d : DeviceLane) (tag : ℕ) (t : Tag) → slice_get w.lanes lane ≡ Some l → slice_get w.device lane ≡ Some d
+  pub next-is : (lane : ℕ) (l : Lane) (d : DeviceLane) (tag : ℕ) (t : Tag) → slice_get w.lanes lane ≡ Some l → slice_get w.device lane ≡ Some d
       → slice_get l.tags tag ≡ Some t → tag_stands (is_answered_at l.head) t ≡ true → next_guest (slice_get w.lanes lane) ≡ guest_of_tag t
   next-is lane l d tag t at there found next =
       ap next_guest at

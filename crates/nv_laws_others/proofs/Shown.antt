@@ -32,7 +32,7 @@ use Rattle.nv_laws_others.specs.Leaving.{InCompletion, InEntry, InPages, IsBytes
 abbrev pub in_span : (addr : ℕ) → Span → Bool
 in_span addr s = nat_le s.0 addr && nat_lt addr (s.0 + s.1)
 
-any-append : {X : Type 0} (p : X → Bool) (xs ys : List X) → list_any p (xs ++ ys) ≡ true → (list_any p xs ≡ true) ⊎ (list_any p ys ≡ true)
+pub any-append : {X : Type 0} (p : X → Bool) (xs ys : List X) → list_any p (xs ++ ys) ≡ true → (list_any p xs ≡ true) ⊎ (list_any p ys ≡ true)
 any-append p [] ys e = inr e
 any-append p (x ∷ xs) ys e =
     (elim (p x) as (λ b. p x ≡ b → (b || list_any p (xs ++ ys)) ≡ true → ((b || list_any p xs) ≡ true) ⊎ (list_any p ys ≡ true)) [
@@ -41,13 +41,13 @@ any-append p (x ∷ xs) ys e =
     ]) refl e
 
 -- one of numbered members shows it
-record IsOneOf {X : Type 0} (p : Span → Bool) (f : ℕ × X → List Span) (from : ℕ) (xs : List X) : Type 0 where
+pub record IsOneOf {X : Type 0} (p : Span → Bool) (f : ℕ × X → List Span) (from : ℕ) (xs : List X) : Type 0 where
   pub place : ℕ
   pub member : X
   pub at : slice_get xs place ≡ Some member
   pub lies : list_any p (f (from + place, member)) ≡ true
 
-one-of : {X : Type 0} (p : Span → Bool) (f : ℕ × X → List Span) (from : ℕ) (xs : List X) → list_any p (flat_map f (enumerate_from from xs)) ≡ true
+pub one-of : {X : Type 0} (p : Span → Bool) (f : ℕ × X → List Span) (from : ℕ) (xs : List X) → list_any p (flat_map f (enumerate_from from xs)) ≡ true
     → IsOneOf p f from xs
 one-of p f from [] e = cc
 one-of p f from (x ∷ xs) e =
@@ -60,16 +60,16 @@ one-of p f from (x ∷ xs) e =
     ]
 
 -- what a test chooses
-any-chosen : (p : Span → Bool) (b : Bool) (xs : List Span) → list_any p (cond b xs []) ≡ true → (b ≡ true) × (list_any p xs ≡ true)
+pub any-chosen : (p : Span → Bool) (b : Bool) (xs : List Span) → list_any p (cond b xs []) ≡ true → (b ≡ true) × (list_any p xs ≡ true)
 any-chosen p true xs e = (refl, e)
 any-chosen p false xs e = cc
 
-any-not_chosen : (p : Span → Bool) (b : Bool) (xs : List Span) → list_any p (cond b [] xs) ≡ true → (b ≡ false) × (list_any p xs ≡ true)
+pub any-not_chosen : (p : Span → Bool) (b : Bool) (xs : List Span) → list_any p (cond b [] xs) ≡ true → (b ≡ false) × (list_any p xs ≡ true)
 any-not_chosen p true xs e = cc
 any-not_chosen p false xs e = (refl, e)
 
 -- one span
-in-one : (addr from len : ℕ) → list_any (in_span addr) ((from, len) ∷ []) ≡ true → (from ≤ addr) × (addr < from + len)
+pub in-one : (addr from len : ℕ) → list_any (in_span addr) ((from, len) ∷ []) ≡ true → (from ≤ addr) × (addr < from + len)
 in-one addr from len e =
     (elim (nat_le from addr && nat_lt addr (from + len)) as (λ b. (nat_le from addr && nat_lt addr (from + len)) ≡ b → (b || false) ≡ true → (from ≤ addr) × (addr < from + len)) [
       | true ↦ λ is any. (let both = and-true (nat_le from addr) (nat_lt addr (from + len)) is in (leb-true from addr both.0, ltb-true addr (from + len) both.1))
@@ -100,7 +100,7 @@ length-numbered : (from : ℕ) (lbas : List ℕ) → length (map (λ p. MoveBloc
 length-numbered from [] = refl
 length-numbered from (lba ∷ lbas) = let rest = length-numbered (from + 1) lbas in omega (arith, rest)
 
-length-moves : (lbas : List ℕ) → length (move_units lbas) ≡ length lbas
+pub length-moves : (lbas : List ℕ) → length (move_units lbas) ≡ length lbas
 unfolding move_units
 length-moves lbas = length-numbered 0 lbas
 
@@ -116,7 +116,7 @@ module _ (mediator lane tag : ℕ) (aligned : mediator % page ≡ 0) (addr : ℕ
   in-bounce t low high = InPages (omega (arith, low)) (omega (arith, high))
 
   -- the units of a Read are as many as its blocks
-  units-few : (form : Form) (entry : List ℕ) (blocks : ℕ) (ranges : List (List ℕ)) (units : List WorkUnit) → form_is_read form ≡ true
+  pub units-few : (form : Form) (entry : List ℕ) (blocks : ℕ) (ranges : List (List ℕ)) (units : List WorkUnit) → form_is_read form ≡ true
       → units ≡ form_units form blocks entry ranges → block * length units ≡ form_transfer_len form entry
   units-few (Transfer dest) entry blocks ranges units reads is =
       ap (λ us. block * length us) is
@@ -224,7 +224,7 @@ tag-bytes geometry lane tag host head d held (Ended command st (Some plan)) addr
 -- ---- a guest
 
 -- the guest of a tag of its own
-own-guest : (number : ℕ) (t : Tag) → is_tag_of number (Some t) ≡ true → guest_of_tag t ≡ Some number
+pub own-guest : (number : ℕ) (t : Tag) → is_tag_of number (Some t) ≡ true → guest_of_tag t ≡ Some number
 own-guest number Free e = cc
 own-guest number (Taken command reads) e = ap (λ n. Some n) (eqb-true command.guest number e)
 own-guest number (Flying command plan standing) e = ap (λ n. Some n) (eqb-true command.guest number e)

@@ -1,5 +1,8 @@
-//! What an event leaves to all but its owner, as functions that do nothing: each contract is a law.
+//! What an event leaves and reads, as functions that do nothing: each contract is a law.
+pub mod alike;
+pub mod containing;
 pub mod cutting;
 pub mod leaving;
 pub mod reading;
 pub mod showing;
+pub mod unfitting;

@@ -1,6 +1,6 @@
 -- What the device makes of a physical entry: it finds the host addresses of the plan's transfer.
 use Rattle.std.proofs.Common.{◌≡◌, ℕ, ◌+◌, ◌-◌, ◌%◌, ◌^◌, ◌<◌, ◌≤◌, true, false, cond, ◌==◌, List, [], ◌∷◌, All, drop, flat_map, length, map, replicate, slice_get, slice_index, take, Some, arith, refl, sym, ap, ◌∙◌, subst}
-use Rattle.std.specs.List.{list_all}
+use Rattle.std.specs.List.{list_all, range_with_len}
 use Rattle.std.proofs.lemmas.Bool.{ne_eqb}
 use Rattle.std.proofs.Math.Seq.{take-append_seam}
 use Rattle.std.proofs.lemmas.List.Elements.{All-drop, All-filter, All-head, All-nil, All-tail, All-weaker}
@@ -24,9 +24,10 @@ use Rattle.nv_prp.specs.Built.{HoldsList, HoldsNumbers, SpellsAddresses, built, 
 use Rattle.nv_prp.specs.Fits.{fit_prp, host_addresses, is_run}
 use Rattle.nv_prp.proofs.Builds.{fit-row}
 use Rattle.nv_prp.proofs.HostRuns.{length-mapped_runs}
-use Rattle.nv_prp.proofs.Spelling.{built-spells}
+use Rattle.nv_prp.proofs.Spelling.{built-same, built-spells}
 use Rattle.nv_world_model.specs.Area.{addresses_of, bounce_page, entry_of, form_dwords, list_bytes, list_page, physical_entry, plan_dwords, prps_of, tag_count}
-use Rattle.nv_world_model.specs.Device.{form_unit_count, held_of, host_pieces, pieces_named, pieces_spelled, unit_count}
+use Rattle.nv_mem.specs.declared.piece.Piece.{Piece}
+use Rattle.nv_world_model.specs.Device.{Held, form_unit_count, held_of, host_pieces, pieces_named, pieces_spelled, unit_count}
 use Rattle.nv_world_model.specs.Geometry.{Geometry, Guest, regions_of, shape_of}
 use Rattle.nv_world_model.specs.Plan.{Bounced, Direct, NoData, Plan}
 use Rattle.nv_laws_sound.specs.Area.{Shows}
@@ -141,6 +142,22 @@ named-places memory list n addresses entry fit count few aligned holds first sec
     ap (λ p. places_of (pieces_spelled (in_memory memory (read_prp (λ _. true) p (prp2_of entry) n)))) first
     ∙ ap (λ p. places_of (pieces_spelled (in_memory memory (read_prp (λ _. true) (built list addresses).prp1 p n)))) second
     ∙ spells-places addresses _ spelled
+
+-- and where the list stands in two memories, a transfer has the same pieces in both
+named-same : (memory other : ℕ → ℕ) (list n : ℕ) (addresses entry : List ℕ) → fit_prp addresses ≡ true → length addresses ≡ n → n ≤ most_bytes
+    → list % page ≡ 0 → HoldsList memory list (built list addresses) → HoldsList other list (built list addresses)
+    → prp1_of entry ≡ (built list addresses).prp1 → prp2_of entry ≡ (built list addresses).prp2
+    → pieces_named n entry memory ≡ pieces_named n entry other
+named-same memory other list n addresses entry fit count few aligned holds also first second =
+    let same : reading_of memory (built list addresses) n ≡ reading_of other (built list addresses) n =
+    subst (λ k. reading_of memory (built list addresses) k ≡ reading_of other (built list addresses) k) count
+    (built-same memory other list addresses fit (omega (arith, count, few)) aligned holds also) in
+    by_fields memory ∙ ap pieces_spelled same ∙ sym (by_fields other)
+  where
+    by_fields : (m : ℕ → ℕ) → pieces_named n entry m ≡ pieces_spelled (reading_of m (built list addresses) n)
+    by_fields m =
+        ap (λ p. pieces_spelled (in_memory m (read_prp (λ _. true) p (prp2_of entry) n))) first
+        ∙ ap (λ p. pieces_spelled (in_memory m (read_prp (λ _. true) (built list addresses).prp1 p n))) second
 
 -- a transfer of some bytes isn't empty
 some-places : (n : ℕ) (entry : List ℕ) (memory : ℕ → ℕ) → 0 < n
@@ -264,6 +281,71 @@ module _ (host_bytes lanes : ℕ) (geometry : Geometry) (laid : IsLaidOut host_b
       (length-range_with_len bounce (total_len is.work.pieces) ∙ total) each shown))
       (addresses-fit host_bytes lanes geometry owner guest entry plan lane tag laid given below tag_below is)
 
+  -- ---- the same in two memories in which the list stands
+
+  abbrev ReadsSame : (other : ℕ → ℕ) → Plan → Type 0
+  ReadsSame other p =
+      cond (transfer_len is.work.opcode (physical p) == 0) [] (pieces_named (transfer_len is.work.opcode (physical p)) (physical p) host)
+      ≡ cond (transfer_len is.work.opcode (physical p) == 0) [] (pieces_named (transfer_len is.work.opcode (physical p)) (physical p) other)
+
+  same-nothing : (other : ℕ → ℕ) (p : Plan) → transfer_len is.work.opcode (physical p) ≡ 0 → ReadsSame other p
+  same-nothing other p none =
+      ap (λ n. cond (n == 0) [] (pieces_named n (physical p) host)) none ∙ sym (ap (λ n. cond (n == 0) [] (pieces_named n (physical p) other)) none)
+
+  same-some : (other : ℕ → ℕ) (p : Plan) → transfer_len is.work.opcode (physical p) ≡ transfer_len is.work.opcode entry
+      → fit_prp (addresses_of p guest bounce) ≡ true → length (addresses_of p guest bounce) ≡ transfer_len is.work.opcode entry
+      → All Fits64 (addresses_of p guest bounce)
+      → Shows host list (list_bytes (prps_of p guest list bounce)) → Shows other list (list_bytes (prps_of p guest list bounce)) → ReadsSame other p
+  same-some other p same fit count each shown also =
+      let short = end-short (mapped (regions_of guest)) guest.limit (shape_of guest).blocks entry is.work is.verdict in
+      let area = laid.area in
+      let small = laid.few in
+      let pages = laid.pages in
+      let within : list < 2 ^ 64 = omega (arith, area, small, below, tag_below) in
+      let prps = prps-fit list (addresses_of p guest bounce) within each in
+      let fields = entry-prps p guest entry geometry.mediator lane tag prps.0 prps.1 in
+      let n = transfer_len is.work.opcode entry in
+      ap (λ k. cond (k == 0) [] (pieces_named k (physical p) host)) same
+      ∙ ap (λ ps. cond (n == 0) [] ps)
+      (named-same host other list n (addresses_of p guest bounce) (physical p) fit count short (omega (arith, pages))
+      (holds-list host list (addresses_of p guest bounce) each shown) (holds-list other list (addresses_of p guest bounce) each also) fields.0 fields.1)
+      ∙ sym (ap (λ k. cond (k == 0) [] (pieces_named k (physical p) other)) same)
+
+  plan-same : (other : ℕ → ℕ) → Shows host list (list_bytes (prps_of plan guest list bounce)) → Shows other list (list_bytes (prps_of plan guest list bounce))
+      → ReadsSame other plan
+  plan-same other =
+      let sound = end-sound (mapped (regions_of guest)) guest.limit (shape_of guest).blocks entry is.work is.verdict in
+      planned-by (λ p. All Fits64 (addresses_of p guest bounce) → Shows host list (list_bytes (prps_of p guest list bounce))
+      → Shows other list (list_bytes (prps_of p guest list bounce)) → ReadsSame other p) guest entry plan is
+      (λ none each shown also. same-nothing other (NoData is.work) ((form-lengths (NoData is.work) refl).0 ∙ form-nothing (form_of is.work.opcode) entry none))
+      (λ buffer fits each shown also.
+      (let both = and-true (list_all is_run is.work.pieces) (fit_prp (host_addresses (regions_of guest) is.work.pieces)) fits in
+      same-some other (Direct is.work) (form-lengths (Direct is.work) refl).0 both.1
+      (length-mapped_runs (regions_of guest) is.work.pieces sound.mapped_each both.0 ∙ sound.total) each shown also))
+      (λ buffer each shown also.
+      (let some = form-something (form_of is.work.opcode) entry buffer in
+      let total = sound.total in
+      let pages = laid.pages in
+      same-some other (Bounced is.work) (form-lengths (Bounced is.work) refl).0
+      (fit-row bounce (total_len is.work.pieces) (omega (arith, total, some)) (omega (arith, pages)))
+      (length-range_with_len bounce (total_len is.work.pieces) ∙ total) each shown also))
+      (addresses-fit host_bytes lanes geometry owner guest entry plan lane tag laid given below tag_below is)
+
+  pub held-same : (other : ℕ → ℕ) → Shows host list (list_bytes (prps_of plan guest list bounce)) → Shows other list (list_bytes (prps_of plan guest list bounce))
+      → held_of (physical plan) host ≡ held_of (physical plan) other
+  unfolding held_of
+  held-same other shown also =
+      ap (λ (ps : List Piece).
+      let h : Held = record {
+        entry = physical plan;
+        pieces = ps;
+        left = range_with_len 0 (unit_count (io_opcode (opcode_of (physical plan))) (physical plan));
+        differed = false;
+      } in
+      h)
+      (ap (λ o. host_pieces o (physical plan) host) (physical-opcode plan) ∙ plan-same other shown also
+      ∙ sym (ap (λ o. host_pieces o (physical plan) other) (physical-opcode plan)))
+
   -- so it holds the command with them
   pub held-places : Shows host list (list_bytes (prps_of plan guest list bounce))
       → places_of (held_of (physical plan) host).pieces ≡ map At (addresses_of plan guest bounce)
@@ -272,6 +354,10 @@ module _ (host_bytes lanes : ℕ) (geometry : Geometry) (laid : IsLaidOut host_b
       ap (λ o. places_of (host_pieces o (physical plan) host)) (physical-opcode plan) ∙ plan-reads shown
 
   -- and with all its units
+  pub held-all : (held_of (physical plan) host).left ≡ range_with_len 0 (form_unit_count (form_of is.work.opcode) entry)
+  unfolding held_of
+  held-all = ap (range_with_len 0) (ap (λ o. unit_count o (physical plan)) (physical-opcode plan) ∙ plan-lengths.1)
+
   pub held-left : All (λ k. k < unit_count (io_opcode (opcode_of entry)) entry) (held_of (physical plan) host).left
   unfolding held_of
   held-left =

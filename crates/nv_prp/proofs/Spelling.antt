@@ -121,6 +121,27 @@ places_of-paged (entry ∷ entries) bytes =
 
 -- ---- what is built spells the addresses
 
+-- what is read of a list of addresses that is not empty, wherever its list stands
+built-reads-some : (m : ℕ → ℕ) (list_page addr : ℕ) (addresses : List ℕ) → fit_behind None (addr ∷ addresses) ≡ true
+    → suc (length addresses) ≤ 131072 → list_page % 4096 ≡ 0
+    → HoldsNumbers m list_page (listed (filter starts_page addresses))
+    → in_memory m (read_prp all addr (prp2_by list_page (filter starts_page addresses)) (suc (length addresses)))
+    ≡ Spells (run addr (first_len addr (suc (length addresses))) ++ paged_runs (filter starts_page addresses) (suc (length addresses) - first_len addr (suc (length addresses))))
+unfolding fit_behind
+built-reads-some m list_page addr addresses fit most starts holds =
+    let es : List ℕ = filter starts_page addresses in
+    let n : ℕ = suc (length addresses) in
+    let first : ℕ = first_len addr n in
+    let parts = both (may_follow None addr) (fit_behind (Some (addr + 1)) addresses) fit in
+    let four : addr % 4 ≡ 0 = let is = parts.0 in grind (arith, nat_tests) in
+    let paged_so = Paged-fit (addr + 1) addresses parts.1 in
+    let count = paged_so.count in
+    let left : n - first ≡ length addresses - room_from (addr + 1) = omega arith in
+    let pages : pages_of (n - first) ≡ length es = ap (λ (k : ℕ). pages_of k) left ∙ sym count in
+    let few : length es ≤ 512 = omega (arith, count) in
+    unrefused m 4 addr first (read_prp2 all (pages_of (n - first)) (prp2_by list_page es) (n - first) (run addr first)) four
+    ∙ read_prp2-spelt m list_page (pages_of (n - first)) es (n - first) (run addr first) pages paged_so.aligned few starts holds
+
 -- a list of addresses that is not empty
 built-spells-some : (m : ℕ → ℕ) (list_page addr : ℕ) (addresses : List ℕ) → fit_behind None (addr ∷ addresses) ≡ true
     → suc (length addresses) ≤ 131072 → list_page % 4096 ≡ 0
@@ -132,16 +153,10 @@ built-spells-some m list_page addr addresses fit most starts holds =
     let n : ℕ = suc (length addresses) in
     let first : ℕ = first_len addr n in
     let parts = both (may_follow None addr) (fit_behind (Some (addr + 1)) addresses) fit in
-    let four : addr % 4 ≡ 0 = let is = parts.0 in grind (arith, nat_tests) in
     let paged_so = Paged-fit (addr + 1) addresses parts.1 in
-    let count = paged_so.count in
     let left : n - first ≡ length addresses - room_from (addr + 1) = omega arith in
     let row : first ≡ suc (min (length addresses) (room_from (addr + 1))) = omega arith in
-    let pages : pages_of (n - first) ≡ length es = ap (λ (k : ℕ). pages_of k) left ∙ sym count in
-    let few : length es ≤ 512 = omega (arith, count) in
-    let read : in_memory m (read_prp all addr (prp2_by list_page es) n) ≡ Spells (run addr first ++ paged_runs es (n - first)) =
-    unrefused m 4 addr first (read_prp2 all (pages_of (n - first)) (prp2_by list_page es) (n - first) (run addr first)) four
-    ∙ read_prp2-spelt m list_page (pages_of (n - first)) es (n - first) (run addr first) pages paged_so.aligned few starts holds in
+    let read = built-reads-some m list_page addr addresses fit most starts holds in
     let places : places_of (run addr first ++ paged_runs es (n - first)) ≡ map At (addr ∷ addresses) =
     places_of-append (run addr first) (paged_runs es (n - first))
     ∙ ap (λ (ps : List Place). ps ++ places_of (paged_runs es (n - first))) (places_of-run addr first)
@@ -161,6 +176,19 @@ built-spells m list_page [] fit most starts holds = refl
 built-spells m list_page (addr ∷ addresses) fit most starts holds =
     built-spells-some m list_page addr addresses fit most starts
     (subst (HoldsNumbers m list_page) (take-append_seam (listed (filter starts_page addresses)) (replicate (32 - length (listed (filter starts_page addresses))) 0)) holds)
+
+-- and reads the same wherever its list stands
+pub built-same : (m other : ℕ → ℕ) (list_page : ℕ) (addresses : List ℕ) → fit_prp addresses ≡ true
+    → length addresses ≤ 131072 → list_page % 4096 ≡ 0
+    → HoldsList m list_page (built list_page addresses) → HoldsList other list_page (built list_page addresses)
+    → reading_of m (built list_page addresses) (length addresses) ≡ reading_of other (built list_page addresses) (length addresses)
+unfolding built in_memory everywhere
+built-same m other list_page [] fit most starts holds also = refl
+built-same m other list_page (addr ∷ addresses) fit most starts holds also =
+    let numbers : List ℕ = listed (filter starts_page addresses) in
+    let front = take-append_seam numbers (replicate (32 - length numbers) 0) in
+    built-reads-some m list_page addr addresses fit most starts (subst (HoldsNumbers m list_page) front holds)
+    ∙ sym (built-reads-some other list_page addr addresses fit most starts (subst (HoldsNumbers other list_page) front also))
 
 -- behind the list stand zeros
 zeros_by : (numbers : List ℕ)
