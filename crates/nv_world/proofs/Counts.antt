@@ -33,16 +33,16 @@ count-few : (bag : Bag) (queue names : ℕ) → ((name : ℕ) → names ≤ name
     → IsFew (count_below bag queue bound) names bound
 count-few bag queue names none zero = record { few = omega arith; below = omega arith }
 count-few bag queue names none (suc name) = elim (cases_lt name names) [
-    | inl early ↦
-        (let one = one-most queue (bag name) in
-        let before = (count-few bag queue names none name).below in
-        record { few = omega (arith, one, before, early); below = omega (arith, one, before) })
-    | inr late ↦
-        (let same : one_of queue (bag name) ≡ 0 = ap (one_of queue) (none name late) in
-        let few = (count-few bag queue names none name).few in
-        let below = (count-few bag queue names none name).below in
-        record { few = omega (arith, same, few); below = omega (arith, same, below) })
-  ]
+  | inl early ↦
+      (let one = one-most queue (bag name) in
+      let before = (count-few bag queue names none name).below in
+      record { few = omega (arith, one, before, early); below = omega (arith, one, before) })
+  | inr late ↦
+      (let same : one_of queue (bag name) ≡ 0 = ap (one_of queue) (none name late) in
+      let few = (count-few bag queue names none name).few in
+      let below = (count-few bag queue names none name).below in
+      record { few = omega (arith, same, few); below = omega (arith, same, below) })
+]
 
 -- no name behind the tags of all lanes is a command's
 none-behind : (w : World) (number name : ℕ) → tag_count * length w.lanes ≤ name → commands w number name ≡ None

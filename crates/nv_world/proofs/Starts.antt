@@ -1,8 +1,10 @@
 -- The world of a set-up that is not refused, at its start.
 use Rattle.std.proofs.Common.{◌≡◌, ℕ, zero, suc, ◌+◌, ◌*◌, ◌^◌, ◌<◌, ◌≤◌, List, [], ◌∷◌, ◌++◌, length, slice_get, None, Some, arith, refl, sym, subst, ap, ◌∙◌}
 use Rattle.std.proofs.lemmas.List.{length-replicate}
+use Rattle.std.proofs.lemmas.List.Elements.{All-nil}
 use Rattle.nv_core.specs.State.{IsOf, IsOpening, State, world_of}
 use Rattle.nv_device.specs.Physical.{FitsLimits}
+use Rattle.nv_laws_others.specs.Alike.{HasFittingStatus}
 use Rattle.nv_laws_sound.proofs.CountedRuns.{opening-counted}
 use Rattle.nv_laws_sound.proofs.LaidOuts.{accepted, all-one, laid-out, on-disk, sizes-of}
 use Rattle.nv_laws_sound.proofs.Openings.{opening-consistent}
@@ -78,6 +80,7 @@ module _ (s : SetUp) (core : State) (opening : IsOpening s.geometry s.host_bytes
     };
     counted = subst (IsCounted s.geometry) (sym opening.world) (opening-counted s.geometry s.lanes);
     replayed = record { end = ap world_at_start setup-is ∙ sym opening.world; told = refl };
+    fitting = All-nil (λ (l : Logged). HasFittingStatus l.event);
   }
 
 -- as `open` makes them: the set-up as handed in, what the layout is, and the log

@@ -1,13 +1,17 @@
 -- A step of the state, with the log: what is kept of a mediator, and what its callers see.
 use Rattle.std.proofs.Common.{◌≡◌, ℕ, inl, inr, Bool, true, false, List, [], ◌∷◌, ◌++◌, length, map, arith, refl, sym, subst, ap, ◌∙◌}
+use Rattle.std.proofs.lemmas.List.Elements.{All-append, All-cons, All-nil}
+use Rattle.std.specs.List.{All}
 use Rattle.nv_core.specs.State.{IsOf, IsSameSize, IsStep, State, world_of}
+use Rattle.nv_laws_others.proofs.Containing.{contained-since}
+use Rattle.nv_laws_others.specs.Alike.{HasFittingStatus}
 use Rattle.nv_laws_sound.proofs.CountedEvents.{step-counted}
 use Rattle.nv_laws_sound.proofs.Steps.{lanes-kept, step-consistent}
 use Rattle.nv_laws_sound.specs.Consistent.{IsConsistent}
 use Rattle.nv_laws_sound.specs.Counted.{IsCounted}
 use Rattle.nv_laws_sound.specs.LaidOut.{IsLaidOut}
 use Rattle.nv_model.specs.declared.reply.Reply.{Reply}
-use Rattle.nv_world.specs.Mediated.{IsLogged, IsRunning, IsUnchanged, Kept, Mediated, mediated, setup_of}
+use Rattle.nv_world.specs.Mediated.{IsContained, IsLogged, IsRunning, IsUnchanged, Kept, Mediated, mediated, setup_of}
 use Rattle.nv_world_model.specs.declared.event.Event.{Event}
 use Rattle.nv_world_model.specs.declared.logged.Logged.{Logged}
 use Rattle.nv_world_model.specs.Geometry.{Geometry}
@@ -72,14 +76,15 @@ module _ (k : Kept) (new : State) (running : IsRunning k) (size : IsSameSize k.s
       }
 
   still-running : (log : List Logged) → IsConsistent k.geometry (world_of new) → IsCounted k.geometry (world_of new)
-      → IsReplay k.geometry (world_at_start (setup_of k)) log (world_of new)
+      → IsReplay k.geometry (world_at_start (setup_of k)) log (world_of new) → All (λ l. HasFittingStatus l.event) log
       → IsRunning (record { geometry = k.geometry; state = new; log = log })
-  still-running log consistent counted replayed =
+  still-running log consistent counted replayed fitting =
       record {
         accepted = ap refusal_of (setup-same log) ∙ running.accepted;
         of = still-of consistent;
         counted = counted;
         replayed = subst (λ (s : SetUp). IsReplay k.geometry (world_at_start s) log (world_of new)) (sym (setup-same log)) replayed;
+        fitting = fitting;
       }
 
   -- nothing has changed
@@ -87,7 +92,7 @@ module _ (k : Kept) (new : State) (running : IsRunning k) (size : IsSameSize k.s
     pub unchanged-running : IsRunning (record { geometry = k.geometry; state = new; log = k.log })
     unchanged-running =
         still-running k.log (subst (IsConsistent k.geometry) (sym same) running.of.consistent) (subst (IsCounted k.geometry) (sym same) running.counted)
-        (subst (IsReplay k.geometry (world_at_start (setup_of k)) k.log) (sym same) running.replayed)
+        (subst (IsReplay k.geometry (world_at_start (setup_of k)) k.log) (sym same) running.replayed) running.fitting
 
     pub unchanged-seen : mediated (record { geometry = k.geometry; state = new; log = k.log }) ≡ mediated k
     unchanged-seen =
@@ -105,16 +110,25 @@ module _ (k : Kept) (new : State) (e : Event) (r : Reply) (running : IsRunning k
   lanes-same : length new.lanes ≡ length k.state.lanes
   lanes-same = ap (λ (w : World). length w.lanes) world-is ∙ lanes-kept k.geometry (world_of k.state) e
 
-  pub step-running : (log : List Logged) → log ≡ k.log ++ record { event = e; reply = r } ∷ []
+  pub step-running : (log : List Logged) → log ≡ k.log ++ record { event = e; reply = r } ∷ [] → HasFittingStatus e
       → IsRunning (record { geometry = k.geometry; state = new; log = log })
-  step-running log joined =
+  unfolding logged
+  step-running log joined fits =
       still-running k new running is.size lanes-same log
       (subst (IsConsistent k.geometry) (sym world-is)
       (step-consistent (length k.state.host) k.geometry e (world_of k.state) running.of.laid_out running.of.consistent))
       (subst (IsCounted k.geometry) (sym world-is) (step-counted k.geometry e (world_of k.state) running.of.consistent running.counted))
       (subst (λ (l : List Logged). IsReplay k.geometry (world_at_start (setup_of k)) l (world_of new)) (sym joined)
       (replay-more k.geometry (record { event = e; reply = r }) k.log (world_at_start (setup_of k)) (world_of k.state) (world_of new) running.replayed is.after))
+      (subst (All (λ l. HasFittingStatus l.event)) (sym joined)
+      (All-append (λ l. HasFittingStatus l.event) k.log (logged ∷ []) running.fitting
+      (All-cons (λ l. HasFittingStatus l.event) logged [] fits (All-nil (λ l. HasFittingStatus l.event)))))
 
   pub step-logged : (log : List Logged) → log ≡ k.log ++ record { event = e; reply = r } ∷ []
       → IsLogged e (mediated k) r (mediated (record { geometry = k.geometry; state = new; log = log }))
   step-logged log joined = record { after = is.after; log = joined; setup = setup-same k new running is.size lanes-same log }
+
+-- each step so far is contained
+pub running-contained : (k : Kept) → IsRunning k → IsContained k
+running-contained k is =
+    contained-since (setup_of k) k.log is.accepted (λ number guest at. (is.of.laid_out.given number guest at).sound) is.fitting

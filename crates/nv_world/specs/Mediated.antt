@@ -1,7 +1,8 @@
 -- The mediator as its callers see it: its set-up, the log of what has happened, and the world behind it (profile).
-use Rattle.std.specs.Prelude.{◌≡◌, ◌⊎◌, ℕ, List, [], ◌∷◌, ◌++◌, length, Option, Some, None}
+use Rattle.std.specs.Prelude.{◌≡◌, ◌⊎◌, ℕ, All, List, [], ◌∷◌, ◌++◌, length, Option, Some, None}
 use Rattle.nv_core.specs.State.{CountsMore, IsOf, IsSameSize, State, world_of}
 use Rattle.nv_laws_sound.specs.Counted.{IsCounted}
+use Rattle.nv_laws_others.specs.Alike.{HasFittingStatus}
 use Rattle.nv_mem.specs.GuestMap.{Mapping}
 use Rattle.nv_ns.specs.BlockRange.{Extent}
 use Rattle.nv_model.specs.declared.reply.Reply.{Reply}
@@ -9,6 +10,7 @@ use Rattle.nv_model.specs.declared.reply.Reply.TheVariants as reply
 use Rattle.nv_world_model.specs.declared.event.Event.{Event}
 use Rattle.nv_world_model.specs.declared.logged.Logged.{Logged}
 use Rattle.nv_world_model.specs.Geometry.{Geometry, Guest}
+use Rattle.nv_world_model.specs.Headline.{AreContained}
 use Rattle.nv_world_model.specs.Log.{IsReplay}
 use Rattle.nv_world_model.specs.SetUp.{SetUp, refusal_of, world_at_start}
 use Rattle.nv_world_model.specs.Step.{step}
@@ -79,6 +81,11 @@ pub record IsRunning (k : Kept) : Type 0 where
   pub of : IsOf k.geometry k.state
   pub counted : IsCounted k.geometry (world_of k.state)
   pub replayed : IsReplay k.geometry (world_at_start (setup_of k)) k.log (world_of k.state)
+  pub fitting : All (λ l. HasFittingStatus l.event) k.log
+
+-- each step of its log is contained, whole
+abbrev pub IsContained : Kept → Type 0
+IsContained k = AreContained k.geometry k.log (world_at_start (setup_of k))
 
 -- ---- what a guest has
 

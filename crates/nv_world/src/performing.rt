@@ -3,6 +3,7 @@
 ghost use Rattle.std.specs.Prelude.{◌≡◌, IfOk, IfSome, IsSome, None, OnErr, Some};
 ghost use Rattle.nv_core.specs.Seat.{bytes_told};
 ghost use Rattle.nv_core.specs.State.{IsOf, IsStep, world_of};
+ghost use Rattle.nv_laws_others.specs.Alike.{HasFittingStatus};
 ghost use Rattle.nv_laws_sound.specs.Counted.{IsCounted};
 ghost use Rattle.nv_world.specs.Mediated.{CanCount, IsUnchanged};
 ghost use Rattle.nv_world.specs.Told.{IsAgain};
@@ -31,6 +32,16 @@ pub(crate) fn perform(
     let (reply, again) = carry_out(alloc, layout, core, event)?;
     let logged = logged(alloc, &reply, again)?;
     Ok((reply, logged))
+}
+
+/// What is known of an event by its type: a status with which the physical controller fails a command fits a completion.
+pub(crate) fn known(event: &Event)
+    ensures { HasFittingStatus event.now }
+{
+    if let Event::DevFail(_, _, status) = event {
+        let _kind = status.sct();
+        let _code = status.sc();
+    }
 }
 
 // Carries out an event. Where it changes something and has bytes for a reply, these come once more.

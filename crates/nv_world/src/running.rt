@@ -1,7 +1,7 @@
 //! Many steps of the world.
 
 ghost use Rattle.std.specs.Prelude.{◌≡◌, OnErr, OnOk};
-ghost use Rattle.nv_world.specs.Mediated.{AreAnswered, IsStepped, mediated};
+ghost use Rattle.nv_world.specs.Mediated.{AreAnswered, IsContained, IsStepped, mediated};
 
 use crate::copies;
 use crate::world::World;
@@ -12,12 +12,29 @@ use std::alloc::Global;
 
 impl World {
     /// Carries out these events one after another, and puts their replies behind others. A step without memory is answered so, and the
-    /// next one is made; so is an event of which there was no copy for the log.
+    /// next one is made; so is an event of which there was no copy for the log. Each step in the log is contained.
     ///
     /// # Errors
     ///
     /// There was no memory for all of the replies, and nothing has changed.
     pub fn run(
+        &mut self,
+        alloc: Global,
+        events: &[Event],
+        replies: &mut Vec<Reply>,
+    ) -> Result<(), NoMemory>
+        ensures ok { OnOk result (AreAnswered events.now (mediated self.old) replies.old.items replies.new.items (mediated self.new)) }
+        ensures err { OnErr result ((mediated self.new ≡ mediated self.old) × (replies.new.items ≡ replies.old.items)) }
+        ensures contained { IsContained self.new }
+    {
+        let ended = self.run_all(alloc, events, replies);
+        // With the log comes what is known of its steps.
+        let _log = self.log();
+        ended
+    }
+
+    // The events themselves.
+    fn run_all(
         &mut self,
         alloc: Global,
         events: &[Event],

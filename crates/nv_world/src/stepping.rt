@@ -1,7 +1,7 @@
 //! Steps of the world.
 
 ghost use Rattle.std.specs.Prelude.{◌≡◌};
-ghost use Rattle.nv_world.specs.Mediated.{IsStepped, mediated};
+ghost use Rattle.nv_world.specs.Mediated.{IsContained, IsStepped, mediated};
 
 use crate::performing;
 use crate::world::World;
@@ -11,9 +11,23 @@ use std::alloc::Global;
 
 impl World {
     /// Carries out an event and logs it with its reply. Where no memory is left, nothing has changed, the log neither.
+    ///
+    /// Each step in the log is contained: it reads and changes nothing of a guest but its owner's.
     pub fn step(&mut self, alloc: Global, event: Event) -> Reply
+        ensures step { IsStepped event (mediated self.old) result (mediated self.new) }
+        ensures contained { IsContained self.new }
+    {
+        let reply = self.advance(alloc, event);
+        // With the log comes what is known of its steps.
+        let _log = self.log();
+        reply
+    }
+
+    // The step itself.
+    fn advance(&mut self, alloc: Global, event: Event) -> Reply
         ensures { IsStepped event (mediated self.old) result (mediated self.new) }
     {
+        performing::known(&event);
         if self.log.reserve(1).is_err() {
             return Reply::NoMemory;
         }

@@ -2,7 +2,7 @@ use Rattle.std.proofs.Common.{◌≡◌, ◌+◌, ◌≤◌, List, ℕ, length, 
 use Rattle.nv_model.specs.declared.reply.Reply.{Reply}
 use Rattle.nv_world.specs.Mediated.{AreAnswered, Mediated, mediated}
 use Rattle.nv_world_model.specs.declared.event.Event.{Event}
-use Rattle.nv_world.proofs.world.World.run.Given as goal
+use Rattle.nv_world.proofs.world.World.run_all.Given as goal
 
 -- the events so far are answered, and there is room for the other replies
 pub record SoFar (events : List Event) (index : ℕ) (old now : Mediated) (before after : List Reply) (len capacity : ℕ) : Type 0 where
