@@ -4,3 +4,4 @@ pub mod LaneTags
 pub mod TakenTags
 pub mod Takes
 pub mod ListReads
+pub mod FlyingTags

@@ -9,9 +9,12 @@
 
 mod acting;
 mod administering;
+mod area;
 mod keeping;
 mod lane;
+mod lane_flying;
 mod layout;
+mod physical_entry;
 mod progress;
 mod seat;
 mod standing;
