@@ -5,3 +5,9 @@ pub mod TakenTags
 pub mod Takes
 pub mod ListReads
 pub mod FlyingTags
+pub mod StoredRows
+pub mod MadePlans
+pub mod SourceRuns
+pub mod PlanLengths
+pub mod BouncedBytes
+pub mod Written

@@ -21,6 +21,7 @@ mod standing;
 mod state;
 mod tagged;
 mod taking;
+mod writing;
 
 pub use layout::{Given, Layout};
 pub use state::Core;
