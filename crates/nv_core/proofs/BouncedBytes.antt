@@ -1,5 +1,5 @@
 -- What stands in the bounce pages of a plan that bounces, by the opcode of its command.
-use Rattle.std.proofs.Common.{◌≡◌, ℕ, ◌+◌, ◌*◌, ◌<◌, ◌≤◌, ◌⊎◌, inl, inr, All, false, true, List, [], flat_map, length, Option, Some, None, arith, refl, sym, ap, ◌∙◌, subst}
+use Rattle.std.proofs.Common.{◌≡◌, ℕ, ◌≤◌, ◌⊎◌, inl, inr, All, false, true, List, [], flat_map, length, Some, None, arith, refl, sym, ap, ◌∙◌, subst}
 use Rattle.nv_bounce.specs.Bounce.{NamesNoBucket}
 use Rattle.nv_core.specs.Tags.{plan_made}
 use Rattle.nv_core.proofs.MadePlans.{IsBounced, MayGo, bounced-goes, made-bounced, made-said}
@@ -13,7 +13,7 @@ use Rattle.nv_laws_sound.proofs.Lists.{some-same}
 use Rattle.nv_mem.specs.GuestMap.{mapped}
 use Rattle.nv_mem.specs.Places.{places_of, total_len}
 use Rattle.nv_mem.specs.declared.piece.Piece.{Piece}
-use Rattle.nv_model.specs.Judge.{Clear, Form, Keep, Manage, Transfer, Work, form_is_read, form_of}
+use Rattle.nv_model.specs.Judge.{Clear, Form, Keep, Manage, Transfer, form_is_read, form_of}
 use Rattle.nv_model.specs.Laws.{IsMappedPiece}
 use Rattle.nv_model.specs.Limits.{most_bytes}
 use Rattle.nv_model.specs.Memory.{gathered, image, stored}

@@ -11,3 +11,5 @@ pub mod SourceRuns
 pub mod PlanLengths
 pub mod BouncedBytes
 pub mod Written
+pub mod SubmitJobs
+pub mod Submits

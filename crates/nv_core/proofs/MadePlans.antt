@@ -1,5 +1,5 @@
 -- What a plan that was made says, and the definition's plan of its job.
-use Rattle.std.proofs.Common.{◌≡◌, ℕ, ◌+◌, ◌*◌, ◌/◌, ◌^◌, ◌<◌, ◌≤◌, Bool, true, false, List, [], map, length, Option, Some, None, arith, refl, sym, ap, ◌∙◌, subst, mod-lt}
+use Rattle.std.proofs.Common.{◌≡◌, ℕ, true, List, map, refl, sym, ap, ◌∙◌, subst}
 use Rattle.nv_core.specs.Submit.{IsGoing}
 use Rattle.nv_core.specs.Tags.{plan_come, plan_made}
 use Rattle.nv_entry.specs.Status.{StatusField}
@@ -7,10 +7,9 @@ use Rattle.nv_laws_sound.proofs.PlanSizes.{planned-by}
 use Rattle.nv_laws_sound.proofs.Planned.{Answers, IsAnswerOr, Plans, plan_over-is}
 use Rattle.nv_laws_sound.specs.Consistent.{IsPlanned}
 use Rattle.nv_mem.specs.GuestMap.{mapped}
-use Rattle.nv_mem.specs.declared.piece.Piece.{Piece}
 use Rattle.nv_model.specs.Endings.{MayEndIn}
-use Rattle.nv_model.specs.Judge.{Form, Go, Work, form_of, has_buffer, judge}
-use Rattle.nv_model.specs.Transcript.{Outcome, ReadDone, Settled, Wanted}
+use Rattle.nv_model.specs.Judge.{Go, Work, form_of, has_buffer, judge}
+use Rattle.nv_model.specs.Transcript.{Outcome, Settled, Wanted}
 use Rattle.nv_plan.specs.Made.{IsJobsPlan, MadePlan, outcome_of}
 use Rattle.nv_plan.specs.Outline.{Outline, outline_of, outlined}
 use Rattle.nv_plan.specs.declared.kind.PlanKind.TheVariants as kind

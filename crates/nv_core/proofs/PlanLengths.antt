@@ -1,10 +1,9 @@
 -- How long the transfer of a plan is, and which blocks its command names.
-use Rattle.std.proofs.Common.{◌≡◌, ℕ, suc, ◌+◌, ◌*◌, ◌-◌, ◌/◌, ◌^◌, ◌<◌, ◌≤◌, Bool, true, false, List, [], map, length, Option, Some, None, arith, refl, sym, ap, ◌∙◌, subst, mod-lt, flat_map, ◌∷◌, ◌++◌}
+use Rattle.std.proofs.Common.{◌≡◌, ℕ, suc, ◌+◌, ◌-◌, ◌/◌, ◌^◌, ◌<◌, ◌≤◌, true, List, [], map, length, Option, arith, refl, sym, ap, ◌∙◌, mod-lt, flat_map, ◌∷◌, ◌++◌}
 use Rattle.std.proofs.lemmas.Bool.Decides.{nat_tests}
-use Rattle.std.specs.Prelude.{nat_le, ◌&&◌}
-use Rattle.nv_core.specs.Submit.{IsGoing, NamesBlocks}
-use Rattle.nv_core.specs.Tags.{plan_made}
-use Rattle.nv_core.proofs.MadePlans.{IsBounced, IsDirect, MayGo, bounced-goes, direct-goes, made-bounced, made-direct}
+use Rattle.std.specs.Prelude.{nat_le}
+use Rattle.nv_core.specs.Submit.{NamesBlocks}
+use Rattle.nv_core.proofs.MadePlans.{IsBounced, MayGo, bounced-goes, direct-goes, made-bounced, made-direct}
 use Rattle.nv_device.specs.Physical.{len_of}
 use Rattle.nv_entry.specs.Layout.{bits}
 use Rattle.nv_entry.specs.Opcode.{io_opcode}
@@ -12,16 +11,16 @@ use Rattle.nv_entry.specs.Submission.{cdw_of, nr_of, opcode_of, slba_of}
 use Rattle.nv_entry.specs.declared.opcode.IoOpcode.{IoOpcode}
 use Rattle.nv_mem.specs.GuestMap.{mapped}
 use Rattle.nv_mem.specs.Places.{total_len}
-use Rattle.nv_model.specs.Judge.{Clear, Form, Keep, Manage, Transfer, Work, count_of, form_has_buffer, form_of, form_transfer_len, has_blocks, has_buffer, range_count_of, transfer_len}
+use Rattle.nv_model.specs.Judge.{Clear, Form, Keep, Manage, Transfer, Work, count_of, form_has_buffer, form_of, form_transfer_len, range_count_of, transfer_len}
 use Rattle.nv_model.specs.Limits.{most_bytes}
 use Rattle.nv_model.proofs.AnyAnswers.{end-short, end-sound, end-within}
 use Rattle.nv_model.proofs.Endings.{and-true}
 use Rattle.nv_model.proofs.Judged.{IsSoundWork}
-use Rattle.nv_ns.specs.BlockRange.{Extent, block_count}
+use Rattle.nv_ns.specs.BlockRange.{Extent}
 use Rattle.nv_plan.specs.Made.{IsJobsPlan, MadePlan}
 use Rattle.nv_plan.specs.declared.kind.PlanKind.TheVariants as kind
 use Rattle.nv_world_model.specs.Area.{form_dwords, translated_range}
-use Rattle.nv_world_model.specs.Geometry.{Guest, regions_of, shape_of}
+use Rattle.nv_world_model.specs.Geometry.{regions_of, shape_of}
 
 module _ (p : MadePlan) (work : Work) (goes : MayGo p work) where
   pub sound : IsSoundWork (mapped (regions_of p.given)) (shape_of p.given).blocks p.job.sqe work

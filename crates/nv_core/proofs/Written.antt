@@ -1,9 +1,9 @@
 -- The host behind what is written for a physical command.
-use Rattle.std.proofs.Common.{◌≡◌, ℕ, ◌+◌, ◌*◌, ◌%◌, ◌<◌, ◌≤◌, Bool, true, false, cond, List, [], length, flat_map, take, arith, refl, sym, ap, ◌∙◌, subst}
+use Rattle.std.proofs.Common.{◌≡◌, ℕ, ◌%◌, ◌≤◌, false, cond, List, [], length, arith, refl, ap, ◌∙◌}
 use Rattle.nv_core.specs.Submit.{HasRoom, IsGoing, tag_bytes}
 use Rattle.nv_core.specs.Tags.{plan_made}
 use Rattle.nv_core.proofs.MadePlans.{made-planned}
-use Rattle.nv_laws_sound.proofs.PlanSizes.{addresses-nameable, entry-length, list-short, used-few}
+use Rattle.nv_laws_sound.proofs.PlanSizes.{addresses-nameable, list-short, used-few}
 use Rattle.nv_mem.specs.GuestMap.{span_met}
 use Rattle.nv_mem.proofs.Memory.{span_met-part}
 use Rattle.nv_mem.specs.Places.{places_of}

@@ -7,9 +7,10 @@ use Rattle.nv_mem.specs.GuestMap.{span_met}
 use Rattle.nv_model.specs.Judge.{has_blocks}
 use Rattle.nv_model.specs.Limits.{page}
 use Rattle.nv_model.specs.Queue.{next_slot}
-use Rattle.nv_model.specs.Transcript.{Outcome, Settled, Wanted}
+use Rattle.nv_model.specs.Transcript.{Outcome, ReadDone, Settled, Wanted}
 use Rattle.nv_model.specs.declared.reply.Reply.{Reply}
 use Rattle.nv_model.specs.declared.reply.Reply.TheVariants as reply
+use Rattle.nv_plan.specs.declared.job.Job.{Job}
 use Rattle.nv_ns.specs.BlockRange.{Extent, block_at}
 use Rattle.nv_world_model.specs.Area.{lane_start, list_page, ring_size, tag_count, written}
 use Rattle.nv_world_model.specs.Geometry.{Guest, regions_of}
@@ -47,6 +48,14 @@ abbrev pub NamesBlocks : IoOpcode → (entry : List ℕ) → Extent → Type 0
 NamesBlocks opcode entry extent = has_blocks opcode ≡ true → block_at extent (slba_of entry) < 2 ^ 64
 
 -- ---- what is done
+
+-- the job of a command that was taken under a tag, with what was read of its lists
+pub record IsJobOf (lane tag : ℕ) (command : Command) (reads : List ReadDone) (job : Job) : Type 0 where
+  pub on : job.lane ≡ lane
+  pub under : job.tag ≡ tag
+  pub whose : job.guest ≡ command.guest
+  pub entry : job.sqe ≡ command.entry
+  pub read : job.reads ≡ reads
 
 -- a plan that is not an answer
 abbrev pub IsGoing : Plan → Type 0

@@ -84,22 +84,14 @@ fn count_dword(sqe: &Sqe) -> u32
     ensures { result ≡ nlb_of sqe.now + 2 ^ 30 * bit (is_fua sqe.now) }
 {
     let blocks = u32::from(sqe.nlb());
-    if sqe.fua() {
-        blocks + FUA
-    } else {
-        blocks
-    }
+    if sqe.fua() { blocks + FUA } else { blocks }
 }
 
 // AD.
 fn deallocate_dword(sqe: &Sqe) -> u32
     ensures { result ≡ 4 * deallocate_of sqe.now }
 {
-    if sqe.deallocate() {
-        DEALLOCATE
-    } else {
-        0
-    }
+    if sqe.deallocate() { DEALLOCATE } else { 0 }
 }
 
 // The low dword of a number.

@@ -1,4 +1,4 @@
-use Rattle.std.proofs.Common.{◌≡◌, ◌*◌, ◌<◌, ◌/◌, ◌^◌, ◌⊎◌, inl, inr, ℕ, Bool, true, false, arith, mod-lt}
+use Rattle.std.proofs.Common.{◌≡◌, ◌*◌, ◌<◌, ◌/◌, ◌^◌, inl, inr, ℕ, Bool, true, false, arith, mod-lt}
 use Rattle.std.proofs.lemmas.Bool.{cases_eq}
 use Rattle.std.specs.Prelude.{IsTrue}
 use Rattle.nv_entry.specs.Layout.{bits, dword}

@@ -1,4 +1,4 @@
-use Rattle.std.proofs.Common.{◌≡◌, ◌+◌, ◌<◌, ◌^◌, ◌∙◌, ℕ, List, Some, None, length, arith, ap, sym, subst, refl}
+use Rattle.std.proofs.Common.{◌≡◌, ◌+◌, ◌<◌, ◌^◌, ◌∙◌, ℕ, ap, sym, subst}
 use Rattle.nv_core.proofs.MadePlans.{made-work}
 use Rattle.nv_core.proofs.PlanLengths.{names-blocks, sound}
 use Rattle.nv_core.specs.Submit.{NamesBlocks}

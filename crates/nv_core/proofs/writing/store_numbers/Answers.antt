@@ -1,4 +1,4 @@
-use Rattle.std.proofs.Common.{◌≡◌, ◌+◌, ◌≤◌, ◌∙◌, ℕ, List, length, get_or, arith, refl, ap}
+use Rattle.std.proofs.Common.{◌≡◌, ◌+◌, ◌≤◌, ◌∙◌, length, get_or, arith, refl, ap}
 use Rattle.nv_core.proofs.StoredRows.{byte_in-stored, item-end, item-next}
 use Rattle.nv_entry.specs.Layout.{number_bytes}
 use Rattle.nv_model.specs.Memory.{byte_in, stored}

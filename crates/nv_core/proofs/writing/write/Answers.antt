@@ -1,7 +1,6 @@
-use Rattle.std.proofs.Common.{◌≡◌, ◌+◌, ◌≤◌, ◌∙◌, ℕ, List, false, flat_map, length, take, arith, ap, sym, subst}
+use Rattle.std.proofs.Common.{◌≡◌, ◌+◌, ◌≤◌, ◌∙◌, ℕ, false, length, arith, ap, sym, subst}
 use Rattle.nv_core.proofs.StoredRows.{byte_in-stored}
 use Rattle.nv_core.proofs.Written.{all-written, bounce-apart, list-few}
-use Rattle.nv_core.specs.Submit.{HasRoom}
 use Rattle.nv_core.specs.Tags.{plan_made}
 use Rattle.nv_entry.specs.Submission.{opcode_of}
 use Rattle.nv_laws_sound.proofs.PlanSizes.{entry-length}
@@ -32,7 +31,7 @@ returns-clause-bytes c =
     let lane = c.args.place.lane in
     let tag = c.args.place.tag in
     let list = list_page mediator lane tag in
-    let entry : c.entry_of-entry.result ≡ entry_of (plan_made p) p.given p.job.sqe mediator lane tag = 
+    let entry : c.entry_of-entry.result ≡ entry_of (plan_made p) p.given p.job.sqe mediator lane tag =
     c.entry_of-entry.ensures ∙ ap (λ (x : Prps). physical_entry (opcode_of p.job.sqe) tag x (plan_dwords (plan_made p) p.given.extent p.job.sqe)) c.prps_of-prps.ensures.value in
     let inside : c.submission_slot.result + length c.entry_of-entry.result ≤ length c.write_bounced.new.host =
     (let sized : length c.entry_of-entry.result ≡ 64 = ap length entry ∙ entry-length (plan_made p) p.given p.job.sqe mediator lane tag in

@@ -1,6 +1,6 @@
-use Rattle.std.proofs.Common.{◌≡◌, ◌+◌, ◌*◌, ◌≤◌, ◌∙◌, ℕ, All, List, Some, None, false, flat_map, length, arith, ap, sym, subst, refl}
+use Rattle.std.proofs.Common.{◌≡◌, ◌∙◌, ℕ, All, List, false, flat_map, length, arith, ap, sym, subst, refl}
 use Rattle.nv_bounce.specs.Bounce.{NamesNoBucket}
-use Rattle.nv_core.proofs.BouncedBytes.{IsSource, bounces-known, bounces-not, bounces-nothing, bounces-ranges, bounces-source}
+use Rattle.nv_core.proofs.BouncedBytes.{bounces-known, bounces-not, bounces-nothing, bounces-ranges, bounces-source}
 use Rattle.nv_entry.specs.Opcode.{io_opcode}
 use Rattle.nv_entry.specs.Submission.{opcode_of}
 use Rattle.nv_mem.specs.GuestMap.{Mapping, mapped, span_met}

@@ -1,7 +1,6 @@
-use Rattle.std.proofs.Common.{◌≡◌, ◌∙◌, List, ap, sym, subst, arith}
+use Rattle.std.proofs.Common.{◌∙◌, ap, sym, subst, arith}
 use Rattle.nv_core.proofs.LaneTags.{lane-taken, read-changed, read-whole, reading-at, same-taken}
 use Rattle.nv_core.specs.Tags.{IsReading}
-use Rattle.nv_model.specs.Transcript.{ReadDone}
 use Rattle.nv_world_model.specs.World.{Command, Taken, tag_changed}
 use Rattle.nv_core.proofs.lane.Lane.replace_reads.Goals as goal
 
