@@ -16,3 +16,12 @@ pub mod Reaps
 pub mod Delivers
 pub mod Clear
 pub mod Posts
+pub mod FlyingTags
+pub mod StoredRows
+pub mod MadePlans
+pub mod SourceRuns
+pub mod PlanLengths
+pub mod BouncedBytes
+pub mod Written
+pub mod SubmitJobs
+pub mod Submits

@@ -5,3 +5,4 @@ pub mod Take
 pub mod Going
 pub mod Answers
 pub mod Ending
+pub mod Submit

@@ -1,6 +1,7 @@
 //! What stays as it is while a world runs.
 
 ghost use Rattle.std.specs.Prelude.{◌≡◌, MatchOption, None, Some, slice_get};
+ghost use Rattle.nv_core.specs.Submit.{IsLimit};
 
 use nv_mem::GuestMap;
 use nv_ns::VirtualNs;
@@ -15,16 +16,20 @@ pub struct Given {
 }
 
 impl Model for Given {
+    ghost use Rattle.nv_core.specs.Submit.{IsLimit};
     ghost use Rattle.nv_world_model.specs.Geometry.{Guest};
 
     ghost Value = { Guest };
 
     ghost view = { λ g. record { memory_map = g.map; extent = g.ns; limit = g.limit } };
+
+    ghost invariant = { λ g. IsLimit g.limit };
 }
 
 impl Given {
-    /// This memory, this namespace, and this limit on descriptors.
+    /// This memory, this namespace, and this limit on descriptors, which is 1 to 4,096.
     pub fn new(map: GuestMap, ns: VirtualNs, limit: u32) -> Self
+        requires { IsLimit limit }
         ensures { result ≡ record { memory_map = map; extent = ns; limit = limit } }
     {
         Given { map, ns, limit }
@@ -46,7 +51,8 @@ impl Given {
 
     /// The most descriptors of a list.
     pub fn limit(&self) -> u32
-        ensures { result ≡ self.now.limit }
+        ensures value { result ≡ self.now.limit }
+        ensures fits { IsLimit result }
     {
         self.limit
     }
@@ -78,6 +84,13 @@ impl Layout {
             disk_blocks,
             guests,
         }
+    }
+
+    /// Where the mediator's area begins.
+    pub fn mediator(&self) -> u64
+        ensures { result ≡ self.now.mediator }
+    {
+        self.mediator
     }
 
     /// How many blocks the disk has.

@@ -6,6 +6,8 @@
 //!
 //! So far these events stand: [`Core::keep`], [`Core::act`], [`Core::admin`], [`Core::take`], [`Core::list`], [`Core::give_up`],
 //! [`Core::dev_take`], [`Core::dev_move`], [`Core::dev_post`] and [`Core::dev_fail`].
+//! So far these events stand: [`Core::keep`], [`Core::act`], [`Core::admin`], [`Core::take`], [`Core::list`], [`Core::submit`] and
+//! [`Core::give_up`].
 #![tactic(auto)]
 
 mod acting;
@@ -19,13 +21,21 @@ mod lane_ending;
 mod layout;
 mod opening;
 mod posting;
+mod area;
+mod keeping;
+mod lane;
+mod lane_flying;
+mod layout;
+mod physical_entry;
 mod progress;
 mod reaping;
 mod seat;
 mod standing;
 mod state;
+mod submitting;
 mod tagged;
 mod taking;
+mod writing;
 
 pub use layout::{Given, Layout};
 pub use state::Core;

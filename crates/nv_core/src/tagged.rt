@@ -88,7 +88,7 @@ impl Core {
 }
 
 // What is answered where an event wants a tag that was taken; `None` where it is one.
-fn untaken(state: Option<TagState>) -> Option<Reply>
+pub(crate) fn untaken(state: Option<TagState>) -> Option<Reply>
     ensures { result ≡ untaken state }
 {
     match state {

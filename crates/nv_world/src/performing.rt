@@ -66,7 +66,7 @@ fn carry_out(
             let told = core.list(alloc, layout, *lane, *tag, *addr, *len)?;
             return Ok(told);
         }
-        Event::Submit(_lane, _tag) => return Err(NoMemory),
+        Event::Submit(lane, tag) => core.submit(alloc, layout, *lane, *tag)?,
         Event::GiveUp(lane, tag) => core.give_up(layout, *lane, *tag),
         Event::DevTake(lane) => core.dev_take(alloc, layout, *lane)?,
         Event::DevMove(lane, slot, number) => core.dev_move(layout, *lane, *slot, *number),

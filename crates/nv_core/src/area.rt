@@ -1,0 +1,55 @@
+//! Where a tag's pages and the slots of its lane's submission ring lie in the mediator's area of the host's memory.
+
+ghost use Rattle.std.specs.Prelude.{◌≡◌, ◌<◌};
+ghost use Rattle.nv_core.specs.Submit.{IsPlaced};
+ghost use Rattle.nv_world_model.specs.Area.{bounce_page, list_page, ring_size, submission_slot};
+
+use nv_mem::PAGE_SIZE;
+
+/// The pages of a lane: two for its submission ring, one for its completion ring, and 33 for each tag.
+const LANE_PAGES: u64 = 2115;
+
+/// The pages of a tag: one for a list, and 32 to bounce.
+const TAG_PAGES: u64 = 33;
+
+/// The bytes of a submission queue entry.
+const ENTRY_SIZE: u64 = 64;
+
+/// A tag of a lane, and the host address at which the area of all lanes begins.
+#[derive(Clone, Copy, Debug, PartialEq, Eq)]
+pub(crate) struct TagPlace {
+    /// Where the area begins.
+    pub(crate) mediator: u64,
+    /// The lane.
+    pub(crate) lane: u8,
+    /// Its tag.
+    pub(crate) tag: u8,
+}
+
+impl TagPlace {
+    /// The host address of the tag's list page.
+    pub(crate) fn list_page(self) -> u64
+        requires { IsPlaced self.mediator self.lane self.tag }
+        ensures { result ≡ list_page self.mediator self.lane self.tag }
+    {
+        self.mediator
+            + PAGE_SIZE * (LANE_PAGES * u64::from(self.lane) + 3 + TAG_PAGES * u64::from(self.tag))
+    }
+
+    /// The host address of the first of the tag's 32 bounce pages.
+    pub(crate) fn bounce_page(self) -> u64
+        requires { IsPlaced self.mediator self.lane self.tag }
+        ensures { result ≡ bounce_page self.mediator self.lane self.tag }
+    {
+        self.list_page() + PAGE_SIZE
+    }
+
+    /// The host address of a slot of the lane's submission ring.
+    pub(crate) fn submission_slot(self, at: u16) -> u64
+        requires placed { IsPlaced self.mediator self.lane self.tag }
+        requires at { at < ring_size }
+        ensures { result ≡ submission_slot self.mediator self.lane at }
+    {
+        self.mediator + PAGE_SIZE * LANE_PAGES * u64::from(self.lane) + ENTRY_SIZE * u64::from(at)
+    }
+}

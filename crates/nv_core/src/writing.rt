@@ -1,0 +1,158 @@
+//! What is written for a physical command: the list that names its transfer, what stands in the bounce pages, and its entry.
+
+ghost use Rattle.std.specs.Prelude.{◌≡◌, ◌+◌, ◌*◌, ◌<◌, ◌≤◌, List, [], ℕ, false, length};
+ghost use Rattle.std.specs.List.{flat_map};
+ghost use Rattle.nv_core.specs.Submit.{HasRoom, IsGoing, IsPlaced};
+ghost use Rattle.nv_core.specs.Tags.{plan_made};
+ghost use Rattle.nv_device.specs.Physical.{len_of};
+ghost use Rattle.nv_entry.specs.Layout.{number_bytes};
+ghost use Rattle.nv_entry.specs.Opcode.{io_opcode};
+ghost use Rattle.nv_entry.specs.Submission.{opcode_of};
+ghost use Rattle.nv_mem.specs.GuestMap.{span_met};
+ghost use Rattle.nv_model.specs.Limits.{most_bytes};
+ghost use Rattle.nv_model.specs.Memory.{byte_in, stored};
+ghost use Rattle.nv_plan.specs.Made.{IsJobsPlan};
+ghost use Rattle.nv_prp.specs.Built.{built};
+ghost use Rattle.nv_world_model.specs.Area.{bounce_page, bounced_bytes, list_page, physical_entry, plan_dwords, prps_of, ring_size, written};
+ghost use Rattle.nv_world_model.specs.Geometry.{regions_of};
+
+use crate::area::TagPlace;
+use crate::physical_entry::{dwords, physical_entry};
+use nv_entry::{IoOpcode, Range, Sqe};
+use nv_mem::Host;
+use nv_model::limits::{BLOCK_SIZE, RANGE_SIZE};
+use nv_plan::{Plan, PlanKind};
+use nv_prp::Prps;
+
+/// Writes the list, the source or the ranges, and the physical entry of a plan, which goes to slot `at` of its lane's submission ring.
+///
+/// The plan is not an answer. Its tag's pages and the ring lie in the host, and outside of the memory of the guest that it was made for.
+pub(crate) fn write(plan: &Plan, place: TagPlace, at: u16, host: &mut Host)
+    requires goes { IsGoing (plan_made plan.now) }
+    requires room { HasRoom place.mediator place.lane place.tag plan.now.given host.old }
+    requires at { at < ring_size }
+    ensures bytes { byte_in host.new ≡
+        written (plan_made plan.now) plan.now.given plan.now.job.sqe place.mediator place.lane place.tag at (byte_in host.old) }
+    ensures len { length host.new ≡ length host.old }
+{
+    // The end of the host fits in 64 bits.
+    let _size = host.len();
+    let prps = prps_of(plan, place);
+    store_numbers(&prps.list[..prps.used], place.list_page(), host);
+    write_bounced(plan, place.bounce_page(), host);
+    let entry = entry_of(plan, place.tag, &prps);
+    host.store(place.submission_slot(at), &entry);
+}
+
+// What names the transfer of a plan.
+fn prps_of(plan: &Plan, place: TagPlace) -> Prps
+    requires { IsPlaced place.mediator place.lane place.tag }
+    ensures value { result ≡ prps_of (plan_made plan.now) plan.now.given
+        (list_page place.mediator place.lane place.tag) (bounce_page place.mediator place.lane place.tag) }
+    ensures is_plan { IsJobsPlan plan.now }
+{
+    match plan.kind() {
+        PlanKind::Answer(_) | PlanKind::NoData => nothing(),
+        PlanKind::Direct => nv_prp::build(plan.map(), plan.places(), place.list_page()),
+        PlanKind::Bounced => nv_prp::build_run(
+            place.bounce_page(),
+            transfer_len(&plan.job().sqe),
+            place.list_page(),
+        ),
+    }
+}
+
+// What names a transfer of no bytes.
+fn nothing() -> Prps
+    ensures { (list : ℕ) → result ≡ built list [] }
+{
+    Prps {
+        prp1: 0,
+        prp2: 0,
+        list: [0; 32],
+        used: 0,
+    }
+}
+
+// How many bytes a command transfers.
+fn transfer_len(sqe: &Sqe) -> u64
+    ensures { result ≡ len_of (io_opcode (opcode_of sqe.now)) sqe.now }
+{
+    match sqe.io_opcode() {
+        Some(IoOpcode::Read | IoOpcode::Write | IoOpcode::Compare) => {
+            BLOCK_SIZE as u64 * (u64::from(sqe.nlb()) + 1)
+        }
+        Some(IoOpcode::DatasetManagement) => RANGE_SIZE as u64 * (u64::from(sqe.nr()) + 1),
+        Some(IoOpcode::Flush | IoOpcode::WriteZeroes) | None => 0,
+    }
+}
+
+// Writes what stands in the bounce pages of a plan: the bytes of a source, or the ranges of a Dataset Management as the disk has them.
+fn write_bounced(plan: &Plan, bounce: u64, host: &mut Host)
+    requires host { plan.now.given.memory_map.host_len ≡ length host.old }
+    requires inside { bounce + most_bytes ≤ length host.old }
+    requires apart { span_met (regions_of plan.now.given) bounce most_bytes ≡ false }
+    ensures bytes { let before = byte_in host.old in
+        byte_in host.new ≡ stored before bounce (bounced_bytes (plan_made plan.now) plan.now.given before) }
+    ensures len { length host.new ≡ length host.old }
+{
+    let PlanKind::Bounced = plan.kind() else {
+        return;
+    };
+    let Some(opcode) = plan.job().sqe.io_opcode() else {
+        return;
+    };
+    match opcode {
+        IoOpcode::Write | IoOpcode::Compare => {
+            nv_bounce::gather(plan.places(), plan.map(), host, bounce);
+        }
+        IoOpcode::DatasetManagement => store_ranges(plan.ranges(), bounce, host),
+        IoOpcode::Read | IoOpcode::Flush | IoOpcode::WriteZeroes => {}
+    }
+}
+
+// The physical entry of a plan.
+fn entry_of(plan: &Plan, tag: u8, prps: &Prps) -> [u8; 64]
+    requires { IsGoing (plan_made plan.now) }
+    ensures { result ≡ physical_entry (opcode_of plan.now.job.sqe) tag prps.now
+        (plan_dwords (plan_made plan.now) plan.now.given.extent plan.now.job.sqe) }
+{
+    let sqe = &plan.job().sqe;
+    let Some(opcode) = sqe.io_opcode() else {
+        unreachable!()
+    };
+    // With the base of the range comes that its end fits in 64 bits.
+    let ns = plan.ns();
+    let _base = ns.base();
+    physical_entry(sqe.opcode(), tag, prps, dwords(opcode, sqe, ns))
+}
+
+// Stores numbers of 64 bits from host address `at` on.
+fn store_numbers(numbers: &[u64], at: u64, host: &mut Host)
+    requires { at + 8 * length numbers.now ≤ length host.old }
+    ensures bytes { byte_in host.new ≡ stored (byte_in host.old) at (flat_map (number_bytes 8) numbers.now) }
+    ensures len { length host.new ≡ length host.old }
+{
+    // The end of the host fits in 64 bits.
+    let _size = host.len();
+    let mut at = at;
+    for number in numbers {
+        host.store(at, &number.to_le_bytes());
+        at += 8;
+    }
+}
+
+// Stores ranges from host address `at` on.
+fn store_ranges(ranges: &[Range], at: u64, host: &mut Host)
+    requires { at + 16 * length ranges.now ≤ length host.old }
+    ensures bytes { byte_in host.new ≡ stored (byte_in host.old) at (flat_map (λ (r : List ℕ). r) ranges.now) }
+    ensures len { length host.new ≡ length host.old }
+{
+    // The end of the host fits in 64 bits.
+    let _size = host.len();
+    let mut at = at;
+    for range in ranges {
+        host.store(at, &range.bytes());
+        at += RANGE_SIZE as u64;
+    }
+}
