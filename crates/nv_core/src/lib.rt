@@ -4,29 +4,25 @@
 //! as it is while the world runs, a [`Layout`], is lent to each call. Each call is its event of the definition, whole: the reply, and the
 //! world behind it. The caller knows that the state is of that layout and that its world is consistent, as `nv_laws_sound` keeps it.
 //!
-//! So far these events stand: [`Core::keep`], [`Core::act`], [`Core::admin`], [`Core::take`], [`Core::list`], [`Core::give_up`],
-//! [`Core::dev_take`], [`Core::dev_move`], [`Core::dev_post`] and [`Core::dev_fail`].
-//! So far these events stand: [`Core::keep`], [`Core::act`], [`Core::admin`], [`Core::take`], [`Core::list`], [`Core::submit`] and
-//! [`Core::give_up`].
+//! [`Core::new`] is the world at its start. The events are [`Core::act`] and [`Core::admin`] of guests; [`Core::take`], [`Core::list`],
+//! [`Core::submit`], [`Core::give_up`], [`Core::reap`] and [`Core::post`] of the mediator; [`Core::dev_take`], [`Core::dev_move`],
+//! [`Core::dev_post`], [`Core::dev_fail`] and [`Core::keep`] of the physical controller.
 #![tactic(auto)]
 
 mod acting;
 mod administering;
+mod area;
 mod device_events;
 mod keeping;
 mod lane;
+mod lane_ending;
+mod lane_flying;
 mod lane_opening;
 mod lane_standing;
-mod lane_ending;
 mod layout;
 mod opening;
-mod posting;
-mod area;
-mod keeping;
-mod lane;
-mod lane_flying;
-mod layout;
 mod physical_entry;
+mod posting;
 mod progress;
 mod reaping;
 mod seat;

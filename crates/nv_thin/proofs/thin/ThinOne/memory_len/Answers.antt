@@ -1,8 +1,0 @@
-use Rattle.std.proofs.Common.{arith}
-use Rattle.nv_thin.proofs.BehindLemmas.{sizes}
-use Rattle.nv_thin.proofs.thin.ThinOne.memory_len.Goals as goal
-
-pub returns : goal.returns
-returns c =
-    let s = sizes c.self.inside.host c.self.inside.map c.self.inside.disk.items c.self.inside.kept.items c.args.self.now c.self.view_is c.self.invariant in
-    omega arith
