@@ -13,3 +13,4 @@ pub mod BouncedBytes
 pub mod Written
 pub mod SubmitJobs
 pub mod Submits
+pub mod PlanSubmits

@@ -5,12 +5,13 @@
 //! world behind it. The caller knows that the state is of that layout and that its world is consistent, as `nv_laws_sound` keeps it.
 //!
 //! So far these events stand: [`Core::keep`], [`Core::act`], [`Core::admin`], [`Core::take`], [`Core::list`], [`Core::submit`] and
-//! [`Core::give_up`].
+//! [`Core::give_up`]. [`Core::submit_plan`] is the Submit of a plan that was made elsewhere, without the state at hand.
 #![tactic(auto)]
 
 mod acting;
 mod administering;
 mod area;
+mod comparing;
 mod keeping;
 mod lane;
 mod lane_flying;
