@@ -25,3 +25,4 @@ pub mod BouncedBytes
 pub mod Written
 pub mod SubmitJobs
 pub mod Submits
+pub mod PlanSubmits

@@ -1,5 +1,5 @@
 -- What a Submit comes to for the host, the physical controller and the lane (profile).
-use Rattle.std.specs.Prelude.{◌≡◌, ℕ, ◌+◌, ◌%◌, ◌^◌, ◌<◌, ◌≤◌, true, false, List, length, None}
+use Rattle.std.specs.Prelude.{◌≡◌, ℕ, ◌+◌, ◌*◌, ◌%◌, ◌^◌, ◌<◌, ◌≤◌, true, false, List, length, slice_get, Option, Some, None}
 use Rattle.nv_device.specs.Physical.{Physical, lane_of, with_lane}
 use Rattle.nv_entry.specs.Submission.{slba_of}
 use Rattle.nv_entry.specs.declared.opcode.IoOpcode.{IoOpcode}
@@ -10,13 +10,14 @@ use Rattle.nv_model.specs.Queue.{next_slot}
 use Rattle.nv_model.specs.Transcript.{Outcome, ReadDone, Settled, Wanted}
 use Rattle.nv_model.specs.declared.reply.Reply.{Reply}
 use Rattle.nv_model.specs.declared.reply.Reply.TheVariants as reply
+use Rattle.nv_plan.specs.Made.{MadePlan}
 use Rattle.nv_plan.specs.declared.job.Job.{Job}
 use Rattle.nv_ns.specs.BlockRange.{Extent, block_at}
 use Rattle.nv_world_model.specs.Area.{lane_start, list_page, ring_size, tag_count, written}
-use Rattle.nv_world_model.specs.Geometry.{Guest, regions_of}
+use Rattle.nv_world_model.specs.Geometry.{Geometry, Guest, regions_of}
 use Rattle.nv_world_model.specs.Plan.{Answer, Bounced, Direct, NoData, Plan}
 use Rattle.nv_world_model.specs.SetUp.{most_limit}
-use Rattle.nv_world_model.specs.World.{Command, Ended, Flying, Lane, Queued, Tag, tag_changed}
+use Rattle.nv_world_model.specs.World.{Command, Ended, Flying, Free, Lane, Queued, Tag, Taken, World, tag_changed, tag_of}
 
 -- a limit on descriptors that may be
 pub record IsLimit (limit : ℕ) : Type 0 where
@@ -25,17 +26,17 @@ pub record IsLimit (limit : ℕ) : Type 0 where
 
 -- ---- where it is written
 
--- the part of the area that is a tag's, and its lane's rings, end in 64 bits
+-- the area begins at a page, a lane's part of it ends before 2 to the 64, and the lane has the tag
 pub record IsPlaced (mediator lane tag : ℕ) : Type 0 where
   pub aligned : mediator % page ≡ 0
   pub ends : lane_start mediator (lane + 1) < 2 ^ 64
   pub below : tag < tag_count
 
--- the list page and the bounce pages of a tag
+-- the list page and the 32 bounce pages of a tag
 abbrev pub tag_bytes : ℕ
-tag_bytes = 135168
+tag_bytes = page * 33
 
--- they lie in the host, outside of the guest's memory, and so does the lane's ring
+-- a tag's pages and its lane's rings lie in the host that the guest's map was made for, and the pages are none of the guest's memory
 pub record HasRoom (mediator lane tag : ℕ) (guest : Guest) (host : List ℕ) : Type 0 where
   pub aligned : mediator % page ≡ 0
   pub below : tag < tag_count
@@ -43,7 +44,7 @@ pub record HasRoom (mediator lane tag : ℕ) (guest : Guest) (host : List ℕ) :
   pub made_for : guest.memory_map.host_len ≡ length host
   pub apart : span_met (regions_of guest) (list_page mediator lane tag) tag_bytes ≡ false
 
--- the blocks that a command names, if it does, are on the disk
+-- the first block that a command names, if it names any, has a number of 64 bits on the disk
 abbrev pub NamesBlocks : IoOpcode → (entry : List ℕ) → Extent → Type 0
 NamesBlocks opcode entry extent = has_blocks opcode ≡ true → block_at extent (slba_of entry) < 2 ^ 64
 
@@ -56,6 +57,19 @@ pub record IsJobOf (lane tag : ℕ) (command : Command) (reads : List ReadDone) 
   pub whose : job.guest ≡ command.guest
   pub entry : job.sqe ≡ command.entry
   pub read : job.reads ≡ reads
+
+-- a job is that of a tag as it stands
+abbrev pub IsOfTag : Option Tag → Job → Type 0
+IsOfTag None job = ⊥
+IsOfTag (Some Free) job = ⊥
+IsOfTag (Some (Taken command reads)) job = IsJobOf job.lane job.tag command reads job
+IsOfTag (Some (Flying command plan at)) job = ⊥
+IsOfTag (Some (Ended command st plan)) job = ⊥
+
+-- a plan was made of what stands: its job is that of its tag, and it was made with what the guest was given
+pub record IsCurrent (geometry : Geometry) (w : World) (p : MadePlan) : Type 0 where
+  pub of_tag : IsOfTag (tag_of w p.job.lane p.job.tag) p.job
+  pub made_with : slice_get geometry.guests p.job.guest ≡ Some p.given
 
 -- a plan that is not an answer
 abbrev pub IsGoing : Plan → Type 0

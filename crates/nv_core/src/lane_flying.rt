@@ -1,17 +1,20 @@
 //! A lane's tags that were taken: their transcripts, and what becomes of them once they are planned.
 
-ghost use Rattle.std.specs.Prelude.{◌≡◌, [], List, Some, None, slice_get};
+ghost use Rattle.std.specs.Prelude.{◌≡◌, ◌↔◌, IsTrue, List, None, Some, slice_get};
+ghost use Rattle.nv_core.specs.Submit.{IsJobOf};
 ghost use Rattle.nv_core.specs.Tags.{IsReading, plan_made, state_in};
 ghost use Rattle.nv_core.specs.declared.progress.Progress.TheVariants as progress;
 ghost use Rattle.nv_model.specs.Transcript.{ReadDone as Read};
 ghost use Rattle.nv_tags.specs.declared.state.TagState.TheVariants as state;
 ghost use Rattle.nv_world_model.specs.World.{Command, Ended, Flying, Queued, Taken, tag_changed};
 
+use crate::comparing::same_reads;
 use crate::lane::Lane;
 use crate::progress::Progress;
 use crate::standing::Standing;
 use nv_entry::Status;
-use nv_plan::{Plan, Transcript};
+use nv_plan::{Job, Plan, Transcript};
+use nv_tags::Claim;
 
 impl Lane {
     /// The command of a tag that was taken is handed on by this plan: its entry waits in slot `at` of the submission ring.
@@ -46,6 +49,36 @@ impl Lane {
         let before = std::mem::replace(kept, Progress::Reading(reads));
         transcript_of(before)
     }
+}
+
+impl Lane {
+    /// Whether a job is that of the command of a tag that was taken, with what was read of its lists.
+    pub(crate) fn has_job(&self, tag: u8, job: &Job) -> bool
+        requires { state_in (slice_get self.now.tags tag) ≡ Some state.Taken }
+        ensures { (command : Command) (reads : List Read) → slice_get self.now.tags tag ≡ Some (Taken command reads) →
+            IsTrue result ↔ IsJobOf job.now.lane job.now.tag command reads job.now }
+    {
+        is_claimed(self.claimed(tag), job) && same_reads(self.reads(tag).reads(), job.reads.reads())
+    }
+
+    // The transcript of a tag that was taken.
+    fn reads(&self, tag: u8) -> &Transcript
+        requires { state_in (slice_get self.now.tags tag) ≡ Some state.Taken }
+        ensures { (command : Command) (reads : List Read) → slice_get self.now.tags tag ≡ Some (Taken command reads) →
+            result.now ≡ reads }
+    {
+        let Progress::Reading(reads) = &self.progress[usize::from(tag)] else {
+            unreachable!()
+        };
+        reads
+    }
+}
+
+// Whether a job is that of this command.
+fn is_claimed(claim: &Claim, job: &Job) -> bool
+    ensures { IsTrue result ↔ ((job.now.guest ≡ claim.now.guest) × (job.now.sqe ≡ claim.now.entry)) }
+{
+    claim.guest == job.guest && claim.entry.bytes() == job.sqe.bytes()
 }
 
 // The transcript of a command that was taken.

@@ -1,8 +1,8 @@
 //! Commands that were taken, planned, and handed on or answered.
 
-ghost use Rattle.std.specs.Prelude.{◌≡◌, ◌<◌, [], IfOk, List, OnErr, Some, length, slice_get};
-ghost use Rattle.nv_core.specs.State.{IsOf, IsStep};
-ghost use Rattle.nv_core.specs.Submit.{HasRoom, IsCarriedOut, IsGoing, IsJobOf, IsSubmitted};
+ghost use Rattle.std.specs.Prelude.{◌≡◌, ◌<◌, ◌↔◌, [], IfOk, IfSome, IsTrue, List, None, OnErr, Some, length, slice_get};
+ghost use Rattle.nv_core.specs.State.{IsOf, IsStep, world_of};
+ghost use Rattle.nv_core.specs.Submit.{HasRoom, IsCarriedOut, IsCurrent, IsGoing, IsJobOf, IsSubmitted};
 ghost use Rattle.nv_core.specs.Tags.{plan_made, state_in};
 ghost use Rattle.nv_model.specs.Memory.{byte_in};
 ghost use Rattle.nv_model.specs.Queue.{next_slot};
@@ -13,6 +13,7 @@ ghost use Rattle.nv_world_model.specs.Plan.{plan_over};
 ghost use Rattle.nv_world_model.specs.World.{Command, Taken, tag_changed};
 
 use crate::area::TagPlace;
+use crate::comparing::is_given;
 use crate::lane::Lane;
 use crate::layout::{Given, Layout};
 use crate::state::Core;
@@ -59,6 +60,45 @@ impl Core {
         let ring = &mut self.lanes[at];
         let reply = submit_on(alloc, given, place, &mut self.host, &mut self.device, ring)?;
         Ok(reply)
+    }
+
+    /// Carries out a plan that was made elsewhere, where it was made of what stands: its tag was taken, by the guest's command of its
+    /// job, with the same reads of its lists, and the guest's map, range of blocks and limit are those that it was made with. `None` where
+    /// not, and nothing has changed.
+    pub fn submit_plan(&mut self, layout: &Layout, plan: Plan) -> Option<Reply>
+        requires { IsOf layout.now self.old }
+        ensures some { IfSome result (λ reply.
+            IsCurrent layout.now (world_of self.old) plan
+            × IsStep layout.now (Event.Submit plan.job.lane plan.job.tag) self.old reply self.new) }
+        ensures none { result ≡ None → (self.new ≡ self.old) × (IsCurrent layout.now (world_of self.old) plan → ⊥) }
+    {
+        if !self.is_current(layout, &plan) {
+            return None;
+        }
+        let job = plan.job();
+        let place = TagPlace {
+            mediator: layout.mediator(),
+            lane: job.lane,
+            tag: job.tag,
+        };
+        let ring = &mut self.lanes[usize::from(place.lane)];
+        carry_out(plan, place, &mut self.host, &mut self.device, ring);
+        Some(Reply::Done)
+    }
+
+    // Whether a plan was made of what stands.
+    fn is_current(&self, layout: &Layout, plan: &Plan) -> bool
+        ensures { IsTrue result ↔ IsCurrent layout.now (world_of self.now) plan.now }
+    {
+        let job = plan.job();
+        if untaken(self.state(job.lane, job.tag)).is_some() {
+            return false;
+        }
+        let Some(given) = layout.guest(job.guest) else {
+            return false;
+        };
+        let ring = &self.lanes[usize::from(job.lane)];
+        ring.has_job(job.tag, job) && is_given(plan, given)
     }
 }
 

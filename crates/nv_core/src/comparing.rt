@@ -1,0 +1,61 @@
+//! Whether what a plan was made of is what stands now.
+
+ghost use Rattle.std.specs.Prelude.{◌≡◌, ◌↔◌, IsTrue};
+
+use crate::layout::Given;
+use nv_mem::{GuestMap, Region};
+use nv_plan::{Plan, ReadDone};
+
+/// Whether a plan was made with what this guest was given: its map, its range of blocks and its limit on descriptors.
+pub(crate) fn is_given(plan: &Plan, given: &Given) -> bool
+    ensures { IsTrue result ↔ (plan.now.given ≡ given.now) }
+{
+    same_map(plan.map(), given.map()) && plan.ns() == given.ns() && plan.limit() == given.limit()
+}
+
+// Whether two maps are the same.
+fn same_map(map: &GuestMap, other: &GuestMap) -> bool
+    ensures { IsTrue result ↔ (map.now ≡ other.now) }
+{
+    map.host_len() == other.host_len() && same_regions(map.regions(), other.regions())
+}
+
+// Whether two lists of regions are the same.
+fn same_regions(regions: &[Region], others: &[Region]) -> bool
+    ensures { IsTrue result ↔ (regions.now ≡ others.now) }
+{
+    regions == others
+}
+
+/// Whether the same was read of a list, in the same order.
+pub(crate) fn same_reads(reads: &[ReadDone], others: &[ReadDone]) -> bool
+    ensures { IsTrue result ↔ (reads.now ≡ others.now) }
+{
+    let mut left = reads;
+    let mut right = others;
+    while let Some((read, more)) = left.split_first() {
+        let Some((other, behind)) = right.split_first() else {
+            return false;
+        };
+        if !same_read(read, other) {
+            return false;
+        }
+        left = more;
+        right = behind;
+    }
+    right.is_empty()
+}
+
+// Whether two reads are the same.
+fn same_read(read: &ReadDone, other: &ReadDone) -> bool
+    ensures { IsTrue result ↔ (read.now ≡ other.now) }
+{
+    read.addr() == other.addr() && same_bytes(read.bytes(), other.bytes())
+}
+
+// Whether two runs of bytes are the same.
+fn same_bytes(bytes: &[u8], others: &[u8]) -> bool
+    ensures { IsTrue result ↔ (bytes.now ≡ others.now) }
+{
+    bytes == others
+}
