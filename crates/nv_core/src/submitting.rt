@@ -70,6 +70,7 @@ impl Core {
         ensures some { IfSome result (λ reply.
             IsCurrent layout.now (world_of self.old) plan
             × IsStep layout.now (Event.Submit plan.job.lane plan.job.tag) self.old reply self.new) }
+        ensures done { IfSome result (λ reply. reply ≡ Reply.Done) }
         ensures none { result ≡ None → (self.new ≡ self.old) × (IsCurrent layout.now (world_of self.old) plan → ⊥) }
     {
         if !self.is_current(layout, &plan) {

@@ -136,6 +136,17 @@ on-disk s g fits =
     let limit = between 1 most_limit g.limit in
     leb-true (g.extent.base + g.extent.blocks) s.geometry.disk_blocks (all_five host regions some disk limit fits).1.1.1.0
 
+-- and its limit on descriptors may be
+pub limit-fits : (s : SetUp) (g : Guest) → guest_fits s g ≡ true → (1 ≤ g.limit) × (g.limit ≤ most_limit)
+limit-fits s g fits =
+    let host = g.memory_map.host_len == s.host_bytes in
+    let regions = nat_le (length (regions_of g)) most_regions in
+    let some = nat_le 1 g.extent.blocks in
+    let disk = nat_le (g.extent.base + g.extent.blocks) s.geometry.disk_blocks in
+    let limit = between 1 most_limit g.limit in
+    let both = and-true (nat_le 1 g.limit) (nat_le g.limit most_limit) (all_five host regions some disk limit fits).1.1.1.1 in
+    (leb-true 1 g.limit both.0, leb-true g.limit most_limit both.1)
+
 -- sizes that fit
 pub record AreSizes (s : SetUp) : Type 0 where
   pub few : s.host_bytes ≤ most_host_bytes

@@ -6,14 +6,14 @@ use Rattle.nv_core.specs.State.{IsOf, IsOpening, State, world_of}
 use Rattle.nv_device.specs.Physical.{FitsLimits}
 use Rattle.nv_laws_others.specs.Alike.{HasFittingStatus}
 use Rattle.nv_laws_sound.proofs.CountedRuns.{opening-counted}
-use Rattle.nv_laws_sound.proofs.LaidOuts.{accepted, all-one, laid-out, on-disk, sizes-of}
+use Rattle.nv_laws_sound.proofs.LaidOuts.{accepted, all-one, laid-out, limit-fits, on-disk, sizes-of}
 use Rattle.nv_laws_sound.proofs.Openings.{opening-consistent}
 use Rattle.nv_laws_sound.specs.Consistent.{IsConsistent}
 use Rattle.nv_laws_sound.specs.Counted.{IsCounted}
 use Rattle.nv_laws_sound.specs.LaidOut.{IsLaidOut}
 use Rattle.nv_mem.specs.GuestMap.{IsSound}
 use Rattle.nv_model.specs.declared.reply.Reply.{Reply}
-use Rattle.nv_world.specs.Mediated.{IsRunning, Kept, Mediated, mediated, opened, setup_of}
+use Rattle.nv_world.specs.Mediated.{IsRunning, Kept, MayBeGiven, Mediated, mediated, opened, setup_of}
 use Rattle.nv_world_model.specs.Area.{lane_start}
 use Rattle.nv_world_model.specs.Geometry.{Geometry, Guest}
 use Rattle.nv_world_model.specs.Log.{IsReplay}
@@ -23,13 +23,14 @@ use Rattle.nv_world_model.specs.Step.{replay, replies}
 use Rattle.nv_world_model.specs.World.{Lane, World, opening_lane, opening_world}
 
 -- what its guests' ranges and its sizes come to
-pub ranges-small : (s : SetUp) → refusal_of s ≡ None → (number : ℕ) (guest : Guest) → slice_get s.geometry.guests number ≡ Some guest
-    → guest.extent.base + guest.extent.blocks < 2 ^ 64
-ranges-small s none number guest at =
+pub may-be-given : (s : SetUp) → refusal_of s ≡ None → (number : ℕ) (guest : Guest) → slice_get s.geometry.guests number ≡ Some guest → MayBeGiven guest
+may-be-given s none number guest at =
     let sizes = sizes-of s (accepted s none).sizes in
-    let disk = on-disk s guest (all-one (guest_fits s) s.geometry.guests number guest sizes.guests at) in
+    let fits = all-one (guest_fits s) s.geometry.guests number guest sizes.guests at in
+    let disk = on-disk s guest fits in
+    let limit = limit-fits s guest fits in
     let few = sizes.few_blocks in
-    omega (arith, disk, few)
+    record { blocks = omega (arith, disk, few); limit = record { some = limit.0; most = limit.1 } }
 
 pub lanes-small : (s : SetUp) → refusal_of s ≡ None → s.lanes < 256
 lanes-small s none = let few = (sizes-of s (accepted s none).sizes).few_lanes in omega (arith, few)

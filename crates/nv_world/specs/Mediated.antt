@@ -1,13 +1,16 @@
 -- The mediator as its callers see it: its set-up, the log of what has happened, and the world behind it (profile).
-use Rattle.std.specs.Prelude.{◌≡◌, ◌⊎◌, ℕ, All, List, [], ◌∷◌, ◌++◌, length, Option, Some, None}
+use Rattle.std.specs.Prelude.{◌≡◌, ◌⊎◌, ◌+◌, ◌^◌, ◌<◌, ℕ, All, List, [], ◌∷◌, ◌++◌, length, Option, Some, None}
 use Rattle.nv_core.specs.State.{CountsMore, IsOf, IsSameSize, State, world_of}
 use Rattle.nv_laws_sound.specs.Counted.{IsCounted}
+use Rattle.nv_core.specs.Submit.{IsCurrent, IsLimit}
 use Rattle.nv_laws_others.specs.Alike.{HasFittingStatus}
 use Rattle.nv_mem.specs.GuestMap.{Mapping}
 use Rattle.nv_ns.specs.BlockRange.{Extent}
 use Rattle.nv_model.specs.declared.reply.Reply.{Reply}
 use Rattle.nv_model.specs.declared.reply.Reply.TheVariants as reply
+use Rattle.nv_plan.specs.Made.{MadePlan}
 use Rattle.nv_world_model.specs.declared.event.Event.{Event}
+use Rattle.nv_world_model.specs.declared.event.Event.TheVariants as event
 use Rattle.nv_world_model.specs.declared.logged.Logged.{Logged}
 use Rattle.nv_world_model.specs.Geometry.{Geometry, Guest}
 use Rattle.nv_world_model.specs.Headline.{AreContained}
@@ -36,6 +39,13 @@ pub record IsLogged (e : Event) (old : Mediated) (r : Reply) (new : Mediated) : 
 -- or there was no memory for it, and nothing has changed
 abbrev pub IsStepped : Event → (old : Mediated) → Reply → (new : Mediated) → Type 0
 IsStepped e old r new = (r ≡ reply.NoMemory) × (new ≡ old) ⊎ IsLogged e old r new
+
+-- a plan that was made elsewhere was the Submit of its tag, where it was made of what stands; or nothing has changed
+abbrev pub IsSubmitted : MadePlan → (old : Mediated) → Reply → (new : Mediated) → Type 0
+IsSubmitted plan old r new =
+    (r ≡ reply.NoMemory) × (new ≡ old)
+    ⊎ (r ≡ reply.Stale) × (new ≡ old) × (IsCurrent old.setup.geometry old.world plan → ⊥)
+    ⊎ IsCurrent old.setup.geometry old.world plan × IsLogged (event.Submit plan.job.lane plan.job.tag) old r new
 
 -- these events one after another, and what they are answered
 unfoldable pub AreStepped : List Event → (old : Mediated) → List Reply → (new : Mediated) → Type 0
@@ -96,3 +106,8 @@ map_of (Some guest) = Some guest.memory_map
 abbrev pub range_of : Option Guest → Option Extent
 range_of None = None
 range_of (Some guest) = Some guest.extent
+
+-- what a guest is to have may be given to it: its blocks have numbers of 64 bits, and its limit on descriptors may be
+pub record MayBeGiven (guest : Guest) : Type 0 where
+  pub blocks : guest.extent.base + guest.extent.blocks < 2 ^ 64
+  pub limit : IsLimit guest.limit

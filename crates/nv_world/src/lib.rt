@@ -9,6 +9,7 @@ mod refusal;
 mod running;
 mod setup;
 mod stepping;
+mod submitting;
 mod world;
 
 pub use refusal::Refusal;

@@ -1,8 +1,8 @@
 //! The world of a set-up that is not refused.
 
-ghost use Rattle.std.specs.Prelude.{◌≡◌, ◌+◌, ◌<◌, ◌^◌, ℕ, IfOk, None, Some, slice_get};
+ghost use Rattle.std.specs.Prelude.{◌≡◌, ℕ, IfOk, None, Some, slice_get};
 ghost use Rattle.nv_mem.specs.GuestMap.{IsSound};
-ghost use Rattle.nv_world.specs.Mediated.{mediated, opened};
+ghost use Rattle.nv_world.specs.Mediated.{MayBeGiven, mediated, opened};
 ghost use Rattle.nv_world_model.specs.Geometry.{Guest};
 ghost use Rattle.nv_world_model.specs.SetUp.{refusal_of};
 
@@ -39,7 +39,7 @@ impl World {
 
 // What the guests have, by number. With each map comes what is known of it.
 fn all_given(alloc: Global, guests: Vec<GuestSetup>) -> Result<Vec<Given>, NoMemory>
-    requires { (number : ℕ) (guest : Guest) → slice_get guests.items number ≡ Some guest → guest.extent.base + guest.extent.blocks < 2 ^ 64 }
+    requires { (number : ℕ) (guest : Guest) → slice_get guests.items number ≡ Some guest → MayBeGiven guest }
     ensures given { IfOk result (λ given. given.items ≡ guests.items) }
     ensures sound { IfOk result (λ given. (number : ℕ) (guest : Guest) → slice_get given.items number ≡ Some guest → IsSound guest.memory_map) }
 {
@@ -52,7 +52,7 @@ fn all_given(alloc: Global, guests: Vec<GuestSetup>) -> Result<Vec<Given>, NoMem
 
 // What a guest has.
 fn given_of(guest: GuestSetup) -> Given
-    requires { guest.extent.base + guest.extent.blocks < 2 ^ 64 }
+    requires { MayBeGiven guest }
     ensures value { result ≡ guest }
     ensures sound { IsSound result.memory_map }
 {

@@ -1,5 +1,5 @@
 use Rattle.std.proofs.Common.{◌≡◌, arith, refl, sym, subst, ap, ◌∙◌, ℕ, ◌+◌, ◌<◌, ◌^◌, List, slice_get, Some, None}
-use Rattle.nv_world.proofs.Starts.{fits-limits, lanes-small, ranges-small, starts-as, starts-running}
+use Rattle.nv_world.proofs.Starts.{fits-limits, lanes-small, may-be-given, starts-as, starts-running}
 use Rattle.nv_world_model.specs.Geometry.{Geometry, Guest}
 use Rattle.nv_device.specs.Physical.{FitsLimits}
 use Rattle.nv_mem.specs.GuestMap.{IsSound}
@@ -9,7 +9,7 @@ use Rattle.nv_world.proofs.world.World.open.Goals as goal
 pub all_given-requires : goal.all_given-requires
 all_given-requires c =
     let s : SetUp = record { host_bytes = c.setup.inside.host_bytes; lanes = c.setup.inside.lanes; geometry = record { mediator = c.setup.inside.mediator; disk_blocks = c.setup.inside.disk_blocks; guests = c.setup.inside.guests.items } } in
-    ranges-small s (ap refusal_of c.setup.view_is ∙ c.requires)
+    may-be-given s (ap refusal_of c.setup.view_is ∙ c.requires)
 
 pub overflow_cast-lanes : goal.overflow_cast-lanes
 overflow_cast-lanes c =
