@@ -4,7 +4,8 @@
 //! as it is while the world runs, a [`Layout`], is lent to each call. Each call is its event of the definition, whole: the reply, and the
 //! world behind it. The caller knows that the state is of that layout and that its world is consistent, as `nv_laws_sound` keeps it.
 //!
-//! So far these events stand: [`Core::keep`], [`Core::act`], [`Core::admin`], [`Core::take`], [`Core::list`] and [`Core::give_up`].
+//! So far these events stand: [`Core::keep`], [`Core::act`], [`Core::admin`], [`Core::take`], [`Core::list`], [`Core::give_up`],
+//! [`Core::reap`] and [`Core::post`].
 #![tactic(auto)]
 
 mod acting;
