@@ -9,6 +9,8 @@
 //! [`Core::dev_post`], [`Core::dev_fail`] and [`Core::keep`] of the physical controller.
 //! So far these events stand: [`Core::keep`], [`Core::act`], [`Core::admin`], [`Core::take`], [`Core::list`], [`Core::submit`] and
 //! [`Core::give_up`]. [`Core::submit_plan`] is the Submit of a plan that was made elsewhere, without the state at hand.
+//! So far these events stand: [`Core::keep`], [`Core::act`], [`Core::admin`], [`Core::take`], [`Core::list`], [`Core::give_up`],
+//! [`Core::reap`] and [`Core::post`].
 #![tactic(auto)]
 
 mod acting;
