@@ -1,0 +1,70 @@
+//! Bytes as text.
+ghost use Rattle.std.specs.Prelude.{◌≤◌, length, OnOk};
+ghost use Rattle.std.specs.Io.KnownBytes.{Appends};
+ghost use Rattle.hex.specs.Hex.{encode_lower};
+ghost use Rattle.nv_print.specs.Printed.{dump_line, hex_line, line_feed};
+
+use crate::cannot_write::CannotWrite;
+use std::io::Write;
+
+/// How many bytes are printed at once.
+const CHUNK: usize = 512;
+
+/// Prints a text as it is.
+pub fn print_text<W: Write>(text: &[u8], output: &mut W) -> Result<(), CannotWrite>
+    ensures { OnOk result (Appends (W.contents output.old) (W.contents output.new) text.now) }
+{
+    output.write_all(text)?;
+    Ok(())
+}
+
+/// Ends a line of the output.
+pub fn end_line<W: Write>(output: &mut W) -> Result<(), CannotWrite>
+    ensures { OnOk result (Appends (W.contents output.old) (W.contents output.new) line_feed) }
+{
+    print_text(b"\n", output)
+}
+
+/// Prints bytes as hexadecimal digits.
+pub fn print_bytes<W: Write>(bytes: &[u8], output: &mut W) -> Result<(), CannotWrite>
+    ensures { OnOk result (Appends (W.contents output.old) (W.contents output.new) (encode_lower bytes.now)) }
+{
+    let mut left = bytes;
+    while !left.is_empty() {
+        let (chunk, rest) = left.split_at(left.len().min(CHUNK));
+        print_chunk(chunk, output)?;
+        left = rest;
+    }
+    Ok(())
+}
+
+// Prints a few bytes as hexadecimal digits.
+fn print_chunk<W: Write>(bytes: &[u8], output: &mut W) -> Result<(), CannotWrite>
+    requires { length bytes.now ≤ CHUNK }
+    ensures { OnOk result (Appends (W.contents output.old) (W.contents output.new) (encode_lower bytes.now)) }
+{
+    let mut digits = [0; 2 * CHUNK];
+    let count = 2 * bytes.len();
+    match hex::encode_to_slice(bytes, &mut digits[..count]) {
+        Ok(()) => print_text(&digits[..count], output),
+        Err(_) => unreachable!(),
+    }
+}
+
+/// Prints bytes as a line of hexadecimal digits.
+pub fn print_line<W: Write>(bytes: &[u8], output: &mut W) -> Result<(), CannotWrite>
+    ensures { OnOk result (Appends (W.contents output.old) (W.contents output.new) (hex_line bytes.now)) }
+{
+    print_bytes(bytes, output)?;
+    end_line(output)
+}
+
+/// Prints bytes as a line of hexadecimal digits, or of a dash where they are none.
+pub fn print_dump<W: Write>(bytes: &[u8], output: &mut W) -> Result<(), CannotWrite>
+    ensures { OnOk result (Appends (W.contents output.old) (W.contents output.new) (dump_line bytes.now)) }
+{
+    if bytes.is_empty() {
+        return print_text(b"-\n", output);
+    }
+    print_line(bytes, output)
+}

@@ -1,0 +1,10 @@
+//! What a program prints of bytes: hexadecimal digits in lower case, two a byte, in lines.
+//!
+//! Each call says by what the output has grown, where it is known what it holds. None takes memory.
+#![tactic(auto)]
+
+mod bytes;
+mod cannot_write;
+
+pub use bytes::{end_line, print_bytes, print_dump, print_line, print_text};
+pub use cannot_write::CannotWrite;
