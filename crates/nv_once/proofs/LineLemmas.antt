@@ -1,11 +1,10 @@
 -- The fields of a line, one behind another
-use Rattle.std.proofs.Common.{◌≡◌, ℕ, ◌==◌, Bool, List, ◌++◌, Option, Result, Ok, Err, IsTrue, OnOk, ◌↔◌, ap, ◌∙◌, subst, rules}
+use Rattle.std.proofs.Common.{◌≡◌, ℕ, ◌==◌, Bool, List, ◌++◌, Option, IsTrue, ◌↔◌, ap, ◌∙◌, subst, rules}
 use Rattle.std.specs.Int.{bytes_high_first}
 use Rattle.std.specs.Io.KnownBytes.{Appends}
 use Rattle.std.specs.Fmt.{decimal}
 use Rattle.hex.specs.Hex.{encode_lower}
 use Rattle.nv_once.specs.Printed.{flag, hex_number}
-use Rattle.nv_once.proofs.ShownLemmas.{Appends-then}
 
 -- a field of hexadecimal digits, by the number that its bytes spell
 pub hex_field : (u v : Option (List ℕ)) (label bytes : List ℕ) (k m n : ℕ) → bytes ≡ bytes_high_first k m → m ≡ n
@@ -31,9 +30,3 @@ flag_field u v label a b same printed = subst (λ it. Appends u v (label ++ flag
 -- a test of a number, by when it holds
 pub as_test : (b : Bool) (n m : ℕ) → (IsTrue b ↔ (n ≡ m)) → b ≡ (n == m)
 as_test b n m says = search rules
-
--- what is printed last
-pub Appends-last : {E : Type 0} → (u v w : Option (List ℕ)) (xs ys : List ℕ) (r : Result (Unit {0}) E)
-    → Appends u v xs → OnOk r (Appends v w ys) → OnOk r (Appends u w (xs ++ ys))
-Appends-last u v w xs ys (Ok x) before last = Appends-then u v w xs ys before last
-Appends-last u v w xs ys (Err e) before last = tt

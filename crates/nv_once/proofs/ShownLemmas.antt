@@ -1,39 +1,13 @@
--- Bytes moved and printed in chunks, and lines shown one after another
-use Rattle.std.proofs.Common.{◌≡◌, ℕ, zero, suc, ◌+◌, ◌≤◌, Bool, List, [], ◌∷◌, ◌++◌, length, take, drop, Option, Some, None, refl, sym, ap, ◌∙◌, arith, append_assoc, subst}
+-- Bytes moved in chunks, and lines shown one after another
+use Rattle.std.proofs.Common.{◌≡◌, ℕ, zero, suc, ◌+◌, ◌≤◌, Bool, List, [], ◌∷◌, ◌++◌, length, take, drop, refl, sym, ap, ◌∙◌, arith, append_assoc, subst}
 use Rattle.std.proofs.lemmas.List.{length-append, length-take, drop-drop, append-nil}
 use Rattle.std.proofs.Math.Seq.{take-nil, drop-nil, take-append_seam, drop-append-add}
-use Rattle.std.specs.Io.KnownBytes.{Appends, Keeps}
-use Rattle.hex.specs.Hex.{encode_with}
 use Rattle.nv_mem.specs.Bytes.{after_store, bytes_at}
 use Rattle.nv_moves.specs.Flat.{Flat}
 use Rattle.nv_script.specs.OnceLine.{LineValue}
 use Rattle.nv_once.specs.Shown.{AreShown, IsShown}
 
--- ---- an output that grows
-
-pub Appends-nothing : (u : Option (List ℕ)) → Appends u u []
-Appends-nothing None = tt
-Appends-nothing (Some xs) = sym (append-nil xs)
-
-pub Appends-then : (u v w : Option (List ℕ)) (xs ys : List ℕ) → Appends u v xs → Appends v w ys → Appends u w (xs ++ ys)
-Appends-then None v w xs ys x y = tt
-Appends-then (Some us) None w xs ys x y = absurd x
-Appends-then (Some us) (Some vs) None xs ys x y = absurd y
-Appends-then (Some us) (Some vs) (Some ws) xs ys x y = y ∙ ap (λ (t : List ℕ). t ++ ys) x ∙ append_assoc us xs ys
-
-pub Appends-kept : (u v w : Option (List ℕ)) (xs : List ℕ) → Appends u v xs → Keeps v w → Appends u w xs
-Appends-kept None v w xs x y = tt
-Appends-kept (Some us) None w xs x y = absurd x
-Appends-kept (Some us) (Some vs) None xs x y = absurd y
-Appends-kept (Some us) (Some vs) (Some ws) xs x y = y ∙ x
-
 -- ---- chunks
-
--- the digits of bytes are those of their parts
-pub encode_with-append : (t xs ys : List ℕ) → encode_with t (xs ++ ys) ≡ encode_with t xs ++ encode_with t ys
-unfolding encode_with
-encode_with-append t [] ys = refl
-encode_with-append t (x ∷ xs) ys = rw (encode_with-append t xs ys) refl
 
 take-sum : {A : Type 0} → (n k : ℕ) (xs : List A) → take (n + k) xs ≡ take n xs ++ take k (drop n xs)
 take-sum zero k xs =

@@ -1,23 +1,11 @@
--- What the program prints: bytes, and the fields of an entry
+-- What the program prints of an entry: its fields
 use Rattle.std.specs.Prelude.{ℕ, Bool, ◌==◌, if◌then◌else◌, List, [], ◌∷◌, ◌++◌, codes}
 use Rattle.std.specs.Fmt.{decimal}
 use Rattle.std.specs.Int.{bytes_high_first}
 use Rattle.hex.specs.Hex.{encode_lower}
 use Rattle.nv_entry.specs.Submission.{opcode_of, fuse_of, psdt_of, cid_of, nsid_of, sgl_of, cdw_of}
 use Rattle.nv_entry.specs.Completion as cqe
-
--- what ends a line
-abbrev pub line_feed : List ℕ
-line_feed = 10 ∷ []
-
--- bytes as a line of hexadecimal digits in lower case
-abbrev pub hex_line : List ℕ → List ℕ
-hex_line bytes = encode_lower bytes ++ line_feed
-
--- a line of bytes that may be none: a dash stands for none
-abbrev pub dump_line : List ℕ → List ℕ
-dump_line [] = codes "-" ++ line_feed
-dump_line (byte ∷ bytes) = hex_line (byte ∷ bytes)
+use Rattle.nv_print.specs.Printed.{line_feed}
 
 -- a number of so many bytes, all their digits in base 16
 abbrev pub hex_number : (bytes n : ℕ) → List ℕ

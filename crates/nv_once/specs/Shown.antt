@@ -11,7 +11,7 @@ use Rattle.nv_moves.specs.Flat.{Flat, flat}
 use Rattle.nv_flat.specs.One.{IsDone}
 use Rattle.nv_script.specs.OnceLine.{LineValue, Store, Fill, Paint, Command, Dump, Block}
 use Rattle.nv_script.specs.OnceScript.{ScriptValue, script_of}
-use Rattle.nv_once.specs.Printed.{dump_line, hex_line}
+use Rattle.nv_print.specs.Printed.{dump_line, hex_line}
 
 -- what a line prints, and the controller as it leaves it: a command is done as the first of a fresh queue 1, and prints its completion
 abbrev pub IsShown : (built : List ℕ → Bool) → (old : Flat) → LineValue → (printed : List ℕ) → (new : Flat) → Type 0

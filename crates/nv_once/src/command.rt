@@ -138,8 +138,9 @@ fn print<C: One, W: Write>(alloc: Global, job: &Job, output: &mut W) -> Result<(
     ensures err { IfErr result IsStop }
 {
     match job {
-        Job::Submission(entry) => lines::write_submission(entry, output),
-        Job::Completion(entry) => lines::write_completion(entry, output),
-        Job::Script(script) => once::run::<C, W>(alloc, script, output),
+        Job::Submission(entry) => lines::write_submission(entry, output)?,
+        Job::Completion(entry) => lines::write_completion(entry, output)?,
+        Job::Script(script) => once::run::<C, W>(alloc, script, output)?,
     }
+    Ok(())
 }

@@ -4,11 +4,12 @@ ghost use Rattle.std.specs.Prelude.{◌≡◌, ◌≢◌, ◌⊎◌, ◌++◌, O
 ghost use Rattle.std.specs.Io.KnownBytes.{Appends};
 ghost use Rattle.std.specs.IoError.{error_kind};
 ghost use Rattle.nv_once.specs.Fault.{fault_of, of_script, status_of, text_of};
-ghost use Rattle.nv_once.specs.Printed.{line_feed};
+ghost use Rattle.nv_print.specs.Printed.{line_feed};
 
 use crate::exit_status::ExitStatus;
 use crate::refusal::Refusal;
 use nv_mem::NoMemory;
+use nv_print::CannotWrite;
 use nv_script::{FaultKind, ScriptFault};
 use std::alloc::AllocError;
 use std::error::Error;
@@ -117,6 +118,16 @@ impl From<NoMemory> for Fault {
 
     fn from(_error: NoMemory) -> Self {
         Fault::NoMemory
+    }
+}
+
+impl From<CannotWrite> for Fault {
+    ghost use Rattle.nv_once.specs.declared.fault.Fault.TheVariants as fault;
+
+    ghost from_gives = { λ _ made. made ≡ fault.CannotWrite };
+
+    fn from(_error: CannotWrite) -> Self {
+        Fault::CannotWrite
     }
 }
 

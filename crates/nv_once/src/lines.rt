@@ -1,17 +1,16 @@
 //! The lines that `decode` prints.
-ghost use Rattle.std.specs.Prelude.{◌≡◌, IfErr, OnOk};
+ghost use Rattle.std.specs.Prelude.{OnOk};
 ghost use Rattle.std.specs.Io.KnownBytes.{Appends};
 ghost use Rattle.nv_once.specs.Printed.{completion_line, submission_line};
 
-use crate::fault::Fault;
-use crate::print::{end_line, print_flag, print_hex, print_number};
+use crate::print::{print_flag, print_hex, print_number};
 use nv_entry::{Cqe, Sqe};
+use nv_print::{CannotWrite, end_line};
 use std::io::Write;
 
 /// Writes the fields of a submission queue entry on one line.
-pub fn write_submission<W: Write>(entry: &Sqe, output: &mut W) -> Result<(), Fault>
-    ensures ok { OnOk result (Appends (W.contents output.old) (W.contents output.new) (submission_line entry.now)) }
-    ensures err { IfErr result (λ fault. fault ≡ Fault.CannotWrite) }
+pub fn write_submission<W: Write>(entry: &Sqe, output: &mut W) -> Result<(), CannotWrite>
+    ensures { OnOk result (Appends (W.contents output.old) (W.contents output.new) (submission_line entry.now)) }
 {
     print_hex(b"opc=", &entry.opcode().to_be_bytes(), output)?;
     print_number(b" fuse=", entry.fuse(), output)?;
@@ -29,9 +28,8 @@ pub fn write_submission<W: Write>(entry: &Sqe, output: &mut W) -> Result<(), Fau
 }
 
 /// Writes the fields of a completion queue entry on one line.
-pub fn write_completion<W: Write>(entry: &Cqe, output: &mut W) -> Result<(), Fault>
-    ensures ok { OnOk result (Appends (W.contents output.old) (W.contents output.new) (completion_line entry.now)) }
-    ensures err { IfErr result (λ fault. fault ≡ Fault.CannotWrite) }
+pub fn write_completion<W: Write>(entry: &Cqe, output: &mut W) -> Result<(), CannotWrite>
+    ensures { OnOk result (Appends (W.contents output.old) (W.contents output.new) (completion_line entry.now)) }
 {
     print_hex(b"dw0=", &entry.dw0().to_be_bytes(), output)?;
     print_hex(b" sqhd=", &entry.sqhd().to_be_bytes(), output)?;

@@ -7,15 +7,18 @@ ghost use Rattle.nv_mem.specs.Bytes.{InMemory, after_store, bytes_at};
 ghost use Rattle.nv_script.specs.OnceLine.{value_of};
 ghost use Rattle.nv_script.specs.OnceScript.{IsInRange, script_value};
 ghost use Rattle.nv_once.specs.Once.{HasSizes, IsInput, IsOnceFault, IsScriptOf, IsStop, IsThere};
-ghost use Rattle.nv_once.specs.Printed.{dump_line};
+ghost use Rattle.nv_print.specs.Printed.{dump_line};
 ghost use Rattle.nv_once.specs.Shown.{PrintsScript, Shows};
 
 use crate::fault::Fault;
-use crate::print::{CHUNK, end_line, print_bytes, print_line};
 use nv_flat::One;
+use nv_print::{CannotWrite, end_line, print_bytes, print_line, print_text};
 use nv_script::{Line, Script, parse};
 use std::alloc::Global;
 use std::io::{Read, Write};
+
+/// How many bytes are stored or loaded at once.
+const CHUNK: usize = 512;
 
 /// Reads a script whole. Where it is known what there is to read, that is the script, and a fault of the script is the one that its
 /// definition gives.
@@ -108,13 +111,17 @@ fn fill_by<C: One>(controller: &mut C, addr: u64, len: u64, byte: u8, chunk: &[u
 }
 
 // Prints so many bytes from an address on as a line, or `-` where they are none.
-fn dump<C: One, W: Write>(controller: &C, addr: u64, len: u64, output: &mut W) -> Result<(), Fault>
+fn dump<C: One, W: Write>(
+    controller: &C,
+    addr: u64,
+    len: u64,
+    output: &mut W,
+) -> Result<(), CannotWrite>
     requires { InMemory (length (C.seen controller.now).memory) addr len }
-    ensures ok { OnOk result (Appends (W.contents output.old) (W.contents output.new) (dump_line (bytes_at (C.seen controller.now).memory addr len))) }
-    ensures err { IfErr result (λ fault. fault ≡ Fault.CannotWrite) }
+    ensures { OnOk result (Appends (W.contents output.old) (W.contents output.new) (dump_line (bytes_at (C.seen controller.now).memory addr len))) }
 {
     if len == 0 {
-        return output.write_all(b"-\n").map_err(Fault::of_output);
+        return print_text(b"-\n", output);
     }
     dump_bytes(controller, addr, len, output)?;
     end_line(output)
@@ -126,10 +133,9 @@ fn dump_bytes<C: One, W: Write>(
     addr: u64,
     len: u64,
     output: &mut W,
-) -> Result<(), Fault>
+) -> Result<(), CannotWrite>
     requires { InMemory (length (C.seen controller.now).memory) addr len }
-    ensures ok { OnOk result (Appends (W.contents output.old) (W.contents output.new) (encode_lower (bytes_at (C.seen controller.now).memory addr len))) }
-    ensures err { IfErr result (λ fault. fault ≡ Fault.CannotWrite) }
+    ensures { OnOk result (Appends (W.contents output.old) (W.contents output.new) (encode_lower (bytes_at (C.seen controller.now).memory addr len))) }
 {
     // the proof learns from it that no address is beyond 64 bits
     let _size = controller.memory_len();

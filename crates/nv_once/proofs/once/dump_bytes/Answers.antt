@@ -2,7 +2,8 @@ use Rattle.std.proofs.Common.{◌≡◌, ◌+◌, ◌++◌, ap, arith, rules, �
 use Rattle.std.specs.Io.KnownBytes.{Appends}
 use Rattle.hex.specs.Hex.{encode_lower, encode_with, lower_digits}
 use Rattle.nv_mem.specs.Bytes.{bytes_at}
-use Rattle.nv_once.proofs.ShownLemmas.{Appends-nothing, Appends-then, bytes_at-append, encode_with-append}
+use Rattle.nv_print.proofs.Growing.{Appends-nothing, Appends-then, encode_with-append}
+use Rattle.nv_once.proofs.ShownLemmas.{bytes_at-append}
 use Rattle.nv_once.proofs.once.dump_bytes.Goals as goal
 
 pub loop-done-init : goal.loop-done-init

@@ -5,7 +5,8 @@ use Rattle.nv_moves.specs.Flat.{Flat}
 use Rattle.nv_once.specs.Once.{HasSizes}
 use Rattle.nv_once.specs.Shown.{AreShown}
 use Rattle.nv_once.proofs.OnceLemmas.{IsThere-in_range}
-use Rattle.nv_once.proofs.ShownLemmas.{Appends-nothing, Appends-then, AreShown-then}
+use Rattle.nv_print.proofs.Growing.{Appends-nothing, Appends-then}
+use Rattle.nv_once.proofs.ShownLemmas.{AreShown-then}
 use Rattle.nv_once.proofs.once.run.Goals as goal
 
 pub loop-line-init : goal.loop-line-init

@@ -1,5 +1,5 @@
 use Rattle.std.proofs.Common.{[], refl}
-use Rattle.nv_once.proofs.ShownLemmas.{Appends-nothing}
+use Rattle.nv_print.proofs.Growing.{Appends-nothing}
 use Rattle.nv_once.proofs.once.run_line.Goals as goal
 
 pub returns-in-Paint-clause-ok : goal.returns-in-Paint-clause-ok
