@@ -1,14 +1,19 @@
 -- What is printed of a command, by what was left to do of it
 use Rattle.std.proofs.Common.{ℕ, Bool, List, Option, Some, None}
+use Rattle.std.specs.Io.KnownBytes.{Keeps}
+use Rattle.nv_print.proofs.Growing.{Appends-kept}
 use Rattle.nv_script.specs.OnceScript.{ScriptValue, script_value}
 use Rattle.nv_once.specs.declared.entry_kind.EntryKind.TheVariants as kind
 use Rattle.nv_once.specs.declared.command.Command.{Command}
-use Rattle.nv_once.specs.declared.command.Command.TheVariants.{Decode, Once}
+use Rattle.nv_once.specs.declared.command.Command.TheVariants.{Decode, Once, Replay}
 use Rattle.nv_once.specs.declared.command.Job.{Job}
-use Rattle.nv_once.specs.declared.command.Job.TheVariants.{Submission, Completion, Script}
+use Rattle.nv_once.specs.declared.command.Job.TheVariants as job
+use Rattle.nv_replay.specs.Opening.{ReplayValue}
+use Rattle.nv_replay.specs.Shown as replay
 use Rattle.nv_once.specs.Command.{Prints}
 use Rattle.nv_once.specs.Job.{IsJobOf, PrintsJob}
 use Rattle.nv_once.specs.Once.{IsScriptOf}
+use Rattle.nv_once.specs.Replay.{IsReplayOf}
 use Rattle.nv_once.specs.Shown.{PrintsScript, PrintsText}
 
 -- what the script of a text prints
@@ -17,15 +22,36 @@ PrintsText-script : (built : List ℕ → Bool) (text before after : Option (Lis
 PrintsText-script built None before after script is printed = tt
 PrintsText-script built (Some bytes) before after script is printed = (script, is, printed)
 
+-- what a run of the world of a text prints
+PrintsText-replay : (text before after : Option (List ℕ)) (value : ReplayValue)
+    → IsReplayOf text value → replay.PrintsReplay value before after → replay.PrintsText text before after
+PrintsText-replay None before after value is printed = tt
+PrintsText-replay (Some bytes) before after value is printed = (value, is, printed)
+
 -- what a command prints is what is left to do of it
 pub Prints-job : (built : List ℕ → Bool) (command : Command) (text before after : Option (List ℕ)) (job : Job)
     → IsJobOf command text job → PrintsJob built job before after → Prints built command text before after
-Prints-job built (Decode kind.Submission digits) text before after (Submission entry) is printed = (entry, is, printed)
-Prints-job built (Decode kind.Submission digits) text before after (Completion entry) is printed = absurd is
-Prints-job built (Decode kind.Submission digits) text before after (Script script) is printed = absurd is
-Prints-job built (Decode kind.Completion digits) text before after (Submission entry) is printed = absurd is
-Prints-job built (Decode kind.Completion digits) text before after (Completion entry) is printed = (entry, is, printed)
-Prints-job built (Decode kind.Completion digits) text before after (Script script) is printed = absurd is
-Prints-job built Once text before after (Submission entry) is printed = absurd is
-Prints-job built Once text before after (Completion entry) is printed = absurd is
-Prints-job built Once text before after (Script script) is printed = PrintsText-script built text before after (script_value script) is.0 printed
+Prints-job built (Decode kind.Submission digits) text before after (job.Submission entry) is printed = (entry, is, printed)
+Prints-job built (Decode kind.Submission digits) text before after (job.Completion entry) is printed = absurd is
+Prints-job built (Decode kind.Submission digits) text before after (job.Script script) is printed = absurd is
+Prints-job built (Decode kind.Submission digits) text before after (job.Replay value) is printed = absurd is
+Prints-job built (Decode kind.Completion digits) text before after (job.Submission entry) is printed = absurd is
+Prints-job built (Decode kind.Completion digits) text before after (job.Completion entry) is printed = (entry, is, printed)
+Prints-job built (Decode kind.Completion digits) text before after (job.Script script) is printed = absurd is
+Prints-job built (Decode kind.Completion digits) text before after (job.Replay value) is printed = absurd is
+Prints-job built Once text before after (job.Submission entry) is printed = absurd is
+Prints-job built Once text before after (job.Completion entry) is printed = absurd is
+Prints-job built Once text before after (job.Script script) is printed = PrintsText-script built text before after (script_value script) is.0 printed
+Prints-job built Once text before after (job.Replay value) is printed = absurd is
+Prints-job built Replay text before after (job.Submission entry) is printed = absurd is
+Prints-job built Replay text before after (job.Completion entry) is printed = absurd is
+Prints-job built Replay text before after (job.Script script) is printed = absurd is
+Prints-job built Replay text before after (job.Replay value) is printed = PrintsText-replay text before after value is printed
+
+-- what was printed is kept
+pub PrintsJob-kept : (built : List ℕ → Bool) (job : Job) (before between after : Option (List ℕ))
+    → PrintsJob built job before between → Keeps between after → PrintsJob built job before after
+PrintsJob-kept built (job.Submission entry) before between after printed kept = Appends-kept before between after _ printed kept
+PrintsJob-kept built (job.Completion entry) before between after printed kept = Appends-kept before between after _ printed kept
+PrintsJob-kept built (job.Script script) before between after (printed, grown, is) kept = (printed, Appends-kept before between after printed grown kept, is)
+PrintsJob-kept built (job.Replay value) before between after (printed, grown, is) kept = (printed, Appends-kept before between after printed grown kept, is)

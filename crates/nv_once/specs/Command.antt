@@ -3,15 +3,17 @@ use Rattle.std.specs.Prelude.{◌≡◌, ℕ, Bool, true, false, List, Option, O
 use Rattle.std.specs.Io.KnownBytes.{Appends}
 use Rattle.std.specs.Result.{is_ok}
 use Rattle.hex.specs.Hex.{decode_sized}
+use Rattle.nv_replay.specs.Shown as replay
 use Rattle.nv_once.specs.Once.{IsOnceFault}
+use Rattle.nv_once.specs.Replay.{IsReplayFault}
 use Rattle.nv_once.specs.Printed.{completion_line, submission_line}
 use Rattle.nv_once.specs.Shown.{PrintsText}
 use Rattle.nv_once.specs.declared.fault.Fault.{Fault}
-use Rattle.nv_once.specs.declared.fault.Fault.TheVariants.{BadBytes, Usage, NoMemory, Script, CannotRead, CannotWrite}
+use Rattle.nv_once.specs.declared.fault.Fault.TheVariants.{BadBytes, Usage, NoMemory, Script, Refused, CannotRead, CannotWrite}
 use Rattle.nv_once.specs.declared.entry_kind.EntryKind.{EntryKind}
 use Rattle.nv_once.specs.declared.entry_kind.EntryKind.TheVariants.{Submission, Completion}
 use Rattle.nv_once.specs.declared.command.Command.{Command}
-use Rattle.nv_once.specs.declared.command.Command.TheVariants.{Decode, Once}
+use Rattle.nv_once.specs.declared.command.Command.TheVariants.{Decode, Once, Replay}
 
 -- how many bytes an entry has
 abbrev pub size_of : EntryKind → ℕ
@@ -23,11 +25,13 @@ abbrev pub line_of : EntryKind → List ℕ → List ℕ
 line_of Submission entry = submission_line entry
 line_of Completion entry = completion_line entry
 
--- an output has grown by what a command prints: the line of the entry that its digits spell, or what the script prints that the text is
+-- an output has grown by what a command prints: the line of the entry that its digits spell, or what the script prints that the text is,
+-- on a controller of its own or along its world
 abbrev pub Prints : (built : List ℕ → Bool) → Command → (text before after : Option (List ℕ)) → Type 0
 Prints built (Decode kind digits) text before after =
     (entry : List ℕ) × (decode_sized digits.now (size_of kind) ≡ Ok entry) × Appends before after (line_of kind entry)
 Prints built Once text before after = PrintsText built text before after
+Prints built Replay text before after = replay.PrintsText text before after
 
 -- the faults with which `decode` can end: its digits spell no entry, or they do and the output failed or memory was refused
 abbrev pub IsDecodeFault : (spelled : Bool) → Fault → Type 0
@@ -35,6 +39,7 @@ IsDecodeFault spelled BadBytes = spelled ≡ false
 IsDecodeFault spelled Usage = ⊥
 IsDecodeFault spelled NoMemory = spelled ≡ true
 IsDecodeFault spelled (Script line kind) = ⊥
+IsDecodeFault spelled (Refused refusal) = ⊥
 IsDecodeFault spelled CannotRead = ⊥
 IsDecodeFault spelled CannotWrite = spelled ≡ true
 
@@ -42,8 +47,10 @@ IsDecodeFault spelled CannotWrite = spelled ≡ true
 abbrev pub IsFaultOf : Command → (text : Option (List ℕ)) → Fault → Type 0
 IsFaultOf (Decode kind digits) text fault = IsDecodeFault (is_ok (decode_sized digits.now (size_of kind))) fault
 IsFaultOf Once text fault = IsOnceFault text fault
+IsFaultOf Replay text fault = IsReplayFault text fault
 
 -- `decode` leaves its input as it is
 abbrev pub LeavesInput : {R : Type 0} → Command → (before after : R) → Type 0
 LeavesInput (Decode kind digits) before after = after ≡ before
 LeavesInput Once before after = ⊤
+LeavesInput Replay before after = ⊤

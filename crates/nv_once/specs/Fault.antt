@@ -5,7 +5,10 @@ use Rattle.nv_once.specs.declared.exit_status.ExitStatus.TheVariants as status
 use Rattle.nv_once.specs.declared.refusal.Refusal.{Refusal}
 use Rattle.nv_once.specs.declared.refusal.Refusal.TheVariants as refusal
 use Rattle.nv_once.specs.declared.fault.Fault.{Fault}
-use Rattle.nv_once.specs.declared.fault.Fault.TheVariants.{BadBytes, Usage, NoMemory, Script, CannotRead, CannotWrite}
+use Rattle.nv_once.specs.declared.fault.Fault.TheVariants.{BadBytes, Usage, NoMemory, Script, Refused, CannotRead, CannotWrite}
+use Rattle.nv_replay.specs.Refused.{refusal_text}
+use Rattle.nv_replay.specs.declared.fault.ReplayFault.{ReplayFault}
+use Rattle.nv_replay.specs.declared.fault.ReplayFault.TheVariants as replay
 use Rattle.nv_script.specs.OnceFault.{line_text}
 use Rattle.nv_script.specs.declared.once.fault.ScriptFault.{ScriptFault}
 use Rattle.nv_script.specs.declared.once.fault.ScriptFault.TheVariants as script
@@ -16,6 +19,7 @@ status_of BadBytes = status.ScriptFault
 status_of Usage = status.Usage
 status_of NoMemory = status.NoMemory
 status_of (Script line kind) = status.ScriptFault
+status_of (Refused refusal) = status.ScriptFault
 status_of CannotRead = status.InputOutput
 status_of CannotWrite = status.InputOutput
 
@@ -25,6 +29,7 @@ text_of BadBytes = codes "line 1: bad bytes"
 text_of Usage = codes "usage: nvmed once | replay | run | decode KIND HEX"
 text_of NoMemory = codes "no memory"
 text_of (Script line kind) = line_text line kind
+text_of (Refused refusal) = refusal_text refusal
 text_of CannotRead = codes "cannot read"
 text_of CannotWrite = codes "cannot write"
 
@@ -32,6 +37,12 @@ text_of CannotWrite = codes "cannot write"
 abbrev pub of_script : ScriptFault → Fault
 of_script (script.Line line kind) = Script line kind
 of_script script.NoMemory = NoMemory
+
+-- the fault of a script that is not replayed
+abbrev pub of_replay : ReplayFault → Fault
+of_replay (replay.Script line kind) = Script line kind
+of_replay (replay.Refused refusal) = Refused refusal
+of_replay replay.NoMemory = NoMemory
 
 -- the fault of words that are no command
 abbrev pub fault_of : Refusal → Fault

@@ -4,4 +4,5 @@ pub mod Fault
 pub mod Job
 pub mod Once
 pub mod Printed
+pub mod Replay
 pub mod Shown

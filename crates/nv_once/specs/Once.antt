@@ -6,7 +6,7 @@ use Rattle.nv_script.specs.OnceLine.{LineValue, is_there}
 use Rattle.nv_script.specs.OnceScript.{ScriptValue, script_of}
 use Rattle.nv_script.specs.declared.once.fault.ScriptFault.TheVariants as script
 use Rattle.nv_once.specs.declared.fault.Fault.{Fault}
-use Rattle.nv_once.specs.declared.fault.Fault.TheVariants.{BadBytes, Usage, NoMemory, Script, CannotRead, CannotWrite}
+use Rattle.nv_once.specs.declared.fault.Fault.TheVariants.{BadBytes, Usage, NoMemory, Script, Refused, CannotRead, CannotWrite}
 
 -- the text is a script, where it is known
 abbrev pub IsScript : Option (List ℕ) → Type 0
@@ -22,6 +22,7 @@ IsOnceFault text BadBytes = ⊥
 IsOnceFault text Usage = ⊥
 IsOnceFault text NoMemory = ⊤
 IsOnceFault text (Script line kind) = IfSome text (λ bytes. script_of bytes ≡ Err (script.Line line kind))
+IsOnceFault text (Refused refusal) = ⊥
 IsOnceFault text CannotRead = ⊤
 IsOnceFault text CannotWrite = IsScript text
 

@@ -6,9 +6,10 @@ ghost use Rattle.nv_once.specs.Once.{IsStop};
 
 use crate::entry_kind::EntryKind;
 use crate::fault::Fault;
-use crate::{decode, lines, once};
+use crate::{decode, lines, once, replay};
 use nv_entry::{Cqe, Sqe};
 use nv_flat::One;
+use nv_replay::Replay;
 use nv_script::Script;
 use std::alloc::Global;
 use std::io::{BufWriter, Read, Write};
@@ -21,6 +22,9 @@ pub enum Command<'a> {
     /// run a script of commands on a private controller over flat memory: where it is known what there is to read, the run ends well
     /// or in the middle of its output only if that is a script, and a fault of the script is the one that its definition gives
     Once,
+    /// put a mediated world through the events of a script, and print their replies: a fault of the script or of its set-up is the one that
+    /// its definition gives, where it is known what there is to read
+    Replay,
 }
 
 /// Why a command ended with no success.
@@ -54,6 +58,8 @@ enum Job {
     Completion(Cqe),
     /// run a script
     Script(Script),
+    /// put a world through events
+    Replay(Replay),
 }
 
 /// Does a command; a script runs on a controller of the kind `C`. What it prints goes to `output`, through a buffer that is empty at
@@ -77,7 +83,7 @@ pub fn perform<C: One, R: Read, W: Write + Drop>(
         Ok(job) => job,
         Err(fault) => return Err(Failure::untouched(fault, output)),
     };
-    match carry_out::<C, W>(alloc, &job, output) {
+    match carry_out::<C, W>(alloc, job, output) {
         Ok(written) => Ok(written),
         Err(fault) => Err(Failure {
             fault,
@@ -111,13 +117,17 @@ fn prepare<R: Read>(alloc: Global, command: Command<'_>, input: &mut R) -> Resul
             let script = once::read(alloc, input)?;
             Ok(Job::Script(script))
         }
+        Command::Replay => {
+            let replay = replay::read(alloc, input)?;
+            Ok(Job::Replay(replay))
+        }
     }
 }
 
 // Does what is left to do, and gives the output back.
-fn carry_out<C: One, W: Write + Drop>(alloc: Global, job: &Job, output: W) -> Result<W, Fault>
-    requires { IsPrintable job.now }
-    ensures ok { IfOk result (λ written. PrintsJob C.built job.now (W.contents output) (W.contents written)) }
+fn carry_out<C: One, W: Write + Drop>(alloc: Global, job: Job, output: W) -> Result<W, Fault>
+    requires { IsPrintable job }
+    ensures ok { IfOk result (λ written. PrintsJob C.built job (W.contents output) (W.contents written)) }
     ensures err { IfErr result IsStop }
 {
     let Ok(mut buffer) = BufWriter::new(alloc, output) else {
@@ -132,15 +142,16 @@ fn carry_out<C: One, W: Write + Drop>(alloc: Global, job: &Job, output: W) -> Re
 }
 
 // Prints what is left to do.
-fn print<C: One, W: Write>(alloc: Global, job: &Job, output: &mut W) -> Result<(), Fault>
-    requires { IsPrintable job.now }
-    ensures ok { OnOk result (PrintsJob C.built job.now (W.contents output.old) (W.contents output.new)) }
+fn print<C: One, W: Write>(alloc: Global, job: Job, output: &mut W) -> Result<(), Fault>
+    requires { IsPrintable job }
+    ensures ok { OnOk result (PrintsJob C.built job (W.contents output.old) (W.contents output.new)) }
     ensures err { IfErr result IsStop }
 {
     match job {
-        Job::Submission(entry) => lines::write_submission(entry, output)?,
-        Job::Completion(entry) => lines::write_completion(entry, output)?,
-        Job::Script(script) => once::run::<C, W>(alloc, script, output)?,
+        Job::Submission(entry) => lines::write_submission(&entry, output)?,
+        Job::Completion(entry) => lines::write_completion(&entry, output)?,
+        Job::Script(script) => once::run::<C, W>(alloc, &script, output)?,
+        Job::Replay(replay) => nv_replay::run(alloc, replay, output)?,
     }
     Ok(())
 }

@@ -3,13 +3,14 @@
 ghost use Rattle.std.specs.Prelude.{◌≡◌, ◌≢◌, ◌⊎◌, ◌++◌, OnOk, Some};
 ghost use Rattle.std.specs.Io.KnownBytes.{Appends};
 ghost use Rattle.std.specs.IoError.{error_kind};
-ghost use Rattle.nv_once.specs.Fault.{fault_of, of_script, status_of, text_of};
+ghost use Rattle.nv_once.specs.Fault.{fault_of, of_replay, of_script, status_of, text_of};
 ghost use Rattle.nv_print.specs.Printed.{line_feed};
 
 use crate::exit_status::ExitStatus;
 use crate::refusal::Refusal;
 use nv_mem::NoMemory;
 use nv_print::CannotWrite;
+use nv_replay::{ReplayFault, SetUpRefusal};
 use nv_script::{FaultKind, ScriptFault};
 use std::alloc::AllocError;
 use std::error::Error;
@@ -27,6 +28,8 @@ pub enum Fault {
     NoMemory,
     /// a line of the script is faulty
     Script { line: u64, kind: FaultKind },
+    /// the set-up of the script is refused
+    Refused(SetUpRefusal),
     /// the input failed
     CannotRead,
     /// the output failed
@@ -57,7 +60,7 @@ impl Fault {
         ensures { result ≡ status_of self }
     {
         match self {
-            Fault::BadBytes | Fault::Script { .. } => ExitStatus::ScriptFault,
+            Fault::BadBytes | Fault::Script { .. } | Fault::Refused(_) => ExitStatus::ScriptFault,
             Fault::Usage => ExitStatus::Usage,
             Fault::NoMemory => ExitStatus::NoMemory,
             Fault::CannotRead | Fault::CannotWrite => ExitStatus::InputOutput,
@@ -82,6 +85,7 @@ impl fmt::Display for Fault {
             Fault::Usage => f.write_str("usage: nvmed once | replay | run | decode KIND HEX"),
             Fault::NoMemory => f.write_str("no memory"),
             Fault::Script { line, kind } => write!(f, "line {line}: {kind}"),
+            Fault::Refused(refusal) => write!(f, "{refusal}"),
             Fault::CannotRead => f.write_str("cannot read"),
             Fault::CannotWrite => f.write_str("cannot write"),
         }
@@ -138,6 +142,18 @@ impl From<ScriptFault> for Fault {
         match fault {
             ScriptFault::Line { line, kind } => Fault::Script { line, kind },
             ScriptFault::NoMemory => Fault::NoMemory,
+        }
+    }
+}
+
+impl From<ReplayFault> for Fault {
+    ghost from_gives = { λ replay made. made ≡ of_replay replay };
+
+    fn from(fault: ReplayFault) -> Self {
+        match fault {
+            ReplayFault::Script { line, kind } => Fault::Script { line, kind },
+            ReplayFault::Refused(refusal) => Fault::Refused(refusal),
+            ReplayFault::NoMemory => Fault::NoMemory,
         }
     }
 }

@@ -1,9 +1,10 @@
 //! What the program `nvmed` does, but for which words are a command: `decode` prints the fields of an entry, `once` runs a script of
-//! commands on a controller over flat memory.
+//! commands on a controller over flat memory, `replay` puts a mediated world through the events of a script.
 //!
 //! [`program`] is the whole of it over a process and a [`Grammar`]; [`run`] does a command over a reader and two writers, on any kind of
 //! controller that runs one command at a time. It is proved what is printed: the line of an entry, field by field, and of a script,
-//! where it is known what there is to read, what its lines print one after another on a run of the controller. A command ends with a
+//! where it is known what there is to read, what its lines print one after another on a run of the controller, or the replies to its
+//! events along the world. A command ends with a
 //! fault only as its definition says, the output is left as it was but behind want of memory and failed output, `decode` reads nothing,
 //! and each outcome has its exit status. What a writer holds that failed is tested and not proved.
 #![tactic(auto)]
@@ -14,11 +15,13 @@ mod entry_kind;
 mod exit_status;
 mod fault;
 mod grammar;
+mod input;
 mod lines;
 mod once;
 mod print;
 mod process;
 mod refusal;
+mod replay;
 
 pub use command::{Command, Failure, perform};
 pub use entry_kind::EntryKind;

@@ -1,16 +1,17 @@
 //! The subcommand `once`: a script of commands on a private controller over flat memory.
-ghost use Rattle.std.specs.Prelude.{◌≡◌, ◌≤◌, length, replicate, IfErr, IfOk, IfSome, OnOk};
+ghost use Rattle.std.specs.Prelude.{◌≡◌, ◌≤◌, length, replicate, IfErr, IfOk, OnOk};
 ghost use Rattle.std.specs.Io.KnownBytes.{Appends};
 ghost use Rattle.hex.specs.Hex.{encode_lower};
 ghost use Rattle.nv_moves.specs.Flat.{flat};
 ghost use Rattle.nv_mem.specs.Bytes.{InMemory, after_store, bytes_at};
 ghost use Rattle.nv_script.specs.OnceLine.{value_of};
 ghost use Rattle.nv_script.specs.OnceScript.{IsInRange, script_value};
-ghost use Rattle.nv_once.specs.Once.{HasSizes, IsInput, IsOnceFault, IsScriptOf, IsStop, IsThere};
+ghost use Rattle.nv_once.specs.Once.{HasSizes, IsOnceFault, IsScriptOf, IsStop, IsThere};
 ghost use Rattle.nv_print.specs.Printed.{dump_line};
 ghost use Rattle.nv_once.specs.Shown.{PrintsScript, Shows};
 
 use crate::fault::Fault;
+use crate::input::read_all;
 use nv_flat::One;
 use nv_print::{CannotWrite, end_line, print_bytes, print_line, print_text};
 use nv_script::{Line, Script, parse};
@@ -30,18 +31,6 @@ pub fn read<R: Read>(alloc: Global, input: &mut R) -> Result<Script, Fault>
     let text = read_all(alloc, input)?;
     let script = parse(alloc, &text)?;
     Ok(script)
-}
-
-// The whole input.
-fn read_all<R: Read>(alloc: Global, input: &mut R) -> Result<Vec<u8>, Fault>
-    ensures ok { IfOk result (λ text. IfSome (R.remaining input.old) (λ bytes. text.items ≡ bytes)) }
-    ensures err { IfErr result IsInput }
-{
-    let mut text = Vec::new(alloc);
-    match input.read_to_end(&mut text) {
-        Ok(_) => Ok(text),
-        Err(error) => Err(Fault::of_input(error)),
-    }
 }
 
 /// Runs the lines of a script one after another on a controller of its sizes. What a `cmd`, `dump` or `block` line prints goes to

@@ -1,0 +1,3 @@
+pub mod Guests
+pub mod Openings
+pub mod Runs

@@ -1,0 +1,118 @@
+-- Events that are answered one after another, and the lines of their replies
+use Rattle.std.proofs.Common.{◌≡◌, ℕ, ◌+◌, List, [], ◌∷◌, ◌++◌, length, Option, Result, Ok, Err, OnOk, refl, sym, ap, ◌∙◌, arith, append_assoc, inl, inr, subst, length-append}
+use Rattle.std.proofs.lemmas.List.{append-nil}
+use Rattle.std.specs.Io.KnownBytes.{Appends}
+use Rattle.nv_model.specs.declared.reply.Reply.{Reply}
+use Rattle.nv_print.proofs.Growing.{Appends-nothing, Appends-then}
+use Rattle.nv_world.specs.Mediated.{IsStepped, Mediated, opened}
+use Rattle.nv_world_model.specs.Geometry.{Geometry}
+use Rattle.nv_world_model.specs.SetUp.{SetUp, world_at_start}
+use Rattle.nv_world_model.specs.World.{World}
+use Rattle.nv_world_model.specs.declared.event.Event.{Event}
+use Rattle.nv_replay.specs.Opening.{ReplayValue}
+use Rattle.nv_replay.specs.Shown.{AreAnswered, IsAnswered, PrintsReplay, count_line, reply_line, reply_lines, shown}
+
+-- the line of one more reply
+pub reply_lines-then : (n : ℕ) (replies : List Reply) (reply : Reply)
+    → reply_lines n (replies ++ reply ∷ []) ≡ reply_lines n replies ++ reply_line (n + length replies) reply
+unfolding reply_lines
+reply_lines-then n [] reply =
+    let same : n + 0 ≡ n = omega arith in
+    rw same (append-nil (reply_line n reply))
+reply_lines-then n (first ∷ replies) reply =
+    let same : n + 1 + length replies ≡ n + length (first ∷ replies) = omega arith in
+    rw (reply_lines-then (n + 1) replies reply, same)
+    (sym (append_assoc (reply_line n first) (reply_lines (n + 1) replies) (reply_line (n + length (first ∷ replies)) reply)))
+
+-- these replies answer the events so far: whatever answers those that are left from here answers them all behind these
+abbrev pub AnswersSoFar : Geometry → (first : World) → (all : List Event) → List Reply → (now : World) → (left : List Event) → Type 0
+AnswersSoFar geometry first all replies now left =
+    (more : List Reply) (last : World)
+    → AreAnswered geometry now left more last → AreAnswered geometry first all (replies ++ more) last
+
+-- before the first event
+pub AnswersSoFar-none : (geometry : Geometry) (first : World) (all : List Event) → AnswersSoFar geometry first all [] first all
+AnswersSoFar-none geometry first all more last answered = answered
+
+-- one more event
+pub AnswersSoFar-then : (geometry : Geometry) (first now next : World) (all : List Event) (replies : List Reply)
+    (event : Event) (reply : Reply) (left : List Event)
+    → AnswersSoFar geometry first all replies now (event ∷ left) → IsAnswered geometry now event reply next
+    → AnswersSoFar geometry first all (replies ++ reply ∷ []) next left
+unfolding AreAnswered
+AnswersSoFar-then geometry first now next all replies event reply left so_far answered more last rest =
+    rw append_assoc (so_far (reply ∷ more) last (next, answered, rest))
+
+-- behind the last event
+pub AnswersSoFar-all : (geometry : Geometry) (first last : World) (all : List Event) (replies : List Reply)
+    → AnswersSoFar geometry first all replies last [] → AreAnswered geometry first all replies last
+unfolding AreAnswered
+AnswersSoFar-all geometry first last all replies so_far = rw append-nil at (so_far [] last refl)
+
+-- ---- along a world
+
+-- a step answers its event, and keeps the set-up
+IsStepped-answers : (set_up : SetUp) (event : Event) (old new : Mediated) (reply : Reply)
+    → old.setup ≡ set_up → IsStepped event old reply new
+    → IsAnswered set_up.geometry old.world event reply new.world × (new.setup ≡ set_up)
+IsStepped-answers set_up event old new reply kept (inl (none, same)) = (inl (none, ap (λ m. m.world) same), ap (λ r. r.setup) same ∙ kept)
+IsStepped-answers set_up event old new reply kept (inr done) = (inr (rw (← kept) done.after), done.setup ∙ kept)
+
+-- an output has grown by the lines of so many replies, and these answer the events before those that are left
+pub record RunsSoFar (replay : ReplayValue) (u v : Option (List ℕ)) (count : ℕ) (now : Mediated) (left : List Event) : Type 0 where
+  pub replies : List Reply
+  pub printed : Appends u v (reply_lines 1 replies)
+  pub counted : count ≡ length replies
+  pub answered : AnswersSoFar replay.set_up.geometry (world_at_start replay.set_up) replay.events replies now.world left
+  pub kept : now.setup ≡ replay.set_up
+
+-- a world that was just opened
+pub RunsSoFar-none : (replay : ReplayValue) (u : Option (List ℕ)) (now : Mediated) (left : List Event)
+    → now.setup ≡ replay.set_up → now ≡ opened now.setup → left ≡ replay.events → RunsSoFar replay u u 0 now left
+unfolding reply_lines
+RunsSoFar-none replay u now left kept fresh all =
+    let first : now.world ≡ world_at_start replay.set_up = ap (λ m. m.world) fresh ∙ ap world_at_start kept in
+    record {
+      replies = [];
+      printed = Appends-nothing u;
+      counted = refl;
+      answered = rw (first, all) (AnswersSoFar-none replay.set_up.geometry (world_at_start replay.set_up) replay.events);
+      kept = kept;
+    }
+
+-- one more event
+pub RunsSoFar-then : (replay : ReplayValue) (u v w : Option (List ℕ)) (count : ℕ) (old new : Mediated) (event : Event) (reply : Reply)
+    (left all : List Event)
+    → RunsSoFar replay u v count old all → all ≡ event ∷ left → IsStepped event old reply new
+    → Appends v w (reply_line (count + 1) reply)
+    → RunsSoFar replay u w (count + 1) new left
+RunsSoFar-then replay u v w count old new event reply left all so_far turn stepped more =
+    let geometry = replay.set_up.geometry in
+    let first = world_at_start replay.set_up in
+    let (answered, kept) = IsStepped-answers replay.set_up event old new reply so_far.kept stepped in
+    let number : 1 + length so_far.replies ≡ count + 1 = omega (arith, so_far.counted) in
+    let line = reply_lines-then 1 so_far.replies reply ∙ ap (λ n. reply_lines 1 so_far.replies ++ reply_line n reply) number in
+    record {
+      replies = so_far.replies ++ reply ∷ [];
+      printed = rw line (Appends-then u v w (reply_lines 1 so_far.replies) (reply_line (count + 1) reply) so_far.printed more);
+      counted = omega (arith, so_far.counted, length-append so_far.replies (reply ∷ []));
+      answered = AnswersSoFar-then geometry first old.world new.world replay.events so_far.replies event reply left
+          (rw turn at so_far.answered) answered;
+      kept = kept;
+    }
+
+-- behind the last event
+pub RunsSoFar-all : {E : Type 0} → (replay : ReplayValue) (u v w : Option (List ℕ)) (count : ℕ) (now : Mediated) (left : List Event)
+    (r : Result (Unit {0}) E)
+    → RunsSoFar replay u v count now left → left ≡ [] → OnOk r (Appends v w (count_line count)) → OnOk r (PrintsReplay replay u w)
+unfolding shown
+RunsSoFar-all replay u v w count now left (Err e) so_far none more = tt
+RunsSoFar-all replay u v w count now left (Ok x) so_far none more =
+    let last = subst (λ n. Appends v w (count_line n)) so_far.counted more in
+    let geometry = replay.set_up.geometry in
+    let first = world_at_start replay.set_up in
+    let answered = AnswersSoFar-all geometry first now.world replay.events so_far.replies (rw none at so_far.answered) in (
+      shown so_far.replies,
+      Appends-then u v w (reply_lines 1 so_far.replies) (count_line (length so_far.replies)) so_far.printed last,
+      (so_far.replies, now.world, answered, refl),
+    )

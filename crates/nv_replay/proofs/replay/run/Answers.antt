@@ -1,0 +1,41 @@
+use Rattle.std.proofs.Common.{◌≡◌, ◌∷◌, [], length, ap, ◌∙◌, arith, rules}
+use Rattle.std.proofs.lemmas.List.{nil_from_length}
+use Rattle.std.specs.Vec.Iter.{into_iter_items}
+use Rattle.nv_replay.proofs.Runs.{RunsSoFar-none, RunsSoFar-then, RunsSoFar-all}
+use Rattle.nv_replay.proofs.replay.run.Goals as goal
+
+pub loop-event-init : goal.loop-event-init
+loop-event-init g c =
+    let given = c.into_iter-event-iterator.ensures.into_iter_gives in
+    let kept = ap (λ r. r.set_up) c.replay.view_is in
+    let all = given.0 ∙ ap (λ r. r.events) c.replay.view_is in
+    (RunsSoFar-none _ _ _ _ kept c.replay.invariant all, search rules, omega (arith, given.2), search rules, search rules)
+
+pub loop-event-preserved-in_ok-print_reply : goal.loop-event-preserved-in_ok-print_reply
+loop-event-preserved-in_ok-print_reply g c =
+    let steps = c.in-Some.ensures.steps in
+    let turn : into_iter_items c.loop-event.event-iterator ≡ c.in-Some.event ∷ into_iter_items c.next.new.self = steps.0 in (
+      RunsSoFar-then _ _ _ _ _ _ _ c.in-Some.event c.step-reply.result _ _
+          c.loop-event.invariant.0 turn c.step-reply.ensures c.in_ok-print_reply.ensures,
+      omega (arith, ap length turn, steps.1),
+      omega (arith, steps.1),
+      search rules,
+      search rules,
+    )
+
+pub loop-event-preserved : goal.loop-event-preserved
+loop-event-preserved g c =
+    let steps = c.in-Some.ensures.steps in
+    let turn : into_iter_items c.loop-event.event-iterator ≡ c.in-Some.event ∷ into_iter_items c.next.new.self = steps.0 in (
+      RunsSoFar-then _ _ _ _ _ _ _ c.in-Some.event c.step-reply.result _ _
+          c.loop-event.invariant.0 turn c.step-reply.ensures c.in_ok-print_reply.ensures,
+      omega (arith, ap length turn, steps.1),
+      omega (arith, steps.1),
+      search rules,
+      search rules,
+    )
+
+pub returns : goal.returns
+returns g c =
+    let none : into_iter_items c.loop-event.event-iterator ≡ [] = nil_from_length _ (c.loop-event.invariant.1 ∙ c.in-None.ensures.steps.0) in
+    RunsSoFar-all _ _ _ _ _ _ _ c.print_count.result c.loop-event.invariant.0 none c.print_count.ensures

@@ -1,0 +1,102 @@
+-- The world that a script's text opens: each guest's map in their order, then the set-up (profile)
+use Rattle.std.specs.Prelude.{◌≡◌, ℕ, ◌+◌, ◌⊎◌, List, [], ◌∷◌, Option, Some, None, Result, Ok, Err}
+use Rattle.std.specs.Result.{result_map_both}
+use Rattle.nv_mem.specs.GuestMap.{refusal_of as map_refusal_of}
+use Rattle.nv_mem.specs.declared.map_error.MapError.{MapError}
+use Rattle.nv_replay_script.specs.ReplayScript.{ScriptValue, script_of}
+use Rattle.nv_replay_script.specs.ReplaySetUp.{GuestValue}
+use Rattle.nv_replay_script.specs.declared.sizes.Sizes.{Sizes}
+use Rattle.nv_script.specs.OnceFault.{◌>>=◌}
+use Rattle.nv_world_model.specs.Geometry.{Guest}
+use Rattle.nv_world_model.specs.SetUp.{Refusal, SetUp, refusal_of}
+use Rattle.nv_world_model.specs.SetUp as model
+use Rattle.nv_world_model.specs.declared.event.Event.{Event}
+use Rattle.nv_replay.specs.declared.fault.ReplayFault.{ReplayFault}
+use Rattle.nv_replay.specs.declared.fault.ReplayFault.TheVariants.{NoMemory, Refused}
+use Rattle.nv_replay.specs.declared.refusal.SetUpRefusal.{SetUpRefusal}
+use Rattle.nv_replay.specs.declared.refusal.SetUpRefusal.TheVariants.{Map, TooManyGuests, RangesMeet, MapsMeet, BadSize}
+use Rattle.nv_replay.specs.Refused.{of_script}
+
+-- the most descriptors that a guest's list may have
+abbrev pub descriptor_limit : ℕ
+descriptor_limit = 1024
+
+-- ---- the guests
+
+-- what a guest of a script is given in a host of so many bytes
+abbrev pub given : (host : ℕ) → GuestValue → Guest
+given host guest =
+    record {
+      memory_map = record { host_len = host; regions = guest.regions };
+      extent = record { base = guest.base; blocks = guest.blocks };
+      limit = descriptor_limit;
+    }
+
+-- guest number n, unless its map is refused
+abbrev pub unless_refused : (n : ℕ) → Option MapError → Guest → Result Guest SetUpRefusal
+unless_refused n None guest = Ok guest
+unless_refused n (Some error) guest = Err (Map n error)
+
+abbrev pub mapped_guest : (host n : ℕ) → GuestValue → Result Guest SetUpRefusal
+mapped_guest host n guest = unless_refused n (map_refusal_of host guest.regions) (given host guest)
+
+-- the guests from number n on: the first whose map is refused decides
+unfoldable pub guests_from : (host n : ℕ) → List GuestValue → Result (List Guest) SetUpRefusal
+guests_from host n [] = Ok []
+guests_from host n (guest ∷ guests) = do
+  first ← mapped_guest host n guest
+  rest ← guests_from host (n + 1) guests
+  Ok (first ∷ rest)
+
+-- ---- the set-up
+
+-- the set-up of these sizes and guests
+abbrev pub set_up_with : Sizes → List Guest → SetUp
+set_up_with sizes guests =
+    record {
+      host_bytes = sizes.host;
+      lanes = sizes.lanes;
+      geometry = record { mediator = sizes.mediator; disk_blocks = sizes.disk; guests = guests };
+    }
+
+abbrev pub refusal_as : Refusal → SetUpRefusal
+refusal_as model.TooManyGuests = TooManyGuests
+refusal_as model.RangesMeet = RangesMeet
+refusal_as model.MapsMeet = MapsMeet
+refusal_as model.BadSize = BadSize
+
+-- ---- the whole
+
+-- what is to be run: a set-up, and events in the order written
+pub record ReplayValue : Type 0 where
+  pub set_up : SetUp
+  pub events : List Event
+
+-- what a set-up that is refused so and events come to
+abbrev pub begun_by : Option Refusal → SetUp → List Event → Result ReplayValue ReplayFault
+begun_by None set_up events = Ok (record { set_up = set_up; events = events })
+begun_by (Some refusal) set_up events = Err (Refused (refusal_as refusal))
+
+-- what a set-up and events come to
+abbrev pub begun : SetUp → List Event → Result ReplayValue ReplayFault
+begun set_up events = begun_by (refusal_of set_up) set_up events
+
+-- what a script comes to
+unfoldable pub opened_by : ScriptValue → Result ReplayValue ReplayFault
+opened_by script = do
+  guests ← result_map_both (λ g. g) (λ r. Refused r) (guests_from script.sizes.host 0 script.guests)
+  begun (set_up_with script.sizes guests) script.events
+
+-- what a text comes to
+unfoldable pub replay_of : List ℕ → Result ReplayValue ReplayFault
+replay_of text = do
+  script ← result_map_both (λ s. s) of_script (script_of text)
+  opened_by script
+
+-- a fault is the definition's, or one for want of memory, which no definition speaks of
+abbrev pub IsFaultOf : {A : Type 0} → Result A ReplayFault → ReplayFault → Type 0
+IsFaultOf answer fault = (fault ≡ NoMemory) ⊎ (answer ≡ Err fault)
+
+-- the same of what only a set-up can refuse
+abbrev pub IsRefusalOf : {A : Type 0} → Result A SetUpRefusal → ReplayFault → Type 0
+IsRefusalOf answer fault = (fault ≡ NoMemory) ⊎ (result_map_both (λ a. a) (λ r. Refused r) answer ≡ Err fault)

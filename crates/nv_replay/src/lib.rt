@@ -1,0 +1,18 @@
+//! What `nvmed replay` does: a script's world, put through its events in the order written, and a line for each reply.
+//!
+//! [`read`] takes a script whole, and opens its world: the guests' maps in order, then the set-up. [`run`] steps that world and prints.
+//! What the text says is `specs/Opening`, over `nv_replay_script` and the set-ups of `nv_world_model`: [`read`] gives exactly that, or that
+//! memory was refused. What is printed is `specs/Shown`: each reply is the step's, and the world goes on by it, or it says that there was no
+//! memory, and the world stays.
+#![tactic(auto)]
+
+mod fault;
+mod opening;
+mod refusal;
+mod replay;
+mod reply_line;
+
+pub use fault::ReplayFault;
+pub use opening::read;
+pub use refusal::SetUpRefusal;
+pub use replay::{Replay, run};

@@ -1,0 +1,84 @@
+//! From a text to the world that its script opens.
+ghost use Rattle.std.specs.Prelude.{◌≡◌, map, MatchResult};
+ghost use Rattle.nv_replay_script.specs.ReplayScript.{script_value};
+ghost use Rattle.nv_replay_script.specs.ReplaySetUp.{guest_value};
+ghost use Rattle.nv_replay.specs.Opening.{IsFaultOf, IsRefusalOf, guests_from, mapped_guest, opened_by, replay_of};
+
+use crate::fault::ReplayFault;
+use crate::refusal::SetUpRefusal;
+use crate::replay::Replay;
+use nv_mem::GuestMap;
+use nv_replay_script::{GuestSetUp, Script, parse};
+use nv_world::{GuestSetup, Setup};
+use std::alloc::Global;
+
+/// The most descriptors that a guest's list may have.
+const DESCRIPTORS: u32 = 1024;
+
+/// Reads a script whole, and opens its world.
+///
+/// # Errors
+///
+/// The first faulty line; the first guest whose regions are no map; why the set-up is refused; or that memory was refused.
+pub fn read(alloc: Global, text: &[u8]) -> Result<Replay, ReplayFault>
+    ensures { MatchResult result (λ replay. replay_of text.now ≡ Ok replay) (IsFaultOf (replay_of text.now)) }
+{
+    let script = parse(alloc, text)?;
+    open(alloc, script)
+}
+
+// Opens the world of a script.
+fn open(alloc: Global, script: Script) -> Result<Replay, ReplayFault>
+    ensures { let wanted = opened_by (script_value script)
+        in MatchResult result (λ replay. wanted ≡ Ok replay) (IsFaultOf wanted) }
+{
+    let Script {
+        sizes,
+        guests,
+        events,
+    } = script;
+    let guests = map_guests(alloc, sizes.host, guests)?;
+    let setup = Setup {
+        host_bytes: sizes.host,
+        mediator: sizes.mediator,
+        disk_blocks: sizes.disk,
+        lanes: sizes.lanes,
+        guests,
+    };
+    Replay::new(alloc, setup, events)
+}
+
+// The guests with their maps, in order.
+fn map_guests(
+    alloc: Global,
+    host: u64,
+    guests: Vec<GuestSetUp>,
+) -> Result<Vec<GuestSetup>, ReplayFault>
+    ensures { let wanted = guests_from host 0 (map guest_value guests.items)
+        in MatchResult result (λ made. wanted ≡ Ok made.items) (IsRefusalOf wanted) }
+{
+    let mut made = Vec::with_capacity(alloc, guests.len())?;
+    for guest in guests {
+        let mapped = map_guest(host, made.len(), guest)?;
+        made.push(mapped)?;
+    }
+    Ok(made)
+}
+
+// A guest with its map.
+fn map_guest(host: u64, number: usize, guest: GuestSetUp) -> Result<GuestSetup, SetUpRefusal>
+    ensures { result ≡ mapped_guest host number (guest_value guest) }
+{
+    match GuestMap::new(host, guest.regions) {
+        Ok(map) => Ok(GuestSetup {
+            map,
+            base: guest.base,
+            blocks: guest.blocks,
+            limit: DESCRIPTORS,
+        }),
+        Err(error) => Err(SetUpRefusal::Map {
+            guest: number,
+            error,
+        }),
+    }
+}

@@ -1,0 +1,63 @@
+//! A world that is put through events.
+ghost use Rattle.std.specs.Prelude.{◌≡◌, MatchResult, OnOk};
+ghost use Rattle.nv_replay.specs.Opening.{IsFaultOf, begun};
+ghost use Rattle.nv_replay.specs.Shown.{PrintsReplay};
+
+use crate::fault::ReplayFault;
+use crate::reply_line::{print_count, print_reply};
+use nv_print::CannotWrite;
+use nv_world::{Setup, World};
+use nv_world_model::Event;
+use std::alloc::Global;
+use std::io::Write;
+use std::marker::Model;
+
+/// A world that was just opened, and the events that it is to be put through, in order.
+///
+/// A contract sees it as the set-up of that world beside the events.
+#[derive(Drop)]
+pub struct Replay {
+    world: World,
+    events: Vec<Event>,
+}
+
+impl Model for Replay {
+    ghost use Rattle.nv_replay.specs.Opening.{ReplayValue};
+    ghost use Rattle.std.specs.Prelude.{◌≡◌};
+    ghost use Rattle.nv_world.specs.Mediated.{mediated, opened};
+
+    ghost Value = { ReplayValue };
+
+    ghost view = { λ r. record { set_up = (mediated r.world).setup; events = r.events.items } };
+
+    ghost invariant = { λ r. mediated r.world ≡ opened (mediated r.world).setup };
+}
+
+impl Replay {
+    /// Opens the world of a set-up for these events.
+    pub(crate) fn new(alloc: Global, setup: Setup, events: Vec<Event>) -> Result<Self, ReplayFault>
+        ensures { let wanted = begun setup events.items
+            in MatchResult result (λ replay. wanted ≡ Ok replay) (IsFaultOf wanted) }
+    {
+        let world = World::new(alloc, setup)?;
+        Ok(Replay { world, events })
+    }
+}
+
+/// Puts the world through its events, and prints the line of each reply at once, and the number of events at the end.
+///
+/// # Errors
+///
+/// The output failed; what it holds is then a beginning of what was to be printed.
+pub fn run<W: Write>(alloc: Global, replay: Replay, output: &mut W) -> Result<(), CannotWrite>
+    ensures { OnOk result (PrintsReplay replay (W.contents output.old) (W.contents output.new)) }
+{
+    let Replay { mut world, events } = replay;
+    let mut count = 0;
+    for event in events {
+        count += 1;
+        let reply = world.step(alloc, event);
+        print_reply(count, &reply, output)?;
+    }
+    print_count(count, output)
+}
