@@ -16,7 +16,7 @@ loop-event-preserved-in_ok-print_reply g c =
     let steps = c.in-Some.ensures.steps in
     let turn : into_iter_items c.loop-event.event-iterator ≡ c.in-Some.event ∷ into_iter_items c.next.new.self = steps.0 in (
       RunsSoFar-then _ _ _ _ _ _ _ c.in-Some.event c.step-reply.result _ _
-          c.loop-event.invariant.0 turn c.step-reply.ensures c.in_ok-print_reply.ensures,
+          c.loop-event.invariant.0 turn c.step-reply.ensures.step c.in_ok-print_reply.ensures,
       omega (arith, ap length turn, steps.1),
       omega (arith, steps.1),
       search rules,
@@ -28,7 +28,7 @@ loop-event-preserved g c =
     let steps = c.in-Some.ensures.steps in
     let turn : into_iter_items c.loop-event.event-iterator ≡ c.in-Some.event ∷ into_iter_items c.next.new.self = steps.0 in (
       RunsSoFar-then _ _ _ _ _ _ _ c.in-Some.event c.step-reply.result _ _
-          c.loop-event.invariant.0 turn c.step-reply.ensures c.in_ok-print_reply.ensures,
+          c.loop-event.invariant.0 turn c.step-reply.ensures.step c.in_ok-print_reply.ensures,
       omega (arith, ap length turn, steps.1),
       omega (arith, steps.1),
       search rules,
