@@ -6,7 +6,7 @@ use nv_once::{Command, EntryKind, Grammar, Refusal};
 use std::alloc::{AllocError, Global};
 use std::convert::AsStr;
 
-/// `once`, or `decode KIND HEX`. No help is built in.
+/// `once`, `replay`, or `decode KIND HEX`. No help is built in.
 pub struct CommandLine;
 
 impl Grammar for CommandLine {
@@ -19,6 +19,7 @@ impl Grammar for CommandLine {
         match found.subcommand() {
             Some((DECODE, found)) => decode_command(found).ok_or(Refusal::Usage),
             Some((ONCE, _)) => Ok(Command::Once),
+            Some((REPLAY, _)) => Ok(Command::Replay),
             _ => Err(Refusal::Usage),
         }
     }
@@ -27,6 +28,8 @@ impl Grammar for CommandLine {
 const DECODE: &str = "decode";
 
 const ONCE: &str = "once";
+
+const REPLAY: &str = "replay";
 
 const KIND: &str = "KIND";
 
@@ -39,7 +42,8 @@ fn grammar<'a>(alloc: Global) -> Result<clap::Command<'a>, AllocError> {
         .disable_help_subcommand(true)
         .subcommand_required(true)
         .subcommand(decode_grammar(alloc)?)?
-        .subcommand(plain(alloc, ONCE))
+        .subcommand(plain(alloc, ONCE))?
+        .subcommand(plain(alloc, REPLAY))
 }
 
 // What stands behind `decode`.

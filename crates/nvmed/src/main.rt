@@ -1,8 +1,9 @@
 //! The program `nvmed`: entries of NVM Express in plain words, and scripts of commands on a controller.
 //!
 //! `nvmed decode sqe HEX` and `nvmed decode cqe HEX` print the fields of one entry on one line. `nvmed once` runs a script of
-//! commands on a private controller over flat memory. Any other list of words is a usage fault. A fault is one line on standard
-//! error, and the exit status tells its kind.
+//! commands on a private controller over flat memory. `nvmed replay` puts a mediated world, of several guests before one physical
+//! controller, through the events of a script. Any other list of words is a usage fault. A fault is one line on standard error, and the
+//! exit status tells its kind.
 //!
 //! Here stand the grammar of the command line, which is tested and not proved, and `main`, which hands the process to the crate
 //! `nv_once`: what a command prints, how it ends and with which exit status is proved there.

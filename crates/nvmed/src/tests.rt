@@ -23,6 +23,7 @@ fn expect_usage(rt: &(impl Abort + AllocGlobal), words: &[&str]) {
 #[test]
 fn knows_its_commands(rt: HostRuntime) {
     expect(&rt, &["once"], Ok(Command::Once));
+    expect(&rt, &["replay"], Ok(Command::Replay));
     for digits in [READ, DONE, "", " ", "zz", "help", "once"] {
         let kind = EntryKind::Submission;
         let command = Command::Decode { kind, digits };
@@ -47,7 +48,6 @@ fn refuses_other_words(rt: HostRuntime) {
         "--version",
         "help",
         "version",
-        "replay",
         "run",
         "decode",
         "nvmed",
@@ -59,7 +59,7 @@ fn refuses_other_words(rt: HostRuntime) {
         expect_usage(&rt, &["decode", "sqe", READ, word]);
     }
     for word in [
-        "-", "--", "-h", "--help", "help", "once", "Decode", "decod", "decode ",
+        "-", "--", "-h", "--help", "help", "once", "replay", "Decode", "decod", "decode ",
     ] {
         expect_usage(&rt, &[word, "sqe", READ]);
         expect_usage(&rt, &[word, "decode", "sqe", READ]);

@@ -1,0 +1,5 @@
+//! Tests of what `replay` prints, by public calls alone: a crate with tests is proved twice, so they stand here and not beside the code.
+#![tactic(auto)]
+
+#[cfg(test)]
+mod replay;

@@ -1,0 +1,359 @@
+//! Worlds put through the events of scripts. Expected lines are read off the rules by hand.
+
+use nv_flat::FlatController;
+use nv_once::{Command, ExitStatus, Fault, perform, run};
+use std::alloc::Global;
+use std::io::{self, ErrorKind, Write};
+use std::process::Abort;
+use std::test::Fail;
+
+/// Two guests, each with 128 KiB of memory and 64 blocks.
+const SET_UP: &str = "\
+host 0x1000000
+mediator 0x400000
+disk 4096
+lanes 1
+guest 0 range 1000 64 heap 65536
+guest 1 range 2000 64 heap 65536
+map 0 0x0 0x100000 0x20000
+map 1 0x0 0x200000 0x20000
+";
+
+/// A script, what is printed of it, what is told, and how the program ends.
+#[derive(Drop)]
+struct Case {
+    script: &'static str,
+    printed: &'static str,
+    told: &'static str,
+    status: ExitStatus,
+}
+
+/// What a run printed and told, and how it ended.
+#[derive(Drop)]
+struct Outcome {
+    status: ExitStatus,
+    output: Vec<u8>,
+    faults: Vec<u8>,
+}
+
+// What the program does that is to replay this script.
+fn replay(alloc: Global, script: &str) -> Outcome {
+    let mut output = Vec::new(alloc);
+    let mut faults = Vec::new(alloc);
+    let ended = run::<FlatController, &[u8], &mut Vec<u8>, Vec<u8>>(
+        alloc,
+        Ok(Command::Replay),
+        &mut script.as_bytes(),
+        &mut output,
+        &mut faults,
+    );
+    let status = ExitStatus::of(&ended);
+    Outcome {
+        status,
+        output,
+        faults,
+    }
+}
+
+// Ends the test where the program does otherwise with the script of a case behind a beginning.
+fn expect(rt: &(impl Abort + AllocGlobal), beginning: &str, case: &Case) -> Result<(), Fail> {
+    let script = case.script;
+    let text = format!(in rt.alloc(); "{beginning}{script}")?;
+    let outcome = replay(rt.alloc(), &text);
+    same_text(rt, script, &outcome.output, case.printed);
+    same_text(rt, script, &outcome.faults, case.told);
+    assert!(rt; outcome.status == case.status, "{script:?}");
+    Ok(())
+}
+
+// Ends the test where something else was written than is wanted.
+fn same_text(rt: &impl Abort, script: &str, found: &[u8], want: &str) {
+    assert!(rt;
+        found == want.as_bytes(),
+        "{script:?} gives {found:?}, and not {want:?}"
+    );
+}
+
+fn expect_all(
+    rt: &(impl Abort + AllocGlobal),
+    beginning: &str,
+    cases: &[Case],
+) -> Result<(), Fail> {
+    for case in cases {
+        expect(rt, beginning, case)?;
+    }
+    Ok(())
+}
+
+const RUNS: [Case; 2] = [
+    Case {
+        script: "",
+        printed: "events 0\n",
+        told: "",
+        status: ExitStatus::Success,
+    },
+    Case {
+        script: "load 0 0x0 4
+load 0 0x1ffff 2
+regread 0 0x0
+regread 0 0x4
+regread 0 0x8
+take 0 1 0
+take 5 1 0
+post 0 0
+",
+        printed: "1 bytes 00000000
+2 unmapped
+3 bytes ff030101
+4 bytes 20000000
+5 bytes 00000200
+6 idle
+7 ignored
+8 stale
+events 8
+",
+        told: "",
+        status: ExitStatus::Success,
+    },
+];
+
+#[test]
+fn prints_a_line_an_event(rt: HostRuntime) -> Result<(), Fail> {
+    expect_all(&rt, SET_UP, &RUNS)
+}
+
+/// Two queues of each kind: the completion queue and the submission queue of the first guest's queue pair 1.
+const BRING_UP: [Case; 1] = [Case {
+    script: "store 0 0x10000 05000100000000000000000000000000000000000000000000200100000000000000000000000000\
+01000f000100000000000000000000000000000000000000
+store 0 0x10040 01000200000000000000000000000000000000000000000000300100000000000000000000000000\
+01000f000100010000000000000000000000000000000000
+regwrite 0 0x24 0x001f001f
+regwrite 0 0x28 0x10000
+regwrite 0 0x30 0x11000
+regwrite 0 0x14 0x00460001
+bell 0 0x1000 2
+admin 0
+admin 0
+load 0 0x11000 32
+",
+    printed: "1 done
+2 done
+3 done
+4 done
+5 done
+6 done
+7 done
+8 done
+9 done
+10 bytes 0000000000000000010000000100010000000000000000000200000002000100
+events 10
+",
+    told: "",
+    status: ExitStatus::Success,
+}];
+
+#[test]
+fn brings_a_guest_up(rt: HostRuntime) -> Result<(), Fail> {
+    expect_all(&rt, SET_UP, &BRING_UP)
+}
+
+/// Lines behind the set-up, and why nothing of them runs.
+const REFUSED: [(&str, &str); 9] = [
+    ("store 0 0x3000 abc", "line 9: bad bytes\n"),
+    (
+        "map 1 0x20000 0x220000 0x1001",
+        "guest 1 map refused: 1 Unaligned\n",
+    ),
+    (
+        "map 0 0x1f000 0x300000 0x1000",
+        "guest 0 map refused: 2 Overlap\n",
+    ),
+    (
+        "map 0 0x20000 0x1000000 0x1000",
+        "guest 0 map refused: 3 OutsideHost\n",
+    ),
+    (
+        "guest 2 range 1063 1 heap 256",
+        "setup refused: 2 RangesMeet\n",
+    ),
+    (
+        "map 1 0x20000 0x100000 0x1000",
+        "setup refused: 3 MapsMeet\n",
+    ),
+    (
+        "map 1 0x20000 0x400000 0x1000",
+        "setup refused: 3 MapsMeet\n",
+    ),
+    (
+        "guest 2 range 4096 1 heap 256",
+        "setup refused: 4 BadSize\n",
+    ),
+    (
+        "guest 2 range 1000 1 heap 256\nmap 1 0x20000 0x220000 0x1001",
+        "guest 1 map refused: 1 Unaligned\n",
+    ),
+];
+
+fn expect_refused(
+    rt: &(impl Abort + AllocGlobal),
+    beginning: &str,
+    rows: &[(&'static str, &'static str)],
+) -> Result<(), Fail> {
+    for (script, told) in rows {
+        let case = Case {
+            script,
+            printed: "",
+            told,
+            status: ExitStatus::ScriptFault,
+        };
+        expect(rt, beginning, &case)?;
+    }
+    Ok(())
+}
+
+#[test]
+fn refuses_set_ups(rt: HostRuntime) -> Result<(), Fail> {
+    expect_refused(&rt, SET_UP, &REFUSED)
+}
+
+/// Whole scripts, and why nothing of them runs.
+const REFUSED_WHOLE: [(&str, &str); 4] = [
+    ("", "line 1: out of place\n"),
+    (
+        "host 0x1000000
+mediator 0x400000
+disk 4096
+lanes 1
+guest 0 range 1000 64 heap 65536
+guest 1 range 1063 64 heap 65536
+map 0 0x0 0x100000 0x20000
+map 1 0x0 0x200000 0x20000
+",
+        "setup refused: 2 RangesMeet\n",
+    ),
+    (
+        "host 0x1000000
+mediator 0x400000
+disk 4096
+lanes 1
+guest 0 range 1000 64 heap 65536
+guest 1 range 2000 64 heap 65536
+map 0 0x0 0x100000 0x20000
+map 1 0x0 0x200000 0x20001
+",
+        "guest 1 map refused: 1 Unaligned\n",
+    ),
+    (
+        "host 0x1000000
+mediator 0x400000
+disk 4096
+lanes 2
+guest 0 range 1000 64 heap 65536
+guest 1 range 2000 64 heap 65536
+map 0 0x0 0x100000 0x20000
+map 1 0x0 0x200000 0x20000
+",
+        "setup refused: 4 BadSize\n",
+    ),
+];
+
+#[test]
+fn refuses_scripts(rt: HostRuntime) -> Result<(), Fail> {
+    expect_refused(&rt, "", &REFUSED_WHOLE)
+}
+
+/// Seventeen guests.
+const MANY_GUESTS: [(&str, &str); 1] = [(
+    "guest 2 range 2 1 heap 256
+guest 3 range 3 1 heap 256
+guest 4 range 4 1 heap 256
+guest 5 range 5 1 heap 256
+guest 6 range 6 1 heap 256
+guest 7 range 7 1 heap 256
+guest 8 range 8 1 heap 256
+guest 9 range 9 1 heap 256
+guest 10 range 10 1 heap 256
+guest 11 range 11 1 heap 256
+guest 12 range 12 1 heap 256
+guest 13 range 13 1 heap 256
+guest 14 range 14 1 heap 256
+guest 15 range 15 1 heap 256
+guest 16 range 15 1 heap 256
+",
+    "setup refused: 1 TooManyGuests\n",
+)];
+
+#[test]
+fn refuses_a_seventeenth_guest(rt: HostRuntime) -> Result<(), Fail> {
+    expect_refused(&rt, SET_UP, &MANY_GUESTS)
+}
+
+/// A writer that keeps what it takes, and fails once it is full.
+#[derive(Drop)]
+struct FailingWriter {
+    room: usize,
+    taken: Vec<u8>,
+}
+
+impl Write for FailingWriter {
+    fn write(&mut self, buf: &[u8]) -> io::Result<usize> {
+        if self.room == 0 {
+            return Err(io::Error::from(ErrorKind::StorageFull));
+        }
+        let count = buf.len().min(self.room);
+        self.taken.extend_from_slice(&buf[..count])?;
+        self.room -= count;
+        Ok(count)
+    }
+
+    fn flush(&mut self) -> io::Result<()> {
+        Ok(())
+    }
+}
+
+/// How many bytes a writer has room for, and how the run ends then; 16,418 bytes are printed.
+const WRITTEN: [(usize, Result<(), Fault>); 6] = [
+    (0, Err(Fault::CannotWrite)),
+    (1, Err(Fault::CannotWrite)),
+    (8_200, Err(Fault::CannotWrite)),
+    (16_399, Err(Fault::CannotWrite)),
+    (16_417, Err(Fault::CannotWrite)),
+    (16_418, Ok(())),
+];
+
+// Ends the test where a run ends otherwise, or where what was taken is not the front of the whole that there is room for.
+fn expect_written(
+    rt: &(impl Abort + AllocGlobal),
+    script: &str,
+    whole: &str,
+    rows: &[(usize, Result<(), Fault>)],
+) {
+    for (room, want) in rows {
+        let mut output = FailingWriter {
+            room: *room,
+            taken: Vec::new(rt.alloc()),
+        };
+        let ended = perform::<FlatController, &[u8], &mut FailingWriter>(
+            rt.alloc(),
+            Command::Replay,
+            &mut script.as_bytes(),
+            &mut output,
+        );
+        let fault = ended.err().map(|failure| failure.fault);
+        assert!(rt; fault == want.err(), "{room}");
+        let (front, _) = whole.as_bytes().split_at(whole.len().min(*room));
+        assert!(rt; output.taken.as_slice() == front, "{room}");
+    }
+}
+
+#[test]
+fn tells_of_a_writer_that_fails(rt: HostRuntime) -> Result<(), Fail> {
+    let script = format!(in rt.alloc();
+        "{SET_UP}load 0 0x0 0x1000\nload 1 0x1f000 0x1000\ndevtake 0\n"
+    )?;
+    let zeros = "0".repeat(rt.alloc(), 8192)?;
+    let whole = format!(in rt.alloc(); "1 bytes {zeros}\n2 bytes {zeros}\n3 idle\nevents 3\n")?;
+    expect_written(&rt, &script, &whole, &WRITTEN);
+    Ok(())
+}
