@@ -16,3 +16,4 @@ pub mod Reaps
 pub mod Delivers
 pub mod Clear
 pub mod Posts
+pub mod Dues

@@ -11,6 +11,7 @@
 mod acting;
 mod administering;
 mod device_events;
+mod due;
 mod keeping;
 mod lane;
 mod lane_opening;
