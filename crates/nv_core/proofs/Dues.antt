@@ -1,10 +1,11 @@
 -- Which events are due, by what is looked at.
 use Rattle.std.proofs.Common.{◌≡◌, ℕ, ◌<◌, ◌≤◌, Bool, true, false, cond, not, ◌&&◌, ◌==◌, List, [], ◌∷◌, get_or, length, slice_get, Option, Some, None, is_some, refl, sym, ap, ◌∙◌, arith, subst}
 use Rattle.std.specs.List.{list_any}
+use Rattle.nv_admin.specs.Event.{is_stepped}
 use Rattle.nv_core.specs.State.{IsOf, IsStep, State, world_of}
 use Rattle.nv_core.proofs.DeviceNeeds.{has-sides, holding-at}
 use Rattle.nv_core.proofs.DeviceSteps.{after, none-held, some-held}
-use Rattle.nv_core.proofs.Placed.{owner, owner-there}
+use Rattle.nv_core.proofs.Placed.{admin-there, owner, owner-there}
 use Rattle.nv_core.proofs.Posts.{IsEndedHere}
 use Rattle.nv_core.proofs.Reaps.{slice_get-or}
 use Rattle.nv_core.proofs.Takes.{looked-up}
@@ -12,17 +13,20 @@ use Rattle.nv_device.specs.Physical.{has_ended, has_left, held_at, is_over, lane
 use Rattle.nv_device.specs.Taking.{waits}
 use Rattle.nv_entry.specs.Status.{StatusField}
 use Rattle.nv_entry.specs.Submission.{cid_of}
+use Rattle.nv_mem.specs.GuestMap.{mapped}
+use Rattle.nv_model.specs.Admin.{AdminStep, NothingToDo, QueueFull, Stepped, admin}
 use Rattle.nv_model.specs.Controller.{Controller, Posted, front, is_enabled, post}
+use Rattle.nv_model.specs.Memory.{image}
 use Rattle.nv_model.specs.Queue.{is_empty}
 use Rattle.nv_model.specs.declared.reply.Reply.{Reply}
 use Rattle.nv_model.specs.declared.reply.Reply.TheVariants as reply
 use Rattle.nv_world_model.proofs.SeatTags.{take-step}
 use Rattle.nv_world_model.specs.Area.{bounce_page, tag_count}
 use Rattle.nv_world_model.specs.Device.{DeviceLane, Held}
-use Rattle.nv_world_model.specs.Geometry.{Geometry, Guest}
+use Rattle.nv_world_model.specs.Geometry.{Geometry, Guest, regions_of, shape_of}
 use Rattle.nv_world_model.specs.Plan.{Plan}
 use Rattle.nv_world_model.specs.Seat.{Owner, owner_of}
-use Rattle.nv_world_model.specs.Step.{After, device_move, device_post, device_take, due, for_device, for_ended, for_lane, for_owner, free_tag, is_done, is_due_kind, is_io_queue, post_at, post_by, reap, replied, step, take_from, take_front}
+use Rattle.nv_world_model.specs.Step.{After, administered_by, device_move, device_post, device_take, due, for_device, for_ended, for_lane, for_owner, free_tag, is_done, is_due_kind, is_io_queue, post_at, post_by, reap, replied, step, take_from, take_front}
 use Rattle.nv_world_model.specs.World.{Command, Lane, Tag, World, tag_in}
 use Rattle.nv_world_model.specs.declared.event.Event.{Event}
 use Rattle.nv_world_model.specs.declared.event.Event.TheVariants as event
@@ -163,3 +167,21 @@ module _ (geometry : Geometry) (s : State) (lane tag : ℕ) (st : StatusField) (
       (ap (λ (x : Option Lane). tag_in x tag) t.found ∙ t.there)
       ∙ ap (λ (x : Option Owner). for_owner x w at_post) (owner-there geometry w t.command.guest guest c there found))
       ∙ by_enabled (is_enabled c) _ _ _ (posted (post c t.command.queue 0 (cid_of t.command.entry) st) o) refl
+
+-- ---- Admin
+
+administered-done : (x : AdminStep) (o : Owner) (w : World) → is_done (administered_by x o w).reply ≡ is_stepped x
+administered-done NothingToDo o w = refl
+administered-done QueueFull o w = refl
+administered-done (Stepped c memory) o w = refl
+
+pub admin-due : (geometry : Geometry) (s : State) (number : ℕ) (guest : Guest) (c : Controller) → slice_get geometry.guests number ≡ Some guest
+    → slice_get s.controllers number ≡ Some c → (b : Bool) → ((test : ℕ → Bool) (blocks : ℕ) (memory : ℕ → ℕ) → b ≡ is_stepped (admin test blocks c memory))
+    → b ≡ due geometry (event.Admin number) (world_of s)
+admin-due geometry s number guest c there found b told =
+    let w = world_of s in
+    let o = owner number guest c in
+    let x = admin (mapped (regions_of guest)) (shape_of guest).blocks c (image (regions_of guest) w.host) in
+    told (mapped (regions_of guest)) (shape_of guest).blocks (image (regions_of guest) w.host)
+    ∙ sym (administered-done x o w)
+    ∙ sym (due-by geometry (event.Admin number) w (administered_by x o w) (admin-there geometry number o w (owner-there geometry w number guest c there found)))

@@ -3,6 +3,7 @@
 ghost use Rattle.std.specs.Prelude.{◌≡◌, ◌&&◌, ℕ, if◌then◌else◌, is_some, true};
 ghost use Rattle.nv_core.specs.State.{IsOf, world_of};
 ghost use Rattle.nv_entry.specs.Status.{StatusField};
+ghost use Rattle.nv_laws_sound.specs.Counted.{IsCounted};
 ghost use Rattle.nv_model.specs.Controller.{front, is_enabled, post};
 ghost use Rattle.nv_world_model.specs.Step.{due, free_tag};
 
@@ -14,6 +15,46 @@ use nv_vctl::Vctl;
 use nv_world_model::Event;
 
 impl Core {
+    /// Whether an event is one of Admin, Take, DevTake, DevMove, DevPost, Reap and Post and would be done now. Nothing changes, and what it
+    /// costs depends on neither the host nor how many commands are on their way: but for the search of a free tag, nothing is searched.
+    pub fn due(&self, layout: &Layout, event: &Event) -> bool
+        requires of { IsOf layout.now self.now }
+        requires counted { IsCounted layout.now (world_of self.now) }
+        ensures { result ≡ due layout.now event.now (world_of self.now) }
+    {
+        match event {
+            Event::Admin(guest) => self.admin_due(layout, *guest),
+            Event::Take(guest, queue, lane) => self.take_due(layout, *guest, *queue, *lane),
+            Event::DevTake(lane) => self.dev_take_due(layout, *lane),
+            Event::DevMove(lane, slot, number) => self.dev_move_due(layout, *lane, *slot, *number),
+            Event::DevPost(lane, slot) => self.dev_post_due(layout, *lane, *slot),
+            Event::Reap(lane) => self.reap_due(layout, *lane),
+            Event::Post(lane, tag) => self.post_due(layout, *lane, *tag),
+            Event::Guest(_, _)
+            | Event::List(_, _, _, _)
+            | Event::Submit(_, _)
+            | Event::GiveUp(_, _)
+            | Event::DevFail(_, _, _)
+            | Event::Keep(_) => false,
+        }
+    }
+
+    // Whether a guest's admin queue has something to do.
+    fn admin_due(&self, layout: &Layout, guest: u8) -> bool
+        requires { IsOf layout.now self.now }
+        ensures { result ≡ due layout.now (Event.Admin guest) (world_of self.now) }
+    {
+        let Some(_given) = layout.guest(guest) else {
+            return false;
+        };
+        let number = usize::from(guest);
+        if number >= self.controllers.len() {
+            return false;
+        }
+        let vctl = &self.controllers[number];
+        nv_admin::is_due(vctl)
+    }
+
     // Whether an entry of a lane's submission ring waits for the physical controller.
     fn dev_take_due(&self, _layout: &Layout, lane: u8) -> bool
         requires { IsOf _layout.now self.now }
