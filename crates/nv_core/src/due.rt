@@ -3,7 +3,6 @@
 ghost use Rattle.std.specs.Prelude.{◌≡◌, ◌&&◌, ℕ, if◌then◌else◌, is_some, true};
 ghost use Rattle.nv_core.specs.State.{IsOf, world_of};
 ghost use Rattle.nv_entry.specs.Status.{StatusField};
-ghost use Rattle.nv_laws_sound.specs.Counted.{IsCounted};
 ghost use Rattle.nv_model.specs.Controller.{front, is_enabled, post};
 ghost use Rattle.nv_world_model.specs.Step.{due, free_tag};
 
@@ -17,9 +16,9 @@ use nv_world_model::Event;
 impl Core {
     /// Whether an event is one of Admin, Take, DevTake, DevMove, DevPost, Reap and Post and would be done now. Nothing changes, and what it
     /// costs depends on neither the host nor how many commands are on their way: but for the search of a free tag, nothing is searched.
+    #[tactic(auto, unfolding(nv_world_model::specs::Step::due))]
     pub fn due(&self, layout: &Layout, event: &Event) -> bool
-        requires of { IsOf layout.now self.now }
-        requires counted { IsCounted layout.now (world_of self.now) }
+        requires { IsOf layout.now self.now }
         ensures { result ≡ due layout.now event.now (world_of self.now) }
     {
         match event {
@@ -30,12 +29,12 @@ impl Core {
             Event::DevPost(lane, slot) => self.dev_post_due(layout, *lane, *slot),
             Event::Reap(lane) => self.reap_due(layout, *lane),
             Event::Post(lane, tag) => self.post_due(layout, *lane, *tag),
-            Event::Guest(_, _)
-            | Event::List(_, _, _, _)
-            | Event::Submit(_, _)
-            | Event::GiveUp(_, _)
-            | Event::DevFail(_, _, _)
-            | Event::Keep(_) => false,
+            Event::Guest(_guest, _act) => false,
+            Event::List(_lane, _tag, _addr, _len) => false,
+            Event::Submit(_lane, _tag) => false,
+            Event::GiveUp(_lane, _tag) => false,
+            Event::DevFail(_lane, _slot, _status) => false,
+            Event::Keep(_block) => false,
         }
     }
 
