@@ -2,7 +2,6 @@ use Rattle.std.proofs.Common.{◌≡◌, ◌<◌, ◌≤◌, ◌∙◌, length, 
 use Rattle.nv_core.proofs.DeviceTakes.{take-no_device}
 use Rattle.nv_core.proofs.Dues.{dev_take-due, due-told}
 use Rattle.nv_core.specs.State.{IsOf, State, world_of}
-use Rattle.nv_device.specs.Taking.{waits}
 use Rattle.nv_model.specs.declared.reply.Reply.TheVariants as reply
 use Rattle.nv_world_model.specs.Step.{due}
 use Rattle.nv_world_model.specs.declared.event.Event.TheVariants as event

@@ -1,4 +1,4 @@
-use Rattle.std.proofs.Common.{◌≡◌, ◌∙◌, ℕ, Bool, Option, Some, cond, get_or, is_some, slice_get, true, ap, sym, subst, arith}
+use Rattle.std.proofs.Common.{◌≡◌, ◌∙◌, ℕ, cond, is_some, slice_get, true, ap, sym, subst, arith}
 use Rattle.nv_core.proofs.Dues.{due-told, post-due}
 use Rattle.nv_core.proofs.Posts.{ended-below, ended-here, ended-there, has-controller, is-ended, post-no_tag, post-nobody, post-not}
 use Rattle.nv_core.proofs.Takes.{looked-up}
