@@ -1,3 +1,4 @@
+pub mod Dues
 pub mod Effects
 pub mod Exits
 pub mod PageBuffers

@@ -1,5 +1,5 @@
 -- What an event of the admin queue comes to, for its caller (profile).
-use Rattle.std.specs.Prelude.{◌≡◌, ℕ, List}
+use Rattle.std.specs.Prelude.{◌≡◌, ℕ, Bool, true, false, List}
 use Rattle.nv_mem.specs.declared.region.Region.{Region}
 use Rattle.nv_model.specs.Admin.{AdminStep, NothingToDo, QueueFull, Stepped}
 use Rattle.nv_model.specs.Controller.{Controller}
@@ -12,6 +12,12 @@ abbrev pub reply_of : AdminStep → Admin
 reply_of NothingToDo = reply.Idle
 reply_of QueueFull = reply.Held
 reply_of (Stepped c memory) = reply.Done
+
+-- whether something was done
+abbrev pub is_stepped : AdminStep → Bool
+is_stepped NothingToDo = false
+is_stepped QueueFull = false
+is_stepped (Stepped c memory) = true
 
 -- the controller behind it
 abbrev pub controller_behind : Controller → AdminStep → Controller

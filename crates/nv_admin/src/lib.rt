@@ -24,6 +24,7 @@
 
 mod commands;
 mod data_structure;
+mod due;
 mod event;
 mod features;
 mod fields;
@@ -33,5 +34,6 @@ mod page_buffer;
 mod queues;
 mod reply;
 
+pub use due::is_due;
 pub use event::admin;
 pub use reply::Admin;

@@ -26,3 +26,4 @@ pub mod Written
 pub mod SubmitJobs
 pub mod Submits
 pub mod PlanSubmits
+pub mod Dues

@@ -1,10 +1,9 @@
 -- The world at its start, on lists: what lists of one value are as functions.
-use Rattle.std.proofs.Common.{◌≡◌, ℕ, ◌<◌, ◌≤◌, inl, inr, Bool, true, false, List, [], get_or, length, replicate, slice_index, arith, refl, sym, subst, ap, ◌∙◌}
+use Rattle.std.proofs.Common.{◌≡◌, ℕ, ◌≤◌, inl, inr, Bool, true, false, List, [], get_or, length, replicate, slice_index, arith, refl, sym, subst, ap, ◌∙◌}
 use mathlib.Core.Path.{fun_ext}
 use Rattle.std.proofs.lemmas.Bool.{cases_lt}
 use Rattle.std.proofs.lemmas.List.{get_or-replicate, get_or_past, length-replicate}
-use Rattle.std.specs.List.{slice_index_or}
-use Rattle.nv_core.specs.State.{IsOpening, State, world_of}
+use Rattle.nv_core.specs.State.{IsOpening, State}
 use Rattle.nv_device.specs.Physical.{Physical, opening_physical}
 use Rattle.nv_model.specs.Controller.{Controller, opening}
 use Rattle.nv_model.specs.Limits.{block}

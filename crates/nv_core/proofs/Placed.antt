@@ -207,7 +207,7 @@ admin-placed w number guest c QueueFull has = ap (λ (v : World). let a : After 
 admin-placed w number guest c (Stepped d memory) has = refl
 
 -- the event of the admin queue of a guest that is there
-admin-there : (geometry : Geometry) (number : ℕ) (o : Owner) (w : World) → owner_of geometry w number ≡ Some o
+pub admin-there : (geometry : Geometry) (number : ℕ) (o : Owner) (w : World) → owner_of geometry w number ≡ Some o
     → step geometry (event.Admin number) w
     ≡ administered_by (admin (mapped (regions_of o.given)) (shape_of o.given).blocks o.controller (image (regions_of o.given) w.host)) o w
 unfolding step administered_in

@@ -88,7 +88,7 @@ impl Core {
     }
 
     // Whether there is such a lane and such a slot.
-    fn has_slot(&self, lane: u8, slot: u8) -> bool
+    pub(crate) fn has_slot(&self, lane: u8, slot: u8) -> bool
         ensures { result ≡ (nat_lt lane (length self.now.device.lanes) && nat_lt slot tag_count) }
     {
         lane < self.device.lanes() && slot < IDENTIFIERS

@@ -1,6 +1,6 @@
 //! The mediator's side of a lane.
 
-ghost use Rattle.std.specs.Prelude.{◌≡◌, ◌∷◌, ◌++◌, [], List, IfSome, MatchOption, None, OnErr, OnOk, Some, slice_get};
+ghost use Rattle.std.specs.Prelude.{◌≡◌, ◌∷◌, ◌++◌, [], List, IfSome, MatchOption, None, OnErr, OnOk, Some, is_some, slice_get};
 ghost use Rattle.nv_core.specs.Tags.{IsReading, state_in};
 ghost use Rattle.nv_core.specs.declared.progress.Progress.TheVariants as progress;
 ghost use Rattle.nv_entry.specs.StatusCode.{done_with};
@@ -52,6 +52,15 @@ impl Lane {
             return None;
         }
         Some(self.tags.state(tag))
+    }
+
+    /// Whether some tag is free.
+    pub(crate) fn has_free(&self) -> bool
+        ensures { result ≡ is_some (free_tag self.now.tags) }
+    {
+        // With a field comes what is kept of the lane.
+        let _whole = &self.head;
+        self.tags.has_free()
     }
 
     /// Gives the command the lowest free tag; `None`, with nothing changed, where no tag is free.

@@ -18,6 +18,7 @@ mod administering;
 mod area;
 mod device_events;
 mod comparing;
+mod due;
 mod keeping;
 mod lane;
 mod lane_ending;

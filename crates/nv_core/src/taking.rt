@@ -51,7 +51,7 @@ impl Core {
 }
 
 // Whether a number is that of an I/O queue.
-fn is_io_queue(queue: u16) -> bool
+pub(crate) fn is_io_queue(queue: u16) -> bool
     ensures { result ≡ is_io_queue queue }
 {
     1 <= queue && queue <= LAST_QUEUE

@@ -63,6 +63,19 @@ impl Device {
         self.lanes[usize::from(lane)].unit_done(slot, number, differed);
         Response::Done
     }
+
+    /// Whether the device holds a command at a slot that has that unit left.
+    pub fn has_left(&self, lane: u8, slot: u8, number: u64) -> bool
+        requires lane { lane < length self.now.lanes }
+        requires slot { slot < tag_count }
+        ensures { result ≡ has_left number (held_at self.now lane slot) }
+    {
+        let ring = &self.lanes[usize::from(lane)];
+        match ring.command(slot) {
+            Some(command) => command.has(number),
+            None => false,
+        }
+    }
 }
 
 /// Moves a unit of a command, and says whether the command has differed.

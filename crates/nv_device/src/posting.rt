@@ -67,6 +67,19 @@ impl Device {
         ring.command(slot).is_some()
     }
 
+    /// Whether the device holds a command at a slot of which all units have moved.
+    pub fn has_ended(&self, lane: u8, slot: u8) -> bool
+        requires lane { lane < length self.now.lanes }
+        requires slot { slot < tag_count }
+        ensures { result ≡ has_ended (held_at self.now lane slot) }
+    {
+        let ring = &self.lanes[usize::from(lane)];
+        match ring.command(slot) {
+            Some(command) => command.has_ended(),
+            None => false,
+        }
+    }
+
     /// Posts a completion of that status, and drops the command.
     fn complete(&mut self, lane: u8, slot: u8, status: Status, host: &mut Host)
         requires lane { lane < length self.old.lanes }

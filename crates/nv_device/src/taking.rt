@@ -67,6 +67,14 @@ impl Device {
         Some(self.front_entry(lane, host).cid())
     }
 
+    /// Whether an entry of a lane's submission ring waits.
+    pub fn waits(&self, lane: u8) -> bool
+        requires { lane < length self.now.lanes }
+        ensures { result ≡ waits lane self.now }
+    {
+        !self.lanes[usize::from(lane)].is_idle()
+    }
+
     /// The entry in the slot of a lane's submission ring that is taken next.
     fn front_entry(&self, lane: u8, host: &Host) -> Sqe
         requires lane { lane < length self.now.lanes }

@@ -1,6 +1,6 @@
 //! A lane's tags.
 
-ghost use Rattle.std.specs.Prelude.{◌≡◌, ◌≢◌, ◌<◌, ◌⊎◌, replicate, slice_set, Some, None, IfSome};
+ghost use Rattle.std.specs.Prelude.{◌≡◌, ◌≢◌, ◌<◌, ◌⊎◌, replicate, slice_set, Some, None, IfSome, is_some};
 ghost use Rattle.std.specs.List.{position};
 ghost use Rattle.nv_world_model.specs.Area.{tag_count};
 ghost use Rattle.nv_tags.specs.Tags.{Ended, Flying, Free, Taken, Used, command_in, command_of, free_slot, is_free_state, slot_at, state_at, with_point};
@@ -53,6 +53,13 @@ impl Tags {
             states: [TagState::Free; 64],
             claims: [nobodys; 64],
         }
+    }
+
+    /// Whether some tag is free.
+    pub fn has_free(&self) -> bool
+        ensures { result ≡ is_some (free_slot self.now) }
+    {
+        lowest_free(&self.states).is_some()
     }
 
     /// Gives the command the lowest free tag; `None`, with nothing changed, where no tag is free.

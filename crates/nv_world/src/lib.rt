@@ -3,6 +3,7 @@
 
 mod checking;
 mod copies;
+mod due;
 mod opening;
 mod performing;
 mod refusal;

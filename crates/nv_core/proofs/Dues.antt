@@ -1,0 +1,186 @@
+-- Which events are due, by what is looked at.
+use Rattle.std.proofs.Common.{◌≡◌, ℕ, ◌<◌, Bool, true, false, cond, not, ◌&&◌, ◌==◌, List, [], ◌∷◌, get_or, length, slice_get, Option, Some, None, is_some, refl, sym, ap, ◌∙◌, arith}
+use Rattle.std.specs.List.{list_any}
+use Rattle.nv_admin.specs.Event.{is_stepped}
+use Rattle.nv_core.specs.State.{IsOf, IsStep, State, world_of}
+use Rattle.nv_core.proofs.DeviceNeeds.{has-sides, holding-at}
+use Rattle.nv_core.proofs.DeviceSteps.{after, none-held, some-held}
+use Rattle.nv_core.proofs.Placed.{admin-there, owner, owner-there}
+use Rattle.nv_core.proofs.Posts.{IsEndedHere}
+use Rattle.nv_core.proofs.Reaps.{slice_get-or}
+use Rattle.nv_core.proofs.Takes.{looked-up}
+use Rattle.nv_device.specs.Physical.{has_ended, has_left, held_at, is_over, lane_of, no_lane}
+use Rattle.nv_device.specs.Taking.{waits}
+use Rattle.nv_entry.specs.Status.{StatusField}
+use Rattle.nv_entry.specs.Submission.{cid_of}
+use Rattle.nv_mem.specs.GuestMap.{mapped}
+use Rattle.nv_model.specs.Admin.{AdminStep, NothingToDo, QueueFull, Stepped, admin}
+use Rattle.nv_model.specs.Controller.{Controller, Posted, front, is_enabled, post}
+use Rattle.nv_model.specs.Memory.{image}
+use Rattle.nv_model.specs.Queue.{is_empty}
+use Rattle.nv_model.specs.declared.reply.Reply.{Reply}
+use Rattle.nv_model.specs.declared.reply.Reply.TheVariants as reply
+use Rattle.nv_world_model.proofs.SeatTags.{take-step}
+use Rattle.nv_world_model.specs.Area.{bounce_page, tag_count}
+use Rattle.nv_world_model.specs.Device.{DeviceLane, Held}
+use Rattle.nv_world_model.specs.Geometry.{Geometry, Guest, regions_of, shape_of}
+use Rattle.nv_world_model.specs.Seat.{Owner, owner_of}
+use Rattle.nv_world_model.specs.Step.{After, administered_by, device_move, device_post, device_take, due, for_device, for_ended, for_lane, for_owner, free_tag, is_done, is_due_kind, is_io_queue, post_at, post_by, reap, replied, step, take_from, take_front}
+use Rattle.nv_world_model.specs.World.{Lane, Tag, World, tag_in}
+use Rattle.nv_world_model.specs.declared.event.Event.{Event}
+use Rattle.nv_world_model.specs.declared.event.Event.TheVariants as event
+
+-- ---- by the reply
+
+pub due-by : (geometry : Geometry) (e : Event) (w : World) (a : After) → step geometry e w ≡ a → due geometry e w ≡ (is_due_kind e && is_done a.reply)
+unfolding due
+due-by geometry e w a is = ap (λ (x : After). is_due_kind e && is_done x.reply) is
+
+-- an event that was carried out
+pub due-told : (geometry : Geometry) (e : Event) (s t : State) (r : Reply) → IsStep geometry e s r t → due geometry e (world_of s) ≡ (is_due_kind e && is_done r)
+due-told geometry e s t r is = due-by geometry e (world_of s) (after (world_of t) r) (sym is.after)
+
+idle-or-done : (b : Bool) (w v : World) → is_done (cond b (replied reply.Idle w) (replied reply.Done v)).reply ≡ not b
+idle-or-done true w v = refl
+idle-or-done false w v = refl
+
+done-or-idle : (b : Bool) (w v : World) → is_done (cond b (replied reply.Done v) (replied reply.Idle w)).reply ≡ b
+done-or-idle true w v = refl
+done-or-idle false w v = refl
+
+-- ---- the physical controller
+
+module _ (geometry : Geometry) (s : State) (is : IsOf geometry s) (lane : ℕ) (below : lane < length s.device.lanes) where
+  pub dev_take-due : due geometry (event.DevTake lane) (world_of s) ≡ waits lane s.device
+  unfolding step
+  dev_take-due =
+      let sides = has-sides geometry s lane is below in
+      due-by geometry (event.DevTake lane) (world_of s) (device_take geometry.mediator lane sides.d (world_of s))
+      (ap (λ (o : Option DeviceLane). for_device o (world_of s) (λ d. device_take geometry.mediator lane d (world_of s))) sides.at_device)
+      ∙ idle-or-done (is_empty sides.d.head sides.d.tail) (world_of s) _
+      ∙ ap (λ (d : DeviceLane). not (is_empty d.head d.tail)) (sym sides.seen)
+
+  module _ (slot : ℕ) (slot_below : slot < tag_count) where
+    abbrev moves : (number : ℕ) → Held → DeviceLane → After
+    moves number h d = device_move geometry.disk_blocks lane slot number h (world_of s)
+
+    abbrev posts : Held → DeviceLane → After
+    posts h d = device_post h.left geometry.mediator lane slot h d (world_of s)
+
+    pub dev_move-due : (number : ℕ) → due geometry (event.DevMove lane slot number) (world_of s) ≡ has_left number (held_at s.device lane slot)
+    unfolding step
+    dev_move-due number = by_held (held_at s.device lane slot) refl
+      where
+        by_held : (o : Option Held) → held_at s.device lane slot ≡ o
+            → due geometry (event.DevMove lane slot number) (world_of s) ≡ has_left number (held_at s.device lane slot)
+        by_held None e =
+            due-by geometry (event.DevMove lane slot number) (world_of s) (replied reply.Idle (world_of s)) (none-held geometry s is lane slot (moves number) below slot_below e)
+            ∙ sym (ap (has_left number) e)
+        by_held (Some h) e =
+            let a = holding-at geometry s lane slot h is below e in
+            due-by geometry (event.DevMove lane slot number) (world_of s) (moves number h a.sides.d) (some-held geometry s is lane slot (moves number) h a)
+            ∙ done-or-idle (list_any (λ k. k == number) h.left) (world_of s) _
+            ∙ sym (ap (has_left number) e)
+
+    over-done : (left : List ℕ) (h : Held) (d : DeviceLane) → is_done (device_post left geometry.mediator lane slot h d (world_of s)).reply ≡ is_over left
+    over-done [] h d = refl
+    over-done (k ∷ left) h d = refl
+
+    pub dev_post-due : due geometry (event.DevPost lane slot) (world_of s) ≡ has_ended (held_at s.device lane slot)
+    unfolding step
+    dev_post-due = by_held (held_at s.device lane slot) refl
+      where
+        by_held : (o : Option Held) → held_at s.device lane slot ≡ o
+            → due geometry (event.DevPost lane slot) (world_of s) ≡ has_ended (held_at s.device lane slot)
+        by_held None e =
+            due-by geometry (event.DevPost lane slot) (world_of s) (replied reply.Idle (world_of s)) (none-held geometry s is lane slot posts below slot_below e)
+            ∙ sym (ap has_ended e)
+        by_held (Some h) e =
+            let a = holding-at geometry s lane slot h is below e in
+            due-by geometry (event.DevPost lane slot) (world_of s) (posts h a.sides.d) (some-held geometry s is lane slot posts h a)
+            ∙ over-done h.left h a.sides.d
+            ∙ sym (ap has_ended e)
+
+-- ---- Reap
+
+pub reap-due : (geometry : Geometry) (s : State) (is : IsOf geometry s) (lane i : ℕ) (l : Lane) → i ≡ lane → i < length s.lanes → l ≡ get_or s.lanes i l
+    → due geometry (event.Reap lane) (world_of s) ≡ not (l.head == (lane_of s.device lane).posted)
+unfolding step
+reap-due geometry s is lane i l at below has =
+    let w = world_of s in
+    let d = lane_of s.device lane in
+    let found = looked-up s.lanes lane i l at below has in
+    let there : slice_get s.device.lanes lane ≡ Some d = slice_get-or s.device.lanes lane no_lane (let sides = is.consistent.sides in omega arith) in
+    due-by geometry (event.Reap lane) w (reap geometry lane l d w)
+    (ap (λ (x : Option Lane). for_lane x w (λ k. for_device (slice_get w.device lane) w (λ e. reap geometry lane k e w))) found
+    ∙ ap (λ (x : Option DeviceLane). for_device x w (λ e. reap geometry lane l e w)) there)
+    ∙ idle-or-done (is_empty l.head d.posted) w _
+
+-- ---- Take
+
+module _ (geometry : Geometry) (s : State) (number queue lane : ℕ) (guest : Guest) (c : Controller) (l : Lane)
+    (there : slice_get geometry.guests number ≡ Some guest) (found : slice_get s.controllers number ≡ Some c)
+    (found_lane : slice_get s.lanes lane ≡ Some l) where
+  fronted : (f t : Option ℕ) → free_tag l.tags ≡ t
+      → is_done (take_front f queue lane l (owner number guest c) (world_of s)).reply ≡ (is_some f && is_some t)
+  fronted None t e = refl
+  fronted (Some addr) t e = tagged t e
+    where
+      tagged : (t : Option ℕ) → free_tag l.tags ≡ t → is_done (take_front (Some addr) queue lane l (owner number guest c) (world_of s)).reply ≡ is_some t
+      tagged None e = rw e refl
+      tagged (Some tag) e = rw e refl
+
+  pub take-due : is_io_queue queue ≡ true → due geometry (event.Take number queue lane) (world_of s) ≡ (is_some (front c queue) && is_some (free_tag l.tags))
+  take-due e =
+      let w = world_of s in
+      let o = owner number guest c in
+      due-by geometry (event.Take number queue lane) w (take_from queue lane l o w)
+      (take-step geometry number queue lane o l w (owner-there geometry w number guest c there found) found_lane)
+      ∙ ap (λ (b : Bool). is_done (cond b (take_front (front c queue) queue lane l o w) (replied reply.Ignored w)).reply) e
+      ∙ fronted (front c queue) (free_tag l.tags) refl
+
+-- ---- Post
+
+module _ (geometry : Geometry) (s : State) (lane tag : ℕ) (st : StatusField) (t : IsEndedHere s.lanes lane tag st) (guest : Guest) (c : Controller)
+    (there : slice_get geometry.guests t.command.guest ≡ Some guest) (found : slice_get s.controllers t.command.guest ≡ Some c) where
+  abbrev at_post : Owner → After
+  at_post o = post_at t.command st t.plan (bounce_page geometry.mediator lane tag) lane tag o (world_of s)
+
+  posted : (f : Option Posted) (o : Owner) → is_done (post_by f t.plan st (bounce_page geometry.mediator lane tag) lane tag o (world_of s)).reply ≡ is_some f
+  posted None o = refl
+  posted (Some p) o = refl
+
+  by_enabled : (b : Bool) (x y : After) (r : Bool) → is_done x.reply ≡ r → is_done y.reply ≡ true → is_done (cond b x y).reply ≡ cond b r true
+  by_enabled true x y r e f = e
+  by_enabled false x y r e f = f
+
+  pub post-due : due geometry (event.Post lane tag) (world_of s)
+      ≡ cond (is_enabled c) (is_some (post c t.command.queue 0 (cid_of t.command.entry) st)) true
+  unfolding step
+  post-due =
+      let w = world_of s in
+      let o = owner t.command.guest guest c in
+      due-by geometry (event.Post lane tag) w (at_post o)
+      (ap (λ (x : Option Tag). for_ended x w
+      (λ command st plan. for_owner (owner_of geometry w command.guest) w (λ o. post_at command st plan (bounce_page geometry.mediator lane tag) lane tag o w)))
+      (ap (λ (x : Option Lane). tag_in x tag) t.found ∙ t.there)
+      ∙ ap (λ (x : Option Owner). for_owner x w at_post) (owner-there geometry w t.command.guest guest c there found))
+      ∙ by_enabled (is_enabled c) _ _ _ (posted (post c t.command.queue 0 (cid_of t.command.entry) st) o) refl
+
+-- ---- Admin
+
+administered-done : (x : AdminStep) (o : Owner) (w : World) → is_done (administered_by x o w).reply ≡ is_stepped x
+administered-done NothingToDo o w = refl
+administered-done QueueFull o w = refl
+administered-done (Stepped c memory) o w = refl
+
+pub admin-due : (geometry : Geometry) (s : State) (number : ℕ) (guest : Guest) (c : Controller) → slice_get geometry.guests number ≡ Some guest
+    → slice_get s.controllers number ≡ Some c → (b : Bool) → ((test : ℕ → Bool) (blocks : ℕ) (memory : ℕ → ℕ) → b ≡ is_stepped (admin test blocks c memory))
+    → b ≡ due geometry (event.Admin number) (world_of s)
+admin-due geometry s number guest c there found b told =
+    let w = world_of s in
+    let o = owner number guest c in
+    let x = admin (mapped (regions_of guest)) (shape_of guest).blocks c (image (regions_of guest) w.host) in
+    told (mapped (regions_of guest)) (shape_of guest).blocks (image (regions_of guest) w.host)
+    ∙ sym (administered-done x o w)
+    ∙ sym (due-by geometry (event.Admin number) w (administered_by x o w) (admin-there geometry number o w (owner-there geometry w number guest c there found)))

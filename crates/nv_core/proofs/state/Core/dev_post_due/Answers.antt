@@ -1,0 +1,24 @@
+use Rattle.std.proofs.Common.{◌≡◌, ◌&&◌, ◌∙◌, length, nat_lt, sym, subst}
+use Rattle.nv_core.proofs.DevicePosts.{post-no_slot}
+use Rattle.nv_core.proofs.DeviceSteps.{both-below}
+use Rattle.nv_core.proofs.Dues.{dev_post-due, due-told}
+use Rattle.nv_core.specs.State.{IsOf, State, world_of}
+use Rattle.nv_model.specs.declared.reply.Reply.TheVariants as reply
+use Rattle.nv_world_model.specs.Area.{tag_count}
+use Rattle.nv_world_model.specs.Step.{due}
+use Rattle.nv_world_model.specs.declared.event.Event.TheVariants as event
+use Rattle.nv_core.proofs.state.Core.dev_post_due.Goals as goal
+
+pub returns-then-not-has_slot : goal.returns-then-not-has_slot
+returns-then-not-has_slot c =
+    sym (due-told c.args._layout.now (event.DevPost c.args.lane c.args.slot) c.args.self.now c.args.self.now reply.Ignored
+    (post-no_slot c.args._layout.now c.args.self.now c.requires c.args.lane c.args.slot (sym c.has_slot.ensures ∙ c.if-not-has_slot.true)))
+
+pub returns : goal.returns
+returns c =
+    let s : State = record { host = c.self.inside.host; device = c.self.inside.device; lanes = c.self.inside.lanes.items; controllers = c.self.inside.controllers.items } in
+    let is = subst (IsOf c.args._layout.now) (sym c.self.view_is) c.requires in
+    let test = subst (λ (o : State). c.has_slot.result ≡ (nat_lt c.args.lane (length o.device.lanes) && nat_lt c.args.slot tag_count)) (sym c.self.view_is) c.has_slot.ensures in
+    let there = both-below c.args.lane (length c.self.inside.device.lanes) c.args.slot tag_count c.has_slot.result test c.if-not-has_slot.false in
+    subst (λ (x : State). c.has_ended.result ≡ due c.args._layout.now (event.DevPost c.args.lane c.args.slot) (world_of x)) c.self.view_is
+    (c.has_ended.ensures ∙ sym (dev_post-due c.args._layout.now s is c.args.lane there.0 c.args.slot there.1))

@@ -1,0 +1,51 @@
+use Rattle.std.proofs.Common.{◌≡◌, ◌≤◌, ◌<◌, ◌∙◌, length, subst, sym, arith}
+use Rattle.nv_core.proofs.Dues.{due-told, take-due}
+use Rattle.nv_core.proofs.Placed.{has-controller}
+use Rattle.nv_core.proofs.Takes.{looked-up, take-no_lane, take-no_queue, take-nobody}
+use Rattle.nv_core.specs.State.{State, world_of}
+use Rattle.nv_laws_sound.proofs.Lists.{slice_get-there}
+use Rattle.nv_model.specs.declared.reply.Reply.TheVariants as reply
+use Rattle.nv_world_model.specs.Step.{due}
+use Rattle.nv_world_model.specs.declared.event.Event.TheVariants as event
+use Rattle.nv_core.proofs.state.Core.take_due.Goals as goal
+
+pub returns-in_default : goal.returns-in_default
+returns-in_default c =
+    sym (due-told c.args.layout.now (event.Take c.args.guest c.args.queue c.args.lane) c.args.self.now c.args.self.now reply.Ignored
+    (take-nobody c.args.layout.now c.args.self.now c.args.self.now c.args.guest c.args.queue c.args.lane c.in_default.ensures))
+
+pub returns-then-number-len : goal.returns-then-number-len
+returns-then-number-len c =
+    let past : length c.self.inside.controllers.items ≤ c.args.guest =
+    (let l = c.len.ensures in let n = c.from-number.ensures in let t = c.if-number-len.true in omega arith) in
+    absurd (has-controller c.args.layout.now c.args.self.now c.args.self.now c.args.guest c.in-Some._given.now c.requires c.in-Some.ensures
+    (subst (λ (o : State). length o.controllers ≤ c.args.guest) c.self.view_is past))
+
+pub returns-then-at-len : goal.returns-then-at-len
+returns-then-at-len c =
+    let s : State = record { host = c.self.inside.host; device = c.self.inside.device; lanes = c.self.inside.lanes.items; controllers = c.self.inside.controllers.items } in
+    let here = slice_get-there c.self.inside.controllers.items c.args.guest (let n = c.from-number.ensures in let l = c.len.ensures in let t = c.if-number-len.false in omega arith) in
+    sym (due-told c.args.layout.now (event.Take c.args.guest c.args.queue c.args.lane) c.args.self.now c.args.self.now reply.Ignored
+    (take-no_lane c.args.layout.now s c.args.self.now c.args.guest c.args.queue c.args.lane c.in-Some._given.now here.0 c.self.view_is c.in-Some.ensures here.1
+    (let l = c.len-2.ensures in let n = c.from-at.ensures in let t = c.if-at-len.true in omega arith)))
+
+pub returns-then-not-is_io_queue : goal.returns-then-not-is_io_queue
+returns-then-not-is_io_queue c =
+    let s : State = record { host = c.self.inside.host; device = c.self.inside.device; lanes = c.self.inside.lanes.items; controllers = c.self.inside.controllers.items } in
+    let here = slice_get-there c.self.inside.controllers.items c.args.guest (let n = c.from-number.ensures in let l = c.len.ensures in let t = c.if-number-len.false in omega arith) in
+    let lane = slice_get-there c.self.inside.lanes.items c.args.lane (let n = c.from-at.ensures in let l = c.len-2.ensures in let t = c.if-at-len.false in omega arith) in
+    sym (due-told c.args.layout.now (event.Take c.args.guest c.args.queue c.args.lane) c.args.self.now c.args.self.now reply.Ignored
+    (take-no_queue c.args.layout.now s c.args.self.now c.args.guest c.args.queue c.args.lane c.in-Some._given.now here.0 c.self.view_is c.in-Some.ensures here.1
+    lane.0 lane.1 (sym c.is_io_queue.ensures ∙ c.if-not-is_io_queue.true)))
+
+pub returns : goal.returns
+returns c =
+    let s : State = record { host = c.self.inside.host; device = c.self.inside.device; lanes = c.self.inside.lanes.items; controllers = c.self.inside.controllers.items } in
+    let below : c.from-number.result < length c.self.inside.controllers.items = (let l = c.len.ensures in let t = c.if-number-len.false in omega arith) in
+    let found = looked-up c.self.inside.controllers.items c.args.guest c.from-number.result c.index-vctl.result.now c.from-number.ensures below c.index-vctl.ensures in
+    let below_lane : c.from-at.result < length c.self.inside.lanes.items = (let l = c.len-2.ensures in let t = c.if-at-len.false in omega arith) in
+    let found_lane = looked-up c.self.inside.lanes.items c.args.lane c.from-at.result c.index-ring.result.now c.from-at.ensures below_lane c.index-ring.ensures in
+    subst (λ (x : State). c.is_takeable.result ≡ due c.args.layout.now (event.Take c.args.guest c.args.queue c.args.lane) (world_of x)) c.self.view_is
+    (c.is_takeable.ensures
+    ∙ sym (take-due c.args.layout.now s c.args.guest c.args.queue c.args.lane c.in-Some._given.now c.index-vctl.result.now c.index-ring.result.now
+    c.in-Some.ensures found found_lane (sym c.is_io_queue.ensures ∙ c.if-not-is_io_queue.false)))

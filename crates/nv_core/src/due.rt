@@ -1,0 +1,165 @@
+//! Whether an event is due: whether it would be done now.
+
+ghost use Rattle.std.specs.Prelude.{◌≡◌, ◌&&◌, ℕ, if◌then◌else◌, is_some, true};
+ghost use Rattle.nv_core.specs.State.{IsOf, world_of};
+ghost use Rattle.nv_entry.specs.Status.{StatusField};
+ghost use Rattle.nv_model.specs.Controller.{front, is_enabled, post};
+ghost use Rattle.nv_world_model.specs.Step.{due, free_tag};
+
+use crate::lane::Lane;
+use crate::layout::Layout;
+use crate::state::Core;
+use crate::taking::is_io_queue;
+use nv_vctl::Vctl;
+use nv_world_model::Event;
+
+impl Core {
+    /// Whether an event is one of Admin, Take, DevTake, DevMove, DevPost, Reap and Post and would be done now. Nothing changes, and what it
+    /// costs depends on neither the host nor how many commands are on their way: but for the search of a free tag, nothing is searched.
+    #[tactic(auto, unfolding(nv_world_model::specs::Step::due))]
+    pub fn due(&self, layout: &Layout, event: &Event) -> bool
+        requires { IsOf layout.now self.now }
+        ensures { result ≡ due layout.now event.now (world_of self.now) }
+    {
+        match event {
+            Event::Admin(guest) => self.admin_due(layout, *guest),
+            Event::Take(guest, queue, lane) => self.take_due(layout, *guest, *queue, *lane),
+            Event::DevTake(lane) => self.dev_take_due(layout, *lane),
+            Event::DevMove(lane, slot, number) => self.dev_move_due(layout, *lane, *slot, *number),
+            Event::DevPost(lane, slot) => self.dev_post_due(layout, *lane, *slot),
+            Event::Reap(lane) => self.reap_due(layout, *lane),
+            Event::Post(lane, tag) => self.post_due(layout, *lane, *tag),
+            Event::Guest(_guest, _act) => false,
+            Event::List(_lane, _tag, _addr, _len) => false,
+            Event::Submit(_lane, _tag) => false,
+            Event::GiveUp(_lane, _tag) => false,
+            Event::DevFail(_lane, _slot, _status) => false,
+            Event::Keep(_block) => false,
+        }
+    }
+
+    // Whether a guest's admin queue has something to do.
+    fn admin_due(&self, layout: &Layout, guest: u8) -> bool
+        requires { IsOf layout.now self.now }
+        ensures { result ≡ due layout.now (Event.Admin guest) (world_of self.now) }
+    {
+        let Some(_given) = layout.guest(guest) else {
+            return false;
+        };
+        let number = usize::from(guest);
+        if number >= self.controllers.len() {
+            return false;
+        }
+        let vctl = &self.controllers[number];
+        nv_admin::is_due(vctl)
+    }
+
+    // Whether an entry of a lane's submission ring waits for the physical controller.
+    fn dev_take_due(&self, _layout: &Layout, lane: u8) -> bool
+        requires { IsOf _layout.now self.now }
+        ensures { result ≡ due _layout.now (Event.DevTake lane) (world_of self.now) }
+    {
+        if lane >= self.device.lanes() {
+            return false;
+        }
+        self.device.waits(lane)
+    }
+
+    // Whether the command that the physical controller holds in a slot of a lane has that unit left.
+    fn dev_move_due(&self, _layout: &Layout, lane: u8, slot: u8, number: u64) -> bool
+        requires { IsOf _layout.now self.now }
+        ensures { result ≡ due _layout.now (Event.DevMove lane slot number) (world_of self.now) }
+    {
+        if !self.has_slot(lane, slot) {
+            return false;
+        }
+        self.device.has_left(lane, slot, number)
+    }
+
+    // Whether the physical controller holds a command in a slot of a lane of which all units have moved.
+    fn dev_post_due(&self, _layout: &Layout, lane: u8, slot: u8) -> bool
+        requires { IsOf _layout.now self.now }
+        ensures { result ≡ due _layout.now (Event.DevPost lane slot) (world_of self.now) }
+    {
+        if !self.has_slot(lane, slot) {
+            return false;
+        }
+        self.device.has_ended(lane, slot)
+    }
+
+    // Whether a completion of a lane waits.
+    fn reap_due(&self, _layout: &Layout, lane: u8) -> bool
+        requires { IsOf _layout.now self.now }
+        ensures { result ≡ due _layout.now (Event.Reap lane) (world_of self.now) }
+    {
+        let at = usize::from(lane);
+        if at >= self.lanes.len() {
+            return false;
+        }
+        let ring = &self.lanes[at];
+        ring.head() != self.device.posted(lane)
+    }
+
+    // Whether a command of a guest's I/O queue may be taken, and a tag of the lane is free.
+    fn take_due(&self, layout: &Layout, guest: u8, queue: u16, lane: u8) -> bool
+        requires { IsOf layout.now self.now }
+        ensures { result ≡ due layout.now (Event.Take guest queue lane) (world_of self.now) }
+    {
+        let Some(_given) = layout.guest(guest) else {
+            return false;
+        };
+        let number = usize::from(guest);
+        if number >= self.controllers.len() {
+            return false;
+        }
+        let at = usize::from(lane);
+        if at >= self.lanes.len() {
+            return false;
+        }
+        if !is_io_queue(queue) {
+            return false;
+        }
+        let vctl = &self.controllers[number];
+        let ring = &self.lanes[at];
+        is_takeable(queue, vctl, ring)
+    }
+
+    // Whether the command of a tag has ended, and its guest's controller has room for its completion or is not enabled.
+    fn post_due(&self, layout: &Layout, lane: u8, tag: u8) -> bool
+        requires { IsOf layout.now self.now }
+        ensures { result ≡ due layout.now (Event.Post lane tag) (world_of self.now) }
+    {
+        let Some(point) = self.state(lane, tag) else {
+            return false;
+        };
+        let Some(_status) = point.ended() else {
+            return false;
+        };
+        let at = usize::from(lane);
+        let ring = &self.lanes[at];
+        let claim = ring.ended(tag);
+        let guest = claim.guest;
+        let Some(_given) = layout.guest(guest) else {
+            return false;
+        };
+        let vctl = &self.controllers[usize::from(guest)];
+        may_end(claim.queue, vctl)
+    }
+}
+
+// Whether a command of a queue may be taken, and a tag is free for it.
+fn is_takeable(queue: u16, vctl: &Vctl, ring: &Lane) -> bool
+    ensures { result ≡ (is_some (front vctl.now queue) && is_some (free_tag ring.now.tags)) }
+{
+    vctl.waits(queue) && ring.has_free()
+}
+
+// Whether a taken command of a queue may end: with a completion, for which there is room, or without one after a reset.
+fn may_end(queue: u16, vctl: &Vctl) -> bool
+    ensures { (cid : ℕ) (st : StatusField) → result ≡ (if is_enabled vctl.now then is_some (post vctl.now queue 0 cid st) else true) }
+{
+    if !vctl.is_enabled() {
+        return true;
+    }
+    vctl.has_room(queue)
+}

@@ -1,0 +1,9 @@
+use Rattle.std.proofs.Common.{Option, ℕ, is_some, sym, ap, ◌∙◌, arith}
+use Rattle.nv_tags.specs.Tags.{free_slot}
+use Rattle.nv_tags.proofs.Slots.{free_slot-is}
+use Rattle.nv_tags.proofs.tags.Tags.has_free.Goals as goal
+
+pub returns : goal.returns
+returns c =
+    c.is_some.ensures
+    ∙ ap (λ (o : Option ℕ). is_some o) (c.lowest_free.ensures ∙ sym (free_slot-is c.self.inside.states c.self.inside.claims (omega arith)) ∙ ap free_slot c.self.view_is)
