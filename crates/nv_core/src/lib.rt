@@ -7,17 +7,15 @@
 //! [`Core::new`] is the world at its start. The events are [`Core::act`] and [`Core::admin`] of guests; [`Core::take`], [`Core::list`],
 //! [`Core::submit`], [`Core::give_up`], [`Core::reap`] and [`Core::post`] of the mediator; [`Core::dev_take`], [`Core::dev_move`],
 //! [`Core::dev_post`], [`Core::dev_fail`] and [`Core::keep`] of the physical controller.
-//! So far these events stand: [`Core::keep`], [`Core::act`], [`Core::admin`], [`Core::take`], [`Core::list`], [`Core::submit`] and
-//! [`Core::give_up`]. [`Core::submit_plan`] is the Submit of a plan that was made elsewhere, without the state at hand.
-//! So far these events stand: [`Core::keep`], [`Core::act`], [`Core::admin`], [`Core::take`], [`Core::list`], [`Core::give_up`],
-//! [`Core::reap`] and [`Core::post`].
+//! [`Core::submit_plan`] is the Submit of a plan that was made elsewhere, without the state at hand, and [`Core::due`] tells which events a
+//! worker finds something to do by.
 #![tactic(auto)]
 
 mod acting;
 mod administering;
 mod area;
-mod device_events;
 mod comparing;
+mod device_events;
 mod due;
 mod keeping;
 mod lane;
