@@ -22,9 +22,9 @@ use Rattle.nv_world_model.specs.World.{Free, Lane, Tag, World, opening_lane, ope
 -- a list of one value, read where what stands beyond it is that value, too
 reads-one : {X : Type 0} (n i : ℕ) (x : X) → get_or (replicate n x) i x ≡ x
 reads-one n i x = elim (cases_lt i n) [
-    | inl within ↦ get_or-replicate n i x x within
-    | inr past ↦ get_or_past (replicate n x) i x (let l = length-replicate n x in omega (arith, l))
-  ]
+  | inl within ↦ get_or-replicate n i x x within
+  | inr past ↦ get_or_past (replicate n x) i x (let l = length-replicate n x in omega (arith, l))
+]
 
 bytes-zero : (n : ℕ) → byte_in (replicate n 0) ≡ (λ at. 0)
 unfolding byte_in
@@ -33,12 +33,12 @@ bytes-zero n = fun_ext (λ at. reads-one n at 0)
 -- a block that is there is zeros, and one that is not reads as such
 block-zero : (n at offset : ℕ) → byte_of_block (replicate n (replicate block 0)) at offset ≡ 0
 block-zero n at offset = elim (cases_lt at n) [
-    | inl within ↦
-        ap (λ (b : List ℕ). slice_index b offset) (get_or-replicate n at (replicate block 0) [] within) ∙ reads-one block offset 0
-    | inr past ↦
-        ap (λ (b : List ℕ). slice_index b offset)
-        (get_or_past (replicate n (replicate block 0)) at [] (subst (λ m. m ≤ at) (sym (length-replicate n zeros)) past))
-  ]
+  | inl within ↦
+      ap (λ (b : List ℕ). slice_index b offset) (get_or-replicate n at (replicate block 0) [] within) ∙ reads-one block offset 0
+  | inr past ↦
+      ap (λ (b : List ℕ). slice_index b offset)
+      (get_or_past (replicate n (replicate block 0)) at [] (subst (λ m. m ≤ at) (sym (length-replicate n zeros)) past))
+]
   where
     zeros : List ℕ
     zeros = replicate block 0
@@ -51,22 +51,27 @@ marks-clear n = fun_ext (λ at. reads-one n at false)
 
 -- the lists of the start are its world
 pub opening-is : (geometry : Geometry) (host_bytes lanes : ℕ) → IsOpening geometry host_bytes lanes (record {
-      host = replicate host_bytes 0;
-      device = opening_physical geometry.mediator lanes geometry.disk_blocks;
-      lanes = replicate lanes opening_lane;
-      controllers = replicate (length geometry.guests) opening;
-    })
+  host = replicate host_bytes 0;
+  device = opening_physical geometry.mediator lanes geometry.disk_blocks;
+  lanes = replicate lanes opening_lane;
+  controllers = replicate (length geometry.guests) opening;
+})
 unfolding opening_world
 opening-is geometry host_bytes lanes =
     let device = opening_physical geometry.mediator lanes geometry.disk_blocks in
     let rest : (ℕ → ℕ) → (ℕ → ℕ → ℕ) → (ℕ → Bool) → World = (λ host disk kept. record {
-      host = host; disk = disk; kept = kept; device = device.lanes; lanes = replicate lanes opening_lane;
-      controllers = replicate (length geometry.guests) opening }) in
+      host = host;
+      disk = disk;
+      kept = kept;
+      device = device.lanes;
+      lanes = replicate lanes opening_lane;
+      controllers = replicate (length geometry.guests) opening;
+    }) in
     record {
       world =
-        ap (λ (h : ℕ → ℕ). rest h (byte_of_block device.disk) (mark_of device.kept)) (bytes-zero host_bytes)
-        ∙ ap (λ (d : ℕ → ℕ → ℕ). rest (λ at. 0) d (mark_of device.kept)) (blocks-zero geometry.disk_blocks)
-        ∙ ap (λ (k : ℕ → Bool). rest (λ at. 0) (λ at offset. 0) k) (marks-clear geometry.disk_blocks);
+          ap (λ (h : ℕ → ℕ). rest h (byte_of_block device.disk) (mark_of device.kept)) (bytes-zero host_bytes)
+          ∙ ap (λ (d : ℕ → ℕ → ℕ). rest (λ at. 0) d (mark_of device.kept)) (blocks-zero geometry.disk_blocks)
+          ∙ ap (λ (k : ℕ → Bool). rest (λ at. 0) (λ at offset. 0) k) (marks-clear geometry.disk_blocks);
       host = length-replicate host_bytes 0;
       mediator = refl;
       blocks = length-replicate geometry.disk_blocks (replicate block 0);
@@ -94,11 +99,20 @@ opening-of geometry g host_bytes lanes n s same h d l c many =
   where
     all : List Controller → State
     all cs = record {
-        host = replicate host_bytes 0; device = opening_physical g.mediator lanes g.disk_blocks; lanes = replicate lanes opening_lane; controllers = cs }
+      host = replicate host_bytes 0;
+      device = opening_physical g.mediator lanes g.disk_blocks;
+      lanes = replicate lanes opening_lane;
+      controllers = cs;
+    }
+
     parts : s ≡ all (replicate n opening)
     parts =
         ap (λ (x : List ℕ). let t : State = record { host = x; device = s.device; lanes = s.lanes; controllers = s.controllers } in t) h
         ∙ ap (λ (x : Physical). let t : State = record { host = replicate host_bytes 0; device = x; lanes = s.lanes; controllers = s.controllers } in t) d
         ∙ ap (λ (x : List Lane). let t : State = record {
-            host = replicate host_bytes 0; device = opening_physical g.mediator lanes g.disk_blocks; lanes = x; controllers = s.controllers } in t) l
+          host = replicate host_bytes 0;
+          device = opening_physical g.mediator lanes g.disk_blocks;
+          lanes = x;
+          controllers = s.controllers;
+        } in t) l
         ∙ ap all c
