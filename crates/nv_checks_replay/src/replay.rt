@@ -1,9 +1,8 @@
 //! Worlds put through the events of scripts. Expected lines are read off the rules by hand.
 
 use nv_flat::FlatController;
-use nv_once::{Command, ExitStatus, Fault, perform, run};
+use nv_once::{Command, ExitStatus, run};
 use std::alloc::Global;
-use std::io::{self, ErrorKind, Write};
 use std::process::Abort;
 use std::test::Fail;
 
@@ -287,73 +286,4 @@ guest 16 range 15 1 heap 256
 #[test]
 fn refuses_a_seventeenth_guest(rt: HostRuntime) -> Result<(), Fail> {
     expect_refused(&rt, SET_UP, &MANY_GUESTS)
-}
-
-/// A writer that keeps what it takes, and fails once it is full.
-#[derive(Drop)]
-struct FailingWriter {
-    room: usize,
-    taken: Vec<u8>,
-}
-
-impl Write for FailingWriter {
-    fn write(&mut self, buf: &[u8]) -> io::Result<usize> {
-        if self.room == 0 {
-            return Err(io::Error::from(ErrorKind::StorageFull));
-        }
-        let count = buf.len().min(self.room);
-        self.taken.extend_from_slice(&buf[..count])?;
-        self.room -= count;
-        Ok(count)
-    }
-
-    fn flush(&mut self) -> io::Result<()> {
-        Ok(())
-    }
-}
-
-/// How many bytes a writer has room for, and how the run ends then; 16,418 bytes are printed.
-const WRITTEN: [(usize, Result<(), Fault>); 6] = [
-    (0, Err(Fault::CannotWrite)),
-    (1, Err(Fault::CannotWrite)),
-    (8_200, Err(Fault::CannotWrite)),
-    (16_399, Err(Fault::CannotWrite)),
-    (16_417, Err(Fault::CannotWrite)),
-    (16_418, Ok(())),
-];
-
-// Ends the test where a run ends otherwise, or where what was taken is not the front of the whole that there is room for.
-fn expect_written(
-    rt: &(impl Abort + AllocGlobal),
-    script: &str,
-    whole: &str,
-    rows: &[(usize, Result<(), Fault>)],
-) {
-    for (room, want) in rows {
-        let mut output = FailingWriter {
-            room: *room,
-            taken: Vec::new(rt.alloc()),
-        };
-        let ended = perform::<FlatController, &[u8], &mut FailingWriter>(
-            rt.alloc(),
-            Command::Replay,
-            &mut script.as_bytes(),
-            &mut output,
-        );
-        let fault = ended.err().map(|failure| failure.fault);
-        assert!(rt; fault == want.err(), "{room}");
-        let (front, _) = whole.as_bytes().split_at(whole.len().min(*room));
-        assert!(rt; output.taken.as_slice() == front, "{room}");
-    }
-}
-
-#[test]
-fn tells_of_a_writer_that_fails(rt: HostRuntime) -> Result<(), Fail> {
-    let script = format!(in rt.alloc();
-        "{SET_UP}load 0 0x0 0x1000\nload 1 0x1f000 0x1000\ndevtake 0\n"
-    )?;
-    let zeros = "0".repeat(rt.alloc(), 8192)?;
-    let whole = format!(in rt.alloc(); "1 bytes {zeros}\n2 bytes {zeros}\n3 idle\nevents 3\n")?;
-    expect_written(&rt, &script, &whole, &WRITTEN);
-    Ok(())
 }
