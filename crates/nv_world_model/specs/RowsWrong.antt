@@ -1,5 +1,6 @@
 -- Worked examples: steps that are wrong, each of which would let a guest be seen or changed by another
-use Rattle.std.specs.Prelude.{ℕ, List, [], ◌∷◌, ◌++◌, true}
+use Rattle.std.specs.Prelude.{ℕ, List, [], ◌∷◌, ◌++◌, true, slice_get}
+use Rattle.nv_entry.specs.Status.{StatusField}
 use Rattle.nv_entry.specs.StatusCode.{done_with}
 use Rattle.nv_entry.specs.Submission.{cid_of}
 use Rattle.nv_entry.specs.declared.status_code.StatusCode.TheVariants.{Success}
@@ -12,9 +13,10 @@ use Rattle.nv_world_model.specs.declared.event.Event.{Event}
 use Rattle.nv_world_model.specs.declared.event.Event.TheVariants as event
 use Rattle.nv_world_model.specs.Area.{bounce_page}
 use Rattle.nv_world_model.specs.Geometry.{Geometry}
-use Rattle.nv_world_model.specs.Rows.{behind, guest_at, in_device, moves, one_command, one_command_on, set_up}
-use Rattle.nv_world_model.specs.Seat.{owner_of}
-use Rattle.nv_world_model.specs.Step.{After, for_ended, for_owner, post_by, replay, replied}
+use Rattle.nv_world_model.specs.Plan.{plan_over}
+use Rattle.nv_world_model.specs.Rows.{behind, guest_at, holding, in_device, moves, one_command, one_command_on, set_up, world_with}
+use Rattle.nv_world_model.specs.Seat.{Owner, owner_of}
+use Rattle.nv_world_model.specs.Step.{After, for_device, for_ended, for_owner, for_taken, post_by, replay, replied, submit_by}
 use Rattle.nv_world_model.specs.World.{World, tag_of, with_host}
 
 -- ---- a failed Read is delivered
@@ -27,11 +29,27 @@ delivered_anyway geometry lane tag w =
     post_by (post o.controller command.queue 0 (cid_of command.entry) st) plan (done_with Success)
     (bounce_page geometry.mediator lane tag) lane tag o w))
 
+-- Data Transfer Error
+abbrev pub data_transfer_error : StatusField
+data_transfer_error = record { sct = 0; sc = 0x04; dnr = true }
+
 -- a bounced Read whose block was moved, and which failed
 abbrev pub read_failed : World
 read_failed =
-    behind (in_device ++ moves 1 ++ event.DevFail 0 0 (record { sct = 0; sc = 0x04; dnr = true }) ∷ event.Reap 0 ∷ [])
+    behind (in_device ++ moves 1 ++ event.DevFail 0 0 data_transfer_error ∷ event.Reap 0 ∷ [])
     (one_command (by_sgl 0x02 5 0 (data_block 0x3002 512))) (λ w. w)
+
+-- a guest's command goes through the first tag, and fails before any of its units has moved
+abbrev pub failed_unmoved : (guest : ℕ) → List Event
+failed_unmoved guest = event.Take guest 1 0 ∷ event.Submit 0 0 ∷ event.DevTake 0 ∷ event.DevFail 0 0 data_transfer_error ∷ event.Reap 0 ∷ []
+
+-- so does the second guest's Write, whose source is in the bounce pages from then on, and next the first guest's Read
+abbrev pub old_bytes_left : World
+old_bytes_left =
+    behind (failed_unmoved 1 ++ event.Post 0 0 ∷ failed_unmoved 0)
+    (world_with
+    (stored (stored (holding 0x113000 (by_sgl 0x02 5 0 (data_block 0x3002 512))) 0x213000 (by_sgl 0x01 5 0 (data_block 0x3002 512)))
+    0x203002 (7 ∷ [])) 16 1 1) (λ w. w)
 
 -- ---- a completion goes astray
 
@@ -47,23 +65,42 @@ posted_astray geometry guest lane tag w =
 abbrev pub read_ended : World
 read_ended = behind (in_device ++ moves 1 ++ event.DevPost 0 0 ∷ event.Reap 0 ∷ []) (one_command first_example) (λ w. w)
 
--- ---- ranges are not translated
+-- ---- blocks and ranges are not translated
 
 -- the same set-up, where the second guest's blocks begin with block 0 of the disk
 abbrev pub low_set_up : Geometry
 low_set_up = record set_up { guests = guest_at 0x100000 1000 ∷ guest_at 0x200000 0 ∷ [] }
 
--- a world with these ranges in the first bounce page, as the guest has them
-abbrev pub with_ranges : List ℕ → World → World
-with_ranges ranges w = with_host (stored w.host (bounce_page low_set_up.mediator 0 0) ranges) w
+-- a guest whose own numbers of blocks are taken for the disk's
+abbrev pub as_if_at_zero : Owner → Owner
+as_if_at_zero o = record o { given = record o.given { extent = record o.given.extent { base = 0 } } }
 
--- the first guest's Dataset Management of its blocks 6 and 7 is in the device, and its range isn't translated
-abbrev pub untranslated : World
-untranslated =
+-- a Submit that adds no base to the guest's blocks: neither to those of the entry, nor to those of its ranges
+abbrev pub submitted_untranslated : (geometry : Geometry) (lane tag : ℕ) → World → After
+submitted_untranslated geometry lane tag w =
+    for_taken (tag_of w lane tag) w (λ command reads.
+    for_owner (owner_of geometry w command.guest) w (λ o.
+    for_device (slice_get w.device lane) w (λ d.
+    submit_by (plan_over o.given command.entry reads) geometry.mediator lane tag command (as_if_at_zero o) d w)))
+
+-- the first guest's command is taken, its lists are read by these events, it is handed on so, and the device has it
+abbrev pub untranslated : (reads : List Event) → World → World
+untranslated reads w =
     replay low_set_up (event.DevTake 0 ∷ [])
-    (with_ranges (block_range 6 2)
-    (replay low_set_up (event.Take 0 1 0 ∷ event.List 0 0 0x3000 16 ∷ event.Submit 0 0 ∷ [])
-    (one_command_on 0x3000 (block_range 6 2) (manage true 0 (data_block 0x3000 16)))))
+    (submitted_untranslated low_set_up 0 0 (replay low_set_up (event.Take 0 1 0 ∷ reads) w)).world
+
+-- a Write Zeroes of its block 6
+abbrev pub clear_untranslated : World
+clear_untranslated = untranslated [] (one_command (by_sgl 0x08 6 0 (data_block 0x3000 512)))
+
+-- a Read of its block 6
+abbrev pub read_untranslated : World
+read_untranslated = untranslated [] (one_command (by_sgl 0x02 6 0 (data_block 0x3000 512)))
+
+-- a Dataset Management of its blocks 6 and 7
+abbrev pub ranges_untranslated : World
+ranges_untranslated =
+    untranslated (event.List 0 0 0x3000 16 ∷ []) (one_command_on 0x3000 (block_range 6 2) (manage true 0 (data_block 0x3000 16)))
 
 -- ---- a store is not mapped
 

@@ -1,4 +1,4 @@
-use Rattle.std.proofs.Common.{◌≡◌, ℕ, List, [], ◌∷◌, arith, refl}
+use Rattle.std.proofs.Common.{◌≡◌, ℕ, [], ◌∷◌, arith, refl}
 use Rattle.nv_model.specs.declared.reply.Reply.{Reply}
 use Rattle.nv_model.specs.declared.reply.Reply.TheVariants as reply
 use Rattle.nv_entry.specs.Layout.{number_at, dword, qword, bits, bytes_of_dwords}
@@ -13,7 +13,7 @@ use Rattle.nv_model.specs.Prp.{read_entries}
 use Rattle.nv_model.specs.Judge.{read_source, ranges_in, move_units, clear_units, range_units, judge}
 use Rattle.nv_model.specs.Carried.{units_moved}
 use Rattle.nv_model.specs.Controller.{opening, register, reg_write, doorbell, front, took, post, ran_out}
-use Rattle.nv_model.specs.Private.{differs, step as private_step, run_of}
+use Rattle.nv_model.specs.Private.{differs}
 use Rattle.nv_prp.specs.Fits.{hosts_of, fit_behind}
 use Rattle.nv_prp.specs.Built.{built}
 use Rattle.nv_world_model.specs.Plan.{plan_over}
@@ -23,7 +23,6 @@ use Rattle.nv_world_model.specs.Seat.{units_behind, members, seat, put_back}
 use Rattle.nv_world_model.specs.Step.{acted_in, administered_in, taken_to, listed, ended_at_once, submitted, device_took, device_moved, device_posted, kept_block, reaped, scattered_to, posted_to, ran_out_of, step, replay, replies}
 use Rattle.nv_model.specs.Admin.{admin_command, admin}
 use Rattle.nv_world_model.specs.CutDown.{cut}
-use Rattle.nv_world_model.specs.declared.event.Event.TheVariants as event
 use Rattle.nv_world_model.specs.Contained.{guest_standing}
 use Rattle.nv_world_model.specs.View.{shown, shared_numbers}
 use Rattle.nv_world_model.specs.RowsShown.{first_guest, second_guest}
@@ -36,11 +35,29 @@ unfolding number_at dword qword bits bytes_of_dwords completion everywhere addre
 returns-clause-a_failed_read_is_not_delivered c contained =
     (let bad : ◌≡◌ {A = ℕ} 0xed 0 = (contained.own 0 first_guest refl refl).alike.view.memory 0x3002 in absurd (omega arith))
 
+-- that byte, which is zero in the world cut down
+pub returns-clause-another_guests_bytes_are_not_delivered : goal.returns-clause-another_guests_bytes_are_not_delivered
+unfolding number_at dword qword bits bytes_of_dwords completion everywhere addresses bytes_from stored gathered scattered image in_memory and_then first_read in_transcript read_array read_sgl read_entries read_source ranges_in move_units clear_units range_units judge units_moved opening register reg_write doorbell front took post ran_out differs hosts_of fit_behind built plan_over physical_entry written held_of device_unit completion_written put_image units_behind members seat put_back acted_in administered_in taken_to listed ended_at_once submitted device_took device_moved device_posted kept_block reaped scattered_to posted_to ran_out_of step replay replies admin_command admin cut shown shared_numbers guest_standing
+returns-clause-another_guests_bytes_are_not_delivered c contained =
+    (let bad : ◌≡◌ {A = ℕ} 7 0 = (contained.own 0 first_guest refl refl).alike.view.memory 0x3002 in absurd (omega arith))
+
 -- the identifier in the other guest's first completion slot
 pub returns-clause-a_completion_does_not_go_astray : goal.returns-clause-a_completion_does_not_go_astray
 unfolding number_at dword qword bits bytes_of_dwords completion everywhere addresses bytes_from stored gathered scattered image in_memory and_then first_read in_transcript read_array read_sgl read_entries read_source ranges_in move_units clear_units range_units judge units_moved opening register reg_write doorbell front took post ran_out differs hosts_of fit_behind built plan_over physical_entry written held_of device_unit completion_written put_image units_behind members seat put_back acted_in administered_in taken_to listed ended_at_once submitted device_took device_moved device_posted kept_block reaped scattered_to posted_to ran_out_of step replay replies admin_command admin cut shown shared_numbers guest_standing
 returns-clause-a_completion_does_not_go_astray c contained =
     (let bad : ◌≡◌ {A = ℕ} 0 7 = (contained.others.views 1 second_guest refl (λ is. absurd (cc))).memory 0x1200c in absurd (omega arith))
+
+-- a byte of the other guest's block 6
+pub returns-clause-blocks_are_translated : goal.returns-clause-blocks_are_translated
+unfolding number_at dword qword bits bytes_of_dwords completion everywhere addresses bytes_from stored gathered scattered image in_memory and_then first_read in_transcript read_array read_sgl read_entries read_source ranges_in move_units clear_units range_units judge units_moved opening register reg_write doorbell front took post ran_out differs hosts_of fit_behind built plan_over physical_entry written held_of device_unit completion_written put_image units_behind members seat put_back acted_in administered_in taken_to listed ended_at_once submitted device_took device_moved device_posted kept_block reaped scattered_to posted_to ran_out_of step replay replies admin_command admin cut shown shared_numbers guest_standing
+returns-clause-blocks_are_translated c contained =
+    (let bad : ◌≡◌ {A = ℕ} 6 0 = (contained.others.views 1 (guest_at 0x200000 0) refl (λ is. absurd (cc))).blocks 6 0 (omega arith) in absurd (omega arith))
+
+-- a byte of it in the guest's buffer, which is zero in the world cut down
+pub returns-clause-blocks_that_are_read_are_translated : goal.returns-clause-blocks_that_are_read_are_translated
+unfolding number_at dword qword bits bytes_of_dwords completion everywhere addresses bytes_from stored gathered scattered image in_memory and_then first_read in_transcript read_array read_sgl read_entries read_source ranges_in move_units clear_units range_units judge units_moved opening register reg_write doorbell front took post ran_out differs hosts_of fit_behind built plan_over physical_entry written held_of device_unit completion_written put_image units_behind members seat put_back acted_in administered_in taken_to listed ended_at_once submitted device_took device_moved device_posted kept_block reaped scattered_to posted_to ran_out_of step replay replies admin_command admin cut shown shared_numbers guest_standing
+returns-clause-blocks_that_are_read_are_translated c contained =
+    (let bad : ◌≡◌ {A = ℕ} 6 0 = (contained.own 0 first_guest refl refl).alike.view.memory 0x3000 in absurd (omega arith))
 
 -- a byte of the other guest's block 6
 pub returns-clause-ranges_are_translated : goal.returns-clause-ranges_are_translated
