@@ -1,6 +1,6 @@
 -- Units of a guest's commands that move, in worlds that look alike to it: they look alike behind them. What a unit reads is the guest's memory or a source that is
 -- shown, or blocks of the guest's; a unit of a bounced Read is shown once it has moved.
-use Rattle.std.proofs.Common.{◌≡◌, ℕ, ◌+◌, ◌-◌, ◌*◌, ◌<◌, ◌≤◌, ◌⊎◌, inl, inr, true, false, cond, ◌==◌, nat_le, [], ◌∷◌, All, drop, length, map, set, slice_get, take, Some, arith, refl, sym, ap, ◌∙◌, eq-eqb, leb-true, subst}
+use Rattle.std.proofs.Common.{◌≡◌, ℕ, ◌+◌, ◌-◌, ◌*◌, ◌<◌, ◌≤◌, ◌⊎◌, inl, inr, true, false, cond, ◌==◌, [], ◌∷◌, All, drop, length, map, set, slice_get, take, Some, arith, refl, sym, ap, ◌∙◌, eq-eqb, subst}
 use mathlib.Core.Path.{fun_ext}
 use Rattle.std.specs.List.{list_any, range_with_len}
 use Rattle.std.proofs.lemmas.List.{drop-map}
@@ -13,19 +13,18 @@ use Rattle.nv_entry.specs.declared.opcode.IoOpcode.TheVariants.{Flush, Write, Re
 use Rattle.nv_mem.specs.GuestMap.{host_of, mapped}
 use Rattle.nv_mem.specs.Places.{At, addresses, places_of, total_len}
 use Rattle.nv_model.specs.Carried.{units_moved}
-use Rattle.nv_model.specs.Judge.{Clear, Form, Keep, Manage, Transfer, count_of, form_has_blocks, form_of, has_blocks, is_read}
+use Rattle.nv_model.specs.Judge.{Clear, Form, Keep, Manage, Transfer, count_of, form_of, has_blocks, is_read}
 use Rattle.nv_model.specs.Limits.{block, range_size}
 use Rattle.nv_model.specs.Memory.{byte_at_host, byte_at_place, bytes_from, gathered, image, scattered, stored}
 use Rattle.nv_model.specs.Private.{Moved, block_bytes, others}
-use Rattle.nv_model.proofs.AnyAnswers.{end-sound, end-within}
-use Rattle.nv_model.proofs.Endings.{and-true}
+use Rattle.nv_model.proofs.AnyAnswers.{end-sound}
 use Rattle.nv_model.proofs.MemoryLemmas.{scattered-addresses}
 use Rattle.nv_model.proofs.Shown.{length-bytes_from}
 use Rattle.nv_ns.specs.BlockRange.{block_at, block_count}
 use Rattle.nv_world_model.specs.declared.event.Event.TheVariants as event
 use Rattle.nv_world_model.specs.Area.{addresses_of, bounce_page, tag_count}
 use Rattle.nv_world_model.specs.Contained.{guest_of_one}
-use Rattle.nv_world_model.specs.Device.{DeviceLane, Held, device_unit, form_unit_count, moved_by, unit_gone, with_held}
+use Rattle.nv_world_model.specs.Device.{DeviceLane, Held, device_unit, moved_by, unit_gone, with_held}
 use Rattle.nv_world_model.specs.Geometry.{Geometry, Guest, regions_of, shape_of}
 use Rattle.nv_world_model.specs.LaneRuns.{form_places}
 use Rattle.nv_world_model.specs.Plan.{Bounced, Plan}
@@ -38,14 +37,14 @@ use Rattle.nv_laws_sound.specs.Consistent.{IsConsistent, IsInDevice, IsPlanned}
 use Rattle.nv_laws_sound.specs.LaidOut.{IsLaidOut}
 use Rattle.nv_laws_sound.proofs.Lists.{length-set, set-same, slice_get-below, slice_get-there, some-same}
 use Rattle.nv_laws_sound.proofs.MoveEvents.{held-flies, held-opcode, moved-elsewhere, moved-undisturbed}
+use Rattle.nv_laws_sound.proofs.OnDisk.{blocks-counted, blocks-fit, drop-row, entry-starts, unit-below}
 use Rattle.nv_laws_sound.proofs.Named.{hosts-all, row-all}
 use Rattle.nv_laws_sound.proofs.PlanSizes.{planned-kinds}
 use Rattle.nv_laws_others.proofs.AlikeLanes.{flying-shows, lane-alike, list-is, one-in, own-same, read-is, source-is, stored-both}
 use Rattle.nv_laws_others.proofs.AlikeRings.{slot-both}
 use Rattle.nv_laws_others.proofs.AlikeUnits.{AreAlike, IsOfUnit, gathered-part, memory-kept, unit-alike, unit_spans, units-split}
-use Rattle.nv_laws_others.proofs.AlikeWalks.{IsInBoth, either-both, lane-too, tag-too}
+use Rattle.nv_laws_others.proofs.AlikeWalks.{either-both, found-both, lane-too}
 use Rattle.nv_laws_others.proofs.Leaving.{bytes-elsewhere}
-use Rattle.nv_laws_others.proofs.MoveEvents.{below, drop-row, starts}
 use Rattle.nv_laws_others.proofs.Parts.{held-put}
 use Rattle.nv_laws_others.proofs.Shown.{any-chosen, in_span, units-few}
 
@@ -116,21 +115,16 @@ module _ (host_bytes : ℕ) (geometry : Geometry) (w z : World) (laid : IsLaidOu
     abbrev n : Moved
     n = record { memory = z.host; disk = z.disk; kept = z.kept; differed = h.differed }
 
-    -- its blocks
-    below_of : (form : Form) → form_has_blocks form ≡ true → k < form_unit_count form command.entry → k < count_of command.entry
-    below_of (Transfer dest) has few = few
-    below_of Clear has few = few
-    below_of Manage has few = cc
-    below_of Keep has few = cc
-
     bytes-same : has_blocks is.work.opcode ≡ true → block_bytes w.disk (slba_of h.entry + k) ≡ block_bytes z.disk (slba_of h.entry + k)
     bytes-same has =
-        let within = end-within (mapped (regions_of guest)) guest.limit (shape_of guest).blocks command.entry is.work is.verdict has in
-        let both = and-true (nat_le (count_of command.entry) (block_count guest.extent)) (nat_le (slba_of command.entry) (block_count guest.extent - count_of command.entry)) within in
-        let some = leb-true (count_of command.entry) (block_count guest.extent) both.0 in
-        let most = leb-true (slba_of command.entry) (block_count guest.extent - count_of command.entry) both.1 in
-        let first = starts host_bytes (length w.lanes) geometry laid command.guest guest whose command.entry plan is lane tag h w.host in_device k left has within in
-        let few = below_of (form_of is.work.opcode) has (below host_bytes (length w.lanes) geometry laid command.guest guest whose command.entry plan is lane tag h w.host in_device k left) in
+        let fit = blocks-fit host_bytes (length w.lanes) geometry laid command.guest guest whose command.entry plan is lane tag has in
+        let some = fit.0 in
+        let most = fit.1 in
+        let first : slba_of h.entry ≡ block_at guest.extent (slba_of command.entry) =
+        ap slba_of in_device.entry_is ∙ entry-starts host_bytes (length w.lanes) geometry laid command.guest guest whose command.entry plan is lane tag has in
+        let few : k < count_of command.entry =
+        subst (λ n. k < n) (blocks-counted (form_of is.work.opcode) command.entry has)
+        (unit-below host_bytes (length w.lanes) geometry laid command.guest guest whose command.entry plan is lane tag h w.host in_device k left) in
         let named : slba_of h.entry + k ≡ block_at guest.extent (slba_of command.entry + k) = omega (arith, first) in
         subst (λ x. block_bytes w.disk x ≡ block_bytes z.disk x) (sym named) (block-same (slba_of command.entry + k) (omega (arith, some, most, few)))
 
@@ -237,21 +231,7 @@ module _ (host_bytes : ℕ) (geometry : Geometry) (w z : World) (laid : IsLaidOu
       let here : tag_of w lane tag ≡ Some was = ap (λ o. tag_in o tag) at ∙ flies in
       let named : command.guest ≡ number = some-same command.guest number (sym (ap guest_of_one here) ∙ own) in
       let mine : is_tag_of number (Some was) ≡ true = eq-eqb command.guest number named in
-      let flies_too : slice_get m.tags tag ≡ Some was = sym (ap (λ o. tag_in o tag) too) ∙ tag-too geometry w z number guest given alike lane tag was here mine in
-      let x : IsInBoth w z lane tag was was = record {
-        l = l;
-        m = m;
-        d = d;
-        e = e;
-        lane_one = at;
-        lane_two = too;
-        device_one = there;
-        device_two = again;
-        tag_one = flies;
-        tag_two = flies_too;
-        lanes = numbers;
-        rings = rings;
-      } in
+      let x = found-both geometry w z number guest given alike lane tag l m d e was at too there again numbers rings flies mine in
       let same_guest : holds.guest ≡ guest = some-same holds.guest guest (sym holds.is.given ∙ ap (slice_get geometry.guests) named ∙ given) in
       let whose : slice_get geometry.guests command.guest ≡ Some guest = ap (slice_get geometry.guests) named ∙ given in
       let planned : IsPlanned guest command.entry plan = subst (λ g. IsPlanned g command.entry plan) same_guest holds.planned in
@@ -272,7 +252,7 @@ module _ (host_bytes : ℕ) (geometry : Geometry) (w z : World) (laid : IsLaidOu
       ∙ ap held_by (slice_get-set d.held tag (Some h) (Some (unit_gone k r.differed h)) held) in
       let held_before : held_in (slice_get w.device lane) tag ≡ Some h = ap (λ o. held_in o tag) there ∙ ap held_by held in
       lane-alike geometry number guest w z alike lane tag was was was x l m now later v u
-      (sym (set-same l.tags tag was flies)) (sym (set-same m.tags tag was flies_too)) numbers (sym (set-same w.lanes lane l at)) (sym (set-same z.lanes lane m too)) device device_too
+      (sym (set-same l.tags tag was flies)) (sym (set-same m.tags tag was x.tag_two)) numbers (sym (set-same w.lanes lane l at)) (sym (set-same z.lanes lane m too)) device device_too
       (ap (λ n. record { head = d.head; tail = d.tail; posted = d.posted; phase = d.phase; slots = n }) (length-set d.held tag (Some (unit_gone k r.differed h)))
       ∙ rings ∙ sym (ap (λ n. record { head = e.head; tail = e.tail; posted = e.posted; phase = e.phase; slots = n }) (length-set e.held tag (Some (unit_gone k s.differed h)))))
       (λ b apart. held-put d.held tag (Some (unit_gone k r.differed h)) b apart) (λ b apart. held-put e.held tag (Some (unit_gone k s.differed h)) b apart)

@@ -1,5 +1,5 @@
 -- A guest's completions, in worlds that look alike to it: they look alike behind the device's posting of one, and the mediator's reading of one.
-use Rattle.std.proofs.Common.{◌≡◌, ℕ, ◌+◌, ◌-◌, ◌^◌, ◌<◌, Bool, true, false, cond, ◌&&◌, ◌==◌, nat_le, nat_lt, List, [], ◌∷◌, length, set, slice_get, slice_index, Option, Some, None, arith, refl, sym, ap, ◌∙◌, eq-eqb, subst}
+use Rattle.std.proofs.Common.{◌≡◌, ℕ, ◌^◌, ◌<◌, Bool, true, false, cond, ◌&&◌, ◌==◌, List, [], ◌∷◌, length, set, slice_get, Option, Some, None, arith, refl, sym, ap, ◌∙◌, eq-eqb, subst}
 use Rattle.std.specs.List.{list_any}
 use Rattle.std.proofs.lemmas.Bool.{eqb-false}
 use Rattle.nv_entry.specs.Completion.{completion, sc_of, sct_of, status_of}
@@ -11,6 +11,7 @@ use Rattle.nv_entry.proofs.CompletionLemmas.{bit-lt, length-completion}
 use Rattle.nv_model.specs.Memory.{bytes_from, stored}
 use Rattle.nv_model.specs.Private.{moved_status}
 use Rattle.nv_model.specs.Queue.{cqe_size, is_empty, next_slot}
+use Rattle.nv_model.proofs.MemoryAlike.{stored-at}
 use Rattle.nv_model.proofs.MemoryLemmas.{bytes_from-stored}
 use Rattle.nv_world_model.specs.declared.event.Event.TheVariants as event
 use Rattle.nv_world_model.specs.Area.{bounce_page, completion_slot, queue_pair, ring_size}
@@ -32,7 +33,7 @@ use Rattle.nv_laws_sound.proofs.Retags.{stands-is}
 use Rattle.nv_laws_sound.proofs.Rings.{between-head, far, far-some}
 use Rattle.nv_laws_others.proofs.AlikeLanes.{completion-same, flying-shows, lane-alike, list-is, own-same, read-is, source-is, stored-both}
 use Rattle.nv_laws_others.proofs.AlikeReplies.{lanes-same, rings-same, slot-here}
-use Rattle.nv_laws_others.proofs.AlikeWalks.{IsInBoth, device-both, either-both, held-both, held-too, lane-both, lane-too, tag-too}
+use Rattle.nv_laws_others.proofs.AlikeWalks.{device-both, either-both, found-both, held-both, held-too, lane-both, lane-too}
 use Rattle.nv_laws_others.proofs.Behind.{numbers-read, numbers-retagged}
 use Rattle.nv_laws_others.proofs.Leaving.{bytes-elsewhere}
 use Rattle.nv_laws_others.proofs.Parts.{held-put}
@@ -67,13 +68,6 @@ completion-success dw0 sqhd sqid cid phase st below type code =
     ap (λ n. (n == 0) && (sc_of (completion dw0 sqhd sqid cid phase st) == 0)) (completion-sct dw0 sqhd sqid cid phase st below type code)
     ∙ ap (λ n. (st.sct == 0) && (n == 0)) (completion-sc dw0 sqhd sqid cid phase st below type code)
 
--- ---- bytes
-
-pub stored-same : (memory other : ℕ → ℕ) (from : ℕ) (bytes : List ℕ) (addr : ℕ) → memory addr ≡ other addr → stored memory from bytes addr ≡ stored other from bytes addr
-unfolding stored
-stored-same memory other from bytes addr same =
-    ap (λ v. cond (nat_le from addr && nat_lt addr (from + length bytes)) (slice_index bytes (addr - from)) v) same
-
 -- the numbers of a lane that has posted a completion
 numbers-posted : (d e : DeviceLane) (tag : ℕ) → ring_numbers d ≡ ring_numbers e → ring_numbers (completion_posted tag d) ≡ ring_numbers (completion_posted tag e)
 numbers-posted d e tag same =
@@ -100,21 +94,7 @@ module _ (host_bytes : ℕ) (geometry : Geometry) (w z : World) (laid : IsLaidOu
       let flies : slice_get l.tags tag ≡ Some was = found ∙ ap (λ x. Some x) a.flies in
       let here : tag_of w lane tag ≡ Some was = ap (λ o. tag_in o tag) at ∙ flies in
       let mine : is_tag_of number (Some was) ≡ true = eq-eqb a.command.guest number (some-same a.command.guest number (sym (ap guest_of_tag a.flies) ∙ own)) in
-      let flies_too : slice_get m.tags tag ≡ Some was = sym (ap (λ o. tag_in o tag) too) ∙ tag-too geometry w z number guest given alike lane tag was here mine in
-      let x : IsInBoth w z lane tag was was = record {
-        l = l;
-        m = m;
-        d = d;
-        e = e;
-        lane_one = at;
-        lane_two = too;
-        device_one = there;
-        device_two = again;
-        tag_one = flies;
-        tag_two = flies_too;
-        lanes = numbers;
-        rings = rings;
-      } in
+      let x = found-both geometry w z number guest given alike lane tag l m d e was at too there again numbers rings flies mine in
       let bytes = completion_at geometry w lane l.head in
       let same : bytes ≡ completion_at geometry z lane m.head =
       completion-same geometry number guest w z alike lane tag l.head a.command a.plan here mine ∙ ap (λ n. completion_at geometry z lane n.head) numbers in
@@ -126,7 +106,7 @@ module _ (host_bytes : ℕ) (geometry : Geometry) (w z : World) (laid : IsLaidOu
       subst (λ bs. Behind (reaped lane bytes w) (reaped lane bs z)) same
       (subst (λ n. Behind (ended_at (tag_of w lane n) st lane n (with_lane lane completion_read w)) (ended_at (tag_of z lane n) st lane n (with_lane lane completion_read z))) (sym a.identifier)
       (subst (λ v. Behind v (ended_at (tag_of z lane tag) st lane tag (with_lane lane completion_read z))) (sym (ended-is w lane tag l a.command a.plan (Answered l.head) st at flies))
-      (subst (λ u. Behind (record w { lanes = set w.lanes lane now }) u) (sym (ended-is z lane tag m a.command a.plan (Answered l.head) st too flies_too))
+      (subst (λ u. Behind (record w { lanes = set w.lanes lane now }) u) (sym (ended-is z lane tag m a.command a.plan (Answered l.head) st too x.tag_two))
       (lane-alike geometry number guest w z alike lane tag was was new x now now_too d e (record w { lanes = set w.lanes lane now }) (record z { lanes = set z.lanes lane now_too })
       refl refl (numbers-retagged (completion_read l) (completion_read m) tag new (numbers-read l m numbers)) refl refl
       (sym (set-same w.device lane d there)) (sym (set-same z.device lane e again)) rings (λ b apart. refl) (λ b apart. refl)
@@ -188,21 +168,7 @@ module _ (host_bytes : ℕ) (geometry : Geometry) (w z : World) (laid : IsLaidOu
       let flies : slice_get l.tags tag ≡ Some was = found ∙ ap (λ x. Some x) holds.flies in
       let here : tag_of w lane tag ≡ Some was = ap (λ o. tag_in o tag) at ∙ flies in
       let mine : is_tag_of number (Some was) ≡ true = eq-eqb command.guest number (some-same command.guest number (sym (ap guest_of_one here) ∙ own)) in
-      let flies_too : slice_get m.tags tag ≡ Some was = sym (ap (λ o. tag_in o tag) too) ∙ tag-too geometry w z number guest given alike lane tag was here mine in
-      let x : IsInBoth w z lane tag was was = record {
-        l = l;
-        m = m;
-        d = d;
-        e = e;
-        lane_one = at;
-        lane_two = too;
-        device_one = there;
-        device_two = again;
-        tag_one = flies;
-        tag_two = flies_too;
-        lanes = numbers;
-        rings = rings;
-      } in
+      let x = found-both geometry w z number guest given alike lane tag l m d e was at too there again numbers rings flies mine in
       let tags = before.positions.tags in
       let among = slice_get-below l.tags tag was flies in
       let waiting = count-fewer (tag_stands waits_for_mediator) l.tags tag was flies refl in
@@ -217,13 +183,13 @@ module _ (host_bytes : ℕ) (geometry : Geometry) (w z : World) (laid : IsLaidOu
       let v = record w { host = memory (ring_numbers d) w.host; lanes = set w.lanes lane (tag_changed tag new l); device = set w.device lane (completion_posted tag d) } in
       let u = record z { host = memory (ring_numbers e) z.host; lanes = set z.lanes lane (tag_changed tag new m); device = set z.device lane (completion_posted tag e) } in
       let kept : (addr : ℕ) → w.host addr ≡ z.host addr → v.host addr ≡ u.host addr =
-      λ addr same. stored-same w.host z.host slot bytes addr same ∙ ap (λ n. memory n z.host addr) rings in
+      λ addr same. stored-at w.host z.host slot bytes addr same ∙ ap (λ n. memory n z.host addr) rings in
       let stands : bytes_from v.host slot cqe_size ≡ bytes = subst (λ n. bytes_from v.host slot n ≡ bytes) sized (bytes_from-stored w.host slot bytes) in
       let success : is_success (status_of (completion_at geometry v lane d.posted)) ≡ is_success st =
       ap (λ bs. is_success (status_of bs)) stands ∙ completion-success 0 d.head (queue_pair lane) tag d.phase st small type code in
       let bounce = bounce_page geometry.mediator lane tag in
       let one = stands-is w lane tag l d command plan InDevice (Answered d.posted) (memory (ring_numbers d) w.host) (completion_posted tag) at there flies in
-      let two = stands-is z lane tag m e command plan InDevice (Answered e.posted) (memory (ring_numbers e) z.host) (completion_posted tag) too again flies_too in
+      let two = stands-is z lane tag m e command plan InDevice (Answered e.posted) (memory (ring_numbers e) z.host) (completion_posted tag) too again x.tag_two in
       let two_as : _ ≡ u = two ∙ ap (λ (n : RingNumbers). record z {
         host = memory (ring_numbers e) z.host;
         lanes = set z.lanes lane (tag_changed tag (Flying command plan (Answered n.posted)) m);

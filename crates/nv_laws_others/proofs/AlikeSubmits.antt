@@ -13,6 +13,7 @@ use Rattle.nv_model.specs.Memory.{gathered, image, stored}
 use Rattle.nv_model.specs.Queue.{next_slot, sqe_size}
 use Rattle.nv_model.specs.Transcript.{Outcome, ReadDone, Settled, Wanted}
 use Rattle.nv_model.proofs.AnyAnswers.{end-sound}
+use Rattle.nv_model.proofs.MemoryAlike.{stored-at}
 use Rattle.nv_model.proofs.MemoryLemmas.{length-gathered}
 use Rattle.nv_prp.specs.Built.{built, entries_of, listed}
 use Rattle.nv_world_model.specs.declared.event.Event.TheVariants as event
@@ -24,7 +25,7 @@ use Rattle.nv_world_model.specs.Plan.{Answer, Bounced, Direct, NoData, Plan, pla
 use Rattle.nv_world_model.specs.Seat.{Owner, held_in, owner_of}
 use Rattle.nv_world_model.specs.Step.{carry_out, for_device, for_owner, for_taken, step, submit_by, submitted}
 use Rattle.nv_world_model.specs.View.{IsAlike, is_tag_of, own_held, ring_numbers, source_shown}
-use Rattle.nv_world_model.specs.World.{Command, Flying, Queued, Taken, World, tag_changed, tag_in, tag_of}
+use Rattle.nv_world_model.specs.World.{Command, Flying, Queued, Taken, World, tag_changed, tag_of}
 use Rattle.nv_laws_sound.specs.Consistent.{IsConsistent, IsPlanned, waits_for_device}
 use Rattle.nv_laws_sound.specs.LaidOut.{IsLaidOut}
 use Rattle.nv_laws_sound.proofs.Lists.{count-fewer, slice_get-below}
@@ -36,8 +37,7 @@ use Rattle.nv_laws_sound.proofs.SubmitEvents.{entered-elsewhere, entered-undistu
 use Rattle.nv_laws_others.proofs.AlikeGuests.{ended-alike}
 use Rattle.nv_laws_others.proofs.AlikeLanes.{flying-shows, lane-alike, stored-both}
 use Rattle.nv_laws_others.proofs.AlikeReplies.{memory, own, rings-same, tag-here}
-use Rattle.nv_laws_others.proofs.AlikeRings.{stored-same}
-use Rattle.nv_laws_others.proofs.AlikeWalks.{IsInBoth, device-both, held-too, lane-too, owner-both, tag-too, taken-both}
+use Rattle.nv_laws_others.proofs.AlikeWalks.{device-both, found-both, held-too, lane-too, owner-both, taken-both}
 use Rattle.nv_laws_others.proofs.Behind.{numbers-retagged}
 use Rattle.nv_laws_others.proofs.Leaving.{bytes-elsewhere}
 use Rattle.nv_laws_others.proofs.Shown.{any-not_chosen, in-one, in_span}
@@ -132,13 +132,13 @@ module _ (guest : Guest) (command : Command) (plan : Plan) (mediator lane tag sl
       → written plan guest command.entry mediator lane tag slot host addr ≡ written plan guest command.entry mediator lane tag slot other addr
   unfolding written
   on-listed addr is =
-      stored-same (on (stored host list list_here) host) (on (stored other list list_here) other) (submission_slot mediator lane slot) entry_here addr
-      (stored-same (stored host list list_here) (stored other list list_here) bounce (bounced_bytes plan guest host) addr is
+      stored-at (on (stored host list list_here) host) (on (stored other list list_here) other) (submission_slot mediator lane slot) entry_here addr
+      (stored-at (stored host list list_here) (stored other list list_here) bounce (bounced_bytes plan guest host) addr is
       ∙ ap (λ bs. stored (stored other list list_here) bounce bs addr) (bounced-same plan guest host other same))
 
   pub written-kept : (addr : ℕ) → host addr ≡ other addr
       → written plan guest command.entry mediator lane tag slot host addr ≡ written plan guest command.entry mediator lane tag slot other addr
-  written-kept addr is = on-listed addr (stored-same host other list list_here addr is)
+  written-kept addr is = on-listed addr (stored-at host other list list_here addr is)
 
   pub written-list : (addr : ℕ) → list ≤ addr → addr < list + length list_here
       → written plan guest command.entry mediator lane tag slot host addr ≡ written plan guest command.entry mediator lane tag slot other addr
@@ -148,7 +148,7 @@ module _ (guest : Guest) (command : Command) (plan : Plan) (mediator lane tag sl
       → written plan guest command.entry mediator lane tag slot host addr ≡ written plan guest command.entry mediator lane tag slot other addr
   unfolding written
   written-source addr low high =
-      stored-same (on (stored host list list_here) host) (on (stored other list list_here) other) (submission_slot mediator lane slot) entry_here addr
+      stored-at (on (stored host list list_here) host) (on (stored other list list_here) other) (submission_slot mediator lane slot) entry_here addr
       (stored-both (stored host list list_here) (stored other list list_here) bounce (bounced_bytes plan guest host) addr low high
       ∙ ap (λ bs. stored (stored other list list_here) bounce bs addr) (bounced-same plan guest host other same))
 
@@ -176,20 +176,7 @@ module _ (host_bytes : ℕ) (geometry : Geometry) (w z : World) (laid : IsLaidOu
       let a = is-at geometry w lane tag t fine here in
       let l = a.l in
       let m = lane-too geometry w z number guest given alike lane l a.at_lane in
-      let x : IsInBoth w z lane tag t t = record {
-        l = l;
-        m = m.0;
-        d = d;
-        e = e;
-        lane_one = a.at_lane;
-        lane_two = m.1;
-        device_one = there;
-        device_two = again;
-        tag_one = a.at_tag;
-        tag_two = sym (ap (λ o. tag_in o tag) m.1) ∙ tag-too geometry w z number guest given alike lane tag t here mine;
-        lanes = m.2;
-        rings = rings;
-      } in
+      let x = found-both geometry w z number guest given alike lane tag l m.0 d e t a.at_lane m.1 there again m.2 rings a.at_tag mine in
       let before = fine.lanes lane l d a.at_lane there in
       let tags = before.positions.tags in
       let among = slice_get-below l.tags tag t a.at_tag in

@@ -35,7 +35,7 @@ use Rattle.nv_laws_others.proofs.AlikeLanes.{entry-same, flying-shows, lane-alik
 use Rattle.nv_laws_others.proofs.AlikeReplies.{rings-same, slot-here}
 use Rattle.nv_laws_others.proofs.AlikeSubmits.{list-length}
 use Rattle.nv_laws_others.proofs.AlikeUnits.{spans_with, unit_spans}
-use Rattle.nv_laws_others.proofs.AlikeWalks.{IsInBoth, device-both, either-both, lane-too, tag-too}
+use Rattle.nv_laws_others.proofs.AlikeWalks.{device-both, either-both, found-both, lane-too}
 use Rattle.nv_laws_others.proofs.Behind.{numbers-retagged}
 use Rattle.nv_laws_others.proofs.Parts.{held-put}
 use Rattle.nv_laws_others.proofs.RingEvents.{front-is}
@@ -136,21 +136,7 @@ module _ (host_bytes : ℕ) (geometry : Geometry) (w z : World) (laid : IsLaidOu
       let here : tag_of w lane tag ≡ Some was = ap (λ o. tag_in o tag) at ∙ flies in
       let named : command.guest ≡ number = some-same command.guest number (sym (ap guest_of_tag a.flies) ∙ own) in
       let mine : is_tag_of number (Some was) ≡ true = eq-eqb command.guest number named in
-      let flies_too : slice_get m.tags tag ≡ Some was = sym (ap (λ o. tag_in o tag) too) ∙ tag-too geometry w z number guest given alike lane tag was here mine in
-      let x : IsInBoth w z lane tag was was = record {
-        l = l;
-        m = m;
-        d = d;
-        e = e;
-        lane_one = at;
-        lane_two = too;
-        device_one = there;
-        device_two = again;
-        tag_one = flies;
-        tag_two = flies_too;
-        lanes = numbers;
-        rings = rings;
-      } in
+      let x = found-both geometry w z number guest given alike lane tag l m d e was at too there again numbers rings flies mine in
       let same_guest : a.guest ≡ guest = some-same a.guest guest (sym a.is.given ∙ ap (slice_get geometry.guests) named ∙ given) in
       let whose : slice_get geometry.guests command.guest ≡ Some guest = ap (slice_get geometry.guests) named ∙ given in
       let planned : IsPlanned guest command.entry plan = subst (λ g. IsPlanned g command.entry plan) same_guest a.planned in
@@ -182,7 +168,7 @@ module _ (host_bytes : ℕ) (geometry : Geometry) (w z : World) (laid : IsLaidOu
       let holding : held_in (slice_get v.device lane) tag ≡ Some h =
       ap (λ o. held_in o tag) (slice_get-set w.device lane d now there) ∙ ap held_by (slice_get-set d.held tag held (Some h) under) in
       subst (λ y. Behind y (device_took lane (front_entry geometry.mediator lane e z.host) z)) (sym (took-is geometry.mediator w lane tag d.head l d command plan entry at there flies front cid))
-      (subst (λ y. Behind v y) (sym (took-is geometry.mediator z lane tag d.head m e command plan entry too again flies_too front_too cid))
+      (subst (λ y. Behind v y) (sym (took-is geometry.mediator z lane tag d.head m e command plan entry too again x.tag_two front_too cid))
       (lane-alike geometry number guest w z alike lane tag was was new x (tag_changed tag new l) (tag_changed tag new m) now later v u
       refl refl (numbers-retagged l m tag new numbers) refl refl refl refl (numbers-taken d e tag (Some h) (Some g) rings)
       (λ b apart. held-put d.held tag (Some h) b apart) (λ b apart. held-put e.held tag (Some g) b apart)

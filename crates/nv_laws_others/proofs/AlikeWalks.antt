@@ -38,7 +38,8 @@ module _ (P : World → World → Type 0) (w z : World) (holds : P w z) where
   taken-both number (Some (Ended command st plan)) mine more again each = holds
 
   pub ended-both : (number : ℕ) (t : Option Tag) → guest_of_one t ≡ Some number → (more again : Command → StatusField → Option Plan → After)
-      → ((command : Command) (st : StatusField) (plan : Option Plan) → t ≡ Some (Ended command st plan) → command.guest ≡ number → P (more command st plan).world (again command st plan).world)
+      → ((command : Command) (st : StatusField) (plan : Option Plan) → t ≡ Some (Ended command st plan) → command.guest ≡ number
+      → P (more command st plan).world (again command st plan).world)
       → P (for_ended t w more).world (for_ended t z again).world
   ended-both number None mine more again each = holds
   ended-both number (Some Free) mine more again each = holds
@@ -107,25 +108,32 @@ module _ (geometry : Geometry) (w z : World) (number : ℕ) (guest : Guest) (giv
   tag-too lane tag t there mine =
       sym (tag-same number (tag_of w lane tag) (tag_of z lane tag) (alike.view.tags lane tag) (ap (is_tag_of number) there ∙ mine)) ∙ there
 
+  -- and stands in the same lane of both
+  abbrev pub found-both : (lane tag : ℕ) (l m : Lane) (d e : DeviceLane) (t : Tag) → slice_get w.lanes lane ≡ Some l → slice_get z.lanes lane ≡ Some m
+      → slice_get w.device lane ≡ Some d → slice_get z.device lane ≡ Some e → lane_numbers l ≡ lane_numbers m → ring_numbers d ≡ ring_numbers e
+      → slice_get l.tags tag ≡ Some t → is_tag_of number (Some t) ≡ true → IsInBoth w z lane tag t t
+  found-both lane tag l m d e t at too there again numbers rings found mine =
+      record {
+        l = l;
+        m = m;
+        d = d;
+        e = e;
+        lane_one = at;
+        lane_two = too;
+        device_one = there;
+        device_two = again;
+        tag_one = found;
+        tag_two = sym (ap (λ o. tag_in o tag) too) ∙ tag-too lane tag t (ap (λ o. tag_in o tag) at ∙ found) mine;
+        lanes = numbers;
+        rings = rings;
+      }
+
   pub in-both : (lane tag : ℕ) (t : Tag) → IsConsistent geometry w → tag_of w lane tag ≡ Some t → is_tag_of number (Some t) ≡ true → IsInBoth w z lane tag t t
   in-both lane tag t fine there mine =
       let a = is-at geometry w lane tag t fine there in
       let m = lane-too lane a.l a.at_lane in
       let e = device-too lane a.d a.at_device in
-      record {
-        l = a.l;
-        m = m.0;
-        d = a.d;
-        e = e.0;
-        lane_one = a.at_lane;
-        lane_two = m.1;
-        device_one = a.at_device;
-        device_two = e.1;
-        tag_one = a.at_tag;
-        tag_two = sym (ap (λ o. tag_in o tag) m.1) ∙ tag-too lane tag t there mine;
-        lanes = m.2;
-        rings = e.2;
-      }
+      found-both lane tag a.l m.0 a.d e.0 t a.at_lane m.1 a.at_device e.1 m.2 e.2 a.at_tag mine
 
   -- what the device holds of it
   pub held-too : (lane tag : ℕ) (t : Tag) → tag_of w lane tag ≡ Some t → is_tag_of number (Some t) ≡ true

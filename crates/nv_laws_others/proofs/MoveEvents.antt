@@ -1,51 +1,32 @@
 -- What a unit of a command leaves: blocks of other guests, and bytes that are neither its guest's nor in its tag's bounce pages.
-use Rattle.std.proofs.Common.{◌≡◌, ℕ, zero, suc, ◌+◌, ◌-◌, ◌*◌, ◌^◌, ◌<◌, ◌≤◌, ◌⊎◌, inl, inr, Bool, true, false, ◌&&◌, ◌||◌, ◌==◌, nat_le, nat_lt, List, [], ◌∷◌, ◌++◌, All, drop, flat_map, length, map, slice_get, take, Some, arith, refl, sym, ap, ◌∙◌, eq-eqb, eqb-true, leb-true, subst}
+use Rattle.std.proofs.Common.{◌≡◌, ℕ, zero, suc, ◌+◌, ◌<◌, ◌≤◌, ◌⊎◌, inl, inr, Bool, true, false, ◌&&◌, ◌||◌, ◌==◌, nat_lt, List, [], ◌∷◌, All, map, slice_get, Some, arith, refl, sym, ap, ◌∙◌, eq-eqb, subst}
 use Rattle.std.specs.Prelude.{◌≢◌}
 use Rattle.std.specs.List.{list_any, range_with_len}
 use Rattle.std.proofs.lemmas.Bool.{cases_eq, cases_lt}
-use Rattle.std.proofs.lemmas.List.Elements.{All-cons, All-head, All-map, All-nil, All-tail}
+use Rattle.std.proofs.lemmas.List.Elements.{All-cons, All-map, All-nil}
 use Rattle.nv_entry.specs.Opcode.{io_opcode}
 use Rattle.nv_entry.specs.Submission.{opcode_of, slba_of}
 use Rattle.nv_mem.specs.GuestMap.{mapped}
-use Rattle.nv_mem.specs.Places.{At, places_of}
 use Rattle.nv_model.specs.Carried.{block_work, units_moved}
-use Rattle.byteorder.specs.Endian.{little_from}
-use Rattle.byteorder.specs.Numbers.{little_number-reads_back}
-use Rattle.nv_entry.specs.Layout.{dword, number_at, number_bytes, qword}
 use Rattle.nv_entry.specs.Range.{blocks_of, start_of}
-use Rattle.nv_model.specs.Judge.{deallocates, form_transfer_len, is_fua, range_count_of, range_fits, Clear, ClearBlock, Form, Keep, KeepAll, LeaveBlock, Manage, MoveBlock, Transfer, Work, clear_units, count_of, one_range_units, form_has_blocks, form_of, has_blocks}
+use Rattle.nv_model.specs.Judge.{deallocates, is_fua, Clear, ClearBlock, Form, Keep, KeepAll, LeaveBlock, Manage, MoveBlock, Transfer, Work, clear_units, count_of, one_range_units, form_has_blocks, form_of, has_blocks}
 use Rattle.nv_model.specs.Laws.{IsElsewhere}
-use Rattle.nv_model.specs.Memory.{bytes_from, gathered}
-use Rattle.nv_model.proofs.MemoryLemmas.{gathered-addresses}
 use Rattle.nv_model.proofs.Judged.{IsSoundWork}
-use Rattle.nv_mem.specs.Places.{addresses}
-use Rattle.std.proofs.lemmas.List.{drop-map}
-use Rattle.std.proofs.lemmas.List.FromFn.{take-map-range_with_len}
-use Rattle.nv_laws_sound.specs.Area.{Shows}
-use Rattle.nv_laws_sound.proofs.Shows.{shows-append}
-use Rattle.nv_world_model.specs.Device.{form_unit_count, range_at, unit_count}
-use Rattle.nv_mem.specs.Places.{total_len}
-use Rattle.nv_world_model.specs.Plan.{go_plan}
-use Rattle.nv_world_model.specs.Area.{addresses_of, tag_count}
-use Rattle.nv_laws_sound.specs.Area.{form_ranges, ranges_of}
+use Rattle.nv_world_model.specs.Device.{form_unit_count, range_at}
+use Rattle.nv_world_model.specs.Area.{tag_count}
 use Rattle.nv_laws_sound.proofs.EntryFields.{entry-opcode}
-use Rattle.nv_laws_sound.proofs.LaidOuts.{all-one}
-use Rattle.nv_laws_sound.proofs.Lists.{slice_get-there}
 use Rattle.nv_model.specs.Private.{Moved}
-use Rattle.nv_model.proofs.AnyAnswers.{end-sound, end-within}
-use Rattle.nv_model.proofs.Endings.{and-true}
+use Rattle.nv_model.proofs.AnyAnswers.{end-sound}
 use Rattle.nv_model.proofs.UnitsElsewhere.{IsSame, units-elsewhere}
-use Rattle.nv_ns.specs.BlockRange.{Extent, block_at, block_count, in_namespace}
-use Rattle.nv_world_model.specs.Area.{bounce_page, entry_of, list_page, prps_of, translated_range}
+use Rattle.nv_ns.specs.BlockRange.{Extent, block_at}
 use Rattle.nv_world_model.specs.Device.{Held, device_unit, form_moves, moved_by}
 use Rattle.nv_world_model.specs.Geometry.{Geometry, Guest, regions_of, shape_of}
-use Rattle.nv_world_model.specs.Plan.{Bounced, Direct, NoData, Plan}
+use Rattle.nv_world_model.specs.Plan.{Plan}
 use Rattle.nv_world_model.specs.View.{in_extent}
 use Rattle.nv_laws_sound.specs.Consistent.{IsInDevice, IsPlanned}
 use Rattle.nv_laws_sound.specs.LaidOut.{IsLaidOut}
-use Rattle.nv_laws_sound.proofs.EntryFields.{form-start}
 use Rattle.nv_laws_sound.proofs.Named.{row-all}
-use Rattle.nv_laws_sound.proofs.PlanSizes.{planned-kinds}
+use Rattle.nv_laws_sound.proofs.OnDisk.{AreOwn, entry-own, range-own, unit-below}
 
 -- ---- blocks
 
@@ -103,63 +84,24 @@ pub range-elsewhere : (at : ℕ) (deallocate : Bool) (range : List ℕ) → (at 
 range-elsewhere at true range away = clears-elsewhere at (start_of range) (blocks_of range) false away
 range-elsewhere at false range away = leaves-elsewhere at (range_with_len (start_of range) (blocks_of range))
 
--- ---- a translated range
+-- ---- blocks of the guest's
 
--- what is read back of it
-word-four : (number : ℕ) (rest : List ℕ) → number < 2 ^ 32 → little_from 0 4 (number_bytes 4 number ++ rest) ≡ number
-word-four number rest fits = little_number-reads_back 4 number rest fits
+module _ (extent : Extent) (at : ℕ) (away : (at < extent.base) ⊎ (extent.base + extent.blocks ≤ at)) (start count : ℕ) (own : AreOwn extent start count) where
+  -- a block outside of its range lies outside of them
+  own-apart : (at < start) ⊎ (start + count ≤ at)
+  own-apart = by away
+    where
+      by : (at < extent.base) ⊎ (extent.base + extent.blocks ≤ at) → (at < start) ⊎ (start + count ≤ at)
+      by (inl before) = (let from = own.from in inl (omega (arith, from, before)))
+      by (inr behind) = (let to = own.to in inr (omega (arith, to, behind)))
 
-translated-blocks : (extent : Extent) (range : List ℕ) → blocks_of range < 2 ^ 32 → blocks_of (translated_range extent range) ≡ blocks_of range
-unfolding dword number_at
-translated-blocks extent range fits = little_number-reads_back 4 (blocks_of range) (number_bytes 8 (block_at extent (start_of range))) fits
-
-translated-start : (extent : Extent) (range : List ℕ) → block_at extent (start_of range) < 2 ^ 64
-    → start_of (translated_range extent range) ≡ block_at extent (start_of range)
-unfolding qword number_at
-translated-start extent range fits = little_number-reads_back 8 (block_at extent (start_of range)) [] fits
-
--- a range that was written stands in its place
-shown-range : (extent : Extent) (memory : ℕ → ℕ) (ranges : List (List ℕ)) (n : ℕ) (at : ℕ) (range : List ℕ) → slice_get ranges n ≡ Some range
-    → Shows memory at (flat_map (translated_range extent) ranges) → bytes_from memory (at + 16 * n) 16 ≡ translated_range extent range
-shown-range extent memory [] n at range found shown = cc
-shown-range extent memory (r ∷ ranges) zero at range found shown =
-    let same : r ≡ range = cc in
-    let parts = shows-append memory at (translated_range extent r) (flat_map (translated_range extent) ranges) shown in
-    let here : at + 16 * 0 ≡ at = omega arith in
-    rw here (parts.0 ∙ ap (translated_range extent) same)
-shown-range extent memory (r ∷ ranges) (suc n) at range found shown =
-    let parts = shows-append memory at (translated_range extent r) (flat_map (translated_range extent) ranges) shown in
-    let rest = shown-range extent memory ranges n (at + 16) range found parts.1 in
-    let here : at + 16 * suc n ≡ at + 16 + 16 * n = omega arith in
-    rw here rest
-
--- dropping a row's front leaves its end
-pub drop-row : (k from len : ℕ) → drop k (range_with_len from (k + len)) ≡ range_with_len (from + k) len
-drop-row zero from len =
-    let here : from + 0 ≡ from = omega arith in
-    let none : 0 + len ≡ len = omega arith in
-    rw (here, none) refl
-drop-row (suc k) from len =
-    let more : suc k + len ≡ suc (k + len) = omega arith in
-    let here : from + suc k ≡ from + 1 + k = omega arith in
-    rw (more, here) (drop-row k (from + 1) len)
-
--- the bytes of 16 places of a row
-row-bytes : (memory : ℕ → ℕ) (bounce k rest : ℕ) → gathered memory (take 16 (drop k (map At (range_with_len bounce (k + (16 + rest)))))) ≡ bytes_from memory (bounce + k) 16
-unfolding addresses
-row-bytes memory bounce k rest =
-    ap (λ ps. gathered memory (take 16 ps)) (drop-map At k (range_with_len bounce (k + (16 + rest))) ∙ ap (map At) (drop-row k bounce (16 + rest)))
-    ∙ ap (gathered memory) (take-map-range_with_len At (bounce + k) (16 + rest) 16 (omega arith))
-    ∙ gathered-addresses memory (bounce + k) 16
-
--- a number that is among others has what each has
-among : (P : ℕ → Type 0) (n : ℕ) (xs : List ℕ) → All P xs → list_any (λ k. k == n) xs ≡ true → P n
-among P n [] each e = cc
-among P n (x ∷ xs) each e =
-    (elim (x == n) as (λ b. (x == n) ≡ b → (b || list_any (λ k. k == n) xs) ≡ true → P n) [
-      | true ↦ λ is any. subst P (eqb-true x n is) (All-head P x xs each)
-      | false ↦ λ is any. among P n xs (All-tail P x xs each) any
-    ]) refl e
+  -- and is none of them
+  one-apart : (n : ℕ) → n < count → start + n ≢ at
+  one-apart n few same = by own-apart
+    where
+      by : (at < start) ⊎ (start + count ≤ at) → ⊥
+      by (inl before) = absurd (omega (arith, same, before))
+      by (inr behind) = absurd (omega (arith, same, few, behind))
 
 -- ---- a unit of a command in the device
 
@@ -186,77 +128,23 @@ module _ (host_bytes lanes : ℕ) (geometry : Geometry) (laid : IsLaidOut host_b
   sound : IsSoundWork (mapped (regions_of guest)) (shape_of guest).blocks entry is.work
   sound = end-sound (mapped (regions_of guest)) guest.limit (shape_of guest).blocks entry is.work is.verdict
 
-  -- the unit is one of the command's
-  pub below : number < form_unit_count (form_of is.work.opcode) entry
-  below =
-      among (λ k. k < form_unit_count (form_of is.work.opcode) entry) number h.left
-      (subst (λ o. All (λ k. k < unit_count o entry) h.left) sound.opcode in_device.left) left
-
-  -- its blocks begin where the guest's do on the disk
-  pub starts : has_blocks is.work.opcode ≡ true → in_namespace (slba_of entry) (count_of entry) (block_count guest.extent) ≡ true
-      → slba_of h.entry ≡ block_at guest.extent (slba_of entry)
-  starts has within =
-      let both = and-true (nat_le (count_of entry) (block_count guest.extent)) (nat_le (slba_of entry) (block_count guest.extent - count_of entry)) within in
-      let some = leb-true (count_of entry) (block_count guest.extent) both.0 in
-      let most = leb-true (slba_of entry) (block_count guest.extent - count_of entry) both.1 in
-      let disk = (laid.given owner guest given).on_disk in
-      let few = laid.few_blocks in
-      ap slba_of in_device.entry_is
-      ∙ planned-kinds (λ p. slba_of (entry_of p guest entry geometry.mediator lane tag) ≡ block_at guest.extent (slba_of entry)) guest entry plan is
-      (form-start (form_of is.work.opcode) (opcode_of entry) tag (prps_of (NoData is.work) guest (list_page geometry.mediator lane tag) (bounce_page geometry.mediator lane tag)) guest.extent entry has (omega (arith, most, disk, few)))
-      (λ fits. form-start (form_of is.work.opcode) (opcode_of entry) tag (prps_of (Direct is.work) guest (list_page geometry.mediator lane tag) (bounce_page geometry.mediator lane tag)) guest.extent entry has (omega (arith, most, disk, few)))
-      (form-start (form_of is.work.opcode) (opcode_of entry) tag (prps_of (Bounced is.work) guest (list_page geometry.mediator lane tag) (bounce_page geometry.mediator lane tag)) guest.extent entry has (omega (arith, most, disk, few)))
+  below : number < form_unit_count (form_of is.work.opcode) entry
+  below = unit-below host_bytes lanes geometry laid owner guest given entry plan is lane tag h host in_device number left
 
   module _ (at : ℕ) (away : (at < guest.extent.base) ⊎ (guest.extent.base + guest.extent.blocks ≤ at)) where
-    -- so it is no block elsewhere
+    -- the unit's block is the guest's, so it is no block elsewhere
     block-apart : has_blocks is.work.opcode ≡ true → number < count_of entry → slba_of h.entry + number ≢ at
-    block-apart has few same =
-        let within = end-within (mapped (regions_of guest)) guest.limit (shape_of guest).blocks entry is.work is.verdict has in
-        let both = and-true (nat_le (count_of entry) (block_count guest.extent)) (nat_le (slba_of entry) (block_count guest.extent - count_of entry)) within in
-        let some = leb-true (count_of entry) (block_count guest.extent) both.0 in
-        let most = leb-true (slba_of entry) (block_count guest.extent - count_of entry) both.1 in
-        let start = starts has within in
-        off some most start away
-      where
-        off : count_of entry ≤ block_count guest.extent → slba_of entry ≤ block_count guest.extent - count_of entry → slba_of h.entry ≡ block_at guest.extent (slba_of entry)
-            → (at < guest.extent.base) ⊎ (guest.extent.base + guest.extent.blocks ≤ at) → ⊥
-        off some most start (inl before) = absurd (omega (arith, same, few, some, most, start, before))
-        off some most start (inr behind) = absurd (omega (arith, same, few, some, most, start, behind))
+    block-apart has few =
+        one-apart guest.extent at away (slba_of h.entry) (count_of entry)
+        (subst (λ e. AreOwn guest.extent (slba_of e) (count_of entry)) (sym in_device.entry_is)
+        (entry-own host_bytes lanes geometry laid owner guest given entry plan is lane tag has)) number few
 
-    -- a range of a Dataset Management is one of the guest's, as the disk has it
-    range-apart : form_of is.work.opcode ≡ Manage → number < range_count_of entry
+    -- and so is a range of a Dataset Management, as the disk has it
+    range-apart : form_of is.work.opcode ≡ Manage
         → (at < start_of (range_at number h.pieces host)) ⊎ (start_of (range_at number h.pieces host) + blocks_of (range_at number h.pieces host) ≤ at)
-    range-apart form few =
-        let many : length is.work.ranges ≡ range_count_of entry = sound.counted form in
-        let range = slice_get-there is.work.ranges number (omega (arith, few, many)) in
-        let fits = all-one (range_fits (shape_of guest).blocks) is.work.ranges number range.0 sound.fit range.1 in
-        let both = and-true (nat_le (blocks_of range.0) (block_count guest.extent)) (nat_le (start_of range.0) (block_count guest.extent - blocks_of range.0)) fits in
-        let some = leb-true (blocks_of range.0) (block_count guest.extent) both.0 in
-        let most = leb-true (start_of range.0) (block_count guest.extent - blocks_of range.0) both.1 in
-        let disk = (laid.given owner guest given).on_disk in
-        let few_blocks = laid.few_blocks in
-        let bounced : plan ≡ Bounced is.work = is.plan_is ∙ ap (λ f. go_plan f (regions_of guest) is.work) form in
-        let bounce = bounce_page geometry.mediator lane tag in
-        let ranges_shown : Shows host bounce (flat_map (translated_range guest.extent) is.work.ranges) =
-        subst (λ f. Shows host bounce (form_ranges f guest is.work)) form (subst (λ p. Shows host bounce (ranges_of p guest)) bounced in_device.pages.ranges) in
-        let places : places_of h.pieces ≡ map At (range_with_len bounce (total_len is.work.pieces)) =
-        in_device.places ∙ ap (λ p. map At (addresses_of p guest bounce)) bounced in
-        let total : total_len is.work.pieces ≡ 16 * range_count_of entry = sound.total ∙ ap (λ f. form_transfer_len f entry) form in
-        let split : total_len is.work.pieces ≡ 16 * number + (16 + (16 * range_count_of entry - (16 * number + 16))) = omega (arith, total, few) in
-        let read : range_at number h.pieces host ≡ translated_range guest.extent range.0 =
-        ap (λ ps. gathered host (take 16 (drop (16 * number) ps))) (places ∙ ap (λ n. map At (range_with_len bounce n)) split)
-        ∙ row-bytes host bounce (16 * number) (16 * range_count_of entry - (16 * number + 16))
-        ∙ shown-range guest.extent host is.work.ranges number bounce range.0 range.1 ranges_shown in
-        let start : start_of (range_at number h.pieces host) ≡ block_at guest.extent (start_of range.0) =
-        ap start_of read ∙ translated-start guest.extent range.0 (omega (arith, most, disk, few_blocks)) in
-        let blocks : blocks_of (range_at number h.pieces host) ≡ blocks_of range.0 =
-        ap blocks_of read ∙ translated-blocks guest.extent range.0 (omega (arith, some, disk, few_blocks)) in
-        by_side start blocks some most away
-      where
-        by_side : {s n from len : ℕ} → s ≡ guest.extent.base + from → n ≡ len → len ≤ block_count guest.extent → from ≤ block_count guest.extent - len
-            → (at < guest.extent.base) ⊎ (guest.extent.base + guest.extent.blocks ≤ at) → (at < s) ⊎ (s + n ≤ at)
-        by_side start blocks some most (inl before) = inl (omega (arith, start, before))
-        by_side start blocks some most (inr behind) = inr (omega (arith, start, blocks, some, most, behind))
+    range-apart form =
+        own-apart guest.extent at away (start_of (range_at number h.pieces host)) (blocks_of (range_at number h.pieces host))
+        (range-own host_bytes lanes geometry laid owner guest given entry plan is lane tag h host in_device number left form)
 
     -- a unit of a command of that form leaves the block
     form-stays : (form : Form) → form_of is.work.opcode ≡ form → (work : Work) (m : Moved) → m.memory ≡ host
@@ -272,10 +160,9 @@ module _ (host_bytes lanes : ℕ) (geometry : Geometry) (laid : IsLaidOut host_b
         stays-same at m _ (units-elsewhere (ClearBlock (slba_of h.entry + number) (is_fua h.entry) ∷ []) work at m
         (All-cons (IsElsewhere at) (ClearBlock (slba_of h.entry + number) (is_fua h.entry)) [] (block-apart has few) (All-nil (IsElsewhere at))))
     form-stays Manage form work m same =
-        let few : number < range_count_of entry = subst (λ f. number < form_unit_count f entry) form below in
         stays-same at m _ (units-elsewhere (one_range_units (deallocates h.entry) (range_at number h.pieces m.memory)) work at m
         (subst (λ memory. All (IsElsewhere at) (one_range_units (deallocates h.entry) (range_at number h.pieces memory))) (sym same)
-        (range-elsewhere at (deallocates h.entry) (range_at number h.pieces host) (range-apart form few))))
+        (range-elsewhere at (deallocates h.entry) (range_at number h.pieces host) (range-apart form))))
     form-stays Keep form work m same = all-kept at geometry.disk_blocks work m
 
     held-opcode : tag < tag_count → io_opcode (opcode_of h.entry) ≡ Some is.work.opcode

@@ -59,7 +59,7 @@ shown-range extent memory (r ∷ ranges) (suc n) at range found shown =
     rw here rest
 
 -- dropping a row's front leaves its end
-drop-row : (k from len : ℕ) → drop k (range_with_len from (k + len)) ≡ range_with_len (from + k) len
+pub drop-row : (k from len : ℕ) → drop k (range_with_len from (k + len)) ≡ range_with_len (from + k) len
 drop-row zero from len =
     let here : from + 0 ≡ from = omega arith in
     let none : 0 + len ≡ len = omega arith in
@@ -107,23 +107,36 @@ module _ (host_bytes lanes : ℕ) (geometry : Geometry) (laid : IsLaidOut host_b
   sound : IsSoundWork (mapped (regions_of guest)) (shape_of guest).blocks entry is.work
   sound = end-sound (mapped (regions_of guest)) guest.limit (shape_of guest).blocks entry is.work is.verdict
 
-  -- the blocks that a command's physical entry names
-  pub entry-own : has_blocks is.work.opcode ≡ true → AreOwn guest.extent (slba_of (entry_of plan guest entry geometry.mediator lane tag)) (count_of entry)
-  entry-own has =
+  -- the blocks that a command names are some of the namespace's
+  pub blocks-fit : has_blocks is.work.opcode ≡ true
+      → (count_of entry ≤ block_count guest.extent) × (slba_of entry ≤ block_count guest.extent - count_of entry)
+  blocks-fit has =
       let within = end-within (mapped (regions_of guest)) guest.limit (shape_of guest).blocks entry is.work is.verdict has in
       let both = and-true (nat_le (count_of entry) (block_count guest.extent)) (nat_le (slba_of entry) (block_count guest.extent - count_of entry)) within in
-      let some = leb-true (count_of entry) (block_count guest.extent) both.0 in
-      let most = leb-true (slba_of entry) (block_count guest.extent - count_of entry) both.1 in
+      (leb-true (count_of entry) (block_count guest.extent) both.0, leb-true (slba_of entry) (block_count guest.extent - count_of entry) both.1)
+
+  -- its physical entry names them as the disk has them
+  pub entry-starts : has_blocks is.work.opcode ≡ true
+      → slba_of (entry_of plan guest entry geometry.mediator lane tag) ≡ block_at guest.extent (slba_of entry)
+  entry-starts has =
+      let most = (blocks-fit has).1 in
       let disk = (laid.given owner guest given).on_disk in
       let few = laid.few_blocks in
       let list = list_page geometry.mediator lane tag in
       let bounce = bounce_page geometry.mediator lane tag in
       let fits : block_at guest.extent (slba_of entry) < 2 ^ 64 = omega (arith, most, disk, few) in
       let started = λ (prps : Prps). form-start (form_of is.work.opcode) (opcode_of entry) tag prps guest.extent entry has fits in
-      let start : slba_of (entry_of plan guest entry geometry.mediator lane tag) ≡ block_at guest.extent (slba_of entry) =
       planned-kinds (λ p. slba_of (entry_of p guest entry geometry.mediator lane tag) ≡ block_at guest.extent (slba_of entry)) guest entry plan is
       (started (prps_of (NoData is.work) guest list bounce)) (λ direct. started (prps_of (Direct is.work) guest list bounce))
-      (started (prps_of (Bounced is.work) guest list bounce)) in
+      (started (prps_of (Bounced is.work) guest list bounce))
+
+  -- so they are the guest's
+  pub entry-own : has_blocks is.work.opcode ≡ true → AreOwn guest.extent (slba_of (entry_of plan guest entry geometry.mediator lane tag)) (count_of entry)
+  entry-own has =
+      let fit = blocks-fit has in
+      let some = fit.0 in
+      let most = fit.1 in
+      let start = entry-starts has in
       record { from = omega (arith, start); to = omega (arith, start, some, most) }
 
   module _ (h : Held) (host : ℕ → ℕ) (in_device : IsInDevice geometry guest entry plan lane tag host h) (number : ℕ)
