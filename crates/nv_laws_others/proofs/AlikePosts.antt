@@ -87,7 +87,8 @@ module _ (host_bytes : ℕ) (geometry : Geometry) (w z : World) (laid : IsLaidOu
       (λ addr low high.
       own-same geometry number guest w z alike lane tag t addr there (eq-eqb command.guest number whose)
       (ap (λ b. list_any (in_span addr) (cond b (units_shown (Bounced work) [] bounce) [])) good
-      ∙ ap (λ b. list_any (in_span addr) (cond b (map (λ k. (bounce + block * k, block)) (filter (λ k. not (list_any (λ other. other == k) [])) (range_with_len 0 (length work.units)))) [])) reads
+      ∙ ap (λ b. list_any (in_span addr) (cond b (map (λ k. (bounce + block * k, block))
+      (filter (λ k. not (list_any (λ other. other == k) [])) (range_with_len 0 (length work.units)))) [])) reads
       ∙ units-cover addr bounce (length work.units) 0 (omega (arith, low)) (omega (arith, high, many)))) (omega arith) (omega arith)
 
   -- the same is delivered in both, and nothing else changes

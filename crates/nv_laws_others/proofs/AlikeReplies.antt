@@ -316,14 +316,20 @@ module _ (geometry : Geometry) (w z : World) (number : ℕ) (guest : Guest) (giv
   unfolding step
   submit-replies lane tag mine =
       taken-same w z number (tag_of w lane tag) mine
-      (λ command reads. for_owner (owner_of geometry w command.guest) w (λ o. for_device (slice_get w.device lane) w (λ d. submit_by (plan_over o.given command.entry reads) geometry.mediator lane tag command o d w)))
-      (λ command reads. for_owner (owner_of geometry z command.guest) z (λ o. for_device (slice_get z.device lane) z (λ d. submit_by (plan_over o.given command.entry reads) geometry.mediator lane tag command o d z)))
+      (λ command reads.
+      for_owner (owner_of geometry w command.guest) w (λ o. for_device (slice_get w.device lane) w (λ d.
+      submit_by (plan_over o.given command.entry reads) geometry.mediator lane tag command o d w)))
+      (λ command reads.
+      for_owner (owner_of geometry z command.guest) z (λ o. for_device (slice_get z.device lane) z (λ d.
+      submit_by (plan_over o.given command.entry reads) geometry.mediator lane tag command o d z)))
       (λ command reads whose.
       owner-same command.guest whose _ _
       (λ c.
       device-same w z (slice_get w.device lane) (slice_get z.device lane) (rings-same lane) _ _
       (λ d e there again numbers. outcome-replies (plan_over guest command.entry reads) lane tag command (own c) d e)))
-      ∙ ap (λ t. (for_taken t z (λ command reads. for_owner (owner_of geometry z command.guest) z (λ o. for_device (slice_get z.device lane) z (λ d. submit_by (plan_over o.given command.entry reads) geometry.mediator lane tag command o d z)))).reply)
+      ∙ ap (λ t. (for_taken t z (λ command reads.
+      for_owner (owner_of geometry z command.guest) z (λ o. for_device (slice_get z.device lane) z (λ d.
+      submit_by (plan_over o.given command.entry reads) geometry.mediator lane tag command o d z)))).reply)
       (tag-here lane tag mine)
 
   give-up-replies : (lane tag : ℕ) → guest_of_one (tag_of w lane tag) ≡ Some number

@@ -65,8 +65,13 @@ module _ (host_bytes : ℕ) (geometry : Geometry) (w : World) (laid : IsLaidOut 
         area = (λ number guest addr given differ s.
             area-left geometry w host lane tag a.l.head a.l d (rung d) number addr fine a.at_lane device
             (λ at apart below. entered-elsewhere host_bytes (length w.lanes) geometry laid o.given command.entry plan planned lane tag d.tail tag_below before.positions.tail w.host at apart)
-            (λ b x apart b_below here. entered-undisturbed host_bytes (length w.lanes) geometry laid o.given command.entry plan planned lane tag d.tail tag_below before.positions.tail w.host b a.l.head d x apart b_below refl before.positions.head before.positions.tail room)
-            (λ x here. subst (λ y. is_tag_of number (Some y) ≡ false) (some-same (Taken command reads) x (sym a.at_tag ∙ here)) (tag-apart (Some command.guest) number (Taken command reads) refl differ))
+            (λ b x apart b_below here.
+            entered-undisturbed host_bytes (length w.lanes) geometry laid o.given command.entry plan planned lane tag d.tail tag_below
+            before.positions.tail w.host b a.l.head d x apart b_below refl
+            before.positions.head before.positions.tail room)
+            (λ x here.
+            subst (λ y. is_tag_of number (Some y) ≡ false) (some-same (Taken command reads) x (sym a.at_tag ∙ here))
+            (tag-apart (Some command.guest) number (Taken command reads) refl differ))
             s);
         blocks = (λ at offset out. refl);
         marks = (λ at out k. k);
@@ -139,7 +144,9 @@ module _ (host_bytes : ℕ) (geometry : Geometry) (w : World) (laid : IsLaidOut 
         area = (λ number guest addr given differ s.
             area-left geometry w memory lane tag l.head l d (completion_posted tag d) number addr fine at there
             (written-elsewhere geometry (length w.lanes) lane w.host d bytes sized lane_below before.positions.posted)
-            (λ b x apart b_below here. answer-undisturbed geometry (length w.lanes) lane w.host d bytes sized lane_below before.positions.posted b l.head (set d.held tag None) (next_phase d.posted d.phase) x b_below before.positions.read before.positions.head before.positions.tail room)
+            (λ b x apart b_below here.
+            answer-undisturbed geometry (length w.lanes) lane w.host d bytes sized lane_below before.positions.posted b l.head
+            (set d.held tag None) (next_phase d.posted d.phase) x b_below before.positions.read before.positions.head before.positions.tail room)
             (λ x here. subst (λ y. is_tag_of number (Some y) ≡ false) (some-same was x (sym flies ∙ here)) (tag-apart (Some whose) number was refl differ))
             s);
         blocks = (λ x offset out. refl);

@@ -99,7 +99,9 @@ module _ (host_bytes : ℕ) (geometry : Geometry) (lanes : ℕ) (laid : IsLaidOu
               controller = leaves.controllers number differ;
               tags = (λ lane tag. leaves.tags number lane tag differ);
               held = (λ lane tag. leaves.held number lane tag differ);
-              area = (λ addr lies. leaves.area number guest addr given differ (shown-at host_bytes geometry w number guest addr (subst (λ n. IsLaidOut host_bytes n geometry) (sym sized) laid) is given lies));
+              area = (λ addr lies.
+                  leaves.area number guest addr given differ
+                  (shown-at host_bytes geometry w number guest addr (subst (λ n. IsLaidOut host_bytes n geometry) (sym sized) laid) is given lies));
             });
         bytes = leaves.bytes;
         blocks = leaves.blocks;

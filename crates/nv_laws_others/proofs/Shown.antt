@@ -83,10 +83,13 @@ in-units : (addr bounce n from : ℕ) (left : List ℕ)
 in-units addr bounce zero from left e = cc
 in-units addr bounce (suc n) from left e =
     (elim (not (list_any (λ other. other == from) left)) as (λ b.
-    list_any (in_span addr) (map (λ k. (bounce + block * k, block)) (cond b (from ∷ filter (λ k. not (list_any (λ other. other == k) left)) (range_with_len (from + 1) n)) (filter (λ k. not (list_any (λ other. other == k) left)) (range_with_len (from + 1) n)))) ≡ true
+    list_any (in_span addr) (map (λ k. (bounce + block * k, block))
+    (cond b (from ∷ filter (λ k. not (list_any (λ other. other == k) left)) (range_with_len (from + 1) n))
+    (filter (λ k. not (list_any (λ other. other == k) left)) (range_with_len (from + 1) n)))) ≡ true
     → (bounce ≤ addr) × (addr < bounce + block * (from + suc n))) [
       | true ↦ λ any.
-          elim (any-append (in_span addr) ((bounce + block * from, block) ∷ []) (map (λ k. (bounce + block * k, block)) (filter (λ k. not (list_any (λ other. other == k) left)) (range_with_len (from + 1) n))) any) [
+          elim (any-append (in_span addr) ((bounce + block * from, block) ∷ [])
+          (map (λ k. (bounce + block * k, block)) (filter (λ k. not (list_any (λ other. other == k) left)) (range_with_len (from + 1) n))) any) [
             | inl here ↦ (let both = in-one addr (bounce + block * from) block here in let low = both.0 in let high = both.1 in (omega (arith, low), omega (arith, high)))
             | inr later ↦ (let rest = in-units addr bounce n (from + 1) left later in let high = rest.1 in (rest.0, omega (arith, high)))
           ]
@@ -257,6 +260,8 @@ shown-at host_bytes geometry w number guest addr laid is given e =
       own = mine.0;
       bytes =
           tag-bytes geometry lane tag w.host a.l.head a.d a.held t addr (held_in (slice_get w.device lane) tag) (λ at. status_of (completion_at geometry w lane at)) guest laid.pages of_tag
-          (λ command whose. (let same : number ≡ command.guest = some-same number command.guest (sym (own-guest number t mine.0) ∙ whose) in subst (λ n. slice_get geometry.guests n ≡ Some guest) same given))
+          (λ command whose.
+          (let same : number ≡ command.guest = some-same number command.guest (sym (own-guest number t mine.0) ∙ whose) in
+          subst (λ n. slice_get geometry.guests n ≡ Some guest) same given))
           mine.1;
     }

@@ -214,5 +214,9 @@ module _ (host_bytes : ℕ) (geometry : Geometry) (w : World) (laid : IsLaidOut 
       let given = (owner_of-is geometry w command.guest o found).given in
       let own : guest_of_tag (Ended command st plan) ≡ Some o.number = ap (λ n. Some n) (sym whose) in
       either P w nothing (is_enabled o.controller) _ _
-      (λ enabled. of-tag lane tag (Ended command st plan) o.number _ at own (post-found (post o.controller command.queue 0 (cid_of command.entry) st) lane tag command st plan bounce o at whose given))
-      (λ fell. of-tag lane tag (Ended command st plan) o.number _ at own (run_out-leaves (delivered plan st bounce o w) command.queue lane tag command st plan o (delivered-is plan st bounce o given) at whose given)))))
+      (λ enabled.
+      of-tag lane tag (Ended command st plan) o.number _ at own
+      (post-found (post o.controller command.queue 0 (cid_of command.entry) st) lane tag command st plan bounce o at whose given))
+      (λ fell.
+      of-tag lane tag (Ended command st plan) o.number _ at own
+      (run_out-leaves (delivered plan st bounce o w) command.queue lane tag command st plan o (delivered-is plan st bounce o given) at whose given)))))

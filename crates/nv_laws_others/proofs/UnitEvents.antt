@@ -64,8 +64,12 @@ module _ (host_bytes : ℕ) (geometry : Geometry) (w : World) (laid : IsLaidOut 
             ])))));
         area = (λ other guest addr others_given differ s.
             area-left geometry w m.memory lane tag l.head l d (record d { held = set d.held tag (Some (unit_gone number m.differed h)) }) other addr fine at there
-            (moved-elsewhere host_bytes geometry (length w.lanes) lane tag laid lane_below tag_below holds.guest whose given holds.command.entry holds.plan holds.planned h w.host holds.in_device number w.disk w.kept)
-            (λ b x apart b_below here. moved-undisturbed host_bytes geometry (length w.lanes) lane tag laid lane_below tag_below holds.guest whose given holds.command.entry holds.plan holds.planned h w.host holds.in_device number w.disk w.kept b l.head d (set d.held tag (Some (unit_gone number m.differed h))) x apart b_below)
+            (moved-elsewhere host_bytes geometry (length w.lanes) lane tag laid lane_below tag_below holds.guest whose given holds.command.entry holds.plan
+            holds.planned h w.host holds.in_device number w.disk w.kept)
+            (λ b x apart b_below here.
+            moved-undisturbed host_bytes geometry (length w.lanes) lane tag laid lane_below tag_below holds.guest whose given holds.command.entry holds.plan
+            holds.planned h w.host holds.in_device number w.disk w.kept b l.head d
+            (set d.held tag (Some (unit_gone number m.differed h))) x apart b_below)
             (λ x here. subst (λ y. is_tag_of other (Some y) ≡ false) (some-same was x (sym flies ∙ here)) (tag-apart (Some whose) other was refl differ))
             s);
         blocks = (λ x offset out. sym (ap (λ f. f offset) (stays x out).bytes));

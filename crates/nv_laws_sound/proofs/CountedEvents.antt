@@ -68,7 +68,9 @@ module _ (geometry : Geometry) where
       let a = lane-of z lane tag t there in
       subst (IsCounted geometry) (sym (with_tag-is lane tag now z a.l a.at))
       (counted-same geometry z (record z { lanes = set z.lanes lane (tag_changed tag now a.l) }) refl
-      (λ number. same-commands z.lanes lane tag a.l (tag_changed tag now a.l) t now a.at a.found refl z (record z { lanes = set z.lanes lane (tag_changed tag now a.l) }) number refl refl (same number)) is)
+      (λ number.
+      same-commands z.lanes lane tag a.l (tag_changed tag now a.l) t now a.at a.found refl z
+      (record z { lanes = set z.lanes lane (tag_changed tag now a.l) }) number refl refl (same number)) is)
 
   stand-counted : (o : Option Tag) (s : Standing) (lane tag : ℕ) (z : World) → tag_of z lane tag ≡ o → IsCounted geometry z
       → IsCounted geometry (standing_at o s lane tag z)
@@ -163,7 +165,8 @@ module _ (geometry : Geometry) where
   -- ---- takes
 
   -- whose a command is
-  pub owned-by : (number : ℕ) (command : Command) → command.guest ≡ number → member_of number command Unjudged ≡ Some (record { queue = command.queue; entry = command.entry; progress = Unjudged })
+  pub owned-by : (number : ℕ) (command : Command) → command.guest ≡ number
+      → member_of number command Unjudged ≡ Some (record { queue = command.queue; entry = command.entry; progress = Unjudged })
   owned-by number command same = ap (λ b. cond b (Some (record { queue = command.queue; entry = command.entry; progress = Unjudged })) None) (eq-eqb command.guest number same)
 
   others-command : (number : ℕ) (command : Command) → (command.guest ≡ number → ⊥) → member_of number command Unjudged ≡ None

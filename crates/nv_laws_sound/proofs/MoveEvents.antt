@@ -147,7 +147,8 @@ module _ (host_bytes : ℕ) (geometry : Geometry) (lanes lane tag : ℕ) (laid :
       }
     where
       pages_away : (other < tag) ⊎ (tag ≤ other)
-          → (list_page geometry.mediator lane (other + 1) ≤ bounce_page geometry.mediator lane tag) ⊎ (bounce_page geometry.mediator lane tag + most_bytes ≤ list_page geometry.mediator lane other)
+          → (list_page geometry.mediator lane (other + 1) ≤ bounce_page geometry.mediator lane tag)
+          ⊎ (bounce_page geometry.mediator lane tag + most_bytes ≤ list_page geometry.mediator lane other)
       pages_away (inl less) = inl (omega (arith, less))
       pages_away (inr most) = inr (more (cases_eq other tag) most)
         where
@@ -236,7 +237,8 @@ module _ (host_bytes : ℕ) (geometry : Geometry) where
           held = length-set d.held tag (Some (unit_gone number differed h)) ∙ is.positions.held;
         };
         tags =
-            subst (λ tags. (other : ℕ) (x : Tag) (o : Option Held) → slice_get tags other ≡ Some x → slice_get (set d.held tag (Some (unit_gone number differed h))) other ≡ Some o → IsTag geometry lane other memory l.head now o x)
+            subst (λ tags. (other : ℕ) (x : Tag) (o : Option Held) → slice_get tags other ≡ Some x
+            → slice_get (set d.held tag (Some (unit_gone number differed h))) other ≡ Some o → IsTag geometry lane other memory l.head now o x)
             (set-same l.tags tag t at)
             (tags-with (λ other o x. IsTag geometry lane other memory l.head now o x) l.tags d.held tag t (Some (unit_gone number differed h)) own
             (λ other x o apart here under.

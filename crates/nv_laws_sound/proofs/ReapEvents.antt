@@ -109,7 +109,8 @@ module _ (geometry : Geometry) (lane : ℕ) (host : ℕ → ℕ) (l : Lane) (d :
           held = is.positions.held;
         };
         tags =
-            subst (λ helds. (other : ℕ) (x : Tag) (o : Option Held) → slice_get (set l.tags tag (Ended command st (Some plan))) other ≡ Some x → slice_get helds other ≡ Some o → IsTag geometry lane other host (next_slot ring_size l.head) d o x)
+            subst (λ helds. (other : ℕ) (x : Tag) (o : Option Held) → slice_get (set l.tags tag (Ended command st (Some plan))) other ≡ Some x
+            → slice_get helds other ≡ Some o → IsTag geometry lane other host (next_slot ring_size l.head) d o x)
             (set-same d.held tag None under)
             (tags-with (λ other o x. IsTag geometry lane other host (next_slot ring_size l.head) d o x) l.tags d.held tag (Ended command st (Some plan)) None
             (record { guest = guest; is = whose; planned = planned; not_held = refl })

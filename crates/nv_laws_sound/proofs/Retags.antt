@@ -112,7 +112,8 @@ lane-retagged geometry lane tag host l d t now held is at under was nowhere new 
         held = is.positions.held;
       };
       tags =
-          subst (λ helds. (other : ℕ) (x : Tag) (h : Option Held) → slice_get (set l.tags tag now) other ≡ Some x → slice_get helds other ≡ Some h → IsTag geometry lane other host l.head d h x)
+          subst (λ helds. (other : ℕ) (x : Tag) (h : Option Held) → slice_get (set l.tags tag now) other ≡ Some x
+          → slice_get helds other ≡ Some h → IsTag geometry lane other host l.head d h x)
           (set-same d.held tag held under)
           (tags-with (λ other h x. IsTag geometry lane other host l.head d h x) l.tags d.held tag now held new (λ other x h apart there. is.tags other x h there));
       queued = (λ slot between. stands-kept (is_queued_at slot) l.tags tag t now at (was (is_queued_at slot)) (is.queued slot between));

@@ -168,7 +168,9 @@ module _ (host_bytes lanes : ℕ) (geometry : Geometry) (laid : IsLaidOut host_b
       → IsUndisturbed geometry.mediator lane other host entered head head d (rung d) t
   entered-undisturbed other head d t apart other_below here low high room =
       record {
-        pages = entered-same (list_page geometry.mediator lane other) (list_page geometry.mediator lane (other + 1)) (inr (omega (arith, slot_below))) (off_pages (cases_lt other tag) (cases_eq other tag));
+        pages =
+            entered-same (list_page geometry.mediator lane other) (list_page geometry.mediator lane (other + 1))
+            (inr (omega (arith, slot_below))) (off_pages (cases_lt other tag) (cases_eq other tag));
         queued = (λ place stands between. (
           between-more d.head d.tail place low high room between,
           entered-same (submission_slot geometry.mediator lane place) (submission_slot geometry.mediator lane (place + 1)) (off_slot place between (cases_lt place slot) (cases_eq place slot))
@@ -266,7 +268,8 @@ module _ (host_bytes lanes : ℕ) (geometry : Geometry) (laid : IsLaidOut host_b
           held = is.positions.held;
         };
         tags =
-            subst (λ helds. (other : ℕ) (x : Tag) (o : Option Held) → slice_get (set l.tags tag handed_on) other ≡ Some x → slice_get helds other ≡ Some o → IsTag geometry lane other memory l.head (rung d) o x)
+            subst (λ helds. (other : ℕ) (x : Tag) (o : Option Held) → slice_get (set l.tags tag handed_on) other ≡ Some x
+            → slice_get helds other ≡ Some o → IsTag geometry lane other memory l.head (rung d) o x)
             (set-same d.held tag None under)
             (tags-with (λ other o x. IsTag geometry lane other memory l.head (rung d) o x) l.tags d.held tag handed_on None own-tag other-tag);
         queued = (λ place between. entries place between (cases_eq place d.tail));
