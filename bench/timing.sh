@@ -17,11 +17,14 @@ if [[ -n $peer && ! -x $peer ]]; then
     exit 2
 fi
 
+# The word of the program that runs the scripts; a benchmark may set another.
+word=once
+
 # Runs the script in `$room/script` with a program, and keeps what it printed in a file. Prints how long it took, in nanoseconds.
 one_run() {
     local start end
     start=$(date +%s%N)
-    "$1" once <"$room/script" >"$2"
+    "$1" "$word" <"$room/script" >"$2"
     end=$(date +%s%N)
     printf '%s' $((end - start))
 }

@@ -3,6 +3,7 @@ ghost use Rattle.std.specs.Prelude.{OnOk};
 ghost use Rattle.std.specs.Io.KnownBytes.{Appends};
 ghost use Rattle.nv_replay.specs.Shown.{count_line, reply_line, reply_text};
 
+use itoa::Buffer;
 use nv_model::Reply;
 use nv_print::{CannotWrite, print_dump, print_text};
 use std::io::Write;
@@ -11,7 +12,9 @@ use std::io::Write;
 pub fn print_reply<W: Write>(number: u64, reply: &Reply, output: &mut W) -> Result<(), CannotWrite>
     ensures { OnOk result (Appends (W.contents output.old) (W.contents output.new) (reply_line number reply.now)) }
 {
-    write!(output, "{number} ")?;
+    let mut digits = Buffer::new();
+    print_text(digits.format(number).as_bytes(), output)?;
+    print_text(b" ", output)?;
     print_answer(reply, output)
 }
 

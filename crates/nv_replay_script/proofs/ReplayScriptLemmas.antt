@@ -1,11 +1,11 @@
 -- Lines one after another
 use Rattle.std.proofs.Common.{◌≡◌, ℕ, ◌+◌, ◌<◌, ◌≤◌, Bool, true, false, ltb, List, [], ◌∷◌, ◌++◌, length, get_or, set, drop, Result, Ok, Err, refl, sym, ap, ◌∙◌, arith, inl, inr, ◌⊎◌}
 use Rattle.std.specs.Option.{ok_or}
-use Rattle.std.specs.Prelude.{map, MatchResult}
+use Rattle.std.specs.Prelude.{map, MatchResult, Option, Some, None}
 use Rattle.std.proofs.lemmas.List.{drop_more, drop_all, get_or-map, length-map, map-set}
 use Rattle.std.proofs.lemmas.Bool.Decides.{nat_tests}
 use Rattle.nv_script.specs.declared.once.fault.FaultKind.{FaultKind}
-use Rattle.nv_script.specs.declared.once.fault.FaultKind.TheVariants.{UnknownWord}
+use Rattle.nv_script.specs.declared.once.fault.FaultKind.TheVariants.{OutOfPlace, UnknownWord}
 use Rattle.nv_script.specs.declared.once.fault.LineFault.{LineFault}
 use Rattle.nv_script.specs.declared.once.fault.LineFault.TheVariants.{Faulty, NoMemory}
 use Rattle.nv_script.specs.declared.once.fault.ScriptFault.{ScriptFault}
@@ -18,10 +18,15 @@ use Rattle.nv_mem.specs.declared.region.Region.{Region}
 use Rattle.nv_script.specs.OnceNumber.{number_up_to}
 use Rattle.nv_replay_script.specs.declared.set_up.GuestSetUp.{GuestSetUp}
 use Rattle.nv_replay_script.specs.declared.script.Script.{Script}
+use Rattle.nv_world_model.specs.declared.event.Event.{Event}
+use Rattle.nv_replay_script.specs.declared.sizes.Sizes.{Sizes}
+use Rattle.nv_replay_script.specs.declared.vocabulary.EventKind.{EventKind}
 use Rattle.nv_replay_script.specs.declared.vocabulary.Keyword.{Keyword}
-use Rattle.nv_replay_script.specs.ReplayScript.{Progress, add_map, is_early, with_region, after_keyword, after_line, after_lines, finished, nothing, script_of, script_value}
-use Rattle.nv_replay_script.specs.ReplaySetUp.{GuestValue, guest_value, in_place, known_guest, region_of}
-use Rattle.nv_replay_script.specs.ReplayVocabulary.{arguments_of, keyword_of}
+use Rattle.nv_replay_script.specs.declared.vocabulary.Keyword.TheVariants as keyword
+use Rattle.nv_replay_script.specs.ReplayEvents.{counted_event, event_of}
+use Rattle.nv_replay_script.specs.ReplayScript.{Progress, add_map, is_early, with_region, after_counted, after_keyword, after_line, after_lines, finished, nothing, script_of, script_value}
+use Rattle.nv_replay_script.specs.ReplaySetUp.{GuestValue, guest_value, in_place, known_guest, region_of, sizes_in}
+use Rattle.nv_replay_script.specs.ReplayVocabulary.{event_arguments, keyword_of}
 
 -- ---- the set-up
 
@@ -87,19 +92,49 @@ pub after_line-unknown : (p : Progress) (words : List (List ℕ)) (first : List 
 unfolding after_line
 after_line-unknown p words first rest kind e unknown = rw (e, unknown) refl
 
-pub after_line-miscounted : (p : Progress) (words : List (List ℕ)) (first : List ℕ) (rest : List (List ℕ)) (k : Keyword) (kind : FaultKind)
-    → words ≡ first ∷ rest
-    → ok_or (keyword_of first) UnknownWord ≡ Ok k → count_check (length rest) (arguments_of k) ≡ Err kind
-    → after_line p words ≡ Err kind
+pub after_line-known : (p : Progress) (words : List (List ℕ)) (first : List ℕ) (rest : List (List ℕ)) (k : Keyword)
+    → words ≡ first ∷ rest → ok_or (keyword_of first) UnknownWord ≡ Ok k → after_line p words ≡ after_counted p k rest
 unfolding after_line
-after_line-miscounted p words first rest k kind e known wrong = rw (e, known, wrong) refl
+after_line-known p words first rest k e known = rw (e, known) refl
 
-pub after_line-known : (p : Progress) (words : List (List ℕ)) (first : List ℕ) (rest : List (List ℕ)) (k : Keyword) (u : Unit {0})
-    → words ≡ first ∷ rest
-    → ok_or (keyword_of first) UnknownWord ≡ Ok k → count_check (length rest) (arguments_of k) ≡ Ok u
-    → after_line p words ≡ after_keyword p k rest
-unfolding after_line
-after_line-known p words first rest k u e known right = rw (e, known, right) refl
+-- ---- an event
+
+abbrev added : Progress → Event → Result Progress FaultKind
+added p event = Ok (record p { events = p.events ++ event ∷ [] })
+
+made-at : (c : Result (Unit {0}) FaultKind) (e : Result Event FaultKind) (p : Progress) (event : Event)
+    → (c >>= λ u. e) ≡ Ok event → (c >>= λ u. (e >>= added p)) ≡ added p event
+made-at (Ok u) e p event h = ap (λ (r : Result Event FaultKind). r >>= added p) h
+made-at (Err kind) e p event h = ap (λ (r : Result Event FaultKind). r >>= added p) h
+
+refused-at : (c : Result (Unit {0}) FaultKind) (e : Result Event FaultKind) (p : Progress) (refusal : LineFault)
+    → Refuses (c >>= λ u. e) refusal → Refuses (c >>= λ u. (e >>= added p)) refusal
+refused-at (Ok u) e p (Faulty kind) h = ap (λ (r : Result Event FaultKind). r >>= added p) h
+refused-at (Err k) e p (Faulty kind) h = ap (λ (r : Result Event FaultKind). r >>= added p) h
+refused-at c e p NoMemory h = h
+
+-- an event joins those before it
+pub after_counted-made : (p : Progress) (kind : EventKind) (words : List (List ℕ)) (sizes : Sizes) (event : Event)
+    → sizes_in p.sizes ≡ Some sizes → counted_event kind words ≡ Ok event
+    → after_counted p (keyword.Event kind) words ≡ Ok (record p { events = p.events ++ event ∷ [] })
+unfolding after_keyword
+after_counted-made p kind words sizes event there made =
+    rw there (made-at (count_check (length words) (event_arguments kind)) (event_of kind words) p event made)
+
+-- no event is made
+pub after_counted-refused : (p : Progress) (kind : EventKind) (words : List (List ℕ)) (sizes : Sizes) (refusal : LineFault)
+    → sizes_in p.sizes ≡ Some sizes → Refuses (counted_event kind words) refusal
+    → Refuses (after_counted p (keyword.Event kind) words) refusal
+unfolding after_keyword
+after_counted-refused p kind words sizes refusal there refused =
+    rw there (refused-at (count_check (length words) (event_arguments kind)) (event_of kind words) p refusal refused)
+
+-- an event stands where sizes are still wanting
+pub after_counted-misplaced : (p : Progress) (kind : EventKind) (words : List (List ℕ)) (u : Unit {0})
+    → count_check (length words) (event_arguments kind) ≡ Ok u → sizes_in p.sizes ≡ None
+    → after_counted p (keyword.Event kind) words ≡ Err OutOfPlace
+unfolding after_keyword
+after_counted-misplaced p kind words u counted none = rw (counted, none) refl
 
 -- ---- a script
 

@@ -1,5 +1,5 @@
 -- One event, as a line writes it (profile)
-use Rattle.std.specs.Prelude.{ℕ, ◌==◌, List, [], ◌∷◌, replicate, Result, Ok, Err}
+use Rattle.std.specs.Prelude.{ℕ, ◌==◌, List, [], ◌∷◌, length, replicate, Result, Ok, Err}
 use Rattle.nv_entry.specs.Status.{StatusField, status}
 use Rattle.nv_model.specs.declared.act.Act.TheVariants as act
 use Rattle.nv_world_model.specs.declared.event.Event.{Event}
@@ -9,8 +9,10 @@ use Rattle.nv_script.specs.declared.once.fault.FaultKind.TheVariants.{OutOfPlace
 use Rattle.nv_script.specs.OnceFault.{◌>>=◌}
 use Rattle.nv_script.specs.OnceLimits.{longest_fill}
 use Rattle.nv_script.specs.OnceNumber.{bytes_of, number_of, number_up_to}
+use Rattle.nv_script.specs.OnceVocabulary.{count_check}
 use Rattle.nv_replay_script.specs.declared.vocabulary.EventKind.{EventKind}
 use Rattle.nv_replay_script.specs.declared.vocabulary.EventKind.TheVariants as kind
+use Rattle.nv_replay_script.specs.ReplayVocabulary.{event_arguments}
 
 -- numbers of 8, 16 and 32 bits
 abbrev pub byte_of : List ℕ → Result ℕ FaultKind
@@ -112,3 +114,9 @@ event_of kind.Post (lane ∷ tag ∷ []) = do
   t ← byte_of tag
   Ok (event.Post l t)
 event_of kind words = Err OutOfPlace
+
+-- the same, of words that are as many as that kind wants
+abbrev pub counted_event : EventKind → List (List ℕ) → Result Event FaultKind
+counted_event kind words = do
+  counted ← count_check (length words) (event_arguments kind)
+  event_of kind words

@@ -95,13 +95,18 @@ after_keyword so_far keyword.Map (number ∷ guest ∷ host ∷ len ∷ []) = ad
 after_keyword so_far (keyword.Event kind) words = add_event so_far kind words
 after_keyword so_far keyword words = Err OutOfPlace
 
+-- the same, of words that are as many as that line wants
+abbrev pub after_counted : Progress → Keyword → List (List ℕ) → Result Progress FaultKind
+after_counted so_far keyword words = do
+  counted ← count_check (length words) (arguments_of keyword)
+  after_keyword so_far keyword words
+
 -- what a line of these words adds: a line with no words adds nothing
 unfoldable pub after_line : Progress → List (List ℕ) → Result Progress FaultKind
 after_line so_far [] = Ok so_far
 after_line so_far (first ∷ words) = do
   keyword ← ok_or (keyword_of first) UnknownWord
-  counted ← count_check (length words) (arguments_of keyword)
-  after_keyword so_far keyword words
+  after_counted so_far keyword words
 
 -- what lines from line n on add
 unfoldable pub after_lines : ℕ → Progress → List (List ℕ) → Result Progress ScriptFault

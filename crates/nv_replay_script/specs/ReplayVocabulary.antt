@@ -8,20 +8,21 @@ use Rattle.nv_replay_script.specs.declared.vocabulary.Size.TheVariants.{Host, Me
 use Rattle.nv_replay_script.specs.declared.vocabulary.Keyword.{Keyword}
 use Rattle.nv_replay_script.specs.declared.vocabulary.Keyword.TheVariants.{Size, Guest, Map, Event, Foreign}
 
--- the first words, and the lines that they begin. A line of another subcommand keeps only how many words stand behind its
--- first; of `store` and `fill` it is the count of `replay`.
+-- the first words, and the lines that they begin: events first, since a script has mostly these. A line of another
+-- subcommand keeps only how many words stand behind its first; of `store` and `fill` it is the count of `replay`.
 unfoldable pub vocabulary : List (List ℕ × Keyword)
 vocabulary =
-    (codes "host", Size Host) ∷ (codes "mediator", Size Mediator) ∷ (codes "disk", Size Disk) ∷ (codes "lanes", Size Lanes)
-    ∷ (codes "guest", Guest) ∷ (codes "map", Map)
-    ∷ (codes "store", Event kind.Store) ∷ (codes "fill", Event kind.Fill) ∷ (codes "load", Event kind.Load)
-    ∷ (codes "regread", Event kind.RegRead) ∷ (codes "regwrite", Event kind.RegWrite) ∷ (codes "bell", Event kind.Bell)
-    ∷ (codes "admin", Event kind.Admin) ∷ (codes "take", Event kind.Take) ∷ (codes "list", Event kind.List)
-    ∷ (codes "submit", Event kind.Submit) ∷ (codes "giveup", Event kind.GiveUp) ∷ (codes "devtake", Event kind.DevTake)
-    ∷ (codes "devmove", Event kind.DevMove) ∷ (codes "devpost", Event kind.DevPost) ∷ (codes "devfail", Event kind.DevFail)
-    ∷ (codes "keep", Event kind.Keep) ∷ (codes "reap", Event kind.Reap) ∷ (codes "post", Event kind.Post)
-    ∷ (codes "await", Foreign 3) ∷ (codes "awaitreg", Foreign 3) ∷ (codes "memory", Foreign 1) ∷ (codes "blocks", Foreign 1)
-    ∷ (codes "paint", Foreign 2) ∷ (codes "cmd", Foreign 1) ∷ (codes "dump", Foreign 2) ∷ (codes "block", Foreign 1)
+    (codes "devmove", Event kind.DevMove) ∷ (codes "devtake", Event kind.DevTake)
+    ∷ (codes "devpost", Event kind.DevPost) ∷ (codes "reap", Event kind.Reap) ∷ (codes "post", Event kind.Post)
+    ∷ (codes "bell", Event kind.Bell) ∷ (codes "store", Event kind.Store) ∷ (codes "take", Event kind.Take)
+    ∷ (codes "submit", Event kind.Submit) ∷ (codes "list", Event kind.List) ∷ (codes "load", Event kind.Load)
+    ∷ (codes "regread", Event kind.RegRead) ∷ (codes "regwrite", Event kind.RegWrite)
+    ∷ (codes "admin", Event kind.Admin) ∷ (codes "fill", Event kind.Fill) ∷ (codes "giveup", Event kind.GiveUp)
+    ∷ (codes "devfail", Event kind.DevFail) ∷ (codes "keep", Event kind.Keep) ∷ (codes "host", Size Host)
+    ∷ (codes "mediator", Size Mediator) ∷ (codes "disk", Size Disk) ∷ (codes "lanes", Size Lanes)
+    ∷ (codes "guest", Guest) ∷ (codes "map", Map) ∷ (codes "await", Foreign 3) ∷ (codes "awaitreg", Foreign 3)
+    ∷ (codes "memory", Foreign 1) ∷ (codes "blocks", Foreign 1) ∷ (codes "paint", Foreign 2)
+    ∷ (codes "cmd", Foreign 1) ∷ (codes "dump", Foreign 2) ∷ (codes "block", Foreign 1)
     ∷ []
 
 -- the line that a first word begins

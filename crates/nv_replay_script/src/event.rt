@@ -1,8 +1,7 @@
 //! The events behind the set-up.
-ghost use Rattle.std.specs.Prelude.{◌≡◌, ◌∷◌, [], length, replicate, IfOk, MatchResult};
+ghost use Rattle.std.specs.Prelude.{◌≡◌, replicate, IfOk, MatchResult};
 ghost use Rattle.nv_script.specs.OnceFault.{Refuses};
-ghost use Rattle.nv_replay_script.specs.ReplayEvents.{event_of};
-ghost use Rattle.nv_replay_script.specs.ReplayVocabulary.{event_arguments};
+ghost use Rattle.nv_replay_script.specs.ReplayEvents.{counted_event};
 ghost use Rattle.nv_replay_script.specs.declared.vocabulary.EventKind.TheVariants as kind;
 
 use crate::numbers::{dword, status, word};
@@ -18,61 +17,39 @@ use std::alloc::{AllocError, Global};
 /// The most bytes that one `fill` line writes.
 const FILL_MAX: u64 = 131_072;
 
-/// Makes the event of this kind and the words behind it.
-pub fn make_event(alloc: Global, kind: EventKind, mut words: Words<'_>) -> Result<Event, LineFault>
-    requires { length words ≡ event_arguments kind }
-    ensures { let event = event_of kind words.entry
+/// Makes the event of this kind and the words behind it, where they are as many as it wants.
+pub fn make_event(alloc: Global, kind: EventKind, words: Words<'_>) -> Result<Event, LineFault>
+    ensures { let event = counted_event kind words.entry
         in MatchResult result (λ made. event ≡ Ok made) (Refuses event) }
 {
     match kind {
-        EventKind::Store => store(
-            alloc,
-            words.next_word(),
-            words.next_word(),
-            words.next_word(),
-        ),
-        EventKind::Fill => fill(
-            alloc,
-            words.next_word(),
-            words.next_word(),
-            words.next_word(),
-            words.next_word(),
-        ),
-        EventKind::Load => load(words.next_word(), words.next_word(), words.next_word()),
-        EventKind::RegRead => reg_read(words.next_word(), words.next_word()),
-        EventKind::RegWrite => reg_write(words.next_word(), words.next_word(), words.next_word()),
-        EventKind::Bell => bell(words.next_word(), words.next_word(), words.next_word()),
-        EventKind::Admin => admin(words.next_word()),
-        EventKind::Take => take(words.next_word(), words.next_word(), words.next_word()),
-        EventKind::List => list(
-            words.next_word(),
-            words.next_word(),
-            words.next_word(),
-            words.next_word(),
-        ),
-        EventKind::Submit => submit(words.next_word(), words.next_word()),
-        EventKind::GiveUp => give_up(words.next_word(), words.next_word()),
-        EventKind::DevTake => dev_take(words.next_word()),
-        EventKind::DevMove => dev_move(words.next_word(), words.next_word(), words.next_word()),
-        EventKind::DevPost => dev_post(words.next_word(), words.next_word()),
-        EventKind::DevFail => dev_fail(
-            words.next_word(),
-            words.next_word(),
-            words.next_word(),
-            words.next_word(),
-            words.next_word(),
-        ),
-        EventKind::Keep => keep(words.next_word()),
-        EventKind::Reap => reap(words.next_word()),
-        EventKind::Post => post(words.next_word(), words.next_word()),
+        EventKind::Store => store(alloc, words),
+        EventKind::Fill => fill(alloc, words),
+        EventKind::Load => load(words),
+        EventKind::RegRead => reg_read(words),
+        EventKind::RegWrite => reg_write(words),
+        EventKind::Bell => bell(words),
+        EventKind::Admin => admin(words),
+        EventKind::Take => take(words),
+        EventKind::List => list(words),
+        EventKind::Submit => submit(words),
+        EventKind::GiveUp => give_up(words),
+        EventKind::DevTake => dev_take(words),
+        EventKind::DevMove => dev_move(words),
+        EventKind::DevPost => dev_post(words),
+        EventKind::DevFail => dev_fail(words),
+        EventKind::Keep => keep(words),
+        EventKind::Reap => reap(words),
+        EventKind::Post => post(words),
     }
 }
 
 // The line `store`, made of its words.
-fn store(alloc: Global, guest: &[u8], addr: &[u8], digits: &[u8]) -> Result<Event, LineFault>
-    ensures { let event = event_of kind.Store (guest.now ∷ addr.now ∷ digits.now ∷ [])
+fn store(alloc: Global, words: Words<'_>) -> Result<Event, LineFault>
+    ensures { let event = counted_event kind.Store words.entry
         in MatchResult result (λ made. event ≡ Ok made) (Refuses event) }
 {
+    let (guest, addr, digits) = words.three()?;
     let guest = byte(guest)?;
     let addr = number(addr)?;
     let bytes = Bytes::new(bytes(alloc, digits)?);
@@ -80,16 +57,11 @@ fn store(alloc: Global, guest: &[u8], addr: &[u8], digits: &[u8]) -> Result<Even
 }
 
 // The line `fill`, made of its words.
-fn fill(
-    alloc: Global,
-    guest: &[u8],
-    addr: &[u8],
-    len: &[u8],
-    value: &[u8],
-) -> Result<Event, LineFault>
-    ensures { let event = event_of kind.Fill (guest.now ∷ addr.now ∷ len.now ∷ value.now ∷ [])
+fn fill(alloc: Global, words: Words<'_>) -> Result<Event, LineFault>
+    ensures { let event = counted_event kind.Fill words.entry
         in MatchResult result (λ made. event ≡ Ok made) (Refuses event) }
 {
+    let (guest, addr, len, value) = words.four()?;
     let guest = byte(guest)?;
     let addr = number(addr)?;
     let len = up_to(len, FILL_MAX)?;
@@ -99,10 +71,11 @@ fn fill(
 }
 
 // The line `load`, made of its words.
-fn load(guest: &[u8], addr: &[u8], len: &[u8]) -> Result<Event, LineFault>
-    ensures { let event = event_of kind.Load (guest.now ∷ addr.now ∷ len.now ∷ [])
+fn load(words: Words<'_>) -> Result<Event, LineFault>
+    ensures { let event = counted_event kind.Load words.entry
         in MatchResult result (λ made. event ≡ Ok made) (Refuses event) }
 {
+    let (guest, addr, len) = words.three()?;
     let guest = byte(guest)?;
     let addr = number(addr)?;
     let len = number(len)?;
@@ -110,20 +83,22 @@ fn load(guest: &[u8], addr: &[u8], len: &[u8]) -> Result<Event, LineFault>
 }
 
 // The line `regread`, made of its words.
-fn reg_read(guest: &[u8], offset: &[u8]) -> Result<Event, LineFault>
-    ensures { let event = event_of kind.RegRead (guest.now ∷ offset.now ∷ [])
+fn reg_read(words: Words<'_>) -> Result<Event, LineFault>
+    ensures { let event = counted_event kind.RegRead words.entry
         in MatchResult result (λ made. event ≡ Ok made) (Refuses event) }
 {
+    let (guest, offset) = words.two()?;
     let guest = byte(guest)?;
     let offset = dword(offset)?;
     Ok(Event::Guest(guest, Act::RegRead { offset }))
 }
 
 // The line `regwrite`, made of its words.
-fn reg_write(guest: &[u8], offset: &[u8], value: &[u8]) -> Result<Event, LineFault>
-    ensures { let event = event_of kind.RegWrite (guest.now ∷ offset.now ∷ value.now ∷ [])
+fn reg_write(words: Words<'_>) -> Result<Event, LineFault>
+    ensures { let event = counted_event kind.RegWrite words.entry
         in MatchResult result (λ made. event ≡ Ok made) (Refuses event) }
 {
+    let (guest, offset, value) = words.three()?;
     let guest = byte(guest)?;
     let offset = dword(offset)?;
     let value = dword(value)?;
@@ -131,10 +106,11 @@ fn reg_write(guest: &[u8], offset: &[u8], value: &[u8]) -> Result<Event, LineFau
 }
 
 // The line `bell`, made of its words.
-fn bell(guest: &[u8], offset: &[u8], value: &[u8]) -> Result<Event, LineFault>
-    ensures { let event = event_of kind.Bell (guest.now ∷ offset.now ∷ value.now ∷ [])
+fn bell(words: Words<'_>) -> Result<Event, LineFault>
+    ensures { let event = counted_event kind.Bell words.entry
         in MatchResult result (λ made. event ≡ Ok made) (Refuses event) }
 {
+    let (guest, offset, value) = words.three()?;
     let guest = byte(guest)?;
     let offset = dword(offset)?;
     let value = dword(value)?;
@@ -142,19 +118,21 @@ fn bell(guest: &[u8], offset: &[u8], value: &[u8]) -> Result<Event, LineFault>
 }
 
 // The line `admin`, made of its words.
-fn admin(guest: &[u8]) -> Result<Event, LineFault>
-    ensures { let event = event_of kind.Admin (guest.now ∷ [])
+fn admin(words: Words<'_>) -> Result<Event, LineFault>
+    ensures { let event = counted_event kind.Admin words.entry
         in MatchResult result (λ made. event ≡ Ok made) (Refuses event) }
 {
+    let guest = words.one()?;
     let guest = byte(guest)?;
     Ok(Event::Admin(guest))
 }
 
 // The line `take`, made of its words.
-fn take(guest: &[u8], queue: &[u8], lane: &[u8]) -> Result<Event, LineFault>
-    ensures { let event = event_of kind.Take (guest.now ∷ queue.now ∷ lane.now ∷ [])
+fn take(words: Words<'_>) -> Result<Event, LineFault>
+    ensures { let event = counted_event kind.Take words.entry
         in MatchResult result (λ made. event ≡ Ok made) (Refuses event) }
 {
+    let (guest, queue, lane) = words.three()?;
     let guest = byte(guest)?;
     let queue = word(queue)?;
     let lane = byte(lane)?;
@@ -162,10 +140,11 @@ fn take(guest: &[u8], queue: &[u8], lane: &[u8]) -> Result<Event, LineFault>
 }
 
 // The line `list`, made of its words.
-fn list(lane: &[u8], tag: &[u8], addr: &[u8], len: &[u8]) -> Result<Event, LineFault>
-    ensures { let event = event_of kind.List (lane.now ∷ tag.now ∷ addr.now ∷ len.now ∷ [])
+fn list(words: Words<'_>) -> Result<Event, LineFault>
+    ensures { let event = counted_event kind.List words.entry
         in MatchResult result (λ made. event ≡ Ok made) (Refuses event) }
 {
+    let (lane, tag, addr, len) = words.four()?;
     let lane = byte(lane)?;
     let tag = byte(tag)?;
     let addr = number(addr)?;
@@ -174,39 +153,43 @@ fn list(lane: &[u8], tag: &[u8], addr: &[u8], len: &[u8]) -> Result<Event, LineF
 }
 
 // The line `submit`, made of its words.
-fn submit(lane: &[u8], tag: &[u8]) -> Result<Event, LineFault>
-    ensures { let event = event_of kind.Submit (lane.now ∷ tag.now ∷ [])
+fn submit(words: Words<'_>) -> Result<Event, LineFault>
+    ensures { let event = counted_event kind.Submit words.entry
         in MatchResult result (λ made. event ≡ Ok made) (Refuses event) }
 {
+    let (lane, tag) = words.two()?;
     let lane = byte(lane)?;
     let tag = byte(tag)?;
     Ok(Event::Submit(lane, tag))
 }
 
 // The line `giveup`, made of its words.
-fn give_up(lane: &[u8], tag: &[u8]) -> Result<Event, LineFault>
-    ensures { let event = event_of kind.GiveUp (lane.now ∷ tag.now ∷ [])
+fn give_up(words: Words<'_>) -> Result<Event, LineFault>
+    ensures { let event = counted_event kind.GiveUp words.entry
         in MatchResult result (λ made. event ≡ Ok made) (Refuses event) }
 {
+    let (lane, tag) = words.two()?;
     let lane = byte(lane)?;
     let tag = byte(tag)?;
     Ok(Event::GiveUp(lane, tag))
 }
 
 // The line `devtake`, made of its words.
-fn dev_take(lane: &[u8]) -> Result<Event, LineFault>
-    ensures { let event = event_of kind.DevTake (lane.now ∷ [])
+fn dev_take(words: Words<'_>) -> Result<Event, LineFault>
+    ensures { let event = counted_event kind.DevTake words.entry
         in MatchResult result (λ made. event ≡ Ok made) (Refuses event) }
 {
+    let lane = words.one()?;
     let lane = byte(lane)?;
     Ok(Event::DevTake(lane))
 }
 
 // The line `devmove`, made of its words.
-fn dev_move(lane: &[u8], slot: &[u8], unit: &[u8]) -> Result<Event, LineFault>
-    ensures { let event = event_of kind.DevMove (lane.now ∷ slot.now ∷ unit.now ∷ [])
+fn dev_move(words: Words<'_>) -> Result<Event, LineFault>
+    ensures { let event = counted_event kind.DevMove words.entry
         in MatchResult result (λ made. event ≡ Ok made) (Refuses event) }
 {
+    let (lane, slot, unit) = words.three()?;
     let lane = byte(lane)?;
     let slot = byte(slot)?;
     let unit = number(unit)?;
@@ -214,20 +197,22 @@ fn dev_move(lane: &[u8], slot: &[u8], unit: &[u8]) -> Result<Event, LineFault>
 }
 
 // The line `devpost`, made of its words.
-fn dev_post(lane: &[u8], slot: &[u8]) -> Result<Event, LineFault>
-    ensures { let event = event_of kind.DevPost (lane.now ∷ slot.now ∷ [])
+fn dev_post(words: Words<'_>) -> Result<Event, LineFault>
+    ensures { let event = counted_event kind.DevPost words.entry
         in MatchResult result (λ made. event ≡ Ok made) (Refuses event) }
 {
+    let (lane, slot) = words.two()?;
     let lane = byte(lane)?;
     let slot = byte(slot)?;
     Ok(Event::DevPost(lane, slot))
 }
 
 // The line `devfail`, made of its words.
-fn dev_fail(lane: &[u8], slot: &[u8], sct: &[u8], sc: &[u8], dnr: &[u8]) -> Result<Event, LineFault>
-    ensures { let event = event_of kind.DevFail (lane.now ∷ slot.now ∷ sct.now ∷ sc.now ∷ dnr.now ∷ [])
+fn dev_fail(words: Words<'_>) -> Result<Event, LineFault>
+    ensures { let event = counted_event kind.DevFail words.entry
         in MatchResult result (λ made. event ≡ Ok made) (Refuses event) }
 {
+    let (lane, slot, sct, sc, dnr) = words.five()?;
     let lane = byte(lane)?;
     let slot = byte(slot)?;
     let status = status(sct, sc, dnr)?;
@@ -235,28 +220,31 @@ fn dev_fail(lane: &[u8], slot: &[u8], sct: &[u8], sc: &[u8], dnr: &[u8]) -> Resu
 }
 
 // The line `keep`, made of its words.
-fn keep(block: &[u8]) -> Result<Event, LineFault>
-    ensures { let event = event_of kind.Keep (block.now ∷ [])
+fn keep(words: Words<'_>) -> Result<Event, LineFault>
+    ensures { let event = counted_event kind.Keep words.entry
         in MatchResult result (λ made. event ≡ Ok made) (Refuses event) }
 {
+    let block = words.one()?;
     let block = number(block)?;
     Ok(Event::Keep(block))
 }
 
 // The line `reap`, made of its words.
-fn reap(lane: &[u8]) -> Result<Event, LineFault>
-    ensures { let event = event_of kind.Reap (lane.now ∷ [])
+fn reap(words: Words<'_>) -> Result<Event, LineFault>
+    ensures { let event = counted_event kind.Reap words.entry
         in MatchResult result (λ made. event ≡ Ok made) (Refuses event) }
 {
+    let lane = words.one()?;
     let lane = byte(lane)?;
     Ok(Event::Reap(lane))
 }
 
 // The line `post`, made of its words.
-fn post(lane: &[u8], tag: &[u8]) -> Result<Event, LineFault>
-    ensures { let event = event_of kind.Post (lane.now ∷ tag.now ∷ [])
+fn post(words: Words<'_>) -> Result<Event, LineFault>
+    ensures { let event = counted_event kind.Post words.entry
         in MatchResult result (λ made. event ≡ Ok made) (Refuses event) }
 {
+    let (lane, tag) = words.two()?;
     let lane = byte(lane)?;
     let tag = byte(tag)?;
     Ok(Event::Post(lane, tag))

@@ -2,7 +2,7 @@
 ghost use Rattle.std.specs.Prelude.{◌≡◌, length, MatchResult};
 ghost use Rattle.nv_script.specs.OnceFault.{Refuses};
 ghost use Rattle.nv_script.specs.OnceWords.{words_of};
-ghost use Rattle.nv_replay_script.specs.ReplayVocabulary.{arguments_of, event_arguments};
+ghost use Rattle.nv_replay_script.specs.declared.vocabulary.Keyword.TheVariants as keyword;
 
 use crate::event::make_event;
 use crate::script::Script;
@@ -15,6 +15,9 @@ use nv_script::{FaultKind, ScriptFault};
 use nv_world_model::Event;
 use std::alloc::Global;
 
+/// How many words stand behind `guest`.
+const GUEST_ARGUMENTS: usize = 6;
+
 /// What the lines so far have said.
 #[derive(Drop)]
 pub struct Reading {
@@ -25,7 +28,7 @@ pub struct Reading {
 
 impl Reading {
     ghost use Rattle.nv_replay_script.specs.ReplaySetUp.{in_place};
-    ghost use Rattle.nv_replay_script.specs.ReplayScript.{add_event, add_guest, add_map, add_size, after_keyword, after_line, finished, is_early, nothing, progress, script_value};
+    ghost use Rattle.nv_replay_script.specs.ReplayScript.{add_guest, add_map, add_size, after_counted, after_line, finished, is_early, nothing, progress, script_value};
 
     /// Before the first line.
     pub fn new(alloc: Global) -> Self
@@ -48,33 +51,38 @@ impl Reading {
             return Ok(());
         };
         let keyword = look_up(first).ok_or(FaultKind::UnknownWord)?;
-        words.check_count(keyword.arguments())?;
         self.add(alloc, keyword, words)
     }
 
-    // Adds what a line with this keyword says.
+    // Adds what a line with this keyword says, where its words are as many as it wants.
     #[tactic(auto, unfolding(crate::specs::ReplayScript::after_keyword))]
     fn add(
         &mut self,
         alloc: Global,
         keyword: Keyword,
-        mut words: Words<'_>,
+        words: Words<'_>,
     ) -> Result<(), LineFault>
-        requires { length words ≡ arguments_of keyword }
-        ensures { let after = after_keyword (progress self.old) keyword words.entry
+        ensures { let after = after_counted (progress self.old) keyword words.entry
             in MatchResult result (λ _. after ≡ Ok (progress self.new)) (Refuses after) }
     {
         match keyword {
-            Keyword::Size(size) => self.add_size(size, words.next_word()),
-            Keyword::Guest => self.add_guest(alloc, words),
-            Keyword::Map => self.add_map(
-                words.next_word(),
-                words.next_word(),
-                words.next_word(),
-                words.next_word(),
-            ),
             Keyword::Event(kind) => self.add_event(alloc, kind, words),
-            Keyword::Foreign(_) => Err(LineFault::Faulty(FaultKind::OutOfPlace)),
+            Keyword::Size(size) => {
+                let word = words.one()?;
+                self.add_size(size, word)
+            }
+            Keyword::Guest => {
+                words.check_count(GUEST_ARGUMENTS)?;
+                self.add_guest(alloc, words)
+            }
+            Keyword::Map => {
+                let (number, guest, host, len) = words.four()?;
+                self.add_map(number, guest, host, len)
+            }
+            Keyword::Foreign(arguments) => {
+                words.check_count(arguments)?;
+                Err(LineFault::Faulty(FaultKind::OutOfPlace))
+            }
         }
     }
 
@@ -129,18 +137,20 @@ impl Reading {
         Ok(())
     }
 
-    // Adds the event of a line.
+    // Adds the event of a line, once all sizes are there.
     fn add_event(
         &mut self,
         alloc: Global,
         kind: EventKind,
         words: Words<'_>,
     ) -> Result<(), LineFault>
-        requires { length words ≡ event_arguments kind }
-        ensures { let after = add_event (progress self.old) kind words.entry
+        ensures { let after = after_counted (progress self.old) (keyword.Event kind) words.entry
             in MatchResult result (λ _. after ≡ Ok (progress self.new)) (Refuses after) }
     {
-        self.sizes.whole().ok_or(FaultKind::OutOfPlace)?;
+        let Some(_) = self.sizes.whole() else {
+            words.check_count(kind.arguments())?;
+            return Err(LineFault::Faulty(FaultKind::OutOfPlace));
+        };
         let event = make_event(alloc, kind, words)?;
         self.events.push(event)?;
         Ok(())

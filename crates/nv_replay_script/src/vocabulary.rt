@@ -73,49 +73,32 @@ pub enum Keyword {
     Foreign(usize),
 }
 
-impl Keyword {
-    ghost use Rattle.nv_replay_script.specs.ReplayVocabulary.{arguments_of};
-
-    /// How many words stand behind the first.
-    pub fn arguments(self) -> usize
-        ensures { result ≡ arguments_of self }
-    {
-        match self {
-            Keyword::Size(_) => 1,
-            Keyword::Guest => 6,
-            Keyword::Map => 4,
-            Keyword::Event(kind) => kind.arguments(),
-            Keyword::Foreign(arguments) => arguments,
-        }
-    }
-}
-
-/// Every first word of every subcommand.
+/// Every first word of every subcommand. Those of events stand first, for a script has mostly these.
 const VOCABULARY: [(&[u8], Keyword); 32] = [
+    (b"devmove", Keyword::Event(EventKind::DevMove)),
+    (b"devtake", Keyword::Event(EventKind::DevTake)),
+    (b"devpost", Keyword::Event(EventKind::DevPost)),
+    (b"reap", Keyword::Event(EventKind::Reap)),
+    (b"post", Keyword::Event(EventKind::Post)),
+    (b"bell", Keyword::Event(EventKind::Bell)),
+    (b"store", Keyword::Event(EventKind::Store)),
+    (b"take", Keyword::Event(EventKind::Take)),
+    (b"submit", Keyword::Event(EventKind::Submit)),
+    (b"list", Keyword::Event(EventKind::List)),
+    (b"load", Keyword::Event(EventKind::Load)),
+    (b"regread", Keyword::Event(EventKind::RegRead)),
+    (b"regwrite", Keyword::Event(EventKind::RegWrite)),
+    (b"admin", Keyword::Event(EventKind::Admin)),
+    (b"fill", Keyword::Event(EventKind::Fill)),
+    (b"giveup", Keyword::Event(EventKind::GiveUp)),
+    (b"devfail", Keyword::Event(EventKind::DevFail)),
+    (b"keep", Keyword::Event(EventKind::Keep)),
     (b"host", Keyword::Size(Size::Host)),
     (b"mediator", Keyword::Size(Size::Mediator)),
     (b"disk", Keyword::Size(Size::Disk)),
     (b"lanes", Keyword::Size(Size::Lanes)),
     (b"guest", Keyword::Guest),
     (b"map", Keyword::Map),
-    (b"store", Keyword::Event(EventKind::Store)),
-    (b"fill", Keyword::Event(EventKind::Fill)),
-    (b"load", Keyword::Event(EventKind::Load)),
-    (b"regread", Keyword::Event(EventKind::RegRead)),
-    (b"regwrite", Keyword::Event(EventKind::RegWrite)),
-    (b"bell", Keyword::Event(EventKind::Bell)),
-    (b"admin", Keyword::Event(EventKind::Admin)),
-    (b"take", Keyword::Event(EventKind::Take)),
-    (b"list", Keyword::Event(EventKind::List)),
-    (b"submit", Keyword::Event(EventKind::Submit)),
-    (b"giveup", Keyword::Event(EventKind::GiveUp)),
-    (b"devtake", Keyword::Event(EventKind::DevTake)),
-    (b"devmove", Keyword::Event(EventKind::DevMove)),
-    (b"devpost", Keyword::Event(EventKind::DevPost)),
-    (b"devfail", Keyword::Event(EventKind::DevFail)),
-    (b"keep", Keyword::Event(EventKind::Keep)),
-    (b"reap", Keyword::Event(EventKind::Reap)),
-    (b"post", Keyword::Event(EventKind::Post)),
     (b"await", Keyword::Foreign(3)),
     (b"awaitreg", Keyword::Foreign(3)),
     (b"memory", Keyword::Foreign(1)),

@@ -1,8 +1,9 @@
 //! The words of a line.
-ghost use Rattle.std.specs.Prelude.{◌≡◌, ◌==◌, ◌<◌, ◌∷◌, [], length, not, MatchOption};
+ghost use Rattle.std.specs.Prelude.{◌≡◌, ◌==◌, ◌<◌, ◌∷◌, [], length, not, MatchOption, MatchResult};
 ghost use Rattle.std.specs.List.{position_or_len};
 ghost use Rattle.std.specs.Iterator.{YieldsFirstRef, item_count};
 ghost use Rattle.nv_script.specs.OnceVocabulary.{count_check};
+ghost use Rattle.nv_script.specs.declared.once.fault.FaultKind.TheVariants.{MissingWord};
 ghost use Rattle.nv_script.specs.OnceWords.{words_in, words_of};
 
 use crate::once::fault::FaultKind;
@@ -72,6 +73,65 @@ impl<'a> Words<'a> {
             None => Ok(()),
             Some(_) => Err(FaultKind::TooManyWords),
         }
+    }
+
+    // Takes the next word, or says that it is missing.
+    fn wanted(&mut self) -> Result<&'a [u8], FaultKind>
+        ensures { MatchResult result (λ word. self.old ≡ word.now ∷ self.new) (λ fault. (self.old ≡ []) × (fault ≡ MissingWord)) }
+    {
+        self.next().ok_or(FaultKind::MissingWord)
+    }
+
+    /// The word that is left, where it is one.
+    pub fn one(mut self) -> Result<&'a [u8], FaultKind>
+        ensures { MatchResult result (λ word. self.entry ≡ word.now ∷ []) (λ fault. count_check (length self.entry) 1 ≡ Err fault) }
+    {
+        let word = self.wanted()?;
+        if self.next().is_some() {
+            return Err(FaultKind::TooManyWords);
+        }
+        Ok(word)
+    }
+
+    /// The words that are left, where they are two.
+    pub fn two(mut self) -> Result<(&'a [u8], &'a [u8]), FaultKind>
+        ensures { MatchResult result (λ words. self.entry ≡ words.0.now ∷ words.1.now ∷ [])
+            (λ fault. count_check (length self.entry) 2 ≡ Err fault) }
+    {
+        let first = self.wanted()?;
+        let second = self.one()?;
+        Ok((first, second))
+    }
+
+    /// The words that are left, where they are three.
+    pub fn three(mut self) -> Result<(&'a [u8], &'a [u8], &'a [u8]), FaultKind>
+        ensures { MatchResult result (λ words. self.entry ≡ words.0.now ∷ words.1.now ∷ words.2.now ∷ [])
+            (λ fault. count_check (length self.entry) 3 ≡ Err fault) }
+    {
+        let first = self.wanted()?;
+        let (second, third) = self.two()?;
+        Ok((first, second, third))
+    }
+
+    /// The words that are left, where they are four.
+    pub fn four(mut self) -> Result<(&'a [u8], &'a [u8], &'a [u8], &'a [u8]), FaultKind>
+        ensures { MatchResult result (λ words. self.entry ≡ words.0.now ∷ words.1.now ∷ words.2.now ∷ words.3.now ∷ [])
+            (λ fault. count_check (length self.entry) 4 ≡ Err fault) }
+    {
+        let first = self.wanted()?;
+        let (second, third, fourth) = self.three()?;
+        Ok((first, second, third, fourth))
+    }
+
+    /// The words that are left, where they are five.
+    pub fn five(mut self) -> Result<(&'a [u8], &'a [u8], &'a [u8], &'a [u8], &'a [u8]), FaultKind>
+        ensures { MatchResult result
+            (λ words. self.entry ≡ words.0.now ∷ words.1.now ∷ words.2.now ∷ words.3.now ∷ words.4.now ∷ [])
+            (λ fault. count_check (length self.entry) 5 ≡ Err fault) }
+    {
+        let first = self.wanted()?;
+        let (second, third, fourth, fifth) = self.four()?;
+        Ok((first, second, third, fourth, fifth))
     }
 
     /// Takes the next word, which is there.

@@ -1,12 +1,11 @@
-use Rattle.std.proofs.Common.{ℕ, Option, sym, ap, ◌∙◌, length}
+use Rattle.std.proofs.Common.{Option, sym, ap, ◌∙◌}
 use Rattle.std.specs.Option.{ok_or}
 use Rattle.std.proofs.lemmas.Result.{err_from_is_err_and}
 use Rattle.nv_script.specs.declared.once.fault.FaultKind.TheVariants.{UnknownWord}
 use Rattle.nv_replay_script.specs.declared.vocabulary.Keyword.{Keyword}
 use Rattle.nv_replay_script.specs.ReplayScript.{progress}
-use Rattle.nv_script.specs.OnceVocabulary.{count_check}
 use Rattle.nv_script.specs.OnceWords.{words_of}
-use Rattle.nv_replay_script.proofs.ReplayScriptLemmas.{after_line-none, after_line-unknown, after_line-miscounted, after_line-known}
+use Rattle.nv_replay_script.proofs.ReplayScriptLemmas.{after_line-none, after_line-unknown, after_line-known}
 use Rattle.nv_replay_script.proofs.reading.Reading.read.Goals as goal
 
 pub returns-in_default : goal.returns-in_default
@@ -19,15 +18,7 @@ returns-in_err-keyword c =
     let p = err_from_is_err_and c.from_residual.result c.from_residual.ensures.1 in
     rw (p.1, p.2) (after_line-unknown (progress c.args.self.now) (words_of c.args.line.now) _ _ _ (sym c.of-words.ensures ∙ c.in-Some.ensures.steps) unknown)
 
-pub returns-in_err-check_count : goal.returns-in_err-check_count
-returns-in_err-check_count c =
-    let known = ap (λ (o : Option Keyword). ok_or o UnknownWord) (sym c.look_up.ensures) ∙ sym c.ok_or.ensures.value ∙ c.in_ok-keyword.was in
-    let wrong = ap (λ (n : ℕ). count_check (length c.next.new.self) n) (sym c.arguments.ensures) ∙ sym c.check_count.ensures ∙ c.in_err-check_count.was in
-    let p = err_from_is_err_and c.from_residual-in_err-check_count.result c.from_residual-in_err-check_count.ensures.1 in
-    rw (p.1, p.2) (after_line-miscounted (progress c.args.self.now) (words_of c.args.line.now) _ _ _ _ (sym c.of-words.ensures ∙ c.in-Some.ensures.steps) known wrong)
-
 pub returns : goal.returns
 returns c =
     let known = ap (λ (o : Option Keyword). ok_or o UnknownWord) (sym c.look_up.ensures) ∙ sym c.ok_or.ensures.value ∙ c.in_ok-keyword.was in
-    let right = ap (λ (n : ℕ). count_check (length c.next.new.self) n) (sym c.arguments.ensures) ∙ sym c.check_count.ensures ∙ c.in_ok-check_count.was in
-    rw (after_line-known (progress c.args.self.now) (words_of c.args.line.now) _ _ _ _ (sym c.of-words.ensures ∙ c.in-Some.ensures.steps) known right) c.add.ensures
+    rw (after_line-known (progress c.args.self.now) (words_of c.args.line.now) _ _ _ (sym c.of-words.ensures ∙ c.in-Some.ensures.steps) known) c.add.ensures
