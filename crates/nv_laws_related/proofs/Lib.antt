@@ -1,0 +1,4 @@
+pub mod Named
+pub mod Runs
+pub mod Beginning
+pub mod Following

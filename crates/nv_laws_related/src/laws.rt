@@ -1,0 +1,3 @@
+//! The world and a guest's private controller, as functions that do nothing: each contract is a law.
+pub mod beginning;
+pub mod following;
