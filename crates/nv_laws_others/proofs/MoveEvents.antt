@@ -209,7 +209,7 @@ module _ (host_bytes lanes : ℕ) (geometry : Geometry) (laid : IsLaidOut host_b
 
   module _ (at : ℕ) (away : (at < guest.extent.base) ⊎ (guest.extent.base + guest.extent.blocks ≤ at)) where
     -- so it is no block elsewhere
-    block-apart : has_blocks is.work.opcode ≡ true → number < count_of entry → slba_of h.entry + number ≢ at
+    pub block-apart : has_blocks is.work.opcode ≡ true → number < count_of entry → slba_of h.entry + number ≢ at
     block-apart has few same =
         let within = end-within (mapped (regions_of guest)) guest.limit (shape_of guest).blocks entry is.work is.verdict has in
         let both = and-true (nat_le (count_of entry) (block_count guest.extent)) (nat_le (slba_of entry) (block_count guest.extent - count_of entry)) within in
@@ -224,7 +224,7 @@ module _ (host_bytes lanes : ℕ) (geometry : Geometry) (laid : IsLaidOut host_b
         off some most start (inr behind) = absurd (omega (arith, same, few, some, most, start, behind))
 
     -- a range of a Dataset Management is one of the guest's, as the disk has it
-    range-apart : form_of is.work.opcode ≡ Manage → number < range_count_of entry
+    pub range-apart : form_of is.work.opcode ≡ Manage → number < range_count_of entry
         → (at < start_of (range_at number h.pieces host)) ⊎ (start_of (range_at number h.pieces host) + blocks_of (range_at number h.pieces host) ≤ at)
     range-apart form few =
         let many : length is.work.ranges ≡ range_count_of entry = sound.counted form in
@@ -278,7 +278,7 @@ module _ (host_bytes lanes : ℕ) (geometry : Geometry) (laid : IsLaidOut host_b
         (range-elsewhere at (deallocates h.entry) (range_at number h.pieces host) (range-apart form few))))
     form-stays Keep form work m same = all-kept at geometry.disk_blocks work m
 
-    held-opcode : tag < tag_count → io_opcode (opcode_of h.entry) ≡ Some is.work.opcode
+    pub held-opcode : tag < tag_count → io_opcode (opcode_of h.entry) ≡ Some is.work.opcode
     held-opcode tag_below =
         ap (λ e. io_opcode (opcode_of e)) in_device.entry_is ∙ ap io_opcode (entry-opcode plan guest entry geometry.mediator lane tag tag_below) ∙ sound.opcode
 

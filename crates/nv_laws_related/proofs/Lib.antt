@@ -1,4 +1,14 @@
 pub mod Named
 pub mod Runs
-pub mod Beginning
 pub mod Following
+pub mod Beginning
+pub mod Ways
+pub mod Views
+pub mod Undisturbed
+pub mod SeatsRelated
+pub mod Disciplines
+pub mod Acts
+pub mod Keeping
+pub mod Marks
+pub mod UnitMarks
+pub mod Others
