@@ -8,6 +8,8 @@ pub mod Undisturbed
 pub mod SeatsRelated
 pub mod Disciplines
 pub mod Acts
+pub mod Retold
+pub mod Tags
 pub mod Keeping
 pub mod Marks
 pub mod UnitMarks

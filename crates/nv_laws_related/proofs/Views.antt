@@ -31,7 +31,7 @@ use Rattle.nv_laws_sound.proofs.Lists.{slice_get-below, some-same}
 use Rattle.nv_laws_sound.proofs.PlanSizes.{planned-kinds}
 use Rattle.nv_laws_sound.proofs.Retags.{is-at, tag-is}
 use Rattle.nv_laws_sound.proofs.Shows.{bytes_from-between}
-use Rattle.nv_laws_others.specs.Leaving.{InCompletion, InPages, IsShownAt}
+use Rattle.nv_laws_others.specs.Leaving.{InCompletion, InPages, IsBytes, IsShownAt}
 use Rattle.nv_laws_related.specs.Related.{HasBuffer, HasEndedWell, IsMovedStatus, IsTagRelated, IsUnderWay, NoneHides, Related, StandsWell, hides, left_where, none_left}
 
 -- ---- buffers lie in their pages
@@ -138,7 +138,7 @@ abbrev made : Command → Progress → Option Member
 made command progress = Some (record { queue = command.queue; entry = command.entry; progress = progress })
 
 -- what a guest's command is by its own tag and by what the device holds of it
-member-own : (o : Option Tag) (number : ℕ) (held : Option Held) (f : ℕ → StatusField)
+pub member-own : (o : Option Tag) (number : ℕ) (held : Option Held) (f : ℕ → StatusField)
     → member_in o number held f ≡ member_in (own_tag number o) number (own_held number o held) f
 member-own None number held f = refl
 member-own (Some Free) number held f = refl
@@ -162,7 +162,7 @@ member-own (Some (Ended command st plan)) number held f =
     ]) refl
 
 -- and by the status that its completion has
-member-kept : (o : Option Tag) (number : ℕ) (held : Option Held) (f g : ℕ → StatusField)
+pub member-kept : (o : Option Tag) (number : ℕ) (held : Option Held) (f g : ℕ → StatusField)
     → ((t : Tag) (at : ℕ) → o ≡ Some t → tag_stands (is_answered_at at) t ≡ true → f at ≡ g at)
     → member_in o number held f ≡ member_in o number held g
 member-kept None number held f g statuses = refl
@@ -197,22 +197,32 @@ pub record AreTagsLeft (number : ℕ) (geometry : Geometry) (w z : World) : Type
   pub held : (lane tag : ℕ) → own_held number (tag_of w lane tag) (device_of w lane tag) ≡ own_held number (tag_of z lane tag) (device_of z lane tag)
   pub area : (addr : ℕ) → IsShownAt number geometry w addr → w.host addr ≡ z.host addr
 
+-- what is left of one tag's bytes: the status of its completion, and its pages
+pub status-left : (geometry : Geometry) (w z : World) (lane tag at : ℕ) (t : Tag) → ((addr : ℕ) → IsBytes geometry.mediator lane tag t addr → w.host addr ≡ z.host addr)
+    → tag_stands (is_answered_at at) t ≡ true → status_in geometry w lane at ≡ status_in geometry z lane at
+status-left geometry w z lane tag at t left stands =
+    ap status_of
+    (bytes_from-between w.host z.host (completion_slot geometry.mediator lane at) (completion_slot geometry.mediator lane (at + 1)) (completion_slot geometry.mediator lane at) cqe_size
+    (λ addr low high. left addr (InCompletion at stands low high)) (omega arith) (omega arith))
+
+pub page-left : (geometry : Geometry) (w z : World) (lane tag : ℕ) (t : Tag) → ((addr : ℕ) → IsBytes geometry.mediator lane tag t addr → w.host addr ≡ z.host addr)
+    → SameBetween w.host z.host (bounce_page geometry.mediator lane tag) (bounce_page geometry.mediator lane tag + most_bytes)
+page-left geometry w z lane tag t left at low high = left at (InPages (omega (arith, low)) (omega (arith, high)))
+
 module _ (geometry : Geometry) (number : ℕ) (w z : World) (left : AreTagsLeft number geometry w z) where
+  bytes-left : (lane tag : ℕ) (t : Tag) → own_tag number (tag_of w lane tag) ≡ Some t → (addr : ℕ) → IsBytes geometry.mediator lane tag t addr
+      → w.host addr ≡ z.host addr
+  bytes-left lane tag t own addr bytes =
+      let there = own-there number (tag_of w lane tag) t own in
+      left.area addr (record { lane = lane; tag = tag; t = t; there = there.0; own = there.1; bytes = bytes })
+
   pub statuses-left : (lane tag at : ℕ) (t : Tag) → own_tag number (tag_of w lane tag) ≡ Some t → tag_stands (is_answered_at at) t ≡ true
       → status_in geometry w lane at ≡ status_in geometry z lane at
-  statuses-left lane tag at t own stands =
-      let there = own-there number (tag_of w lane tag) t own in
-      ap status_of
-      (bytes_from-between w.host z.host (completion_slot geometry.mediator lane at) (completion_slot geometry.mediator lane (at + 1)) (completion_slot geometry.mediator lane at) cqe_size
-      (λ addr low high.
-      left.area addr (record { lane = lane; tag = tag; t = t; there = there.0; own = there.1; bytes = InCompletion at stands low high })) (omega arith) (omega arith))
+  statuses-left lane tag at t own stands = status-left geometry w z lane tag at t (bytes-left lane tag t own) stands
 
   pub pages-left : (lane tag : ℕ) (t : Tag) → own_tag number (tag_of w lane tag) ≡ Some t
       → SameBetween w.host z.host (bounce_page geometry.mediator lane tag) (bounce_page geometry.mediator lane tag + most_bytes)
-  pages-left lane tag t own at low high =
-      let there = own-there number (tag_of w lane tag) t own in
-      left.area at
-      (record { lane = lane; tag = tag; t = t; there = there.0; own = there.1; bytes = InPages (omega (arith, low)) (omega (arith, high)) })
+  pages-left lane tag t own = page-left geometry w z lane tag t (bytes-left lane tag t own)
 
   pub members-left : (name : ℕ) → members geometry w number name ≡ members geometry z number name
   unfolding members

@@ -3,3 +3,4 @@ pub mod acts;
 pub mod beginning;
 pub mod following;
 pub mod others;
+pub mod tags;
