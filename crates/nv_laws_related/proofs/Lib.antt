@@ -10,6 +10,9 @@ pub mod Disciplines
 pub mod Acts
 pub mod Retold
 pub mod Tags
+pub mod Fronts
+pub mod Takes
+pub mod Every
 pub mod Keeping
 pub mod Marks
 pub mod UnitMarks

@@ -2,6 +2,7 @@
 use Rattle.std.specs.Prelude.{◌≡◌, ℕ, ◌&&◌, Bool, true, false, List, [], length, slice_get, Some, None}
 use Rattle.nv_model.specs.Private.{Private, Run, run_of}
 use Rattle.nv_world_model.specs.declared.event.Event.{Event}
+use Rattle.nv_world_model.specs.declared.event.Event.TheVariants as event
 use Rattle.nv_world_model.specs.declared.logged.Logged.{Logged}
 use Rattle.nv_world_model.specs.Contained.{owner}
 use Rattle.nv_world_model.specs.Disciplined.{in_order}
@@ -53,3 +54,21 @@ pub record LogIsFollowed (geometry : Geometry) (number : ℕ) (guest : Guest) (l
   pub runs : run_of (shape_of guest) (private_steps geometry number guest log w) p ≡ Some run
   pub seen : run.seen ≡ seen_by number log
   pub related : Related geometry number guest z run.state
+
+-- ---- what is left to show
+
+-- an event that is a disciplined guest's own is followed
+abbrev pub IsFollowed : Geometry → (host_bytes number : ℕ) → Guest → Event → Type 0
+IsFollowed geometry host_bytes number guest e =
+    (w : World) (p : Private) → IsReached host_bytes geometry w → IsDisciplinedAt geometry number guest e w → Related geometry number guest w p
+    → owner e w ≡ Some number → GoesAlong geometry number guest e w p (step geometry e w)
+
+-- so are the events of which no law of this crate says it: admin steps, and commands from their plans on
+pub record AreRestFollowed (geometry : Geometry) (host_bytes number : ℕ) (guest : Guest) : Type 0 where
+  pub admins : IsFollowed geometry host_bytes number guest (event.Admin number)
+  pub submits : (lane tag : ℕ) → IsFollowed geometry host_bytes number guest (event.Submit lane tag)
+  pub device_takes : (lane : ℕ) → IsFollowed geometry host_bytes number guest (event.DevTake lane)
+  pub device_moves : (lane slot unit : ℕ) → IsFollowed geometry host_bytes number guest (event.DevMove lane slot unit)
+  pub device_posts : (lane slot : ℕ) → IsFollowed geometry host_bytes number guest (event.DevPost lane slot)
+  pub reaps : (lane : ℕ) → IsFollowed geometry host_bytes number guest (event.Reap lane)
+  pub posts : (lane tag : ℕ) → IsFollowed geometry host_bytes number guest (event.Post lane tag)

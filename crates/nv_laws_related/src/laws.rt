@@ -4,3 +4,4 @@ pub mod beginning;
 pub mod following;
 pub mod others;
 pub mod tags;
+pub mod takes;

@@ -10,7 +10,7 @@ ghost use Rattle.nv_world_model.specs.Headline.{IsPrivateRun, none_failed};
 ghost use Rattle.nv_world_model.specs.Log.{IsReplay};
 ghost use Rattle.nv_world_model.specs.SetUp.{SetUp, refusal_of, world_at_start};
 ghost use Rattle.nv_world_model.specs.World.{World};
-ghost use Rattle.nv_laws_related.specs.Following.{EachEventIsFollowed, IsReached, LogIsFollowed};
+ghost use Rattle.nv_laws_related.specs.Following.{AreRestFollowed, EachEventIsFollowed, IsReached, LogIsFollowed};
 ghost use Rattle.nv_laws_related.specs.Related.{Related};
 
 /// Where the private controller of a guest goes along with each event, it goes along with each log of which the guest is disciplined, and none of whose
@@ -25,4 +25,11 @@ pub fn logs_are_followed()
         slice_get s.geometry.guests number ≡ Some guest → EachEventIsFollowed s.geometry s.host_bytes number guest →
         none_failed s.geometry number log (world_at_start s) ≡ true → is_disciplined s.geometry number guest log (world_at_start s) ≡ true →
         IsReplay s.geometry (world_at_start s) log z → IsPrivateRun s.geometry number guest log (world_at_start s) z }
+{}
+
+/// Each event of a disciplined guest is followed where its admin steps are, and its commands from their plans on: of others' events, of the guest's acts, of
+/// takes, of reads of lists, and of commands that are given up or failed, it is shown.
+pub fn the_rest_is_enough()
+    ensures { (geometry : Geometry) (host_bytes number : ℕ) (guest : Guest) → slice_get geometry.guests number ≡ Some guest →
+        AreRestFollowed geometry host_bytes number guest → EachEventIsFollowed geometry host_bytes number guest }
 {}
