@@ -20,6 +20,7 @@ use Rattle.nv_laws_related.specs.Following.{AreRestFollowed, EachEventIsFollowed
 use Rattle.nv_laws_related.specs.Related.{Related}
 use Rattle.nv_laws_related.proofs.Acts.{act-goes}
 use Rattle.nv_laws_related.proofs.Others.{dull-goes, others-go}
+use Rattle.nv_laws_related.proofs.Reaps.{reaps-go}
 use Rattle.nv_laws_related.proofs.Tags.{give_ups-go, lists-go}
 use Rattle.nv_laws_related.proofs.Takes.{takes-go}
 
@@ -95,7 +96,7 @@ module _ (host_bytes : ℕ) (geometry : Geometry) (number : ℕ) (guest : Guest)
     own-goes (event.DevPost lane slot) disciplined own = rest.device_posts lane slot w p reached disciplined related own
     own-goes (event.DevFail lane slot st) disciplined own = fails-go lane slot st disciplined own
     own-goes (event.Keep block) disciplined own = cc
-    own-goes (event.Reap lane) disciplined own = rest.reaps lane w p reached disciplined related own
+    own-goes (event.Reap lane) disciplined own = reaps-go host_bytes geometry number guest given w reached p related lane own
     own-goes (event.Post lane tag) disciplined own = rest.posts lane tag w p reached disciplined related own
 
     pub event-goes : (e : Event) → IsDisciplinedAt geometry number guest e w → GoesAlong geometry number guest e w p (step geometry e w)

@@ -12,6 +12,8 @@ pub mod Retold
 pub mod Tags
 pub mod Fronts
 pub mod Takes
+pub mod Statuses
+pub mod Reaps
 pub mod Every
 pub mod Keeping
 pub mod Marks

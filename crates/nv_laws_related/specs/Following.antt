@@ -63,12 +63,12 @@ IsFollowed geometry host_bytes number guest e =
     (w : World) (p : Private) → IsReached host_bytes geometry w → IsDisciplinedAt geometry number guest e w → Related geometry number guest w p
     → owner e w ≡ Some number → GoesAlong geometry number guest e w p (step geometry e w)
 
--- so are the events of which no law of this crate says it: admin steps, and commands from their plans on
+-- so are the events of which no law of this crate says it: admin steps, plans that are carried out, what the device does,
+-- and completions that are posted
 pub record AreRestFollowed (geometry : Geometry) (host_bytes number : ℕ) (guest : Guest) : Type 0 where
   pub admins : IsFollowed geometry host_bytes number guest (event.Admin number)
   pub submits : (lane tag : ℕ) → IsFollowed geometry host_bytes number guest (event.Submit lane tag)
   pub device_takes : (lane : ℕ) → IsFollowed geometry host_bytes number guest (event.DevTake lane)
   pub device_moves : (lane slot unit : ℕ) → IsFollowed geometry host_bytes number guest (event.DevMove lane slot unit)
   pub device_posts : (lane slot : ℕ) → IsFollowed geometry host_bytes number guest (event.DevPost lane slot)
-  pub reaps : (lane : ℕ) → IsFollowed geometry host_bytes number guest (event.Reap lane)
   pub posts : (lane tag : ℕ) → IsFollowed geometry host_bytes number guest (event.Post lane tag)

@@ -27,8 +27,9 @@ pub fn logs_are_followed()
         IsReplay s.geometry (world_at_start s) log z → IsPrivateRun s.geometry number guest log (world_at_start s) z }
 {}
 
-/// Each event of a disciplined guest is followed where its admin steps are, and its commands from their plans on: of others' events, of the guest's acts, of
-/// takes, of reads of lists, and of commands that are given up or failed, it is shown.
+/// Each event of a disciplined guest is followed where its admin steps are, its plans that are carried out, what the device does for it, and its
+/// completions that are posted. Of all else it is shown: others' events, the guest's acts, takes, reads of lists, completions that are read, and commands
+/// that are given up or failed.
 pub fn the_rest_is_enough()
     ensures { (geometry : Geometry) (host_bytes number : ℕ) (guest : Guest) → slice_get geometry.guests number ≡ Some guest →
         AreRestFollowed geometry host_bytes number guest → EachEventIsFollowed geometry host_bytes number guest }

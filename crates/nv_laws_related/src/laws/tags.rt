@@ -1,4 +1,4 @@
-//! A guest's commands until they are handed on.
+//! A guest's commands until they are handed on, and where their completions are read.
 
 ghost use Rattle.std.specs.Prelude.{◌≡◌, ℕ, Some, slice_get};
 ghost use Rattle.nv_model.specs.Private.{Private};
@@ -21,4 +21,11 @@ pub fn lists_and_give_ups_are_followed()
         slice_get geometry.guests number ≡ Some guest → IsReached host_bytes geometry w → Related geometry number guest w p →
         owner (event.GiveUp lane tag) w ≡ Some number →
         GoesAlong geometry number guest (event.GiveUp lane tag) w p (step geometry (event.GiveUp lane tag) w) }
+{}
+
+/// So it does, without a step, where the mediator reads a completion of the guest's: none of its commands has failed, so the status is passed on as it is.
+pub fn reaps_are_followed()
+    ensures { (host_bytes : ℕ) (geometry : Geometry) (number lane : ℕ) (guest : Guest) (w : World) (p : Private) →
+        slice_get geometry.guests number ≡ Some guest → IsReached host_bytes geometry w → Related geometry number guest w p →
+        owner (event.Reap lane) w ≡ Some number → GoesAlong geometry number guest (event.Reap lane) w p (step geometry (event.Reap lane) w) }
 {}
