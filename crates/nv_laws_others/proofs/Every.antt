@@ -26,7 +26,7 @@ use Rattle.nv_laws_others.proofs.TagEvents.{give_ups-leave, lists-leave, posts-l
 use Rattle.nv_laws_others.proofs.UnitEvents.{moves-leave}
 
 module _ (host_bytes : ℕ) (geometry : Geometry) where
-  each-leaves : (w : World) (e : Event) → IsLaidOut host_bytes (length w.lanes) geometry → IsConsistent geometry w
+  pub each-leaves : (w : World) (e : Event) → IsLaidOut host_bytes (length w.lanes) geometry → IsConsistent geometry w
       → Leaves geometry (owner e w) w (step geometry e w).world
   each-leaves w (event.Guest number a) laid fine = acts-leave host_bytes geometry w laid fine number a
   each-leaves w (event.Admin number) laid fine = admins-leave host_bytes geometry w laid fine number

@@ -70,7 +70,7 @@ module _ (host_bytes : ℕ) (geometry : Geometry) (lanes : ℕ) (laid : IsLaidOu
       meets n high same (inl before) = absurd (omega (arith, high, same, before, below))
       meets n high same (inr behind) = absurd (omega (arith, high, same, behind, below))
 
-  extent-apart : (whose : Option ℕ) (number : ℕ) (guest : Guest) (lba : ℕ) → slice_get geometry.guests number ≡ Some guest → whose ≢ Some number
+  pub extent-apart : (whose : Option ℕ) (number : ℕ) (guest : Guest) (lba : ℕ) → slice_get geometry.guests number ≡ Some guest → whose ≢ Some number
       → lba < block_count guest.extent → in_extent_of (given_to whose geometry) (block_at guest.extent lba) ≡ false
   extent-apart None number guest lba given differ below = refl
   extent-apart (Some other) number guest lba given differ below =

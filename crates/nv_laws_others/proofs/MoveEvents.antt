@@ -128,19 +128,19 @@ module _ (host_bytes lanes : ℕ) (geometry : Geometry) (laid : IsLaidOut host_b
   sound : IsSoundWork (mapped (regions_of guest)) (shape_of guest).blocks entry is.work
   sound = end-sound (mapped (regions_of guest)) guest.limit (shape_of guest).blocks entry is.work is.verdict
 
-  below : number < form_unit_count (form_of is.work.opcode) entry
+  pub below : number < form_unit_count (form_of is.work.opcode) entry
   below = unit-below host_bytes lanes geometry laid owner guest given entry plan is lane tag h host in_device number left
 
   module _ (at : ℕ) (away : (at < guest.extent.base) ⊎ (guest.extent.base + guest.extent.blocks ≤ at)) where
     -- the unit's block is the guest's, so it is no block elsewhere
-    block-apart : has_blocks is.work.opcode ≡ true → number < count_of entry → slba_of h.entry + number ≢ at
+    pub block-apart : has_blocks is.work.opcode ≡ true → number < count_of entry → slba_of h.entry + number ≢ at
     block-apart has few =
         one-apart guest.extent at away (slba_of h.entry) (count_of entry)
         (subst (λ e. AreOwn guest.extent (slba_of e) (count_of entry)) (sym in_device.entry_is)
         (entry-own host_bytes lanes geometry laid owner guest given entry plan is lane tag has)) number few
 
     -- and so is a range of a Dataset Management, as the disk has it
-    range-apart : form_of is.work.opcode ≡ Manage
+    pub range-apart : form_of is.work.opcode ≡ Manage
         → (at < start_of (range_at number h.pieces host)) ⊎ (start_of (range_at number h.pieces host) + blocks_of (range_at number h.pieces host) ≤ at)
     range-apart form =
         own-apart guest.extent at away (start_of (range_at number h.pieces host)) (blocks_of (range_at number h.pieces host))
@@ -165,7 +165,7 @@ module _ (host_bytes lanes : ℕ) (geometry : Geometry) (laid : IsLaidOut host_b
         (range-elsewhere at (deallocates h.entry) (range_at number h.pieces host) (range-apart form))))
     form-stays Keep form work m same = all-kept at geometry.disk_blocks work m
 
-    held-opcode : tag < tag_count → io_opcode (opcode_of h.entry) ≡ Some is.work.opcode
+    pub held-opcode : tag < tag_count → io_opcode (opcode_of h.entry) ≡ Some is.work.opcode
     held-opcode tag_below =
         ap (λ e. io_opcode (opcode_of e)) in_device.entry_is ∙ ap io_opcode (entry-opcode plan guest entry geometry.mediator lane tag tag_below) ∙ sound.opcode
 
