@@ -1,12 +1,19 @@
 -- A command in the device, in a consistent world.
-use Rattle.std.proofs.Common.{◌≡◌, ℕ, ◌+◌, ◌<◌, true, false, ◌==◌, List, [], length, slice_get, Option, Some, None, arith, refl, sym, ap, ◌∙◌, subst}
+use Rattle.std.proofs.Common.{◌≡◌, ℕ, ◌+◌, ◌*◌, ◌<◌, ◌≤◌, Bool, true, false, ◌==◌, List, [], All, length, slice_get, Option, Some, None, arith, refl, sym, ap, ◌∙◌, subst}
 use Rattle.std.specs.List.{list_any}
 use Rattle.nv_model.specs.Carried.{at_work, units_moved}
 use Rattle.nv_model.specs.Judge.{Transfer, Work, form_of, is_read}
 use Rattle.nv_model.specs.Limits.{block}
-use Rattle.nv_model.specs.Memory.{gathered, image, scattered}
+use Rattle.nv_model.specs.Memory.{bytes_from, gathered, image, scattered}
 use Rattle.nv_model.specs.Private.{Moved, Private, Shape, Taken, block_bytes, others, places_of_block, run_of}
 use Rattle.nv_model.proofs.AnyAnswers.{end-sound}
+use Rattle.nv_model.proofs.MemoryAlike.{scattered-at}
+use Rattle.nv_model.proofs.UnitsElsewhere.{scattered-elsewhere}
+use Rattle.nv_model.specs.Laws.{IsAnother}
+use Rattle.nv_mem.specs.Places.{At, addresses, places_of, total_len}
+use Rattle.nv_mem.proofs.PlaceLists.{length-places_of}
+use Rattle.nv_laws_units.specs.Places.{HasAt, NameNoneTwice}
+use Rattle.nv_laws_units.proofs.Delivery.{page-kept, page-moved}
 use Rattle.nv_mem.specs.GuestMap.{mapped}
 use Rattle.nv_world_model.specs.PrivateSteps.{own_moves}
 use Rattle.nv_entry.specs.Submission.{slba_of}
@@ -22,10 +29,10 @@ use Rattle.nv_laws_sound.specs.LaidOut.{IsLaidOut}
 use Rattle.nv_laws_sound.proofs.Lists.{slice_get-below, some-same}
 use Rattle.nv_laws_sound.proofs.PlanSizes.{planned-kinds}
 use Rattle.nv_laws_units.specs.Units.{GivesBlock, IsHeld, SameBlocks, addresses_of_block, own_units, whole_of}
-use Rattle.nv_laws_units.proofs.Imaged.{bounced-image, direct-read, direct-source}
+use Rattle.nv_laws_units.proofs.Imaged.{bounced-addresses, bounced-image, direct-read, direct-source}
 use Rattle.nv_laws_units.proofs.OwnUnits.{numbers-counted}
 use Rattle.nv_laws_units.proofs.Runs.{own-run}
-use Rattle.nv_laws_units.proofs.Moving.{others-host, others-own, read-bytes, read-host, read-own, unit-same}
+use Rattle.nv_laws_units.proofs.Moving.{read-form, unit-within, others-host, others-own, read-bytes, read-host, read-own, unit-same}
 
 -- ---- where it is
 
@@ -128,19 +135,77 @@ module _ (host_bytes : ℕ) (geometry : Geometry) (w : World) (laid : IsLaidOut 
               parts.in_device unit left w.disk w.kept other,
         ))
 
-    -- the guest's memory behind a direct Read's unit is as behind its own
+    -- a direct Read's block reaches the same places of the guest's memory and of its own
     pub world-direct_read : plan ≡ Direct work → is_read work.opcode ≡ true → SameBlocks guest.extent own (whole_of w h.differed)
-        → own.memory ≡ image (regions_of guest) w.host
-        → image (regions_of guest) (moved unit).memory ≡ (units_moved (own_units work unit) work own).memory
-    world-direct_read direct reads same memory =
+        → GivesBlock (places_of_block work unit) (places_of_block work unit) own.memory (units_moved (own_units work unit) work own).memory
+        (image (regions_of guest) w.host) (image (regions_of guest) (moved unit).memory)
+    world-direct_read direct reads same =
         let gives = world-read reads same in
         let planned : plan ≡ Direct parts.planned.work = direct ∙ ap Direct (sym parts.work_is) in
-        ap (image (regions_of guest)) gives.in_host
-        ∙ direct-read host_bytes (length w.lanes) geometry laid number guest it.given it.command.entry plan parts.planned lane tag parts.lane_below parts.tag_below h w.host
-        parts.in_device unit gives.bytes planned
-        ∙ ap (λ x. scattered (image (regions_of guest) w.host) (places_of_block x unit) gives.bytes) parts.work_is
-        ∙ ap (λ m. scattered m (places_of_block work unit) gives.bytes) (sym memory)
-        ∙ sym gives.in_own
+        record {
+          bytes = gives.bytes;
+          count = gives.count;
+          in_own = gives.in_own;
+          in_host =
+              ap (image (regions_of guest)) gives.in_host
+              ∙ direct-read host_bytes (length w.lanes) geometry laid number guest it.given it.command.entry plan parts.planned lane tag parts.lane_below parts.tag_below h w.host
+              parts.in_device unit gives.bytes planned
+              ∙ ap (λ x. scattered (image (regions_of guest) w.host) (places_of_block x unit) gives.bytes) parts.work_is;
+        }
+
+    -- so a byte that is the same in both stays so
+    pub world-direct_same : plan ≡ Direct work → is_read work.opcode ≡ true → SameBlocks guest.extent own (whole_of w h.differed)
+        → (addr : ℕ) → own.memory addr ≡ image (regions_of guest) w.host addr
+        → (units_moved (own_units work unit) work own).memory addr ≡ image (regions_of guest) (moved unit).memory addr
+    world-direct_same direct reads same addr agree =
+        let gives = world-direct_read direct reads same in
+        ap (λ m. m addr) gives.in_own
+        ∙ scattered-at own.memory (image (regions_of guest) w.host) (places_of_block work unit) gives.bytes addr agree
+        ∙ sym (ap (λ m. m addr) gives.in_host)
+
+    -- a unit of a transfer is one of its blocks
+    world-within : (dest : Bool) → form_of work.opcode ≡ Transfer dest → block * unit + block ≤ total_len work.pieces
+    world-within dest =
+        subst (λ x. form_of x.opcode ≡ Transfer dest → block * unit + block ≤ total_len x.pieces) parts.work_is
+        (unit-within host_bytes (length w.lanes) geometry laid number guest it.given it.command.entry plan parts.planned lane tag parts.tag_below h w.host
+        parts.in_device unit left dest)
+
+    -- a bounced Read's block stands in its part of the bounce pages
+    bounced-gives : plan ≡ Bounced work → is_read work.opcode ≡ true → SameBlocks guest.extent own (whole_of w h.differed)
+        → GivesBlock (places_of_block work unit) (addresses (bounce + block * unit) block) own.memory (units_moved (own_units work unit) work own).memory
+        w.host (moved unit).memory
+    bounced-gives bounced reads same =
+        subst (λ ps. GivesBlock (places_of_block work unit) ps own.memory (units_moved (own_units work unit) work own).memory w.host (moved unit).memory)
+        (bounced-addresses guest work plan bounce unit bounced (world-within true (read-form work.opcode reads))) (world-read reads same)
+
+    pub world-page_moved : plan ≡ Bounced work → is_read work.opcode ≡ true → SameBlocks guest.extent own (whole_of w h.differed)
+        → NameNoneTwice (places_of_block work unit)
+        → HasAt (units_moved (own_units work unit) work own).memory (places_of_block work unit) (bytes_from (moved unit).memory (bounce + block * unit) block)
+    world-page_moved bounced reads same once =
+        let gives = bounced-gives bounced reads same in
+        let within = world-within true (read-form work.opcode reads) in
+        let sized = length-places_of work.pieces in
+        subst (λ m. HasAt m (places_of_block work unit) (bytes_from (moved unit).memory (bounce + block * unit) block)) (sym gives.in_own)
+        (subst (λ m. HasAt (scattered own.memory (places_of_block work unit) gives.bytes) (places_of_block work unit) (bytes_from m (bounce + block * unit) block)) (sym gives.in_host)
+        (page-moved own.memory w.host (places_of work.pieces) gives.bytes bounce unit once gives.count (omega (arith, within, sized))))
+
+    -- and those of other units stay
+    pub world-page_kept : (other : ℕ) → plan ≡ Bounced work → is_read work.opcode ≡ true → SameBlocks guest.extent own (whole_of w h.differed)
+        → NameNoneTwice (places_of work.pieces) → (other ≡ unit → ⊥)
+        → HasAt own.memory (places_of_block work other) (bytes_from w.host (bounce + block * other) block)
+        → HasAt (units_moved (own_units work unit) work own).memory (places_of_block work other) (bytes_from (moved unit).memory (bounce + block * other) block)
+    world-page_kept other bounced reads same once apart has =
+        let gives = bounced-gives bounced reads same in
+        subst (λ m. HasAt m (places_of_block work other) (bytes_from (moved unit).memory (bounce + block * other) block)) (sym gives.in_own)
+        (subst (λ m. HasAt (scattered own.memory (places_of_block work unit) gives.bytes) (places_of_block work other) (bytes_from m (bounce + block * other) block)) (sym gives.in_host)
+        (page-kept own.memory w.host (places_of work.pieces) gives.bytes bounce unit other once gives.count apart has))
+
+    -- bytes at other places stay in the guest's own memory
+    pub world-own_elsewhere : is_read work.opcode ≡ true → SameBlocks guest.extent own (whole_of w h.differed) → (addr : ℕ)
+        → All (IsAnother (At addr)) (places_of_block work unit) → (units_moved (own_units work unit) work own).memory addr ≡ own.memory addr
+    world-own_elsewhere reads same addr apart =
+        let gives = world-read reads same in
+        ap (λ m. m addr) gives.in_own ∙ scattered-elsewhere own.memory (places_of_block work unit) gives.bytes addr apart
 
   -- a direct command's places have what the host has where they lie
   pub world-direct_source : (unit : ℕ) → plan ≡ Direct work

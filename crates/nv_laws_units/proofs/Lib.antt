@@ -7,5 +7,6 @@ pub mod Moving
 pub mod Imaged
 pub mod Once
 pub mod Runs
-pub mod InWorld
 pub mod Delivery
+pub mod InWorld
+pub mod Submitted

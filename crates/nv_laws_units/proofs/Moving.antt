@@ -70,7 +70,7 @@ read-works DatasetManagement work index lba m is reads = cc
 read-works Flush work index lba m is reads = cc
 
 -- a Read transfers
-read-form : (opcode : IoOpcode) → is_read opcode ≡ true → form_of opcode ≡ Transfer true
+pub read-form : (opcode : IoOpcode) → is_read opcode ≡ true → form_of opcode ≡ Transfer true
 read-form Read reads = refl
 read-form Write reads = cc
 read-form Compare reads = cc
@@ -139,6 +139,13 @@ module _ (host_bytes lanes : ℕ) (geometry : Geometry) (laid : IsLaidOut host_b
       ap (λ ps. take block (drop (block * number) ps)) in_device.places
       ∙ ap (take block) (drop-map At (block * number) (addresses_of plan guest bounce))
       ∙ take-map At block (drop (block * number) (addresses_of plan guest bounce))
+
+  -- a unit of a transfer is one of its blocks
+  pub unit-within : (dest : Bool) → form_of is.work.opcode ≡ Transfer dest → block * number + block ≤ total_len is.work.pieces
+  unit-within dest form =
+      let few : number < count_of entry = subst (λ f. number < form_unit_count f entry) form below in
+      let total : total_len is.work.pieces ≡ block * count_of entry = sound.total ∙ ap (λ f. form_transfer_len f entry) form in
+      omega (arith, few, total)
 
   -- ---- its blocks
 

@@ -2,3 +2,4 @@
 pub mod delivering;
 pub mod imaging;
 pub mod moving;
+pub mod submitting;

@@ -13,10 +13,10 @@ ghost use Rattle.nv_world_model.specs.Plan.{Bounced, Direct, Plan};
 ghost use Rattle.nv_world_model.specs.World.{World};
 ghost use Rattle.nv_laws_sound.specs.Consistent.{IsConsistent};
 ghost use Rattle.nv_laws_sound.specs.LaidOut.{IsLaidOut};
-ghost use Rattle.nv_laws_units.specs.Units.{IsHeld, SameBlocks, addresses_of_block, own_units, whole_of};
+ghost use Rattle.nv_laws_units.specs.Units.{GivesBlock, IsHeld, SameBlocks, addresses_of_block, own_units, whole_of};
 
-/// A direct transfer's places have in the guest's memory what the host has where the device looks; and behind a direct Read's unit the guest's
-/// memory is as behind its own unit.
+/// A direct transfer's places have in the guest's memory what the host has where the device looks; and a direct Read's unit gives the same bytes to
+/// the same places of the guest's memory and of its own: a byte that is the same in both stays so.
 pub fn a_direct_unit_moves_in_the_guests_memory()
     ensures source { (host_bytes : ℕ) (geometry : Geometry) (w : World) (number : ℕ) (guest : Guest) (lane tag : ℕ) (plan : Plan) (work : Work)
         (h : Held) (unit : ℕ) →
@@ -28,9 +28,18 @@ pub fn a_direct_unit_moves_in_the_guests_memory()
         (h : Held) (unit : ℕ) (own : Moved) →
         IsLaidOut host_bytes (length w.lanes) geometry → IsConsistent geometry w → IsHeld geometry w number guest lane tag plan work h →
         list_any (λ k. k == unit) h.left ≡ true → plan ≡ Direct work → is_read work.opcode ≡ true →
-        SameBlocks guest.extent own (whole_of w h.differed) → own.memory ≡ image (regions_of guest) w.host →
-        image (regions_of guest) (device_unit unit geometry.disk_blocks h w.host w.disk w.kept).memory
-        ≡ (units_moved (own_units work unit) work own).memory }
+        SameBlocks guest.extent own (whole_of w h.differed) →
+        GivesBlock (places_of_block work unit) (places_of_block work unit) own.memory (units_moved (own_units work unit) work own).memory
+        (image (regions_of guest) w.host)
+        (image (regions_of guest) (device_unit unit geometry.disk_blocks h w.host w.disk w.kept).memory) }
+    ensures same { (host_bytes : ℕ) (geometry : Geometry) (w : World) (number : ℕ) (guest : Guest) (lane tag : ℕ) (plan : Plan) (work : Work)
+        (h : Held) (unit : ℕ) (own : Moved) →
+        IsLaidOut host_bytes (length w.lanes) geometry → IsConsistent geometry w → IsHeld geometry w number guest lane tag plan work h →
+        list_any (λ k. k == unit) h.left ≡ true → plan ≡ Direct work → is_read work.opcode ≡ true →
+        SameBlocks guest.extent own (whole_of w h.differed) →
+        (addr : ℕ) → own.memory addr ≡ image (regions_of guest) w.host addr →
+        (units_moved (own_units work unit) work own).memory addr
+        ≡ image (regions_of guest) (device_unit unit geometry.disk_blocks h w.host w.disk w.kept).memory addr }
 {}
 
 /// A bounced command's unit leaves the guest's memory as it was.
