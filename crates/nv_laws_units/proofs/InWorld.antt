@@ -45,7 +45,7 @@ by-held None h is = cc
 by-held (Some None) h is = cc
 by-held (Some (Some x)) h is = ap (λ y. Some y) is
 
-device-there : (o : Option DeviceLane) (tag : ℕ) (h : Held) → held_in o tag ≡ Some h → (d : DeviceLane) × (o ≡ Some d) × (slice_get d.held tag ≡ Some (Some h))
+pub device-there : (o : Option DeviceLane) (tag : ℕ) (h : Held) → held_in o tag ≡ Some h → (d : DeviceLane) × (o ≡ Some d) × (slice_get d.held tag ≡ Some (Some h))
 device-there None tag h is = cc
 device-there (Some d) tag h is = (d, refl, by-held (slice_get d.held tag) h is)
 

@@ -10,3 +10,4 @@ pub mod Runs
 pub mod Delivery
 pub mod InWorld
 pub mod Submitted
+pub mod Events
