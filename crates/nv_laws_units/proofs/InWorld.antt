@@ -15,7 +15,11 @@ use Rattle.nv_mem.proofs.PlaceLists.{length-places_of}
 use Rattle.nv_laws_units.specs.Places.{HasAt, NameNoneTwice}
 use Rattle.nv_laws_units.proofs.Delivery.{page-kept, page-moved}
 use Rattle.nv_mem.specs.GuestMap.{mapped}
-use Rattle.nv_world_model.specs.PrivateSteps.{own_moves}
+use Rattle.nv_world_model.specs.PrivateSteps.{others_moves, own_moves}
+use Rattle.std.specs.Prelude.{◌≢◌}
+use Rattle.nv_ns.specs.BlockRange.{block_at, block_count}
+use Rattle.nv_laws_units.specs.Marks.{RunsToMarks, SameMarks}
+use Rattle.nv_laws_units.proofs.Marks.{other-bytes, other-marks}
 use Rattle.nv_entry.specs.Submission.{slba_of}
 use Rattle.nv_model.proofs.Shown.{length-bytes_from}
 use Rattle.nv_world_model.specs.Area.{bounce_page, tag_count}
@@ -230,3 +234,21 @@ module _ (host_bytes : ℕ) (geometry : Geometry) (w : World) (laid : IsLaidOut 
       own-run shape name t work p unit h.left m
       (subst (λ x. length (form_numbers (form_of x.opcode) x) ≡ length x.units) parts.work_is
       (numbers-counted (form_of parts.planned.work.opcode) parts.planned.work (shape_of guest).blocks it.command.entry sound.units)) left
+
+  -- ---- another guest's blocks
+
+  module _ (unit : ℕ) (left : list_any (λ k. k == unit) h.left ≡ true) (other : ℕ) (guest_too : Guest) (given_too : slice_get geometry.guests other ≡ Some guest_too)
+      (differ : other ≢ number) where
+    pub world-other_marks : (p : Private) → SameMarks guest_too.extent p.kept w.kept
+        → RunsToMarks guest_too (others_moves (Some work) guest_too.extent) p (moved unit).kept
+    world-other_marks p same =
+        subst (λ x. RunsToMarks guest_too (others_moves (Some x) guest_too.extent) p (moved unit).kept) parts.work_is
+        (other-marks host_bytes (length w.lanes) geometry laid number guest it.given it.command.entry plan parts.planned lane tag parts.tag_below h w.host
+        parts.in_device unit left other guest_too given_too differ w.disk w.kept p same)
+
+    pub world-other_bytes : (lba offset : ℕ) → lba < block_count guest_too.extent
+        → (moved unit).disk (block_at guest_too.extent lba) offset ≡ w.disk (block_at guest_too.extent lba) offset
+    world-other_bytes lba offset within =
+        ap (λ f. f offset)
+        (other-bytes host_bytes (length w.lanes) geometry laid number guest it.given it.command.entry plan parts.planned lane tag parts.tag_below h w.host
+        parts.in_device unit left other guest_too given_too differ w.disk w.kept lba within)

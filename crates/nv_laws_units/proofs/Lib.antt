@@ -8,6 +8,7 @@ pub mod Imaged
 pub mod Once
 pub mod Runs
 pub mod Delivery
+pub mod Marks
 pub mod InWorld
 pub mod Submitted
 pub mod Events

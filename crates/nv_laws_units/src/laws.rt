@@ -2,4 +2,5 @@
 pub mod delivering;
 pub mod imaging;
 pub mod moving;
+pub mod sparing;
 pub mod submitting;
