@@ -12,3 +12,4 @@ pub mod Marks
 pub mod InWorld
 pub mod Submitted
 pub mod Events
+pub mod Steadies

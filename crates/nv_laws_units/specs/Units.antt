@@ -5,7 +5,7 @@ use Rattle.nv_mem.specs.Places.{At, Place}
 use Rattle.nv_model.specs.Judge.{Work, WorkUnit}
 use Rattle.nv_model.specs.Limits.{block}
 use Rattle.nv_model.specs.Memory.{scattered}
-use Rattle.nv_model.specs.Private.{Moved}
+use Rattle.nv_model.specs.Private.{Moved, Private}
 use Rattle.nv_ns.specs.BlockRange.{Extent, block_at, block_count}
 use Rattle.nv_world_model.specs.Area.{addresses_of}
 use Rattle.nv_world_model.specs.Device.{Held}
@@ -37,6 +37,10 @@ pub record SameBlocks (extent : Extent) (own whole : Moved) : Type 0 where
 -- memory, disk and marks of the world; and whether a Compare has differed so far
 abbrev pub whole_of : World → (differed : Bool) → Moved
 whole_of w differed = record { memory = w.host; disk = w.disk; kept = w.kept; differed = differed }
+
+-- memory, disk and marks of a guest's private controller; and whether a Compare has differed so far
+abbrev pub own_of : Private → (differed : Bool) → Moved
+own_of p differed = record { memory = p.memory; disk = p.disk; kept = p.kept; differed = differed }
 
 -- a guest's command that goes with this work is in the device, in that tag
 pub record IsHeld (geometry : Geometry) (w : World) (number : ℕ) (guest : Guest) (lane tag : ℕ) (plan : Plan) (work : Work) (h : Held) : Type 0 where

@@ -1,24 +1,24 @@
 //! A moved unit is the private unit.
 
-ghost use Rattle.std.specs.Prelude.{◌≡◌, ℕ, [], Some, true, false, ◌==◌, length};
+ghost use Rattle.std.specs.Prelude.{◌≡◌, ℕ, Bool, [], Some, true, false, ◌==◌, length};
 ghost use Rattle.std.specs.List.{list_any};
 ghost use Rattle.nv_model.specs.Carried.{at_work, units_moved};
 ghost use Rattle.nv_model.specs.Judge.{Transfer, Work, form_of, is_read};
 ghost use Rattle.nv_model.specs.Memory.{gathered};
-ghost use Rattle.nv_model.specs.Private.{Moved, Private, Shape, Taken, others, places_of_block, run_of};
+ghost use Rattle.nv_model.specs.Private.{AtWork, Moved, Private, Shape, Taken, others, places_of_block, run_of};
 ghost use Rattle.nv_world_model.specs.Area.{bounce_page};
 ghost use Rattle.nv_world_model.specs.Device.{Held, device_unit, unit_gone};
 ghost use Rattle.nv_world_model.specs.Geometry.{Geometry, Guest};
 ghost use Rattle.nv_world_model.specs.Plan.{Plan};
-ghost use Rattle.nv_world_model.specs.PrivateSteps.{own_moves};
-ghost use Rattle.nv_world_model.specs.Seat.{units_behind};
+ghost use Rattle.nv_world_model.specs.PrivateSteps.{own_moves, steps_of};
+ghost use Rattle.nv_world_model.specs.Seat.{name_of, units_behind};
 ghost use Rattle.nv_world_model.specs.Step.{device_moved, replied, step};
 ghost use Rattle.nv_world_model.specs.World.{World};
 ghost use Rattle.nv_world_model.specs.declared.event.Event.TheVariants as event;
 ghost use Rattle.nv_model.specs.declared.reply.Reply.TheVariants as reply;
 ghost use Rattle.nv_laws_sound.specs.Consistent.{IsConsistent};
 ghost use Rattle.nv_laws_sound.specs.LaidOut.{IsLaidOut};
-ghost use Rattle.nv_laws_units.specs.Units.{GivesBlock, IsHeld, SameBlocks, addresses_of_block, own_units, whole_of};
+ghost use Rattle.nv_laws_units.specs.Units.{GivesBlock, IsHeld, SameBlocks, addresses_of_block, own_of, own_units, whole_of};
 
 /// A unit that the device moves does to a guest's blocks, each where the disk has it, what the unit of the guest's own command does that its
 /// verdict names (of a range of Dataset Management all its blocks' units): the same bytes, the same marks, and a Compare differs in both or in
@@ -47,15 +47,21 @@ pub fn a_moved_unit_is_the_private_unit()
         × ((device_unit unit geometry.disk_blocks h w.host w.disk w.kept).memory ≡ w.host) }
 {}
 
-/// The steps of the guest's own command that the device's unit stands for are a run of its private controller, each moving a unit that is left; behind
-/// it those units are left whose unit of the device's is.
+/// The steps that a unit's event stands for on its guest's private controller are those of the units that it stands for; and where the command is at
+/// work there with the units left whose unit of the device's is, they are a run, behind which it is so again, with one unit less.
 pub fn a_units_steps_are_a_run()
-    ensures { (host_bytes : ℕ) (geometry : Geometry) (w : World) (number : ℕ) (guest : Guest) (lane tag : ℕ) (plan : Plan) (work : Work)
-        (h : Held) (unit : ℕ) (shape : Shape) (name : ℕ) (t : Taken) (p : Private) (own : Moved) →
+    ensures steps { (geometry : Geometry) (w : World) (number : ℕ) (guest : Guest) (lane tag : ℕ) (plan : Plan) (work : Work) (h : Held) (unit : ℕ) →
+        IsHeld geometry w number guest lane tag plan work h →
+        steps_of number guest w (event.DevMove lane tag unit) reply.Done ≡ own_moves (Some work) (name_of lane tag) unit }
+    ensures run { (host_bytes : ℕ) (geometry : Geometry) (w : World) (number : ℕ) (guest : Guest) (lane tag : ℕ) (plan : Plan) (work : Work)
+        (h : Held) (unit : ℕ) (shape : Shape) (name : ℕ) (t : Taken) (p : Private) (differed : Bool) →
         IsLaidOut host_bytes (length w.lanes) geometry → IsConsistent geometry w → IsHeld geometry w number guest lane tag plan work h →
-        list_any (λ k. k == unit) h.left ≡ true →
-        run_of shape (own_moves (Some work) name unit) (at_work name t work (units_behind work h.left) own p)
-        ≡ Some (record { state = at_work name t work (units_behind work (others unit h.left)) (units_moved (own_units work unit) work own) p; seen = [] }) }
+        list_any (λ k. k == unit) h.left ≡ true → p.bag name ≡ Some t → t.progress ≡ AtWork work (units_behind work h.left) differed →
+        run_of shape (own_moves (Some work) name unit) p
+        ≡ Some (record {
+          state = at_work name t work (units_behind work (others unit h.left)) (units_moved (own_units work unit) work (own_of p differed)) p;
+          seen = [];
+        }) }
 {}
 
 /// A unit that is left moves by its event, whichever is named: the host, the disk and the marks behind it are those that the unit leaves, and the

@@ -1,6 +1,8 @@
-use Rattle.nv_laws_units.proofs.InWorld.{world-run}
+use Rattle.nv_laws_units.proofs.Events.{own-steps, run-from}
 use Rattle.nv_laws_units.proofs.laws.moving.a_units_steps_are_a_run.Goals as goal
 
-pub returns : goal.returns
-returns c host_bytes geometry w number guest lane tag plan work h unit shape name t p own laid fine it =
-    world-run host_bytes geometry w laid fine number guest lane tag plan work h it shape name t p unit own
+pub returns-clause-steps : goal.returns-clause-steps
+returns-clause-steps c = own-steps
+
+pub returns-clause-run : goal.returns-clause-run
+returns-clause-run c = run-from

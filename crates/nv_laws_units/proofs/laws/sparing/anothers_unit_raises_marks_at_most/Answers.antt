@@ -1,5 +1,10 @@
+use Rattle.nv_laws_units.proofs.Events.{others-steps}
 use Rattle.nv_laws_units.proofs.InWorld.{world-other_bytes, world-other_marks}
 use Rattle.nv_laws_units.proofs.laws.sparing.anothers_unit_raises_marks_at_most.Goals as goal
+
+pub returns-clause-steps : goal.returns-clause-steps
+returns-clause-steps c geometry w owner held lane tag plan work h unit number guest it differ =
+    others-steps geometry w owner held lane tag plan work h unit number guest it differ
 
 pub returns-clause-marks : goal.returns-clause-marks
 returns-clause-marks c host_bytes geometry w owner held lane tag plan work h unit number guest p laid fine it left given differ =
