@@ -45,7 +45,8 @@ use Rattle.nv_laws_others.proofs.AlikeRings.{slot-both}
 use Rattle.nv_laws_others.proofs.AlikeUnits.{AreAlike, IsOfUnit, gathered-part, memory-kept, unit-alike, unit_spans, units-split}
 use Rattle.nv_laws_others.proofs.AlikeWalks.{IsInBoth, either-both, lane-too, tag-too}
 use Rattle.nv_laws_others.proofs.Leaving.{bytes-elsewhere}
-use Rattle.nv_laws_others.proofs.MoveEvents.{below, drop-row, starts}
+use Rattle.nv_laws_sound.proofs.OnDisk.{drop-row}
+use Rattle.nv_laws_others.proofs.MoveEvents.{below, starts}
 use Rattle.nv_laws_others.proofs.Parts.{held-put}
 use Rattle.nv_laws_others.proofs.Shown.{any-chosen, in_span, units-few}
 

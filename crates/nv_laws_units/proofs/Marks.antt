@@ -4,13 +4,13 @@ use Rattle.std.specs.Prelude.{◌≢◌}
 use Rattle.std.specs.List.{list_any, range_with_len}
 use Rattle.std.proofs.lemmas.Bool.{cases_eq, ne_eqb}
 use Rattle.std.proofs.lemmas.Bool.Decides.{nat_tests}
-use Rattle.std.proofs.lemmas.List.Elements.{All-cons, All-filter, All-head, All-map, All-nil, All-tail}
+use Rattle.std.proofs.lemmas.List.Elements.{All-cons, All-filter, All-head, All-nil, All-tail}
 use Rattle.nv_entry.specs.Opcode.{io_opcode}
 use Rattle.nv_entry.specs.Range.{blocks_of, start_of}
 use Rattle.nv_entry.specs.Submission.{opcode_of, slba_of}
 use Rattle.nv_mem.specs.GuestMap.{mapped}
 use Rattle.nv_model.specs.Carried.{block_work, units_moved}
-use Rattle.nv_model.specs.Judge.{Clear, ClearBlock, Form, Keep, LeaveBlock, Manage, MoveBlock, Transfer, Work, clear_units, count_of, deallocates, form_has_blocks, form_of, has_blocks, is_fua, one_range_units}
+use Rattle.nv_model.specs.Judge.{Clear, ClearBlock, Form, Keep, Manage, MoveBlock, Transfer, Work, count_of, deallocates, form_has_blocks, form_of, has_blocks, is_fua, one_range_units}
 use Rattle.nv_model.specs.Laws.{IsElsewhere}
 use Rattle.nv_model.specs.Private.{KeepStep, Moved, Private, Shape, marked, run_of, step}
 use Rattle.nv_model.proofs.AnyAnswers.{end-sound}
@@ -25,7 +25,7 @@ use Rattle.nv_laws_sound.specs.Consistent.{IsInDevice, IsPlanned}
 use Rattle.nv_laws_sound.specs.LaidOut.{IsLaidOut}
 use Rattle.nv_laws_sound.proofs.EntryFields.{entry-opcode}
 use Rattle.nv_laws_sound.proofs.Named.{row-all}
-use Rattle.nv_laws_sound.proofs.OnDisk.{AreOwn, entry-own, range-own, unit-below}
+use Rattle.nv_laws_sound.proofs.OnDisk.{AreOwn, entry-own, range-elsewhere, range-own, unit-below}
 use Rattle.nv_laws_units.specs.Marks.{RunsToMarks, SameMarks}
 
 -- ---- blocks that become kept on the guest's own controller
@@ -123,26 +123,6 @@ keep-marks guest p whole block same =
     as_cond false k = refl
 
 -- ---- another's unit
-
--- blocks of a row outside of which a block lies are elsewhere
-clears-elsewhere : (at from len : ℕ) (mark : Bool) → (at < from) ⊎ (from + len ≤ at) → All (IsElsewhere at) (clear_units mark (range_with_len from len))
-unfolding clear_units
-clears-elsewhere at from len mark away =
-    All-map (IsElsewhere at) (λ lba. ClearBlock lba mark) (range_with_len from len)
-    (row-all (λ lba. IsElsewhere at (ClearBlock lba mark)) from len (λ lba low high same. off lba low high same away))
-  where
-    off : (lba : ℕ) → from ≤ lba → lba < from + len → lba ≡ at → (at < from) ⊎ (from + len ≤ at) → ⊥
-    off lba low high same (inl before) = absurd (omega (arith, low, same, before))
-    off lba low high same (inr behind) = absurd (omega (arith, high, same, behind))
-
-leaves-elsewhere : (at : ℕ) (lbas : List ℕ) → All (IsElsewhere at) (map LeaveBlock lbas)
-leaves-elsewhere at [] = All-nil (IsElsewhere at)
-leaves-elsewhere at (lba ∷ lbas) = All-cons (IsElsewhere at) (LeaveBlock lba) (map LeaveBlock lbas) tt (leaves-elsewhere at lbas)
-
-range-elsewhere : (at : ℕ) (deallocate : Bool) (range : List ℕ) → (at < start_of range) ⊎ (start_of range + blocks_of range ≤ at)
-    → All (IsElsewhere at) (one_range_units deallocate range)
-range-elsewhere at true range away = clears-elsewhere at (start_of range) (blocks_of range) false away
-range-elsewhere at false range away = leaves-elsewhere at (range_with_len (start_of range) (blocks_of range))
 
 module _ (host_bytes lanes : ℕ) (geometry : Geometry) (laid : IsLaidOut host_bytes lanes geometry) (owner : ℕ) (guest : Guest)
     (given : slice_get geometry.guests owner ≡ Some guest) (entry : List ℕ) (plan : Plan) (is : IsPlanned guest entry plan) (lane tag : ℕ)
