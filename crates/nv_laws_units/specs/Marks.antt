@@ -11,7 +11,8 @@ use Rattle.nv_world_model.specs.declared.event.Event.TheVariants as event
 abbrev pub SameMarks : Extent → (own whole : ℕ → Bool) → Type 0
 SameMarks extent own whole = (lba : ℕ) → lba < block_count extent → own lba ≡ whole (block_at extent lba)
 
--- these steps are a run of a guest's private controller that changes marks alone, and behind it its marks are those of the disk
+-- these steps are a run of a guest's private controller that changes marks alone, and behind it its marks are those
+-- of the disk
 pub record RunsToMarks (guest : Guest) (steps : List Step) (p : Private) (whole : ℕ → Bool) : Type 0 where
   pub marks : ℕ → Bool
   pub runs : run_of (shape_of guest) steps p ≡ Some (record { state = record p { kept = marks }; seen = [] })

@@ -1,4 +1,5 @@
--- Bytes at places: where a guest's places lie in the host, which bytes a memory has at places, and places that name no byte twice (profile).
+-- Bytes at places: where a guest's places lie in the host, which bytes a memory has at places, and places that name
+-- no byte twice (profile).
 use Rattle.std.specs.Prelude.{◌≡◌, ℕ, List, [], ◌∷◌, Some}
 use Rattle.std.specs.Bool.{⊤}
 use Rattle.std.specs.List.{AllPairs}

@@ -1,5 +1,6 @@
--- What a unit of a guest's command in the device is to its private controller: the units of the command that the device's unit stands for, and
--- where a block's bytes lie in the host; and when the guest's own blocks are those of the disk (profile).
+-- What a unit of a guest's command in the device is to its private controller: the units of the command that the
+-- device's unit stands for, and where a block's bytes lie in the host; and when the guest's own blocks are those of
+-- the disk (profile).
 use Rattle.std.specs.Prelude.{◌≡◌, ℕ, ◌*◌, ◌<◌, Bool, List, [], ◌∷◌, drop, flat_map, length, map, option_to_list, slice_get, take, Some}
 use Rattle.nv_mem.specs.Places.{At, Place}
 use Rattle.nv_model.specs.Judge.{Work, WorkUnit}
@@ -22,11 +23,13 @@ own_units work number = flat_map (λ k. option_to_list (slice_get work.units k))
 
 -- where the bytes of a block of a plan's transfer lie in the host, in their order
 abbrev pub addresses_of_block : Plan → Guest → (bounce index : ℕ) → List Place
-addresses_of_block plan guest bounce index = map At (take block (drop (block * index) (addresses_of plan guest bounce)))
+addresses_of_block plan guest bounce index =
+    map At (take block (drop (block * index) (addresses_of plan guest bounce)))
 
 -- ---- blocks
 
--- a guest's own blocks and marks are those that the disk has where its namespace lies, and a Compare has differed in both or in neither
+-- a guest's own blocks and marks are those that the disk has where its namespace lies, and a Compare has differed in
+-- both or in neither
 pub record SameBlocks (extent : Extent) (own whole : Moved) : Type 0 where
   pub bytes : (lba offset : ℕ) → lba < block_count extent → own.disk lba offset ≡ whole.disk (block_at extent lba) offset
   pub marks : (lba : ℕ) → lba < block_count extent → own.kept lba ≡ whole.kept (block_at extent lba)
@@ -43,7 +46,8 @@ abbrev pub own_of : Private → (differed : Bool) → Moved
 own_of p differed = record { memory = p.memory; disk = p.disk; kept = p.kept; differed = differed }
 
 -- a guest's command that goes with this work is in the device, in that tag
-pub record IsHeld (geometry : Geometry) (w : World) (number : ℕ) (guest : Guest) (lane tag : ℕ) (plan : Plan) (work : Work) (h : Held) : Type 0 where
+pub record IsHeld (geometry : Geometry) (w : World) (number : ℕ) (guest : Guest) (lane tag : ℕ) (plan : Plan)
+    (work : Work) (h : Held) : Type 0 where
   pub command : Command
   pub own : command.guest ≡ number
   pub given : slice_get geometry.guests number ≡ Some guest

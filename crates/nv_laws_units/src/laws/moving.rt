@@ -20,60 +20,81 @@ ghost use Rattle.nv_laws_sound.specs.Consistent.{IsConsistent};
 ghost use Rattle.nv_laws_sound.specs.LaidOut.{IsLaidOut};
 ghost use Rattle.nv_laws_units.specs.Units.{GivesBlock, IsHeld, SameBlocks, addresses_of_block, own_of, own_units, whole_of};
 
-/// A unit that the device moves does to a guest's blocks, each where the disk has it, what the unit of the guest's own command does that its
-/// verdict names (of a range of Dataset Management all its blocks' units): the same bytes, the same marks, and a Compare differs in both or in
-/// neither. A Write's and a Compare's source is any memory that has at the places of the block what the host has where the device looks: the
-/// guest's memory where the transfer is direct, the tag's bounce pages where it isn't.
+/// A unit that the device moves does to a guest's blocks, each where the disk has it, what the unit of the guest's
+/// own command does that its verdict names (of a range of Dataset Management all its blocks' units): the same bytes,
+/// the same marks, and a Compare differs in both or in neither. A Write's and a Compare's source is any memory that
+/// has at the places of the block what the host has where the device looks: the guest's memory where the transfer is
+/// direct, the tag's bounce pages where it isn't.
 pub fn a_moved_unit_is_the_private_unit()
-    ensures blocks { (host_bytes : ℕ) (geometry : Geometry) (w : World) (number : ℕ) (guest : Guest) (lane tag : ℕ) (plan : Plan) (work : Work)
+    ensures blocks { (host_bytes : ℕ) (geometry : Geometry) (w : World) (number : ℕ) (guest : Guest) (lane tag : ℕ)
+        (plan : Plan) (work : Work)
         (h : Held) (unit : ℕ) (own : Moved) →
-        IsLaidOut host_bytes (length w.lanes) geometry → IsConsistent geometry w → IsHeld geometry w number guest lane tag plan work h →
+        IsLaidOut host_bytes (length w.lanes) geometry → IsConsistent geometry w →
+        IsHeld geometry w number guest lane tag plan work h →
         list_any (λ k. k == unit) h.left ≡ true → SameBlocks guest.extent own (whole_of w h.differed) →
         (form_of work.opcode ≡ Transfer false → gathered own.memory (places_of_block work unit)
         ≡ gathered w.host (addresses_of_block plan guest (bounce_page geometry.mediator lane tag) unit)) →
-        SameBlocks guest.extent (units_moved (own_units work unit) work own) (device_unit unit geometry.disk_blocks h w.host w.disk w.kept) }
-    ensures read { (host_bytes : ℕ) (geometry : Geometry) (w : World) (number : ℕ) (guest : Guest) (lane tag : ℕ) (plan : Plan) (work : Work)
+        SameBlocks guest.extent (units_moved (own_units work unit) work own)
+        (device_unit unit geometry.disk_blocks h w.host w.disk w.kept) }
+    ensures read { (host_bytes : ℕ) (geometry : Geometry) (w : World) (number : ℕ) (guest : Guest) (lane tag : ℕ)
+        (plan : Plan) (work : Work)
         (h : Held) (unit : ℕ) (own : Moved) →
-        IsLaidOut host_bytes (length w.lanes) geometry → IsConsistent geometry w → IsHeld geometry w number guest lane tag plan work h →
-        list_any (λ k. k == unit) h.left ≡ true → is_read work.opcode ≡ true → SameBlocks guest.extent own (whole_of w h.differed) →
-        GivesBlock (places_of_block work unit) (addresses_of_block plan guest (bounce_page geometry.mediator lane tag) unit)
+        IsLaidOut host_bytes (length w.lanes) geometry → IsConsistent geometry w →
+        IsHeld geometry w number guest lane tag plan work h →
+        list_any (λ k. k == unit) h.left ≡ true → is_read work.opcode ≡ true →
+        SameBlocks guest.extent own (whole_of w h.differed) →
+        GivesBlock (places_of_block work unit) (addresses_of_block plan guest
+        (bounce_page geometry.mediator lane tag) unit)
         own.memory (units_moved (own_units work unit) work own).memory
         w.host (device_unit unit geometry.disk_blocks h w.host w.disk w.kept).memory }
-    ensures others { (host_bytes : ℕ) (geometry : Geometry) (w : World) (number : ℕ) (guest : Guest) (lane tag : ℕ) (plan : Plan) (work : Work)
+    ensures others { (host_bytes : ℕ) (geometry : Geometry) (w : World) (number : ℕ) (guest : Guest) (lane tag : ℕ)
+        (plan : Plan) (work : Work)
         (h : Held) (unit : ℕ) (own : Moved) →
-        IsLaidOut host_bytes (length w.lanes) geometry → IsConsistent geometry w → IsHeld geometry w number guest lane tag plan work h →
+        IsLaidOut host_bytes (length w.lanes) geometry → IsConsistent geometry w →
+        IsHeld geometry w number guest lane tag plan work h →
         list_any (λ k. k == unit) h.left ≡ true → is_read work.opcode ≡ false →
         ((units_moved (own_units work unit) work own).memory ≡ own.memory)
         × ((device_unit unit geometry.disk_blocks h w.host w.disk w.kept).memory ≡ w.host) }
 {}
 
-/// The steps that a unit's event stands for on its guest's private controller are those of the units that it stands for; and where the command is at
-/// work there with the units left whose unit of the device's is, they are a run, behind which it is so again, with one unit less.
+/// The steps that a unit's event stands for on its guest's private controller are those of the units that it stands
+/// for; and where the command is at work there with the units left whose unit of the device's is, they are a run,
+/// behind which it is so again, with one unit less.
 pub fn a_units_steps_are_a_run()
-    ensures steps { (geometry : Geometry) (w : World) (number : ℕ) (guest : Guest) (lane tag : ℕ) (plan : Plan) (work : Work) (h : Held) (unit : ℕ) →
+    ensures steps { (geometry : Geometry) (w : World) (number : ℕ) (guest : Guest) (lane tag : ℕ) (plan : Plan)
+        (work : Work) (h : Held) (unit : ℕ) →
         IsHeld geometry w number guest lane tag plan work h →
-        steps_of number guest w (event.DevMove lane tag unit) reply.Done ≡ own_moves (Some work) (name_of lane tag) unit }
-    ensures run { (host_bytes : ℕ) (geometry : Geometry) (w : World) (number : ℕ) (guest : Guest) (lane tag : ℕ) (plan : Plan) (work : Work)
+        steps_of number guest w (event.DevMove lane tag unit) reply.Done ≡ own_moves (Some work)
+        (name_of lane tag) unit }
+    ensures run { (host_bytes : ℕ) (geometry : Geometry) (w : World) (number : ℕ) (guest : Guest) (lane tag : ℕ)
+        (plan : Plan) (work : Work)
         (h : Held) (unit : ℕ) (shape : Shape) (name : ℕ) (t : Taken) (p : Private) (differed : Bool) →
-        IsLaidOut host_bytes (length w.lanes) geometry → IsConsistent geometry w → IsHeld geometry w number guest lane tag plan work h →
-        list_any (λ k. k == unit) h.left ≡ true → p.bag name ≡ Some t → t.progress ≡ AtWork work (units_behind work h.left) differed →
+        IsLaidOut host_bytes (length w.lanes) geometry → IsConsistent geometry w →
+        IsHeld geometry w number guest lane tag plan work h →
+        list_any (λ k. k == unit) h.left ≡ true → p.bag name ≡ Some t →
+        t.progress ≡ AtWork work (units_behind work h.left) differed →
         run_of shape (own_moves (Some work) name unit) p
         ≡ Some (record {
-          state = at_work name t work (units_behind work (others unit h.left)) (units_moved (own_units work unit) work (own_of p differed)) p;
+          state = at_work name t work (units_behind work (others unit h.left)) (units_moved
+              (own_units work unit) work (own_of p differed)) p;
           seen = [];
         }) }
 {}
 
-/// A unit that is left moves by its event, whichever is named: the host, the disk and the marks behind it are those that the unit leaves, and the
-/// command is in the device with one unit less.
+/// A unit that is left moves by its event, whichever is named: the host, the disk and the marks behind it are those
+/// that the unit leaves, and the command is in the device with one unit less.
 pub fn a_unit_moves_by_its_event()
-    ensures done { (geometry : Geometry) (w : World) (number : ℕ) (guest : Guest) (lane tag : ℕ) (plan : Plan) (work : Work) (h : Held) (unit : ℕ) →
+    ensures done { (geometry : Geometry) (w : World) (number : ℕ) (guest : Guest) (lane tag : ℕ) (plan : Plan)
+        (work : Work) (h : Held) (unit : ℕ) →
         IsHeld geometry w number guest lane tag plan work h → list_any (λ k. k == unit) h.left ≡ true →
-        step geometry (event.DevMove lane tag unit) w ≡ replied reply.Done (device_moved geometry.disk_blocks lane tag unit h w) }
+        step geometry (event.DevMove lane tag unit) w ≡ replied reply.Done
+        (device_moved geometry.disk_blocks lane tag unit h w) }
     ensures behind { (geometry : Geometry) (w : World) (lane tag : ℕ) (h : Held) (unit : ℕ) →
-        whole_of (device_moved geometry.disk_blocks lane tag unit h w) (device_unit unit geometry.disk_blocks h w.host w.disk w.kept).differed
+        whole_of (device_moved geometry.disk_blocks lane tag unit h w)
+        (device_unit unit geometry.disk_blocks h w.host w.disk w.kept).differed
         ≡ device_unit unit geometry.disk_blocks h w.host w.disk w.kept }
-    ensures held { (geometry : Geometry) (w : World) (number : ℕ) (guest : Guest) (lane tag : ℕ) (plan : Plan) (work : Work) (h : Held) (unit : ℕ) →
+    ensures held { (geometry : Geometry) (w : World) (number : ℕ) (guest : Guest) (lane tag : ℕ) (plan : Plan)
+        (work : Work) (h : Held) (unit : ℕ) →
         IsHeld geometry w number guest lane tag plan work h →
         IsHeld geometry (device_moved geometry.disk_blocks lane tag unit h w) number guest lane tag plan work
         (unit_gone unit (device_unit unit geometry.disk_blocks h w.host w.disk w.kept).differed h) }
