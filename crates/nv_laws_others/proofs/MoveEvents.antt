@@ -3,13 +3,13 @@ use Rattle.std.proofs.Common.{◌≡◌, ℕ, zero, suc, ◌+◌, ◌<◌, ◌�
 use Rattle.std.specs.Prelude.{◌≢◌}
 use Rattle.std.specs.List.{list_any, range_with_len}
 use Rattle.std.proofs.lemmas.Bool.{cases_eq, cases_lt}
-use Rattle.std.proofs.lemmas.List.Elements.{All-cons, All-map, All-nil}
+use Rattle.std.proofs.lemmas.List.Elements.{All-cons, All-nil}
 use Rattle.nv_entry.specs.Opcode.{io_opcode}
 use Rattle.nv_entry.specs.Submission.{opcode_of, slba_of}
 use Rattle.nv_mem.specs.GuestMap.{mapped}
 use Rattle.nv_model.specs.Carried.{block_work, units_moved}
 use Rattle.nv_entry.specs.Range.{blocks_of, start_of}
-use Rattle.nv_model.specs.Judge.{deallocates, is_fua, Clear, ClearBlock, Form, Keep, KeepAll, LeaveBlock, Manage, MoveBlock, Transfer, Work, clear_units, count_of, one_range_units, form_has_blocks, form_of, has_blocks}
+use Rattle.nv_model.specs.Judge.{deallocates, is_fua, Clear, ClearBlock, Form, Keep, KeepAll, Manage, MoveBlock, Transfer, Work, count_of, one_range_units, form_has_blocks, form_of, has_blocks}
 use Rattle.nv_model.specs.Laws.{IsElsewhere}
 use Rattle.nv_model.proofs.Judged.{IsSoundWork}
 use Rattle.nv_world_model.specs.Device.{form_unit_count, range_at}
@@ -25,8 +25,7 @@ use Rattle.nv_world_model.specs.Plan.{Plan}
 use Rattle.nv_world_model.specs.View.{in_extent}
 use Rattle.nv_laws_sound.specs.Consistent.{IsInDevice, IsPlanned}
 use Rattle.nv_laws_sound.specs.LaidOut.{IsLaidOut}
-use Rattle.nv_laws_sound.proofs.Named.{row-all}
-use Rattle.nv_laws_sound.proofs.OnDisk.{AreOwn, entry-own, range-own, unit-below}
+use Rattle.nv_laws_sound.proofs.OnDisk.{AreOwn, entry-own, range-elsewhere, range-own, unit-below}
 
 -- ---- blocks
 
@@ -58,31 +57,6 @@ outside-extent extent at out =
         | inr behind ↦ inr behind
       ]
     ]
-
--- ---- units of a range
-
--- each block of a row outside of which a block lies is elsewhere
-clears-elsewhere : (at from len : ℕ) (mark : Bool) → (at < from) ⊎ (from + len ≤ at) → All (IsElsewhere at) (clear_units mark (range_with_len from len))
-unfolding clear_units
-clears-elsewhere at from len mark away =
-    All-map (IsElsewhere at) (λ lba. ClearBlock lba mark) (range_with_len from len)
-    (row-all (λ lba. IsElsewhere at (ClearBlock lba mark)) from len (λ lba low high same. off lba low high same away))
-  where
-    off : (lba : ℕ) → from ≤ lba → lba < from + len → lba ≡ at → (at < from) ⊎ (from + len ≤ at) → ⊥
-    off lba low high same (inl before) = absurd (omega (arith, low, same, before))
-    off lba low high same (inr behind) = absurd (omega (arith, high, same, behind))
-
-leaves-elsewhere : (at : ℕ) (lbas : List ℕ) → All (IsElsewhere at) (map LeaveBlock lbas)
-leaves-elsewhere at lbas = All-map (IsElsewhere at) LeaveBlock lbas (row-tt lbas)
-  where
-    row-tt : (lbas : List ℕ) → All (λ lba. IsElsewhere at (LeaveBlock lba)) lbas
-    row-tt [] = All-nil (λ lba. IsElsewhere at (LeaveBlock lba))
-    row-tt (lba ∷ lbas) = All-cons (λ lba. IsElsewhere at (LeaveBlock lba)) lba lbas tt (row-tt lbas)
-
-pub range-elsewhere : (at : ℕ) (deallocate : Bool) (range : List ℕ) → (at < start_of range) ⊎ (start_of range + blocks_of range ≤ at)
-    → All (IsElsewhere at) (one_range_units deallocate range)
-range-elsewhere at true range away = clears-elsewhere at (start_of range) (blocks_of range) false away
-range-elsewhere at false range away = leaves-elsewhere at (range_with_len (start_of range) (blocks_of range))
 
 -- ---- blocks of the guest's
 

@@ -15,7 +15,8 @@ use Rattle.nv_world_model.specs.Plan.{Plan}
 use Rattle.nv_world_model.specs.PrivateSteps.{keeps_all}
 use Rattle.nv_laws_sound.specs.Consistent.{IsInDevice, IsPlanned}
 use Rattle.nv_laws_sound.specs.LaidOut.{IsLaidOut}
-use Rattle.nv_laws_others.proofs.MoveEvents.{below, block-apart, held-opcode, range-apart, range-elsewhere}
+use Rattle.nv_laws_sound.proofs.OnDisk.{range-elsewhere}
+use Rattle.nv_laws_others.proofs.MoveEvents.{below, block-apart, held-opcode, range-apart}
 
 module _ (host_bytes lanes : ℕ) (geometry : Geometry) (laid : IsLaidOut host_bytes lanes geometry) (owner : ℕ) (guest : Guest)
     (given : slice_get geometry.guests owner ≡ Some guest) (entry : List ℕ) (plan : Plan) (is : IsPlanned guest entry plan) (lane tag : ℕ)

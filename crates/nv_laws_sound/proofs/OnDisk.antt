@@ -1,8 +1,8 @@
 -- The blocks that a physical command names on the disk, itself or in its ranges, are its guest's.
-use Rattle.std.proofs.Common.{◌≡◌, ℕ, zero, suc, ◌+◌, ◌-◌, ◌*◌, ◌^◌, ◌<◌, ◌≤◌, true, false, ◌||◌, ◌==◌, nat_le, List, [], ◌∷◌, All, drop, flat_map, length, map, slice_get, take, Some, arith, refl, ap, ◌∙◌, eqb-true, leb-true, subst}
+use Rattle.std.proofs.Common.{◌≡◌, ℕ, zero, suc, ◌+◌, ◌-◌, ◌*◌, ◌^◌, ◌<◌, ◌≤◌, ◌⊎◌, inl, inr, Bool, true, false, ◌||◌, ◌==◌, nat_le, List, [], ◌∷◌, All, drop, flat_map, length, map, slice_get, take, Some, arith, refl, ap, ◌∙◌, eqb-true, leb-true, subst}
 use Rattle.std.specs.List.{list_any, range_with_len}
 use Rattle.std.proofs.lemmas.List.{drop-map}
-use Rattle.std.proofs.lemmas.List.Elements.{All-head, All-tail}
+use Rattle.std.proofs.lemmas.List.Elements.{All-cons, All-head, All-map, All-nil, All-tail}
 use Rattle.std.proofs.lemmas.List.FromFn.{take-map-range_with_len}
 use Rattle.byteorder.specs.Numbers.{little_number-reads_back}
 use Rattle.nv_entry.specs.Layout.{dword, number_at, number_bytes, qword}
@@ -10,7 +10,8 @@ use Rattle.nv_entry.specs.Range.{blocks_of, start_of}
 use Rattle.nv_entry.specs.Submission.{opcode_of, slba_of}
 use Rattle.nv_mem.specs.GuestMap.{mapped}
 use Rattle.nv_mem.specs.Places.{At, addresses, places_of, total_len}
-use Rattle.nv_model.specs.Judge.{Clear, Form, Keep, Manage, Transfer, count_of, form_has_blocks, form_of, form_transfer_len, has_blocks, range_count_of, range_fits}
+use Rattle.nv_model.specs.Laws.{IsElsewhere}
+use Rattle.nv_model.specs.Judge.{ClearBlock, LeaveBlock, clear_units, one_range_units, Clear, Form, Keep, Manage, Transfer, count_of, form_has_blocks, form_of, form_transfer_len, has_blocks, range_count_of, range_fits}
 use Rattle.nv_model.specs.Memory.{bytes_from, gathered}
 use Rattle.nv_model.proofs.AnyAnswers.{end-sound, end-within}
 use Rattle.nv_model.proofs.Endings.{and-true}
@@ -28,23 +29,24 @@ use Rattle.nv_laws_sound.specs.LaidOut.{IsLaidOut}
 use Rattle.nv_laws_sound.proofs.EntryFields.{form-start}
 use Rattle.nv_laws_sound.proofs.LaidOuts.{all-one}
 use Rattle.nv_laws_sound.proofs.Lists.{slice_get-there}
+use Rattle.nv_laws_sound.proofs.Named.{row-all}
 use Rattle.nv_laws_sound.proofs.PlanSizes.{planned-kinds}
 use Rattle.nv_laws_sound.proofs.Shows.{shows-append}
 
 -- ---- a translated range
 
 -- what is read back of it
-translated-blocks : (extent : Extent) (range : List ℕ) → blocks_of range < 2 ^ 32 → blocks_of (translated_range extent range) ≡ blocks_of range
+pub translated-blocks : (extent : Extent) (range : List ℕ) → blocks_of range < 2 ^ 32 → blocks_of (translated_range extent range) ≡ blocks_of range
 unfolding dword number_at
 translated-blocks extent range fits = little_number-reads_back 4 (blocks_of range) (number_bytes 8 (block_at extent (start_of range))) fits
 
-translated-start : (extent : Extent) (range : List ℕ) → block_at extent (start_of range) < 2 ^ 64
+pub translated-start : (extent : Extent) (range : List ℕ) → block_at extent (start_of range) < 2 ^ 64
     → start_of (translated_range extent range) ≡ block_at extent (start_of range)
 unfolding qword number_at
 translated-start extent range fits = little_number-reads_back 8 (block_at extent (start_of range)) [] fits
 
 -- a range that was written stands in its place
-shown-range : (extent : Extent) (memory : ℕ → ℕ) (ranges : List (List ℕ)) (n : ℕ) (at : ℕ) (range : List ℕ) → slice_get ranges n ≡ Some range
+pub shown-range : (extent : Extent) (memory : ℕ → ℕ) (ranges : List (List ℕ)) (n : ℕ) (at : ℕ) (range : List ℕ) → slice_get ranges n ≡ Some range
     → Shows memory at (flat_map (translated_range extent) ranges) → bytes_from memory (at + 16 * n) 16 ≡ translated_range extent range
 shown-range extent memory [] n at range found shown = cc
 shown-range extent memory (r ∷ ranges) zero at range found shown =
@@ -70,12 +72,37 @@ drop-row (suc k) from len =
     rw (more, here) (drop-row k (from + 1) len)
 
 -- the bytes of 16 places of a row
-row-bytes : (memory : ℕ → ℕ) (bounce k rest : ℕ) → gathered memory (take 16 (drop k (map At (range_with_len bounce (k + (16 + rest)))))) ≡ bytes_from memory (bounce + k) 16
+pub row-bytes : (memory : ℕ → ℕ) (bounce k rest : ℕ) → gathered memory (take 16 (drop k (map At (range_with_len bounce (k + (16 + rest)))))) ≡ bytes_from memory (bounce + k) 16
 unfolding addresses
 row-bytes memory bounce k rest =
     ap (λ ps. gathered memory (take 16 ps)) (drop-map At k (range_with_len bounce (k + (16 + rest))) ∙ ap (map At) (drop-row k bounce (16 + rest)))
     ∙ ap (gathered memory) (take-map-range_with_len At (bounce + k) (16 + rest) 16 (omega arith))
     ∙ gathered-addresses memory (bounce + k) 16
+
+-- ---- units of a range
+
+-- each block of a row outside of which a block lies is elsewhere
+clears-elsewhere : (at from len : ℕ) (mark : Bool) → (at < from) ⊎ (from + len ≤ at) → All (IsElsewhere at) (clear_units mark (range_with_len from len))
+unfolding clear_units
+clears-elsewhere at from len mark away =
+    All-map (IsElsewhere at) (λ lba. ClearBlock lba mark) (range_with_len from len)
+    (row-all (λ lba. IsElsewhere at (ClearBlock lba mark)) from len (λ lba low high same. off lba low high same away))
+  where
+    off : (lba : ℕ) → from ≤ lba → lba < from + len → lba ≡ at → (at < from) ⊎ (from + len ≤ at) → ⊥
+    off lba low high same (inl before) = absurd (omega (arith, low, same, before))
+    off lba low high same (inr behind) = absurd (omega (arith, high, same, behind))
+
+leaves-elsewhere : (at : ℕ) (lbas : List ℕ) → All (IsElsewhere at) (map LeaveBlock lbas)
+leaves-elsewhere at lbas = All-map (IsElsewhere at) LeaveBlock lbas (row-tt lbas)
+  where
+    row-tt : (lbas : List ℕ) → All (λ lba. IsElsewhere at (LeaveBlock lba)) lbas
+    row-tt [] = All-nil (λ lba. IsElsewhere at (LeaveBlock lba))
+    row-tt (lba ∷ lbas) = All-cons (λ lba. IsElsewhere at (LeaveBlock lba)) lba lbas tt (row-tt lbas)
+
+pub range-elsewhere : (at : ℕ) (deallocate : Bool) (range : List ℕ) → (at < start_of range) ⊎ (start_of range + blocks_of range ≤ at)
+    → All (IsElsewhere at) (one_range_units deallocate range)
+range-elsewhere at true range away = clears-elsewhere at (start_of range) (blocks_of range) false away
+range-elsewhere at false range away = leaves-elsewhere at (range_with_len (start_of range) (blocks_of range))
 
 -- ---- the units of a command
 

@@ -1,0 +1,3 @@
+pub mod Units
+pub mod Places
+pub mod Marks
