@@ -6,3 +6,5 @@ pub mod Going
 pub mod Answers
 pub mod Ending
 pub mod Submit
+pub mod Jobs
+pub mod Shown

@@ -61,8 +61,8 @@ impl Lane {
         is_claimed(self.claimed(tag), job) && same_reads(self.reads(tag).reads(), job.reads.reads())
     }
 
-    // The transcript of a tag that was taken.
-    fn reads(&self, tag: u8) -> &Transcript
+    /// The transcript of a tag that was taken.
+    pub(crate) fn reads(&self, tag: u8) -> &Transcript
         requires { state_in (slice_get self.now.tags tag) ≡ Some state.Taken }
         ensures { (command : Command) (reads : List Read) → slice_get self.now.tags tag ≡ Some (Taken command reads) →
             result.now ≡ reads }

@@ -7,8 +7,9 @@
 //! [`Core::new`] is the world at its start. The events are [`Core::act`] and [`Core::admin`] of guests; [`Core::take`], [`Core::list`],
 //! [`Core::submit`], [`Core::give_up`], [`Core::reap`] and [`Core::post`] of the mediator; [`Core::dev_take`], [`Core::dev_move`],
 //! [`Core::dev_post`], [`Core::dev_fail`] and [`Core::keep`] of the physical controller.
-//! [`Core::submit_plan`] is the Submit of a plan that was made elsewhere, without the state at hand, and [`Core::due`] tells which events a
-//! worker finds something to do by.
+//! [`Core::submit_plan`] is the Submit of a plan that was made elsewhere, without the state at hand, of the
+//! [`Core::job`] that whoever made it was given; and [`Core::due`] tells which events a worker finds something to do by.
+//! [`Core::host`], [`Core::block`] and [`Core::kept`] show the host's memory and the disk.
 #![tactic(auto)]
 
 mod acting;
@@ -17,6 +18,7 @@ mod area;
 mod comparing;
 mod device_events;
 mod due;
+mod jobs;
 mod keeping;
 mod lane;
 mod lane_ending;
@@ -30,6 +32,7 @@ mod posting;
 mod progress;
 mod reaping;
 mod seat;
+mod showing;
 mod standing;
 mod state;
 mod submitting;

@@ -1,7 +1,6 @@
 -- What each plan says
-use Rattle.std.proofs.Common.{◌≡◌, ℕ, ◌+◌, ◌-◌, ◌*◌, ◌/◌, ◌%◌, ◌^◌, ◌<◌, ◌≤◌, Bool, true, false, ◌&&◌, cond, nat_le, All, List, [], ◌∷◌, ◌++◌, Option, Some, None, length, map, arith, refl, sym, ap, subst, ◌∙◌}
+use Rattle.std.proofs.Common.{◌≡◌, ℕ, ◌+◌, ◌-◌, ◌/◌, ◌%◌, ◌^◌, ◌<◌, ◌≤◌, Bool, true, false, All, List, [], ◌∷◌, ◌++◌, Option, Some, None, length, map, arith, refl, sym, ap, subst, ◌∙◌}
 use Rattle.std.specs.List.{list_all}
-use Rattle.std.proofs.lemmas.Bool.Decides.{nat_tests}
 use Rattle.std.proofs.lemmas.List.Elements.{All-cons, All-nil}
 use Rattle.byteorder.specs.Numbers.{little_from-bytes}
 use Rattle.nv_entry.specs.Layout.{dword, number_at, number_bytes, qword}
@@ -35,9 +34,9 @@ use Rattle.nv_prp.proofs.HostRuns.{length-mapped_runs}
 use Rattle.nv_prp.proofs.Spelling.{built-spells}
 use Rattle.nv_world_model.specs.Area.{translated_range}
 use Rattle.nv_world_model.specs.Geometry.{Guest, regions_of, shape_of}
-use Rattle.nv_world_model.specs.Plan.{Plan, go_plan, plan_of, plan_over, planned, transfer_plan}
+use Rattle.nv_world_model.specs.Plan.{go_plan, plan_of, plan_over, planned, transfer_plan}
 use Rattle.nv_plan.specs.Laws.{LiesIn}
-use Rattle.nv_plan.specs.Made.{IsJobsPlan, MadePlan, outcome_of}
+use Rattle.nv_plan.specs.Made.{IsJobsPlan, MadePlan}
 use Rattle.nv_plan.specs.Outline.{Outline, outline_of, outlined}
 use Rattle.nv_plan.specs.declared.kind.PlanKind.TheVariants as kind
 use Rattle.nv_plan.proofs.PlanCases.{transfer-some}

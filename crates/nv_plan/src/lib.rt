@@ -16,6 +16,7 @@
 //! two, for its bytes and its ranges.
 #![tactic(auto)]
 
+mod copies;
 mod given;
 mod job;
 mod kind;

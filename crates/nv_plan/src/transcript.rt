@@ -55,7 +55,7 @@ impl ReadDone {
 /// The reads of a command's lists, in the order in which they were made. A contract sees it as the list of them.
 #[derive(Debug, Drop)]
 pub struct Transcript {
-    reads: Vec<ReadDone>,
+    pub(crate) reads: Vec<ReadDone>,
 }
 
 impl Model for Transcript {

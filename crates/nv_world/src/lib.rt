@@ -4,11 +4,13 @@
 mod checking;
 mod copies;
 mod due;
+mod jobs;
 mod opening;
 mod performing;
 mod refusal;
 mod running;
 mod setup;
+mod showing;
 mod stepping;
 mod submitting;
 mod world;

@@ -1,4 +1,4 @@
-use Rattle.std.proofs.Common.{◌≡◌, ℕ, List, All, sym, subst}
+use Rattle.std.proofs.Common.{ℕ, List, All, sym, subst}
 use Rattle.nv_plan.specs.Laws.{LiesIn}
 use Rattle.nv_plan.proofs.PlanLaws.{IsJobsPlan-outlined, ranges-are, ranges-lie}
 use Rattle.nv_plan.proofs.laws.ranges_lie_in_the_namespace.Goals as goal

@@ -1,0 +1,26 @@
+//! Jobs of commands that were taken.
+
+ghost use Rattle.std.specs.Prelude.{◌≡◌, IfOk, IsSome, OnErr};
+ghost use Rattle.nv_core.specs.Jobs.{job_of};
+ghost use Rattle.nv_core.specs.State.{world_of};
+
+use crate::world::World;
+use nv_mem::NoMemory;
+use nv_plan::Job;
+use std::alloc::Global;
+
+impl World {
+    /// The job of a tag that was taken: its lane and tag, whose command it is, the command, and a copy of what was
+    /// read of its lists so far. `None` where the tag is at another point, or there is no such tag. Whoever plans it
+    /// hands the plan to [`World::submit_plan`].
+    ///
+    /// # Errors
+    ///
+    /// There was no memory for the copy, of a tag that was taken.
+    pub fn job(&self, alloc: Global, lane: u8, tag: u8) -> Result<Option<Job>, NoMemory>
+        ensures ok { IfOk result (λ job. job ≡ job_of (world_of self.now.state) lane tag) }
+        ensures err { OnErr result (IsSome (job_of (world_of self.now.state) lane tag)) }
+    {
+        self.core.job(alloc, lane, tag)
+    }
+}
