@@ -195,6 +195,29 @@ drop-front places left most n k p front e =
     let len : n ≡ length (places_of_piece p) + k = e ∙ ap (λ (l : ℕ). l + k) (sym (length-places_of_piece p)) in
     sym (ap (drop n) front.whole ∙ ap (λ (i : ℕ). drop i (places_of_piece p ++ left)) len ∙ drop-append-add (places_of_piece p) left k)
 
+-- a piece all of whose places are skipped
+pub skip-piece : (p : Piece) (behind : List Place) (left : ℕ) → piece_len p ≤ left
+    → drop left (places_of_piece p ++ behind) ≡ drop (left - piece_len p) behind
+skip-piece p behind left le =
+    let len : left ≡ length (places_of_piece p) + (left - piece_len p) = omega (arith, length-places_of_piece p) in
+    ap (λ (n : ℕ). drop n (places_of_piece p ++ behind)) len ∙ drop-append-add (places_of_piece p) behind (left - piece_len p)
+
+-- and one that is cut where the rest begins
+pub skip-front : (whole front rest : List Place) (behind : List Place) (left : ℕ) → whole ≡ front ++ rest → length front ≡ left
+    → drop left (whole ++ behind) ≡ rest ++ behind
+skip-front whole front rest behind left cut len =
+    let n : left ≡ length front + 0 = omega (arith, len) in
+    ap (λ (places : List Place). drop left (places ++ behind)) cut
+    ∙ ap (drop left) (append_assoc front rest behind)
+    ∙ ap (λ (n : ℕ). drop n (front ++ (rest ++ behind))) n
+    ∙ drop-append-add front (rest ++ behind) 0
+
+-- none is left behind the last piece
+pub no-pieces : (behind : List Piece) (n : ℕ) → length behind ≡ 0 → drop n (places_of behind) ≡ places_of behind
+no-pieces [] zero none = refl
+no-pieces [] (suc n) none = refl
+no-pieces (p ∷ behind) n none = absurd (omega arith)
+
 -- what a loop that gives bytes to a buffer keeps: the bytes that are left, given to the places that are left, make the memory that
 -- all bytes make
 pub record IsPutting (before : List ℕ) (all : List Place) (bytes memory : List ℕ) (places : List Place) (rest : List ℕ) : Type 0 where

@@ -44,13 +44,9 @@ impl<'a> Buffer<'a> {
         requires in_range { AreBelow (2 ^ 64) self.old }
         ensures { self.new ≡ drop count self.old }
     {
-        let mut left = count;
-        while left > 0 {
-            let Some(piece) = self.take_front(left) else {
-                return;
-            };
-            left -= len_of(&piece);
-        }
+        let (under_way, behind) = skipped(self.under_way, self.behind, count);
+        self.under_way = under_way;
+        self.behind = behind;
     }
 
     // Takes the front of what is left: a piece of at least one byte, and of `most` bytes at most. None where nothing is left.
@@ -147,6 +143,26 @@ fn len_of(piece: &Piece) -> u64
     match *piece {
         Piece::Run { len, .. } | Piece::Bucket { len } => len,
     }
+}
+
+// What is left of a piece and of those behind it, behind the first `count` of their places.
+fn skipped(under_way: Piece, behind: &[Piece], count: u64) -> (Piece, &[Piece])
+    requires in_range { AreBelow (2 ^ 64) (places_of_piece under_way ++ places_of behind.now) }
+    ensures { places_of_piece result.0 ++ places_of result.1.now ≡ drop count (places_of_piece under_way ++ places_of behind.now) }
+{
+    let mut left = count;
+    let mut piece = under_way;
+    let mut behind = behind;
+    while len_of(&piece) <= left {
+        left -= len_of(&piece);
+        let Some((first, rest)) = behind.split_first() else {
+            return (Piece::Bucket { len: 0 }, behind);
+        };
+        piece = *first;
+        behind = rest;
+    }
+    let (_, rest) = cut(piece, left);
+    (rest, behind)
 }
 
 // The front of a piece, `most` bytes at most, and what is left of it.

@@ -56,12 +56,7 @@ impl Reading {
 
     // Adds what a line with this keyword says, where its words are as many as it wants.
     #[tactic(auto, unfolding(crate::specs::ReplayScript::after_keyword))]
-    fn add(
-        &mut self,
-        alloc: Global,
-        keyword: Keyword,
-        words: Words<'_>,
-    ) -> Result<(), LineFault>
+    fn add(&mut self, alloc: Global, keyword: Keyword, words: Words<'_>) -> Result<(), LineFault>
         ensures { let after = after_counted (progress self.old) keyword words.entry
             in MatchResult result (λ _. after ≡ Ok (progress self.new)) (Refuses after) }
     {
