@@ -27,10 +27,13 @@ ghost use Rattle.nv_laws_sound.specs.LaidOut.{IsLaidOut};
 ghost use Rattle.nv_laws_units.specs.Places.{HasAt, NameNoneTwice};
 ghost use Rattle.nv_laws_units.specs.Units.{IsHeld, SameBlocks, addresses_of_block, own_units, whole_of};
 
-/// A destination no two of whose runs share a byte names none twice.
+/// A destination no two of whose runs share a byte names none twice; and where the whole names none twice, a block does
+/// not.
 pub fn runs_apart_name_no_byte_twice()
-    ensures { (pieces : List Piece) → any_two clash (buffer_named Destination pieces) ≡ false →
+    ensures whole { (pieces : List Piece) → any_two clash (buffer_named Destination pieces) ≡ false →
         NameNoneTwice (places_of pieces) }
+    ensures part { (work : Work) (unit : ℕ) → NameNoneTwice (places_of work.pieces) →
+        NameNoneTwice (places_of_block work unit) }
 {}
 
 /// Behind a bounced Read's unit its part of the bounce pages has the bytes that the guest's own memory has at the
