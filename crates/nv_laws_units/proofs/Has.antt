@@ -126,12 +126,31 @@ once-any places i j d once apart first second =
     less : j ≤ i → (i ≡ j → ⊥) → j < i
     less most other = elim (cases_eq i j) [ inl same ↦ absurd (other same) | inr differ ↦ omega (arith, most, differ) ]
 
+-- a place of a block is one of the whole
+part-within : (places : List Place) (from k : ℕ) → k < length (take block (drop from places)) → (k < block) × (from + k < length places)
+part-within places from k small =
+    let taken = length-take block (drop from places) in
+    let dropped = length-drop from places in
+    (omega (arith, taken, small), omega (arith, taken, dropped, small))
+
+-- where the whole names none twice, a block does not
+pub once-part : (places : List Place) (from : ℕ) → NameNoneTwice places → NameNoneTwice (take block (drop from places))
+once-part places from once i j d order below =
+    let first = part-within places from i (omega (arith, order, below)) in
+    let second = part-within places from j below in
+    let named = once (from + i) (from + j) d (omega (arith, order)) second.1 in
+    let here : get_or (take block (drop from places)) i d ≡ get_or places (from + i) d =
+    get_or-take block (drop from places) i d first.0 ∙ get_or-drop from places i d in
+    let there : get_or (take block (drop from places)) j d ≡ get_or places (from + j) d =
+    get_or-take block (drop from places) j d second.0 ∙ get_or-drop from places j d in
+    λ addr one two. named addr (sym here ∙ one) (sym there ∙ two)
+
 -- a place of one block is none of another's
 pub once-blocks : (places : List Place) (index other : ℕ) → NameNoneTwice places → (index ≡ other → ⊥)
     → All (λ p. All (IsElse p) (take block (drop (block * other) places))) (take block (drop (block * index) places))
 once-blocks places index other once apart i d below j e under =
-    let first = within (block * index) i below in
-    let second = within (block * other) j under in
+    let first = part-within places (block * index) i below in
+    let second = part-within places (block * other) j under in
     let named = once-any places (block * index + i) (block * other + j) d once (λ same. differ first.0 second.0 same (cases_lt index other)) first.1 second.1 in
     let here : get_or (take block (drop (block * index) places)) i d ≡ get_or places (block * index + i) d =
     get_or-take block (drop (block * index) places) i d first.0 ∙ get_or-drop (block * index) places i d in
@@ -140,12 +159,6 @@ once-blocks places index other once apart i d below j e under =
     ∙ get_or_default places (block * other + j) e d second.1 in
     λ addr one two. named addr (sym here ∙ one) (sym there ∙ two)
   where
-    within : (from k : ℕ) → k < length (take block (drop from places)) → (k < block) × (from + k < length places)
-    within from k small =
-        (let taken = length-take block (drop from places) in
-        let dropped = length-drop from places in
-        (omega (arith, taken, small), omega (arith, taken, dropped, small)))
-
     differ : i < block → j < block → block * index + i ≡ block * other + j → (index < other) ⊎ (other ≤ index) → ⊥
     differ low high same (inl less) = absurd (omega (arith, low, high, same, less))
     differ low high same (inr most) = elim (cases_eq index other) [ inl is ↦ apart is | inr not ↦ absurd (omega (arith, low, high, same, most, not)) ]
