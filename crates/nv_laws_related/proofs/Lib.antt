@@ -14,6 +14,7 @@ pub mod Fronts
 pub mod Takes
 pub mod Statuses
 pub mod Reaps
+pub mod AnswerStatuses
 pub mod Every
 pub mod Keeping
 pub mod Marks

@@ -1,11 +1,13 @@
 -- What is done in a guest's seat, in the world and on its private controller alike, leaves one standing for the other, where it leaves alone what the
 -- guest's commands name.
-use Rattle.std.proofs.Common.{◌≡◌, ℕ, true, List, length, slice_get, Option, Some, None, arith, refl, sym, ◌∙◌, subst}
-use Rattle.nv_mem.specs.GuestMap.{guest_of, mapped}
+use Rattle.std.proofs.Common.{◌≡◌, ℕ, ◌<◌, ◌≤◌, true, List, length, slice_get, Option, Some, None, arith, refl, sym, ◌∙◌, subst}
+use mathlib.Core.Path.{fun_ext}
+use Rattle.nv_mem.proofs.Images.{guest_of-host}
+use Rattle.nv_mem.specs.GuestMap.{guest_of, host_of, mapped}
 use Rattle.nv_model.specs.Controller.{Controller}
-use Rattle.nv_model.specs.Memory.{image}
+use Rattle.nv_model.specs.Memory.{byte_at_host, image}
 use Rattle.nv_model.specs.Private.{Private}
-use Rattle.nv_world_model.specs.Area.{bounce_page}
+use Rattle.nv_world_model.specs.Area.{bounce_page, lane_start}
 use Rattle.nv_world_model.specs.Device.{Held}
 use Rattle.nv_world_model.specs.Geometry.{Geometry, Guest, regions_of}
 use Rattle.nv_world_model.specs.Laws.{OnlyInSeat}
@@ -69,3 +71,23 @@ module _ (host_bytes : ℕ) (geometry : Geometry) (number : ℕ) (guest : Guest)
 pub seat-only : (geometry : Geometry) (number : ℕ) (guest : Guest) (o : Owner) (w z : World) (q : Private) → OnlyInSeat o w z
     → Related geometry number guest (seated w z.host z.controllers) q → Related geometry number guest z q
 seat-only geometry number guest o w z q only related = subst (λ x. Related geometry number guest x q) (sym only.rest) related
+
+-- ---- the mediator's area
+
+-- where bytes of the area alone change, the guest's memory is as it was
+pub image-area : (host_bytes lanes : ℕ) (geometry : Geometry) (number : ℕ) (guest : Guest) → IsLaidOut host_bytes lanes geometry
+    → slice_get geometry.guests number ≡ Some guest → (host other : ℕ → ℕ)
+    → ((at : ℕ) → (geometry.mediator ≤ at → at < lane_start geometry.mediator lanes → ⊥) → host at ≡ other at)
+    → image (regions_of guest) host ≡ image (regions_of guest) other
+unfolding image
+image-area host_bytes lanes geometry number guest laid given host other same =
+    fun_ext (λ addr. by_host (host_of (regions_of guest) addr) addr refl)
+  where
+    by_host : (found : Option ℕ) (addr : ℕ) → host_of (regions_of guest) addr ≡ found → byte_at_host host found ≡ byte_at_host other found
+    by_host None addr is = refl
+    by_host (Some at) addr is =
+        same at
+        (λ low high.
+        (let there = guest_of-host (regions_of guest) addr at (laid.given number guest given).sound.apart is in
+        let bad : Some addr ≡ None = sym there ∙ laid.outside number guest at given low high in
+        cc))

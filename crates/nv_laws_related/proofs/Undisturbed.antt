@@ -42,7 +42,7 @@ IsUntouched guest entry host other memory behind =
     (at : ℕ) → entry_names guest host at entry ≡ true
     → (image (regions_of guest) host at ≡ image (regions_of guest) other at) × (memory at ≡ behind at)
 
-abbrev lists_named : List (ℕ × ℕ) → List Named
+abbrev pub lists_named : List (ℕ × ℕ) → List Named
 lists_named spans = map (λ a. named_as ListBytes a.0 a.1) spans
 
 -- memories agree on spans of which all named bytes are the same
@@ -65,6 +65,17 @@ shows-agree m n r s agree was i below low high =
 reads-agree : (m n : ℕ → ℕ) (spans : List (ℕ × ℕ)) (reads : List ReadDone) → AgreeOn m n spans → All (ShowsOn m spans) reads → All (ShowsOn n spans) reads
 reads-agree m n spans reads agree was k d below j e within =
     shows-agree m n _ _ (agree j e within) (was k d below j e within)
+
+-- a command has the verdict that it had where its lists are as they were, whatever becomes of its buffer
+pub verdict-by_lists : (guest : Guest) (entry : List ℕ) (host other : ℕ → ℕ)
+    → ((at : ℕ)
+    → list_any (names_at at) (lists_named (asked (image (regions_of guest) host) (judge (shape_of guest).mapped (shape_of guest).limit (shape_of guest).blocks entry))) ≡ true
+    → image (regions_of guest) host at ≡ image (regions_of guest) other at)
+    → verdict_in (shape_of guest) (image (regions_of guest) other) entry ≡ verdict_in (shape_of guest) (image (regions_of guest) host) entry
+verdict-by_lists guest entry host other same =
+    let judging = judge (shape_of guest).mapped (shape_of guest).limit (shape_of guest).blocks entry in
+    in_memory-agree (image (regions_of guest) host) (image (regions_of guest) other) judging
+    (spans-agree (image (regions_of guest) host) (image (regions_of guest) other) (asked (image (regions_of guest) host) judging) same)
 
 module _ (guest : Guest) (entry : List ℕ) (host other memory behind : ℕ → ℕ) (untouched : IsUntouched guest entry host other memory behind) where
   abbrev before : ℕ → ℕ
