@@ -1,5 +1,5 @@
-//! A call that had no memory, and the same call again. With `rt try --test --fail-alloc 1..` each allocation is
-//! refused in turn; the log has to be the same whichever it is, or none.
+//! A call that had no memory, and the same call again. With `rt try --test --fail-alloc N` the N-th allocation of a
+//! test is refused; the log has to be the same whichever it is, or none.
 
 use crate::bench::{self, bytes_of, completion_at};
 use nv_mem::{Bytes, NoMemory};
