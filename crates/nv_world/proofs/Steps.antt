@@ -3,6 +3,7 @@ use Rattle.std.proofs.Common.{◌≡◌, ℕ, inl, inr, Bool, true, false, List,
 use Rattle.std.proofs.lemmas.List.Elements.{All-append, All-cons, All-nil}
 use Rattle.std.specs.List.{All}
 use Rattle.nv_core.specs.State.{IsOf, IsSameSize, IsStep, State, world_of}
+use Rattle.nv_laws_headline.proofs.Each.{promise-kept}
 use Rattle.nv_laws_others.proofs.Containing.{contained-since}
 use Rattle.nv_laws_others.specs.Alike.{HasFittingStatus}
 use Rattle.nv_laws_sound.proofs.CountedEvents.{step-counted}
@@ -11,7 +12,7 @@ use Rattle.nv_laws_sound.specs.Consistent.{IsConsistent}
 use Rattle.nv_laws_sound.specs.Counted.{IsCounted}
 use Rattle.nv_laws_sound.specs.LaidOut.{IsLaidOut}
 use Rattle.nv_model.specs.declared.reply.Reply.{Reply}
-use Rattle.nv_world.specs.Mediated.{IsContained, IsLogged, IsRunning, IsUnchanged, Kept, Mediated, mediated, setup_of}
+use Rattle.nv_world.specs.Mediated.{IsContained, IsLogged, IsRunning, IsUnchanged, KeepsPromise, Kept, Mediated, mediated, setup_of}
 use Rattle.nv_world_model.specs.declared.event.Event.{Event}
 use Rattle.nv_world_model.specs.declared.logged.Logged.{Logged}
 use Rattle.nv_world_model.specs.Geometry.{Geometry}
@@ -132,3 +133,8 @@ module _ (k : Kept) (new : State) (e : Event) (r : Reply) (running : IsRunning k
 pub running-contained : (k : Kept) → IsRunning k → IsContained k
 running-contained k is =
     contained-since (setup_of k) k.log is.accepted (λ number guest at. (is.of.laid_out.given number guest at).sound) is.fitting
+
+-- and the log keeps the whole promise
+pub running-promised : (k : Kept) → IsRunning k → KeepsPromise k
+running-promised k is =
+    promise-kept (setup_of k) k.log (world_of k.state) is.accepted (λ number guest at. (is.of.laid_out.given number guest at).sound) is.fitting is.replayed

@@ -13,7 +13,7 @@ use Rattle.nv_world_model.specs.declared.event.Event.{Event}
 use Rattle.nv_world_model.specs.declared.event.Event.TheVariants as event
 use Rattle.nv_world_model.specs.declared.logged.Logged.{Logged}
 use Rattle.nv_world_model.specs.Geometry.{Geometry, Guest}
-use Rattle.nv_world_model.specs.Headline.{AreContained}
+use Rattle.nv_world_model.specs.Headline.{AreContained, Headline}
 use Rattle.nv_world_model.specs.Log.{IsReplay}
 use Rattle.nv_world_model.specs.SetUp.{SetUp, refusal_of, world_at_start}
 use Rattle.nv_world_model.specs.Step.{step}
@@ -96,6 +96,11 @@ pub record IsRunning (k : Kept) : Type 0 where
 -- each step of its log is contained, whole
 abbrev pub IsContained : Kept → Type 0
 IsContained k = AreContained k.geometry k.log (world_at_start (setup_of k))
+
+-- its log keeps the whole promise: what each disciplined guest none of whose commands failed has seen, and has, is a run of
+-- its own private controller's, and each step is contained
+abbrev pub KeepsPromise : Kept → Type 0
+KeepsPromise k = Headline (setup_of k) k.log (world_of k.state)
 
 -- ---- what a guest has
 

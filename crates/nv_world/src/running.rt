@@ -1,7 +1,7 @@
 //! Many steps of the world.
 
 ghost use Rattle.std.specs.Prelude.{◌≡◌, OnErr, OnOk};
-ghost use Rattle.nv_world.specs.Mediated.{AreAnswered, IsContained, IsStepped, mediated};
+ghost use Rattle.nv_world.specs.Mediated.{AreAnswered, IsContained, IsStepped, KeepsPromise, mediated};
 
 use crate::copies;
 use crate::world::World;
@@ -26,6 +26,7 @@ impl World {
         ensures ok { OnOk result (AreAnswered events.now (mediated self.old) replies.old.items replies.new.items (mediated self.new)) }
         ensures err { OnErr result ((mediated self.new ≡ mediated self.old) × (replies.new.items ≡ replies.old.items)) }
         ensures contained { IsContained self.new }
+        ensures promise { KeepsPromise self.new }
     {
         let ended = self.run_all(alloc, events, replies);
         // With the log comes what is known of its steps.

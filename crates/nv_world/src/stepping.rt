@@ -1,7 +1,7 @@
 //! Steps of the world.
 
 ghost use Rattle.std.specs.Prelude.{◌≡◌};
-ghost use Rattle.nv_world.specs.Mediated.{IsContained, IsStepped, mediated};
+ghost use Rattle.nv_world.specs.Mediated.{IsContained, IsStepped, KeepsPromise, mediated};
 
 use crate::performing;
 use crate::world::World;
@@ -16,6 +16,7 @@ impl World {
     pub fn step(&mut self, alloc: Global, event: Event) -> Reply
         ensures step { IsStepped event (mediated self.old) result (mediated self.new) }
         ensures contained { IsContained self.new }
+        ensures promise { KeepsPromise self.new }
     {
         let reply = self.advance(alloc, event);
         // With the log comes what is known of its steps.

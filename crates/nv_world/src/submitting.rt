@@ -1,7 +1,7 @@
 //! Plans that were made elsewhere.
 
 ghost use Rattle.std.specs.Prelude.{◌≡◌};
-ghost use Rattle.nv_world.specs.Mediated.{IsContained, IsSubmitted, mediated};
+ghost use Rattle.nv_world.specs.Mediated.{IsContained, IsSubmitted, KeepsPromise, mediated};
 
 use crate::world::World;
 use nv_model::Reply;
@@ -15,6 +15,7 @@ impl World {
     pub fn submit_plan(&mut self, plan: Plan) -> Reply
         ensures submitted { IsSubmitted plan (mediated self.old) result (mediated self.new) }
         ensures contained { IsContained self.new }
+        ensures promise { KeepsPromise self.new }
     {
         let reply = self.submit_made(plan);
         // With the log comes what is known of its steps.

@@ -2,7 +2,7 @@
 
 ghost use Rattle.std.specs.Prelude.{◌≡◌, ◌⊎◌, IfOk, IfErr, MatchOption, None, Some, slice_get};
 ghost use Rattle.nv_core.specs.State.{world_of};
-ghost use Rattle.nv_world.specs.Mediated.{IsContained, map_of, mediated, opened, range_of, setup_of};
+ghost use Rattle.nv_world.specs.Mediated.{IsContained, KeepsPromise, map_of, mediated, opened, range_of, setup_of};
 ghost use Rattle.nv_world.specs.Refused.{refused};
 ghost use Rattle.nv_world_model.specs.Log.{IsReplay};
 ghost use Rattle.nv_world_model.specs.SetUp.{refusal_of, world_at_start};
@@ -55,12 +55,14 @@ impl World {
     }
 
     /// The events so far, each with its reply, in order. The world is where they lead, from the start of the set-up on, and each is contained:
-    /// it reads and changes nothing of a guest but its owner's.
+    /// it reads and changes nothing of a guest but its owner's. What a disciplined guest has seen, its memory and its namespace are those of a
+    /// run of its own commands on a private controller, where the physical controller failed none of them.
     pub fn log(&self) -> &[Logged]
         ensures value { result.now ≡ self.now.log }
         ensures accepted { refusal_of (setup_of self.now) ≡ None }
         ensures replayed { IsReplay self.now.geometry (world_at_start (setup_of self.now)) self.now.log (world_of self.now.state) }
         ensures contained { IsContained self.now }
+        ensures promise { KeepsPromise self.now }
     {
         let _running = &self.core;
         &self.log

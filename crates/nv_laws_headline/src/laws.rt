@@ -1,0 +1,2 @@
+//! The promise, as functions that do nothing: each contract is a law.
+pub mod headline;
