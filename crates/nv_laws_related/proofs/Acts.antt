@@ -38,7 +38,7 @@ owner-there geometry number guest w c given there =
     ap (λ g. owner_by number g (slice_get w.controllers number)) given ∙ ap (owner_by number (Some guest)) there
 
 -- an unmapped address has no byte, in whatever memory
-image-unmapped : (guest : Guest) (host other : ℕ → ℕ) (at : ℕ) → mapped (regions_of guest) at ≡ false
+pub image-unmapped : (guest : Guest) (host other : ℕ → ℕ) (at : ℕ) → mapped (regions_of guest) at ≡ false
     → image (regions_of guest) host at ≡ image (regions_of guest) other at
 unfolding image
 image-unmapped guest host other at out =

@@ -107,7 +107,7 @@ verdict-awaits addr v work goes read e =
     ap (λ x. list_any (awaits addr) (verdict_named x)) goes
     ∙ ap (λ b. list_any (awaits addr) (buffer_named (cond b Destination Source) work.pieces)) read ∙ place-passes addr Destination (awaits addr) (run-awaits addr) work.pieces e
 
-plan-awaits : (guest : Guest) (entry : List ℕ) (plan : Plan) (left : ℕ → Bool) (bounce : ℕ) (host memory : ℕ → ℕ) (addr : ℕ)
+pub plan-awaits : (guest : Guest) (entry : List ℕ) (plan : Plan) (left : ℕ → Bool) (bounce : ℕ) (host memory : ℕ → ℕ) (addr : ℕ)
     → IsUnderWay guest entry plan left bounce host memory → plan_hides plan left addr ≡ true → entry_awaits guest host addr entry ≡ true
 plan-awaits guest entry (Answer st) left bounce host memory addr is e = cc
 plan-awaits guest entry (NoData work) left bounce host memory addr is e = cc
@@ -134,7 +134,7 @@ module _ (number : ℕ) (guest : Guest) (held : Option Held) (status_at : ℕ �
   own-awaits true t entry one e is = ap (λ b. b || false) (one e is)
   own-awaits false t entry one e is = cc
 
-  tag-awaits : (t : Tag) → hides (own_tag number (Some t)) held addr ≡ true → IsTagRelated (own_tag number (Some t)) guest held status_at bounce host memory
+  pub tag-awaits : (t : Tag) → hides (own_tag number (Some t)) held addr ≡ true → IsTagRelated (own_tag number (Some t)) guest held status_at bounce host memory
       → list_any (entry_awaits guest host addr) (own_entry number t) ≡ true
   tag-awaits Free e is = cc
   tag-awaits (Taken command reads) e is = own-awaits (command.guest == number) (Taken command reads) command.entry (λ hid _. (let none : false ≡ true = hid in cc)) e is

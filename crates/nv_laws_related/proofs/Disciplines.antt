@@ -95,7 +95,7 @@ module _ (number : ℕ) (guest : Guest) (w : World) where
       not-not false e = refl
 
   -- some taken command is among those that are outstanding
-  taken-outstanding : (c : Controller) (q : List Named → Bool)
+  pub taken-outstanding : (c : Controller) (q : List Named → Bool)
       → list_any (λ entry. q (io_named (shape_of guest) (image (regions_of guest) w.host) entry)) (taken_entries number w) ≡ true
       → list_any q (commands_of c) ≡ true
   unfolding footprints

@@ -201,7 +201,7 @@ module _ (host_bytes : ℕ) (geometry : Geometry) (number : ℕ) (guest : Guest)
         (All-cons shows r [] (ShowsOn-whole (image (regions_of guest) w.host) _ r shown) (All-nil shows)))))
 
   -- whose list it is
-  owner-given : (command : Command) (o : Owner) → (command.guest == number) ≡ true → owner_of geometry w command.guest ≡ Some o → guest ≡ o.given
+  pub owner-given : (command : Command) (o : Owner) → (command.guest == number) ≡ true → owner_of geometry w command.guest ≡ Some o → guest ≡ o.given
   owner-given command o mine found =
       let is = owner_of-is geometry w command.guest o found in
       let same = sym (eqb-true command.guest number mine) ∙ owner_of-number geometry w command.guest o found in
