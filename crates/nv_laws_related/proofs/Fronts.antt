@@ -22,7 +22,7 @@ use Rattle.nv_laws_related.proofs.Disciplines.{any-map, any-more, commands_of, n
 -- ---- lists
 
 -- a member of one of them is a member of all
-any-flat : {X : Type 0} (p : X → Bool) (xss : List (List X)) → list_any (λ xs. list_any p xs) xss ≡ true → list_any p (flat_map (λ xs. xs) xss) ≡ true
+pub any-flat : {X : Type 0} (p : X → Bool) (xss : List (List X)) → list_any (λ xs. list_any p xs) xss ≡ true → list_any p (flat_map (λ xs. xs) xss) ≡ true
 any-flat p [] e = e
 any-flat p (xs ∷ xss) e =
     (elim (list_any p xs) as (λ b. list_any p xs ≡ b → (b || list_any (λ ys. list_any p ys) xss) ≡ true → list_any p (xs ++ flat_map (λ ys. ys) xss) ≡ true) [

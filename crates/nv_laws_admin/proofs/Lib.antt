@@ -1,0 +1,4 @@
+pub mod Effects
+pub mod Stepping
+pub mod Apart
+pub mod Admins
