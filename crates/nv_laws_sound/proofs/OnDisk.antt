@@ -34,17 +34,17 @@ use Rattle.nv_laws_sound.proofs.Shows.{shows-append}
 -- ---- a translated range
 
 -- what is read back of it
-translated-blocks : (extent : Extent) (range : List ℕ) → blocks_of range < 2 ^ 32 → blocks_of (translated_range extent range) ≡ blocks_of range
+pub translated-blocks : (extent : Extent) (range : List ℕ) → blocks_of range < 2 ^ 32 → blocks_of (translated_range extent range) ≡ blocks_of range
 unfolding dword number_at
 translated-blocks extent range fits = little_number-reads_back 4 (blocks_of range) (number_bytes 8 (block_at extent (start_of range))) fits
 
-translated-start : (extent : Extent) (range : List ℕ) → block_at extent (start_of range) < 2 ^ 64
+pub translated-start : (extent : Extent) (range : List ℕ) → block_at extent (start_of range) < 2 ^ 64
     → start_of (translated_range extent range) ≡ block_at extent (start_of range)
 unfolding qword number_at
 translated-start extent range fits = little_number-reads_back 8 (block_at extent (start_of range)) [] fits
 
 -- a range that was written stands in its place
-shown-range : (extent : Extent) (memory : ℕ → ℕ) (ranges : List (List ℕ)) (n : ℕ) (at : ℕ) (range : List ℕ) → slice_get ranges n ≡ Some range
+pub shown-range : (extent : Extent) (memory : ℕ → ℕ) (ranges : List (List ℕ)) (n : ℕ) (at : ℕ) (range : List ℕ) → slice_get ranges n ≡ Some range
     → Shows memory at (flat_map (translated_range extent) ranges) → bytes_from memory (at + 16 * n) 16 ≡ translated_range extent range
 shown-range extent memory [] n at range found shown = cc
 shown-range extent memory (r ∷ ranges) zero at range found shown =
@@ -59,7 +59,7 @@ shown-range extent memory (r ∷ ranges) (suc n) at range found shown =
     rw here rest
 
 -- dropping a row's front leaves its end
-drop-row : (k from len : ℕ) → drop k (range_with_len from (k + len)) ≡ range_with_len (from + k) len
+pub drop-row : (k from len : ℕ) → drop k (range_with_len from (k + len)) ≡ range_with_len (from + k) len
 drop-row zero from len =
     let here : from + 0 ≡ from = omega arith in
     let none : 0 + len ≡ len = omega arith in
@@ -70,7 +70,7 @@ drop-row (suc k) from len =
     rw (more, here) (drop-row k (from + 1) len)
 
 -- the bytes of 16 places of a row
-row-bytes : (memory : ℕ → ℕ) (bounce k rest : ℕ) → gathered memory (take 16 (drop k (map At (range_with_len bounce (k + (16 + rest)))))) ≡ bytes_from memory (bounce + k) 16
+pub row-bytes : (memory : ℕ → ℕ) (bounce k rest : ℕ) → gathered memory (take 16 (drop k (map At (range_with_len bounce (k + (16 + rest)))))) ≡ bytes_from memory (bounce + k) 16
 unfolding addresses
 row-bytes memory bounce k rest =
     ap (λ ps. gathered memory (take 16 ps)) (drop-map At k (range_with_len bounce (k + (16 + rest))) ∙ ap (map At) (drop-row k bounce (16 + rest)))

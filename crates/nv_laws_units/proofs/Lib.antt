@@ -1,0 +1,13 @@
+pub mod OwnUnits
+pub mod Blocks
+pub mod Flags
+pub mod Lies
+pub mod Has
+pub mod Moving
+pub mod Imaged
+pub mod Once
+pub mod Runs
+pub mod Delivery
+pub mod InWorld
+pub mod Submitted
+pub mod Events
