@@ -162,7 +162,7 @@ member-own (Some (Ended command st plan)) number held f =
     ]) refl
 
 -- and by the status that its completion has
-member-kept : (o : Option Tag) (number : ℕ) (held : Option Held) (f g : ℕ → StatusField)
+pub member-kept : (o : Option Tag) (number : ℕ) (held : Option Held) (f g : ℕ → StatusField)
     → ((t : Tag) (at : ℕ) → o ≡ Some t → tag_stands (is_answered_at at) t ≡ true → f at ≡ g at)
     → member_in o number held f ≡ member_in o number held g
 member-kept None number held f g statuses = refl

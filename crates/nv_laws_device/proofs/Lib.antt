@@ -1,0 +1,4 @@
+pub mod Retagged
+pub mod Statuses
+pub mod Whole
+pub mod Rings
