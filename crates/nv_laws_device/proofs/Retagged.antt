@@ -28,6 +28,17 @@ use Rattle.nv_laws_related.proofs.Disciplines.{tags-untouched}
 use Rattle.nv_laws_related.proofs.Undisturbed.{IsTagUntouched, undisturbed}
 use Rattle.nv_laws_related.proofs.Views.{device_of, member-kept, own-there, status_in, there-short}
 
+-- what is known of a guest's own tag
+pub known-tag : (geometry : Geometry) (number : ℕ) (guest : Guest) (w : World) (p : Private) (lane tag : ℕ) (was : Tag) (before : Option Held)
+    → is_tag_of number (Some was) ≡ true → tag_of w lane tag ≡ Some was → device_of w lane tag ≡ before → Related geometry number guest w p
+    → IsTagRelated (Some was) guest before (status_in geometry w lane) (bounce_page geometry.mediator lane tag) w.host p.memory
+known-tag geometry number guest w p lane tag was before own there held related =
+    let bounce = bounce_page geometry.mediator lane tag in
+    subst (λ h. IsTagRelated (Some was) guest h (status_in geometry w lane) bounce w.host p.memory)
+    (ap (λ o. own_held number o (device_of w lane tag)) there ∙ ap (λ b. cond b (device_of w lane tag) None) own ∙ held)
+    (subst (λ o. IsTagRelated o guest (own_held number (tag_of w lane tag) (device_of w lane tag)) (status_in geometry w lane) bounce w.host p.memory)
+    (ap (own_tag number) there ∙ ap (λ b. cond b (Some was) None) own) (related.tags lane tag))
+
 module _ (geometry : Geometry) (number : ℕ) (guest : Guest) (w : World) (fine : IsConsistent geometry w) (lane tag : ℕ) (l now : Lane)
     (d behind : DeviceLane) (was new : Tag) (before after : Option Held) (at : slice_get w.lanes lane ≡ Some l) (there : slice_get w.device lane ≡ Some d)
     (found : slice_get l.tags tag ≡ Some was) (under : slice_get d.held tag ≡ Some before) (changed : now.tags ≡ set l.tags tag new)
