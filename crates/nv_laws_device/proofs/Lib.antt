@@ -3,3 +3,8 @@ pub mod Statuses
 pub mod Whole
 pub mod Rings
 pub mod Posts
+pub mod Slices
+pub mod Pairs
+pub mod Apart
+pub mod Agreed
+pub mod Moves

@@ -39,6 +39,16 @@ known-tag geometry number guest w p lane tag was before own there held related =
     (subst (λ o. IsTagRelated o guest (own_held number (tag_of w lane tag) (device_of w lane tag)) (status_in geometry w lane) bounce w.host p.memory)
     (ap (own_tag number) there ∙ ap (λ b. cond b (Some was) None) own) (related.tags lane tag))
 
+-- what a guest's commands are under the name of a tag
+pub member-known : (geometry : Geometry) (number : ℕ) (w : World) (lane tag : ℕ) (was : Tag) (before : Option Held) (name : ℕ) → name / tag_count ≡ lane → name % tag_count ≡ tag
+    → tag_of w lane tag ≡ Some was → device_of w lane tag ≡ before → members geometry w number name ≡ member_in (Some was) number before (status_in geometry w lane)
+unfolding members
+member-known geometry number w lane tag was before name in_lane in_tag there held =
+    ap (λ a. member_in (tag_of w a (name % tag_count)) number (device_of w a (name % tag_count)) (status_in geometry w a)) in_lane
+    ∙ ap (λ b. member_in (tag_of w lane b) number (device_of w lane b) (status_in geometry w lane)) in_tag
+    ∙ ap (λ o. member_in o number (device_of w lane tag) (status_in geometry w lane)) there
+    ∙ ap (λ h. member_in (Some was) number h (status_in geometry w lane)) held
+
 module _ (geometry : Geometry) (number : ℕ) (guest : Guest) (w : World) (fine : IsConsistent geometry w) (lane tag : ℕ) (l now : Lane)
     (d behind : DeviceLane) (was new : Tag) (before after : Option Held) (at : slice_get w.lanes lane ≡ Some l) (there : slice_get w.device lane ≡ Some d)
     (found : slice_get l.tags tag ≡ Some was) (under : slice_get d.held tag ≡ Some before) (changed : now.tags ≡ set l.tags tag new)
@@ -62,13 +72,13 @@ module _ (geometry : Geometry) (number : ℕ) (guest : Guest) (w : World) (fine 
   tag_was : tag_of w lane tag ≡ Some was
   tag_was = ap (λ o. tag_in o tag) at ∙ found
 
-  tag_is : tag_of z lane tag ≡ Some new
+  pub tag_is : tag_of z lane tag ≡ Some new
   tag_is = ap (λ ls. tag_in (slice_get ls lane) tag) lanes ∙ tag-here w.lanes lane tag l now was new at found changed
 
   held_was : device_of w lane tag ≡ before
   held_was = ap (λ o. held_in o tag) there ∙ ap held_by under
 
-  held_is : device_of z lane tag ≡ after
+  pub held_is : device_of z lane tag ≡ after
   held_is =
       ap (λ ds. held_in (slice_get ds lane) tag) devices ∙ ap (λ o. held_in o tag) (slice_get-set w.device lane d behind there) ∙ ap held_by now_under
 
@@ -109,24 +119,6 @@ module _ (geometry : Geometry) (number : ℕ) (guest : Guest) (w : World) (fine 
 
   -- ---- commands
 
-  pub members-is : (name : ℕ) → name / tag_count ≡ lane → name % tag_count ≡ tag
-      → members geometry z number name ≡ member_in (Some new) number after (status_in geometry z lane)
-  unfolding members
-  members-is name in_lane in_tag =
-      ap (λ a. member_in (tag_of z a (name % tag_count)) number (device_of z a (name % tag_count)) (status_in geometry z a)) in_lane
-      ∙ ap (λ b. member_in (tag_of z lane b) number (device_of z lane b) (status_in geometry z lane)) in_tag
-      ∙ ap (λ o. member_in o number (device_of z lane tag) (status_in geometry z lane)) tag_is
-      ∙ ap (λ h. member_in (Some new) number h (status_in geometry z lane)) held_is
-
-  pub members-was : (name : ℕ) → name / tag_count ≡ lane → name % tag_count ≡ tag
-      → members geometry w number name ≡ member_in (Some was) number before (status_in geometry w lane)
-  unfolding members
-  members-was name in_lane in_tag =
-      ap (λ a. member_in (tag_of w a (name % tag_count)) number (device_of w a (name % tag_count)) (status_in geometry w a)) in_lane
-      ∙ ap (λ b. member_in (tag_of w lane b) number (device_of w lane b) (status_in geometry w lane)) in_tag
-      ∙ ap (λ o. member_in o number (device_of w lane tag) (status_in geometry w lane)) tag_was
-      ∙ ap (λ h. member_in (Some was) number h (status_in geometry w lane)) held_was
-
   pub members-elsewhere : (name : ℕ) → Elsewhere (name / tag_count) (name % tag_count) → members geometry w number name ≡ members geometry z number name
   unfolding members
   members-elsewhere name apart =
@@ -141,7 +133,9 @@ module _ (geometry : Geometry) (number : ℕ) (guest : Guest) (w : World) (fine 
       → (name : ℕ) → members geometry w number name ≡ members geometry z number name
   members-same same name =
       elim (placed (name / tag_count) (name % tag_count)) [
-        | inl here ↦ members-was name here.0 here.1 ∙ same ∙ sym (members-is name here.0 here.1)
+        | inl here ↦
+            member-known geometry number w lane tag was before name here.0 here.1 tag_was held_was ∙ same
+            ∙ sym (member-known geometry number z lane tag new after name here.0 here.1 tag_is held_is)
         | inr apart ↦ members-elsewhere name apart
       ]
 

@@ -134,7 +134,7 @@ module _ (number : ℕ) (guest : Guest) (held : Option Held) (status_at : ℕ �
   own-awaits true t entry one e is = ap (λ b. b || false) (one e is)
   own-awaits false t entry one e is = cc
 
-  tag-awaits : (t : Tag) → hides (own_tag number (Some t)) held addr ≡ true → IsTagRelated (own_tag number (Some t)) guest held status_at bounce host memory
+  pub tag-awaits : (t : Tag) → hides (own_tag number (Some t)) held addr ≡ true → IsTagRelated (own_tag number (Some t)) guest held status_at bounce host memory
       → list_any (entry_awaits guest host addr) (own_entry number t) ≡ true
   tag-awaits Free e is = cc
   tag-awaits (Taken command reads) e is = own-awaits (command.guest == number) (Taken command reads) command.entry (λ hid _. (let none : false ≡ true = hid in cc)) e is

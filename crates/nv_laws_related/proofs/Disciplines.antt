@@ -21,7 +21,7 @@ use Rattle.nv_laws_related.proofs.Views.{own-there}
 
 -- ---- lists
 
-any-more : {X : Type 0} (p q : X → Bool) (xs : List X) → ((x : X) → p x ≡ true → q x ≡ true) → list_any p xs ≡ true → list_any q xs ≡ true
+pub any-more : {X : Type 0} (p q : X → Bool) (xs : List X) → ((x : X) → p x ≡ true → q x ≡ true) → list_any p xs ≡ true → list_any q xs ≡ true
 any-more p q [] each e = e
 any-more p q (x ∷ xs) each e =
     (elim (p x) as (λ b. p x ≡ b → (b || list_any p xs) ≡ true → (q x || list_any q xs) ≡ true) [
@@ -29,7 +29,7 @@ any-more p q (x ∷ xs) each e =
       | false ↦ λ is any. any-behind q (x ∷ []) xs (any-more p q xs each any)
     ]) refl e
 
-any-map : {X Y : Type 0} (q : Y → Bool) (f : X → Y) (xs : List X) → list_any (λ x. q (f x)) xs ≡ true → list_any q (map f xs) ≡ true
+pub any-map : {X Y : Type 0} (q : Y → Bool) (f : X → Y) (xs : List X) → list_any (λ x. q (f x)) xs ≡ true → list_any q (map f xs) ≡ true
 any-map q f [] e = e
 any-map q f (x ∷ xs) e =
     (elim (q (f x)) as (λ b. (b || list_any (λ y. q (f y)) xs) ≡ true → (b || list_any q (map f xs)) ≡ true) [
@@ -38,7 +38,7 @@ any-map q f (x ∷ xs) e =
     ]) e
 
 -- what would be true is false
-not-so : (b : Bool) → (b ≡ true → ⊥) → b ≡ false
+pub not-so : (b : Bool) → (b ≡ true → ⊥) → b ≡ false
 not-so true never = absurd (never refl)
 not-so false never = refl
 
@@ -105,7 +105,7 @@ module _ (number : ℕ) (guest : Guest) (w : World) where
       (any-map q (io_named (shape_of guest) (image (regions_of guest) w.host)) (taken_entries number w) e)
 
   -- an address of a run that is named is one where it meets
-  name-meets : (addr len at : ℕ) (n : Named) → addr ≤ at → at < addr + len → names n at ≡ true → meets addr len n ≡ true
+  pub name-meets : (addr len at : ℕ) (n : Named) → addr ≤ at → at < addr + len → names n at ≡ true → meets addr len n ≡ true
   name-meets addr len at n low high e =
       let both = and-true (nat_le n.addr at) (nat_lt at (n.addr + n.len)) e in
       let from = leb-true n.addr at both.0 in

@@ -100,7 +100,7 @@ block-among work index i addr at =
 -- ---- commands that are taken
 
 -- one of what one member gives is one of what all give
-any-of : {X Y : Type 0} (p : Y → Bool) (f : X → List Y) (xs : List X) (i : ℕ) (x : X) → slice_get xs i ≡ Some x → list_any p (f x) ≡ true
+pub any-of : {X Y : Type 0} (p : Y → Bool) (f : X → List Y) (xs : List X) (i : ℕ) (x : X) → slice_get xs i ≡ Some x → list_any p (f x) ≡ true
     → list_any p (flat_map f xs) ≡ true
 any-of p f [] i x at e = cc
 any-of p f (y ∷ ys) zero x at e =
