@@ -7,4 +7,7 @@ pub mod Slices
 pub mod Pairs
 pub mod Apart
 pub mod Agreed
+pub mod SourceRuns
+pub mod Sources
+pub mod WorkPlans
 pub mod Moves
