@@ -30,7 +30,7 @@ rest-followed host_bytes geometry number guest given =
       device_takes = λ lane w p reached disciplined related own. takes-go host_bytes geometry number guest given w reached p related lane own;
       device_moves = λ lane slot unit w p reached disciplined related own. moves-go host_bytes geometry number guest given w reached p related lane slot unit disciplined own;
       device_posts = λ lane slot w p reached disciplined related own. posts-go host_bytes geometry number guest given w reached p related lane slot own;
-      posts = λ lane tag w p reached disciplined related own. completed.posts-go host_bytes geometry number guest given w reached p related lane tag disciplined own;
+      posts = λ lane tag w p reached disciplined related own. completed.posts-go host_bytes geometry number guest given w reached p related lane tag disciplined.before own;
     }
 
 pub all-followed : (host_bytes : ℕ) (geometry : Geometry) (number : ℕ) (guest : Guest) → slice_get geometry.guests number ≡ Some guest

@@ -1,0 +1,306 @@
+-- The private controller of a guest goes along with a unit of the guest's own command, where its memory behind the unit stands for the world's.
+use Rattle.std.proofs.Common.{◌≡◌, ℕ, ◌+◌, ◌*◌, ◌/◌, ◌%◌, ◌<◌, ◌≤◌, ◌⊎◌, inl, inr, Bool, true, false, cond, ◌==◌, List, [], ◌∷◌, All, drop, length, set, slice_get, Option, Some, None, arith, refl, sym, ap, ◌∙◌, eq-eqb, subst}
+use Rattle.std.specs.List.{list_any}
+use Rattle.std.proofs.lemmas.Bool.{cases_eq}
+use Rattle.std.proofs.lemmas.List.{length-drop, length-take-le}
+use Rattle.nv_mem.proofs.PlaceLists.{length-places_of}
+use Rattle.nv_mem.specs.Places.{places_of, total_len}
+use Rattle.nv_model.proofs.RunPieces.{IsRunPiece}
+use Rattle.nv_model.specs.Limits.{block}
+use Rattle.nv_world_model.specs.Disciplined.{in_order, own_entry}
+use Rattle.nv_laws_related.proofs.Disciplines.{tags-untouched}
+use Rattle.nv_laws_units.proofs.Imaged.{bounced-source}
+use Rattle.nv_laws_units.proofs.Moving.{unit-within}
+use Rattle.nv_laws_device.proofs.Agreed.{place-same}
+use Rattle.nv_laws_device.proofs.WorkPlans.{fewer-form, moves-bytes, no_read-hides, plan-kind, still-left}
+use Rattle.nv_laws_device.proofs.SourceRuns.{source-runs}
+use Rattle.nv_laws_device.proofs.Sources.{gathered-same, source-page}
+use Rattle.nv_laws_device.proofs.Whole.{buffer-fewer}
+use Rattle.nv_entry.specs.Status.{StatusField}
+use Rattle.nv_mem.specs.GuestMap.{mapped}
+use Rattle.nv_model.proofs.Bags.{put-elsewhere, put-here, put-same}
+use Rattle.nv_model.specs.Carried.{at_work, units_moved}
+use Rattle.nv_model.specs.Judge.{Transfer, Work, form_of, is_read}
+use Rattle.nv_model.specs.Memory.{gathered, image}
+use Rattle.nv_model.specs.Private.{AtWork, Moved, Private, Progress, Taken as Member, others, places_of_block, put, run_of}
+use Rattle.nv_model.specs.declared.reply.Reply.TheVariants as reply
+use Rattle.nv_world_model.specs.declared.event.Event.TheVariants as event
+use Rattle.nv_world_model.specs.Area.{bounce_page, tag_count}
+use Rattle.nv_world_model.specs.Device.{DeviceLane, Held, device_unit, unit_gone, with_held}
+use Rattle.nv_world_model.specs.Geometry.{Geometry, Guest, regions_of, shape_of}
+use Rattle.nv_world_model.specs.Plan.{Bounced, Direct, Plan}
+use Rattle.nv_world_model.specs.PrivateSteps.{others_moves, own_moves, work_in}
+use Rattle.nv_world_model.specs.Seat.{held_by, held_in, member_in, members, name_of, units_behind, with_left, work_of}
+use Rattle.nv_world_model.specs.Step.{device_moved, replied}
+use Rattle.nv_world_model.specs.View.{is_tag_of, own_held, own_tag}
+use Rattle.nv_world_model.specs.World.{Command, Flying, InDevice, Lane, Tag, World, changed_at, tag_in, tag_of}
+use Rattle.nv_world_model.proofs.Seats.{slice_get-set}
+use Rattle.nv_laws_sound.specs.Consistent.{IsInDevice, IsPlanned}
+use Rattle.nv_laws_sound.proofs.Lists.{set-same, slice_get-below, some-same}
+use Rattle.nv_laws_sound.proofs.MoveEvents.{moved-elsewhere, moved-undisturbed}
+use Rattle.nv_laws_others.specs.Leaving.{IsBytes}
+use Rattle.nv_laws_others.proofs.Leaving.{bytes-elsewhere}
+use Rattle.nv_laws_others.proofs.Parts.{held-put}
+use Rattle.nv_laws_related.specs.Following.{GoesAlong, IsReached}
+use Rattle.nv_laws_related.specs.Related.{HasBuffer, IsTagRelated, IsUnderWay, NoneHides, Related, form_has_bytes, hides, is_left, left_where}
+use Rattle.nv_laws_related.proofs.Undisturbed.{IsTagUntouched}
+use Rattle.nv_laws_related.proofs.Views.{device_of, status_in}
+use Rattle.nv_laws_units.specs.Units.{IsHeld, SameBlocks, addresses_of_block, own_units, whole_of}
+use Rattle.nv_laws_units.proofs.InWorld.{parts, world-blocks, world-direct_source, world-others, world-run}
+use Rattle.nv_laws_device.proofs.Retagged.{hidden-retagged, known-tag, member-known, members-elsewhere, tags-retagged}
+
+module _ (host_bytes : ℕ) (geometry : Geometry) (number : ℕ) (guest : Guest) (given : slice_get geometry.guests number ≡ Some guest)
+    (w : World) (reached : IsReached host_bytes geometry w) (p : Private) (related : Related geometry number guest w p)
+    (lane tag unit : ℕ) (l : Lane) (d : DeviceLane) (h : Held) (command : Command) (plan : Plan) (work : Work) (at : slice_get w.lanes lane ≡ Some l)
+    (there : slice_get w.device lane ≡ Some d) (found : slice_get l.tags tag ≡ Some (Flying command plan InDevice))
+    (under : slice_get d.held tag ≡ Some (Some h)) (whose : command.guest ≡ number) (goes : work_of plan ≡ Some work)
+    (left : list_any (λ k. k == unit) h.left ≡ true) where
+  abbrev pub was : Tag
+  was = Flying command plan InDevice
+
+  abbrev pub name : ℕ
+  name = name_of lane tag
+
+  -- the guest's own memory and blocks, before the unit and behind it, and the host's behind it
+  abbrev pub own : Moved
+  own = record { memory = p.memory; disk = p.disk; kept = p.kept; differed = h.differed }
+
+  abbrev pub own_behind : Moved
+  own_behind = units_moved (own_units work unit) work own
+
+  abbrev pub moved : Moved
+  moved = device_unit unit geometry.disk_blocks h w.host w.disk w.kept
+
+  abbrev pub h_behind : Held
+  h_behind = unit_gone unit moved.differed h
+
+  pub is_there : tag_of w lane tag ≡ Some was
+  is_there = ap (λ o. tag_in o tag) at ∙ found
+
+  pub is_under : device_of w lane tag ≡ Some h
+  is_under = ap (λ o. held_in o tag) there ∙ ap held_by under
+
+  pub mine : is_tag_of number (Some was) ≡ true
+  mine = eq-eqb command.guest number whose
+
+  abbrev pub it : IsHeld geometry w number guest lane tag plan work h
+  it = record { command = command; own = whose; given = given; flies = is_there; held = is_under; goes = goes }
+
+  pub same_before : SameBlocks guest.extent own (whole_of w h.differed)
+  same_before = record { bytes = related.blocks; marks = related.marks; compared = refl }
+
+  tag_below : tag < tag_count
+  tag_below =
+      let tags = (reached.consistent.lanes lane l d at there).positions.tags in
+      let among = slice_get-below l.tags tag was found in
+      omega (arith, tags, among)
+
+  -- ---- its private command
+
+  -- the command with these of its units left
+  abbrev member : List ℕ → Bool → Member
+  member units differed = record { queue = command.queue; entry = command.entry; progress = AtWork work units differed }
+
+  member-is : (x : Held) (status : ℕ → StatusField) → member_in (Some was) number (Some x) status ≡ Some (member (units_behind work x.left) x.differed)
+  member-is x status =
+      ap (λ b. cond b (Some (with_o (work_of plan))) None) mine ∙ ap (λ o. Some (with_o o)) goes
+    where
+      with_o : Option Work → Member
+      with_o o = record { queue = command.queue; entry = command.entry; progress = with_left o x.left x.differed }
+
+  bag-has : p.bag name ≡ Some (member (units_behind work h.left) h.differed)
+  bag-has =
+      related.bag name
+      ∙ member-known geometry number w lane tag was (Some h) name (omega (arith, tag_below)) (omega (arith, tag_below)) is_there is_under
+      ∙ member-is h (status_in geometry w lane)
+
+  abbrev pub behind : Private
+  behind = at_work name (member (units_behind work h.left) h.differed) work (units_behind work (others unit h.left)) own_behind p
+
+  start-is : at_work name (member (units_behind work h.left) h.differed) work (units_behind work h.left) own p ≡ p
+  start-is = ap (λ b. record p { bag = b }) (put-same p.bag name (Some (member (units_behind work h.left) h.differed)) bag-has)
+
+  unit-runs : run_of (shape_of guest) (own_moves (Some work) name unit) p ≡ Some (record { state = behind; seen = [] })
+  unit-runs =
+      ap (run_of (shape_of guest) (own_moves (Some work) name unit)) (sym start-is)
+      ∙ world-run host_bytes geometry w reached.laid reached.consistent number guest lane tag plan work h it (shape_of guest) name
+      (member (units_behind work h.left) h.differed) p unit own left
+
+  -- ---- the world behind
+
+  abbrev pub z : World
+  z =
+      record w {
+        host = moved.memory;
+        disk = moved.disk;
+        kept = moved.kept;
+        device = changed_at (slice_get w.device lane) lane (with_held tag (Some h_behind)) w.device;
+      }
+
+  pub z-is : device_moved geometry.disk_blocks lane tag unit h w ≡ z
+  unfolding device_moved
+  z-is = refl
+
+  devices : z.device ≡ set w.device lane (with_held tag (Some h_behind) d)
+  devices = ap (λ o. changed_at o lane (with_held tag (Some h_behind)) w.device) there
+
+  -- other tags' bytes in the area are as they were
+  bytes : (a b : ℕ) (t : Tag) (addr : ℕ) → ((a ≡ lane) → (b ≡ tag) → ⊥) → tag_of w a b ≡ Some t → IsBytes geometry.mediator a b t addr → w.host addr ≡ z.host addr
+  bytes =
+      let known = parts host_bytes geometry w reached.laid reached.consistent number guest lane tag plan work h it in
+      let owner : slice_get geometry.guests command.guest ≡ Some guest = ap (slice_get geometry.guests) whose ∙ given in
+      bytes-elsewhere geometry w moved.memory lane tag l.head l d (record d { held = set d.held tag (Some h_behind) }) reached.consistent at there
+      (moved-elsewhere host_bytes geometry (length w.lanes) lane tag reached.laid known.lane_below known.tag_below guest command.guest owner command.entry plan known.planned h w.host known.in_device unit w.disk w.kept)
+      (λ b x apart b_below is.
+      moved-undisturbed host_bytes geometry (length w.lanes) lane tag reached.laid known.lane_below known.tag_below guest command.guest owner command.entry plan known.planned h w.host known.in_device unit
+      w.disk w.kept b l.head d (set d.held tag (Some h_behind)) x apart b_below)
+
+  now_under : slice_get (with_held tag (Some h_behind) d).held tag ≡ Some (Some h_behind)
+  now_under = slice_get-set d.held tag (Some h) (Some h_behind) under
+
+  z_there : tag_of z lane tag ≡ Some was
+  z_there = is_there
+
+  z_under : device_of z lane tag ≡ Some h_behind
+  z_under =
+      ap (λ ds. held_in (slice_get ds lane) tag) devices ∙ ap (λ o. held_in o tag) (slice_get-set w.device lane d (with_held tag (Some h_behind) d) there)
+      ∙ ap held_by now_under
+
+  elsewhere-kept : (n : ℕ) → ((n / tag_count ≡ lane) → (n % tag_count ≡ tag) → ⊥) → members geometry w number n ≡ members geometry z number n
+  elsewhere-kept n apart =
+      members-elsewhere geometry number guest w reached.consistent lane tag l l d (with_held tag (Some h_behind) d) was was (Some h) (Some h_behind) at there found under
+      (sym (set-same l.tags tag was found)) mine mine now_under (λ b other. held-put d.held tag (Some h_behind) b other) z (sym (set-same w.lanes lane l at)) devices bytes n apart
+
+  bag-behind : own_behind.differed ≡ moved.differed → (n : ℕ) → behind.bag n ≡ members geometry z number n
+  bag-behind compared n =
+      elim (cases_eq n name) [
+        | inl same ↦
+            ap (put p.bag name (Some (member (units_behind work (others unit h.left)) own_behind.differed))) same
+            ∙ put-here p.bag name (Some (member (units_behind work (others unit h.left)) own_behind.differed))
+            ∙ ap (λ b. Some (member (units_behind work (others unit h.left)) b)) compared
+            ∙ sym
+            (member-known geometry number z lane tag was (Some h_behind) n (omega (arith, same, tag_below)) (omega (arith, same, tag_below)) z_there z_under
+            ∙ member-is h_behind (status_in geometry z lane))
+        | inr other ↦
+            put-elsewhere p.bag name (Some (member (units_behind work (others unit h.left)) own_behind.differed)) n other
+            ∙ related.bag n ∙ elsewhere-kept n (λ in_lane in_tag. other (omega (arith, in_lane, in_tag)))
+      ]
+
+  -- what is hidden in the world is hidden behind the unit
+  pub hidden-moved : (addr : ℕ) → (hides (Some was) (Some h_behind) addr ≡ false → hides (Some was) (Some h) addr ≡ false) → NoneHides number z addr → NoneHides number w addr
+  hidden-moved addr one none =
+      hidden-retagged geometry number guest w reached.consistent lane tag l l d (with_held tag (Some h_behind) d) was was (Some h) (Some h_behind) at there found under
+      (sym (set-same l.tags tag was found)) mine mine now_under (λ b other. held-put d.held tag (Some h_behind) b other) z (sym (set-same w.lanes lane l at)) devices bytes addr one none
+
+  -- what is known of it
+  pub known : IsTagRelated (Some was) guest (Some h) (status_in geometry w lane) (bounce_page geometry.mediator lane tag) w.host p.memory
+  known = known-tag geometry number guest w p lane tag was (Some h) mine is_there is_under related
+
+  -- ---- the event
+
+  steps-are : cond (is_tag_of number (tag_of w lane tag)) (own_moves (work_in (tag_of w lane tag)) name unit) (others_moves (work_in (tag_of w lane tag)) guest.extent)
+      ≡ own_moves (Some work) name unit
+  steps-are =
+      ap (λ o. cond (is_tag_of number o) (own_moves (work_in o) name unit) (others_moves (work_in o) guest.extent)) is_there
+      ∙ ap (λ b. cond b (own_moves (work_of plan) name unit) (others_moves (work_of plan) guest.extent)) mine
+      ∙ ap (λ o. own_moves o name unit) goes
+
+  pub moved-goes : SameBlocks guest.extent own_behind moved
+      → ((addr : ℕ) → mapped (regions_of guest) addr ≡ true → NoneHides number z addr → own_behind.memory addr ≡ image (regions_of guest) moved.memory addr)
+      → ((a b : ℕ) (t : Tag) → ((a ≡ lane) → (b ≡ tag) → ⊥) → own_tag number (tag_of w a b) ≡ Some t → IsTagUntouched t guest w.host moved.memory p.memory own_behind.memory)
+      → (IsTagRelated (Some was) guest (Some h) (status_in geometry w lane) (bounce_page geometry.mediator lane tag) w.host p.memory
+      → IsTagRelated (Some was) guest (Some h_behind) (status_in geometry z lane) (bounce_page geometry.mediator lane tag) moved.memory own_behind.memory)
+      → GoesAlong geometry number guest (event.DevMove lane tag unit) w p (replied reply.Done (device_moved geometry.disk_blocks lane tag unit h w))
+  moved-goes same memory untouched one =
+      record {
+        run = record { state = behind; seen = [] };
+        runs = ap (λ steps. run_of (shape_of guest) steps p) steps-are ∙ unit-runs;
+        seen = refl;
+        related = subst (λ x. Related geometry number guest x behind) (sym z-is)
+            (record {
+              controller = related.controller;
+              blocks = same.bytes;
+              marks = same.marks;
+              memory = memory;
+              bag = bag-behind same.compared;
+              tags = tags-retagged geometry number guest w reached.consistent lane tag l l d (with_held tag (Some h_behind) d) was was (Some h) (Some h_behind) at there found under
+                  (sym (set-same l.tags tag was found)) mine mine now_under (λ b other. held-put d.held tag (Some h_behind) b other) z (sym (set-same w.lanes lane l at)) devices bytes
+                  p.memory own_behind.memory untouched one related.tags;
+            });
+      }
+
+  -- ---- units that are no Read's
+
+  abbrev bounce : ℕ
+  bounce = bounce_page geometry.mediator lane tag
+
+  own-is : own_entry number (Flying command plan InDevice) ≡ command.entry ∷ []
+  own-is = ap (λ b. cond b (command.entry ∷ []) []) mine
+
+  module _ (ordered : in_order None number guest w ≡ true) (other : is_read work.opcode ≡ false) where
+    hides-none : (addr : ℕ) → hides (own_tag number (tag_of w lane tag)) (own_held number (tag_of w lane tag) (device_of w lane tag)) addr ≡ false
+    hides-none addr =
+        ap (λ o. hides (own_tag number o) (own_held number o (device_of w lane tag)) addr) is_there
+        ∙ ap (λ b. hides (cond b (Some was) None) (cond b (device_of w lane tag) None) addr) mine
+        ∙ ap (λ x. hides (Some was) x addr) is_under
+        ∙ no_read-hides plan work (left_where InDevice (Some h)) addr goes other
+
+    direct-source : plan ≡ Direct work → gathered p.memory (places_of_block work unit) ≡ gathered w.host (addresses_of_block plan guest bounce unit)
+    direct-source direct =
+        gathered-same p.memory (image (regions_of guest) w.host) (places_of_block work unit)
+        (λ i addr place.
+        sym
+        (place-same host_bytes geometry number guest w reached p related ordered lane tag was command.entry is_there own-is hides-none
+        work unit i addr (known.0.steady work goes) place))
+        ∙ world-direct_source host_bytes geometry w reached.laid reached.consistent number guest lane tag plan work h it unit direct
+
+    page-source : plan ≡ Bounced work → form_of work.opcode ≡ Transfer false
+        → gathered p.memory (places_of_block work unit) ≡ gathered w.host (addresses_of_block plan guest bounce unit)
+    page-source bounced form =
+        let its = parts host_bytes geometry w reached.laid reached.consistent number guest lane tag plan work h it in
+        let within : block * unit + block ≤ total_len work.pieces =
+        subst (λ (x : Work). form_of x.opcode ≡ Transfer false → block * unit + block ≤ total_len x.pieces) its.work_is
+        (unit-within host_bytes (length w.lanes) geometry reached.laid number guest given command.entry plan its.planned lane tag its.tag_below h w.host its.in_device unit left false) form in
+        let all = length-places_of work.pieces in
+        let dropped = length-drop (block * unit) (places_of work.pieces) in
+        let sized : length (places_of_block work unit) ≡ block = length-take-le block (drop (block * unit) (places_of work.pieces)) (omega (arith, within, all, dropped)) in
+        let runs = subst (λ (x : Work). is_read x.opcode ≡ false → All IsRunPiece x.pieces) its.work_is
+        (source-runs (mapped (regions_of guest)) guest.limit (shape_of guest).blocks command.entry its.planned.work its.planned.verdict) other in
+        let buffer : HasBuffer (Bounced work) (left_where InDevice (Some h)) bounce w.host p.memory =
+        subst (λ x. HasBuffer x (left_where InDevice (Some h)) bounce w.host p.memory) bounced known.0.buffer in
+        source-page work unit bounce w.host p.memory runs sized (buffer unit (ap (λ f. form_has_bytes f (is_left (Some h) unit)) form ∙ left))
+        ∙ sym (bounced-source guest work plan w.host bounce unit bounced within)
+
+    source : form_of work.opcode ≡ Transfer false → gathered p.memory (places_of_block work unit) ≡ gathered w.host (addresses_of_block plan guest bounce unit)
+    source form =
+        let its = parts host_bytes geometry w reached.laid reached.consistent number guest lane tag plan work h it in
+        elim (plan-kind plan work goes) [
+          | inl none ↦ absurd (moves-bytes guest command.entry plan its.planned work false its.work_is form none)
+          | inr some ↦ elim some [ | inl direct ↦ direct-source direct | inr bounced ↦ page-source bounced form ]
+        ]
+
+    pub no_read-goes : GoesAlong geometry number guest (event.DevMove lane tag unit) w p (replied reply.Done (device_moved geometry.disk_blocks lane tag unit h w))
+    no_read-goes =
+        let same = world-blocks host_bytes geometry w reached.laid reached.consistent number guest lane tag plan work h it unit left own same_before source in
+        let both = world-others host_bytes geometry w reached.laid reached.consistent number guest lane tag plan work h it unit left own other in
+        moved-goes same
+        (λ addr inside none.
+        ap (λ m. m addr) both.0 ∙ related.memory addr inside (hidden-moved addr (λ e. no_read-hides plan work (left_where InDevice (Some h)) addr goes other) none)
+        ∙ sym (ap (λ m. image (regions_of guest) m addr) both.1))
+        (λ a b t apart mine_too.
+        tags-untouched number guest w moved.memory p.memory own_behind.memory
+        (λ entry taken x named. (sym (ap (λ m. image (regions_of guest) m x) both.1), sym (ap (λ m. m x) both.0))) a b t mine_too)
+        (λ rel. (
+          subst (λ m. IsUnderWay guest command.entry plan (left_where InDevice (Some h_behind)) bounce m own_behind.memory) (sym both.1)
+              (subst (λ m. IsUnderWay guest command.entry plan (left_where InDevice (Some h_behind)) bounce w.host m) (sym both.0)
+              (record {
+                steady = rel.0.steady;
+                buffer = buffer-fewer plan (left_where InDevice (Some h)) (left_where InDevice (Some h_behind)) bounce w.host p.memory
+                    (λ x index i addr is place has.
+                    fewer-form (form_of x.opcode) (is_left (Some h_behind) index) (is_left (Some h) index)
+                    (ap (λ (y : Work). is_read y.opcode) (sym (some-same work x (sym goes ∙ is))) ∙ other) (still-left unit index h.left) has) rel.0.buffer;
+              })),
+          (λ x is reads.
+              (let bad : true ≡ false = sym reads ∙ ap (λ (y : Work). is_read y.opcode) (sym (some-same work x (sym goes ∙ is))) ∙ other in
+              cc)),
+        ))
