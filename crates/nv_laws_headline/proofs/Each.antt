@@ -15,7 +15,7 @@ use Rattle.nv_laws_related.specs.Following.{AreRestFollowed, EachEventIsFollowed
 use Rattle.nv_laws_related.proofs.Every.{each-followed}
 use Rattle.nv_laws_related.proofs.Following.{private-run}
 use Rattle.nv_laws_admin.proofs.Admins.{admins-go}
-use Rattle.nv_laws_device.proofs.Moved.{moves-go}
+use Rattle.nv_laws_device.proofs.MoveEvents.{moves-go}
 use Rattle.nv_laws_device.proofs.Posts.{posts-go}
 use Rattle.nv_laws_device.proofs.Rings.{takes-go}
 use Rattle.nv_laws_tags.proofs.Submits.{submits-go}
