@@ -65,7 +65,7 @@ module _ (number : ℕ) (guest : Guest) (w : World) (c : Controller) where
       not-not false e = refl
 
   -- two that one address is named by, one of them a destination, clash
-  awaited-clash : (at : ℕ) (n m : Named) → awaits at n ≡ true → names_at at m ≡ true → (clash n m ≡ true) × (clash m n ≡ true)
+  pub awaited-clash : (at : ℕ) (n m : Named) → awaits at n ≡ true → names_at at m ≡ true → (clash n m ≡ true) × (clash m n ≡ true)
   awaited-clash at n m one other =
       let both = and-true (is_destination n) (names n at) one in
       let run = name-runs at n both.1 in

@@ -10,4 +10,5 @@ pub mod Agreed
 pub mod SourceRuns
 pub mod Sources
 pub mod WorkPlans
+pub mod Destinations
 pub mod Moves
