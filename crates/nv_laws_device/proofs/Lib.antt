@@ -11,4 +11,6 @@ pub mod SourceRuns
 pub mod Sources
 pub mod WorkPlans
 pub mod Destinations
+pub mod PageBytes
 pub mod Moves
+pub mod MoveEvents

@@ -1,24 +1,29 @@
 -- The private controller of a guest goes along with a unit of the guest's own command, where its memory behind the unit stands for the world's.
-use Rattle.std.proofs.Common.{◌≡◌, ℕ, ◌+◌, ◌*◌, ◌/◌, ◌%◌, ◌<◌, ◌≤◌, ◌⊎◌, inl, inr, Bool, true, false, cond, ◌||◌, ◌==◌, List, [], ◌∷◌, All, drop, flat_map, length, set, slice_get, Option, Some, None, arith, refl, sym, ap, ◌∙◌, eq-eqb, subst}
+use Rattle.std.proofs.Common.{◌≡◌, ℕ, ◌+◌, ◌*◌, ◌/◌, ◌%◌, ◌<◌, ◌≤◌, ◌⊎◌, inl, inr, Bool, true, false, cond, not, ◌&&◌, ◌||◌, ◌==◌, List, [], ◌∷◌, All, drop, flat_map, length, set, slice_get, Option, Some, None, arith, refl, sym, ap, ◌∙◌, eq-eqb, subst}
 use Rattle.std.specs.List.{list_any}
 use Rattle.std.proofs.lemmas.Bool.{cases_eq}
 use Rattle.std.proofs.lemmas.List.{length-drop, length-take-le}
 use Rattle.nv_mem.proofs.PlaceLists.{length-places_of}
-use Rattle.nv_mem.specs.Places.{places_of, total_len}
+use Rattle.nv_mem.specs.Places.{At, places_of, total_len}
 use Rattle.nv_model.proofs.RunPieces.{IsRunPiece}
 use Rattle.nv_model.specs.Limits.{block}
 use Rattle.nv_world_model.specs.Disciplined.{clash, in_order, own_entry}
-use Rattle.nv_laws_related.proofs.Disciplines.{commands_of, not-so, tags-untouched}
+use Rattle.nv_laws_related.proofs.Disciplines.{any-more, commands_of, never-both, not-so, tags-untouched}
 use Rattle.nv_laws_units.proofs.Imaged.{bounced-source}
-use Rattle.nv_laws_units.proofs.Moving.{unit-within}
+use Rattle.nv_laws_units.proofs.Moving.{read-form, unit-within}
 use Rattle.nv_model.proofs.UnitsElsewhere.{scattered-elsewhere}
 use Rattle.nv_model.proofs.Agreeing.{in_memory-agree}
 use Rattle.nv_model.specs.Dialogue.{asked}
 use Rattle.nv_world_model.specs.SetUp.{any_two}
 use Rattle.nv_laws_related.proofs.Beginning.{entry_awaits}
+use Rattle.nv_model.proofs.AnyAnswers.{end-sound}
+use Rattle.nv_model.proofs.Endings.{and-true}
+use Rattle.nv_laws_units.specs.Places.{NameNoneTwice}
+use Rattle.nv_laws_units.proofs.Once.{destination-once}
+use Rattle.nv_laws_device.proofs.PageBytes.{gone-left, gone-still, has-page, left-before, once-block, page-has, row-some, unit-counted}
 use Rattle.nv_laws_device.proofs.Agreed.{place-same}
 use Rattle.nv_laws_device.proofs.Apart.{none-clash, pair-never, tags-pair}
-use Rattle.nv_laws_device.proofs.Destinations.{block-awaits, lists-apart, not-among, reads-never}
+use Rattle.nv_laws_device.proofs.Destinations.{block-awaits, destination-clear, lists-apart, not-among, reads-never}
 use Rattle.nv_laws_device.proofs.WorkPlans.{fewer-form, moves-bytes, no_read-hides, plan-kind, still-left}
 use Rattle.nv_laws_device.proofs.SourceRuns.{source-runs}
 use Rattle.nv_laws_device.proofs.Sources.{gathered-same, source-page}
@@ -27,9 +32,9 @@ use Rattle.nv_entry.specs.Status.{StatusField}
 use Rattle.nv_mem.specs.GuestMap.{mapped}
 use Rattle.nv_model.proofs.Bags.{put-elsewhere, put-here, put-same}
 use Rattle.nv_model.specs.Carried.{at_work, units_moved}
-use Rattle.nv_model.specs.Judge.{Transfer, Work, form_is_read, form_of, is_read, judge}
+use Rattle.nv_model.specs.Judge.{Transfer, Work, count_of, form_is_read, form_of, form_transfer_len, is_read, judge}
 use Rattle.nv_model.specs.Memory.{gathered, image}
-use Rattle.nv_model.specs.Private.{AtWork, Moved, Private, Progress, Taken as Member, others, places_of_block, put, run_of, verdict_in}
+use Rattle.nv_model.specs.Private.{AtWork, Moved, Private, Progress, Taken as Member, numbers_of, others, places_of_block, put, run_of, verdict_in}
 use Rattle.nv_model.specs.declared.reply.Reply.TheVariants as reply
 use Rattle.nv_world_model.specs.declared.event.Event.TheVariants as event
 use Rattle.nv_world_model.specs.Area.{bounce_page, tag_count}
@@ -49,11 +54,11 @@ use Rattle.nv_laws_others.specs.Leaving.{IsBytes}
 use Rattle.nv_laws_others.proofs.Leaving.{bytes-elsewhere}
 use Rattle.nv_laws_others.proofs.Parts.{held-put}
 use Rattle.nv_laws_related.specs.Following.{GoesAlong, IsReached}
-use Rattle.nv_laws_related.specs.Related.{HasBuffer, IsTagRelated, IsUnderWay, NoneHides, Related, form_has_bytes, hides, NoReadDiffers, is_left, is_place_at, left_where, plan_hides}
+use Rattle.nv_laws_related.specs.Related.{HasBuffer, IsTagRelated, IsUnderWay, NoneHides, Related, form_has_bytes, hides, NoReadDiffers, block_names, is_left, is_place_at, left_where, plan_hides}
 use Rattle.nv_laws_related.proofs.Undisturbed.{IsTagUntouched, IsUntouched, entry_names, spans-agree}
-use Rattle.nv_laws_related.proofs.Views.{device_of, own-there, status_in}
+use Rattle.nv_laws_related.proofs.Views.{block-place, device_of, own-there, status_in}
 use Rattle.nv_laws_units.specs.Units.{IsHeld, SameBlocks, addresses_of_block, own_units, whole_of}
-use Rattle.nv_laws_units.proofs.InWorld.{parts, world-blocks, world-direct_read, world-direct_same, world-direct_source, world-others, world-own_elsewhere, world-run}
+use Rattle.nv_laws_units.proofs.InWorld.{parts, world-blocks, world-bounced, world-direct_read, world-direct_same, world-direct_source, world-others, world-own_elsewhere, world-page_kept, world-page_moved, world-run}
 use Rattle.nv_laws_device.proofs.Retagged.{hidden-retagged, known-tag, member-known, members-elsewhere, tags-retagged}
 
 module _ (host_bytes : ℕ) (geometry : Geometry) (number : ℕ) (guest : Guest) (given : slice_get geometry.guests number ≡ Some guest)
@@ -397,6 +402,92 @@ module _ (host_bytes : ℕ) (geometry : Geometry) (number : ℕ) (guest : Guest)
           record {
                 steady = (λ x is. direct-steady direct ∙ rel.0.steady x is);
                 buffer = subst (λ x. HasBuffer x (left_where InDevice (Some h_behind)) bounce moved.memory own_behind.memory) (sym direct) tt;
+              },
+          differs-none rel.1,
+        ))
+
+    -- ---- by way of the bounce pages
+
+    bounced-out : plan ≡ Bounced work → (addr : ℕ) → NoneHides number z addr → IsOut addr
+    bounced-out bounced addr none =
+        not-so (list_any (is_place_at addr) (places_of_block work unit))
+        (λ e.
+        never-both (plan_hides plan (left_where InDevice (Some h_behind)) addr)
+        (ap (λ x. plan_hides x (left_where InDevice (Some h_behind)) addr) bounced
+        ∙ ap (λ b. b && list_any (λ k. not (is_left (Some h_behind) k) && block_names work k addr) (numbers_of work)) reads
+        ∙ row-some (λ k. not (is_left (Some h_behind) k) && block_names work k addr) unit 0 (length work.units) (omega arith) unit_below
+        (ap (λ b. not b && block_names work unit addr) (gone-left unit h.left) ∙ e))
+        (sym (ap (λ o. hides (own_tag number o) (own_held number o (device_of z lane tag)) addr) z_there
+        ∙ ap (λ b. hides (cond b (Some was) None) (cond b (device_of z lane tag) None) addr) mine ∙ ap (λ x. hides (Some was) x addr) z_under) ∙ none lane tag))
+      where
+        unit_below : unit < 0 + length work.units
+        unit_below =
+            let its = parts host_bytes geometry w reached.laid reached.consistent number guest lane tag plan work h it in
+            let form : form_of its.planned.work.opcode ≡ Transfer true = ap (λ (x : Work). form_of x.opcode) its.work_is ∙ read-form work.opcode reads in
+            let within = unit-within host_bytes (length w.lanes) geometry reached.laid number guest given command.entry plan its.planned lane tag its.tag_below h w.host its.in_device unit left true form in
+            let count = unit-counted guest command.entry plan its.planned true form in
+            let sound = end-sound (mapped (regions_of guest)) guest.limit (shape_of guest).blocks command.entry its.planned.work its.planned.verdict in
+            let total : total_len its.planned.work.pieces ≡ block * count_of command.entry = sound.total ∙ ap (λ f. form_transfer_len f command.entry) form in
+            let same : length its.planned.work.units ≡ length work.units = ap (λ (x : Work). length x.units) its.work_is in
+            omega (arith, within, count, total, same)
+
+    bounced-shown : plan ≡ Bounced work → (addr : ℕ) → hides (Some was) (Some h_behind) addr ≡ false → hides (Some was) (Some h) addr ≡ false
+    bounced-shown bounced addr none =
+        not-so (plan_hides plan (left_where InDevice (Some h)) addr)
+        (λ e.
+        (let both = and-true (is_read work.opcode) (list_any (λ k. not (is_left (Some h) k) && block_names work k addr) (numbers_of work))
+        (sym (ap (λ x. plan_hides x (left_where InDevice (Some h)) addr) bounced) ∙ e) in
+        never-both (plan_hides plan (left_where InDevice (Some h_behind)) addr)
+        (ap (λ x. plan_hides x (left_where InDevice (Some h_behind)) addr) bounced
+        ∙ ap (λ b. b && list_any (λ k. not (is_left (Some h_behind) k) && block_names work k addr) (numbers_of work)) both.0
+        ∙ any-more (λ k. not (is_left (Some h) k) && block_names work k addr) (λ k. not (is_left (Some h_behind) k) && block_names work k addr) (numbers_of work)
+        (λ k one. (let parts_of = and-true (not (is_left (Some h) k)) (block_names work k addr) one in
+        ap (λ b. b && block_names work k addr) (gone-still unit k h.left parts_of.0) ∙ parts_of.1)) both.1) none))
+
+    bounced-page : plan ≡ Bounced work → HasBuffer (Bounced work) (left_where InDevice (Some h)) bounce w.host p.memory
+        → HasBuffer (Bounced work) (left_where InDevice (Some h_behind)) bounce moved.memory own_behind.memory
+    bounced-page bounced was_there index has i addr place =
+        elim (cases_eq index unit) [
+          | inl same ↦
+              subst (λ n. (i2 addr2 : ℕ) → slice_get (places_of_block work n) i2 ≡ Some (At addr2) → moved.memory (bounce + block * n + i2) ≡ own_behind.memory addr2) (sym same)
+              (has-page moved.memory own_behind.memory (bounce + block * unit) block (places_of_block work unit)
+              (world-page_moved host_bytes geometry w reached.laid reached.consistent number guest lane tag plan work h it unit left own bounced reads same_before
+              (once-block (places_of work.pieces) unit once))) i addr place
+          | inr apart ↦
+              has-page moved.memory own_behind.memory (bounce + block * index) block (places_of_block work index)
+              (world-page_kept host_bytes geometry w reached.laid reached.consistent number guest lane tag plan work h it unit left own index bounced reads same_before once apart
+              (page-has w.host p.memory (bounce + block * index) block (places_of_block work index) sized
+              (was_there index (ap (λ f. form_has_bytes f (is_left (Some h) index)) (read-form work.opcode reads)
+              ∙ left-before unit index h.left apart (sym (ap (λ f. form_has_bytes f (is_left (Some h_behind) index)) (read-form work.opcode reads)) ∙ has))))) i addr place
+        ]
+      where
+        once : NameNoneTwice (places_of work.pieces)
+        once = destination-once work.pieces (destination-clear number guest w p.controller clear lane tag was command.entry is_there own-is work (known.0.steady work goes) reads)
+
+        sized : length (places_of_block work index) ≡ block
+        sized =
+            let its = parts host_bytes geometry w reached.laid reached.consistent number guest lane tag plan work h it in
+            let form : form_of its.planned.work.opcode ≡ Transfer true = ap (λ (x : Work). form_of x.opcode) its.work_is ∙ read-form work.opcode reads in
+            let sound = end-sound (mapped (regions_of guest)) guest.limit (shape_of guest).blocks command.entry its.planned.work its.planned.verdict in
+            let total : total_len its.planned.work.pieces ≡ block * count_of command.entry = sound.total ∙ ap (λ f. form_transfer_len f command.entry) form in
+            let same : total_len its.planned.work.pieces ≡ total_len work.pieces = ap (λ (x : Work). total_len x.pieces) its.work_is in
+            let inside = block-place work index i (At addr) place in
+            let all = length-places_of work.pieces in
+            let dropped = length-drop (block * index) (places_of work.pieces) in
+            length-take-le block (drop (block * index) (places_of work.pieces)) (omega (arith, total, same, inside, all, dropped))
+
+    pub bounced-goes : plan ≡ Bounced work → GoesAlong geometry number guest (event.DevMove lane tag unit) w p (replied reply.Done (device_moved geometry.disk_blocks lane tag unit h w))
+    bounced-goes bounced =
+        let kept = world-bounced host_bytes geometry w reached.laid reached.consistent number guest lane tag plan work h it unit bounced in
+        moved-goes same-behind
+        (λ addr inside none.
+        own-elsewhere addr (bounced-out bounced addr none) ∙ related.memory addr inside (hidden-moved addr (bounced-shown bounced addr) none) ∙ sym (ap (λ m. m addr) kept))
+        (untouched (λ addr out. sym (ap (λ m. m addr) kept)))
+        (λ rel. (
+          record {
+                steady = (λ x is. ap (λ m. verdict_in (shape_of guest) m command.entry) kept ∙ rel.0.steady x is);
+                buffer = subst (λ x. HasBuffer x (left_where InDevice (Some h_behind)) bounce moved.memory own_behind.memory) (sym bounced)
+                    (bounced-page bounced (subst (λ x. HasBuffer x (left_where InDevice (Some h)) bounce w.host p.memory) bounced rel.0.buffer));
               },
           differs-none rel.1,
         ))
