@@ -1,10 +1,10 @@
 -- What discipline says of a Read's own destination: it names no byte twice, and none of the command's lists or of another command's bytes.
-use Rattle.std.proofs.Common.{◌≡◌, ℕ, ◌*◌, Bool, true, false, cond, ◌||◌, List, [], ◌∷◌, ◌++◌, All, drop, flat_map, map, Option, Some, None, refl, sym, ap, ◌∙◌, eq-eqb}
+use Rattle.std.proofs.Common.{◌≡◌, ℕ, ◌*◌, Bool, true, false, cond, ◌||◌, List, [], ◌∷◌, ◌++◌, All, drop, flat_map, map, Some, refl, sym, ap, ◌∙◌, eq-eqb}
 use Rattle.std.specs.List.{list_any}
 use Rattle.std.proofs.lemmas.List.Elements.{All-cons, All-nil}
 use Rattle.nv_entry.specs.declared.opcode.IoOpcode.{IoOpcode}
 use Rattle.nv_entry.specs.declared.opcode.IoOpcode.TheVariants.{Flush, Write, Read, Compare, WriteZeroes, DatasetManagement}
-use Rattle.nv_mem.specs.Places.{At, Bucket, Place, places_of}
+use Rattle.nv_mem.specs.Places.{At, Place, places_of}
 use Rattle.nv_model.specs.Carried.{moved_on, units_moved}
 use Rattle.nv_model.specs.Dialogue.{asked}
 use Rattle.nv_model.specs.Footprint.{Destination, ListBytes, Named, Source, buffer_named, io_named, named_as, verdict_named}
@@ -14,7 +14,7 @@ use Rattle.nv_model.specs.Limits.{block}
 use Rattle.nv_model.specs.Memory.{image}
 use Rattle.nv_model.specs.Private.{Moved, block_moved, places_of_block, unit_moved, verdict_in}
 use Rattle.nv_model.specs.Controller.{Controller}
-use Rattle.nv_world_model.specs.Disciplined.{clash, in_order}
+use Rattle.nv_world_model.specs.Disciplined.{clash}
 use Rattle.nv_world_model.specs.Geometry.{Guest, regions_of, shape_of}
 use Rattle.nv_world_model.specs.SetUp.{any_two}
 use Rattle.nv_world_model.specs.World.{Tag, World, tag_of}

@@ -1,17 +1,16 @@
 -- The private controller of a guest goes along where a unit of the guest's own command is moved.
-use Rattle.std.proofs.Common.{◌≡◌, ℕ, inl, inr, Bool, true, false, ◌==◌, List, slice_get, Option, Some, None, arith, refl, sym, ap, ◌∙◌}
+use Rattle.std.proofs.Common.{◌≡◌, ℕ, inl, inr, true, false, ◌==◌, slice_get, Some, arith, refl, sym, ap, ◌∙◌}
 use Rattle.std.specs.List.{list_any}
-use Rattle.nv_model.specs.Judge.{Work, is_read}
+use Rattle.nv_model.specs.Judge.{is_read}
 use Rattle.nv_model.specs.Private.{Private}
 use Rattle.nv_model.specs.declared.reply.Reply.TheVariants as reply
 use Rattle.nv_world_model.specs.declared.event.Event.TheVariants as event
 use Rattle.nv_world_model.specs.Contained.{guest_of_one, owner}
 use Rattle.nv_world_model.specs.Device.{DeviceLane, Held}
 use Rattle.nv_world_model.specs.Geometry.{Geometry, Guest}
-use Rattle.nv_world_model.specs.Plan.{Plan}
 use Rattle.nv_world_model.specs.Seat.{work_of}
 use Rattle.nv_world_model.specs.Step.{device_move, device_moved, replied, step}
-use Rattle.nv_world_model.specs.World.{Command, Flying, InDevice, Lane, Tag, World, tag_in, tag_of}
+use Rattle.nv_world_model.specs.World.{Flying, InDevice, Lane, Tag, World, tag_in}
 use Rattle.nv_laws_sound.proofs.Lists.{slice_get-below, slice_get-there, some-same}
 use Rattle.nv_laws_sound.proofs.MoveEvents.{held-flies}
 use Rattle.nv_laws_related.specs.Following.{GoesAlong, IsDisciplinedAt, IsReached}

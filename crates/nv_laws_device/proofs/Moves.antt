@@ -1,5 +1,5 @@
 -- The private controller of a guest goes along with a unit of the guest's own command, where its memory behind the unit stands for the world's.
-use Rattle.std.proofs.Common.{◌≡◌, ℕ, ◌+◌, ◌*◌, ◌/◌, ◌%◌, ◌<◌, ◌≤◌, ◌⊎◌, inl, inr, Bool, true, false, cond, not, ◌&&◌, ◌||◌, ◌==◌, List, [], ◌∷◌, All, drop, flat_map, length, set, slice_get, Option, Some, None, arith, refl, sym, ap, ◌∙◌, eq-eqb, subst}
+use Rattle.std.proofs.Common.{◌≡◌, ℕ, ◌+◌, ◌*◌, ◌/◌, ◌%◌, ◌<◌, ◌≤◌, inl, inr, Bool, true, false, cond, not, ◌&&◌, ◌||◌, ◌==◌, List, [], ◌∷◌, All, drop, flat_map, length, set, slice_get, Option, Some, None, arith, refl, sym, ap, ◌∙◌, eq-eqb, subst}
 use Rattle.std.specs.List.{list_any}
 use Rattle.std.proofs.lemmas.Bool.{cases_eq}
 use Rattle.std.proofs.lemmas.List.{length-drop, length-take-le}
@@ -34,7 +34,7 @@ use Rattle.nv_model.proofs.Bags.{put-elsewhere, put-here, put-same}
 use Rattle.nv_model.specs.Carried.{at_work, units_moved}
 use Rattle.nv_model.specs.Judge.{Transfer, Work, count_of, form_is_read, form_of, form_transfer_len, is_read, judge}
 use Rattle.nv_model.specs.Memory.{gathered, image}
-use Rattle.nv_model.specs.Private.{AtWork, Moved, Private, Progress, Taken as Member, numbers_of, others, places_of_block, put, run_of, verdict_in}
+use Rattle.nv_model.specs.Private.{AtWork, Moved, Private, Taken as Member, numbers_of, others, places_of_block, put, run_of, verdict_in}
 use Rattle.nv_model.specs.declared.reply.Reply.TheVariants as reply
 use Rattle.nv_world_model.specs.declared.event.Event.TheVariants as event
 use Rattle.nv_world_model.specs.Area.{bounce_page, tag_count}
@@ -47,7 +47,6 @@ use Rattle.nv_world_model.specs.Step.{device_moved, replied}
 use Rattle.nv_world_model.specs.View.{is_tag_of, own_held, own_tag}
 use Rattle.nv_world_model.specs.World.{Command, Ended, Flying, Free, InDevice, Lane, Tag, Taken, World, changed_at, tag_in, tag_of}
 use Rattle.nv_world_model.proofs.Seats.{slice_get-set}
-use Rattle.nv_laws_sound.specs.Consistent.{IsInDevice, IsPlanned}
 use Rattle.nv_laws_sound.proofs.Lists.{set-same, slice_get-below, some-same}
 use Rattle.nv_laws_sound.proofs.MoveEvents.{moved-elsewhere, moved-undisturbed}
 use Rattle.nv_laws_others.specs.Leaving.{IsBytes}
@@ -288,7 +287,7 @@ module _ (host_bytes : ℕ) (geometry : Geometry) (number : ℕ) (guest : Guest)
         let its = parts host_bytes geometry w reached.laid reached.consistent number guest lane tag plan work h it in
         elim (plan-kind plan work goes) [
           | inl none ↦ absurd (moves-bytes guest command.entry plan its.planned work false its.work_is form none)
-          | inr some ↦ elim some [ | inl direct ↦ direct-source direct | inr bounced ↦ page-source bounced form ]
+          | inr some ↦ elim some [ inl direct ↦ direct-source direct | inr bounced ↦ page-source bounced form ]
         ]
 
     pub no_read-goes : GoesAlong geometry number guest (event.DevMove lane tag unit) w p (replied reply.Done (device_moved geometry.disk_blocks lane tag unit h w))
@@ -400,9 +399,9 @@ module _ (host_bytes : ℕ) (geometry : Geometry) (number : ℕ) (guest : Guest)
         (untouched (direct-kept direct))
         (λ rel. (
           record {
-                steady = (λ x is. direct-steady direct ∙ rel.0.steady x is);
-                buffer = subst (λ x. HasBuffer x (left_where InDevice (Some h_behind)) bounce moved.memory own_behind.memory) (sym direct) tt;
-              },
+            steady = (λ x is. direct-steady direct ∙ rel.0.steady x is);
+            buffer = subst (λ x. HasBuffer x (left_where InDevice (Some h_behind)) bounce moved.memory own_behind.memory) (sym direct) tt;
+          },
           differs-none rel.1,
         ))
 
@@ -485,9 +484,9 @@ module _ (host_bytes : ℕ) (geometry : Geometry) (number : ℕ) (guest : Guest)
         (untouched (λ addr out. sym (ap (λ m. m addr) kept)))
         (λ rel. (
           record {
-                steady = (λ x is. ap (λ m. verdict_in (shape_of guest) m command.entry) kept ∙ rel.0.steady x is);
-                buffer = subst (λ x. HasBuffer x (left_where InDevice (Some h_behind)) bounce moved.memory own_behind.memory) (sym bounced)
-                    (bounced-page bounced (subst (λ x. HasBuffer x (left_where InDevice (Some h)) bounce w.host p.memory) bounced rel.0.buffer));
-              },
+            steady = (λ x is. ap (λ m. verdict_in (shape_of guest) m command.entry) kept ∙ rel.0.steady x is);
+            buffer = subst (λ x. HasBuffer x (left_where InDevice (Some h_behind)) bounce moved.memory own_behind.memory) (sym bounced)
+                (bounced-page bounced (subst (λ x. HasBuffer x (left_where InDevice (Some h)) bounce w.host p.memory) bounced rel.0.buffer));
+          },
           differs-none rel.1,
         ))
