@@ -1,10 +1,10 @@
 -- The guest's memory in the world and on its private controller agree at what a command names that none of whose own bytes are hidden.
-use Rattle.std.proofs.Common.{◌≡◌, ℕ, zero, suc, subst, ◌+◌, ◌*◌, ◌<◌, inl, inr, Bool, true, false, cond, ◌||◌, List, [], ◌∷◌, All, drop, map, slice_get, Option, Some, None, arith, refl, sym, ap, ◌∙◌}
+use Rattle.std.proofs.Common.{◌≡◌, ℕ, zero, suc, subst, ◌+◌, ◌*◌, inl, inr, Bool, true, false, cond, ◌||◌, List, [], ◌∷◌, All, drop, map, slice_get, Option, Some, None, arith, refl, sym, ap, ◌∙◌}
 use Rattle.std.specs.List.{list_any}
 use Rattle.std.proofs.lemmas.Bool.{cases_eq}
 use Rattle.std.proofs.lemmas.List.Elements.{All-cons, All-head, All-nil, All-tail}
 use Rattle.nv_mem.specs.GuestMap.{mapped}
-use Rattle.nv_mem.specs.Places.{At, Place, places_of}
+use Rattle.nv_mem.specs.Places.{At, places_of}
 use Rattle.nv_model.specs.Dialogue.{Dialogue, asked}
 use Rattle.nv_model.specs.Footprint.{Destination, ListBytes, Named, Source, named_as, verdict_named}
 use Rattle.nv_model.specs.Judge.{Go, Verdict, Work, is_read, judge}
@@ -25,7 +25,7 @@ use Rattle.nv_laws_others.proofs.ShownTags.{any-behind, any-front}
 use Rattle.nv_laws_related.specs.Following.{IsReached}
 use Rattle.nv_laws_related.specs.Related.{IsTagRelated, NoneHides, Related, hides}
 use Rattle.nv_laws_related.proofs.Beginning.{entry_awaits, tag-awaits}
-use Rattle.nv_laws_related.proofs.Disciplines.{never-both, not-so}
+use Rattle.nv_laws_related.proofs.Disciplines.{not-so}
 use Rattle.nv_laws_related.proofs.Named.{block-among, place-passes, run-names}
 use Rattle.nv_laws_related.proofs.Undisturbed.{entry_names, names_at}
 use Rattle.nv_laws_related.proofs.Views.{device_of, status_in}

@@ -1,12 +1,12 @@
 -- What discipline says of two commands of a guest's: what one names is no destination of another.
-use Rattle.std.proofs.Common.{◌≡◌, ℕ, ◌+◌, ◌<◌, ◌≤◌, inl, inr, Bool, true, false, not, ◌&&◌, ◌||◌, nat_le, nat_lt, List, [], ◌∷◌, flat_map, map, slice_get, Option, Some, None, arith, refl, sym, ap, ◌∙◌, subst, leb-true, ltb-true}
+use Rattle.std.proofs.Common.{◌≡◌, ℕ, ◌+◌, ◌<◌, ◌≤◌, inl, inr, Bool, true, false, not, ◌&&◌, ◌||◌, nat_le, nat_lt, List, flat_map, map, slice_get, Some, None, refl, sym, ap, ◌∙◌, leb-true, ltb-true}
 use Rattle.std.specs.List.{enumerate_from, list_any}
 use Rattle.std.proofs.lemmas.Bool.{cases_eq}
 use Rattle.nv_model.proofs.Endings.{and-true}
 use Rattle.nv_model.specs.Controller.{Controller}
 use Rattle.nv_model.specs.Footprint.{Named, completion_slots, footprints, io_named, is_destination, meets, names, queue_named}
 use Rattle.nv_model.specs.Memory.{image}
-use Rattle.nv_world_model.specs.Disciplined.{clash, commands_named, in_order, is_clear, own_entry, taken_entries}
+use Rattle.nv_world_model.specs.Disciplined.{clash, in_order, own_entry, taken_entries}
 use Rattle.nv_world_model.specs.Geometry.{Geometry, Guest, regions_of, shape_of}
 use Rattle.nv_world_model.specs.SetUp.{any_two}
 use Rattle.nv_world_model.specs.World.{Lane, Tag, World, tag_of}
@@ -65,14 +65,15 @@ module _ (number : ℕ) (guest : Guest) (w : World) (c : Controller) where
       not-not false e = refl
 
   -- two that one address is named by, one of them a destination, clash
-  awaited-clash : (at : ℕ) (n m : Named) → awaits at n ≡ true → names_at at m ≡ true → (clash n m ≡ true) × (clash m n ≡ true)
+  pub awaited-clash : (at : ℕ) (n m : Named) → awaits at n ≡ true → names_at at m ≡ true → (clash n m ≡ true) × (clash m n ≡ true)
   awaited-clash at n m one other =
       let both = and-true (is_destination n) (names n at) one in
       let run = name-runs at n both.1 in
-      let also = name-runs at m other in
-      (ap (λ b. (b || is_destination m) && meets n.addr n.len m) both.0 ∙ name-meets number guest w n.addr n.len at m run.0 run.1 other,
-      ap (λ b. (is_destination m || b) && meets m.addr m.len n) both.0 ∙ ap (λ b. b && meets m.addr m.len n) (or-true (is_destination m))
-      ∙ name-meets number guest w m.addr m.len at n also.0 also.1 both.1)
+      let also = name-runs at m other in (
+        ap (λ b. (b || is_destination m) && meets n.addr n.len m) both.0 ∙ name-meets number guest w n.addr n.len at m run.0 run.1 other,
+        ap (λ b. (is_destination m || b) && meets m.addr m.len n) both.0 ∙ ap (λ b. b && meets m.addr m.len n) (or-true (is_destination m))
+            ∙ name-meets number guest w m.addr m.len at n also.0 also.1 both.1,
+      )
     where
       or-true : (b : Bool) → (b || true) ≡ true
       or-true true = refl

@@ -10,4 +10,7 @@ pub mod Agreed
 pub mod SourceRuns
 pub mod Sources
 pub mod WorkPlans
+pub mod Destinations
+pub mod PageBytes
 pub mod Moves
+pub mod MoveEvents

@@ -1,17 +1,29 @@
 -- The private controller of a guest goes along with a unit of the guest's own command, where its memory behind the unit stands for the world's.
-use Rattle.std.proofs.Common.{◌≡◌, ℕ, ◌+◌, ◌*◌, ◌/◌, ◌%◌, ◌<◌, ◌≤◌, ◌⊎◌, inl, inr, Bool, true, false, cond, ◌==◌, List, [], ◌∷◌, All, drop, length, set, slice_get, Option, Some, None, arith, refl, sym, ap, ◌∙◌, eq-eqb, subst}
+use Rattle.std.proofs.Common.{◌≡◌, ℕ, ◌+◌, ◌*◌, ◌/◌, ◌%◌, ◌<◌, ◌≤◌, inl, inr, Bool, true, false, cond, not, ◌&&◌, ◌||◌, ◌==◌, List, [], ◌∷◌, All, drop, flat_map, length, set, slice_get, Option, Some, None, arith, refl, sym, ap, ◌∙◌, eq-eqb, subst}
 use Rattle.std.specs.List.{list_any}
 use Rattle.std.proofs.lemmas.Bool.{cases_eq}
 use Rattle.std.proofs.lemmas.List.{length-drop, length-take-le}
 use Rattle.nv_mem.proofs.PlaceLists.{length-places_of}
-use Rattle.nv_mem.specs.Places.{places_of, total_len}
+use Rattle.nv_mem.specs.Places.{At, places_of, total_len}
 use Rattle.nv_model.proofs.RunPieces.{IsRunPiece}
 use Rattle.nv_model.specs.Limits.{block}
-use Rattle.nv_world_model.specs.Disciplined.{in_order, own_entry}
-use Rattle.nv_laws_related.proofs.Disciplines.{tags-untouched}
+use Rattle.nv_world_model.specs.Disciplined.{clash, in_order, own_entry}
+use Rattle.nv_laws_related.proofs.Disciplines.{any-more, commands_of, never-both, not-so, tags-untouched}
 use Rattle.nv_laws_units.proofs.Imaged.{bounced-source}
-use Rattle.nv_laws_units.proofs.Moving.{unit-within}
+use Rattle.nv_laws_units.proofs.Moving.{read-form, unit-within}
+use Rattle.nv_model.proofs.UnitsElsewhere.{scattered-elsewhere}
+use Rattle.nv_model.proofs.Agreeing.{in_memory-agree}
+use Rattle.nv_model.specs.Dialogue.{asked}
+use Rattle.nv_world_model.specs.SetUp.{any_two}
+use Rattle.nv_laws_related.proofs.Beginning.{entry_awaits}
+use Rattle.nv_model.proofs.AnyAnswers.{end-sound}
+use Rattle.nv_model.proofs.Endings.{and-true}
+use Rattle.nv_laws_units.specs.Places.{NameNoneTwice}
+use Rattle.nv_laws_units.proofs.Once.{destination-once}
+use Rattle.nv_laws_device.proofs.PageBytes.{gone-left, gone-still, has-page, left-before, once-block, page-has, row-some, unit-counted}
 use Rattle.nv_laws_device.proofs.Agreed.{place-same}
+use Rattle.nv_laws_device.proofs.Apart.{none-clash, pair-never, tags-pair}
+use Rattle.nv_laws_device.proofs.Destinations.{block-awaits, destination-clear, lists-apart, not-among, reads-never}
 use Rattle.nv_laws_device.proofs.WorkPlans.{fewer-form, moves-bytes, no_read-hides, plan-kind, still-left}
 use Rattle.nv_laws_device.proofs.SourceRuns.{source-runs}
 use Rattle.nv_laws_device.proofs.Sources.{gathered-same, source-page}
@@ -20,9 +32,9 @@ use Rattle.nv_entry.specs.Status.{StatusField}
 use Rattle.nv_mem.specs.GuestMap.{mapped}
 use Rattle.nv_model.proofs.Bags.{put-elsewhere, put-here, put-same}
 use Rattle.nv_model.specs.Carried.{at_work, units_moved}
-use Rattle.nv_model.specs.Judge.{Transfer, Work, form_of, is_read}
+use Rattle.nv_model.specs.Judge.{Transfer, Work, count_of, form_is_read, form_of, form_transfer_len, is_read, judge}
 use Rattle.nv_model.specs.Memory.{gathered, image}
-use Rattle.nv_model.specs.Private.{AtWork, Moved, Private, Progress, Taken as Member, others, places_of_block, put, run_of}
+use Rattle.nv_model.specs.Private.{AtWork, Moved, Private, Taken as Member, numbers_of, others, places_of_block, put, run_of, verdict_in}
 use Rattle.nv_model.specs.declared.reply.Reply.TheVariants as reply
 use Rattle.nv_world_model.specs.declared.event.Event.TheVariants as event
 use Rattle.nv_world_model.specs.Area.{bounce_page, tag_count}
@@ -33,20 +45,19 @@ use Rattle.nv_world_model.specs.PrivateSteps.{others_moves, own_moves, work_in}
 use Rattle.nv_world_model.specs.Seat.{held_by, held_in, member_in, members, name_of, units_behind, with_left, work_of}
 use Rattle.nv_world_model.specs.Step.{device_moved, replied}
 use Rattle.nv_world_model.specs.View.{is_tag_of, own_held, own_tag}
-use Rattle.nv_world_model.specs.World.{Command, Flying, InDevice, Lane, Tag, World, changed_at, tag_in, tag_of}
+use Rattle.nv_world_model.specs.World.{Command, Ended, Flying, Free, InDevice, Lane, Tag, Taken, World, changed_at, tag_in, tag_of}
 use Rattle.nv_world_model.proofs.Seats.{slice_get-set}
-use Rattle.nv_laws_sound.specs.Consistent.{IsInDevice, IsPlanned}
 use Rattle.nv_laws_sound.proofs.Lists.{set-same, slice_get-below, some-same}
 use Rattle.nv_laws_sound.proofs.MoveEvents.{moved-elsewhere, moved-undisturbed}
 use Rattle.nv_laws_others.specs.Leaving.{IsBytes}
 use Rattle.nv_laws_others.proofs.Leaving.{bytes-elsewhere}
 use Rattle.nv_laws_others.proofs.Parts.{held-put}
 use Rattle.nv_laws_related.specs.Following.{GoesAlong, IsReached}
-use Rattle.nv_laws_related.specs.Related.{HasBuffer, IsTagRelated, IsUnderWay, NoneHides, Related, form_has_bytes, hides, is_left, left_where}
-use Rattle.nv_laws_related.proofs.Undisturbed.{IsTagUntouched}
-use Rattle.nv_laws_related.proofs.Views.{device_of, status_in}
+use Rattle.nv_laws_related.specs.Related.{HasBuffer, IsTagRelated, IsUnderWay, NoneHides, Related, form_has_bytes, hides, NoReadDiffers, block_names, is_left, is_place_at, left_where, plan_hides}
+use Rattle.nv_laws_related.proofs.Undisturbed.{IsTagUntouched, IsUntouched, entry_names, spans-agree}
+use Rattle.nv_laws_related.proofs.Views.{block-place, device_of, own-there, status_in}
 use Rattle.nv_laws_units.specs.Units.{IsHeld, SameBlocks, addresses_of_block, own_units, whole_of}
-use Rattle.nv_laws_units.proofs.InWorld.{parts, world-blocks, world-direct_source, world-others, world-run}
+use Rattle.nv_laws_units.proofs.InWorld.{parts, world-blocks, world-bounced, world-direct_read, world-direct_same, world-direct_source, world-others, world-own_elsewhere, world-page_kept, world-page_moved, world-run}
 use Rattle.nv_laws_device.proofs.Retagged.{hidden-retagged, known-tag, member-known, members-elsewhere, tags-retagged}
 
 module _ (host_bytes : ℕ) (geometry : Geometry) (number : ℕ) (guest : Guest) (given : slice_get geometry.guests number ≡ Some guest)
@@ -276,7 +287,7 @@ module _ (host_bytes : ℕ) (geometry : Geometry) (number : ℕ) (guest : Guest)
         let its = parts host_bytes geometry w reached.laid reached.consistent number guest lane tag plan work h it in
         elim (plan-kind plan work goes) [
           | inl none ↦ absurd (moves-bytes guest command.entry plan its.planned work false its.work_is form none)
-          | inr some ↦ elim some [ | inl direct ↦ direct-source direct | inr bounced ↦ page-source bounced form ]
+          | inr some ↦ elim some [ inl direct ↦ direct-source direct | inr bounced ↦ page-source bounced form ]
         ]
 
     pub no_read-goes : GoesAlong geometry number guest (event.DevMove lane tag unit) w p (replied reply.Done (device_moved geometry.disk_blocks lane tag unit h w))
@@ -303,4 +314,179 @@ module _ (host_bytes : ℕ) (geometry : Geometry) (number : ℕ) (guest : Guest)
           (λ x is reads.
               (let bad : true ≡ false = sym reads ∙ ap (λ (y : Work). is_read y.opcode) (sym (some-same work x (sym goes ∙ is))) ∙ other in
               cc)),
+        ))
+
+  -- ---- units of a Read
+
+  module _ (ordered : in_order None number guest w ≡ true) (reads : is_read work.opcode ≡ true) where
+    abbrev before : ℕ → ℕ
+    before = image (regions_of guest) w.host
+
+    abbrev after : ℕ → ℕ
+    after = image (regions_of guest) moved.memory
+
+    clear : any_two clash (flat_map (λ named. named) (commands_of number guest w p.controller)) ≡ false
+    clear = none-clash number guest w p.controller related.controller ordered
+
+    abbrev IsOut : (addr : ℕ) → Type 0
+    IsOut addr = list_any (is_place_at addr) (places_of_block work unit) ≡ false
+
+    own-elsewhere : (addr : ℕ) → IsOut addr → own_behind.memory addr ≡ p.memory addr
+    own-elsewhere addr out =
+        world-own_elsewhere host_bytes geometry w reached.laid reached.consistent number guest lane tag plan work h it unit left own reads same_before addr
+        (not-among addr (places_of_block work unit) out)
+
+    same-behind : SameBlocks guest.extent own_behind moved
+    same-behind =
+        world-blocks host_bytes geometry w reached.laid reached.consistent number guest lane tag plan work h it unit left own same_before
+        (λ form. (let bad : true ≡ false = sym reads ∙ ap form_is_read form in cc))
+
+    differs-none : NoReadDiffers plan h.differed → NoReadDiffers plan h_behind.differed
+    differs-none none x is read = sym same-behind.compared ∙ reads-never (own_units work unit) work own reads ∙ none x is read
+
+    -- other commands name no byte of the block
+    other-out : (a b : ℕ) (t : Tag) (entry : List ℕ) → ((a ≡ lane) → (b ≡ tag) → ⊥) → tag_of w a b ≡ Some t → own_entry number t ≡ entry ∷ [] → (addr : ℕ)
+        → entry_names guest w.host addr entry ≡ true → IsOut addr
+    other-out a b t entry apart is one addr named =
+        not-so (list_any (is_place_at addr) (places_of_block work unit))
+        (λ e.
+        pair-never number guest w p.controller addr clear
+        (tags-pair geometry number w reached.consistent (entry_awaits guest w.host addr) (entry_names guest w.host addr) lane tag a b was t is_there is (λ same also. apart (sym same) (sym also))
+        (ap (list_any (entry_awaits guest w.host addr)) own-is
+        ∙ ap (λ b. b || false) (block-awaits number guest w p.controller clear lane tag was command.entry is_there own-is work (known.0.steady work goes) reads addr unit e))
+        (ap (list_any (entry_names guest w.host addr)) one ∙ ap (λ b. b || false) named)))
+
+    untouched : ((addr : ℕ) → IsOut addr → before addr ≡ after addr) → (a b : ℕ) (t : Tag) → ((a ≡ lane) → (b ≡ tag) → ⊥) → own_tag number (tag_of w a b) ≡ Some t
+        → IsTagUntouched t guest w.host moved.memory p.memory own_behind.memory
+    untouched kept a b t apart own =
+        (let is = own-there number (tag_of w a b) t own in by_tag t is.0 is.1)
+      where
+        by_entry : (t : Tag) (entry : List ℕ) → tag_of w a b ≡ Some t → own_entry number t ≡ entry ∷ [] → IsUntouched guest entry w.host moved.memory p.memory own_behind.memory
+        by_entry t entry is one addr named =
+            let out = other-out a b t entry apart is one addr named in
+            (kept addr out, sym (own-elsewhere addr out))
+
+        by_tag : (t : Tag) → tag_of w a b ≡ Some t → is_tag_of number (Some t) ≡ true → IsTagUntouched t guest w.host moved.memory p.memory own_behind.memory
+        by_tag Free is its = tt
+        by_tag (Taken c done) is its = by_entry (Taken c done) c.entry is (ap (λ b. cond b (c.entry ∷ []) []) its)
+        by_tag (Flying c x standing) is its = by_entry (Flying c x standing) c.entry is (ap (λ b. cond b (c.entry ∷ []) []) its)
+        by_tag (Ended c st x) is its = by_entry (Ended c st x) c.entry is (ap (λ b. cond b (c.entry ∷ []) []) its)
+
+    -- ---- in the guest's memory
+
+    direct-kept : plan ≡ Direct work → (addr : ℕ) → IsOut addr → before addr ≡ after addr
+    direct-kept direct addr out =
+        let gives = world-direct_read host_bytes geometry w reached.laid reached.consistent number guest lane tag plan work h it unit left own direct reads same_before in
+        sym
+        (ap (λ m. m addr) gives.in_host
+        ∙ scattered-elsewhere before (places_of_block work unit) gives.bytes addr (not-among addr (places_of_block work unit) out))
+
+    direct-steady : plan ≡ Direct work → verdict_in (shape_of guest) after command.entry ≡ verdict_in (shape_of guest) before command.entry
+    direct-steady direct =
+        let judging = judge (shape_of guest).mapped (shape_of guest).limit (shape_of guest).blocks command.entry in
+        in_memory-agree before after judging
+        (spans-agree before after (asked before judging)
+        (λ addr named.
+        direct-kept direct addr
+        (lists-apart number guest w p.controller clear lane tag was command.entry is_there own-is work (known.0.steady work goes) reads addr unit named)))
+
+    pub direct-goes : plan ≡ Direct work → GoesAlong geometry number guest (event.DevMove lane tag unit) w p (replied reply.Done (device_moved geometry.disk_blocks lane tag unit h w))
+    direct-goes direct =
+        moved-goes same-behind
+        (λ addr inside none.
+        world-direct_same host_bytes geometry w reached.laid reached.consistent number guest lane tag plan work h it unit left own direct reads same_before addr
+        (related.memory addr inside (hidden-moved addr (λ e. ap (λ x. plan_hides x (left_where InDevice (Some h)) addr) direct) none)))
+        (untouched (direct-kept direct))
+        (λ rel. (
+          record {
+            steady = (λ x is. direct-steady direct ∙ rel.0.steady x is);
+            buffer = subst (λ x. HasBuffer x (left_where InDevice (Some h_behind)) bounce moved.memory own_behind.memory) (sym direct) tt;
+          },
+          differs-none rel.1,
+        ))
+
+    -- ---- by way of the bounce pages
+
+    bounced-out : plan ≡ Bounced work → (addr : ℕ) → NoneHides number z addr → IsOut addr
+    bounced-out bounced addr none =
+        not-so (list_any (is_place_at addr) (places_of_block work unit))
+        (λ e.
+        never-both (plan_hides plan (left_where InDevice (Some h_behind)) addr)
+        (ap (λ x. plan_hides x (left_where InDevice (Some h_behind)) addr) bounced
+        ∙ ap (λ b. b && list_any (λ k. not (is_left (Some h_behind) k) && block_names work k addr) (numbers_of work)) reads
+        ∙ row-some (λ k. not (is_left (Some h_behind) k) && block_names work k addr) unit 0 (length work.units) (omega arith) unit_below
+        (ap (λ b. not b && block_names work unit addr) (gone-left unit h.left) ∙ e))
+        (sym (ap (λ o. hides (own_tag number o) (own_held number o (device_of z lane tag)) addr) z_there
+        ∙ ap (λ b. hides (cond b (Some was) None) (cond b (device_of z lane tag) None) addr) mine ∙ ap (λ x. hides (Some was) x addr) z_under) ∙ none lane tag))
+      where
+        unit_below : unit < 0 + length work.units
+        unit_below =
+            let its = parts host_bytes geometry w reached.laid reached.consistent number guest lane tag plan work h it in
+            let form : form_of its.planned.work.opcode ≡ Transfer true = ap (λ (x : Work). form_of x.opcode) its.work_is ∙ read-form work.opcode reads in
+            let within = unit-within host_bytes (length w.lanes) geometry reached.laid number guest given command.entry plan its.planned lane tag its.tag_below h w.host its.in_device unit left true form in
+            let count = unit-counted guest command.entry plan its.planned true form in
+            let sound = end-sound (mapped (regions_of guest)) guest.limit (shape_of guest).blocks command.entry its.planned.work its.planned.verdict in
+            let total : total_len its.planned.work.pieces ≡ block * count_of command.entry = sound.total ∙ ap (λ f. form_transfer_len f command.entry) form in
+            let same : length its.planned.work.units ≡ length work.units = ap (λ (x : Work). length x.units) its.work_is in
+            omega (arith, within, count, total, same)
+
+    bounced-shown : plan ≡ Bounced work → (addr : ℕ) → hides (Some was) (Some h_behind) addr ≡ false → hides (Some was) (Some h) addr ≡ false
+    bounced-shown bounced addr none =
+        not-so (plan_hides plan (left_where InDevice (Some h)) addr)
+        (λ e.
+        (let both = and-true (is_read work.opcode) (list_any (λ k. not (is_left (Some h) k) && block_names work k addr) (numbers_of work))
+        (sym (ap (λ x. plan_hides x (left_where InDevice (Some h)) addr) bounced) ∙ e) in
+        never-both (plan_hides plan (left_where InDevice (Some h_behind)) addr)
+        (ap (λ x. plan_hides x (left_where InDevice (Some h_behind)) addr) bounced
+        ∙ ap (λ b. b && list_any (λ k. not (is_left (Some h_behind) k) && block_names work k addr) (numbers_of work)) both.0
+        ∙ any-more (λ k. not (is_left (Some h) k) && block_names work k addr) (λ k. not (is_left (Some h_behind) k) && block_names work k addr) (numbers_of work)
+        (λ k one. (let parts_of = and-true (not (is_left (Some h) k)) (block_names work k addr) one in
+        ap (λ b. b && block_names work k addr) (gone-still unit k h.left parts_of.0) ∙ parts_of.1)) both.1) none))
+
+    bounced-page : plan ≡ Bounced work → HasBuffer (Bounced work) (left_where InDevice (Some h)) bounce w.host p.memory
+        → HasBuffer (Bounced work) (left_where InDevice (Some h_behind)) bounce moved.memory own_behind.memory
+    bounced-page bounced was_there index has i addr place =
+        elim (cases_eq index unit) [
+          | inl same ↦
+              subst (λ n. (i2 addr2 : ℕ) → slice_get (places_of_block work n) i2 ≡ Some (At addr2) → moved.memory (bounce + block * n + i2) ≡ own_behind.memory addr2) (sym same)
+              (has-page moved.memory own_behind.memory (bounce + block * unit) block (places_of_block work unit)
+              (world-page_moved host_bytes geometry w reached.laid reached.consistent number guest lane tag plan work h it unit left own bounced reads same_before
+              (once-block (places_of work.pieces) unit once))) i addr place
+          | inr apart ↦
+              has-page moved.memory own_behind.memory (bounce + block * index) block (places_of_block work index)
+              (world-page_kept host_bytes geometry w reached.laid reached.consistent number guest lane tag plan work h it unit left own index bounced reads same_before once apart
+              (page-has w.host p.memory (bounce + block * index) block (places_of_block work index) sized
+              (was_there index (ap (λ f. form_has_bytes f (is_left (Some h) index)) (read-form work.opcode reads)
+              ∙ left-before unit index h.left apart (sym (ap (λ f. form_has_bytes f (is_left (Some h_behind) index)) (read-form work.opcode reads)) ∙ has))))) i addr place
+        ]
+      where
+        once : NameNoneTwice (places_of work.pieces)
+        once = destination-once work.pieces (destination-clear number guest w p.controller clear lane tag was command.entry is_there own-is work (known.0.steady work goes) reads)
+
+        sized : length (places_of_block work index) ≡ block
+        sized =
+            let its = parts host_bytes geometry w reached.laid reached.consistent number guest lane tag plan work h it in
+            let form : form_of its.planned.work.opcode ≡ Transfer true = ap (λ (x : Work). form_of x.opcode) its.work_is ∙ read-form work.opcode reads in
+            let sound = end-sound (mapped (regions_of guest)) guest.limit (shape_of guest).blocks command.entry its.planned.work its.planned.verdict in
+            let total : total_len its.planned.work.pieces ≡ block * count_of command.entry = sound.total ∙ ap (λ f. form_transfer_len f command.entry) form in
+            let same : total_len its.planned.work.pieces ≡ total_len work.pieces = ap (λ (x : Work). total_len x.pieces) its.work_is in
+            let inside = block-place work index i (At addr) place in
+            let all = length-places_of work.pieces in
+            let dropped = length-drop (block * index) (places_of work.pieces) in
+            length-take-le block (drop (block * index) (places_of work.pieces)) (omega (arith, total, same, inside, all, dropped))
+
+    pub bounced-goes : plan ≡ Bounced work → GoesAlong geometry number guest (event.DevMove lane tag unit) w p (replied reply.Done (device_moved geometry.disk_blocks lane tag unit h w))
+    bounced-goes bounced =
+        let kept = world-bounced host_bytes geometry w reached.laid reached.consistent number guest lane tag plan work h it unit bounced in
+        moved-goes same-behind
+        (λ addr inside none.
+        own-elsewhere addr (bounced-out bounced addr none) ∙ related.memory addr inside (hidden-moved addr (bounced-shown bounced addr) none) ∙ sym (ap (λ m. m addr) kept))
+        (untouched (λ addr out. sym (ap (λ m. m addr) kept)))
+        (λ rel. (
+          record {
+            steady = (λ x is. ap (λ m. verdict_in (shape_of guest) m command.entry) kept ∙ rel.0.steady x is);
+            buffer = subst (λ x. HasBuffer x (left_where InDevice (Some h_behind)) bounce moved.memory own_behind.memory) (sym bounced)
+                (bounced-page bounced (subst (λ x. HasBuffer x (left_where InDevice (Some h)) bounce w.host p.memory) bounced rel.0.buffer));
+          },
+          differs-none rel.1,
         ))

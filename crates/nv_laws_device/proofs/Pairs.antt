@@ -1,10 +1,10 @@
 -- Two members of a list, at different places, of which one passes one test and the other another.
-use Rattle.std.proofs.Common.{◌≡◌, ℕ, zero, suc, ◌⊎◌, inl, inr, Bool, true, false, ◌||◌, List, [], ◌∷◌, ◌++◌, flat_map, map, slice_get, Some, arith, refl, sym, ap, ◌∙◌, subst}
+use Rattle.std.proofs.Common.{◌≡◌, ℕ, zero, suc, ◌⊎◌, inl, inr, Bool, true, false, ◌||◌, List, [], ◌∷◌, ◌++◌, flat_map, map, slice_get, Some, refl, sym, ap, ◌∙◌, subst}
 use Rattle.std.specs.List.{list_any}
 use Rattle.nv_world_model.specs.SetUp.{any_two}
 use Rattle.nv_laws_others.proofs.ShownTags.{any-behind, any-front}
 use Rattle.nv_laws_related.proofs.Disciplines.{any-map, any-more}
-use Rattle.nv_laws_related.proofs.Named.{any-at, any-of}
+use Rattle.nv_laws_related.proofs.Named.{any-at}
 
 abbrev pub Pairs : {X : Type 0} → (p q : X → Bool) → List X → Type 0
 Pairs p q [] = ⊥
@@ -80,7 +80,7 @@ pairs-map p q f (x ∷ xs) (inr (inr pair)) = inr (inr (pairs-map p q f xs pair)
 
 -- ---- where two such meet
 
-or-later : (b c : Bool) → c ≡ true → (b || c) ≡ true
+pub or-later : (b c : Bool) → c ≡ true → (b || c) ≡ true
 or-later true c e = refl
 or-later false c e = e
 

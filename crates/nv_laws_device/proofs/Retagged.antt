@@ -1,9 +1,8 @@
 -- One of a guest's tags changes, with what the device holds under it: its private controller stands for the world still, where it does for that tag,
 -- and where what the other tags name is as it was.
-use Rattle.std.proofs.Common.{◌≡◌, ℕ, ◌+◌, ◌/◌, ◌%◌, ◌<◌, ◌⊎◌, inl, inr, true, false, cond, List, set, slice_get, Option, Some, None, arith, refl, sym, ap, ◌∙◌, subst}
+use Rattle.std.proofs.Common.{◌≡◌, ℕ, ◌+◌, ◌/◌, ◌%◌, ◌⊎◌, inl, inr, true, false, cond, set, slice_get, Option, Some, None, arith, refl, sym, ap, ◌∙◌, subst}
 use Rattle.std.proofs.lemmas.Bool.{cases_eq}
 use Rattle.nv_entry.specs.Completion.{status_of}
-use Rattle.nv_mem.specs.GuestMap.{mapped}
 use Rattle.nv_model.specs.Limits.{most_bytes}
 use Rattle.nv_model.specs.Memory.{image}
 use Rattle.nv_model.specs.Private.{Private}
@@ -63,7 +62,7 @@ module _ (geometry : Geometry) (number : ℕ) (guest : Guest) (w : World) (fine 
   placed : (a b : ℕ) → ((a ≡ lane) × (b ≡ tag)) ⊎ Elsewhere a b
   placed a b =
       elim (cases_eq a lane) [
-        | inl same ↦ elim (cases_eq b tag) [ | inl also ↦ inl (same, also) | inr other ↦ inr (λ _ also. other also) ]
+        | inl same ↦ elim (cases_eq b tag) [ inl also ↦ inl (same, also) | inr other ↦ inr (λ _ also. other also) ]
         | inr other ↦ inr (λ same _. other same)
       ]
 

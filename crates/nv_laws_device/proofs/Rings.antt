@@ -1,48 +1,37 @@
 -- The private controller of a guest goes along where the device takes the guest's command or answers it, and where the mediator reaps it: no step is
 -- made.
-use Rattle.std.proofs.Common.{◌≡◌, ℕ, ◌+◌, ◌^◌, ◌<◌, inl, inr, Bool, true, false, cond, ◌&&◌, ◌==◌, List, [], ◌∷◌, length, set, slice_get, Option, Some, None, arith, refl, sym, ap, ◌∙◌, eq-eqb, subst}
+use Rattle.std.proofs.Common.{◌≡◌, ℕ, ◌<◌, Bool, true, false, ◌&&◌, ◌==◌, List, [], ◌∷◌, length, set, slice_get, Option, Some, None, arith, refl, sym, ap, ◌∙◌, eq-eqb, subst}
 use Rattle.std.specs.List.{list_any, range_with_len}
 use Rattle.std.proofs.lemmas.Bool.{eqb-false}
-use mathlib.Core.Path.{fun_ext}
-use Rattle.nv_entry.proofs.CompletionLemmas.{length-completion}
-use Rattle.nv_entry.specs.Completion.{completion, status_of}
-use Rattle.nv_entry.specs.Status.{StatusField}
-use Rattle.nv_mem.specs.GuestMap.{guest_of, host_of}
 use Rattle.nv_mem.specs.Places.{At}
-use Rattle.nv_model.proofs.MemoryLemmas.{bytes_from-stored}
 use Rattle.nv_model.specs.Judge.{Clear, Form, Keep, Manage, Transfer, Work, form_of, is_read}
-use Rattle.nv_model.specs.Memory.{bytes_from, image, stored}
-use Rattle.nv_model.specs.Private.{AtWork, Private, Progress, moved_status, numbers_of, places_of_block}
-use Rattle.nv_model.specs.Queue.{cqe_size, is_empty, next_slot}
-use Rattle.nv_model.specs.declared.reply.Reply.{Reply}
+use Rattle.nv_model.specs.Private.{AtWork, Private, numbers_of, places_of_block}
+use Rattle.nv_model.specs.Queue.{is_empty, next_slot}
 use Rattle.nv_model.specs.declared.reply.Reply.TheVariants as reply
 use Rattle.nv_world_model.specs.declared.event.Event.TheVariants as event
-use Rattle.nv_world_model.specs.Area.{bounce_page, completion_slot, entry_of, queue_pair, ring_size, tag_count}
-use Rattle.nv_world_model.specs.Contained.{guest_of_one, is_answered_at, is_queued_at, owner, tag_stands}
-use Rattle.nv_world_model.specs.Device.{DeviceLane, Held, completion_posted, device_unit, form_unit_count, front_entry, held_of, held_status, next_phase}
-use Rattle.nv_world_model.specs.Geometry.{Geometry, Guest, regions_of}
+use Rattle.nv_world_model.specs.Area.{bounce_page, entry_of, ring_size, tag_count}
+use Rattle.nv_world_model.specs.Contained.{is_queued_at, owner, tag_stands}
+use Rattle.nv_world_model.specs.Device.{DeviceLane, Held, form_unit_count, front_entry, held_of}
+use Rattle.nv_world_model.specs.Geometry.{Geometry, Guest}
 use Rattle.nv_world_model.specs.Plan.{Answer, Bounced, Direct, NoData, Plan}
-use Rattle.nv_world_model.specs.Seat.{completion_at, ended_progress, member_in, member_of, tells_difference, units_behind, unmoved, with_left, work_of}
-use Rattle.nv_world_model.specs.Step.{After, completion_read, device_post, device_posted, device_take, device_took, ended_at, passed_on, reap, reaped, replied, step}
-use Rattle.nv_world_model.specs.View.{guest_of_tag, is_tag_of}
-use Rattle.nv_world_model.specs.World.{Answered, Command, Ended, Flying, InDevice, Lane, Queued, Tag, World, tag_changed, tag_in, tag_of, with_lane}
+use Rattle.nv_world_model.specs.Seat.{member_of, units_behind, unmoved, with_left, work_of}
+use Rattle.nv_world_model.specs.Step.{device_take, device_took, replied, step}
+use Rattle.nv_world_model.specs.View.{guest_of_tag}
+use Rattle.nv_world_model.specs.World.{Flying, InDevice, Lane, Queued, Tag, World, tag_changed}
 use Rattle.nv_world_model.proofs.Seats.{slice_get-set}
 use Rattle.nv_laws_sound.specs.Consistent.{IsPlanned}
 use Rattle.nv_laws_sound.proofs.HeldEntries.{held-all}
-use Rattle.nv_laws_sound.proofs.Lists.{set-same, slice_get-below, slice_get-there, some-same}
-use Rattle.nv_laws_sound.proofs.ReapEvents.{IsAnsweredAt, answered-at, ended-is}
+use Rattle.nv_laws_sound.proofs.Lists.{slice_get-below, slice_get-there, some-same}
 use Rattle.nv_laws_sound.proofs.Rings.{between-head, far-some}
-use Rattle.nv_laws_sound.proofs.TakenEvents.{IsQueuedAt, queued-at, took-world}
+use Rattle.nv_laws_sound.proofs.TakenEvents.{queued-at, took-world}
 use Rattle.nv_laws_others.proofs.Parts.{held-put}
-use Rattle.nv_laws_others.proofs.RingEvents.{front-is, next-is}
+use Rattle.nv_laws_others.proofs.RingEvents.{front-is}
 use Rattle.nv_laws_related.specs.Following.{GoesAlong, IsReached}
-use Rattle.nv_laws_related.specs.Related.{IsMovedStatus, IsTagRelated, IsUnderWay, Related, form_has_bytes, hides, is_left, left_where, none_left, plan_hides}
+use Rattle.nv_laws_related.specs.Related.{IsUnderWay, Related, form_has_bytes, is_left, left_where, plan_hides}
 use Rattle.nv_laws_related.proofs.Keeping.{row-any}
 use Rattle.nv_laws_related.proofs.Others.{dull-goes, none-goes}
-use Rattle.nv_laws_related.proofs.Views.{device_of, status_in}
-use Rattle.nv_laws_related.proofs.Ways.{device-way, either-way, held-way, lane-way}
+use Rattle.nv_laws_related.proofs.Ways.{device-way, either-way}
 use Rattle.nv_laws_device.proofs.Retagged.{retagged}
-use Rattle.nv_laws_device.proofs.Statuses.{is-moved, moved-read, moved-tells, passed-same}
 use Rattle.nv_laws_device.proofs.Whole.{all-behind, buffer-fewer, placed-below, planned-work}
 
 -- ---- hidden bytes

@@ -1,5 +1,5 @@
 -- Members of parts of lists.
-use Rattle.std.proofs.Common.{◌≡◌, ℕ, zero, suc, ◌+◌, ◌<◌, List, [], ◌∷◌, drop, map, slice_get, take, Some, arith, refl, sym, ap, ◌∙◌}
+use Rattle.std.proofs.Common.{◌≡◌, ℕ, zero, suc, ◌+◌, ◌<◌, List, [], ◌∷◌, drop, slice_get, take, Some, arith, ap, ◌∙◌}
 use Rattle.nv_mem.specs.Places.{At, Place}
 use Rattle.nv_model.specs.Memory.{byte_at_place, bytes_from, gathered}
 

@@ -1,8 +1,8 @@
 -- The buffer of a command that goes and whose buffer is a source: each of its pieces is a run.
-use Rattle.std.proofs.Common.{◌≡◌, ℕ, Bool, true, false, cond, ◌==◌, List, [], ◌∷◌, All, Option, Some, None}
+use Rattle.std.proofs.Common.{◌≡◌, ℕ, Bool, true, false, cond, ◌==◌, List, [], All, Option, Some, None}
 use Rattle.std.specs.Bool.{⊤}
 use Rattle.std.specs.List.{list_all}
-use Rattle.std.proofs.lemmas.List.Elements.{All-nil, All-cons, All-head, All-tail}
+use Rattle.std.proofs.lemmas.List.Elements.{All-nil}
 use Rattle.nv_entry.specs.Opcode.{data_pointer, io_opcode}
 use Rattle.nv_entry.specs.Submission.{opcode_of, psdt_of}
 use Rattle.nv_entry.specs.StatusCode.{refused_with}

@@ -1,7 +1,7 @@
 -- The source of a unit is the same to the device as to the guest's private controller, where its pages have it, or no byte of it is hidden.
-use Rattle.std.proofs.Common.{◌≡◌, ℕ, zero, suc, ◌+◌, ◌*◌, ◌≤◌, List, [], ◌∷◌, All, drop, length, slice_get, take, Some, arith, refl, sym, ap, ◌∙◌}
+use Rattle.std.proofs.Common.{◌≡◌, ℕ, zero, suc, ◌+◌, ◌*◌, List, [], ◌∷◌, All, drop, length, slice_get, Some, arith, refl, sym, ap, ◌∙◌}
 use Rattle.std.proofs.lemmas.List.Elements.{All-append, All-cons, All-head, All-nil, All-tail}
-use Rattle.nv_mem.specs.Places.{At, Bucket, Place, addresses, places_of, places_of_piece, total_len}
+use Rattle.nv_mem.specs.Places.{At, Bucket, Place, addresses, places_of}
 use Rattle.nv_mem.specs.declared.piece.Piece.{Piece}
 use Rattle.nv_mem.specs.declared.piece.Piece.TheVariants as piece
 use Rattle.nv_model.proofs.RunPieces.{IsRunPiece}

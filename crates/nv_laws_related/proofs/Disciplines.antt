@@ -52,7 +52,7 @@ abbrev pub IsTakenEntry : (number : ℕ) → World → (entry : List ℕ) → Ty
 IsTakenEntry number w entry = (q : List ℕ → Bool) → q entry ≡ true → list_any q (taken_entries number w) ≡ true
 
 module _ (number : ℕ) (guest : Guest) (w : World) where
-  own-taken : (lane tag : ℕ) (t : Tag) (entry : List ℕ) → tag_of w lane tag ≡ Some t → own_entry number t ≡ entry ∷ [] → IsTakenEntry number w entry
+  pub own-taken : (lane tag : ℕ) (t : Tag) (entry : List ℕ) → tag_of w lane tag ≡ Some t → own_entry number t ≡ entry ∷ [] → IsTakenEntry number w entry
   own-taken lane tag t entry there is q e =
       taken-among w number q lane tag t there (ap (list_any q) is ∙ ap (λ b. b || false) e)
 

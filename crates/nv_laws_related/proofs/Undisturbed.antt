@@ -46,7 +46,7 @@ abbrev pub lists_named : List (ℕ × ℕ) → List Named
 lists_named spans = map (λ a. named_as ListBytes a.0 a.1) spans
 
 -- memories agree on spans of which all named bytes are the same
-spans-agree : (m n : ℕ → ℕ) (spans : List (ℕ × ℕ)) → ((at : ℕ) → list_any (names_at at) (lists_named spans) ≡ true → m at ≡ n at) → AgreeOn m n spans
+pub spans-agree : (m n : ℕ → ℕ) (spans : List (ℕ × ℕ)) → ((at : ℕ) → list_any (names_at at) (lists_named spans) ≡ true → m at ≡ n at) → AgreeOn m n spans
 spans-agree m n [] same = All-nil (AgreeAt m n)
 spans-agree m n (s ∷ spans) same =
     All-cons (AgreeAt m n) s spans
