@@ -1,17 +1,17 @@
 -- The private controller of a guest goes along with each admin step of the guest's.
-use Rattle.std.proofs.Common.{◌≡◌, ℕ, ◌+◌, ◌*◌, ◌<◌, ◌⊎◌, inl, inr, true, cond, ◌==◌, List, [], ◌∷◌, flat_map, slice_get, Option, Some, None, arith, refl, sym, ap, ◌∙◌, eq-eqb, subst}
+use Rattle.std.proofs.Common.{◌≡◌, ℕ, ◌+◌, inl, inr, true, cond, ◌==◌, [], ◌∷◌, flat_map, slice_get, Option, Some, None, arith, refl, sym, ap, eq-eqb, subst}
 use Rattle.nv_mem.specs.GuestMap.{mapped}
 use Rattle.nv_model.proofs.MemoryAlike.{front-mapped}
 use Rattle.nv_model.proofs.MemoryLemmas.{bytes_from-same}
 use Rattle.nv_model.proofs.QueueOrder.{IsKept-in_place}
 use Rattle.nv_model.proofs.QueuesKept.{completion_queue-has}
-use Rattle.nv_model.specs.Admin.{AdminStep, NothingToDo, QueueFull, Stepped, admin}
-use Rattle.nv_model.specs.Controller.{Controller, completion_queue, front, submission_queue}
+use Rattle.nv_model.specs.Admin.{AdminStep, NothingToDo, QueueFull, admin}
+use Rattle.nv_model.specs.Controller.{completion_queue, front, submission_queue}
 use Rattle.nv_model.specs.Footprint.{completion_slots}
 use Rattle.nv_model.specs.Laws.{IsCompletionInPlace, IsSubmissionInPlace}
 use Rattle.nv_model.specs.Memory.{bytes_from, image}
 use Rattle.nv_model.specs.Private.{AdminQueueStep, Private, administered, step as private_step}
-use Rattle.nv_model.specs.Queue.{CompletionQueue, SubmissionQueue, cqe_size, sqe_size}
+use Rattle.nv_model.specs.Queue.{CompletionQueue, SubmissionQueue, sqe_size}
 use Rattle.nv_model.specs.declared.reply.Reply.TheVariants as reply
 use Rattle.nv_world_model.specs.declared.event.Event.TheVariants as event
 use Rattle.nv_world_model.specs.Disciplined.{is_clear}
