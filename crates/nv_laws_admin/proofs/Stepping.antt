@@ -1,8 +1,8 @@
 -- An admin step in two memories with the same command at the front: the same is done in both, and what neither the command's destination nor the slot of
 -- its completion has stays as it was.
-use Rattle.std.proofs.Common.{◌≡◌, ℕ, ◌+◌, ◌*◌, ◌≤◌, ◌<◌, ◌⊎◌, inl, inr, Bool, true, false, cond, not, ◌||◌, ◌==◌, List, [], ◌∷◌, length, slice_index, Option, Some, None, IfSome, arith, refl, sym, ap, ◌∙◌, subst, eq-eqb}
+use Rattle.std.proofs.Common.{◌≡◌, ℕ, ◌+◌, ◌*◌, ◌≤◌, ◌<◌, ◌⊎◌, inl, inr, Bool, true, false, cond, not, ◌==◌, List, [], ◌∷◌, length, slice_index, Option, Some, None, IfSome, arith, refl, sym, ap, ◌∙◌, subst}
 use Rattle.std.specs.List.{list_any}
-use Rattle.std.proofs.lemmas.Bool.{cases_eq, cases_lt}
+use Rattle.std.proofs.lemmas.Bool.{cases_lt, eqb-false, or_parts}
 use Rattle.nv_entry.proofs.CompletionLemmas.{length-completion}
 use Rattle.nv_entry.specs.Status.{StatusField}
 use Rattle.nv_entry.specs.Submission.{cid_of}
@@ -32,21 +32,14 @@ unfolding scattered
 scattered-apart m [] bytes at none = refl
 scattered-apart m (place ∷ places) [] at none = refl
 scattered-apart m (At addr ∷ places) (byte ∷ bytes) at none =
-    let parts = either-false (addr == at) (list_any (is_place_at at) places) none in
+    let parts = or_parts (addr == at) (list_any (is_place_at at) places) none in
     scattered-apart (stored m addr (byte ∷ [])) places bytes at parts.1 ∙ stored-outside m addr (byte ∷ []) at (beside parts.0)
   where
-    either-false : (a b : Bool) → (a || b) ≡ false → (a ≡ false) × (b ≡ false)
-    either-false true b neither = cc
-    either-false false b neither = (refl, neither)
-
     beside : (addr == at) ≡ false → (at < addr) ⊎ (addr + 1 ≤ at)
     beside other =
         elim (cases_lt at addr) [
           | inl low ↦ inl low
-          | inr from ↦ elim (cases_eq addr at) [
-            | inl same ↦ never-both (addr == at) (eq-eqb addr at same) other
-            | inr apart ↦ inr (omega (arith, from, apart))
-          ]
+          | inr from ↦ let apart = eqb-false addr at other in inr (omega (arith, from, apart))
         ]
 scattered-apart m (Bucket ∷ places) (byte ∷ bytes) at none = scattered-apart m places bytes at none
 
