@@ -1,17 +1,17 @@
 -- The private controller of a guest goes along with each admin step of the guest's.
-use Rattle.std.proofs.Common.{◌≡◌, ℕ, ◌+◌, ◌*◌, ◌<◌, ◌⊎◌, inl, inr, true, cond, ◌==◌, List, [], ◌∷◌, flat_map, slice_get, Option, Some, None, arith, refl, sym, ap, ◌∙◌, eq-eqb, subst}
+use Rattle.std.proofs.Common.{◌≡◌, ℕ, ◌+◌, inl, inr, true, cond, ◌==◌, [], ◌∷◌, flat_map, slice_get, Option, Some, None, arith, refl, sym, ap, eq-eqb, subst}
 use Rattle.nv_mem.specs.GuestMap.{mapped}
 use Rattle.nv_model.proofs.MemoryAlike.{front-mapped}
 use Rattle.nv_model.proofs.MemoryLemmas.{bytes_from-same}
 use Rattle.nv_model.proofs.QueueOrder.{IsKept-in_place}
 use Rattle.nv_model.proofs.QueuesKept.{completion_queue-has}
-use Rattle.nv_model.specs.Admin.{AdminStep, NothingToDo, QueueFull, Stepped, admin}
-use Rattle.nv_model.specs.Controller.{Controller, completion_queue, front, submission_queue}
+use Rattle.nv_model.specs.Admin.{AdminStep, NothingToDo, QueueFull, admin}
+use Rattle.nv_model.specs.Controller.{completion_queue, front, submission_queue}
 use Rattle.nv_model.specs.Footprint.{completion_slots}
-use Rattle.nv_model.specs.Laws.{IsCompletionInPlace, IsSubmissionInPlace}
+use Rattle.nv_model.specs.Laws.{IsCompletionInPlace, IsInOrder, IsSubmissionInPlace, QueuesInPlace}
 use Rattle.nv_model.specs.Memory.{bytes_from, image}
 use Rattle.nv_model.specs.Private.{AdminQueueStep, Private, administered, step as private_step}
-use Rattle.nv_model.specs.Queue.{CompletionQueue, SubmissionQueue, cqe_size, sqe_size}
+use Rattle.nv_model.specs.Queue.{CompletionQueue, SubmissionQueue, sqe_size}
 use Rattle.nv_model.specs.declared.reply.Reply.TheVariants as reply
 use Rattle.nv_world_model.specs.declared.event.Event.TheVariants as event
 use Rattle.nv_world_model.specs.Disciplined.{is_clear}
@@ -45,7 +45,13 @@ module _ (host_bytes : ℕ) (geometry : Geometry) (number : ℕ) (guest : Guest)
   clear = (order-is number guest w None p.controller related.controller disciplined.before).0
 
   abbrev Named : ℕ → Type 0
-  Named = IsNamed number guest w p.controller clear
+  Named = IsNamed number guest w
+
+  in_place : QueuesInPlace (mapped (regions_of guest)) p.controller
+  in_place = reached.consistent.queues number guest p.controller given related.controller
+
+  sorted : (q : SubmissionQueue) → slice_get p.controller.submission 0 ≡ Some (Some q) → IsInOrder q.size q.head q.tail
+  sorted = queues-sorted host_bytes geometry number guest given w reached p related 0
 
   -- the entry is the same in both
   entry-same : (addr : ℕ) → front p.controller 0 ≡ Some addr → bytes_from p.memory addr sqe_size ≡ bytes_from mine addr sqe_size
@@ -53,9 +59,9 @@ module _ (host_bytes : ℕ) (geometry : Geometry) (number : ℕ) (guest : Guest)
       bytes_from-same p.memory mine addr addr sqe_size
       (λ i below.
       related.memory (addr + i)
-      (front-mapped (mapped (regions_of guest)) p.controller 0 addr (reached.consistent.queues number guest p.controller given related.controller) found i below)
+      (front-mapped (mapped (regions_of guest)) p.controller 0 addr in_place found i below)
       (not-awaited geometry number guest w p related (addr + i)
-      (entry-free number guest w p.controller 0 addr found (queues-sorted host_bytes geometry number guest given w reached p related 0) clear (addr + i) (omega arith) (omega (arith, below)))))
+      (entry-free number guest w p.controller 0 addr found sorted clear (addr + i) (omega arith) (omega (arith, below)))))
 
   -- a byte that a taken command names is beside the slot of the next completion
   beside-slot : (at : ℕ) → Named at → (cq : CompletionQueue) → admin_completions p.controller ≡ Some cq → IsBesideSlot cq at
@@ -63,8 +69,8 @@ module _ (host_bytes : ℕ) (geometry : Geometry) (number : ℕ) (guest : Guest)
     where
       by_place : (y : ℕ) → completion_queue p.controller y ≡ Some cq → IsBesideSlot cq at
       by_place y there =
-          let place = completion_queue-has (mapped (regions_of guest)) (IsSubmissionInPlace (mapped (regions_of guest))) (IsCompletionInPlace (mapped (regions_of guest)))
-          (IsKept-in_place (mapped (regions_of guest))) p.controller y cq (reached.consistent.queues number guest p.controller given related.controller) there in
+          let place = completion_queue-has (mapped (regions_of guest)) (IsSubmissionInPlace (mapped (regions_of guest)))
+          (IsCompletionInPlace (mapped (regions_of guest))) (IsKept-in_place (mapped (regions_of guest))) p.controller y cq in_place there in
           let below = place.0.tail_is_slot in
           elim (slots-apart number guest w p.controller clear y cq there at is) [
             | inl low ↦ inl (omega (arith, low))
@@ -86,8 +92,7 @@ module _ (host_bytes : ℕ) (geometry : Geometry) (number : ℕ) (guest : Guest)
   same-step =
       admin-alike Named mine p.memory p.controller beside-slot (shape_of guest)
       (reached.counted.running number guest p.controller given related.controller).together entry-same
-      (λ addr found at is.
-      destination-apart number guest w p.controller clear addr found (queues-sorted host_bytes geometry number guest given w reached p related 0) at is)
+      (λ addr found at is. destination-apart number guest w p.controller clear addr found sorted at is)
 
   step-goes : (x y : AdminStep) → IsStepAlike Named mine p.memory x y → private_step (shape_of guest) AdminQueueStep p ≡ administered y p
       → GoesAlong geometry number guest (event.Admin number) w p (administered_by x o w)
@@ -108,7 +113,8 @@ module _ (host_bytes : ℕ) (geometry : Geometry) (number : ℕ) (guest : Guest)
   world-made : step geometry (event.Admin number) w ≡ administered_by own_step o w
   unfolding step administered_in
   world-made =
-      ap (λ x. for_guest x w (λ q. administered_by (admin (shape_of q.given).mapped (shape_of q.given).blocks q.controller (image (regions_of q.given) w.host)) q w))
+      ap (λ x. for_guest x w (λ q.
+      administered_by (admin (shape_of q.given).mapped (shape_of q.given).blocks q.controller (image (regions_of q.given) w.host)) q w))
       (owner-there geometry number guest w p.controller given related.controller)
 
   pub admins-go : GoesAlong geometry number guest (event.Admin number) w p (step geometry (event.Admin number) w)

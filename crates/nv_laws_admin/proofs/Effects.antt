@@ -1,8 +1,8 @@
 -- What an admin command does is the same in whatever memory: its controller and answer, and the bytes that it writes, which go to the destination of
 -- Identify alone.
-use Rattle.std.proofs.Common.{◌≡◌, ℕ, ◌+◌, ◌<◌, inl, inr, Bool, true, false, cond, not, ◌&&◌, ◌||◌, ◌==◌, nat_lt, List, [], ◌∷◌, ◌++◌, set, slice_get, slice_index, Option, Some, None, IfSome, IsSome, is_some, is_none, arith, refl, sym, ap, ◌∙◌, subst, eq-eqb}
+use Rattle.std.proofs.Common.{◌≡◌, ℕ, ◌+◌, ◌<◌, Bool, true, false, cond, not, ◌&&◌, ◌||◌, ◌==◌, nat_lt, List, [], ◌∷◌, ◌++◌, set, slice_get, slice_index, Option, Some, None, IfSome, IsSome, is_some, is_none, arith, refl, sym, ap, ◌∙◌, subst}
 use Rattle.std.specs.List.{list_any}
-use Rattle.std.proofs.lemmas.Bool.{cases_lt}
+use Rattle.std.proofs.lemmas.Bool.{eqb-false}
 use Rattle.nv_entry.specs.Layout.{bits}
 use Rattle.nv_entry.specs.Opcode.{admin_opcode}
 use Rattle.nv_entry.specs.Status.{StatusField}
@@ -15,7 +15,7 @@ use Rattle.nv_entry.specs.declared.status_code.StatusCode.TheVariants as code
 use Rattle.nv_mem.specs.Places.{Place, places_of}
 use Rattle.nv_model.proofs.Endings.{first_failing-none}
 use Rattle.nv_model.proofs.Together.{queue_of-set-has}
-use Rattle.nv_model.specs.Admin.{AdminEffect, Hidden, Shown, Structure, admin_command, answered, checked, completes_to_checks, completion_id, create_completion, create_submission, delete_completion, delete_found, delete_submission, done_by, done_with_opcode, has_io_queue, identified, identify_by, identify_reading, new_queue_checks, number_of_queues, place_checks, qid, qsize, queues_allocated, selector, set_features, shown, uses}
+use Rattle.nv_model.specs.Admin.{AdminEffect, Hidden, Shown, Structure, admin_command, answered, checked, completes_to_checks, completion_id, create_completion, create_submission, delete_completion, delete_found, done_by, done_with_opcode, has_io_queue, identified, identify_by, identify_reading, new_queue_checks, number_of_queues, place_checks, qid, qsize, queues_allocated, selector, set_features, shown, uses}
 use Rattle.nv_model.specs.Controller.{Controller, completion_queue, queue_of, submission_queue, took, took_of, with_completion, with_submission}
 use Rattle.nv_model.specs.Footprint.{Destination, Named, admin_named, identify_named, is_identify}
 use Rattle.nv_model.specs.Limits.{last_queue, most_requests, most_slots}
@@ -105,16 +105,8 @@ pub record IsEffect (named : List Named) (c : Controller) (done : (ℕ → ℕ) 
 
 -- ---- checks
 
-either-false : (a b : Bool) → (a || b) ≡ false → (a ≡ false) × (b ≡ false)
-either-false true b neither = cc
-either-false false b neither = (refl, neither)
-
-not-zero : (n : ℕ) → (n == 0) ≡ false → 0 < n
-not-zero n some =
-    elim (cases_lt 0 n) [
-      | inl more ↦ more
-      | inr none ↦ let is : n ≡ 0 = omega arith in let bad : (n == 0) ≡ true = eq-eqb n 0 is in cc
-    ]
+some-number : (entry : List ℕ) → (qid entry == 0) ≡ false → 0 < qid entry
+some-number entry is = let other = eqb-false (qid entry) 0 is in omega (arith, other)
 
 -- a new queue has a number, under which none is there
 new-free : (there : Bool) (entry : List ℕ) (others : List (Bool × StatusCode)) → first_failing (new_queue_checks there entry ++ others) ≡ None
@@ -129,7 +121,7 @@ new-free there entry others fine =
     by_parts true true is e = cc
     by_parts true false is e = cc
     by_parts false true is e = cc
-    by_parts false false is e = (not-zero (qid entry) is, e)
+    by_parts false false is e = (some-number entry is, e)
 
 -- ---- commands
 
@@ -221,7 +213,7 @@ module _ (named : List Named) (c : Controller) where
     done_by-effect : (opcode : AdminOpcode) → (is_identify (Some opcode) ≡ true → own ≡ named)
         → IsEffect named c (λ memory. done_by opcode shape.mapped shape.blocks entry c memory)
     done_by-effect DeleteIoSubmissionQueue is =
-        either (qid entry == 0) _ _ (λ _. unchanged _) (λ some. delete_found-effect (submission_queue c (qid entry)) (not-zero (qid entry) some))
+        either (qid entry == 0) _ _ (λ _. unchanged _) (λ some. delete_found-effect (submission_queue c (qid entry)) (some-number entry some))
     done_by-effect CreateIoSubmissionQueue is = create_submission-effect
     done_by-effect GetLogPage is = unchanged _
     done_by-effect DeleteIoCompletionQueue is = delete_completion-effect

@@ -1,20 +1,18 @@
 -- An admin step in two memories with the same command at the front: the same is done in both, and what neither the command's destination nor the slot of
 -- its completion has stays as it was.
-use Rattle.std.proofs.Common.{◌≡◌, ℕ, ◌+◌, ◌*◌, ◌≤◌, ◌<◌, ◌⊎◌, inl, inr, Bool, true, false, cond, not, ◌||◌, ◌==◌, List, [], ◌∷◌, length, slice_get, slice_index, Option, Some, None, IfSome, arith, refl, sym, ap, ◌∙◌, subst, eq-eqb}
+use Rattle.std.proofs.Common.{◌≡◌, ℕ, ◌+◌, ◌*◌, ◌≤◌, ◌<◌, ◌⊎◌, inl, inr, Bool, true, false, cond, not, ◌==◌, List, [], ◌∷◌, length, slice_index, Option, Some, None, IfSome, arith, refl, sym, ap, ◌∙◌, subst}
 use Rattle.std.specs.List.{list_any}
-use Rattle.std.proofs.lemmas.Bool.{cases_eq, cases_lt}
+use Rattle.std.proofs.lemmas.Bool.{cases_lt, eqb-false, or_parts}
 use Rattle.nv_entry.proofs.CompletionLemmas.{length-completion}
-use Rattle.nv_entry.specs.Completion.{completion}
 use Rattle.nv_entry.specs.Status.{StatusField}
 use Rattle.nv_entry.specs.Submission.{cid_of}
 use Rattle.nv_mem.specs.Places.{At, Bucket, Place}
-use Rattle.nv_model.proofs.Endings.{and-true}
 use Rattle.nv_model.proofs.MemoryAlike.{scattered-at, stored-at}
 use Rattle.nv_model.proofs.MemoryLemmas.{stored-outside}
 use Rattle.nv_model.proofs.QueuesKept.{by_test}
 use Rattle.nv_model.proofs.TogetherKept.{front-may, took-together}
 use Rattle.nv_model.specs.Admin.{AdminEffect, AdminStep, NothingToDo, QueueFull, Stepped, admin, admin_command, admin_ready, answered, finish_deletion, front_command, is_queue_full, stepped, with_answer, with_completion_posted}
-use Rattle.nv_model.specs.Controller.{Controller, Deletion, Posted, completion_queue, front, is_ready, post, post_from, post_to, queue_of, submission_queue, took, with_submission}
+use Rattle.nv_model.specs.Controller.{Controller, Deletion, Posted, completion_queue, front, is_ready, post, post_from, post_to, submission_queue, took, with_submission}
 use Rattle.nv_model.specs.Footprint.{Named, admin_named}
 use Rattle.nv_model.specs.Memory.{bytes_from, scattered, stored}
 use Rattle.nv_model.specs.Private.{Shape}
@@ -34,21 +32,14 @@ unfolding scattered
 scattered-apart m [] bytes at none = refl
 scattered-apart m (place ∷ places) [] at none = refl
 scattered-apart m (At addr ∷ places) (byte ∷ bytes) at none =
-    let parts = either-false (addr == at) (list_any (is_place_at at) places) none in
+    let parts = or_parts (addr == at) (list_any (is_place_at at) places) none in
     scattered-apart (stored m addr (byte ∷ [])) places bytes at parts.1 ∙ stored-outside m addr (byte ∷ []) at (beside parts.0)
   where
-    either-false : (a b : Bool) → (a || b) ≡ false → (a ≡ false) × (b ≡ false)
-    either-false true b neither = cc
-    either-false false b neither = (refl, neither)
-
     beside : (addr == at) ≡ false → (at < addr) ⊎ (addr + 1 ≤ at)
     beside other =
         elim (cases_lt at addr) [
           | inl low ↦ inl low
-          | inr from ↦ elim (cases_eq addr at) [
-            | inl same ↦ never-both (addr == at) (eq-eqb addr at same) other
-            | inr apart ↦ inr (omega (arith, from, apart))
-          ]
+          | inr from ↦ let apart = eqb-false addr at other in inr (omega (arith, from, apart))
         ]
 scattered-apart m (Bucket ∷ places) (byte ∷ bytes) at none = scattered-apart m places bytes at none
 
@@ -136,7 +127,7 @@ module _ (IsApart : ℕ → Type 0) (memory other : ℕ → ℕ) where
         → ((at : ℕ) → IsApart at → list_any (awaits at) named ≡ false) → Alike (stepped (done memory) cid) (stepped (done other) cid)
     effect-alike named start done cid is keeps apart =
         let none : (at : ℕ) → IsApart at → list_any (is_place_at at) is.places ≡ false =
-            λ at there. not-so (list_any (is_place_at at) is.places) (λ bad. never-both (list_any (awaits at) named) (is.within at bad) (apart at there)) in
+        λ at there. not-so (list_any (is_place_at at) is.places) (λ bad. never-both (list_any (awaits at) named) (is.within at bad) (apart at there)) in
         subst (λ e. Alike (stepped e cid) (stepped (done other) cid)) (sym (is.does memory))
         (subst (λ e. Alike (stepped (record { controller = is.behind; memory = scattered memory is.places is.bytes; answer = is.answer }) cid) (stepped e cid))
         (sym (is.does other))
@@ -154,7 +145,7 @@ module _ (IsApart : ℕ → Type 0) (memory other : ℕ → ℕ) where
     module _ (shape : Shape) (together : IsTogether c)
         (same : (addr : ℕ) → front c 0 ≡ Some addr → bytes_from other addr sqe_size ≡ bytes_from memory addr sqe_size)
         (names : (addr : ℕ) → front c 0 ≡ Some addr → (at : ℕ) → IsApart at
-            → list_any (awaits at) (admin_named shape (bytes_from memory addr sqe_size)) ≡ false) where
+        → list_any (awaits at) (admin_named shape (bytes_from memory addr sqe_size)) ≡ false) where
       front-alike : (found : Option ℕ) → front c 0 ≡ found
           → Alike (front_command found shape.mapped shape.blocks c memory) (front_command found shape.mapped shape.blocks c other)
       front-alike None is = BothNothing
