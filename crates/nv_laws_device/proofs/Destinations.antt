@@ -25,8 +25,8 @@ use Rattle.nv_laws_related.proofs.Beginning.{awaits, entry_awaits, verdict-await
 use Rattle.nv_laws_related.proofs.Disciplines.{commands_of, never-both, not-so, own-taken, taken-outstanding}
 use Rattle.nv_laws_related.proofs.Named.{any-drop, any-take}
 use Rattle.nv_laws_related.proofs.Undisturbed.{names_at}
-use Rattle.nv_laws_device.proofs.Apart.{awaited-clash}
-use Rattle.nv_laws_device.proofs.Pairs.{or-later, pairs-meet, pairs-split, pairs-turned}
+use Rattle.nv_laws_related.proofs.Apart.{awaited-clash}
+use Rattle.nv_laws_related.proofs.Pairs.{or-later, pairs-meet, pairs-split, pairs-turned}
 
 -- ---- two in lists that are joined
 

@@ -1,13 +1,7 @@
 pub mod Retagged
-pub mod Statuses
 pub mod Whole
 pub mod Rings
 pub mod Posts
-pub mod Slices
-pub mod Pairs
-pub mod Apart
-pub mod Agreed
-pub mod SourceRuns
 pub mod Sources
 pub mod WorkPlans
 pub mod Destinations

@@ -21,11 +21,11 @@ use Rattle.nv_model.proofs.Endings.{and-true}
 use Rattle.nv_laws_units.specs.Places.{NameNoneTwice}
 use Rattle.nv_laws_units.proofs.Once.{destination-once}
 use Rattle.nv_laws_device.proofs.PageBytes.{gone-left, gone-still, has-page, left-before, once-block, page-has, row-some, unit-counted}
-use Rattle.nv_laws_device.proofs.Agreed.{place-same}
-use Rattle.nv_laws_device.proofs.Apart.{none-clash, pair-never, tags-pair}
+use Rattle.nv_laws_related.proofs.Agreed.{place-same}
+use Rattle.nv_laws_related.proofs.Apart.{none-clash, pair-never, tags-pair}
 use Rattle.nv_laws_device.proofs.Destinations.{block-awaits, destination-clear, lists-apart, not-among, reads-never}
 use Rattle.nv_laws_device.proofs.WorkPlans.{fewer-form, moves-bytes, no_read-hides, plan-kind, still-left}
-use Rattle.nv_laws_device.proofs.SourceRuns.{source-runs}
+use Rattle.nv_laws_sound.proofs.SourceRuns.{source-runs}
 use Rattle.nv_laws_device.proofs.Sources.{gathered-same, source-page}
 use Rattle.nv_laws_device.proofs.Whole.{buffer-fewer}
 use Rattle.nv_entry.specs.Status.{StatusField}

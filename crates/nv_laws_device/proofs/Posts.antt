@@ -1,6 +1,6 @@
--- The private controller of a guest goes along where the device answers the guest's command, and where the mediator reaps it: no step is made.
-use Rattle.std.proofs.Common.{◌≡◌, ℕ, ◌+◌, ◌<◌, ◌≤◌, ◌⊎◌, inl, inr, true, ◌==◌, List, [], ◌∷◌, length, set, slice_get, Option, Some, None, arith, refl, sym, ap, ◌∙◌, eq-eqb, subst}
-use Rattle.std.proofs.lemmas.Bool.{cases_lt, eqb-false}
+-- The private controller of a guest goes along where the device answers the guest's command: no step is made.
+use Rattle.std.proofs.Common.{◌≡◌, ℕ, ◌+◌, ◌<◌, ◌≤◌, ◌⊎◌, inl, inr, Bool, true, ◌==◌, List, [], ◌∷◌, length, set, slice_get, Some, None, arith, refl, sym, ap, ◌∙◌, eq-eqb, subst}
+use Rattle.std.proofs.lemmas.Bool.{cases_lt}
 use Rattle.std.specs.List.{list_any}
 use Rattle.nv_entry.proofs.CompletionLemmas.{length-completion}
 use Rattle.nv_entry.specs.Completion.{completion, status_of}
@@ -10,36 +10,42 @@ use Rattle.nv_model.proofs.MemoryLemmas.{bytes_from-stored, stored-outside}
 use Rattle.nv_model.specs.Limits.{most_bytes}
 use Rattle.nv_model.specs.Memory.{bytes_from, image, stored}
 use Rattle.nv_model.specs.Private.{Private, moved_status}
-use Rattle.nv_model.specs.Queue.{cqe_size, is_empty}
+use Rattle.nv_model.specs.Queue.{cqe_size}
 use Rattle.nv_model.specs.declared.reply.Reply.TheVariants as reply
 use Rattle.nv_world_model.specs.declared.event.Event.TheVariants as event
 use Rattle.nv_world_model.specs.Area.{bounce_page, completion_slot, queue_pair, ring_size}
-use Rattle.nv_world_model.specs.Contained.{guest_of_one, is_answered_at, owner, tag_stands}
+use Rattle.nv_world_model.specs.Contained.{guest_of_one, owner, tag_stands}
 use Rattle.nv_world_model.specs.Device.{DeviceLane, Held, completion_posted, completion_written, held_status, next_phase}
 use Rattle.nv_world_model.specs.Geometry.{Geometry, Guest, regions_of}
-use Rattle.nv_world_model.specs.Seat.{completion_at, ended_progress, held_by, held_in, member_of, tells_difference, with_left, work_of}
-use Rattle.nv_world_model.specs.Step.{completion_read, device_post, device_posted, ended_at, passed_on, reap, reaped, replied, step}
-use Rattle.nv_world_model.specs.View.{guest_of_tag, is_tag_of}
-use Rattle.nv_world_model.specs.World.{Answered, Ended, Flying, InDevice, Lane, Tag, World, tag_changed, tag_in, tag_of, with_lane}
+use Rattle.nv_world_model.specs.Plan.{Plan}
+use Rattle.nv_world_model.specs.Seat.{member_of, tells_difference, with_left, work_of}
+use Rattle.nv_world_model.specs.Step.{device_post, device_posted, replied, step}
+use Rattle.nv_world_model.specs.View.{is_tag_of}
+use Rattle.nv_world_model.specs.World.{Answered, Flying, InDevice, Lane, Tag, World, tag_changed, tag_in, tag_of}
 use Rattle.nv_world_model.proofs.Seats.{slice_get-set}
 use Rattle.nv_laws_sound.specs.Consistent.{IsPlanned, waits_for_mediator}
 use Rattle.nv_laws_sound.proofs.AnswerEvents.{answer-undisturbed, written-elsewhere, written-same}
-use Rattle.nv_laws_sound.proofs.Lists.{count-fewer, set-same, slice_get-below, slice_get-there, some-same}
+use Rattle.nv_laws_sound.proofs.Lists.{count-fewer, slice_get-below, slice_get-there, some-same}
 use Rattle.nv_laws_sound.proofs.MoveEvents.{held-flies}
-use Rattle.nv_laws_sound.proofs.ReapEvents.{answered-at, ended-is}
 use Rattle.nv_laws_sound.proofs.Retags.{stands-is}
-use Rattle.nv_laws_sound.proofs.Rings.{between-head, far, far-some}
+use Rattle.nv_laws_sound.proofs.Rings.{far}
 use Rattle.nv_laws_others.proofs.Leaving.{bytes-elsewhere}
 use Rattle.nv_laws_others.proofs.Parts.{held-put}
-use Rattle.nv_laws_others.proofs.RingEvents.{next-is}
 use Rattle.nv_laws_related.specs.Following.{GoesAlong, IsReached}
-use Rattle.nv_laws_related.specs.Related.{IsMovedStatus, IsUnderWay, Related, plan_hides}
+use Rattle.nv_laws_related.specs.Related.{IsMovedStatus, IsUnderWay, NoReadDiffers, Related, plan_hides}
+use Rattle.nv_laws_related.proofs.Statuses.{moved-back, moved-tells}
 use Rattle.nv_laws_related.proofs.Others.{dull-goes, none-goes}
 use Rattle.nv_laws_related.proofs.Views.{planned-short, status_in, under_way-kept}
-use Rattle.nv_laws_related.proofs.Ways.{device-way, either-way, held-way, lane-way}
+use Rattle.nv_laws_related.proofs.Ways.{device-way, held-way}
 use Rattle.nv_laws_units.proofs.Lies.{image-same}
-use Rattle.nv_laws_device.proofs.Retagged.{known-tag, retagged}
-use Rattle.nv_laws_device.proofs.Statuses.{is-moved, moved-read, moved-tells, passed-same}
+use Rattle.nv_laws_device.proofs.Retagged.{retagged}
+
+is-moved : (plan : Plan) (differed : Bool) → NoReadDiffers plan differed → IsMovedStatus plan (moved_status differed)
+is-moved plan differed none =
+    record {
+      status = ap moved_status (sym (moved-tells differed));
+      no_read = (λ work is read. moved-tells differed ∙ none work is read);
+    }
 
 module _ (host_bytes : ℕ) (geometry : Geometry) (number : ℕ) (guest : Guest) (given : slice_get geometry.guests number ≡ Some guest)
     (w : World) (reached : IsReached host_bytes geometry w) (p : Private) (related : Related geometry number guest w p) where
@@ -102,7 +108,7 @@ module _ (host_bytes : ℕ) (geometry : Geometry) (number : ℕ) (guest : Guest)
       let shown : bytes_from memory slot cqe_size ≡ bytes = subst (λ n. bytes_from memory slot n ≡ bytes) sized (bytes_from-stored w.host slot bytes) in
       let z = record w { host = memory; lanes = set w.lanes lane (tag_changed tag new l); device = set w.device lane (completion_posted tag d) } in
       let read : status_in geometry z lane d.posted ≡ moved_status h.differed =
-      ap status_of shown ∙ moved-read 0 d.head (queue_pair lane) tag d.phase h.differed (omega (arith, among, tags)) in
+      ap status_of shown ∙ moved-back 0 d.head (queue_pair lane) tag d.phase h.differed (omega (arith, among, tags)) in
       let same = completion-image lane d.posted bytes sized lane_below posted_below in
       subst (λ x. Related geometry number guest x p) (sym (stands-is w lane tag l d command plan InDevice (Answered d.posted) memory (completion_posted tag) at there flies))
       (retagged geometry number guest w reached.consistent lane tag l (tag_changed tag new l) d (completion_posted tag d) was new (Some h) None at there flies held refl mine mine
@@ -149,52 +155,3 @@ module _ (host_bytes : ℕ) (geometry : Geometry) (number : ℕ) (guest : Guest)
           let t = slice_get-there l.0.tags slot (omega (arith, tags, sized, under)) in
           none-goes geometry number guest (event.DevPost lane slot) w p refl (replied reply.Done (device_posted geometry.mediator lane slot (held_status h) d w)) refl
           (posted-related lane slot l.0 d h t.0 l.1 there t.1 held none mine)
-
-  -- ---- completions that are read
-
-  reaped-related : (lane tag : ℕ) (l : Lane) (d : DeviceLane) (held : Option Held) (t : Tag) → slice_get w.lanes lane ≡ Some l → slice_get w.device lane ≡ Some d
-      → slice_get l.tags tag ≡ Some t → slice_get d.held tag ≡ Some held → tag_stands (is_answered_at l.head) t ≡ true → guest_of_tag t ≡ Some number
-      → Related geometry number guest (reaped lane (completion_at geometry w lane l.head) w) p
-  unfolding reaped
-  reaped-related lane tag l d held t at there found under next own =
-      let before = reached.consistent.lanes lane l d at there in
-      let a = answered-at geometry lane tag l.head w.host l.head d held t (before.tags tag t held found under) next in
-      let was = Flying a.command a.plan (Answered l.head) in
-      let flies : slice_get l.tags tag ≡ Some was = found ∙ ap (λ x. Some x) a.flies in
-      let here : tag_of w lane tag ≡ Some was = ap (λ o. tag_in o tag) at ∙ flies in
-      let empty : slice_get d.held tag ≡ Some None = under ∙ ap (λ x. Some x) a.not_held in
-      let whose : a.command.guest ≡ number = some-same a.command.guest number (sym (ap guest_of_tag a.flies) ∙ own) in
-      let mine : is_tag_of number (Some was) ≡ true = eq-eqb a.command.guest number whose in
-      let st = status_of (completion_at geometry w lane l.head) in
-      let known = known-tag geometry number guest w p lane tag was None mine here (ap (λ o. held_in o tag) there ∙ ap held_by empty) related in
-      let same : passed_on st ≡ st = passed-same a.plan st known.1 in
-      let new = Ended a.command (passed_on st) (Some a.plan) in
-      let now = tag_changed tag new (completion_read l) in
-      subst (λ n. Related geometry number guest (ended_at (tag_of w lane n) st lane n (with_lane lane completion_read w)) p) (sym a.identifier)
-      (subst (λ x. Related geometry number guest x p) (sym (ended-is w lane tag l a.command a.plan (Answered l.head) st at flies))
-      (retagged geometry number guest w reached.consistent lane tag l now d d was new None None at there flies empty refl mine mine empty (λ b apart. refl)
-      (record w { lanes = set w.lanes lane now }) refl (sym (set-same w.device lane d there)) (λ x b y addr apart is bytes. refl)
-      p related refl refl refl refl
-      (ap (λ s. member_of number a.command (ended_progress (Some a.plan) s)) (sym same))
-      (λ addr e. e)
-      (λ rel. (rel.0, subst (IsMovedStatus a.plan) (sym same) rel.1))))
-
-  pub reaps-go : (lane : ℕ) → owner (event.Reap lane) w ≡ Some number
-      → GoesAlong geometry number guest (event.Reap lane) w p (step geometry (event.Reap lane) w)
-  unfolding step
-  reaps-go lane mine =
-      let dull = dull-goes geometry number guest (event.Reap lane) w p refl related in
-      let P = GoesAlong geometry number guest (event.Reap lane) w p in
-      lane-way P w dull (slice_get w.lanes lane) _ (λ l at.
-      device-way P w dull (slice_get w.device lane) (λ d. reap geometry lane l d w) (λ d there.
-      either-way P w dull (is_empty l.head d.posted) _ _ (λ none. dull reply.Idle refl) (λ some.
-      (let before = reached.consistent.lanes lane l d at there in
-      let waits : l.head ≡ d.posted → ⊥ = eqb-false l.head d.posted some in
-      let next = before.answered l.head (between-head l.head d.posted before.positions.read before.positions.posted (far-some l.head d.posted before.positions.read before.positions.posted waits)) in
-      let tags = before.positions.tags in
-      let sized = before.positions.held in
-      let inside = slice_get-below l.tags next.tag next.there next.is in
-      let held = slice_get-there d.held next.tag (omega (arith, tags, sized, inside)) in
-      none-goes geometry number guest (event.Reap lane) w p refl (replied reply.Done (reaped lane (completion_at geometry w lane l.head) w)) refl
-      (reaped-related lane next.tag l d held.0 next.there at there next.is held.1 next.stands
-      (sym (next-is host_bytes geometry w reached.laid reached.consistent lane l d next.tag next.there at there next.is next.stands) ∙ mine))))))

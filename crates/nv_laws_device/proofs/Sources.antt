@@ -10,8 +10,8 @@ use Rattle.nv_model.specs.Limits.{block}
 use Rattle.nv_model.specs.Memory.{bytes_from, gathered}
 use Rattle.nv_model.specs.Private.{places_of_block}
 use Rattle.nv_laws_related.specs.Related.{IsOnPage}
-use Rattle.nv_laws_device.proofs.Agreed.{all-at}
-use Rattle.nv_laws_device.proofs.Slices.{slice-drop, slice-take}
+use Rattle.nv_laws_related.proofs.Agreed.{all-at}
+use Rattle.nv_laws_related.proofs.Slices.{slice-drop, slice-take}
 
 -- a place is an address
 abbrev IsAddress : Place → Type 0

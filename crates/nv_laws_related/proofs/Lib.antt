@@ -20,3 +20,7 @@ pub mod Keeping
 pub mod Marks
 pub mod UnitMarks
 pub mod Others
+pub mod Pairs
+pub mod Apart
+pub mod Slices
+pub mod Agreed

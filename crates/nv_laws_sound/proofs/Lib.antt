@@ -25,3 +25,4 @@ pub mod Slots
 pub mod Commands
 pub mod CountedEvents
 pub mod CountedRuns
+pub mod SourceRuns

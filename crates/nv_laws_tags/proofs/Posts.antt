@@ -49,10 +49,10 @@ use Rattle.nv_laws_related.proofs.Tags.{bag-is, one-goes, tag-below}
 use Rattle.nv_laws_related.proofs.Undisturbed.{IsTagUntouched, IsUntouched, entry_names, names_at}
 use Rattle.nv_laws_related.proofs.Views.{device_of, own-there, status_in}
 use Rattle.nv_laws_related.proofs.Ways.{either-way, ended-way}
-use Rattle.nv_laws_tags.proofs.Apart.{none-clash, pair-never, tags-pair}
+use Rattle.nv_laws_related.proofs.Apart.{none-clash, pair-never, tags-pair}
 use Rattle.nv_laws_tags.proofs.Delivered.{IsDelivered, delivers, image-kept}
 use Rattle.nv_laws_tags.proofs.Freed.{by-tag, freed-related}
-use Rattle.nv_laws_tags.proofs.Pairs.{any-flat}
+use Rattle.nv_laws_related.proofs.Pairs.{any-flat}
 
 -- ---- how it has ended
 

@@ -41,8 +41,8 @@ use Rattle.nv_laws_related.proofs.Views.{block-place, device_of, own-there, stat
 use Rattle.nv_laws_related.proofs.Ways.{device-way, owner-way, taken-way}
 use Rattle.nv_laws_units.proofs.Lies.{image-same}
 use Rattle.nv_laws_units.proofs.Submitted.{plan-shown, source-written}
-use Rattle.nv_laws_tags.proofs.Agreed.{place-same, verdict-same}
-use Rattle.nv_laws_tags.proofs.Slices.{slice-bytes, slice-drop, slice-gathered, slice-take}
+use Rattle.nv_laws_related.proofs.Agreed.{place-same, verdict-same}
+use Rattle.nv_laws_related.proofs.Slices.{slice-bytes, slice-drop, slice-gathered, slice-take}
 
 -- what has bytes on its pages before its units move is a source
 source-form : (form : Form) → form_has_bytes form true ≡ true → form ≡ Transfer false

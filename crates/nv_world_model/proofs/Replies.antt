@@ -1,12 +1,11 @@
 -- Which replies the parts of a step have, and that one that tells of no change comes with none.
-use Rattle.std.proofs.Common.{◌≡◌, ℕ, zero, suc, ◌+◌, ◌<◌, Bool, true, false, cond, ◌&&◌, ◌==◌, nat_le, ◌⊎◌, inl, inr, List, [], ◌∷◌, length, slice_get, Option, Some, None, refl, sym, ap, ◌∙◌, subst}
+use Rattle.std.proofs.Common.{◌≡◌, ℕ, ◌+◌, Bool, true, false, cond, ◌&&◌, ◌==◌, nat_le, inl, inr, List, [], ◌∷◌, length, slice_get, Option, Some, None, refl}
 use Rattle.nv_entry.specs.Status.{StatusField}
 use Rattle.nv_model.specs.Admin.{AdminStep, NothingToDo, QueueFull, Stepped, admin}
 use Rattle.nv_entry.specs.Layout.{number_bytes}
 use Rattle.nv_mem.specs.GuestMap.{all_mapped, everywhere}
 use Rattle.nv_model.specs.Memory.{bytes_from, image, stored}
 use Rattle.nv_model.specs.Controller.{Controller, Posted, doorbell, front, is_enabled, post, reg_read, reg_write}
-use Rattle.nv_model.specs.Judge.{Work}
 use Rattle.nv_model.specs.Private.{Acted, Private, Shape, acted, controlled, register_replied, replied as acted_with}
 use Rattle.nv_model.specs.Transcript.{Outcome, ReadDone, Settled, Wanted}
 use Rattle.nv_model.specs.declared.act.Act.{Act}
@@ -18,7 +17,7 @@ use Rattle.nv_world_model.specs.Geometry.{Geometry, regions_of, shape_of}
 use Rattle.nv_world_model.specs.Laws.{IsAmong, IsBytesOr, MayAnswer, MayAnswerAct}
 use Rattle.nv_world_model.specs.Plan.{Plan, plan_over}
 use Rattle.nv_world_model.specs.Seat.{Owner, completion_at, owner_of, put_back, seat}
-use Rattle.nv_world_model.specs.Step.{After, act_put_back, acted_by, acted_in, administered_by, administered_in, carry_out, delivered, device_moved, device_post, device_posted, device_took, ended_at_once, for_device, for_ended, for_guest, for_held, for_lane, for_owner, for_taken, free_tag, is_free, is_io_queue, is_success, is_telling, kept_block, list_at, listed, post_at, post_by, posted_to, ran_out_of, reaped, replied, step, submit_by, take_front, take_tag, taken_to}
+use Rattle.nv_world_model.specs.Step.{After, act_put_back, acted_by, acted_in, administered_by, administered_in, carry_out, delivered, device_moved, device_post, device_posted, device_took, ended_at_once, for_device, for_ended, for_guest, for_held, for_lane, for_owner, for_taken, free_tag, is_io_queue, is_success, is_telling, kept_block, list_at, listed, post_at, post_by, posted_to, ran_out_of, reaped, replied, step, submit_by, take_front, take_tag, taken_to}
 use Rattle.nv_world_model.specs.World.{Command, Ended, Flying, Free, Lane, Tag, Taken, World, tag_of}
 use Rattle.nv_world_model.specs.Area.{bounce_page}
 use Rattle.nv_world_model.specs.declared.event.Event.{Event}

@@ -1,9 +1,9 @@
 -- Posts in a guest's seat, behind what is delivered.
-use Rattle.std.proofs.Common.{◌≡◌, ℕ, ◌<◌, Bool, true, false, cond, ◌&&◌, ◌==◌, eq-eqb, slice_get, Option, Some, None, refl, sym, ap, ◌∙◌, subst}
+use Rattle.std.proofs.Common.{◌≡◌, ℕ, ◌<◌, Bool, true, false, cond, ◌&&◌, eq-eqb, slice_get, Option, Some, None, refl, sym, ap, ◌∙◌, subst}
 use Rattle.nv_entry.specs.Status.{StatusField}
 use Rattle.nv_entry.specs.Submission.{cid_of}
 use Rattle.nv_mem.specs.GuestMap.{IsSound}
-use Rattle.nv_model.specs.Controller.{Controller, Posted, is_enabled, post, ran_out}
+use Rattle.nv_model.specs.Controller.{Posted, is_enabled, post, ran_out}
 use Rattle.nv_model.specs.Judge.{is_read}
 use Rattle.nv_model.specs.Memory.{image, stored}
 use Rattle.nv_model.specs.Private.{PostStep, Private, RunOutStep, Taken as Member, ending, put, step as private_step}
@@ -13,8 +13,8 @@ use Rattle.nv_world_model.specs.Area.{bounce_page, tag_count}
 use Rattle.nv_world_model.specs.Geometry.{Geometry, regions_of, shape_of}
 use Rattle.nv_world_model.specs.Laws.{IsSeatOf, LeadsTo}
 use Rattle.nv_world_model.specs.Plan.{Answer, Bounced, Direct, NoData, Plan}
-use Rattle.nv_world_model.specs.Seat.{Owner, ended_progress, members, name_of, owner_of, put_back, seat, with_memory}
-use Rattle.nv_world_model.specs.Step.{After, delivered, for_ended, for_owner, is_success, post_at, post_by, posted_to, ran_out_of, replied, scattered_to, step}
+use Rattle.nv_world_model.specs.Seat.{Owner, ended_progress, members, name_of, owner_of, put_back, seat}
+use Rattle.nv_world_model.specs.Step.{After, delivered, is_success, post_at, post_by, posted_to, ran_out_of, replied, scattered_to, step}
 use Rattle.nv_world_model.specs.World.{Command, Ended, World, tag_of}
 use Rattle.nv_model.proofs.PutImages.{image-put_image}
 use Rattle.nv_world_model.proofs.Seats.{IsOwner, owner_of-is, owner_of-number, slice_get-set}

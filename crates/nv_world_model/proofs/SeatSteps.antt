@@ -1,21 +1,20 @@
 -- What is done for a guest is what its private controller does.
-use Rattle.std.proofs.Common.{◌≡◌, ℕ, ◌+◌, ◌/◌, ◌%◌, Bool, true, false, cond, ◌==◌, List, [], ◌∷◌, length, slice_get, Option, Some, None, refl, sym, ap, ◌∙◌, subst}
+use Rattle.std.proofs.Common.{◌≡◌, ℕ, Bool, true, false, cond, List, length, Option, Some, None, refl, ap}
 use Rattle.nv_mem.specs.GuestMap.{IsSound, everywhere}
 use Rattle.nv_model.specs.Admin.{AdminStep, NothingToDo, QueueFull, Stepped, admin}
 use Rattle.nv_model.specs.Controller.{Controller, doorbell, reg_read, reg_write}
 use Rattle.nv_model.specs.Memory.{bytes_from, image, stored}
-use Rattle.nv_model.specs.Private.{Acted, AdminQueueStep, Private, Shape, acted, administered, controlled, register_replied, replied, After as PrivateAfter, step as private_step}
+use Rattle.nv_model.specs.Private.{Acted, AdminQueueStep, Private, Shape, acted, administered, controlled, register_replied, replied, step as private_step}
 use Rattle.nv_model.specs.declared.act.Act.{Act}
 use Rattle.nv_model.specs.declared.act.Act.TheVariants as act
-use Rattle.nv_model.specs.declared.reply.Reply.{Reply}
 use Rattle.nv_model.specs.declared.reply.Reply.TheVariants as reply
 use Rattle.nv_world_model.specs.declared.event.Event.TheVariants as event
 use Rattle.nv_world_model.specs.Geometry.{Geometry, regions_of, shape_of}
 use Rattle.nv_world_model.specs.Laws.{IsSeatOf, LeadsTo, OnlyInSeat}
-use Rattle.nv_world_model.specs.Seat.{Owner, owner_of, put_back, seat}
-use Rattle.nv_world_model.specs.Step.{After, act_put_back, acted_by, acted_in, administered_by, administered_in, for_guest, is_done, step}
+use Rattle.nv_world_model.specs.Seat.{Owner, owner_of, seat}
+use Rattle.nv_world_model.specs.Step.{acted_by, acted_in, administered_by, administered_in, for_guest, is_done, step}
 use Rattle.nv_world_model.specs.World.{World}
-use Rattle.nv_world_model.proofs.Seats.{IsOwner, only-nothing, only-put_back, owner_of-is, seat-put_back, seat-stands}
+use Rattle.nv_world_model.proofs.Seats.{IsOwner, only-nothing, only-put_back, seat-put_back, seat-stands}
 
 -- ---- acts
 

@@ -1,23 +1,19 @@
 -- Takes and posts in a guest's seat.
-use Rattle.std.proofs.Common.{◌≡◌, ℕ, ◌+◌, ◌*◌, ◌/◌, ◌%◌, ◌<◌, Bool, true, false, cond, ◌==◌, ◌&&◌, nat_lt, List, [], ◌∷◌, length, slice_get, get_or, Option, Some, None, is_none, arith, refl, sym, ap, ◌∙◌, subst}
+use Rattle.std.proofs.Common.{◌≡◌, ℕ, ◌/◌, ◌%◌, ◌<◌, Bool, true, false, cond, nat_lt, List, length, slice_get, get_or, Option, Some, None, is_none, arith, refl, sym, ap, ◌∙◌, subst}
 use Rattle.std.proofs.lemmas.Bool.Decides.{nat_tests}
 use Rattle.std.proofs.lemmas.Option.{slice_get-get_or}
-use Rattle.nv_entry.specs.Status.{StatusField}
-use Rattle.nv_entry.specs.Submission.{cid_of}
-use Rattle.nv_mem.specs.GuestMap.{IsSound}
-use Rattle.nv_model.specs.Controller.{Controller, Posted, front, is_enabled, post, ran_out, took}
-use Rattle.nv_model.specs.Memory.{bytes_from, image, stored}
-use Rattle.nv_model.specs.Private.{PostStep, Private, Progress, RunOutStep, TakeStep, Unjudged, Taken as Member, ending, put, After as PrivateAfter, step as private_step}
+use Rattle.nv_model.specs.Controller.{front, took}
+use Rattle.nv_model.specs.Memory.{bytes_from, image}
+use Rattle.nv_model.specs.Private.{Private, TakeStep, Unjudged, Taken as Member, put, step as private_step}
 use Rattle.nv_model.specs.Queue.{sqe_size}
 use Rattle.nv_model.specs.declared.reply.Reply.TheVariants as reply
 use Rattle.nv_world_model.specs.declared.event.Event.TheVariants as event
-use Rattle.nv_world_model.specs.Area.{bounce_page, tag_count}
+use Rattle.nv_world_model.specs.Area.{tag_count}
 use Rattle.nv_world_model.specs.Geometry.{Geometry, regions_of, shape_of}
 use Rattle.nv_world_model.specs.Laws.{IsSeatOf, LeadsTo}
-use Rattle.nv_world_model.specs.Plan.{Answer, Bounced, Direct, NoData, Plan}
-use Rattle.nv_world_model.specs.Seat.{Owner, ended_progress, members, member_in, name_of, owner_of, put_back, seat, with_memory}
-use Rattle.nv_world_model.specs.Step.{After, delivered, for_ended, for_guest, for_lane, for_owner, free_tag, is_free, is_io_queue, post_at, post_by, posted_to, ran_out_of, replied, scattered_to, step, take_from, take_front, take_tag, taken_to}
-use Rattle.nv_world_model.specs.World.{Command, Ended, Flying, Free, Lane, Tag, Taken, World, tag_of}
+use Rattle.nv_world_model.specs.Seat.{Owner, members, member_in, name_of, owner_of, seat}
+use Rattle.nv_world_model.specs.Step.{After, for_guest, for_lane, free_tag, is_free, is_io_queue, replied, step, take_from, take_front, take_tag, taken_to}
+use Rattle.nv_world_model.specs.World.{Ended, Flying, Free, Lane, Tag, Taken, World, tag_of}
 use Rattle.nv_world_model.proofs.FreeTags.{free_tag-lowest}
 use Rattle.nv_world_model.proofs.Seats.{IsOwner, owner_of-is, slice_get-set}
 

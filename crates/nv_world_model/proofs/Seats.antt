@@ -1,10 +1,9 @@
 -- A guest's seat behind what is done in it.
-use Rattle.std.proofs.Common.{◌≡◌, ℕ, zero, suc, ◌+◌, ◌-◌, ◌<◌, ◌≤◌, Bool, true, false, cond, ◌==◌, List, [], ◌∷◌, set, slice_get, Option, Some, None, is_some, arith, refl, sym, ap, ◌∙◌, subst}
+use Rattle.std.proofs.Common.{◌≡◌, ℕ, zero, suc, false, ◌==◌, List, [], ◌∷◌, set, slice_get, Option, Some, None, arith, refl, subst}
 use Rattle.std.proofs.lemmas.Bool.Decides.{nat_tests}
-use Rattle.nv_mem.specs.GuestMap.{IsSound, guest_of, mapped}
+use Rattle.nv_mem.specs.GuestMap.{IsSound}
 use Rattle.nv_model.proofs.PutImages.{image-put_image, put_image-elsewhere}
 use Rattle.nv_model.specs.Controller.{Controller}
-use Rattle.nv_model.specs.Private.{Private}
 use Rattle.nv_world_model.specs.Geometry.{Geometry, Guest, regions_of}
 use Rattle.nv_world_model.specs.Laws.{IsSeatOf, OnlyInSeat}
 use Rattle.nv_world_model.specs.Seat.{Owner, owner_by, owner_of, put_back, seat}

@@ -1,5 +1,5 @@
 -- When a guest's private controller and the world agree: what the guest can look at is the same in both (profile).
-use Rattle.std.specs.Prelude.{◌≡◌, ℕ, ◌<◌, Bool, true, false, ◌&&◌, List, flat_map, slice_get, Some}
+use Rattle.std.specs.Prelude.{◌≡◌, ℕ, ◌<◌, Bool, true, false, ◌&&◌, slice_get, Some}
 use Rattle.std.specs.List.{list_any}
 use Rattle.nv_mem.specs.GuestMap.{mapped}
 use Rattle.nv_model.specs.Footprint.{io_named, is_destination, names}

@@ -1,6 +1,6 @@
 -- The world cut down to a guest: its view and the shared numbers are as they are, and all else is as at the start
 -- (profile).
-use Rattle.std.specs.Prelude.{ℕ, ◌&&◌, ◌||◌, ◌==◌, if◌then◌else◌, List, [], length, map, replicate, Some}
+use Rattle.std.specs.Prelude.{ℕ, ◌&&◌, ◌||◌, ◌==◌, if◌then◌else◌, [], length, map, replicate, Some}
 use Rattle.std.specs.List.{enumerate_from}
 use Rattle.nv_model.specs.Controller.{Controller, opening}
 use Rattle.nv_model.specs.Queue.{sqe_size}

@@ -8,7 +8,6 @@ use Rattle.nv_model.specs.Controller.{Controller}
 use Rattle.nv_model.specs.Footprint.{Named, completion_slots, footprints, is_destination, loads_from_destination, meets, stores_into}
 use Rattle.nv_model.specs.Memory.{image}
 use Rattle.nv_model.specs.declared.act.Act.{Act}
-use Rattle.nv_world_model.specs.declared.event.Event.{Event}
 use Rattle.nv_world_model.specs.declared.logged.Logged.{Logged}
 use Rattle.nv_world_model.specs.Geometry.{Geometry, Guest, regions_of, shape_of}
 use Rattle.nv_world_model.specs.PrivateSteps.{act_of}

@@ -1,5 +1,5 @@
 -- Words of the laws about the world's step
-use Rattle.std.specs.Prelude.{◌≡◌, ℕ, ◌<◌, ◌⊎◌, ◌==◌, Bool, true, false, List, [], ◌∷◌, slice_get, Some, None}
+use Rattle.std.specs.Prelude.{◌≡◌, ℕ, ◌⊎◌, ◌==◌, true, false, List, [], ◌∷◌, slice_get, Some, None}
 use Rattle.nv_mem.specs.GuestMap.{guest_of, mapped}
 use Rattle.nv_model.specs.Memory.{image}
 use Rattle.nv_model.specs.Private.{Private, Step, After as PrivateAfter, step as private_step}

@@ -12,7 +12,7 @@ use Rattle.nv_world_model.specs.declared.event.Event.{Event}
 use Rattle.nv_world_model.specs.declared.event.Event.TheVariants as event
 use Rattle.nv_world_model.specs.CutDown.{cut}
 use Rattle.nv_world_model.specs.Device.{Held}
-use Rattle.nv_world_model.specs.Geometry.{Geometry, Guest}
+use Rattle.nv_world_model.specs.Geometry.{Guest}
 use Rattle.nv_world_model.specs.Plan.{Direct}
 use Rattle.nv_world_model.specs.Rows.{behind, controller_with, guest_at, one_command, set_up, two_commands}
 use Rattle.nv_world_model.specs.SetUp.{Refusal, SetUp, refusal_of}

@@ -5,7 +5,6 @@ use Rattle.nv_model.specs.Memory.{bytes_from, stored}
 use Rattle.nv_model.specs.Private.{AtWork, Ended, Private, Progress, Run, Step, Taken, Unjudged, run_of}
 use Rattle.nv_model.specs.Rows.{by_sgl, data_block, last_segment}
 use Rattle.nv_world_model.specs.declared.event.Event.{Event}
-use Rattle.nv_world_model.specs.declared.event.Event.TheVariants as event
 use Rattle.nv_world_model.specs.declared.logged.Logged.{Logged}
 use Rattle.nv_world_model.specs.Agrees.{is_awaited}
 use Rattle.nv_world_model.specs.Disciplined.{is_disciplined}

@@ -1,7 +1,7 @@
 -- A guest's seat: what of the world is its private controller. What is done for a guest is done in its seat, as the
 -- private controller does it, and put back (profile).
-use Rattle.std.specs.Prelude.{ℕ, ◌+◌, ◌*◌, ◌/◌, ◌%◌, ◌&&◌, ◌==◌, if◌then◌else◌, Bool, false, List, [], ◌∷◌, filter, flat_map, length, map, replicate, slice_get, Option, Some, None}
-use Rattle.std.specs.List.{enumerate_from, list_any, range_with_len}
+use Rattle.std.specs.Prelude.{ℕ, ◌+◌, ◌*◌, ◌/◌, ◌%◌, ◌&&◌, ◌==◌, if◌then◌else◌, Bool, false, List, [], filter, flat_map, map, replicate, slice_get, Option, Some, None}
+use Rattle.std.specs.List.{enumerate_from, list_any}
 use Rattle.nv_entry.specs.Completion.{status_of}
 use Rattle.nv_entry.specs.Range.{blocks_of}
 use Rattle.nv_entry.specs.Status.{StatusField}

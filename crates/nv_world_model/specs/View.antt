@@ -6,7 +6,6 @@ use Rattle.nv_entry.specs.Completion.{status_of}
 use Rattle.nv_entry.specs.Status.{StatusField}
 use Rattle.nv_mem.specs.Places.{total_len}
 use Rattle.nv_ns.specs.BlockRange.{Extent, block_at, block_count}
-use Rattle.nv_model.specs.Controller.{Controller}
 use Rattle.nv_model.specs.Judge.{is_read}
 use Rattle.nv_model.specs.Limits.{block}
 use Rattle.nv_model.specs.Memory.{image}
@@ -18,7 +17,7 @@ use Rattle.nv_world_model.specs.Plan.{Answer, Bounced, Direct, NoData, Plan}
 use Rattle.nv_mem.specs.GuestMap.{guest_of}
 use Rattle.nv_world_model.specs.Seat.{completion_at, held_in}
 use Rattle.nv_world_model.specs.Step.{is_free, is_success}
-use Rattle.nv_world_model.specs.World.{Answered, Command, Ended, Flying, Free, InDevice, Lane, Queued, Standing, Tag, Taken, World, tag_of}
+use Rattle.nv_world_model.specs.World.{Answered, Ended, Flying, Free, InDevice, Lane, Queued, Standing, Tag, Taken, World, tag_of}
 
 -- ---- whose a tag is
 

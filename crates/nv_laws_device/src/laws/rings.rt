@@ -1,4 +1,4 @@
-//! What a guest's command goes through without a step of its private controller's: it is taken into the device, answered, and reaped.
+//! What a guest's command goes through without a step of its private controller's: it is taken into the device, and answered.
 
 ghost use Rattle.std.specs.Prelude.{◌≡◌, ℕ, Some, slice_get};
 ghost use Rattle.nv_model.specs.Private.{Private};
@@ -24,12 +24,4 @@ pub fn posts_are_followed()
         slice_get geometry.guests number ≡ Some guest → IsReached host_bytes geometry w → Related geometry number guest w p →
         owner (event.DevPost lane slot) w ≡ Some number →
         GoesAlong geometry number guest (event.DevPost lane slot) w p (step geometry (event.DevPost lane slot) w) }
-{}
-
-/// And where the mediator reaps it: the guest gets the status that the device gave.
-pub fn reaps_are_followed()
-    ensures { (host_bytes : ℕ) (geometry : Geometry) (number : ℕ) (guest : Guest) (w : World) (p : Private) (lane : ℕ) →
-        slice_get geometry.guests number ≡ Some guest → IsReached host_bytes geometry w → Related geometry number guest w p →
-        owner (event.Reap lane) w ≡ Some number →
-        GoesAlong geometry number guest (event.Reap lane) w p (step geometry (event.Reap lane) w) }
 {}

@@ -1,5 +1,3 @@
-use Rattle.std.proofs.Common.{◌≡◌, ℕ, ◌+◌, ◌<◌, arith, sym, subst}
-use Rattle.nv_world_model.specs.Step.{free_tag}
 use Rattle.nv_world_model.proofs.FreeTags.{busy-none, free_tag-lowest, free_tag-none}
 use Rattle.nv_world_model.proofs.laws.replies.a_take_finds_the_lowest_free_tag.Goals as goal
 

@@ -1,4 +1,4 @@
-use Rattle.std.proofs.Common.{◌≡◌, ap, ◌∙◌, subst, sym}
+use Rattle.std.proofs.Common.{ap, ◌∙◌, subst, sym}
 use Rattle.nv_model.specs.Private.{acted}
 use Rattle.nv_world_model.specs.Geometry.{shape_of}
 use Rattle.nv_world_model.specs.Laws.{IsSeatOf, OnlyInSeat}

@@ -1,4 +1,4 @@
-use Rattle.std.proofs.Common.{◌≡◌, false, ap, ◌∙◌, subst, sym}
+use Rattle.std.proofs.Common.{◌≡◌, false, ◌∙◌, subst, sym}
 use Rattle.nv_model.specs.declared.reply.Reply.TheVariants as reply
 use Rattle.nv_model.specs.Private.{AdminQueueStep}
 use Rattle.nv_world_model.specs.Laws.{LeadsTo, OnlyInSeat}

@@ -11,7 +11,7 @@ use Rattle.nv_model.specs.Prp.{read_entries}
 use Rattle.nv_model.specs.Judge.{read_source, ranges_in, move_units, clear_units, range_units, judge}
 use Rattle.nv_model.specs.Carried.{units_moved}
 use Rattle.nv_model.specs.Controller.{opening, register, reg_write, doorbell, front, took, post, ran_out}
-use Rattle.nv_model.specs.Private.{differs, step as private_step, run_of}
+use Rattle.nv_model.specs.Private.{differs}
 use Rattle.nv_prp.specs.Fits.{hosts_of, fit_behind}
 use Rattle.nv_prp.specs.Built.{built}
 use Rattle.nv_world_model.specs.Plan.{plan_over}
@@ -20,7 +20,6 @@ use Rattle.nv_world_model.specs.Device.{held_of, device_unit, completion_written
 use Rattle.nv_world_model.specs.Seat.{units_behind, members, seat, put_back}
 use Rattle.nv_world_model.specs.Step.{acted_in, administered_in, taken_to, listed, ended_at_once, submitted, device_took, device_moved, device_posted, kept_block, reaped, scattered_to, posted_to, ran_out_of, step, replay, replies}
 use Rattle.nv_model.specs.Admin.{admin_command, admin}
-use Rattle.nv_world_model.specs.declared.event.Event.TheVariants as event
 use Rattle.nv_world_model.specs.Disciplined.{taken_entries}
 use Rattle.nv_world_model.proofs.rows.agreeing.examples.Goals as goal
 

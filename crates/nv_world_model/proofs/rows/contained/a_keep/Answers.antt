@@ -11,7 +11,7 @@ use Rattle.nv_model.specs.Prp.{read_entries}
 use Rattle.nv_model.specs.Judge.{read_source, ranges_in, move_units, clear_units, range_units, judge}
 use Rattle.nv_model.specs.Carried.{units_moved}
 use Rattle.nv_model.specs.Controller.{opening, register, reg_write, doorbell, front, took, post, ran_out}
-use Rattle.nv_model.specs.Private.{differs, step as private_step, run_of}
+use Rattle.nv_model.specs.Private.{differs}
 use Rattle.nv_prp.specs.Fits.{hosts_of, fit_behind}
 use Rattle.nv_prp.specs.Built.{built}
 use Rattle.nv_world_model.specs.Plan.{plan_over}
@@ -27,7 +27,6 @@ use Rattle.nv_world_model.specs.declared.event.Event.TheVariants as event
 use Rattle.nv_world_model.specs.World.{World}
 use Rattle.nv_world_model.specs.Contained.{RaisesOne}
 use Rattle.nv_world_model.specs.RowsSmall.{small, small_behind, small_first, small_second}
-use Rattle.nv_world_model.specs.Step.{After}
 use Rattle.nv_world_model.proofs.SmallWorld.{each_of_two, each_tag, mark-rises}
 use Rattle.nv_world_model.proofs.rows.contained.a_keep.Goals as goal
 

@@ -11,7 +11,7 @@ use Rattle.nv_model.specs.Prp.{read_entries}
 use Rattle.nv_model.specs.Judge.{read_source, ranges_in, move_units, clear_units, range_units, judge}
 use Rattle.nv_model.specs.Carried.{units_moved}
 use Rattle.nv_model.specs.Controller.{opening, register, reg_write, doorbell, front, took, post, ran_out}
-use Rattle.nv_model.specs.Private.{differs, step as private_step, run_of}
+use Rattle.nv_model.specs.Private.{differs}
 use Rattle.nv_prp.specs.Fits.{hosts_of, fit_behind}
 use Rattle.nv_prp.specs.Built.{built}
 use Rattle.nv_world_model.specs.Plan.{plan_over}
@@ -27,7 +27,7 @@ use Rattle.nv_world_model.specs.declared.event.Event.TheVariants as event
 use Rattle.nv_world_model.specs.World.{World}
 use Rattle.nv_world_model.specs.RowsSmall.{small, small_behind, small_first, small_second, taken_second}
 use Rattle.nv_world_model.specs.Step.{After}
-use Rattle.nv_world_model.proofs.SmallWorld.{each_tag, each_block, image-cut, leaves-first, own-first, entry-inside, entry-outside, entry-same, host-cut, image-agree, slot-area, slot-first, slot-second}
+use Rattle.nv_world_model.proofs.SmallWorld.{each_tag, each_block, leaves-first, own-first, entry-inside, entry-outside, entry-same, host-cut, image-agree, slot-area, slot-first, slot-second}
 use Rattle.nv_world_model.proofs.rows.contained.a_submit.Goals as goal
 
 -- the world before the event and behind it, and the same of the world cut down to the first guest

@@ -80,7 +80,7 @@ pairs-map p q f (x ∷ xs) (inr (inr pair)) = inr (inr (pairs-map p q f xs pair)
 
 -- ---- where two such meet
 
-or-later : (b c : Bool) → c ≡ true → (b || c) ≡ true
+pub or-later : (b c : Bool) → c ≡ true → (b || c) ≡ true
 or-later true c e = refl
 or-later false c e = e
 

@@ -29,8 +29,8 @@ use Rattle.nv_laws_related.proofs.Disciplines.{not-so}
 use Rattle.nv_laws_related.proofs.Named.{block-among, place-passes, run-names}
 use Rattle.nv_laws_related.proofs.Undisturbed.{entry_names, names_at}
 use Rattle.nv_laws_related.proofs.Views.{device_of, status_in}
-use Rattle.nv_laws_tags.proofs.Apart.{none-clash, pair-never, tags-pair}
-use Rattle.nv_laws_tags.proofs.Slices.{slice-drop, slice-take}
+use Rattle.nv_laws_related.proofs.Apart.{none-clash, pair-never, tags-pair}
+use Rattle.nv_laws_related.proofs.Slices.{slice-drop, slice-take}
 
 abbrev lists_named : List (ℕ × ℕ) → List Named
 lists_named spans = map (λ a. named_as ListBytes a.0 a.1) spans
@@ -50,7 +50,7 @@ spans-agree m n test (s ∷ spans) there same =
     (λ at is. same at (any-behind (names_at at) (named_as ListBytes s.0 s.1 ∷ []) (lists_named spans) is)))
 
 -- a member of a list has what all have
-all-at : {X : Type 0} (P : X → Type 0) (xs : List X) (i : ℕ) (x : X) → slice_get xs i ≡ Some x → All P xs → P x
+pub all-at : {X : Type 0} (P : X → Type 0) (xs : List X) (i : ℕ) (x : X) → slice_get xs i ≡ Some x → All P xs → P x
 all-at P [] i x at each = cc
 all-at P (y ∷ ys) zero x at each = let same : y ≡ x = cc in subst P same (All-head P y ys each)
 all-at P (y ∷ ys) (suc i) x at each = all-at P ys i x at (All-tail P y ys each)

@@ -17,7 +17,7 @@ use Rattle.nv_laws_related.proofs.Beginning.{awaits, entry_awaits}
 use Rattle.nv_laws_related.proofs.Disciplines.{commands_of, name-meets, never-both, order-is}
 use Rattle.nv_laws_related.proofs.Named.{any-of}
 use Rattle.nv_laws_related.proofs.Undisturbed.{entry_names, names_at}
-use Rattle.nv_laws_device.proofs.Pairs.{Pairs, pairs-at, pairs-behind, pairs-flat, pairs-map, pairs-meet, pairs-within}
+use Rattle.nv_laws_related.proofs.Pairs.{Pairs, pairs-at, pairs-behind, pairs-flat, pairs-map, pairs-meet, pairs-within}
 
 -- ---- entries of two tags
 
