@@ -1,0 +1,4 @@
+pub mod Guests
+pub mod Logs
+pub mod Story
+pub mod StoryRun

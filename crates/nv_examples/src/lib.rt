@@ -1,0 +1,5 @@
+//! Worked examples of the private-controller theorem: a whole log whose premises hold and whose private run is written out, computed from
+//! the definitions. There is no code here.
+#![tactic(auto)]
+
+pub mod story;
