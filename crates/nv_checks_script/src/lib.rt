@@ -1,6 +1,8 @@
-//! Tests of the script of `replay`, by public calls alone: a crate with tests is proved twice, so they stand here and not beside the
+//! Tests of the scripts of `replay` and `run`, by public calls alone: a crate with tests is proved twice, so they stand here and not beside the
 //! code.
 #![tactic(auto)]
 
 #[cfg(test)]
 mod replay;
+#[cfg(test)]
+mod run;

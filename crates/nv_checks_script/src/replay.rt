@@ -8,7 +8,7 @@ use std::alloc::{AllocError, Global};
 use std::process::Abort;
 use std::test::Fail;
 
-const SET_UP: &str = "\
+pub(crate) const SET_UP: &str = "\
 host 0x1000000
 mediator 0x400000
 disk 4096
@@ -143,7 +143,7 @@ fn answer(rt: &impl AllocGlobal, text: &str, part: Part) -> Result<String, Fail>
 }
 
 // One text behind another.
-fn joined(alloc: Global, front: &str, back: &str) -> Result<String, AllocError> {
+pub(crate) fn joined(alloc: Global, front: &str, back: &str) -> Result<String, AllocError> {
     format!(in alloc; "{front}{back}")
 }
 

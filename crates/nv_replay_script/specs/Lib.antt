@@ -1,5 +1,6 @@
 pub mod ReplayVocabulary
 pub mod ReplaySetUp
 pub mod ReplayEvents
+pub mod ReplayLines
 pub mod ReplayScript
 pub mod ReplayRows

@@ -1,6 +1,7 @@
 -- One event, as a line writes it (profile)
 use Rattle.std.specs.Prelude.{ℕ, ◌==◌, List, [], ◌∷◌, length, replicate, Result, Ok, Err}
 use Rattle.nv_entry.specs.Status.{StatusField, status}
+use Rattle.nv_model.specs.declared.act.Act.{Act}
 use Rattle.nv_model.specs.declared.act.Act.TheVariants as act
 use Rattle.nv_world_model.specs.declared.event.Event.{Event}
 use Rattle.nv_world_model.specs.declared.event.Event.TheVariants as event
@@ -10,6 +11,8 @@ use Rattle.nv_script.specs.OnceFault.{◌>>=◌}
 use Rattle.nv_script.specs.OnceLimits.{longest_fill}
 use Rattle.nv_script.specs.OnceNumber.{bytes_of, number_of, number_up_to}
 use Rattle.nv_script.specs.OnceVocabulary.{count_check}
+use Rattle.nv_replay_script.specs.declared.vocabulary.ActKind.{ActKind}
+use Rattle.nv_replay_script.specs.declared.vocabulary.ActKind.TheVariants as act_kind
 use Rattle.nv_replay_script.specs.declared.vocabulary.EventKind.{EventKind}
 use Rattle.nv_replay_script.specs.declared.vocabulary.EventKind.TheVariants as kind
 use Rattle.nv_replay_script.specs.ReplayVocabulary.{event_arguments}
@@ -32,38 +35,40 @@ status_of sct sc dnr = do
   d ← number_up_to 1 dnr
   Ok (status t c (d == 1))
 
--- the event that a kind of line and the words behind its first make
-abbrev pub event_of : EventKind → List (List ℕ) → Result Event FaultKind
-event_of kind.Store (guest ∷ addr ∷ digits ∷ []) = do
-  g ← byte_of guest
+-- the act that a kind of guest line and the words behind its guest make
+abbrev pub act_of : ActKind → List (List ℕ) → Result Act FaultKind
+act_of act_kind.Store (addr ∷ digits ∷ []) = do
   a ← number_of addr
   bytes ← bytes_of digits
-  Ok (event.Guest g (act.Store a bytes))
-event_of kind.Fill (guest ∷ addr ∷ len ∷ byte ∷ []) = do
-  g ← byte_of guest
+  Ok (act.Store a bytes)
+act_of act_kind.Fill (addr ∷ len ∷ byte ∷ []) = do
   a ← number_of addr
   n ← number_up_to longest_fill len
   b ← byte_of byte
-  Ok (event.Guest g (act.Store a (replicate n b)))
-event_of kind.Load (guest ∷ addr ∷ len ∷ []) = do
-  g ← byte_of guest
+  Ok (act.Store a (replicate n b))
+act_of act_kind.Load (addr ∷ len ∷ []) = do
   a ← number_of addr
   n ← number_of len
-  Ok (event.Guest g (act.Load a n))
-event_of kind.RegRead (guest ∷ offset ∷ []) = do
-  g ← byte_of guest
+  Ok (act.Load a n)
+act_of act_kind.RegRead (offset ∷ []) = do
   o ← dword_of offset
-  Ok (event.Guest g (act.RegRead o))
-event_of kind.RegWrite (guest ∷ offset ∷ value ∷ []) = do
-  g ← byte_of guest
+  Ok (act.RegRead o)
+act_of act_kind.RegWrite (offset ∷ value ∷ []) = do
   o ← dword_of offset
   v ← dword_of value
-  Ok (event.Guest g (act.RegWrite o v))
-event_of kind.Bell (guest ∷ offset ∷ value ∷ []) = do
-  g ← byte_of guest
+  Ok (act.RegWrite o v)
+act_of act_kind.Bell (offset ∷ value ∷ []) = do
   o ← dword_of offset
   v ← dword_of value
-  Ok (event.Guest g (act.Doorbell o v))
+  Ok (act.Doorbell o v)
+act_of kind words = Err OutOfPlace
+
+-- the event that a kind of line and the words behind its first make
+abbrev pub event_of : EventKind → List (List ℕ) → Result Event FaultKind
+event_of (kind.Act act) (guest ∷ words) = do
+  g ← byte_of guest
+  a ← act_of act words
+  Ok (event.Guest g a)
 event_of kind.Admin (guest ∷ []) = do
   g ← byte_of guest
   Ok (event.Admin g)

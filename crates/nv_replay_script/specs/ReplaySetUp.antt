@@ -1,5 +1,5 @@
 -- The set-up of a script: four sizes, the guests in order, and the regions of each (profile)
-use Rattle.std.specs.Prelude.{ℕ, ◌==◌, ◌&&◌, nat_le, nat_lt, Bool, List, [], ◌∷◌, codes, Option, Some, None, Result, Ok, Err, if◌then◌else◌}
+use Rattle.std.specs.Prelude.{ℕ, ◌==◌, ◌&&◌, nat_le, nat_lt, Bool, List, [], ◌∷◌, ◌++◌, codes, map, length, slice_set, slice_index_or, Option, Some, None, Result, Ok, Err, if◌then◌else◌}
 use Rattle.std.specs.Str.{bytes_eq}
 use Rattle.nv_mem.specs.declared.region.Region.{Region}
 use Rattle.nv_script.specs.declared.once.fault.FaultKind.{FaultKind}
@@ -7,11 +7,16 @@ use Rattle.nv_script.specs.declared.once.fault.FaultKind.TheVariants.{BadNumber,
 use Rattle.nv_script.specs.OnceFault.{◌>>=◌}
 use Rattle.nv_script.specs.OnceNumber.{number_of, number_up_to}
 use Rattle.nv_script.specs.OnceScript.{first_time}
+use Rattle.nv_script.specs.OnceVocabulary.{count_check}
+use Rattle.nv_replay_script.specs.declared.open_set_up.OpenSetUp.{OpenSetUp}
 use Rattle.nv_replay_script.specs.declared.set_up.GuestSetUp.{GuestSetUp}
 use Rattle.nv_replay_script.specs.declared.sizes.OpenSizes.{OpenSizes}
 use Rattle.nv_replay_script.specs.declared.sizes.Sizes.{Sizes}
 use Rattle.nv_replay_script.specs.declared.vocabulary.Size.{Size}
 use Rattle.nv_replay_script.specs.declared.vocabulary.Size.TheVariants.{Host, Mediator, Disk, Lanes}
+use Rattle.nv_replay_script.specs.declared.vocabulary.SetUpKind.{SetUpKind}
+use Rattle.nv_replay_script.specs.declared.vocabulary.SetUpKind.TheVariants as kind
+use Rattle.nv_replay_script.specs.ReplayVocabulary.{set_up_arguments}
 
 -- ---- sizes
 
@@ -115,3 +120,56 @@ region_of guest host len = do
   h ← number_of host
   n ← number_of len
   Ok (record { guest = g; host = h; len = n })
+
+-- ---- set-up lines
+
+-- what the set-up lines so far have said
+pub record SetUpSoFar : Type 0 where
+  pub sizes : OpenSizes
+  pub guests : List GuestValue
+
+abbrev pub set_up_so_far : OpenSetUp → SetUpSoFar
+set_up_so_far set_up = record { sizes = set_up.sizes; guests = map guest_value set_up.guests.items }
+
+-- before the first line
+abbrev pub no_set_up : SetUpSoFar
+no_set_up = record { sizes = no_sizes; guests = [] }
+
+-- the regions of one guest are one more
+abbrev pub with_region : List GuestValue → ℕ → Region → List GuestValue
+with_region guests number region =
+    let guest = slice_index_or guests number (record { base = 0; blocks = 0; heap = 0; regions = [] }) in
+    slice_set guests number (record guest { regions = guest.regions ++ region ∷ [] })
+
+-- what a line that names a size adds
+abbrev pub add_size : SetUpSoFar → Size → List ℕ → Result SetUpSoFar FaultKind
+add_size so_far size word = do
+  sizes ← after_size so_far.sizes size word
+  Ok (record so_far { sizes = sizes })
+
+-- what a line `guest` adds
+abbrev pub add_guest : SetUpSoFar → List (List ℕ) → Result SetUpSoFar FaultKind
+add_guest so_far words = do
+  guest ← guest_of (length so_far.guests) words
+  Ok (record so_far { guests = so_far.guests ++ guest ∷ [] })
+
+-- what a line `map` adds
+abbrev pub add_map : SetUpSoFar → (number guest host len : List ℕ) → Result SetUpSoFar FaultKind
+add_map so_far number guest host len = do
+  n ← known_guest (length so_far.guests) number
+  region ← region_of guest host len
+  Ok (record so_far { guests = with_region so_far.guests n region })
+
+-- what a set-up line of this kind and these words behind its first adds
+abbrev pub add_set_up : SetUpSoFar → SetUpKind → List (List ℕ) → Result SetUpSoFar FaultKind
+add_set_up so_far (kind.Size size) (word ∷ []) = add_size so_far size word
+add_set_up so_far kind.Guest words = add_guest so_far words
+add_set_up so_far kind.Map (number ∷ guest ∷ host ∷ len ∷ []) = add_map so_far number guest host len
+add_set_up so_far kind words = Err OutOfPlace
+
+-- the same, of words that are as many as that line wants, where it stands before all lines that are none of the set-up
+abbrev pub counted_set_up : SetUpSoFar → (is_early : Bool) → SetUpKind → List (List ℕ) → Result SetUpSoFar FaultKind
+counted_set_up so_far is_early kind words = do
+  counted ← count_check (length words) (set_up_arguments kind)
+  early ← in_place is_early
+  add_set_up so_far kind words

@@ -1,21 +1,17 @@
 //! The events behind the set-up.
-ghost use Rattle.std.specs.Prelude.{◌≡◌, replicate, IfOk, MatchResult};
+ghost use Rattle.std.specs.Prelude.{◌≡◌, MatchResult};
 ghost use Rattle.nv_script.specs.OnceFault.{Refuses};
 ghost use Rattle.nv_replay_script.specs.ReplayEvents.{counted_event};
 ghost use Rattle.nv_replay_script.specs.declared.vocabulary.EventKind.TheVariants as kind;
 
-use crate::numbers::{dword, status, word};
-use crate::vocabulary::EventKind;
-use nv_mem::Bytes;
-use nv_model::Act;
+use crate::act::make_act;
+use crate::numbers::{status, word};
+use crate::vocabulary::{ActKind, EventKind};
 use nv_script::once::fault::LineFault;
-use nv_script::once::number::{byte, bytes, number, up_to};
+use nv_script::once::number::{byte, number};
 use nv_script::once::words::Words;
 use nv_world_model::Event;
-use std::alloc::{AllocError, Global};
-
-/// The most bytes that one `fill` line writes.
-const FILL_MAX: u64 = 131_072;
+use std::alloc::Global;
 
 /// Makes the event of this kind and the words behind it, where they are as many as it wants.
 pub fn make_event(alloc: Global, kind: EventKind, words: Words<'_>) -> Result<Event, LineFault>
@@ -23,12 +19,7 @@ pub fn make_event(alloc: Global, kind: EventKind, words: Words<'_>) -> Result<Ev
         in MatchResult result (λ made. event ≡ Ok made) (Refuses event) }
 {
     match kind {
-        EventKind::Store => store(alloc, words),
-        EventKind::Fill => fill(alloc, words),
-        EventKind::Load => load(words),
-        EventKind::RegRead => reg_read(words),
-        EventKind::RegWrite => reg_write(words),
-        EventKind::Bell => bell(words),
+        EventKind::Act(act) => guest_act(alloc, act, words),
         EventKind::Admin => admin(words),
         EventKind::Take => take(words),
         EventKind::List => list(words),
@@ -44,77 +35,15 @@ pub fn make_event(alloc: Global, kind: EventKind, words: Words<'_>) -> Result<Ev
     }
 }
 
-// The line `store`, made of its words.
-fn store(alloc: Global, words: Words<'_>) -> Result<Event, LineFault>
-    ensures { let event = counted_event kind.Store words.entry
+// A line of a guest's act, made of its words.
+fn guest_act(alloc: Global, act: ActKind, mut words: Words<'_>) -> Result<Event, LineFault>
+    ensures { let event = counted_event (kind.Act act) words.entry
         in MatchResult result (λ made. event ≡ Ok made) (Refuses event) }
 {
-    let (guest, addr, digits) = words.three()?;
-    let guest = byte(guest)?;
-    let addr = number(addr)?;
-    let bytes = Bytes::new(bytes(alloc, digits)?);
-    Ok(Event::Guest(guest, Act::Store { addr, bytes }))
-}
-
-// The line `fill`, made of its words.
-fn fill(alloc: Global, words: Words<'_>) -> Result<Event, LineFault>
-    ensures { let event = counted_event kind.Fill words.entry
-        in MatchResult result (λ made. event ≡ Ok made) (Refuses event) }
-{
-    let (guest, addr, len, value) = words.four()?;
-    let guest = byte(guest)?;
-    let addr = number(addr)?;
-    let len = up_to(len, FILL_MAX)?;
-    let value = byte(value)?;
-    let bytes = Bytes::new(equal_bytes(alloc, len as usize, value)?);
-    Ok(Event::Guest(guest, Act::Store { addr, bytes }))
-}
-
-// The line `load`, made of its words.
-fn load(words: Words<'_>) -> Result<Event, LineFault>
-    ensures { let event = counted_event kind.Load words.entry
-        in MatchResult result (λ made. event ≡ Ok made) (Refuses event) }
-{
-    let (guest, addr, len) = words.three()?;
-    let guest = byte(guest)?;
-    let addr = number(addr)?;
-    let len = number(len)?;
-    Ok(Event::Guest(guest, Act::Load { addr, len }))
-}
-
-// The line `regread`, made of its words.
-fn reg_read(words: Words<'_>) -> Result<Event, LineFault>
-    ensures { let event = counted_event kind.RegRead words.entry
-        in MatchResult result (λ made. event ≡ Ok made) (Refuses event) }
-{
-    let (guest, offset) = words.two()?;
-    let guest = byte(guest)?;
-    let offset = dword(offset)?;
-    Ok(Event::Guest(guest, Act::RegRead { offset }))
-}
-
-// The line `regwrite`, made of its words.
-fn reg_write(words: Words<'_>) -> Result<Event, LineFault>
-    ensures { let event = counted_event kind.RegWrite words.entry
-        in MatchResult result (λ made. event ≡ Ok made) (Refuses event) }
-{
-    let (guest, offset, value) = words.three()?;
-    let guest = byte(guest)?;
-    let offset = dword(offset)?;
-    let value = dword(value)?;
-    Ok(Event::Guest(guest, Act::RegWrite { offset, value }))
-}
-
-// The line `bell`, made of its words.
-fn bell(words: Words<'_>) -> Result<Event, LineFault>
-    ensures { let event = counted_event kind.Bell words.entry
-        in MatchResult result (λ made. event ≡ Ok made) (Refuses event) }
-{
-    let (guest, offset, value) = words.three()?;
-    let guest = byte(guest)?;
-    let offset = dword(offset)?;
-    let value = dword(value)?;
-    Ok(Event::Guest(guest, Act::Doorbell { offset, value }))
+    words.check_count(1 + act.arguments())?;
+    let guest = byte(words.next_word())?;
+    let act = make_act(alloc, act, words)?;
+    Ok(Event::Guest(guest, act))
 }
 
 // The line `admin`, made of its words.
@@ -248,11 +177,4 @@ fn post(words: Words<'_>) -> Result<Event, LineFault>
     let lane = byte(lane)?;
     let tag = byte(tag)?;
     Ok(Event::Post(lane, tag))
-}
-
-// So many equal bytes.
-fn equal_bytes(alloc: Global, len: usize, byte: u8) -> Result<Vec<u8>, AllocError>
-    ensures { IfOk result (λ bytes. bytes.items ≡ replicate len byte) }
-{
-    vec![in alloc; byte; len]
 }

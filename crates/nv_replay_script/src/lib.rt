@@ -1,18 +1,21 @@
-//! The script of `nvmed replay`: the set-up of a world and the events that it is put through.
+//! The script of `nvmed replay`: the set-up of a world and the events that it is put through; and the set-up, acts and lines of every script
+//! of a world.
 //!
 //! A text is read whole, before anything of it runs. What it says is `specs/ReplayScript`, by `specs/ReplayVocabulary`,
-//! `specs/ReplaySetUp` and `specs/ReplayEvents`, over the lines, words, numbers and faults of `nv_script`; [`parse`] gives exactly
-//! that, or that memory was refused. Neither the sizes nor the maps are judged here, and an event may name a guest that there is not.
+//! `specs/ReplaySetUp`, `specs/ReplayEvents` and `specs/ReplayLines`, over the words, numbers and faults of `nv_script`; [`parse`] gives
+//! exactly that, or that memory was refused. Neither the sizes nor the maps are judged here, and an event may name a guest that there is not.
 #![tactic(auto)]
 
+pub mod act;
 mod event;
-mod numbers;
+pub mod numbers;
+pub mod open_set_up;
 mod reading;
 pub mod rows;
 mod script;
-mod set_up;
-mod sizes;
-mod vocabulary;
+pub mod set_up;
+pub mod sizes;
+pub mod vocabulary;
 
 pub use script::{Script, parse};
 pub use set_up::GuestSetUp;

@@ -1,49 +1,41 @@
 //! A script while its lines are read.
-ghost use Rattle.std.specs.Prelude.{◌≡◌, length, MatchResult};
+ghost use Rattle.std.specs.Prelude.{◌≡◌, MatchResult};
 ghost use Rattle.nv_script.specs.OnceFault.{Refuses};
 ghost use Rattle.nv_script.specs.OnceWords.{words_of};
-ghost use Rattle.nv_replay_script.specs.declared.vocabulary.Keyword.TheVariants as keyword;
 
 use crate::event::make_event;
+use crate::open_set_up::OpenSetUp;
 use crate::script::Script;
-use crate::set_up::{GuestSetUp, known, make_guest, make_region};
-use crate::sizes::OpenSizes;
-use crate::vocabulary::{EventKind, Keyword, Size, look_up};
+use crate::vocabulary::{AWAIT_ARGUMENTS, EventKind, Keyword, look_up};
 use nv_script::once::fault::LineFault;
 use nv_script::once::words::Words;
 use nv_script::{FaultKind, ScriptFault};
 use nv_world_model::Event;
 use std::alloc::Global;
 
-/// How many words stand behind `guest`.
-const GUEST_ARGUMENTS: usize = 6;
-
 /// What the lines so far have said.
 #[derive(Drop)]
 pub struct Reading {
-    pub sizes: OpenSizes,
-    pub guests: Vec<GuestSetUp>,
+    pub set_up: OpenSetUp,
     pub events: Vec<Event>,
 }
 
 impl Reading {
-    ghost use Rattle.nv_replay_script.specs.ReplaySetUp.{in_place};
-    ghost use Rattle.nv_replay_script.specs.ReplayScript.{add_guest, add_map, add_size, after_counted, after_line, finished, is_early, nothing, progress, script_value};
+    ghost use Rattle.nv_replay_script.specs.ReplayScript.{add_event, after_keyword, after_line, finished, nothing, progress, script_value};
 
     /// Before the first line.
     pub fn new(alloc: Global) -> Self
         ensures { progress result ≡ nothing }
     {
         Reading {
-            sizes: OpenSizes::new(),
-            guests: Vec::new(alloc),
+            set_up: OpenSetUp::new(alloc),
             events: Vec::new(alloc),
         }
     }
 
     /// Reads the next line.
     pub fn read(&mut self, alloc: Global, line: &[u8]) -> Result<(), LineFault>
-        ensures { let after = after_line (progress self.old) (words_of line.now)
+        ensures { let after = after_line 1 (progress self.old) (words_of line.now)
             in MatchResult result (λ _. after ≡ Ok (progress self.new)) (Refuses after) }
     {
         let mut words = Words::of(line);
@@ -55,81 +47,25 @@ impl Reading {
     }
 
     // Adds what a line with this keyword says, where its words are as many as it wants.
-    #[tactic(auto, unfolding(crate::specs::ReplayScript::after_keyword))]
     fn add(&mut self, alloc: Global, keyword: Keyword, words: Words<'_>) -> Result<(), LineFault>
-        ensures { let after = after_counted (progress self.old) keyword words.entry
+        ensures { let after = after_keyword (progress self.old) keyword words.entry
             in MatchResult result (λ _. after ≡ Ok (progress self.new)) (Refuses after) }
     {
         match keyword {
             Keyword::Event(kind) => self.add_event(alloc, kind, words),
-            Keyword::Size(size) => {
-                let word = words.one()?;
-                self.add_size(size, word)
+            Keyword::SetUp(kind) => {
+                let is_early = self.events.is_empty();
+                self.set_up.add(alloc, is_early, kind, words)
             }
-            Keyword::Guest => {
-                words.check_count(GUEST_ARGUMENTS)?;
-                self.add_guest(alloc, words)
-            }
-            Keyword::Map => {
-                let (number, guest, host, len) = words.four()?;
-                self.add_map(number, guest, host, len)
+            Keyword::Await | Keyword::AwaitReg => {
+                words.check_count(AWAIT_ARGUMENTS)?;
+                Err(LineFault::Faulty(FaultKind::OutOfPlace))
             }
             Keyword::Foreign(arguments) => {
                 words.check_count(arguments)?;
                 Err(LineFault::Faulty(FaultKind::OutOfPlace))
             }
         }
-    }
-
-    // That no event has come: set-up lines stand before all others.
-    fn check_early(&self) -> Result<(), FaultKind>
-        ensures { result ≡ in_place (is_early self.now.events.items) }
-    {
-        if self.events.is_empty() {
-            Ok(())
-        } else {
-            Err(FaultKind::OutOfPlace)
-        }
-    }
-
-    // Adds what a line that names a size says.
-    fn add_size(&mut self, size: Size, word: &[u8]) -> Result<(), LineFault>
-        ensures { let after = add_size (progress self.old) size word.now
-            in MatchResult result (λ _. after ≡ Ok (progress self.new)) (Refuses after) }
-    {
-        self.check_early()?;
-        self.sizes = self.sizes.name(size, word)?;
-        Ok(())
-    }
-
-    // Adds the guest of a line `guest`.
-    fn add_guest(&mut self, alloc: Global, words: Words<'_>) -> Result<(), LineFault>
-        requires { length words ≡ 6 }
-        ensures { let after = add_guest (progress self.old) words.entry
-            in MatchResult result (λ _. after ≡ Ok (progress self.new)) (Refuses after) }
-    {
-        self.check_early()?;
-        let guest = make_guest(alloc, self.guests.len(), words)?;
-        self.guests.push(guest)?;
-        Ok(())
-    }
-
-    // Adds the region of a line `map`.
-    fn add_map(
-        &mut self,
-        number: &[u8],
-        guest: &[u8],
-        host: &[u8],
-        len: &[u8],
-    ) -> Result<(), LineFault>
-        ensures { let after = add_map (progress self.old) number.now guest.now host.now len.now
-            in MatchResult result (λ _. after ≡ Ok (progress self.new)) (Refuses after) }
-    {
-        self.check_early()?;
-        let number = known(self.guests.len(), number)?;
-        let region = make_region(guest, host, len)?;
-        self.guests[number].regions.push(region)?;
-        Ok(())
     }
 
     // Adds the event of a line, once all sizes are there.
@@ -139,10 +75,10 @@ impl Reading {
         kind: EventKind,
         words: Words<'_>,
     ) -> Result<(), LineFault>
-        ensures { let after = after_counted (progress self.old) (keyword.Event kind) words.entry
+        ensures { let after = add_event (progress self.old) kind words.entry
             in MatchResult result (λ _. after ≡ Ok (progress self.new)) (Refuses after) }
     {
-        let Some(_) = self.sizes.whole() else {
+        let Some(_) = self.set_up.sizes.whole() else {
             words.check_count(kind.arguments())?;
             return Err(LineFault::Faulty(FaultKind::OutOfPlace));
         };
@@ -155,10 +91,10 @@ impl Reading {
     pub fn finish(self, last: u64) -> Result<Script, ScriptFault>
         ensures { MatchResult result (λ script. finished last (progress self) ≡ Ok (script_value script)) (λ fault. finished last (progress self) ≡ Err fault) }
     {
-        match self.sizes.whole() {
+        match self.set_up.sizes.whole() {
             Some(sizes) => Ok(Script {
                 sizes,
-                guests: self.guests,
+                guests: self.set_up.guests,
                 events: self.events,
             }),
             None => Err(LineFault::Faulty(FaultKind::OutOfPlace).on(last)),

@@ -13,15 +13,36 @@ pub enum Size {
     Lanes,
 }
 
-/// A kind of event, as its line names it.
+/// A kind of guest line: an act of the guest that its first number names.
 #[derive(Clone, Copy, Debug, PartialEq, Eq)]
-pub enum EventKind {
+pub enum ActKind {
     Store,
     Fill,
     Load,
     RegRead,
     RegWrite,
     Bell,
+}
+
+impl ActKind {
+    ghost use Rattle.nv_replay_script.specs.ReplayVocabulary.{act_arguments};
+
+    /// How many words stand behind the number of its guest.
+    pub fn arguments(self) -> usize
+        ensures { result ≡ act_arguments self }
+    {
+        match self {
+            ActKind::RegRead => 1,
+            ActKind::Store | ActKind::Load | ActKind::RegWrite | ActKind::Bell => 2,
+            ActKind::Fill => 3,
+        }
+    }
+}
+
+/// A kind of event, as its line names it.
+#[derive(Clone, Copy, Debug, PartialEq, Eq)]
+pub enum EventKind {
+    Act(ActKind),
     Admin,
     Take,
     List,
@@ -44,34 +65,39 @@ impl EventKind {
         ensures { result ≡ event_arguments self }
     {
         match self {
+            EventKind::Act(kind) => 1 + kind.arguments(),
             EventKind::Admin | EventKind::DevTake | EventKind::Keep | EventKind::Reap => 1,
-            EventKind::RegRead
-            | EventKind::Submit
-            | EventKind::GiveUp
-            | EventKind::DevPost
-            | EventKind::Post => 2,
-            EventKind::Store
-            | EventKind::Load
-            | EventKind::RegWrite
-            | EventKind::Bell
-            | EventKind::Take
-            | EventKind::DevMove => 3,
-            EventKind::Fill | EventKind::List => 4,
+            EventKind::Submit | EventKind::GiveUp | EventKind::DevPost | EventKind::Post => 2,
+            EventKind::Take | EventKind::DevMove => 3,
+            EventKind::List => 4,
             EventKind::DevFail => 5,
         }
     }
 }
 
-/// What a line is, by its first word.
+/// A kind of set-up line, as its first word names it.
 #[derive(Clone, Copy, Debug, PartialEq, Eq)]
-pub enum Keyword {
+pub enum SetUpKind {
     Size(Size),
     Guest,
     Map,
+}
+
+/// What a line is, by its first word.
+#[derive(Clone, Copy, Debug, PartialEq, Eq)]
+pub enum Keyword {
+    SetUp(SetUpKind),
     Event(EventKind),
-    /// a line of another subcommand, with so many words behind the first
+    /// `await`, a line of `run`
+    Await,
+    /// `awaitreg`, a line of `run`
+    AwaitReg,
+    /// a line of `once`, with so many words behind the first
     Foreign(usize),
 }
+
+/// How many words stand behind the first of a line of `run` alone.
+pub const AWAIT_ARGUMENTS: usize = 3;
 
 /// Every first word of every subcommand. Those of events stand first, for a script has mostly these.
 const VOCABULARY: [(&[u8], Keyword); 32] = [
@@ -80,27 +106,30 @@ const VOCABULARY: [(&[u8], Keyword); 32] = [
     (b"devpost", Keyword::Event(EventKind::DevPost)),
     (b"reap", Keyword::Event(EventKind::Reap)),
     (b"post", Keyword::Event(EventKind::Post)),
-    (b"bell", Keyword::Event(EventKind::Bell)),
-    (b"store", Keyword::Event(EventKind::Store)),
+    (b"bell", Keyword::Event(EventKind::Act(ActKind::Bell))),
+    (b"store", Keyword::Event(EventKind::Act(ActKind::Store))),
     (b"take", Keyword::Event(EventKind::Take)),
     (b"submit", Keyword::Event(EventKind::Submit)),
     (b"list", Keyword::Event(EventKind::List)),
-    (b"load", Keyword::Event(EventKind::Load)),
-    (b"regread", Keyword::Event(EventKind::RegRead)),
-    (b"regwrite", Keyword::Event(EventKind::RegWrite)),
+    (b"load", Keyword::Event(EventKind::Act(ActKind::Load))),
+    (b"regread", Keyword::Event(EventKind::Act(ActKind::RegRead))),
+    (
+        b"regwrite",
+        Keyword::Event(EventKind::Act(ActKind::RegWrite)),
+    ),
     (b"admin", Keyword::Event(EventKind::Admin)),
-    (b"fill", Keyword::Event(EventKind::Fill)),
+    (b"fill", Keyword::Event(EventKind::Act(ActKind::Fill))),
     (b"giveup", Keyword::Event(EventKind::GiveUp)),
     (b"devfail", Keyword::Event(EventKind::DevFail)),
     (b"keep", Keyword::Event(EventKind::Keep)),
-    (b"host", Keyword::Size(Size::Host)),
-    (b"mediator", Keyword::Size(Size::Mediator)),
-    (b"disk", Keyword::Size(Size::Disk)),
-    (b"lanes", Keyword::Size(Size::Lanes)),
-    (b"guest", Keyword::Guest),
-    (b"map", Keyword::Map),
-    (b"await", Keyword::Foreign(3)),
-    (b"awaitreg", Keyword::Foreign(3)),
+    (b"host", Keyword::SetUp(SetUpKind::Size(Size::Host))),
+    (b"mediator", Keyword::SetUp(SetUpKind::Size(Size::Mediator))),
+    (b"disk", Keyword::SetUp(SetUpKind::Size(Size::Disk))),
+    (b"lanes", Keyword::SetUp(SetUpKind::Size(Size::Lanes))),
+    (b"guest", Keyword::SetUp(SetUpKind::Guest)),
+    (b"map", Keyword::SetUp(SetUpKind::Map)),
+    (b"await", Keyword::Await),
+    (b"awaitreg", Keyword::AwaitReg),
     (b"memory", Keyword::Foreign(1)),
     (b"blocks", Keyword::Foreign(1)),
     (b"paint", Keyword::Foreign(2)),

@@ -1,0 +1,61 @@
+-- A region more of a guest that is there
+use Rattle.std.proofs.Common.{◌≡◌, ℕ, ◌<◌, Bool, true, false, ltb, List, [], ◌∷◌, ◌++◌, length, get_or, set, Result, Ok, Err, refl, sym, ap, ◌∙◌, arith}
+use Rattle.std.specs.Prelude.{map}
+use Rattle.std.proofs.lemmas.List.{get_or-map, length-map, map-set}
+use Rattle.std.proofs.lemmas.Bool.Decides.{nat_tests}
+use Rattle.nv_script.specs.declared.once.fault.FaultKind.{FaultKind}
+use Rattle.nv_script.specs.OnceFault.{◌>>=◌}
+use Rattle.nv_mem.specs.declared.region.Region.{Region}
+use Rattle.nv_script.specs.OnceNumber.{number_up_to}
+use Rattle.nv_replay_script.specs.declared.set_up.GuestSetUp.{GuestSetUp}
+use Rattle.nv_replay_script.specs.ReplaySetUp.{GuestValue, SetUpSoFar, add_map, guest_value, in_place, known_guest, region_of, with_region}
+
+abbrev ok : ℕ → Result ℕ FaultKind
+ok n = Ok n
+
+abbrev ok_set_up : SetUpSoFar → Result SetUpSoFar FaultKind
+ok_set_up p = Ok p
+
+known-there : (count number n : ℕ) (test : Bool) → ltb number count ≡ test
+    → (in_place test >>= λ there. ok number) ≡ Ok n → n < count
+known-there count number n true e h =
+    let same : number ≡ n = cc in
+    let below : number < count = grind (arith, nat_tests) in
+    rw (← same) below
+known-there count number n false e h = cc
+
+known-below : (count n : ℕ) (number : Result ℕ FaultKind)
+    → (number >>= λ k. in_place (ltb k count) >>= λ there. ok k) ≡ Ok n → n < count
+known-below count n (Ok k) h = known-there count k n (ltb k count) refl h
+known-below count n (Err kind) h = cc
+
+-- a guest that is known is there
+known_guest-below : (count n : ℕ) (word : List ℕ) → known_guest count word ≡ Ok n → n < count
+known_guest-below count n word h = known-below count n (number_up_to 255 word) h
+
+-- a region more
+with_region-pushed : (guests : List GuestSetUp) (n : ℕ) (old new : GuestSetUp) (region : Region) → n < length guests
+    → old ≡ get_or guests n old
+    → guest_value new ≡ record (guest_value old) { regions = old.regions.items ++ region ∷ [] }
+    → with_region (map guest_value guests) n region ≡ map guest_value (set guests n new)
+with_region-pushed guests n old new region h at made =
+    rw (
+      get_or-map guest_value guests n old (record { base = 0; blocks = 0; heap = 0; regions = [] }) h,
+      ← at,
+      ← made,
+    ) (sym (map-set guest_value guests n new))
+
+-- what a line `map` adds
+pub add_map-read : (p : SetUpSoFar) (number guest host len : List ℕ) (n : ℕ) (region : Region)
+    (guests : List GuestSetUp) (old new : GuestSetUp) → p.guests ≡ map guest_value guests
+    → known_guest (length guests) number ≡ Ok n → region_of guest host len ≡ Ok region
+    → old ≡ get_or guests n old
+    → guest_value new ≡ record (guest_value old) { regions = old.regions.items ++ region ∷ [] }
+    → add_map p number guest host len ≡ Ok (record p { guests = map guest_value (set guests n new) })
+add_map-read p number guest host len n region guests old new all known read at made =
+    let count : length p.guests ≡ length guests = ap length all ∙ length-map guests guest_value in
+    let known' : known_guest (length p.guests) number ≡ Ok n = ap (λ (c : ℕ). known_guest c number) count ∙ known in
+    let added : with_region p.guests n region ≡ map guest_value (set guests n new) =
+    ap (λ (gs : List GuestValue). with_region gs n region) all
+    ∙ with_region-pushed guests n old new region (known_guest-below (length guests) n number known) at made in
+    rw (known', read) (ap (λ (gs : List GuestValue). ok_set_up (record p { guests = gs })) added)

@@ -1,0 +1,3 @@
+pub mod RunTasks
+pub mod RunScript
+pub mod RunRows

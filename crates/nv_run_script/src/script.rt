@@ -1,0 +1,41 @@
+//! The parse of a whole script.
+ghost use Rattle.std.specs.Prelude.{◌≡◌, ◌⊎◌, MatchResult};
+ghost use Rattle.nv_run_script.specs.RunScript.{script_of, script_value};
+
+use crate::line::Line;
+use crate::reading::Reading;
+use nv_replay_script::{GuestSetUp, Sizes};
+use nv_script::ScriptFault;
+use nv_script::once::script::before_last_feed;
+use std::alloc::Global;
+
+/// A whole script of `run`.
+#[derive(Debug, Drop)]
+pub struct Script {
+    /// the sizes that the set-up names
+    pub sizes: Sizes,
+    /// the guests, in order
+    pub guests: Vec<GuestSetUp>,
+    /// the lines of all guests, in the order written
+    pub lines: Vec<Line>,
+}
+
+/// The script that a text is, or its first fault.
+///
+/// # Errors
+///
+/// The first faulty line, and what is wrong with it; or that memory was refused.
+pub fn parse(alloc: Global, text: &[u8]) -> Result<Script, ScriptFault>
+    ensures { MatchResult result (λ script. script_of text.now ≡ Ok (script_value script))
+        (λ fault. (fault ≡ ScriptFault.NoMemory) ⊎ (script_of text.now ≡ Err fault)) }
+{
+    let mut reading = Reading::new(alloc);
+    let mut number = 0;
+    for line in before_last_feed(text).split(|byte| *byte == b'\n') {
+        number += 1;
+        if let Err(fault) = reading.read(alloc, number, line) {
+            return Err(fault.on(number));
+        }
+    }
+    reading.finish(number)
+}
