@@ -1,5 +1,5 @@
 //! Bytes as text.
-ghost use Rattle.std.specs.Prelude.{◌≤◌, length, OnOk};
+ghost use Rattle.std.specs.Prelude.{◌≡◌, ◌≤◌, ◌+◌, ◌*◌, length, OnOk};
 ghost use Rattle.std.specs.Io.KnownBytes.{Appends};
 ghost use Rattle.hex.specs.Hex.{encode_lower};
 ghost use Rattle.nv_print.specs.Printed.{dump_line, hex_line, line_feed};
@@ -9,6 +9,9 @@ use std::io::Write;
 
 /// How many bytes are printed at once.
 const CHUNK: usize = 512;
+
+/// The most bytes whose line is printed in one piece.
+const SHORT: usize = 32;
 
 /// Prints a text as it is.
 pub fn print_text<W: Write>(text: &[u8], output: &mut W) -> Result<(), CannotWrite>
@@ -55,8 +58,35 @@ fn print_chunk<W: Write>(bytes: &[u8], output: &mut W) -> Result<(), CannotWrite
 pub fn print_line<W: Write>(bytes: &[u8], output: &mut W) -> Result<(), CannotWrite>
     ensures { OnOk result (Appends (W.contents output.old) (W.contents output.new) (hex_line bytes.now)) }
 {
+    if bytes.len() <= SHORT {
+        return print_short_line(bytes, output);
+    }
     print_bytes(bytes, output)?;
     end_line(output)
+}
+
+// Prints a few bytes as a line of hexadecimal digits, in one piece.
+fn print_short_line<W: Write>(bytes: &[u8], output: &mut W) -> Result<(), CannotWrite>
+    requires { length bytes.now ≤ SHORT }
+    ensures { OnOk result (Appends (W.contents output.old) (W.contents output.new) (hex_line bytes.now)) }
+{
+    let mut line = [0; 2 * SHORT + 1];
+    let line = &mut line[..=2 * bytes.len()];
+    write_line(bytes, line);
+    print_text(line, output)
+}
+
+// Writes bytes as a line of hexadecimal digits into a place of its length.
+fn write_line(bytes: &[u8], line: &mut [u8])
+    requires { length line.old ≡ 2 * length bytes.now + 1 }
+    ensures { line.new ≡ hex_line bytes.now }
+{
+    let (digits, end) = line.split_at_mut(2 * bytes.len());
+    end[0] = b'\n';
+    match hex::encode_to_slice(bytes, digits) {
+        Ok(()) => {}
+        Err(_) => unreachable!(),
+    }
 }
 
 /// Prints bytes as a line of hexadecimal digits, or of a dash where they are none.

@@ -1,13 +1,13 @@
 -- Words one after another
-use Rattle.std.proofs.Common.{◌≡◌, ℕ, suc, ◌+◌, ◌-◌, ◌<◌, ◌≤◌, ◌≢◌, Bool, true, false, not, cond, eqb, ltb, List, [], ◌∷◌, ◌++◌, length, get_or, take, drop, Option, Some, None, refl, sym, ap, ◌∙◌, arith, inl, inr, ◌⊎◌}
-use Rattle.std.specs.Prelude.{filter, nat_lt, unwrap_or}
-use Rattle.std.specs.List.{onto_first, position, position_or_len, slice_split}
+use Rattle.std.proofs.Common.{◌≡◌, ℕ, zero, suc, ◌+◌, ◌-◌, ◌<◌, ◌≤◌, ◌≢◌, Bool, true, false, not, cond, eqb, ltb, List, [], ◌∷◌, ◌++◌, length, get_or, take, drop, Option, Some, None, refl, sym, ap, ◌∙◌, arith, inl, inr, ◌⊎◌}
+use Rattle.std.specs.Prelude.{◌||◌, filter, nat_lt, unwrap_or}
+use Rattle.std.specs.List.{before_first, onto_first, position, position_or_len, slice_split}
 use Rattle.std.proofs.lemmas.Bool.{cases_lt}
 use Rattle.std.proofs.lemmas.Bool.Decides.{nat_tests}
 use Rattle.std.proofs.lemmas.List.{take_all, take_at, drop_all, drop_more, get_or_push, length-take-le, length_push}
 use Rattle.std.proofs.lemmas.List.Sums.{prefix_len-le-length, passes_at_first}
 use Rattle.std.proofs.lemmas.List.Splits.{slice_split_first}
-use Rattle.nv_script.specs.OnceWords.{without_last_feed, words_in}
+use Rattle.nv_script.specs.OnceWords.{without_last_feed, words_in, words_of}
 
 -- a place is within the text or its end
 pub position_or_len-le : (p : ℕ → Bool) (xs : List ℕ) → position_or_len p xs ≤ length xs
@@ -175,3 +175,118 @@ pub without_last_feed-none : (text : List ℕ) → length text ≡ 0 → text �
 unfolding without_last_feed
 without_last_feed-none [] e = refl
 without_last_feed-none (b ∷ text) e = absurd (omega arith)
+
+-- ---- comments
+
+abbrev pub is_hash : ℕ → Bool
+is_hash b = eqb b 35
+
+-- what ends a word: a space, or the beginning of a comment
+abbrev pub ends_word : ℕ → Bool
+ends_word b = eqb b 32 || eqb b 35
+
+-- a line without its comment
+abbrev pub bare : List ℕ → List ℕ
+bare line = before_first is_hash line
+
+-- a comment ends a line, and any other byte stands in front of what is left of it
+bare-at : (b : ℕ) (text : List ℕ) (t : Bool) → is_hash b ≡ t → bare (b ∷ text) ≡ cond t [] (b ∷ bare text)
+bare-at b text true e = rw e refl
+bare-at b text false e =
+    let one : 1 + position_or_len is_hash text ≡ suc (position_or_len is_hash text) = omega arith in
+    rw (e, one) refl
+
+-- the beginning of a comment is no space
+hash-no_space : (b : ℕ) → is_hash b ≡ true → is_space b ≡ false
+hash-no_space b e = grind (arith, nat_tests)
+
+bare-word_end-at : (b : ℕ) (text : List ℕ) (t : Bool) → is_hash b ≡ t
+    → position_or_len ends_word text ≡ position_or_len is_space (bare text)
+    → position_or_len ends_word (b ∷ text) ≡ position_or_len is_space (bare (b ∷ text))
+bare-word_end-at b text true e rest = rw (bare-at b text true e, hash-no_space b e, e) refl
+bare-word_end-at b text false e rest = rw (bare-at b text false e, e, rest) (space-first (is_space b))
+  where
+    space-first : (t : Bool)
+        → cond (not (t || false)) (1 + position_or_len is_space (bare text)) 0 ≡ cond (not t) (1 + position_or_len is_space (bare text)) 0
+    space-first true = refl
+    space-first false = refl
+
+-- a word ends at the first space of what stands before the comment
+pub bare-word_end : (text : List ℕ) → position_or_len ends_word text ≡ position_or_len is_space (bare text)
+bare-word_end [] = refl
+bare-word_end (b ∷ text) = bare-word_end-at b text (is_hash b) refl (bare-word_end text)
+
+bare-leading-at : (b : ℕ) (text : List ℕ) (t : Bool) → is_hash b ≡ t
+    → position_or_len is_no_space text ≡ position_or_len is_no_space (bare text)
+    → position_or_len is_no_space (b ∷ text) ≡ position_or_len is_no_space (bare (b ∷ text))
+bare-leading-at b text true e rest = rw (bare-at b text true e, hash-no_space b e) refl
+bare-leading-at b text false e rest = rw (bare-at b text false e, rest) refl
+
+-- and so do leading spaces
+bare-leading : (text : List ℕ) → position_or_len is_no_space text ≡ position_or_len is_no_space (bare text)
+bare-leading [] = refl
+bare-leading (b ∷ text) = bare-leading-at b text (is_hash b) refl (bare-leading text)
+
+bare-drop-at : (k b : ℕ) (text : List ℕ) (t : Bool) → is_hash b ≡ t → suc k ≤ length (bare (b ∷ text))
+    → (k ≤ length (bare text) → bare (drop k text) ≡ drop k (bare text))
+    → bare (drop k text) ≡ drop (suc k) (bare (b ∷ text))
+bare-drop-at k b text true e h rest = absurd (let h' = rw (bare-at b text true e) at h in omega (arith, h'))
+bare-drop-at k b text false e h rest =
+    let h' = rw (bare-at b text false e) at h in
+    rw (bare-at b text false e) (rest (omega (arith, h')))
+
+-- what stands behind so many bytes
+bare-drop : (k : ℕ) (text : List ℕ) → k ≤ length (bare text) → bare (drop k text) ≡ drop k (bare text)
+bare-drop zero text h = refl
+bare-drop (suc k) [] h = refl
+bare-drop (suc k) (b ∷ text) h = bare-drop-at k b text (is_hash b) refl h (bare-drop k text)
+
+bare-take-at : (k b : ℕ) (text : List ℕ) (t : Bool) → is_hash b ≡ t → suc k ≤ length (bare (b ∷ text))
+    → (k ≤ length (bare text) → take k text ≡ take k (bare text))
+    → b ∷ take k text ≡ take (suc k) (bare (b ∷ text))
+bare-take-at k b text true e h rest = absurd (let h' = rw (bare-at b text true e) at h in omega (arith, h'))
+bare-take-at k b text false e h rest =
+    let h' = rw (bare-at b text false e) at h in
+    rw (bare-at b text false e) (ap (λ (bs : List ℕ). b ∷ bs) (rest (omega (arith, h'))))
+
+-- the first so many bytes
+bare-take : (k : ℕ) (text : List ℕ) → k ≤ length (bare text) → take k text ≡ take k (bare text)
+bare-take zero text h = refl
+bare-take (suc k) [] h = refl
+bare-take (suc k) (b ∷ text) h = bare-take-at k b text (is_hash b) refl h (bare-take k text)
+
+-- what stands behind leading spaces
+bare-skipped : (text rest : List ℕ) (start : ℕ) → start ≡ position_or_len is_no_space text → rest ≡ drop start text
+    → bare rest ≡ drop (position_or_len is_no_space (bare text)) (bare text)
+bare-skipped text rest start at cut =
+    let same = at ∙ bare-leading text in
+    ap bare (cut ∙ ap (λ (n : ℕ). drop n text) same)
+    ∙ bare-drop (position_or_len is_no_space (bare text)) text (position_or_len-le is_no_space (bare text))
+
+-- a line of spaces and a comment has no word
+pub first_word-none : (text rest : List ℕ) (start end : ℕ) → start ≡ position_or_len is_no_space text
+    → rest ≡ drop start text → end ≡ position_or_len ends_word rest → end ≡ 0 → words_of text ≡ []
+unfolding words_of
+first_word-none text rest start end at cut place none =
+    let skipped = bare-skipped text rest start at cut in
+    let no_word : position_or_len is_space (bare rest) ≡ 0 = sym (bare-word_end rest) ∙ sym place ∙ none in
+    split_word-none (bare text) (bare rest) _ refl skipped (empty (bare text) (bare rest) skipped no_word (cases_lt 0 (length (bare rest))))
+  where
+    empty : (line rest : List ℕ) → rest ≡ drop (position_or_len is_no_space line) line → position_or_len is_space rest ≡ 0
+        → (0 < length rest) ⊎ (length rest ≤ 0) → eqb (length rest) 0 ≡ true
+    empty line rest same no_word (inl some) =
+        let long : 0 < position_or_len is_space rest = rw same (place-skip line (rw (← same) some)) in
+        absurd (omega (arith, long, no_word))
+    empty line rest same no_word (inr none) = grind (arith, nat_tests)
+
+-- any other line has a first word, and what stands behind it
+pub first_word-some : (text rest word more : List ℕ) (start end : ℕ) → start ≡ position_or_len is_no_space text
+    → rest ≡ drop start text → end ≡ position_or_len ends_word rest → 0 < end → word ≡ take end rest → more ≡ drop end rest
+    → words_of text ≡ word ∷ words_of more
+unfolding words_of
+first_word-some text rest word more start end at cut place some front back =
+    let ends : end ≡ position_or_len is_space (bare rest) = place ∙ bare-word_end rest in
+    let within : end ≤ length (bare rest) = omega (arith, ends, position_or_len-le is_space (bare rest)) in
+    let there : eqb (length (bare rest)) 0 ≡ false = grind (arith, nat_tests) in
+    split_word-some (bare text) (bare rest) word (bare more) _ end refl (bare-skipped text rest start at cut) there ends
+    (front ∙ bare-take end rest within) (ap bare back ∙ bare-drop end rest within)

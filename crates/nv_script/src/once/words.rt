@@ -1,10 +1,10 @@
 //! The words of a line.
-ghost use Rattle.std.specs.Prelude.{◌≡◌, ◌==◌, ◌<◌, ◌∷◌, [], length, not, MatchOption, MatchResult};
+ghost use Rattle.std.specs.Prelude.{◌≡◌, ◌==◌, ◌||◌, ◌<◌, ◌∷◌, [], length, not, MatchOption, MatchResult};
 ghost use Rattle.std.specs.List.{position_or_len};
 ghost use Rattle.std.specs.Iterator.{YieldsFirstRef, item_count};
 ghost use Rattle.nv_script.specs.OnceVocabulary.{count_check};
 ghost use Rattle.nv_script.specs.declared.once.fault.FaultKind.TheVariants.{MissingWord};
-ghost use Rattle.nv_script.specs.OnceWords.{words_in, words_of};
+ghost use Rattle.nv_script.specs.OnceWords.{words_of};
 
 use crate::once::fault::FaultKind;
 use std::marker::Model;
@@ -17,18 +17,20 @@ pub struct Words<'a> {
 
 impl<'a> Model for Words<'a> {
     ghost use Rattle.std.specs.Prelude.{List, ℕ};
-    ghost use Rattle.nv_script.specs.OnceWords.{words_in};
+    ghost use Rattle.nv_script.specs.OnceWords.{words_of};
 
     ghost Value = { List (List ℕ) };
 
-    ghost view = { λ words. words_in words.text.now };
+    ghost view = { λ words. words_of words.text.now };
 }
 
-// The place of the first such byte, or the length where there is none.
-fn place_of(text: &[u8], byte: u8) -> usize
-    ensures { result ≡ position_or_len (λ b. b == byte) text.now }
+// The place of the first byte that ends a word, a space or the `#` of a comment, or the length where there is none.
+fn word_end(text: &[u8]) -> usize
+    ensures { result ≡ position_or_len (λ b. b == 32 || b == 35) text.now }
 {
-    text.iter().position(|b| *b == byte).unwrap_or(text.len())
+    text.iter()
+        .position(|b| *b == b' ' || *b == b'#')
+        .unwrap_or(text.len())
 }
 
 // The place of the first byte that is no space, or the length where there is none.
@@ -38,16 +40,17 @@ fn leading_spaces(text: &[u8]) -> usize
     text.iter().position(|b| *b != b' ').unwrap_or(text.len())
 }
 
-// The first word of a text, and what stands behind it.
+// The first word of a line, and what stands behind it.
 fn split_word(text: &[u8]) -> Option<(&[u8], &[u8])>
-    ensures { MatchOption result (words_in text.now ≡ [])
-        (λ parts. words_in text.now ≡ parts.0.now ∷ words_in parts.1.now) }
+    ensures { MatchOption result (words_of text.now ≡ [])
+        (λ parts. words_of text.now ≡ parts.0.now ∷ words_of parts.1.now) }
 {
     let (_, text) = text.split_at(leading_spaces(text));
-    if text.is_empty() {
+    let end = word_end(text);
+    if end == 0 {
         return None;
     }
-    Some(text.split_at(place_of(text, b' ')))
+    Some(text.split_at(end))
 }
 
 impl<'a> Words<'a> {
@@ -55,8 +58,7 @@ impl<'a> Words<'a> {
     pub fn of(line: &'a [u8]) -> Self
         ensures { result ≡ words_of line.now }
     {
-        let (text, _) = line.split_at(place_of(line, b'#'));
-        Words { text }
+        Words { text: line }
     }
 
     /// Whether so many words are left.
