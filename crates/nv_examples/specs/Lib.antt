@@ -2,3 +2,5 @@ pub mod Guests
 pub mod Logs
 pub mod Story
 pub mod StoryRun
+pub mod Events
+pub mod Breaches

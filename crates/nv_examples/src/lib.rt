@@ -2,4 +2,5 @@
 //! the definitions. There is no code here.
 #![tactic(auto)]
 
+pub mod breaches;
 pub mod story;
