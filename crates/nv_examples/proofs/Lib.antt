@@ -1,1 +1,2 @@
 pub mod Refuting
+pub mod Own

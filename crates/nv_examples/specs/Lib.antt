@@ -4,3 +4,4 @@ pub mod Story
 pub mod StoryRun
 pub mod Events
 pub mod Breaches
+pub mod WrongWorlds

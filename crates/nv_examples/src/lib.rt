@@ -4,3 +4,4 @@
 
 pub mod breaches;
 pub mod story;
+pub mod wrong_worlds;
