@@ -2,4 +2,6 @@
 //! the definitions. There is no code here.
 #![tactic(auto)]
 
+pub mod breaches;
 pub mod story;
+pub mod wrong_worlds;

@@ -1,0 +1,2 @@
+pub mod Refuting
+pub mod Own

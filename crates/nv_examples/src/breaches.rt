@@ -1,0 +1,118 @@
+//! What discipline is for: of each clause that counts a log that breaks it and no other, and along which the guest is not followed by its
+//! private controller.
+//!
+//! Of each log the four clauses are told: that no destination names a byte twice or shares one with anything else that is named, that no
+//! completion slot stands where bytes are named, that nothing is stored into such bytes, and that nothing is loaded from a destination. A
+//! store into an entry that is rung and not taken, and a destination over its command's own list or entry, are forbidden so that what is
+//! named stays what it is: in both worlds the command is the same.
+
+ghost use Rattle.std.specs.Prelude.{◌≡◌, [], ◌∷◌, true, false};
+ghost use Rattle.nv_examples.specs.Breaches.{HasPrivateRun, byte_named_twice, clauses_kept, destination_in_destination, entry_in_destination, is_disciplined_in, list_in_destination, load_from_destination, none_failed_in, slot_in_destination, slot_in_list, slot_in_source, source_in_destination, store_into_destination, store_into_list, store_into_source};
+
+/// A store into a source: the world writes what was there before, the private controller what is there now.
+#[tactic(none)]
+pub fn store_into_source()
+    ensures no_command_failed { none_failed_in store_into_source ≡ true }
+    ensures one_clause_is_broken { clauses_kept store_into_source ≡ true ∷ true ∷ false ∷ true ∷ [] }
+    ensures the_guest_is_not_disciplined { is_disciplined_in store_into_source ≡ false }
+    ensures it_has_no_such_run { HasPrivateRun store_into_source → ⊥ }
+{}
+
+/// A store into a destination: in the world the Read comes later than the store.
+#[tactic(none)]
+pub fn store_into_destination()
+    ensures no_command_failed { none_failed_in store_into_destination ≡ true }
+    ensures one_clause_is_broken { clauses_kept store_into_destination ≡ true ∷ true ∷ false ∷ true ∷ [] }
+    ensures the_guest_is_not_disciplined { is_disciplined_in store_into_destination ≡ false }
+    ensures it_has_no_such_run { HasPrivateRun store_into_destination → ⊥ }
+{}
+
+/// A store into a list: in the world the buffer is that of the list as it was read.
+#[tactic(none)]
+pub fn store_into_list()
+    ensures no_command_failed { none_failed_in store_into_list ≡ true }
+    ensures one_clause_is_broken { clauses_kept store_into_list ≡ true ∷ true ∷ false ∷ true ∷ [] }
+    ensures the_guest_is_not_disciplined { is_disciplined_in store_into_list ≡ false }
+    ensures it_has_no_such_run { HasPrivateRun store_into_list → ⊥ }
+{}
+
+/// A load from a destination: in the world the bytes have not come yet.
+#[tactic(none)]
+pub fn load_from_destination()
+    ensures no_command_failed { none_failed_in load_from_destination ≡ true }
+    ensures one_clause_is_broken { clauses_kept load_from_destination ≡ true ∷ true ∷ true ∷ false ∷ [] }
+    ensures the_guest_is_not_disciplined { is_disciplined_in load_from_destination ≡ false }
+    ensures it_has_no_such_run { HasPrivateRun load_from_destination → ⊥ }
+{}
+
+/// A byte that is named twice: in the world the last block has it, in the private controller the one that moved last.
+#[tactic(none)]
+pub fn byte_named_twice()
+    ensures no_command_failed { none_failed_in byte_named_twice ≡ true }
+    ensures one_clause_is_broken { clauses_kept byte_named_twice ≡ false ∷ true ∷ true ∷ true ∷ [] }
+    ensures the_guest_is_not_disciplined { is_disciplined_in byte_named_twice ≡ false }
+    ensures it_has_no_such_run { HasPrivateRun byte_named_twice → ⊥ }
+{}
+
+/// Two destinations that meet: in the world the one that is completed last stands there.
+#[tactic(none)]
+pub fn destination_in_destination()
+    ensures no_command_failed { none_failed_in destination_in_destination ≡ true }
+    ensures one_clause_is_broken { clauses_kept destination_in_destination ≡ false ∷ true ∷ true ∷ true ∷ [] }
+    ensures the_guest_is_not_disciplined { is_disciplined_in destination_in_destination ≡ false }
+    ensures it_has_no_such_run { HasPrivateRun destination_in_destination → ⊥ }
+{}
+
+/// A source in a destination: in the world it is copied before the Read is delivered.
+#[tactic(none)]
+pub fn source_in_destination()
+    ensures no_command_failed { none_failed_in source_in_destination ≡ true }
+    ensures one_clause_is_broken { clauses_kept source_in_destination ≡ false ∷ true ∷ true ∷ true ∷ [] }
+    ensures the_guest_is_not_disciplined { is_disciplined_in source_in_destination ≡ false }
+    ensures it_has_no_such_run { HasPrivateRun source_in_destination → ⊥ }
+{}
+
+/// A list in a destination: the world has the buffer that it names, the private controller refuses what was read over it.
+#[tactic(none)]
+pub fn list_in_destination()
+    ensures no_command_failed { none_failed_in list_in_destination ≡ true }
+    ensures one_clause_is_broken { clauses_kept list_in_destination ≡ false ∷ true ∷ true ∷ true ∷ [] }
+    ensures the_guest_is_not_disciplined { is_disciplined_in list_in_destination ≡ false }
+    ensures it_has_no_such_run { HasPrivateRun list_in_destination → ⊥ }
+{}
+
+/// An entry in a destination: the world has the command, the private controller what was read over it.
+#[tactic(none)]
+pub fn entry_in_destination()
+    ensures no_command_failed { none_failed_in entry_in_destination ≡ true }
+    ensures one_clause_is_broken { clauses_kept entry_in_destination ≡ false ∷ true ∷ true ∷ true ∷ [] }
+    ensures the_guest_is_not_disciplined { is_disciplined_in entry_in_destination ≡ false }
+    ensures it_has_no_such_run { HasPrivateRun entry_in_destination → ⊥ }
+{}
+
+/// A completion slot in a source: the world writes what was there before.
+#[tactic(none)]
+pub fn slot_in_source()
+    ensures no_command_failed { none_failed_in slot_in_source ≡ true }
+    ensures one_clause_is_broken { clauses_kept slot_in_source ≡ true ∷ false ∷ true ∷ true ∷ [] }
+    ensures the_guest_is_not_disciplined { is_disciplined_in slot_in_source ≡ false }
+    ensures it_has_no_such_run { HasPrivateRun slot_in_source → ⊥ }
+{}
+
+/// A completion slot in a destination: in the world the Read comes later than the completion.
+#[tactic(none)]
+pub fn slot_in_destination()
+    ensures no_command_failed { none_failed_in slot_in_destination ≡ true }
+    ensures one_clause_is_broken { clauses_kept slot_in_destination ≡ true ∷ false ∷ true ∷ true ∷ [] }
+    ensures the_guest_is_not_disciplined { is_disciplined_in slot_in_destination ≡ false }
+    ensures it_has_no_such_run { HasPrivateRun slot_in_destination → ⊥ }
+{}
+
+/// A completion slot in a list: the world has the list as it was read.
+#[tactic(none)]
+pub fn slot_in_list()
+    ensures no_command_failed { none_failed_in slot_in_list ≡ true }
+    ensures one_clause_is_broken { clauses_kept slot_in_list ≡ true ∷ false ∷ true ∷ true ∷ [] }
+    ensures the_guest_is_not_disciplined { is_disciplined_in slot_in_list ≡ false }
+    ensures it_has_no_such_run { HasPrivateRun slot_in_list → ⊥ }
+{}
