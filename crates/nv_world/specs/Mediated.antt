@@ -112,6 +112,10 @@ abbrev pub range_of : Option Guest → Option Extent
 range_of None = None
 range_of (Some guest) = Some guest.extent
 
+abbrev pub limit_of : Option Guest → Option ℕ
+limit_of None = None
+limit_of (Some guest) = Some guest.limit
+
 -- what a guest is to have may be given to it: its blocks have numbers of 64 bits, and its limit on descriptors may be
 pub record MayBeGiven (guest : Guest) : Type 0 where
   pub blocks : guest.extent.base + guest.extent.blocks < 2 ^ 64

@@ -1,8 +1,9 @@
 //! The world, with the log of what has happened in it.
 
-ghost use Rattle.std.specs.Prelude.{◌≡◌, ◌⊎◌, IfOk, IfErr, MatchOption, None, Some, slice_get};
+ghost use Rattle.std.specs.Prelude.{◌≡◌, ◌⊎◌, IfOk, IfErr, IfSome, MatchOption, None, Some, slice_get};
 ghost use Rattle.nv_core.specs.State.{world_of};
-ghost use Rattle.nv_world.specs.Mediated.{IsContained, KeepsPromise, map_of, mediated, opened, range_of, setup_of};
+ghost use Rattle.nv_core.specs.Submit.{IsLimit};
+ghost use Rattle.nv_world.specs.Mediated.{IsContained, KeepsPromise, limit_of, map_of, mediated, opened, range_of, setup_of};
 ghost use Rattle.nv_world.specs.Refused.{refused};
 ghost use Rattle.nv_world_model.specs.Log.{IsReplay};
 ghost use Rattle.nv_world_model.specs.SetUp.{refusal_of, world_at_start};
@@ -81,5 +82,13 @@ impl World {
         ensures { result ≡ range_of (slice_get self.now.geometry.guests guest) }
     {
         Some(self.layout.guest(guest)?.ns())
+    }
+
+    /// The most descriptors of a list that the guest of that number was given, 1 to 4,096; `None` where there is no such guest.
+    pub fn limit(&self, guest: u8) -> Option<u32>
+        ensures value { result ≡ limit_of (slice_get self.now.geometry.guests guest) }
+        ensures fits { IfSome result (λ limit. IsLimit limit) }
+    {
+        Some(self.layout.guest(guest)?.limit())
     }
 }

@@ -1,0 +1,32 @@
+//! Copies of acts.
+
+ghost use Rattle.std.specs.Prelude.{◌≡◌, IfOk};
+
+use nv_mem::{Bytes, NoMemory};
+use nv_model::Act;
+use std::alloc::Global;
+
+/// An act once more. Memory is taken for the bytes of a store alone.
+pub(crate) fn act(alloc: Global, act: &Act) -> Result<Act, NoMemory>
+    ensures { IfOk result (λ copy. copy ≡ act.now) }
+{
+    match act {
+        Act::Store { addr, bytes } => {
+            let bytes = Bytes::new(Vec::from_slice(alloc, bytes.as_slice())?);
+            Ok(Act::Store { addr: *addr, bytes })
+        }
+        Act::Load { addr, len } => Ok(Act::Load {
+            addr: *addr,
+            len: *len,
+        }),
+        Act::RegRead { offset } => Ok(Act::RegRead { offset: *offset }),
+        Act::RegWrite { offset, value } => Ok(Act::RegWrite {
+            offset: *offset,
+            value: *value,
+        }),
+        Act::Doorbell { offset, value } => Ok(Act::Doorbell {
+            offset: *offset,
+            value: *value,
+        }),
+    }
+}

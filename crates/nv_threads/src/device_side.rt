@@ -1,0 +1,128 @@
+//! The worker that is the physical controller on a lane.
+
+ghost use Rattle.std.specs.Prelude.{◌<◌};
+
+use crate::resting::Rest;
+use crate::share::Share;
+use crate::shared::Shared;
+use nv_model::Reply;
+use nv_world::World;
+use nv_world_model::Event;
+use std::alloc::Global;
+use std::sync::Wait;
+use std::time::Clock;
+
+/// How many slots a lane of the physical controller has.
+const SLOTS: usize = 64;
+
+/// Takes the physical commands of a lane, moves their units in order and completes them, until the workers are to stop. Where there is
+/// no memory for a step, it is tried again.
+///
+/// This waits for the world's lock. It tells how many events it put into the log.
+pub fn device_loop<R: Wait + Clock>(rt: &R, alloc: Global, shared: &Shared, lane: u8) -> Share {
+    let mut device = LaneDevice::new(lane);
+    let mut rest = Rest::new();
+    for _ in rt.forever() {
+        if shared.is_stopped() {
+            break;
+        }
+        let done = device.turn(&mut shared.world.lock(rt), alloc);
+        if done {
+            rest.end();
+        } else {
+            rest.pause(rt);
+        }
+    }
+    device.share
+}
+
+// The physical controller on a lane.
+#[derive(Debug, Drop)]
+struct LaneDevice {
+    lane: u8,
+    // the slot that was looked at last
+    slot: u8,
+    // whether some slot may hold a command
+    held: bool,
+    // the next unit of each slot's command
+    units: [u64; SLOTS],
+    share: Share,
+    ghost in_range: { slot < 64 },
+}
+
+impl LaneDevice {
+    fn new(lane: u8) -> Self {
+        LaneDevice {
+            lane,
+            slot: 0,
+            held: true,
+            units: [0; SLOTS],
+            share: Share::new(),
+        }
+    }
+
+    // What is done under the lock, one event at most; whether something was. The command of the last slot goes on; else the next entry
+    // is taken; else another slot's command goes on.
+    fn turn(&mut self, world: &mut World, alloc: Global) -> bool {
+        if let Some(event) = self.due(world, self.slot) {
+            return self.carry_out(world, alloc, event);
+        }
+        let take = Event::DevTake(self.lane);
+        if world.due(&take) {
+            self.held = true;
+            return is_done(self.share.step(world, alloc, take));
+        }
+        if !self.held {
+            return false;
+        }
+        self.turn_to_another(world, alloc)
+    }
+
+    // The next event of a slot's command, where one is due.
+    fn due(&self, world: &World, slot: u8) -> Option<Event>
+        requires { slot < 64 }
+    {
+        let unit = Event::DevMove(self.lane, slot, self.units[usize::from(slot)]);
+        if world.due(&unit) {
+            return Some(unit);
+        }
+        let post = Event::DevPost(self.lane, slot);
+        if world.due(&post) {
+            return Some(post);
+        }
+        None
+    }
+
+    // Carries out the next event of the last slot's command, and keeps which unit comes next.
+    fn carry_out(&mut self, world: &mut World, alloc: Global, event: Event) -> bool {
+        let at = usize::from(self.slot);
+        let unit = self.units[at];
+        let next = match &event {
+            Event::DevMove(_, _, _) => unit.wrapping_add(1),
+            _ => 0,
+        };
+        let done = is_done(self.share.step(world, alloc, event));
+        if done {
+            self.units[at] = next;
+        }
+        done
+    }
+
+    // The next slot behind the last whose command has something due goes on. Where there is none, no slot holds a command.
+    fn turn_to_another(&mut self, world: &mut World, alloc: Global) -> bool {
+        for step in 1..=SLOTS as u8 {
+            let slot = self.slot.wrapping_add(step) % SLOTS as u8;
+            if let Some(event) = self.due(world, slot) {
+                self.slot = slot;
+                return self.carry_out(world, alloc, event);
+            }
+        }
+        self.held = false;
+        false
+    }
+}
+
+// Whether an event that was due was done, and there was memory for it.
+fn is_done(reply: Reply) -> bool {
+    matches!(reply, Reply::Done)
+}

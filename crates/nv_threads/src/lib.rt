@@ -1,0 +1,43 @@
+//! The mediator under threads: a lock round the world, the ports of guests, and the workers that carry their commands out.
+//!
+//! - [`Shared`] is the world under one lock, beside a flag that tells the workers to stop, of which nothing is claimed. Each change of the
+//!   world is one `World::step` or one `World::submit_plan` while the lock is held. What a `World`'s type keeps arrives with each guard,
+//!   and is what `World::log` says: the world is where its log leads from the start of its set-up on, each step in it is contained, and it
+//!   keeps the whole promise. So the log that threads made together is one history, and whatever is proved of logs holds of it.
+//! - [`Port`] is what a guest acts by. It keeps its own list of events with the replies that it gave back.
+//! - [`planner`], [`reaper`] and [`device_loop`] are the workers. They make an event only where it is due under the same hold of the
+//!   lock, so waiting logs nothing. Plans are made outside the lock, by a [`Gate`], in a heap of the planner's own.
+//! - [`finish`] compares the log with what ports and workers kept. After `Ok` each reply that a port gave is that of one history, which
+//!   holds each of the port's calls once, in its order.
+//!
+//! [`Port::act`], a gate's `plan` and the three workers may wait: what is said of them holds if they return. Nothing says that a thread
+//! gets on, or that a guest, a planner or the device ever gets a turn.
+#![tactic(auto)]
+
+mod alike;
+mod calls;
+mod copies;
+mod device_side;
+mod finishing;
+mod gate;
+mod given;
+mod mismatch;
+mod planning;
+mod port;
+mod reaping;
+mod resting;
+mod share;
+mod shared;
+mod sums;
+mod tasks;
+mod telling;
+
+pub use device_side::device_loop;
+pub use finishing::finish;
+pub use gate::{Gate, Open};
+pub use mismatch::Mismatch;
+pub use planning::planner;
+pub use port::Port;
+pub use reaping::reaper;
+pub use share::Share;
+pub use shared::Shared;

@@ -1,0 +1,251 @@
+//! The worker that takes and plans a guest's commands.
+
+use crate::gate::Gate;
+use crate::given::Given;
+use crate::resting::Rest;
+use crate::share::Share;
+use crate::shared::Shared;
+use crate::tasks::{Task, Turn};
+use linked_list_allocator::LocalHeap;
+use nv_mem::NoMemory;
+use nv_model::Reply;
+use nv_plan::{Job, Plan, Planned};
+use nv_world::World;
+use nv_world_model::Event;
+use std::alloc::Global;
+use std::sync::Wait;
+use std::time::Clock;
+
+/// How many tags a lane has.
+const TAGS: u8 = 64;
+
+/// The highest number of a guest's I/O queue; the lowest is 1.
+const LAST_QUEUE: u16 = 8;
+
+/// Takes and plans the commands of a guest by a lane, until the workers are to stop: its admin commands, and those of its I/O queues.
+/// Where a plan wants bytes that were not read, they are read; where there is no memory for one, the command is given up. Plans are made
+/// by the gate outside the lock, in a heap of `heap_bytes` bytes; where there is no memory for the heap itself, every command is given up.
+/// Where there is no memory for a job, for the copy of the guest's map or for a step, it is tried again. A guest that isn't there has
+/// nothing to be planned.
+///
+/// This waits for the world's lock, and for the gate. It tells how many events it put into the log.
+pub fn planner<G: Gate, R: Wait + Clock>(
+    rt: &R,
+    alloc: Global,
+    shared: &Shared,
+    guest: u8,
+    lane: u8,
+    gate: &G,
+    heap_bytes: u64,
+) -> Share {
+    let mut planner = GuestPlanner::new(guest, lane);
+    let Some(given) = given(rt, alloc, shared, guest) else {
+        return planner.share;
+    };
+    let heap = LocalHeap::new(alloc, heap_bytes as usize).ok();
+    let mut rest = Rest::new();
+    for _ in rt.forever() {
+        if shared.is_stopped() {
+            break;
+        }
+        let turn = planner.turn(&mut shared.world.lock(rt), alloc);
+        match turn {
+            Turn::Job(job) => {
+                rest.end();
+                let planned = planned(rt, alloc, &heap, gate, &given, job);
+                planner.go_on(rt, shared, planned);
+            }
+            Turn::Done => rest.end(),
+            Turn::Nothing => rest.pause(rt),
+        }
+    }
+    planner.share
+}
+
+// What the guest was given. It is tried again until there is memory for it; `None` where there is no such guest, or the workers are
+// to stop.
+fn given<R: Wait + Clock>(rt: &R, alloc: Global, shared: &Shared, guest: u8) -> Option<Given> {
+    let mut rest = Rest::new();
+    for _ in rt.forever() {
+        if shared.is_stopped() {
+            return None;
+        }
+        let given = Given::of(&shared.world.lock(rt), alloc, guest);
+        match given {
+            Ok(given) => return given,
+            Err(NoMemory) => rest.pause(rt),
+        }
+    }
+    unreachable!()
+}
+
+// What comes of a job, by the gate. Without a heap there is no memory for its plan.
+fn planned<G: Gate, R: Wait + Clock>(
+    rt: &R,
+    alloc: Global,
+    heap: &Option<LocalHeap>,
+    gate: &G,
+    given: &Given,
+    job: Job,
+) -> Planned {
+    match heap {
+        Some(heap) => gate.plan(rt, heap, alloc, job, given.map(), given.ns(), given.limit()),
+        None => Planned::NoMemory(job),
+    }
+}
+
+// A guest's planner on a lane.
+#[derive(Debug, Drop)]
+struct GuestPlanner {
+    guest: u8,
+    lane: u8,
+    task: Task,
+    share: Share,
+}
+
+impl GuestPlanner {
+    // One that has put nothing into the log. Commands that were taken before it came are found first.
+    fn new(guest: u8, lane: u8) -> Self {
+        GuestPlanner {
+            guest,
+            lane,
+            task: Task::Search,
+            share: Share::new(),
+        }
+    }
+
+    // What is done under the lock: one event at most, and the next job.
+    fn turn(&mut self, world: &mut World, alloc: Global) -> Turn {
+        match self.task {
+            Task::Search => self.search(world, alloc),
+            Task::TakeUp => self.take_up(world, alloc),
+            Task::Plan(tag) => self.job(world, alloc, tag),
+            Task::Read(tag, addr, len) => self.read(world, alloc, tag, addr, len),
+            Task::GiveUp(tag) => self.give_up(world, alloc, tag),
+        }
+    }
+
+    // Goes on with what came of a job.
+    fn go_on<R: Wait>(&mut self, rt: &R, shared: &Shared, planned: Planned) {
+        self.task = match planned {
+            Planned::Need(job, addr, len) => Task::Read(job.tag, addr, len),
+            Planned::NoMemory(job) => Task::GiveUp(job.tag),
+            Planned::Plan(plan) => self.submit(&mut shared.world.lock(rt), plan),
+        };
+    }
+
+    // Hands a plan over. Where it is stale, or there was no memory, its job is looked at again.
+    fn submit(&mut self, world: &mut World, plan: Plan) -> Task {
+        let tag = plan.job().tag;
+        match self.share.submit(world, plan) {
+            Reply::Done => Task::TakeUp,
+            _ => Task::Plan(tag),
+        }
+    }
+
+    // Looks for a tag with a command of the guest's that was taken.
+    fn search(&mut self, world: &World, alloc: Global) -> Turn {
+        match self.found(world, alloc) {
+            Ok(Some(job)) => self.at(job),
+            Ok(None) => {
+                self.task = Task::TakeUp;
+                Turn::Done
+            }
+            Err(NoMemory) => Turn::Nothing,
+        }
+    }
+
+    // The job of the lowest tag with a command of the guest's that was taken. A tag that another planner's command has costs a copy of
+    // what was read for it.
+    fn found(&self, world: &World, alloc: Global) -> Result<Option<Job>, NoMemory> {
+        for tag in 0..TAGS {
+            if let Some(job) = world.job(alloc, self.lane, tag)? {
+                if job.guest == self.guest {
+                    return Ok(Some(job));
+                }
+            }
+        }
+        Ok(None)
+    }
+
+    // A job is to be planned.
+    fn at(&mut self, job: Job) -> Turn {
+        self.task = Task::Plan(job.tag);
+        Turn::Job(job)
+    }
+
+    // Takes up an admin command, or takes a command of a queue and looks for its tag.
+    fn take_up(&mut self, world: &mut World, alloc: Global) -> Turn {
+        let admin = Event::Admin(self.guest);
+        if world.due(&admin) {
+            return done(self.share.step(world, alloc, admin));
+        }
+        for queue in 1..=LAST_QUEUE {
+            let take = Event::Take(self.guest, queue, self.lane);
+            if world.due(&take) {
+                return self.take(world, alloc, take);
+            }
+        }
+        Turn::Nothing
+    }
+
+    // Takes a command, and looks for its tag.
+    fn take(&mut self, world: &mut World, alloc: Global, take: Event) -> Turn {
+        match self.share.step(world, alloc, take) {
+            Reply::Done => {
+                self.task = Task::Search;
+                self.search(world, alloc)
+            }
+            _ => Turn::Nothing,
+        }
+    }
+
+    // The job of a tag as it stands. Where the command was dropped, there is another to be taken up.
+    fn job(&mut self, world: &World, alloc: Global, tag: u8) -> Turn {
+        match world.job(alloc, self.lane, tag) {
+            Ok(Some(job)) => {
+                if job.guest == self.guest {
+                    return Turn::Job(job);
+                }
+                self.task = Task::TakeUp;
+                Turn::Done
+            }
+            Ok(None) => {
+                self.task = Task::TakeUp;
+                Turn::Done
+            }
+            Err(NoMemory) => Turn::Nothing,
+        }
+    }
+
+    // Reads bytes for the command of a tag, and gives its job with them.
+    fn read(&mut self, world: &mut World, alloc: Global, tag: u8, addr: u64, len: u64) -> Turn {
+        let list = Event::List(self.lane, tag, addr, len);
+        match self.share.step(world, alloc, list) {
+            Reply::NoMemory => Turn::Nothing,
+            _ => {
+                self.task = Task::Plan(tag);
+                self.job(world, alloc, tag)
+            }
+        }
+    }
+
+    // Gives up the command of a tag.
+    fn give_up(&mut self, world: &mut World, alloc: Global, tag: u8) -> Turn {
+        match self.share.step(world, alloc, Event::GiveUp(self.lane, tag)) {
+            Reply::NoMemory => Turn::Nothing,
+            _ => {
+                self.task = Task::TakeUp;
+                Turn::Done
+            }
+        }
+    }
+}
+
+// How a turn ends whose event was answered so.
+fn done(reply: Reply) -> Turn {
+    match reply {
+        Reply::NoMemory => Turn::Nothing,
+        _ => Turn::Done,
+    }
+}
