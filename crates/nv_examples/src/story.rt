@@ -4,14 +4,14 @@
 //! controller with a Read in flight, and has its queues deleted while a Flush is. Its neighbour gives garbage as commands and as lists, rings
 //! what isn't there, and reaches for what it was not given; one of its commands fails.
 
-ghost use Rattle.std.specs.Prelude.{◌≡◌, ℕ, ◌+◌, ◌<◌, true, slice_get, Some, None, is_some};
+ghost use Rattle.std.specs.Prelude.{◌≡◌, ℕ, ◌+◌, ◌<◌, true, false, slice_get, Some, None, is_some};
 ghost use Rattle.nv_world_model.specs.Agrees.{is_awaited};
 ghost use Rattle.nv_world_model.specs.Disciplined.{is_disciplined};
 ghost use Rattle.nv_world_model.specs.Headline.{IsPrivateRun, none_failed};
 ghost use Rattle.nv_world_model.specs.Log.{IsReplay};
 ghost use Rattle.nv_world_model.specs.PrivateSteps.{private_steps, seen_by};
 ghost use Rattle.nv_world_model.specs.SetUp.{refusal_of};
-ghost use Rattle.nv_examples.specs.Guests.{first, opened, set_up};
+ghost use Rattle.nv_examples.specs.Guests.{first, neighbour, opened, set_up};
 ghost use Rattle.nv_examples.specs.Story.{story};
 ghost use Rattle.nv_examples.specs.StoryRun.{block_at_end, bytes_at_end, bytes_at_places, controller_at_end, late_private, late_world, memory_in, seen_along, story_end, story_private, story_run, story_steps};
 
@@ -26,6 +26,9 @@ pub fn premises()
     ensures no_command_of_its_own_failed { none_failed set_up.geometry 0 story opened ≡ true }
     // The first guest keeps to its discipline in each state.
     ensures the_guest_is_disciplined { is_disciplined set_up.geometry 0 first story opened ≡ true }
+    // Neither premise holds of its neighbour, and none need.
+    ensures its_neighbours_failed { none_failed set_up.geometry 1 story opened ≡ false }
+    ensures its_neighbour_is_not_disciplined { is_disciplined set_up.geometry 1 neighbour story opened ≡ false }
 {}
 
 /// Its private run, a clause each.
