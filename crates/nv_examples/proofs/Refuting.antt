@@ -68,4 +68,3 @@ below_two-0 = omega arith
 
 pub below_two-1 : 1 < 2
 below_two-1 = omega arith
-

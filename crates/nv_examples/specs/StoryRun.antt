@@ -1,5 +1,5 @@
 -- The private run of the whole log, written out, and where it ends
-use Rattle.std.specs.Prelude.{ℕ, true, List, [], ◌∷◌, ◌++◌, map, replicate, Option, Some, None}
+use Rattle.std.specs.Prelude.{ℕ, true, List, [], ◌∷◌, ◌++◌, map, replicate, take, Option, Some, None}
 use Rattle.nv_model.specs.Controller.{Controller, opening}
 use Rattle.nv_model.specs.Queue.{new_completion, new_submission}
 use Rattle.nv_model.specs.declared.act.Act.TheVariants as act
@@ -7,7 +7,9 @@ use Rattle.nv_model.specs.Memory.{bytes_from, image, stored}
 use Rattle.nv_model.specs.Private.{ActStep, AdminQueueStep, JudgeStep, KeepStep, MoveStep, PostStep, Private, Run, RunOutStep, Seen, Step, TakeStep, run_of, start}
 use Rattle.nv_world_model.specs.Geometry.{regions_of, shape_of}
 use Rattle.nv_world_model.specs.Log.{events_of}
+use Rattle.nv_world_model.specs.PrivateSteps.{private_steps}
 use Rattle.nv_world_model.specs.Step.{replay}
+use Rattle.nv_world_model.specs.declared.logged.Logged.{Logged}
 use Rattle.nv_world_model.specs.World.{World}
 use Rattle.nv_examples.specs.Guests.{create_completion_queue, create_submission_queue, delete_completion_queue, delete_submission_queue, first, flush, opened, read, read_by_prp, set_up, write}
 use Rattle.nv_examples.specs.Story.{story}
@@ -115,3 +117,15 @@ controller_at_end =
       submission = Some (record (new_submission 0 8 0) { head = 4; tail = 4 }) ∷ replicate 8 None;
       completion_queues = Some (record (new_completion 0x1000 8) { head = 2; tail = 4 }) ∷ replicate 8 None;
     }
+
+-- ---- on the way
+
+-- the log up to where the bounced Read's block has moved, and both ends then
+abbrev pub up_to_late : List Logged
+up_to_late = take 56 story
+
+abbrev pub late_world : World
+late_world = replay set_up.geometry (events_of up_to_late) opened
+
+abbrev pub late_private : Private
+late_private = behind_run (run_of (shape_of first) (private_steps set_up.geometry 0 first up_to_late opened) start)

@@ -6,8 +6,18 @@
 //! store into an entry that is rung and not taken, and a destination over its command's own list or entry, are forbidden so that what is
 //! named stays what it is: in both worlds the command is the same.
 
-ghost use Rattle.std.specs.Prelude.{◌≡◌, [], ◌∷◌, true, false};
-ghost use Rattle.nv_examples.specs.Breaches.{HasPrivateRun, byte_named_twice, clauses_kept, destination_in_destination, entry_in_destination, is_disciplined_in, list_in_destination, load_from_destination, none_failed_in, slot_in_destination, slot_in_list, slot_in_source, source_in_destination, store_into_destination, store_into_list, store_into_source};
+ghost use Rattle.std.specs.Prelude.{◌≡◌, ◌&&◌, ℕ, List, [], ◌∷◌, Option, true, false};
+ghost use Rattle.nv_model.specs.Footprint.{Named};
+ghost use Rattle.nv_model.specs.declared.act.Act.{Act};
+ghost use Rattle.nv_world_model.specs.Disciplined.{keeps_to};
+ghost use Rattle.nv_examples.specs.Breaches.{HasPrivateRun, byte_named_twice, clauses_kept, destination_in_destination, entry_in_destination, has_no_slot, is_disciplined_in, list_in_destination, load_from_destination, loads_elsewhere, none_failed_in, shares_none, slot_in_destination, slot_in_list, slot_in_source, source_in_destination, store_into_destination, store_into_list, store_into_source, stores_elsewhere};
+
+/// In a state the four clauses together are what the definition asks.
+#[tactic(none)]
+pub fn the_four_clauses()
+    ensures { (a : Option Act) (commands : List (List Named)) (slots : List (ℕ × ℕ)) → keeps_to a commands slots
+        ≡ ((shares_none a commands slots && has_no_slot a commands slots) && (stores_elsewhere a commands slots && loads_elsewhere a commands slots)) }
+{}
 
 /// A store into a source: the world writes what was there before, the private controller what is there now.
 #[tactic(none)]

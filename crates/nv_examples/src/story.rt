@@ -4,28 +4,31 @@
 //! controller with a Read in flight, and has its queues deleted while a Flush is. Its neighbour gives garbage as commands and as lists, rings
 //! what isn't there, and reaches for what it was not given; one of its commands fails.
 
-ghost use Rattle.std.specs.Prelude.{◌≡◌, ℕ, [], ◌∷◌, true, map, slice_get, Some, None, is_some};
+ghost use Rattle.std.specs.Prelude.{◌≡◌, ℕ, ◌+◌, ◌<◌, true, false, slice_get, Some, None, is_some};
+ghost use Rattle.nv_world_model.specs.Agrees.{is_awaited};
 ghost use Rattle.nv_world_model.specs.Disciplined.{is_disciplined};
-ghost use Rattle.nv_world_model.specs.Headline.{none_failed};
-ghost use Rattle.nv_world_model.specs.Log.{events_of, replies_of};
+ghost use Rattle.nv_world_model.specs.Headline.{IsPrivateRun, none_failed};
+ghost use Rattle.nv_world_model.specs.Log.{IsReplay};
 ghost use Rattle.nv_world_model.specs.PrivateSteps.{private_steps, seen_by};
 ghost use Rattle.nv_world_model.specs.SetUp.{refusal_of};
-ghost use Rattle.nv_world_model.specs.Step.{replies};
-ghost use Rattle.nv_examples.specs.Guests.{first, opened, set_up};
+ghost use Rattle.nv_examples.specs.Guests.{first, neighbour, opened, set_up};
 ghost use Rattle.nv_examples.specs.Story.{story};
-ghost use Rattle.nv_examples.specs.StoryRun.{block_at_end, bytes_at_end, bytes_at_places, controller_at_end, memory_in, seen_along, story_end, story_private, story_run, story_steps};
+ghost use Rattle.nv_examples.specs.StoryRun.{block_at_end, bytes_at_end, bytes_at_places, controller_at_end, late_private, late_world, memory_in, seen_along, story_end, story_private, story_run, story_steps};
 
 /// The log's premises, a clause each.
 #[tactic(none)]
 pub fn premises()
     // The set-up is accepted.
     ensures the_set_up_is_accepted { refusal_of set_up ≡ None }
-    // Each reply of the log is the world's.
-    ensures the_replies_are_the_worlds { replies set_up.geometry (events_of story) opened ≡ replies_of story }
+    // The log leads from the start to its end, and each of its replies is the world's.
+    ensures the_log_is_a_replay { IsReplay set_up.geometry opened story story_end }
     // The physical controller fails no command of the first guest, although it fails one of its neighbour.
     ensures no_command_of_its_own_failed { none_failed set_up.geometry 0 story opened ≡ true }
     // The first guest keeps to its discipline in each state.
     ensures the_guest_is_disciplined { is_disciplined set_up.geometry 0 first story opened ≡ true }
+    // Neither premise holds of its neighbour, and none need.
+    ensures its_neighbours_failed { none_failed set_up.geometry 1 story opened ≡ false }
+    ensures its_neighbour_is_not_disciplined { is_disciplined set_up.geometry 1 neighbour story opened ≡ false }
 {}
 
 /// Its private run, a clause each.
@@ -49,6 +52,21 @@ pub fn private_run()
     ensures the_second_block { (offset : ℕ) → story_private.disk 1 offset ≡ 0 }
     ensures the_second_block_of_the_disk { (offset : ℕ) → story_end.disk 3 offset ≡ 0 }
     // Both are kept.
-    ensures the_marks { map story_private.kept (0 ∷ 1 ∷ []) ≡ true ∷ true ∷ [] }
-    ensures the_marks_of_the_disk { map story_end.kept (2 ∷ 3 ∷ []) ≡ true ∷ true ∷ [] }
+    ensures the_marks { (lba : ℕ) → lba < 2 → story_private.kept lba ≡ true }
+    ensures the_marks_of_the_disk { (lba : ℕ) → lba < 2 → story_end.kept (2 + lba) ≡ true }
+{}
+
+/// What is promised, computed: the log's steps are that run, the guest sees in it what was logged, and it ends in a state that agrees with the
+/// world behind the log, in every byte, block and mark.
+#[tactic(none)]
+pub fn the_promise()
+    ensures { IsPrivateRun set_up.geometry 0 first story opened story_end }
+{}
+
+/// Where the block of the bounced Read has moved, the private controller's buffer has its bytes, the guest's has not yet, and they are awaited.
+#[tactic(none)]
+pub fn bytes_that_come_late()
+    ensures they_have_moved { late_private.memory 0x0c01 ≡ 7 }
+    ensures they_have_not_come { memory_in late_world 0x0c01 ≡ 0 }
+    ensures they_are_awaited { is_awaited 0 first late_world 0x0c01 ≡ true }
 {}

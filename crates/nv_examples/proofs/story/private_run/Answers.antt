@@ -1,82 +1,41 @@
-use Rattle.std.proofs.Common.{refl}
-use Rattle.nv_entry.specs.Layout.{number_at, dword, qword, bits, bytes_of_dwords}
-use Rattle.nv_entry.specs.Completion.{completion}
-use Rattle.nv_mem.specs.GuestMap.{everywhere}
-use Rattle.nv_mem.specs.Places.{addresses}
-use Rattle.nv_model.specs.Memory.{bytes_from, gathered, image, put_image, scattered, stored}
-use Rattle.nv_model.specs.Dialogue.{in_memory, and_then, asked}
-use Rattle.nv_model.specs.Transcript.{first_read, in_transcript}
-use Rattle.nv_model.specs.Sgl.{read_array, read_sgl}
-use Rattle.nv_model.specs.Prp.{read_entries}
-use Rattle.nv_model.specs.Judge.{read_source, ranges_in, move_units, clear_units, range_units, judge}
-use Rattle.nv_model.specs.Carried.{units_moved}
-use Rattle.nv_model.specs.Controller.{opening, register, reg_write, doorbell, front, took, post, ran_out}
-use Rattle.nv_model.specs.Private.{differs, start, step as private_step, run_of}
-use Rattle.nv_model.specs.Footprint.{footprints, completion_slots, stores_into, loads_from_destination}
-use Rattle.nv_model.specs.Admin.{admin_command, admin}
-use Rattle.nv_prp.specs.Fits.{hosts_of, fit_behind}
-use Rattle.nv_prp.specs.Built.{built}
-use Rattle.nv_world_model.specs.Plan.{plan_over}
-use Rattle.nv_world_model.specs.Area.{physical_entry, written}
-use Rattle.nv_world_model.specs.Device.{held_of, device_unit, completion_written}
-use Rattle.nv_world_model.specs.Seat.{units_behind, members, seat, put_back}
-use Rattle.nv_world_model.specs.Step.{acted_in, administered_in, taken_to, listed, ended_at_once, submitted, device_took, device_moved, device_posted, kept_block, reaped, scattered_to, posted_to, ran_out_of, step, replay, replies}
-use Rattle.nv_world_model.specs.World.{opening_world}
-use Rattle.nv_world_model.specs.SetUp.{refusal_of}
-use Rattle.nv_world_model.specs.Headline.{none_failed}
-use Rattle.nv_world_model.specs.Disciplined.{is_disciplined, taken_entries}
-use Rattle.nv_world_model.specs.PrivateSteps.{private_steps, seen_by}
-use Rattle.nv_examples.specs.Logs.{logged}
+use Rattle.nv_examples.proofs.StoryFacts.{the-steps, can-be-made, seen-logged, controller-private, controller-world, bytes-private, bytes-world, block-0, disk-2, block-1, disk-3, marks, disk_marks}
 use Rattle.nv_examples.proofs.story.private_run.Goals as goal
 
 pub returns-clause-the_steps : goal.returns-clause-the_steps
-unfolding number_at dword qword bits bytes_of_dwords completion everywhere addresses bytes_from gathered image put_image scattered stored in_memory and_then asked first_read in_transcript read_array read_sgl read_entries read_source ranges_in move_units clear_units range_units judge units_moved opening register reg_write doorbell front took post ran_out differs start private_step run_of footprints completion_slots stores_into loads_from_destination admin_command admin hosts_of fit_behind built plan_over physical_entry written held_of device_unit completion_written units_behind members seat put_back acted_in administered_in taken_to listed ended_at_once submitted device_took device_moved device_posted kept_block reaped scattered_to posted_to ran_out_of step replay replies opening_world refusal_of none_failed is_disciplined taken_entries private_steps seen_by logged
-returns-clause-the_steps c = refl
+returns-clause-the_steps c = the-steps
 
 pub returns-clause-they_can_be_made : goal.returns-clause-they_can_be_made
-unfolding number_at dword qword bits bytes_of_dwords completion everywhere addresses bytes_from gathered image put_image scattered stored in_memory and_then asked first_read in_transcript read_array read_sgl read_entries read_source ranges_in move_units clear_units range_units judge units_moved opening register reg_write doorbell front took post ran_out differs start private_step run_of footprints completion_slots stores_into loads_from_destination admin_command admin hosts_of fit_behind built plan_over physical_entry written held_of device_unit completion_written units_behind members seat put_back acted_in administered_in taken_to listed ended_at_once submitted device_took device_moved device_posted kept_block reaped scattered_to posted_to ran_out_of step replay replies opening_world refusal_of none_failed is_disciplined taken_entries private_steps seen_by logged
-returns-clause-they_can_be_made c = refl
+returns-clause-they_can_be_made c = can-be-made
 
 pub returns-clause-the_guest_sees_what_was_logged : goal.returns-clause-the_guest_sees_what_was_logged
-unfolding number_at dword qword bits bytes_of_dwords completion everywhere addresses bytes_from gathered image put_image scattered stored in_memory and_then asked first_read in_transcript read_array read_sgl read_entries read_source ranges_in move_units clear_units range_units judge units_moved opening register reg_write doorbell front took post ran_out differs start private_step run_of footprints completion_slots stores_into loads_from_destination admin_command admin hosts_of fit_behind built plan_over physical_entry written held_of device_unit completion_written units_behind members seat put_back acted_in administered_in taken_to listed ended_at_once submitted device_took device_moved device_posted kept_block reaped scattered_to posted_to ran_out_of step replay replies opening_world refusal_of none_failed is_disciplined taken_entries private_steps seen_by logged
-returns-clause-the_guest_sees_what_was_logged c = refl
+returns-clause-the_guest_sees_what_was_logged c = seen-logged
 
 pub returns-clause-the_controller : goal.returns-clause-the_controller
-unfolding number_at dword qword bits bytes_of_dwords completion everywhere addresses bytes_from gathered image put_image scattered stored in_memory and_then asked first_read in_transcript read_array read_sgl read_entries read_source ranges_in move_units clear_units range_units judge units_moved opening register reg_write doorbell front took post ran_out differs start private_step run_of footprints completion_slots stores_into loads_from_destination admin_command admin hosts_of fit_behind built plan_over physical_entry written held_of device_unit completion_written units_behind members seat put_back acted_in administered_in taken_to listed ended_at_once submitted device_took device_moved device_posted kept_block reaped scattered_to posted_to ran_out_of step replay replies opening_world refusal_of none_failed is_disciplined taken_entries private_steps seen_by logged
-returns-clause-the_controller c = refl
+returns-clause-the_controller c = controller-private
 
 pub returns-clause-the_controller_in_the_world : goal.returns-clause-the_controller_in_the_world
-unfolding number_at dword qword bits bytes_of_dwords completion everywhere addresses bytes_from gathered image put_image scattered stored in_memory and_then asked first_read in_transcript read_array read_sgl read_entries read_source ranges_in move_units clear_units range_units judge units_moved opening register reg_write doorbell front took post ran_out differs start private_step run_of footprints completion_slots stores_into loads_from_destination admin_command admin hosts_of fit_behind built plan_over physical_entry written held_of device_unit completion_written units_behind members seat put_back acted_in administered_in taken_to listed ended_at_once submitted device_took device_moved device_posted kept_block reaped scattered_to posted_to ran_out_of step replay replies opening_world refusal_of none_failed is_disciplined taken_entries private_steps seen_by logged
-returns-clause-the_controller_in_the_world c = refl
+returns-clause-the_controller_in_the_world c = controller-world
 
 pub returns-clause-the_memory : goal.returns-clause-the_memory
-unfolding number_at dword qword bits bytes_of_dwords completion everywhere addresses bytes_from gathered image put_image scattered stored in_memory and_then asked first_read in_transcript read_array read_sgl read_entries read_source ranges_in move_units clear_units range_units judge units_moved opening register reg_write doorbell front took post ran_out differs start private_step run_of footprints completion_slots stores_into loads_from_destination admin_command admin hosts_of fit_behind built plan_over physical_entry written held_of device_unit completion_written units_behind members seat put_back acted_in administered_in taken_to listed ended_at_once submitted device_took device_moved device_posted kept_block reaped scattered_to posted_to ran_out_of step replay replies opening_world refusal_of none_failed is_disciplined taken_entries private_steps seen_by logged
-returns-clause-the_memory c = refl
+returns-clause-the_memory c = bytes-private
 
 pub returns-clause-the_memory_in_the_world : goal.returns-clause-the_memory_in_the_world
-unfolding number_at dword qword bits bytes_of_dwords completion everywhere addresses bytes_from gathered image put_image scattered stored in_memory and_then asked first_read in_transcript read_array read_sgl read_entries read_source ranges_in move_units clear_units range_units judge units_moved opening register reg_write doorbell front took post ran_out differs start private_step run_of footprints completion_slots stores_into loads_from_destination admin_command admin hosts_of fit_behind built plan_over physical_entry written held_of device_unit completion_written units_behind members seat put_back acted_in administered_in taken_to listed ended_at_once submitted device_took device_moved device_posted kept_block reaped scattered_to posted_to ran_out_of step replay replies opening_world refusal_of none_failed is_disciplined taken_entries private_steps seen_by logged
-returns-clause-the_memory_in_the_world c = refl
+returns-clause-the_memory_in_the_world c = bytes-world
 
 pub returns-clause-the_first_block : goal.returns-clause-the_first_block
-unfolding number_at dword qword bits bytes_of_dwords completion everywhere addresses bytes_from gathered image put_image scattered stored in_memory and_then asked first_read in_transcript read_array read_sgl read_entries read_source ranges_in move_units clear_units range_units judge units_moved opening register reg_write doorbell front took post ran_out differs start private_step run_of footprints completion_slots stores_into loads_from_destination admin_command admin hosts_of fit_behind built plan_over physical_entry written held_of device_unit completion_written units_behind members seat put_back acted_in administered_in taken_to listed ended_at_once submitted device_took device_moved device_posted kept_block reaped scattered_to posted_to ran_out_of step replay replies opening_world refusal_of none_failed is_disciplined taken_entries private_steps seen_by logged
-returns-clause-the_first_block c offset = refl
+returns-clause-the_first_block c = block-0
 
 pub returns-clause-the_first_block_of_the_disk : goal.returns-clause-the_first_block_of_the_disk
-unfolding number_at dword qword bits bytes_of_dwords completion everywhere addresses bytes_from gathered image put_image scattered stored in_memory and_then asked first_read in_transcript read_array read_sgl read_entries read_source ranges_in move_units clear_units range_units judge units_moved opening register reg_write doorbell front took post ran_out differs start private_step run_of footprints completion_slots stores_into loads_from_destination admin_command admin hosts_of fit_behind built plan_over physical_entry written held_of device_unit completion_written units_behind members seat put_back acted_in administered_in taken_to listed ended_at_once submitted device_took device_moved device_posted kept_block reaped scattered_to posted_to ran_out_of step replay replies opening_world refusal_of none_failed is_disciplined taken_entries private_steps seen_by logged
-returns-clause-the_first_block_of_the_disk c offset = refl
+returns-clause-the_first_block_of_the_disk c = disk-2
 
 pub returns-clause-the_second_block : goal.returns-clause-the_second_block
-unfolding number_at dword qword bits bytes_of_dwords completion everywhere addresses bytes_from gathered image put_image scattered stored in_memory and_then asked first_read in_transcript read_array read_sgl read_entries read_source ranges_in move_units clear_units range_units judge units_moved opening register reg_write doorbell front took post ran_out differs start private_step run_of footprints completion_slots stores_into loads_from_destination admin_command admin hosts_of fit_behind built plan_over physical_entry written held_of device_unit completion_written units_behind members seat put_back acted_in administered_in taken_to listed ended_at_once submitted device_took device_moved device_posted kept_block reaped scattered_to posted_to ran_out_of step replay replies opening_world refusal_of none_failed is_disciplined taken_entries private_steps seen_by logged
-returns-clause-the_second_block c offset = refl
+returns-clause-the_second_block c = block-1
 
 pub returns-clause-the_second_block_of_the_disk : goal.returns-clause-the_second_block_of_the_disk
-unfolding number_at dword qword bits bytes_of_dwords completion everywhere addresses bytes_from gathered image put_image scattered stored in_memory and_then asked first_read in_transcript read_array read_sgl read_entries read_source ranges_in move_units clear_units range_units judge units_moved opening register reg_write doorbell front took post ran_out differs start private_step run_of footprints completion_slots stores_into loads_from_destination admin_command admin hosts_of fit_behind built plan_over physical_entry written held_of device_unit completion_written units_behind members seat put_back acted_in administered_in taken_to listed ended_at_once submitted device_took device_moved device_posted kept_block reaped scattered_to posted_to ran_out_of step replay replies opening_world refusal_of none_failed is_disciplined taken_entries private_steps seen_by logged
-returns-clause-the_second_block_of_the_disk c offset = refl
+returns-clause-the_second_block_of_the_disk c = disk-3
 
 pub returns-clause-the_marks : goal.returns-clause-the_marks
-unfolding number_at dword qword bits bytes_of_dwords completion everywhere addresses bytes_from gathered image put_image scattered stored in_memory and_then asked first_read in_transcript read_array read_sgl read_entries read_source ranges_in move_units clear_units range_units judge units_moved opening register reg_write doorbell front took post ran_out differs start private_step run_of footprints completion_slots stores_into loads_from_destination admin_command admin hosts_of fit_behind built plan_over physical_entry written held_of device_unit completion_written units_behind members seat put_back acted_in administered_in taken_to listed ended_at_once submitted device_took device_moved device_posted kept_block reaped scattered_to posted_to ran_out_of step replay replies opening_world refusal_of none_failed is_disciplined taken_entries private_steps seen_by logged
-returns-clause-the_marks c = refl
+returns-clause-the_marks c = marks
 
 pub returns-clause-the_marks_of_the_disk : goal.returns-clause-the_marks_of_the_disk
-unfolding number_at dword qword bits bytes_of_dwords completion everywhere addresses bytes_from gathered image put_image scattered stored in_memory and_then asked first_read in_transcript read_array read_sgl read_entries read_source ranges_in move_units clear_units range_units judge units_moved opening register reg_write doorbell front took post ran_out differs start private_step run_of footprints completion_slots stores_into loads_from_destination admin_command admin hosts_of fit_behind built plan_over physical_entry written held_of device_unit completion_written units_behind members seat put_back acted_in administered_in taken_to listed ended_at_once submitted device_took device_moved device_posted kept_block reaped scattered_to posted_to ran_out_of step replay replies opening_world refusal_of none_failed is_disciplined taken_entries private_steps seen_by logged
-returns-clause-the_marks_of_the_disk c = refl
+returns-clause-the_marks_of_the_disk c = disk_marks

@@ -1,0 +1,289 @@
+-- The host along the whole log, written out piece by piece: what each piece does to it, as changes
+use Rattle.std.proofs.Common.{◌≡◌, ℕ, true, false, List, [], ◌∷◌, replicate, take, drop, refl}
+use Rattle.nv_entry.specs.Status.{StatusField}
+use Rattle.nv_entry.specs.StatusCode.{done_with, refused_with}
+use Rattle.nv_entry.specs.declared.status_code.StatusCode.TheVariants.{InvalidField, SglLengthInvalid, Success}
+use Rattle.nv_model.specs.Rows.{last_segment}
+use Rattle.nv_world_model.specs.Log.{events_of}
+use Rattle.nv_world_model.specs.World.{World, with_host}
+use Rattle.nv_world_model.specs.declared.event.Event.{Event}
+use Rattle.nv_examples.specs.Guests.{by_sgl, create_completion_queue, create_submission_queue, delete_completion_queue, delete_submission_queue, flush, opened, read, read_by_prp, set_up, write}
+use Rattle.nv_examples.specs.Story.{story}
+use Rattle.nv_examples.proofs.Changes.{Area, AreaSpread, Change, Direct, OtherSame, OtherStore, OwnSame, OwnSpread, OwnStore, all_changed, all_spans, changed, laid}
+use Rattle.nv_entry.specs.Layout.{number_at, dword, qword, bits, bytes_of_dwords}
+use Rattle.nv_entry.specs.Completion.{completion}
+use Rattle.nv_mem.specs.GuestMap.{everywhere}
+use Rattle.nv_mem.specs.Places.{addresses}
+use Rattle.nv_model.specs.Memory.{bytes_from, gathered, image, put_image, scattered, stored}
+use Rattle.nv_model.specs.Dialogue.{in_memory, and_then, asked}
+use Rattle.nv_model.specs.Transcript.{first_read, in_transcript}
+use Rattle.nv_model.specs.Sgl.{read_array, read_sgl}
+use Rattle.nv_model.specs.Prp.{read_entries}
+use Rattle.nv_model.specs.Judge.{read_source, ranges_in, move_units, clear_units, range_units, judge}
+use Rattle.nv_model.specs.Carried.{units_moved}
+use Rattle.nv_model.specs.Controller.{opening, register, reg_write, doorbell, front, took, post, ran_out}
+use Rattle.nv_model.specs.Private.{differs, start, step as private_step, run_of}
+use Rattle.nv_model.specs.Footprint.{footprints, completion_slots, stores_into, loads_from_destination}
+use Rattle.nv_model.specs.Admin.{admin_command, admin}
+use Rattle.nv_prp.specs.Fits.{hosts_of, fit_behind}
+use Rattle.nv_prp.specs.Built.{built}
+use Rattle.nv_world_model.specs.Plan.{plan_over}
+use Rattle.nv_world_model.specs.Area.{physical_entry, written}
+use Rattle.nv_world_model.specs.Device.{held_of, device_unit, completion_written}
+use Rattle.nv_world_model.specs.Seat.{units_behind, members, seat, put_back}
+use Rattle.nv_world_model.specs.Step.{acted_in, administered_in, taken_to, listed, ended_at_once, submitted, device_took, device_moved, device_posted, kept_block, reaped, scattered_to, posted_to, ran_out_of, step, replay, replies}
+use Rattle.nv_world_model.specs.World.{opening_world}
+use Rattle.nv_world_model.specs.SetUp.{refusal_of}
+use Rattle.nv_world_model.specs.Headline.{none_failed}
+use Rattle.nv_world_model.specs.Disciplined.{is_disciplined, taken_entries}
+use Rattle.nv_world_model.specs.PrivateSteps.{private_steps, seen_by}
+use Rattle.nv_examples.specs.Logs.{logged}
+
+-- ---- words
+
+abbrev ok : StatusField
+ok = done_with Success
+
+-- a physical entry that names no list
+abbrev handed_on : (opcode tag prp1 : ℕ) → List ℕ → List ℕ
+handed_on opcode tag prp1 dwords = physical_entry opcode tag (record { prp1 = prp1; prp2 = 0; list = replicate 32 0; used = 0 }) dwords
+
+-- the bytes of the block that was written
+abbrev block_bytes : List ℕ
+block_bytes = 7 ∷ 8 ∷ 9 ∷ replicate 509 0
+
+-- so many events of the log, behind so many
+abbrev pub part : (from count : ℕ) → List Event
+part from count = take count (drop from (events_of story))
+
+-- the world behind some events, its host being laid out by these changes
+unfoldable pub behind : List Event → List Change → World → World
+behind events cs w = with_host (laid (all_spans cs) w.host) (replay set_up.geometry events w)
+
+-- ---- piece 1
+
+abbrev pub changes_1 : List Change
+changes_1 =
+    OwnStore 0x0000 (create_completion_queue 2)
+    ∷ OwnStore 0x0040 (create_submission_queue 4)
+    ∷ OwnSame
+    ∷ OwnSame
+    ∷ OwnSame ∷ []
+
+unfoldable pub world_1 : World
+world_1 = behind (part 0 6) changes_1 opened
+
+pub host_1 : (replay set_up.geometry (part 0 6) opened).host ≡ all_changed changes_1 (opened).host
+unfolding number_at dword qword bits bytes_of_dwords completion everywhere addresses bytes_from gathered image put_image scattered stored in_memory and_then asked first_read in_transcript read_array read_sgl read_entries read_source ranges_in move_units clear_units range_units judge units_moved opening register reg_write doorbell front took post ran_out differs start private_step run_of footprints completion_slots stores_into loads_from_destination admin_command admin hosts_of fit_behind built plan_over physical_entry written held_of device_unit completion_written units_behind members seat put_back acted_in administered_in taken_to listed ended_at_once submitted device_took device_moved device_posted kept_block reaped scattered_to posted_to ran_out_of step replay replies opening_world refusal_of none_failed is_disciplined taken_entries private_steps seen_by logged all_changed changed laid behind
+host_1 = refl
+
+-- ---- piece 2
+
+abbrev pub changes_2 : List Change
+changes_2 =
+    OwnSame
+    ∷ OwnStore 0x1000 (completion 0 1 0 1 true ok)
+    ∷ OwnStore 0x1010 (completion 0 2 0 2 true ok)
+    ∷ OwnSame
+    ∷ OtherSame ∷ []
+
+unfoldable pub world_2 : World
+world_2 = behind (part 6 6) changes_2 world_1
+
+pub host_2 : (replay set_up.geometry (part 6 6) world_1).host ≡ all_changed changes_2 world_1.host
+unfolding number_at dword qword bits bytes_of_dwords completion everywhere addresses bytes_from gathered image put_image scattered stored in_memory and_then asked first_read in_transcript read_array read_sgl read_entries read_source ranges_in move_units clear_units range_units judge units_moved opening register reg_write doorbell front took post ran_out differs start private_step run_of footprints completion_slots stores_into loads_from_destination admin_command admin hosts_of fit_behind built plan_over physical_entry written held_of device_unit completion_written units_behind members seat put_back acted_in administered_in taken_to listed ended_at_once submitted device_took device_moved device_posted kept_block reaped scattered_to posted_to ran_out_of step replay replies opening_world refusal_of none_failed is_disciplined taken_entries private_steps seen_by logged all_changed changed laid behind world_1
+host_2 = refl
+
+-- ---- piece 3
+
+abbrev pub changes_3 : List Change
+changes_3 =
+    OtherSame
+    ∷ OtherSame
+    ∷ OtherStore 0x0000 (replicate 64 0xff)
+    ∷ OtherSame
+    ∷ OtherStore 0x1000 (completion 0 1 0 65535 true (refused_with InvalidField)) ∷ []
+
+unfoldable pub world_3 : World
+world_3 = behind (part 12 9) changes_3 world_2
+
+pub host_3 : (replay set_up.geometry (part 12 9) world_2).host ≡ all_changed changes_3 world_2.host
+unfolding number_at dword qword bits bytes_of_dwords completion everywhere addresses bytes_from gathered image put_image scattered stored in_memory and_then asked first_read in_transcript read_array read_sgl read_entries read_source ranges_in move_units clear_units range_units judge units_moved opening register reg_write doorbell front took post ran_out differs start private_step run_of footprints completion_slots stores_into loads_from_destination admin_command admin hosts_of fit_behind built plan_over physical_entry written held_of device_unit completion_written units_behind members seat put_back acted_in administered_in taken_to listed ended_at_once submitted device_took device_moved device_posted kept_block reaped scattered_to posted_to ran_out_of step replay replies opening_world refusal_of none_failed is_disciplined taken_entries private_steps seen_by logged all_changed changed laid behind world_1 world_2
+host_3 = refl
+
+-- ---- piece 4
+
+abbrev pub changes_4 : List Change
+changes_4 =
+    OtherStore 0x0040 (create_completion_queue 2)
+    ∷ OtherStore 0x0080 (create_submission_queue 4)
+    ∷ OtherSame
+    ∷ OtherStore 0x1010 (completion 0 2 0 1 true ok)
+    ∷ OtherStore 0x1020 (completion 0 3 0 2 true ok) ∷ []
+
+unfoldable pub world_4 : World
+world_4 = behind (part 21 5) changes_4 world_3
+
+pub host_4 : (replay set_up.geometry (part 21 5) world_3).host ≡ all_changed changes_4 world_3.host
+unfolding number_at dword qword bits bytes_of_dwords completion everywhere addresses bytes_from gathered image put_image scattered stored in_memory and_then asked first_read in_transcript read_array read_sgl read_entries read_source ranges_in move_units clear_units range_units judge units_moved opening register reg_write doorbell front took post ran_out differs start private_step run_of footprints completion_slots stores_into loads_from_destination admin_command admin hosts_of fit_behind built plan_over physical_entry written held_of device_unit completion_written units_behind members seat put_back acted_in administered_in taken_to listed ended_at_once submitted device_took device_moved device_posted kept_block reaped scattered_to posted_to ran_out_of step replay replies opening_world refusal_of none_failed is_disciplined taken_entries private_steps seen_by logged all_changed changed laid behind world_1 world_2 world_3
+host_4 = refl
+
+-- ---- piece 5
+
+abbrev pub changes_5 : List Change
+changes_5 =
+    OwnStore 0x0800 (7 ∷ 8 ∷ 9 ∷ [])
+    ∷ OwnStore 0x3000 (write 3 0 0x0800)
+    ∷ OwnSame
+    ∷ OtherStore 0x3000 (by_sgl 0x02 3 0 0 (last_segment 0x3800 16))
+    ∷ OtherSame
+    ∷ Area 0x33000 []
+    ∷ Area 0x34000 []
+    ∷ Area 0x30000 (handed_on 0x01 0 0x10800 (2 ∷ 0 ∷ 0 ∷ [])) ∷ []
+
+unfoldable pub world_5 : World
+world_5 = behind (part 26 9) changes_5 world_4
+
+pub host_5 : (replay set_up.geometry (part 26 9) world_4).host ≡ all_changed changes_5 world_4.host
+unfolding number_at dword qword bits bytes_of_dwords completion everywhere addresses bytes_from gathered image put_image scattered stored in_memory and_then asked first_read in_transcript read_array read_sgl read_entries read_source ranges_in move_units clear_units range_units judge units_moved opening register reg_write doorbell front took post ran_out differs start private_step run_of footprints completion_slots stores_into loads_from_destination admin_command admin hosts_of fit_behind built plan_over physical_entry written held_of device_unit completion_written units_behind members seat put_back acted_in administered_in taken_to listed ended_at_once submitted device_took device_moved device_posted kept_block reaped scattered_to posted_to ran_out_of step replay replies opening_world refusal_of none_failed is_disciplined taken_entries private_steps seen_by logged all_changed changed laid behind world_1 world_2 world_3 world_4
+host_5 = refl
+
+-- ---- piece 6
+
+abbrev pub changes_6 : List Change
+changes_6 =
+    OtherStore 0x3800 (replicate 16 0xee)
+    ∷ Area 0x32000 (completion 0 1 1 0 true ok)
+    ∷ OtherStore 0x2000 (completion 0 1 1 3 true (refused_with SglLengthInvalid))
+    ∷ OwnStore 0x2000 (completion 0 1 1 3 true ok)
+    ∷ OwnSame
+    ∷ OwnStore 0x3040 (read_by_prp 4 0 0x0a00) ∷ []
+
+unfoldable pub world_6 : World
+world_6 = behind (part 35 12) changes_6 world_5
+
+pub host_6 : (replay set_up.geometry (part 35 12) world_5).host ≡ all_changed changes_6 world_5.host
+unfolding number_at dword qword bits bytes_of_dwords completion everywhere addresses bytes_from gathered image put_image scattered stored in_memory and_then asked first_read in_transcript read_array read_sgl read_entries read_source ranges_in move_units clear_units range_units judge units_moved opening register reg_write doorbell front took post ran_out differs start private_step run_of footprints completion_slots stores_into loads_from_destination admin_command admin hosts_of fit_behind built plan_over physical_entry written held_of device_unit completion_written units_behind members seat put_back acted_in administered_in taken_to listed ended_at_once submitted device_took device_moved device_posted kept_block reaped scattered_to posted_to ran_out_of step replay replies opening_world refusal_of none_failed is_disciplined taken_entries private_steps seen_by logged all_changed changed laid behind world_1 world_2 world_3 world_4 world_5
+host_6 = refl
+
+-- ---- piece 7
+
+abbrev pub changes_7 : List Change
+changes_7 =
+    OwnStore 0x3080 (read 5 0 0x0c01)
+    ∷ OwnSame
+    ∷ Area 0x54000 []
+    ∷ Area 0x55000 []
+    ∷ Area 0x30040 (handed_on 0x02 1 0x55000 (2 ∷ 0 ∷ 0 ∷ []))
+    ∷ Area 0x33000 []
+    ∷ Area 0x34000 []
+    ∷ Area 0x30080 (handed_on 0x02 0 0x10a00 (2 ∷ 0 ∷ 0 ∷ []))
+    ∷ AreaSpread 0x55000 block_bytes
+    ∷ Direct 0x0a00 block_bytes
+    ∷ Area 0x32010 (completion 0 3 1 1 true ok)
+    ∷ Area 0x32020 (completion 0 3 1 0 true ok)
+    ∷ OwnStore 0x2010 (completion 0 3 1 4 true ok)
+    ∷ OwnSame ∷ []
+
+unfoldable pub world_7 : World
+world_7 = behind (part 47 20) changes_7 world_6
+
+pub host_7 : (replay set_up.geometry (part 47 20) world_6).host ≡ all_changed changes_7 world_6.host
+unfolding number_at dword qword bits bytes_of_dwords completion everywhere addresses bytes_from gathered image put_image scattered stored in_memory and_then asked first_read in_transcript read_array read_sgl read_entries read_source ranges_in move_units clear_units range_units judge units_moved opening register reg_write doorbell front took post ran_out differs start private_step run_of footprints completion_slots stores_into loads_from_destination admin_command admin hosts_of fit_behind built plan_over physical_entry written held_of device_unit completion_written units_behind members seat put_back acted_in administered_in taken_to listed ended_at_once submitted device_took device_moved device_posted kept_block reaped scattered_to posted_to ran_out_of step replay replies opening_world refusal_of none_failed is_disciplined taken_entries private_steps seen_by logged all_changed changed laid behind world_1 world_2 world_3 world_4 world_5 world_6
+host_7 = refl
+
+-- ---- piece 8
+
+abbrev pub changes_8 : List Change
+changes_8 =
+    OwnSpread 0x0c01 block_bytes
+    ∷ OwnStore 0x2000 (completion 0 3 1 5 false ok)
+    ∷ OwnSame
+    ∷ OwnStore 0x30c0 (read 6 0 0x3401)
+    ∷ OwnSame
+    ∷ Area 0x33000 []
+    ∷ Area 0x34000 []
+    ∷ Area 0x300c0 (handed_on 0x02 0 0x34000 (2 ∷ 0 ∷ 0 ∷ [])) ∷ []
+
+unfoldable pub world_8 : World
+world_8 = behind (part 67 9) changes_8 world_7
+
+pub host_8 : (replay set_up.geometry (part 67 9) world_7).host ≡ all_changed changes_8 world_7.host
+unfolding number_at dword qword bits bytes_of_dwords completion everywhere addresses bytes_from gathered image put_image scattered stored in_memory and_then asked first_read in_transcript read_array read_sgl read_entries read_source ranges_in move_units clear_units range_units judge units_moved opening register reg_write doorbell front took post ran_out differs start private_step run_of footprints completion_slots stores_into loads_from_destination admin_command admin hosts_of fit_behind built plan_over physical_entry written held_of device_unit completion_written units_behind members seat put_back acted_in administered_in taken_to listed ended_at_once submitted device_took device_moved device_posted kept_block reaped scattered_to posted_to ran_out_of step replay replies opening_world refusal_of none_failed is_disciplined taken_entries private_steps seen_by logged all_changed changed laid behind world_1 world_2 world_3 world_4 world_5 world_6 world_7
+host_8 = refl
+
+-- ---- piece 9
+
+abbrev pub changes_9 : List Change
+changes_9 =
+    OtherStore 0x3040 (flush 4)
+    ∷ OtherSame
+    ∷ OwnSame
+    ∷ AreaSpread 0x34000 block_bytes
+    ∷ Area 0x54000 []
+    ∷ Area 0x55000 []
+    ∷ Area 0x30100 (handed_on 0x00 1 0 (0 ∷ 0 ∷ 0 ∷ []))
+    ∷ Area 0x32030 (completion 0 5 1 1 true (record { sct = 2; sc = 0x81; dnr = false }))
+    ∷ Area 0x32040 (completion 0 5 1 0 true ok)
+    ∷ OwnSpread 0x3401 block_bytes
+    ∷ OwnSame ∷ []
+
+unfoldable pub world_9 : World
+world_9 = behind (part 76 19) changes_9 world_8
+
+pub host_9 : (replay set_up.geometry (part 76 19) world_8).host ≡ all_changed changes_9 world_8.host
+unfolding number_at dword qword bits bytes_of_dwords completion everywhere addresses bytes_from gathered image put_image scattered stored in_memory and_then asked first_read in_transcript read_array read_sgl read_entries read_source ranges_in move_units clear_units range_units judge units_moved opening register reg_write doorbell front took post ran_out differs start private_step run_of footprints completion_slots stores_into loads_from_destination admin_command admin hosts_of fit_behind built plan_over physical_entry written held_of device_unit completion_written units_behind members seat put_back acted_in administered_in taken_to listed ended_at_once submitted device_took device_moved device_posted kept_block reaped scattered_to posted_to ran_out_of step replay replies opening_world refusal_of none_failed is_disciplined taken_entries private_steps seen_by logged all_changed changed laid behind world_1 world_2 world_3 world_4 world_5 world_6 world_7 world_8
+host_9 = refl
+
+-- ---- piece 10
+
+abbrev pub changes_10 : List Change
+changes_10 =
+    OwnSame
+    ∷ OwnStore 0x1000 (completion 0 1 0 1 true ok)
+    ∷ OwnStore 0x1010 (completion 0 2 0 2 true ok)
+    ∷ OwnSame
+    ∷ OwnStore 0x3000 (flush 7) ∷ []
+
+unfoldable pub world_10 : World
+world_10 = behind (part 95 5) changes_10 world_9
+
+pub host_10 : (replay set_up.geometry (part 95 5) world_9).host ≡ all_changed changes_10 world_9.host
+unfolding number_at dword qword bits bytes_of_dwords completion everywhere addresses bytes_from gathered image put_image scattered stored in_memory and_then asked first_read in_transcript read_array read_sgl read_entries read_source ranges_in move_units clear_units range_units judge units_moved opening register reg_write doorbell front took post ran_out differs start private_step run_of footprints completion_slots stores_into loads_from_destination admin_command admin hosts_of fit_behind built plan_over physical_entry written held_of device_unit completion_written units_behind members seat put_back acted_in administered_in taken_to listed ended_at_once submitted device_took device_moved device_posted kept_block reaped scattered_to posted_to ran_out_of step replay replies opening_world refusal_of none_failed is_disciplined taken_entries private_steps seen_by logged all_changed changed laid behind world_1 world_2 world_3 world_4 world_5 world_6 world_7 world_8 world_9
+host_10 = refl
+
+-- ---- piece 11
+
+abbrev pub changes_11 : List Change
+changes_11 =
+    OwnSame
+    ∷ OwnStore 0x0080 (delete_submission_queue 8)
+    ∷ OwnStore 0x00c0 (delete_completion_queue 9)
+    ∷ OwnSame
+    ∷ OwnSame
+    ∷ Area 0x33000 []
+    ∷ Area 0x34000 []
+    ∷ Area 0x30140 (handed_on 0x00 0 0 (0 ∷ 0 ∷ 0 ∷ []))
+    ∷ Area 0x32050 (completion 0 6 1 0 true ok) ∷ []
+
+unfoldable pub world_11 : World
+world_11 = behind (part 100 12) changes_11 world_10
+
+pub host_11 : (replay set_up.geometry (part 100 12) world_10).host ≡ all_changed changes_11 world_10.host
+unfolding number_at dword qword bits bytes_of_dwords completion everywhere addresses bytes_from gathered image put_image scattered stored in_memory and_then asked first_read in_transcript read_array read_sgl read_entries read_source ranges_in move_units clear_units range_units judge units_moved opening register reg_write doorbell front took post ran_out differs start private_step run_of footprints completion_slots stores_into loads_from_destination admin_command admin hosts_of fit_behind built plan_over physical_entry written held_of device_unit completion_written units_behind members seat put_back acted_in administered_in taken_to listed ended_at_once submitted device_took device_moved device_posted kept_block reaped scattered_to posted_to ran_out_of step replay replies opening_world refusal_of none_failed is_disciplined taken_entries private_steps seen_by logged all_changed changed laid behind world_1 world_2 world_3 world_4 world_5 world_6 world_7 world_8 world_9 world_10
+host_11 = refl
+
+-- ---- piece 12
+
+abbrev pub changes_12 : List Change
+changes_12 =
+    OwnStore 0x2000 (completion 0 1 1 7 true ok)
+    ∷ OwnStore 0x1020 (completion 0 3 0 8 true ok)
+    ∷ OwnStore 0x1030 (completion 0 4 0 9 true ok) ∷ []
+
+unfoldable pub world_12 : World
+world_12 = behind (part 112 7) changes_12 world_11
+
+pub host_12 : (replay set_up.geometry (part 112 7) world_11).host ≡ all_changed changes_12 world_11.host
+unfolding number_at dword qword bits bytes_of_dwords completion everywhere addresses bytes_from gathered image put_image scattered stored in_memory and_then asked first_read in_transcript read_array read_sgl read_entries read_source ranges_in move_units clear_units range_units judge units_moved opening register reg_write doorbell front took post ran_out differs start private_step run_of footprints completion_slots stores_into loads_from_destination admin_command admin hosts_of fit_behind built plan_over physical_entry written held_of device_unit completion_written units_behind members seat put_back acted_in administered_in taken_to listed ended_at_once submitted device_took device_moved device_posted kept_block reaped scattered_to posted_to ran_out_of step replay replies opening_world refusal_of none_failed is_disciplined taken_entries private_steps seen_by logged all_changed changed laid behind world_1 world_2 world_3 world_4 world_5 world_6 world_7 world_8 world_9 world_10 world_11
+host_12 = refl

@@ -1,0 +1,41 @@
+use Rattle.std.proofs.Common.{◌≡◌, ℕ, zero, suc, ◌+◌, ◌<◌, true, List, Option, Some, None, is_some, refl, ap, sym, ◌∙◌, arith}
+use Rattle.std.proofs.lemmas.Bool.Decides.{nat_tests}
+use Rattle.nv_mem.specs.GuestMap.{mapped}
+use Rattle.nv_model.specs.Controller.{Controller}
+use Rattle.nv_model.specs.Private.{Run, Step, run_of, start}
+use Rattle.nv_world_model.specs.Geometry.{regions_of, shape_of}
+use Rattle.nv_examples.specs.Guests.{first}
+use Rattle.nv_examples.specs.StoryRun.{behind_run, seen_along, story_end, story_private, story_run}
+use Rattle.nv_examples.proofs.StoryEnd.{same-memory}
+use Rattle.nv_examples.proofs.StoryFacts.{block-0, block-1, can-be-made, controller-private, controller-world, disk-2, disk-3, disk_marks, marks, seen-logged, the-steps}
+use Rattle.nv_examples.proofs.story.the_promise.Goals as goal
+
+-- a run that can be made is the one to its end
+run-is : (o : Option Run) → is_some o ≡ true → o ≡ Some (record { state = behind_run o; seen = seen_along o })
+run-is None e = absurd (cc)
+run-is (Some run) e = refl
+
+-- an address that is mapped
+inside : (addr : ℕ) → mapped (regions_of first) addr ≡ true → addr < 0x4000
+inside addr there = grind (arith, nat_tests, there)
+
+-- each byte of both blocks
+blocks : (lba offset : ℕ) → lba < 2 → story_private.disk lba offset ≡ story_end.disk (2 + lba) offset
+blocks zero offset h = block-0 offset ∙ sym (disk-2 offset)
+blocks (suc zero) offset h = block-1 offset ∙ sym (disk-3 offset)
+blocks (suc (suc lba)) offset h = absurd (omega arith)
+
+pub returns : goal.returns
+returns c =
+    record {
+      run = record { state = story_private; seen = seen_along story_run };
+      runs = ap (λ (ss : List Step). run_of (shape_of first) ss start) the-steps ∙ run-is story_run can-be-made;
+      seen = seen-logged;
+      agrees =
+          record {
+            controller = controller-world ∙ sym (ap (λ (x : Controller). Some x) controller-private);
+            memory = (λ addr there open_until. same-memory addr (inside addr there));
+            blocks = blocks;
+            marks = (λ lba h. marks lba h ∙ sym (disk_marks lba h));
+          };
+    }
