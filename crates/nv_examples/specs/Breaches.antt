@@ -1,9 +1,9 @@
 -- Logs of a guest that breaks a clause of its discipline, and then is not followed by its private controller
-use Rattle.std.specs.Prelude.{ℕ, Bool, true, not, ◌&&◌, List, [], ◌∷◌, ◌++◌, flat_map, slice_get, slice_index, Option, Some, None}
+use Rattle.std.specs.Prelude.{ℕ, ◌-◌, Bool, true, not, ◌&&◌, List, [], ◌∷◌, ◌++◌, flat_map, length, take, slice_get, slice_index, Option, Some, None}
 use Rattle.std.specs.List.{list_any}
 use Rattle.nv_model.specs.Controller.{Controller}
 use Rattle.nv_model.specs.Footprint.{Named, completion_slots, loads_from_destination, meets, stores_into}
-use Rattle.nv_model.specs.Private.{Seen}
+use Rattle.nv_model.specs.Private.{AtWork, Ended, Progress, Seen, Taken, Unjudged, run_of, start}
 use Rattle.nv_model.specs.declared.reply.Reply.{Reply}
 use Rattle.nv_model.specs.declared.reply.Reply.TheVariants as reply
 use Rattle.nv_model.specs.Rows.{data_block, last_segment}
@@ -12,13 +12,15 @@ use Rattle.nv_world_model.specs.declared.event.Event.{Event}
 use Rattle.nv_world_model.specs.declared.event.Event.TheVariants as event
 use Rattle.nv_world_model.specs.Disciplined.{clash, commands_named, is_disciplined}
 use Rattle.nv_world_model.specs.Headline.{IsPrivateRun, none_failed}
-use Rattle.nv_world_model.specs.PrivateSteps.{act_of}
+use Rattle.nv_world_model.specs.PrivateSteps.{act_of, private_steps}
 use Rattle.nv_world_model.specs.SetUp.{any_two}
 use Rattle.nv_world_model.specs.Step.{replay, step}
 use Rattle.nv_world_model.specs.World.{World}
 use Rattle.nv_examples.specs.Events.{begins, begins_with_list, ends, loads, moves, rings, stores, up, whole}
 use Rattle.nv_examples.specs.Guests.{by_sgl, first, flush, opened, read, set_up, write}
 use Rattle.nv_examples.specs.Logs.{logged}
+use Rattle.nv_examples.specs.StoryRun.{behind_run}
+use Rattle.nv_world_model.specs.Geometry.{shape_of}
 
 -- ---- the premises and the promise, of the log of these events from the start
 
@@ -89,6 +91,22 @@ unfoldable pub last_byte : List Seen → ℕ
 last_byte [] = 0
 last_byte (s ∷ []) = byte_told 0 s.reply
 last_byte (s ∷ t ∷ seen) = last_byte (t ∷ seen)
+
+-- the status code with which a command was refused
+abbrev pub code_of : Progress → Option ℕ
+code_of Unjudged = None
+code_of (Ended st) = Some st.sc
+code_of (AtWork work left differed) = None
+
+abbrev pub code_in : Option Taken → Option ℕ
+code_in None = None
+code_in (Some t) = code_of t.progress
+
+-- that of the private controller's command named 1, behind all of these events but the last
+abbrev pub refused_before_last : List Event → Option ℕ
+refused_before_last events =
+    code_in ((behind_run (run_of (shape_of first)
+    (private_steps set_up.geometry 0 first (logged (take (length events - 1) events) opened) opened) start)).bag 1)
 
 -- ---- commands
 

@@ -6,11 +6,11 @@
 //! store into an entry that is rung and not taken, and a destination over its command's own list or entry, are forbidden so that what is
 //! named stays what it is: in both worlds the command is the same.
 
-ghost use Rattle.std.specs.Prelude.{◌≡◌, ◌&&◌, ℕ, List, [], ◌∷◌, Option, true, false};
+ghost use Rattle.std.specs.Prelude.{◌≡◌, ◌&&◌, ℕ, List, [], ◌∷◌, Option, Some, true, false};
 ghost use Rattle.nv_model.specs.Footprint.{Named};
 ghost use Rattle.nv_model.specs.declared.act.Act.{Act};
 ghost use Rattle.nv_world_model.specs.Disciplined.{keeps_to};
-ghost use Rattle.nv_examples.specs.Breaches.{HasPrivateRun, byte_named_twice, clauses_kept, destination_in_destination, entry_in_destination, has_no_slot, is_disciplined_in, list_in_destination, load_from_destination, loads_elsewhere, none_failed_in, shares_none, slot_in_destination, slot_in_list, slot_in_source, source_in_destination, store_into_destination, store_into_list, store_into_source, stores_elsewhere};
+ghost use Rattle.nv_examples.specs.Breaches.{HasPrivateRun, byte_named_twice, clauses_kept, destination_in_destination, entry_in_destination, has_no_slot, is_disciplined_in, list_in_destination, load_from_destination, loads_elsewhere, none_failed_in, refused_before_last, shares_none, slot_in_destination, slot_in_list, slot_in_source, source_in_destination, store_into_destination, store_into_list, store_into_source, stores_elsewhere};
 
 /// In a state the four clauses together are what the definition asks.
 #[tactic(none)]
@@ -88,6 +88,8 @@ pub fn list_in_destination()
     ensures no_command_failed { none_failed_in list_in_destination ≡ true }
     ensures one_clause_is_broken { clauses_kept list_in_destination ≡ false ∷ true ∷ true ∷ true ∷ [] }
     ensures the_guest_is_not_disciplined { is_disciplined_in list_in_destination ≡ false }
+    // SGL Length Invalid: so no unit of it can move.
+    ensures the_private_controller_refuses { refused_before_last list_in_destination ≡ Some 0x0f }
     ensures it_has_no_such_run { HasPrivateRun list_in_destination → ⊥ }
 {}
 
@@ -97,6 +99,8 @@ pub fn entry_in_destination()
     ensures no_command_failed { none_failed_in entry_in_destination ≡ true }
     ensures one_clause_is_broken { clauses_kept entry_in_destination ≡ false ∷ true ∷ true ∷ true ∷ [] }
     ensures the_guest_is_not_disciplined { is_disciplined_in entry_in_destination ≡ false }
+    // Invalid Namespace: so no unit of it can move.
+    ensures the_private_controller_refuses { refused_before_last entry_in_destination ≡ Some 0x0b }
     ensures it_has_no_such_run { HasPrivateRun entry_in_destination → ⊥ }
 {}
 
@@ -124,5 +128,7 @@ pub fn slot_in_list()
     ensures no_command_failed { none_failed_in slot_in_list ≡ true }
     ensures one_clause_is_broken { clauses_kept slot_in_list ≡ true ∷ false ∷ true ∷ true ∷ [] }
     ensures the_guest_is_not_disciplined { is_disciplined_in slot_in_list ≡ false }
+    // Data Transfer Error: so no unit of it can move.
+    ensures the_private_controller_refuses { refused_before_last slot_in_list ≡ Some 0x04 }
     ensures it_has_no_such_run { HasPrivateRun slot_in_list → ⊥ }
 {}
