@@ -17,6 +17,7 @@
 mod alike;
 mod calls;
 mod copies;
+mod counting;
 mod device_side;
 mod finishing;
 mod gate;

@@ -99,6 +99,8 @@ fn planned<G: Gate, R: Wait + Clock>(
 struct GuestPlanner {
     guest: u8,
     lane: u8,
+    // the queue that a command was taken of last, 0 where there was none
+    queue: u16,
     task: Task,
     share: Share,
 }
@@ -109,6 +111,7 @@ impl GuestPlanner {
         GuestPlanner {
             guest,
             lane,
+            queue: 0,
             task: Task::Search,
             share: Share::new(),
         }
@@ -174,15 +177,17 @@ impl GuestPlanner {
         Turn::Job(job)
     }
 
-    // Takes up an admin command, or takes a command of a queue and looks for its tag.
+    // Takes up an admin command, or takes a command and looks for its tag: of the next queue, behind the last, that has one.
     fn take_up(&mut self, world: &mut World, alloc: Global) -> Turn {
         let admin = Event::Admin(self.guest);
         if world.due(&admin) {
             return done(self.share.step(world, alloc, admin));
         }
-        for queue in 1..=LAST_QUEUE {
+        for step in 0..LAST_QUEUE {
+            let queue = self.queue.wrapping_add(step) % LAST_QUEUE + 1;
             let take = Event::Take(self.guest, queue, self.lane);
             if world.due(&take) {
+                self.queue = queue;
                 return self.take(world, alloc, take);
             }
         }
