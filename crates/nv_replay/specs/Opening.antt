@@ -72,20 +72,26 @@ pub record ReplayValue : Type 0 where
   pub set_up : SetUp
   pub events : List Event
 
--- what a set-up that is refused so and events come to
-abbrev pub begun_by : Option Refusal → SetUp → List Event → Result ReplayValue ReplayFault
-begun_by None set_up events = Ok (record { set_up = set_up; events = events })
-begun_by (Some refusal) set_up events = Err (Refused (refusal_as refusal))
+-- a set-up, unless it is refused so
+abbrev pub accepted_by : Option Refusal → SetUp → Result SetUp ReplayFault
+accepted_by None set_up = Ok set_up
+accepted_by (Some refusal) set_up = Err (Refused (refusal_as refusal))
 
--- what a set-up and events come to
-abbrev pub begun : SetUp → List Event → Result ReplayValue ReplayFault
-begun set_up events = begun_by (refusal_of set_up) set_up events
+-- a set-up, unless it is refused
+abbrev pub accepted : SetUp → Result SetUp ReplayFault
+accepted set_up = accepted_by (refusal_of set_up) set_up
+
+-- the set-up that a script's sizes and guests come to
+unfoldable pub set_up_of : Sizes → List GuestValue → Result SetUp ReplayFault
+set_up_of sizes guests = do
+  mapped ← result_map_both (λ g. g) (λ r. Refused r) (guests_from sizes.host 0 guests)
+  accepted (set_up_with sizes mapped)
 
 -- what a script comes to
 unfoldable pub opened_by : ScriptValue → Result ReplayValue ReplayFault
 opened_by script = do
-  guests ← result_map_both (λ g. g) (λ r. Refused r) (guests_from script.sizes.host 0 script.guests)
-  begun (set_up_with script.sizes guests) script.events
+  set_up ← set_up_of script.sizes script.guests
+  Ok (record { set_up = set_up; events = script.events })
 
 -- what a text comes to
 unfoldable pub replay_of : List ℕ → Result ReplayValue ReplayFault

@@ -13,6 +13,7 @@ mod replay;
 mod reply_line;
 
 pub use fault::ReplayFault;
-pub use opening::read;
+pub use opening::{open_world, read};
 pub use refusal::SetUpRefusal;
 pub use replay::{Replay, run};
+pub use reply_line::print_reply;

@@ -1,15 +1,17 @@
 //! From a text to the world that its script opens.
-ghost use Rattle.std.specs.Prelude.{◌≡◌, map, MatchResult};
+ghost use Rattle.std.specs.Prelude.{◌≡◌, map, IfOk, MatchResult, None};
 ghost use Rattle.nv_replay_script.specs.ReplayScript.{script_value};
 ghost use Rattle.nv_replay_script.specs.ReplaySetUp.{guest_value};
-ghost use Rattle.nv_replay.specs.Opening.{IsFaultOf, IsRefusalOf, guests_from, mapped_guest, opened_by, replay_of};
+ghost use Rattle.nv_world.specs.Mediated.{mediated, opened};
+ghost use Rattle.nv_world_model.specs.SetUp.{refusal_of};
+ghost use Rattle.nv_replay.specs.Opening.{IsFaultOf, IsRefusalOf, guests_from, mapped_guest, opened_by, replay_of, set_up_of};
 
 use crate::fault::ReplayFault;
 use crate::refusal::SetUpRefusal;
 use crate::replay::Replay;
 use nv_mem::GuestMap;
-use nv_replay_script::{GuestSetUp, Script, parse};
-use nv_world::{GuestSetup, Setup};
+use nv_replay_script::{GuestSetUp, Script, Sizes, parse};
+use nv_world::{GuestSetup, Setup, World};
 use std::alloc::Global;
 
 /// The most descriptors that a guest's list may have.
@@ -37,6 +39,25 @@ fn open(alloc: Global, script: Script) -> Result<Replay, ReplayFault>
         guests,
         events,
     } = script;
+    let world = open_world(alloc, sizes, guests)?;
+    Ok(Replay::new(world, events))
+}
+
+/// Opens the world of a script's sizes and guests: the guests' maps in order, then the set-up.
+///
+/// # Errors
+///
+/// The first guest whose regions are no map; why the set-up is refused; or that memory was refused.
+pub fn open_world(
+    alloc: Global,
+    sizes: Sizes,
+    guests: Vec<GuestSetUp>,
+) -> Result<World, ReplayFault>
+    ensures opened { let wanted = set_up_of sizes (map guest_value guests.items)
+        in MatchResult result (λ world. wanted ≡ Ok (mediated world).setup) (IsFaultOf wanted) }
+    ensures fresh { IfOk result (λ world. mediated world ≡ opened (mediated world).setup) }
+    ensures accepted { IfOk result (λ world. refusal_of (mediated world).setup ≡ None) }
+{
     let guests = map_guests(alloc, sizes.host, guests)?;
     let setup = Setup {
         host_bytes: sizes.host,
@@ -45,7 +66,8 @@ fn open(alloc: Global, script: Script) -> Result<Replay, ReplayFault>
         lanes: sizes.lanes,
         guests,
     };
-    Replay::new(alloc, setup, events)
+    let world = World::new(alloc, setup)?;
+    Ok(world)
 }
 
 // The guests with their maps, in order.

@@ -1,12 +1,11 @@
 //! A world that is put through events.
-ghost use Rattle.std.specs.Prelude.{◌≡◌, MatchResult, OnOk};
-ghost use Rattle.nv_replay.specs.Opening.{IsFaultOf, begun};
+ghost use Rattle.std.specs.Prelude.{◌≡◌, OnOk};
+ghost use Rattle.nv_world.specs.Mediated.{mediated, opened};
 ghost use Rattle.nv_replay.specs.Shown.{PrintsReplay};
 
-use crate::fault::ReplayFault;
 use crate::reply_line::{print_count, print_reply};
 use nv_print::CannotWrite;
-use nv_world::{Setup, World};
+use nv_world::World;
 use nv_world_model::Event;
 use std::alloc::Global;
 use std::io::Write;
@@ -34,13 +33,12 @@ impl Model for Replay {
 }
 
 impl Replay {
-    /// Opens the world of a set-up for these events.
-    pub(crate) fn new(alloc: Global, setup: Setup, events: Vec<Event>) -> Result<Self, ReplayFault>
-        ensures { let wanted = begun setup events.items
-            in MatchResult result (λ replay. wanted ≡ Ok replay) (IsFaultOf wanted) }
+    /// A world that was just opened, for these events.
+    pub(crate) fn new(world: World, events: Vec<Event>) -> Self
+        requires { mediated world ≡ opened (mediated world).setup }
+        ensures { result ≡ record { set_up = (mediated world).setup; events = events.items } }
     {
-        let world = World::new(alloc, setup)?;
-        Ok(Replay { world, events })
+        Replay { world, events }
     }
 }
 

@@ -1,0 +1,3 @@
+pub mod Drives
+pub mod Openings
+pub mod Printings
