@@ -495,7 +495,7 @@ fn tells_of_an_output_that_fails(rt: HostRuntime) {
 }
 
 /// How a command can end, and the number that the process ends with.
-const STATUSES: [(Fault, u8); 7] = [
+const STATUSES: [(Fault, u8); 9] = [
     (Fault::BadBytes, 1),
     (
         Fault::Script {
@@ -508,6 +508,8 @@ const STATUSES: [(Fault, u8); 7] = [
     (Fault::NoMemory, 3),
     (Fault::CannotRead, 5),
     (Fault::CannotWrite, 5),
+    (Fault::NoCompletion { line: 9 }, 1),
+    (Fault::Mismatch { guest: 1, place: 2 }, 4),
     (
         Fault::Script {
             line: 5,

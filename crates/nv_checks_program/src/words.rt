@@ -1,13 +1,16 @@
 //! A process, its words and what it ends with.
 
 use nv_flat::FlatController;
-use nv_once::{Command, EntryKind, Grammar, Refusal, program, words};
+use nv_once::{Command, EntryKind, Grammar, Refusal, Request, program, words};
 use std::alloc::{Alloc, Global};
 use std::convert::AsStr;
 use std::env::FillError;
 use std::io::{self, ErrorKind, Read};
 use std::process::{Abort, ExitCode};
 use std::rt::Env;
+use std::sync::Wait;
+use std::thread::Threads;
+use std::time::Clock;
 
 /// A process that was given these words, its name first.
 #[derive(Drop)]
@@ -85,14 +88,15 @@ fn words_that_are_no_text(rt: HostRuntime) {
 struct FirstWord;
 
 impl Grammar for FirstWord {
-    fn command<'a, S: AsStr>(_alloc: Global, words: &'a [S]) -> Result<Command<'a>, Refusal> {
+    fn request<'a, S: AsStr>(_alloc: Global, words: &'a [S]) -> Result<Request<'a>, Refusal> {
         match words.first().map(|word| word.as_str()) {
-            Some("once") => Ok(Command::Once),
+            Some("once") => Ok(Request::Alone(Command::Once)),
+            Some("run") => Ok(Request::Run),
             Some("refused") => Err(Refusal::NoMemory),
-            Some(digits) => Ok(Command::Decode {
+            Some(digits) => Ok(Request::Alone(Command::Decode {
                 kind: EntryKind::Completion,
                 digits,
-            }),
+            })),
             None => Err(Refusal::Usage),
         }
     }
@@ -124,7 +128,17 @@ type Ended = (
 
 const USAGE: &str = "usage: nvmed once | replay | run | decode KIND HEX\n";
 
-const ENDED: [Ended; 9] = [
+/// A guest that looks at its memory.
+const ONE_GUEST: &[u8] = b"host 0x1000000
+mediator 0x400000
+disk 4096
+lanes 1
+guest 0 range 1000 64 heap 65536
+map 0 0x0 0x100000 0x20000
+load 0 0x0 2
+";
+
+const ENDED: [Ended; 12] = [
     (
         &[b"nvmed", b"once"],
         Some(b"memory 4096\nblocks 1\ndump 0 2"),
@@ -147,6 +161,21 @@ const ENDED: [Ended; 9] = [
         "",
         "line 4: missing word\n",
     ),
+    (
+        &[b"nvmed", b"run"],
+        Some(ONE_GUEST),
+        0,
+        "0 bytes 0000\nok\n",
+        "",
+    ),
+    (
+        &[b"nvmed", b"run"],
+        Some(b"host 0x200000\nload 0 0x0 2"),
+        1,
+        "",
+        "line 2: out of place\n",
+    ),
+    (&[b"nvmed", b"run"], None, 5, "", "cannot read\n"),
     (&[b"nvmed"], None, 2, "", USAGE),
     (&[b"nvmed", b"once", b"-x"], None, 2, "", USAGE),
     (&[b"nvmed", b"once", b"\xff"], None, 2, "", USAGE),
@@ -154,7 +183,7 @@ const ENDED: [Ended; 9] = [
     (&[b"nvmed", b"once"], None, 5, "", "cannot read\n"),
 ];
 
-fn expect_ended(rt: &(impl Abort + AllocGlobal), rows: &[Ended]) {
+fn expect_ended<T: Abort + AllocGlobal + Threads + Wait + Clock + Sync>(rt: &T, rows: &[Ended]) {
     for (words, text, number, printed, told) in rows {
         let process = Process {
             words: *words,
@@ -167,10 +196,11 @@ fn expect_ended(rt: &(impl Abort + AllocGlobal), rows: &[Ended]) {
             FirstWord,
             FlatController,
             Process<'_>,
+            T,
             Given<'_>,
             &mut Vec<u8>,
             Vec<u8>,
-        >(&process, &mut input, &mut output, &mut faults);
+        >(&process, rt, &mut input, &mut output, &mut faults);
         assert_eq!(rt; code, ExitCode::from(*number), "{told}");
         assert_eq!(rt; output.as_slice(), printed.as_bytes());
         assert_eq!(rt; faults.as_slice(), told.as_bytes());

@@ -1,5 +1,10 @@
-//! Tests of what `replay` prints, by public calls alone: a crate with tests is proved twice, so they stand here and not beside the code.
+//! Tests of what `replay` and `run` print, by public calls alone: a crate with tests is proved twice, so they stand here and not beside the
+//! code.
 #![tactic(auto)]
 
+#[cfg(test)]
+mod guests;
+#[cfg(test)]
+mod many;
 #[cfg(test)]
 mod replay;

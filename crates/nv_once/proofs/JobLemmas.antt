@@ -1,5 +1,6 @@
 -- What is printed of a command, by what was left to do of it
 use Rattle.std.proofs.Common.{ℕ, Bool, List, Option, Some, None}
+use Rattle.std.specs.Prelude.{IfOk, Result, Ok, Err}
 use Rattle.std.specs.Io.KnownBytes.{Keeps}
 use Rattle.nv_print.proofs.Growing.{Appends-kept}
 use Rattle.nv_script.specs.OnceScript.{ScriptValue, script_value}
@@ -35,18 +36,22 @@ Prints-job built (Decode kind.Submission digits) text before after (job.Submissi
 Prints-job built (Decode kind.Submission digits) text before after (job.Completion entry) is printed = absurd is
 Prints-job built (Decode kind.Submission digits) text before after (job.Script script) is printed = absurd is
 Prints-job built (Decode kind.Submission digits) text before after (job.Replay value) is printed = absurd is
+Prints-job built (Decode kind.Submission digits) text before after (job.Told told) is printed = absurd is
 Prints-job built (Decode kind.Completion digits) text before after (job.Submission entry) is printed = absurd is
 Prints-job built (Decode kind.Completion digits) text before after (job.Completion entry) is printed = (entry, is, printed)
 Prints-job built (Decode kind.Completion digits) text before after (job.Script script) is printed = absurd is
 Prints-job built (Decode kind.Completion digits) text before after (job.Replay value) is printed = absurd is
+Prints-job built (Decode kind.Completion digits) text before after (job.Told told) is printed = absurd is
 Prints-job built Once text before after (job.Submission entry) is printed = absurd is
 Prints-job built Once text before after (job.Completion entry) is printed = absurd is
 Prints-job built Once text before after (job.Script script) is printed = PrintsText-script built text before after (script_value script) is.0 printed
 Prints-job built Once text before after (job.Replay value) is printed = absurd is
+Prints-job built Once text before after (job.Told told) is printed = absurd is
 Prints-job built Replay text before after (job.Submission entry) is printed = absurd is
 Prints-job built Replay text before after (job.Completion entry) is printed = absurd is
 Prints-job built Replay text before after (job.Script script) is printed = absurd is
 Prints-job built Replay text before after (job.Replay value) is printed = PrintsText-replay text before after value is printed
+Prints-job built Replay text before after (job.Told told) is printed = absurd is
 
 -- what was printed is kept
 pub PrintsJob-kept : (built : List ℕ → Bool) (job : Job) (before between after : Option (List ℕ))
@@ -55,3 +60,12 @@ PrintsJob-kept built (job.Submission entry) before between after printed kept = 
 PrintsJob-kept built (job.Completion entry) before between after printed kept = Appends-kept before between after _ printed kept
 PrintsJob-kept built (job.Script script) before between after (printed, grown, is) kept = (printed, Appends-kept before between after printed grown kept, is)
 PrintsJob-kept built (job.Replay value) before between after (printed, grown, is) kept = (printed, Appends-kept before between after printed grown kept, is)
+PrintsJob-kept built (job.Told told) before between after printed kept = Appends-kept before between after _ printed kept
+
+-- what an end well prints of a command is what is left to do of it
+pub Prints-ended : {W E : Type 0} (built : List ℕ → Bool) (command : Command) (text before : Option (List ℕ)) (contents : W → Option (List ℕ))
+    (job : Job) (ended : Result W E)
+    → IsJobOf command text job → IfOk ended (λ w. PrintsJob built job before (contents w))
+    → IfOk ended (λ w. Prints built command text before (contents w))
+Prints-ended built command text before contents job (Ok w) is printed = Prints-job built command text before (contents w) job is printed
+Prints-ended built command text before contents job (Err e) is printed = tt

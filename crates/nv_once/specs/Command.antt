@@ -9,7 +9,7 @@ use Rattle.nv_once.specs.Replay.{IsReplayFault}
 use Rattle.nv_once.specs.Printed.{completion_line, submission_line}
 use Rattle.nv_once.specs.Shown.{PrintsText}
 use Rattle.nv_once.specs.declared.fault.Fault.{Fault}
-use Rattle.nv_once.specs.declared.fault.Fault.TheVariants.{BadBytes, Usage, NoMemory, Script, Refused, CannotRead, CannotWrite}
+use Rattle.nv_once.specs.declared.fault.Fault.TheVariants.{BadBytes, Usage, NoMemory, Script, Refused, CannotRead, CannotWrite, NoCompletion, Mismatch}
 use Rattle.nv_once.specs.declared.entry_kind.EntryKind.{EntryKind}
 use Rattle.nv_once.specs.declared.entry_kind.EntryKind.TheVariants.{Submission, Completion}
 use Rattle.nv_once.specs.declared.command.Command.{Command}
@@ -42,6 +42,8 @@ IsDecodeFault spelled (Script line kind) = ⊥
 IsDecodeFault spelled (Refused refusal) = ⊥
 IsDecodeFault spelled CannotRead = ⊥
 IsDecodeFault spelled CannotWrite = spelled ≡ true
+IsDecodeFault spelled (NoCompletion line) = ⊥
+IsDecodeFault spelled (Mismatch guest place) = ⊥
 
 -- how a command can end that ends not well
 abbrev pub IsFaultOf : Command → (text : Option (List ℕ)) → Fault → Type 0

@@ -5,4 +5,6 @@ pub mod Job
 pub mod Once
 pub mod Printed
 pub mod Replay
+pub mod Request
+pub mod Run
 pub mod Shown

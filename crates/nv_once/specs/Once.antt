@@ -6,7 +6,7 @@ use Rattle.nv_script.specs.OnceLine.{LineValue, is_there}
 use Rattle.nv_script.specs.OnceScript.{ScriptValue, script_of}
 use Rattle.nv_script.specs.declared.once.fault.ScriptFault.TheVariants as script
 use Rattle.nv_once.specs.declared.fault.Fault.{Fault}
-use Rattle.nv_once.specs.declared.fault.Fault.TheVariants.{BadBytes, Usage, NoMemory, Script, Refused, CannotRead, CannotWrite}
+use Rattle.nv_once.specs.declared.fault.Fault.TheVariants.{BadBytes, Usage, NoMemory, Script, Refused, CannotRead, CannotWrite, NoCompletion, Mismatch}
 
 -- the text is a script, where it is known
 abbrev pub IsScript : Option (List ℕ) → Type 0
@@ -25,6 +25,8 @@ IsOnceFault text (Script line kind) = IfSome text (λ bytes. script_of bytes ≡
 IsOnceFault text (Refused refusal) = ⊥
 IsOnceFault text CannotRead = ⊤
 IsOnceFault text CannotWrite = IsScript text
+IsOnceFault text (NoCompletion line) = ⊥
+IsOnceFault text (Mismatch guest place) = ⊥
 
 -- the fault of an input
 abbrev pub IsInput : Fault → Type 0

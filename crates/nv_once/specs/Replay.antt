@@ -4,7 +4,7 @@ use Rattle.std.specs.Result.{is_ok}
 use Rattle.nv_replay.specs.Opening.{ReplayValue, replay_of}
 use Rattle.nv_replay.specs.declared.fault.ReplayFault.TheVariants as replay
 use Rattle.nv_once.specs.declared.fault.Fault.{Fault}
-use Rattle.nv_once.specs.declared.fault.Fault.TheVariants.{BadBytes, Usage, NoMemory, Script, Refused, CannotRead, CannotWrite}
+use Rattle.nv_once.specs.declared.fault.Fault.TheVariants.{BadBytes, Usage, NoMemory, Script, Refused, CannotRead, CannotWrite, NoCompletion, Mismatch}
 
 -- the text comes to this, where it is known
 abbrev pub IsReplayOf : Option (List ℕ) → ReplayValue → Type 0
@@ -24,3 +24,5 @@ IsReplayFault text (Script line kind) = IfSome text (λ bytes. replay_of bytes �
 IsReplayFault text (Refused refusal) = IfSome text (λ bytes. replay_of bytes ≡ Err (replay.Refused refusal))
 IsReplayFault text CannotRead = ⊤
 IsReplayFault text CannotWrite = Opens text
+IsReplayFault text (NoCompletion line) = ⊥
+IsReplayFault text (Mismatch guest place) = ⊥

@@ -1,18 +1,23 @@
 //! The commands of the program.
-ghost use Rattle.std.specs.Prelude.{◌≡◌, IfErr, IfOk, MatchOption, OnOk};
+ghost use Rattle.std.specs.Prelude.{◌≡◌, IfErr, IfOk, MatchOption, None, OnOk, Some};
 ghost use Rattle.nv_once.specs.Command.{IsFaultOf, LeavesInput, Prints};
 ghost use Rattle.nv_once.specs.Job.{IsJobOf, IsPrintable, PrintsJob};
 ghost use Rattle.nv_once.specs.Once.{IsStop};
+ghost use Rattle.nv_once.specs.Run.{IsRunFault, PrintsRun};
 
 use crate::entry_kind::EntryKind;
 use crate::fault::Fault;
-use crate::{decode, lines, once, replay};
+use crate::{decode, lines, once, replay, running};
 use nv_entry::{Cqe, Sqe};
 use nv_flat::One;
 use nv_replay::Replay;
+use nv_run::Told;
 use nv_script::Script;
 use std::alloc::Global;
 use std::io::{BufWriter, Read, Write};
+use std::sync::Wait;
+use std::thread::Threads;
+use std::time::Clock;
 
 /// What the program is to do.
 #[derive(Clone, Copy, Debug, PartialEq, Eq)]
@@ -60,6 +65,8 @@ enum Job {
     Script(Script),
     /// put a world through events
     Replay(Replay),
+    /// print what the guests of a run were told
+    Told(Vec<Told>),
 }
 
 /// Does a command; a script runs on a controller of the kind `C`. What it prints goes to `output`, through a buffer that is empty at
@@ -83,6 +90,38 @@ pub fn perform<C: One, R: Read, W: Write + Drop>(
         Ok(job) => job,
         Err(fault) => return Err(Failure::untouched(fault, output)),
     };
+    finish::<C, W>(alloc, job, output)
+}
+
+/// Lets the guests of a script act in threads of their own, before one mediated world, and waits for them. What they were told goes to
+/// `output` once all are through and the log was compared with it, through a buffer that is empty at the end, and the output is given back.
+///
+/// A fault of the script or of its set-up is the one that its definition gives, where it is known what there is to read. A wait in vain, and
+/// a log that differs from what the guests were told, come before anything is written.
+pub fn perform_run<C: One, P: Threads + Wait + Clock + Sync, R: Read, W: Write + Drop>(
+    rt: &P,
+    alloc: Global,
+    input: &mut R,
+    output: W,
+) -> Result<W, Failure<W>>
+    ensures ok { IfOk result (λ written. PrintsRun (R.remaining input.old) (W.contents output) (W.contents written)) }
+    ensures err { IfErr result (λ failure. IsRunFault (R.remaining input.old) failure.fault) }
+    ensures unwritten { IfErr result (λ failure. MatchOption failure.output (IsStop failure.fault) (λ left. left ≡ output)) }
+{
+    let told = match running::told(rt, alloc, input) {
+        Ok(told) => told,
+        Err(fault) => return Err(Failure::untouched(fault, output)),
+    };
+    finish::<C, W>(alloc, Job::Told(told), output)
+}
+
+// Does what is left to do, and gives the output back where that went well.
+fn finish<C: One, W: Write + Drop>(alloc: Global, job: Job, output: W) -> Result<W, Failure<W>>
+    requires { IsPrintable job }
+    ensures ok { IfOk result (λ written. PrintsJob C.built job (W.contents output) (W.contents written)) }
+    ensures err { IfErr result (λ failure. IsStop failure.fault) }
+    ensures lost { IfErr result (λ failure. failure.output ≡ None) }
+{
     match carry_out::<C, W>(alloc, job, output) {
         Ok(written) => Ok(written),
         Err(fault) => Err(Failure {
@@ -152,6 +191,7 @@ fn print<C: One, W: Write>(alloc: Global, job: Job, output: &mut W) -> Result<()
         Job::Completion(entry) => lines::write_completion(&entry, output)?,
         Job::Script(script) => once::run::<C, W>(alloc, &script, output)?,
         Job::Replay(replay) => nv_replay::run(alloc, replay, output)?,
+        Job::Told(told) => nv_run::print(&told, output)?,
     }
     Ok(())
 }

@@ -3,7 +3,7 @@
 ghost use Rattle.std.specs.Prelude.{◌≡◌, ◌≢◌, ◌⊎◌, ◌++◌, OnOk, Some};
 ghost use Rattle.std.specs.Io.KnownBytes.{Appends};
 ghost use Rattle.std.specs.IoError.{error_kind};
-ghost use Rattle.nv_once.specs.Fault.{fault_of, of_replay, of_script, status_of, text_of};
+ghost use Rattle.nv_once.specs.Fault.{fault_of, of_replay, of_run, of_script, status_of, text_of};
 ghost use Rattle.nv_print.specs.Printed.{line_feed};
 
 use crate::exit_status::ExitStatus;
@@ -11,6 +11,7 @@ use crate::refusal::Refusal;
 use nv_mem::NoMemory;
 use nv_print::CannotWrite;
 use nv_replay::{ReplayFault, SetUpRefusal};
+use nv_run::RunFault;
 use nv_script::{FaultKind, ScriptFault};
 use std::alloc::AllocError;
 use std::error::Error;
@@ -34,6 +35,10 @@ pub enum Fault {
     CannotRead,
     /// the output failed
     CannotWrite,
+    /// what this line of a run waits for was not met
+    NoCompletion { line: u64 },
+    /// the log of a run differs at this place from what this guest's port was told, or from the sum of all
+    Mismatch { guest: u8, place: u64 },
 }
 
 impl Fault {
@@ -60,9 +65,13 @@ impl Fault {
         ensures { result ≡ status_of self }
     {
         match self {
-            Fault::BadBytes | Fault::Script { .. } | Fault::Refused(_) => ExitStatus::ScriptFault,
+            Fault::BadBytes
+            | Fault::Script { .. }
+            | Fault::Refused(_)
+            | Fault::NoCompletion { .. } => ExitStatus::ScriptFault,
             Fault::Usage => ExitStatus::Usage,
             Fault::NoMemory => ExitStatus::NoMemory,
+            Fault::Mismatch { .. } => ExitStatus::Mismatch,
             Fault::CannotRead | Fault::CannotWrite => ExitStatus::InputOutput,
         }
     }
@@ -88,6 +97,8 @@ impl fmt::Display for Fault {
             Fault::Refused(refusal) => write!(f, "{refusal}"),
             Fault::CannotRead => f.write_str("cannot read"),
             Fault::CannotWrite => f.write_str("cannot write"),
+            Fault::NoCompletion { line } => write!(f, "line {line}: no completion"),
+            Fault::Mismatch { guest, place } => write!(f, "mismatch guest {guest} place {place}"),
         }
     }
 }
@@ -154,6 +165,18 @@ impl From<ReplayFault> for Fault {
             ReplayFault::Script { line, kind } => Fault::Script { line, kind },
             ReplayFault::Refused(refusal) => Fault::Refused(refusal),
             ReplayFault::NoMemory => Fault::NoMemory,
+        }
+    }
+}
+
+impl From<RunFault> for Fault {
+    ghost from_gives = { λ run made. made ≡ of_run run };
+
+    fn from(fault: RunFault) -> Self {
+        match fault {
+            RunFault::NoMemory => Fault::NoMemory,
+            RunFault::NoCompletion { line } => Fault::NoCompletion { line },
+            RunFault::Mismatch { guest, place } => Fault::Mismatch { guest, place },
         }
     }
 }

@@ -1,39 +1,39 @@
 //! The words of the program.
 ghost use Rattle.std.specs.Prelude.{◌≡◌, ◌↔◌, IsTrue, Any, map, slice_get};
 
-use crate::command::Command;
 use crate::refusal::Refusal;
+use crate::request::Request;
 use std::alloc::Global;
 use std::convert::AsStr;
 use std::env;
 use std::rt::Env;
 
-/// Which words are which command.
+/// Which words ask for what.
 pub trait Grammar {
     ghost use Rattle.std.specs.Prelude.{ℕ, List, Result, map, ⊤};
-    ghost use Rattle.nv_once.specs.declared.command.Command.{Command as AnyCommand};
+    ghost use Rattle.nv_once.specs.declared.request.Request.{Request as AnyRequest};
     ghost use Rattle.nv_once.specs.declared.refusal.Refusal.{Refusal as AnyRefusal};
 
     // what the grammar may say of words
-    ghost says: { List (List ℕ) → Result AnyCommand AnyRefusal → Type 0 } = { λ _ _. ⊤ };
+    ghost says: { List (List ℕ) → Result AnyRequest AnyRefusal → Type 0 } = { λ _ _. ⊤ };
 
-    /// The command that these words are. None of them begins with `-`.
-    fn command<'a, S: AsStr>(alloc: Global, words: &'a [S]) -> Result<Command<'a>, Refusal>
+    /// What these words ask for. None of them begins with `-`.
+    fn request<'a, S: AsStr>(alloc: Global, words: &'a [S]) -> Result<Request<'a>, Refusal>
         ensures { says (map S.text words.entry.now) result };
 }
 
-/// The command that these words are in a grammar. A word that begins with `-` is in no command.
-pub fn command_of<'a, G: Grammar, S: AsStr>(
+/// What these words ask for in a grammar. No request has a word that begins with `-`.
+pub fn request_of<'a, G: Grammar, S: AsStr>(
     alloc: Global,
     words: &'a [S],
-) -> Result<Command<'a>, Refusal>
+) -> Result<Request<'a>, Refusal>
     ensures dash { Any (λ word. slice_get (S.text word) 0 ≡ Some 45) words.entry.now → result ≡ Err Refusal.Usage }
     ensures other { ¬ Any (λ word. slice_get (S.text word) 0 ≡ Some 45) words.entry.now → G.says (map S.text words.entry.now) result }
 {
     if words.iter().any(|word| begins_with_dash(word.as_str())) {
         return Err(Refusal::Usage);
     }
-    G::command(alloc, words)
+    G::request(alloc, words)
 }
 
 // Whether a word begins with a dash.

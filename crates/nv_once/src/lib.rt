@@ -1,10 +1,12 @@
 //! What the program `nvmed` does, but for which words are a command: `decode` prints the fields of an entry, `once` runs a script of
-//! commands on a controller over flat memory, `replay` puts a mediated world through the events of a script.
+//! commands on a controller over flat memory, `replay` puts a mediated world through the events of a script, and `run` lets the guests of a
+//! script act in threads of their own.
 //!
-//! [`program`] is the whole of it over a process and a [`Grammar`]; [`run`] does a command over a reader and two writers, on any kind of
-//! controller that runs one command at a time. It is proved what is printed: the line of an entry, field by field, and of a script,
+//! [`program`] is the whole of it over a process and a [`Grammar`]; [`serve`] does what is asked for over a reader and two writers, on any
+//! kind of controller that runs one command at a time, and [`run`] all of that which waits for nobody. It is proved what is printed: the line
+//! of an entry, field by field, and of a script,
 //! where it is known what there is to read, what its lines print one after another on a run of the controller, or the replies to its
-//! events along the world. A command ends with a
+//! events along the world; of the guests of `run`, that these are lines of answers. A command ends with a
 //! fault only as its definition says, the output is left as it was but behind want of memory and failed output, `decode` reads nothing,
 //! and each outcome has its exit status. What a writer holds that failed is tested and not proved.
 #![tactic(auto)]
@@ -22,11 +24,14 @@ mod print;
 mod process;
 mod refusal;
 mod replay;
+mod request;
+mod running;
 
-pub use command::{Command, Failure, perform};
+pub use command::{Command, Failure, perform, perform_run};
 pub use entry_kind::EntryKind;
 pub use exit_status::ExitStatus;
 pub use fault::{Fault, report};
-pub use grammar::{Grammar, command_of, words};
-pub use process::{program, run};
+pub use grammar::{Grammar, request_of, words};
+pub use process::{program, run, serve};
 pub use refusal::Refusal;
+pub use request::Request;

@@ -20,7 +20,7 @@ const POLLS: u32 = 1_000_000;
 const DWORD: u64 = 4;
 
 /// After how many looks a thread that waits sleeps; behind the others it only lets other threads run.
-const LOOKS_A_NAP: u32 = 16;
+const LOOKS_A_NAP: u32 = 256;
 
 /// How long it sleeps then, in microseconds.
 const NAP: u64 = 50;

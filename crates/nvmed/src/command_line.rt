@@ -2,24 +2,28 @@
 
 use clap::error::ErrorKind;
 use clap::{Arg, ArgMatches};
-use nv_once::{Command, EntryKind, Grammar, Refusal};
+use nv_once::{Command, EntryKind, Grammar, Refusal, Request};
 use std::alloc::{AllocError, Global};
 use std::convert::AsStr;
 
-/// `once`, `replay`, or `decode KIND HEX`. No help is built in.
+/// `once`, `replay`, `run`, or `decode KIND HEX`. No help is built in.
 pub struct CommandLine;
 
 impl Grammar for CommandLine {
-    fn command<'a, S: AsStr>(alloc: Global, words: &'a [S]) -> Result<Command<'a>, Refusal> {
+    fn request<'a, S: AsStr>(alloc: Global, words: &'a [S]) -> Result<Request<'a>, Refusal> {
         let found = match grammar(alloc)?.try_get_matches_from(words) {
             Ok(found) => found,
             Err(error) if error.kind() == ErrorKind::OutOfMemory => return Err(Refusal::NoMemory),
             Err(_) => return Err(Refusal::Usage),
         };
         match found.subcommand() {
-            Some((DECODE, found)) => decode_command(found).ok_or(Refusal::Usage),
-            Some((ONCE, _)) => Ok(Command::Once),
-            Some((REPLAY, _)) => Ok(Command::Replay),
+            Some((DECODE, found)) => {
+                let command = decode_command(found).ok_or(Refusal::Usage)?;
+                Ok(Request::Alone(command))
+            }
+            Some((ONCE, _)) => Ok(Request::Alone(Command::Once)),
+            Some((REPLAY, _)) => Ok(Request::Alone(Command::Replay)),
+            Some((RUN, _)) => Ok(Request::Run),
             _ => Err(Refusal::Usage),
         }
     }
@@ -30,6 +34,8 @@ const DECODE: &str = "decode";
 const ONCE: &str = "once";
 
 const REPLAY: &str = "replay";
+
+const RUN: &str = "run";
 
 const KIND: &str = "KIND";
 
@@ -43,7 +49,8 @@ fn grammar<'a>(alloc: Global) -> Result<clap::Command<'a>, AllocError> {
         .subcommand_required(true)
         .subcommand(decode_grammar(alloc)?)?
         .subcommand(plain(alloc, ONCE))?
-        .subcommand(plain(alloc, REPLAY))
+        .subcommand(plain(alloc, REPLAY))?
+        .subcommand(plain(alloc, RUN))
 }
 
 // What stands behind `decode`.

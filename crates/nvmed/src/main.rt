@@ -2,7 +2,8 @@
 //!
 //! `nvmed decode sqe HEX` and `nvmed decode cqe HEX` print the fields of one entry on one line. `nvmed once` runs a script of
 //! commands on a private controller over flat memory. `nvmed replay` puts a mediated world, of several guests before one physical
-//! controller, through the events of a script. Any other list of words is a usage fault. A fault is one line on standard error, and the
+//! controller, through the events of a script; `nvmed run` lets the guests of a script act in threads of their own before such a
+//! controller. Any other list of words is a usage fault. A fault is one line on standard error, and the
 //! exit status tells its kind.
 //!
 //! Here stand the grammar of the command line, which is tested and not proved, and `main`, which hands the process to the crate
@@ -20,7 +21,8 @@ use std::io::{Stderr, Stdin, Stdout};
 use std::process::ExitCode;
 
 fn main(rt: HostRuntime) -> ExitCode {
-    program::<CommandLine, FlatController, HostRuntime, Stdin, Stdout, Stderr>(
+    program::<CommandLine, FlatController, HostRuntime, HostRuntime, Stdin, Stdout, Stderr>(
+        &rt,
         &rt,
         &mut rt.stdin(),
         rt.stdout(),

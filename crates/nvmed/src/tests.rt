@@ -1,7 +1,7 @@
 //! Which words are which command.
 
 use crate::command_line::CommandLine;
-use nv_once::{Command, EntryKind, Refusal, command_of};
+use nv_once::{Command, EntryKind, Refusal, Request, request_of};
 use std::process::Abort;
 
 /// A Read of one block at 5 into 512 bytes at 3000h, identifier 7.
@@ -10,8 +10,8 @@ const READ: &str =
 
 const DONE: &str = "00000000000000000100010007000100";
 
-fn expect(rt: &(impl Abort + AllocGlobal), words: &[&str], want: Result<Command<'_>, Refusal>) {
-    let found = command_of::<CommandLine, &str>(rt.alloc(), words);
+fn expect(rt: &(impl Abort + AllocGlobal), words: &[&str], want: Result<Request<'_>, Refusal>) {
+    let found = request_of::<CommandLine, &str>(rt.alloc(), words);
     assert_eq!(rt; found, want, "{words:?}");
 }
 
@@ -22,15 +22,16 @@ fn expect_usage(rt: &(impl Abort + AllocGlobal), words: &[&str]) {
 // The digits are looked at where the command is done.
 #[test]
 fn knows_its_commands(rt: HostRuntime) {
-    expect(&rt, &["once"], Ok(Command::Once));
-    expect(&rt, &["replay"], Ok(Command::Replay));
+    expect(&rt, &["once"], Ok(Request::Alone(Command::Once)));
+    expect(&rt, &["replay"], Ok(Request::Alone(Command::Replay)));
+    expect(&rt, &["run"], Ok(Request::Run));
     for digits in [READ, DONE, "", " ", "zz", "help", "once"] {
         let kind = EntryKind::Submission;
         let command = Command::Decode { kind, digits };
-        expect(&rt, &["decode", "sqe", digits], Ok(command));
+        expect(&rt, &["decode", "sqe", digits], Ok(Request::Alone(command)));
         let kind = EntryKind::Completion;
         let command = Command::Decode { kind, digits };
-        expect(&rt, &["decode", "cqe", digits], Ok(command));
+        expect(&rt, &["decode", "cqe", digits], Ok(Request::Alone(command)));
     }
 }
 
@@ -48,7 +49,8 @@ fn refuses_other_words(rt: HostRuntime) {
         "--version",
         "help",
         "version",
-        "run",
+        "runs",
+        "ru",
         "decode",
         "nvmed",
         "sqe",
@@ -59,7 +61,7 @@ fn refuses_other_words(rt: HostRuntime) {
         expect_usage(&rt, &["decode", "sqe", READ, word]);
     }
     for word in [
-        "-", "--", "-h", "--help", "help", "once", "replay", "Decode", "decod", "decode ",
+        "-", "--", "-h", "--help", "help", "once", "replay", "run", "Decode", "decod", "decode ",
     ] {
         expect_usage(&rt, &[word, "sqe", READ]);
         expect_usage(&rt, &[word, "decode", "sqe", READ]);

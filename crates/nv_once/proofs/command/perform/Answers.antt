@@ -1,6 +1,6 @@
-use Rattle.nv_once.proofs.JobLemmas.{Prints-job}
+use Rattle.nv_once.proofs.JobLemmas.{Prints-ended}
 use Rattle.nv_once.proofs.command.perform.Goals as goal
 
-pub returns-in-Ok-carry_out-clause-ok : goal.returns-in-Ok-carry_out-clause-ok
-returns-in-Ok-carry_out-clause-ok g c =
-    Prints-job g.C.One.built c.args.command _ _ _ c.in-Ok.job c.in-Ok.ensures.ok c.in-Ok-carry_out.ensures.ok
+pub returns-clause-ok : goal.returns-clause-ok
+returns-clause-ok g c =
+    Prints-ended g.C.One.built c.args.command _ _ (λ w. g.W.Write.contents w) c.in-Ok.job _ c.in-Ok.ensures.ok c.finish.ensures.ok

@@ -1,0 +1,199 @@
+//! Guests of scripts in threads of their own. Expected lines are read off the rules by hand.
+
+use nv_flat::FlatController;
+use nv_once::{ExitStatus, Request, serve};
+use std::process::Abort;
+use std::sync::Wait;
+use std::test::Fail;
+use std::thread::Threads;
+use std::time::Clock;
+
+/// Two guests, each with 128 KiB of memory and 64 blocks.
+const SET_UP: &str = "\
+host 0x1000000
+mediator 0x400000
+disk 4096
+lanes 1
+guest 0 range 1000 64 heap 65536
+guest 1 range 2000 64 heap 65536
+map 0 0x0 0x100000 0x20000
+map 1 0x0 0x200000 0x20000
+";
+
+/// The first guest's queue pair 1, of 16 slots each.
+const BRING_UP: &str = "\
+store 0 0x10000 05000100000000000000000000000000000000000000000000200100000000000000000000000000\
+01000f000100000000000000000000000000000000000000
+store 0 0x10040 01000200000000000000000000000000000000000000000000300100000000000000000000000000\
+01000f000100010000000000000000000000000000000000
+regwrite 0 0x24 0x001f001f
+regwrite 0 0x28 0x00010000
+regwrite 0 0x30 0x00011000
+regwrite 0 0x14 0x00460001
+bell 0 0x1000 2
+await 0 0x1101c 0x00010002
+";
+
+/// What its lines print.
+const BROUGHT_UP: &str = "\
+0 done
+0 done
+0 done
+0 done
+0 done
+0 done
+0 done
+0 met
+";
+
+/// Lines, what they print, what is told, and how the program ends.
+struct Case {
+    lines: &'static str,
+    printed: &'static str,
+    told: &'static str,
+    status: ExitStatus,
+}
+
+// Ends the test where the program prints or tells something else of these lines behind a beginning.
+fn expect<T: Abort + AllocGlobal + Threads + Wait + Clock + Sync>(
+    rt: &T,
+    beginning: &str,
+    begun: &str,
+    case: &Case,
+) -> Result<(), Fail> {
+    let Case {
+        lines,
+        printed,
+        told,
+        status,
+    } = case;
+    let text = format!(in rt.alloc(); "{beginning}{lines}")?;
+    let printed = format!(in rt.alloc(); "{begun}{printed}")?;
+    let mut output = Vec::new(rt.alloc());
+    let mut faults = Vec::new(rt.alloc());
+    let ended = serve::<FlatController, T, &[u8], &mut Vec<u8>, Vec<u8>>(
+        rt,
+        rt.alloc(),
+        Ok(Request::Run),
+        &mut text.as_bytes(),
+        &mut output,
+        &mut faults,
+    );
+    assert!(rt; ExitStatus::of(&ended) == *status, "{lines:?}");
+    same_text(rt, lines, &output, &printed);
+    same_text(rt, lines, &faults, told);
+    Ok(())
+}
+
+// Ends the test where something else was written than is wanted.
+fn same_text(rt: &impl Abort, lines: &str, found: &[u8], want: &str) {
+    assert!(rt;
+        found == want.as_bytes(),
+        "{lines:?} gives {found:?}, and not {want:?}"
+    );
+}
+
+/// Behind the set-up: nothing; looks of both guests, the later guest's first; a map and a line that are refused.
+const LOOKS: [Case; 2] = [
+    Case {
+        lines: "",
+        printed: "ok\n",
+        told: "",
+        status: ExitStatus::Success,
+    },
+    Case {
+        lines: "store 1 0x0 aabb\nload 0 0x0 2\nload 1 0x0 2\nregread 0 0x8\nload 1 0x1ffff 2\nawaitreg 0 0x1c 0\n",
+        printed: "0 bytes 0000\n0 bytes 00000200\n0 met\n1 done\n1 bytes aabb\n1 unmapped\nok\n",
+        told: "",
+        status: ExitStatus::Success,
+    },
+];
+
+#[test]
+fn prints_guest_by_guest(rt: HostRuntime) -> Result<(), Fail> {
+    for case in &LOOKS {
+        expect(&rt, SET_UP, "", case)?;
+    }
+    Ok(())
+}
+
+/// Behind the set-up: what is refused before any guest acts.
+const REFUSED: [Case; 3] = [
+    Case {
+        lines: "load 0 0x0 4\nadmin 0\n",
+        printed: "",
+        told: "line 10: out of place\n",
+        status: ExitStatus::ScriptFault,
+    },
+    Case {
+        lines: "map 1 0x20000 0x220000 0x1001\nload 0 0x0 4\n",
+        printed: "",
+        told: "guest 1 map refused: 1 Unaligned\n",
+        status: ExitStatus::ScriptFault,
+    },
+    Case {
+        lines: "guest 2 range 1063 1 heap 256\nload 0 0x0 4\n",
+        printed: "",
+        told: "setup refused: 2 RangesMeet\n",
+        status: ExitStatus::ScriptFault,
+    },
+];
+
+#[test]
+fn refuses_before_any_guest_acts(rt: HostRuntime) -> Result<(), Fail> {
+    for case in &REFUSED {
+        expect(&rt, SET_UP, "", case)?;
+    }
+    Ok(())
+}
+
+/// Behind the bring-up: a Read of block 5 by a list; and a reset with that Read in flight.
+const READS: [Case; 2] = [
+    Case {
+        lines: "store 0 0x13000 0240070001000000000000000000000000000000000000000030000000000000000200000000\
+0000050000000000000000000000000000000000000000000000
+bell 0 0x1008 1
+await 0 0x1200c 0x00010007
+load 0 0x12000 16
+",
+        printed: "0 done\n0 done\n0 met\n0 bytes 00000000000000000100010007000100\nok\n",
+        told: "",
+        status: ExitStatus::Success,
+    },
+    Case {
+        lines: "awaitreg 0 0x1c 1
+fill 0 0x3000 512 0xee
+store 0 0x13000 0240070001000000000000000000000000000000000000000030000000000000000200000000\
+0000050000000000000000000000000000000000000000000000
+bell 0 0x1008 1
+regwrite 0 0x14 0x00460000
+awaitreg 0 0x1c 0
+regread 0 0x14
+",
+        printed: "0 met\n0 done\n0 done\n0 done\n0 done\n0 met\n0 bytes 00004600\nok\n",
+        told: "",
+        status: ExitStatus::Success,
+    },
+];
+
+#[test]
+fn reads_and_resets(rt: HostRuntime) -> Result<(), Fail> {
+    let set_up = format!(in rt.alloc(); "{SET_UP}{BRING_UP}")?;
+    for case in &READS {
+        expect(&rt, &set_up, BROUGHT_UP, case)?;
+    }
+    Ok(())
+}
+
+/// Two waits that are never met: the lower line is told, and nothing printed.
+const IN_VAIN: Case = Case {
+    lines: "load 1 0x0 4\nawaitreg 1 0x1c 1\nawait 0 0x0 0x00000001\nload 0 0x0 4\n",
+    printed: "",
+    told: "line 10: no completion\n",
+    status: ExitStatus::ScriptFault,
+};
+
+#[test]
+fn waits_in_vain(rt: HostRuntime) -> Result<(), Fail> {
+    expect(&rt, SET_UP, "", &IN_VAIN)
+}
