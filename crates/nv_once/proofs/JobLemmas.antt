@@ -36,22 +36,22 @@ Prints-job built (Decode kind.Submission digits) text before after (job.Submissi
 Prints-job built (Decode kind.Submission digits) text before after (job.Completion entry) is printed = absurd is
 Prints-job built (Decode kind.Submission digits) text before after (job.Script script) is printed = absurd is
 Prints-job built (Decode kind.Submission digits) text before after (job.Replay value) is printed = absurd is
-Prints-job built (Decode kind.Submission digits) text before after (job.Told told) is printed = absurd is
+Prints-job built (Decode kind.Submission digits) text before after (job.Played played) is printed = absurd is
 Prints-job built (Decode kind.Completion digits) text before after (job.Submission entry) is printed = absurd is
 Prints-job built (Decode kind.Completion digits) text before after (job.Completion entry) is printed = (entry, is, printed)
 Prints-job built (Decode kind.Completion digits) text before after (job.Script script) is printed = absurd is
 Prints-job built (Decode kind.Completion digits) text before after (job.Replay value) is printed = absurd is
-Prints-job built (Decode kind.Completion digits) text before after (job.Told told) is printed = absurd is
+Prints-job built (Decode kind.Completion digits) text before after (job.Played played) is printed = absurd is
 Prints-job built Once text before after (job.Submission entry) is printed = absurd is
 Prints-job built Once text before after (job.Completion entry) is printed = absurd is
 Prints-job built Once text before after (job.Script script) is printed = PrintsText-script built text before after (script_value script) is.0 printed
 Prints-job built Once text before after (job.Replay value) is printed = absurd is
-Prints-job built Once text before after (job.Told told) is printed = absurd is
+Prints-job built Once text before after (job.Played played) is printed = absurd is
 Prints-job built Replay text before after (job.Submission entry) is printed = absurd is
 Prints-job built Replay text before after (job.Completion entry) is printed = absurd is
 Prints-job built Replay text before after (job.Script script) is printed = absurd is
 Prints-job built Replay text before after (job.Replay value) is printed = PrintsText-replay text before after value is printed
-Prints-job built Replay text before after (job.Told told) is printed = absurd is
+Prints-job built Replay text before after (job.Played played) is printed = absurd is
 
 -- what was printed is kept
 pub PrintsJob-kept : (built : List ℕ → Bool) (job : Job) (before between after : Option (List ℕ))
@@ -60,7 +60,7 @@ PrintsJob-kept built (job.Submission entry) before between after printed kept = 
 PrintsJob-kept built (job.Completion entry) before between after printed kept = Appends-kept before between after _ printed kept
 PrintsJob-kept built (job.Script script) before between after (printed, grown, is) kept = (printed, Appends-kept before between after printed grown kept, is)
 PrintsJob-kept built (job.Replay value) before between after (printed, grown, is) kept = (printed, Appends-kept before between after printed grown kept, is)
-PrintsJob-kept built (job.Told told) before between after printed kept = Appends-kept before between after _ printed kept
+PrintsJob-kept built (job.Played played) before between after printed kept = Appends-kept before between after _ printed kept
 
 -- what an end well prints of a command is what is left to do of it
 pub Prints-ended : {W E : Type 0} (built : List ℕ → Bool) (command : Command) (text before : Option (List ℕ)) (contents : W → Option (List ℕ))

@@ -1,4 +1,5 @@
 pub mod JobLemmas
 pub mod LineLemmas
 pub mod OnceLemmas
+pub mod RunLemmas
 pub mod ShownLemmas

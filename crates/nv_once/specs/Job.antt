@@ -4,7 +4,7 @@ use Rattle.std.specs.Io.KnownBytes.{Appends}
 use Rattle.hex.specs.Hex.{decode_sized}
 use Rattle.nv_script.specs.OnceScript.{IsInRange, script_value}
 use Rattle.nv_replay.specs.Shown.{PrintsReplay}
-use Rattle.nv_run.specs.Shown.{printed}
+use Rattle.nv_run.specs.Played.{PrintsPlayed}
 use Rattle.nv_once.specs.Once.{IsScriptOf}
 use Rattle.nv_once.specs.Replay.{IsReplayOf}
 use Rattle.nv_once.specs.Printed.{completion_line, submission_line}
@@ -21,7 +21,7 @@ IsPrintable (job.Submission entry) = ⊤
 IsPrintable (job.Completion entry) = ⊤
 IsPrintable (job.Script script) = IsInRange (script_value script)
 IsPrintable (job.Replay replay) = ⊤
-IsPrintable (job.Told told) = ⊤
+IsPrintable (job.Played played) = ⊤
 
 -- what is left to do of a command: the entry that its digits spell, the script that the text is, or what it comes to
 abbrev pub IsJobOf : Command → (text : Option (List ℕ)) → Job → Type 0
@@ -37,4 +37,4 @@ PrintsJob built (job.Submission entry) before after = Appends before after (subm
 PrintsJob built (job.Completion entry) before after = Appends before after (completion_line entry)
 PrintsJob built (job.Script script) before after = PrintsScript built (script_value script) before after
 PrintsJob built (job.Replay replay) before after = PrintsReplay replay before after
-PrintsJob built (job.Told told) before after = Appends before after (printed told.items)
+PrintsJob built (job.Played played) before after = PrintsPlayed played before after

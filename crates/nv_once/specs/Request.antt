@@ -1,7 +1,8 @@
 -- Requests: what the words of the program ask for
 use Rattle.std.specs.Prelude.{ℕ, Bool, List, Option, ⊤}
 use Rattle.nv_once.specs.Command.{IsFaultOf, LeavesInput, Prints}
-use Rattle.nv_once.specs.Run.{IsRunFault, PrintsRun}
+use Rattle.nv_run.specs.Played as played
+use Rattle.nv_once.specs.Run.{IsRunFault}
 use Rattle.nv_once.specs.declared.fault.Fault.{Fault}
 use Rattle.nv_once.specs.declared.request.Request.{Request}
 use Rattle.nv_once.specs.declared.request.Request.TheVariants.{Alone, Run}
@@ -9,7 +10,7 @@ use Rattle.nv_once.specs.declared.request.Request.TheVariants.{Alone, Run}
 -- an output has grown by what is asked for
 abbrev pub PrintsRequest : (built : List ℕ → Bool) → Request → (text before after : Option (List ℕ)) → Type 0
 PrintsRequest built (Alone command) text before after = Prints built command text before after
-PrintsRequest built Run text before after = PrintsRun text before after
+PrintsRequest built Run text before after = played.PrintsText text before after
 
 -- how what is asked for can end that ends not well
 abbrev pub IsFaultOfRequest : Request → (text : Option (List ℕ)) → Fault → Type 0

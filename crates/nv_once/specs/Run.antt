@@ -1,11 +1,8 @@
--- How a run of `run` ends, and what it prints
-use Rattle.std.specs.Prelude.{◌≡◌, ℕ, List, true, Option, Err, IfSome, ◌⊎◌, ⊤}
-use Rattle.std.specs.Io.KnownBytes.{Appends}
+-- How a run of `run` ends
+use Rattle.std.specs.Prelude.{◌≡◌, ℕ, List, true, Option, Err, IfSome, ⊤}
 use Rattle.std.specs.Result.{is_ok}
 use Rattle.nv_replay.specs.declared.fault.ReplayFault.TheVariants as replay
 use Rattle.nv_run.specs.Opening.{run_of}
-use Rattle.nv_run.specs.Shown.{printed}
-use Rattle.nv_run.specs.declared.played.Told.{Told}
 use Rattle.nv_once.specs.declared.fault.Fault.{Fault}
 use Rattle.nv_once.specs.declared.fault.Fault.TheVariants.{BadBytes, Usage, NoMemory, Script, Refused, CannotRead, CannotWrite, NoCompletion, Mismatch}
 
@@ -37,7 +34,3 @@ IsPlayFault CannotRead = ⊥
 IsPlayFault CannotWrite = ⊥
 IsPlayFault (NoCompletion line) = ⊤
 IsPlayFault (Mismatch guest place) = ⊤
-
--- the text is a script of guests whose world opens, where it is known, and an output has grown by lines that tell what guests were told
-abbrev pub PrintsRun : (text before after : Option (List ℕ)) → Type 0
-PrintsRun text before after = RunOpens text × ((told : List Told) × Appends before after (printed told))

@@ -3,7 +3,8 @@ ghost use Rattle.std.specs.Prelude.{◌≡◌, IfErr, IfOk, MatchOption, None, O
 ghost use Rattle.nv_once.specs.Command.{IsFaultOf, LeavesInput, Prints};
 ghost use Rattle.nv_once.specs.Job.{IsJobOf, IsPrintable, PrintsJob};
 ghost use Rattle.nv_once.specs.Once.{IsStop};
-ghost use Rattle.nv_once.specs.Run.{IsRunFault, PrintsRun};
+ghost use Rattle.nv_once.specs.Run.{IsRunFault};
+ghost use Rattle.nv_run.specs.Played.{PrintsText};
 
 use crate::entry_kind::EntryKind;
 use crate::fault::Fault;
@@ -11,7 +12,7 @@ use crate::{decode, lines, once, replay, running};
 use nv_entry::{Cqe, Sqe};
 use nv_flat::One;
 use nv_replay::Replay;
-use nv_run::Told;
+use nv_run::Played;
 use nv_script::Script;
 use std::alloc::Global;
 use std::io::{BufWriter, Read, Write};
@@ -65,8 +66,8 @@ enum Job {
     Script(Script),
     /// put a world through events
     Replay(Replay),
-    /// print what the guests of a run were told
-    Told(Vec<Told>),
+    /// print what the guests' lines of a run came to
+    Played(Played),
 }
 
 /// Does a command; a script runs on a controller of the kind `C`. What it prints goes to `output`, through a buffer that is empty at
@@ -104,15 +105,15 @@ pub fn perform_run<C: One, P: Threads + Wait + Clock + Sync, R: Read, W: Write +
     input: &mut R,
     output: W,
 ) -> Result<W, Failure<W>>
-    ensures ok { IfOk result (λ written. PrintsRun (R.remaining input.old) (W.contents output) (W.contents written)) }
+    ensures ok { IfOk result (λ written. PrintsText (R.remaining input.old) (W.contents output) (W.contents written)) }
     ensures err { IfErr result (λ failure. IsRunFault (R.remaining input.old) failure.fault) }
     ensures unwritten { IfErr result (λ failure. MatchOption failure.output (IsStop failure.fault) (λ left. left ≡ output)) }
 {
-    let told = match running::told(rt, alloc, input) {
-        Ok(told) => told,
+    let played = match running::played(rt, alloc, input) {
+        Ok(played) => played,
         Err(fault) => return Err(Failure::untouched(fault, output)),
     };
-    finish::<C, W>(alloc, Job::Told(told), output)
+    finish::<C, W>(alloc, Job::Played(played), output)
 }
 
 // Does what is left to do, and gives the output back where that went well.
@@ -191,7 +192,7 @@ fn print<C: One, W: Write>(alloc: Global, job: Job, output: &mut W) -> Result<()
         Job::Completion(entry) => lines::write_completion(&entry, output)?,
         Job::Script(script) => once::run::<C, W>(alloc, &script, output)?,
         Job::Replay(replay) => nv_replay::run(alloc, replay, output)?,
-        Job::Told(told) => nv_run::print(&told, output)?,
+        Job::Played(played) => nv_run::print(&played, output)?,
     }
     Ok(())
 }

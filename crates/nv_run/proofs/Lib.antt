@@ -1,3 +1,5 @@
+pub mod Castings
 pub mod Drives
 pub mod Openings
+pub mod Plays
 pub mod Printings

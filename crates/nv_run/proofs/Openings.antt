@@ -1,6 +1,7 @@
 -- What a text comes to, step by step, and the lanes of a world that opens
 use Rattle.std.proofs.Common.{◌≡◌, ◌⊎◌, ℕ, ◌<◌, ◌≤◌, List, Option, Some, None, Result, Ok, Err, refl, sym, ap, ◌∙◌, inl, inr, arith}
-use Rattle.std.specs.Result.{result_map_both}
+use Rattle.std.specs.Prelude.{IfOk, MatchResult}
+use Rattle.std.specs.Result.{is_ok, result_map_both}
 use Rattle.nv_laws_sound.proofs.LaidOuts.{accepted as is-accepted, sizes-of}
 use Rattle.nv_replay.specs.Opening.{IsFaultOf, accepted, accepted_by, guests_from, set_up_of, set_up_with}
 use Rattle.nv_replay.specs.Refused.{of_script}
@@ -10,10 +11,14 @@ use Rattle.nv_replay.specs.declared.refusal.SetUpRefusal.{SetUpRefusal}
 use Rattle.nv_replay_script.specs.ReplaySetUp.{GuestValue}
 use Rattle.nv_replay_script.specs.declared.sizes.Sizes.{Sizes}
 use Rattle.nv_run.specs.Opening.{run_of}
+use Rattle.nv_run.specs.Parts.{AreParted}
+use Rattle.nv_run.specs.Played.{ArePartsOf}
+use Rattle.nv_run.specs.declared.opening.Run.{Run}
 use Rattle.nv_run_script.specs.RunScript.{ScriptValue, script_of}
 use Rattle.nv_script.specs.OnceFault.{◌>>=◌}
 use Rattle.nv_script.specs.declared.once.fault.ScriptFault.{ScriptFault}
 use Rattle.nv_script.specs.declared.once.fault.ScriptFault.TheVariants as script
+use Rattle.nv_world.specs.Mediated.{mediated}
 use Rattle.nv_world_model.specs.Geometry.{Guest}
 use Rattle.nv_world_model.specs.SetUp.{Refusal, SetUp, refusal_of}
 
@@ -28,6 +33,14 @@ run_of-faulty text read fault (inr faulty) is = inr (rw (faulty, is) refl)
 pub run_of-read : (text : List ℕ) (s : ScriptValue) → script_of text ≡ Ok s → run_of text ≡ set_up_of s.sizes s.guests
 unfolding run_of
 run_of-read text s read = rw read refl
+
+-- what the guests of a world are to do that a text opens
+pub parts-opened : (text : List ℕ) (script : ScriptValue) (opened : Result Run ReplayFault) → script_of text ≡ Ok script
+    → MatchResult opened (λ run. run_of text ≡ Ok (mediated run.world).setup) (IsFaultOf (run_of text))
+    → IfOk opened (λ run. AreParted script.lines run.parts.items)
+    → IfOk opened (λ run. ArePartsOf text run.parts.items)
+parts-opened text script (Ok run) read opens parted = record { script = script; read = read; opens = ap is_ok opens; parted = parted }
+parts-opened text script (Err fault) read opens parted = tt
 
 -- ---- lanes
 

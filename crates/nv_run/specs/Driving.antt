@@ -1,12 +1,10 @@
 -- What a guest's port is told while its thread goes through its lines (profile)
-use Rattle.std.specs.Prelude.{◌≡◌, ◌≢◌, ℕ, All, Bool, true, false, List, [], ◌∷◌, ◌++◌, length, ⊤}
+use Rattle.std.specs.Prelude.{◌≡◌, ◌≢◌, ℕ, ◌<◌, All, Bool, true, false, List, [], ◌∷◌, ◌++◌, length, ⊤}
 use Rattle.std.specs.Int.{w32, to_le_bytes}
 use Rattle.nv_model.specs.declared.act.Act.{Act}
 use Rattle.nv_model.specs.declared.act.Act.TheVariants as act
 use Rattle.nv_model.specs.declared.reply.Reply.{Reply}
 use Rattle.nv_model.specs.declared.reply.Reply.TheVariants as reply
-use Rattle.nv_run.specs.declared.answers.Answer.{Answer}
-use Rattle.nv_run.specs.declared.answers.Answer.TheVariants as answer
 use Rattle.nv_run.specs.declared.driven.Probe.{Probe}
 use Rattle.nv_run.specs.declared.driven.Probe.TheVariants.{Memory, Register}
 use Rattle.nv_run.specs.declared.driven.End.{End}
@@ -16,6 +14,7 @@ use Rattle.nv_run_script.specs.declared.line.Task.{Task}
 use Rattle.nv_run_script.specs.declared.line.Task.TheVariants as task
 use Rattle.nv_world_model.specs.declared.event.Event.TheVariants as event
 use Rattle.nv_world_model.specs.declared.logged.Logged.{Logged}
+use Rattle.nv_world_model.specs.SetUp.{most_guests}
 
 -- how often a line that waits looks
 abbrev pub polls : ℕ
@@ -61,35 +60,35 @@ pub record Grows (old new : List Logged) (P : List Logged → Type 0) : Type 0 w
   pub grown : new ≡ old ++ more
   pub holds : P more
 
--- what a guest's port is told along a line that comes to this answer
-abbrev pub IsAnswered : (guest : ℕ) → Task → Answer → (calls : List Logged) → Type 0
-IsAnswered guest (task.Act act) (answer.Reply reply) calls = calls ≡ told guest act reply ∷ []
-IsAnswered guest (task.Await addr value) answer.Met calls = IsMet guest (act.Load addr 4) value calls
-IsAnswered guest (task.AwaitReg offset value) answer.Met calls = IsMet guest (act.RegRead offset) value calls
-IsAnswered guest task answer calls = ⊥
+-- a list is some calls of which this holds, and others behind them
+pub record Follows (P : List Logged → Type 0) (calls rest : List Logged) : Type 0 where
+  pub first : List Logged
+  pub holds : P first
+  pub parted : calls ≡ first ++ rest
+
+-- what a guest's port is told along a line that went well
+abbrev pub IsGone : (guest : ℕ) → Task → (calls : List Logged) → Type 0
+IsGone guest (task.Act act) calls = (reply : Reply) × (calls ≡ told guest act reply ∷ [])
+IsGone guest (task.Await addr value) calls = IsMet guest (act.Load addr 4) value calls
+IsGone guest (task.AwaitReg offset value) calls = IsMet guest (act.RegRead offset) value calls
 
 -- and along lines one after another
-unfoldable pub AreAnswered : (guest : ℕ) → List Line → List Answer → (calls : List Logged) → Type 0
-AreAnswered guest [] [] calls = calls ≡ []
-AreAnswered guest (line ∷ lines) (answer ∷ answers) calls =
-    (first : List Logged) × (rest : List Logged)
-    × IsAnswered guest line.task answer first × AreAnswered guest lines answers rest × (calls ≡ first ++ rest)
-AreAnswered guest lines answers calls = ⊥
+unfoldable pub AreGone : (guest : ℕ) → List Line → (calls : List Logged) → Type 0
+AreGone guest [] calls = calls ≡ []
+AreGone guest (line ∷ lines) calls = (rest : List Logged) × AreGone guest lines rest × Follows (IsGone guest line.task) calls rest
+
+-- and of each guest, along the lines that are its own
+abbrev pub AllGone : (lines : (guest : ℕ) → List Line) → (calls : (guest : ℕ) → List Logged) → Type 0
+AllGone lines calls = (guest : ℕ) → guest < most_guests → AreGone guest (lines guest) (calls guest)
 
 -- a guest that went through all its lines was told just that
-abbrev pub IsThrough : (guest : ℕ) → List Line → List Answer → (calls : List Logged) → End → Type 0
-IsThrough guest lines answers calls Through = AreAnswered guest lines answers calls
-IsThrough guest lines answers calls (NoCompletion line) = ⊤
-IsThrough guest lines answers calls NoMemory = ⊤
+abbrev pub IsThrough : (guest : ℕ) → List Line → (calls : List Logged) → End → Type 0
+IsThrough guest lines calls Through = AreGone guest lines calls
+IsThrough guest lines calls (NoCompletion line) = ⊤
+IsThrough guest lines calls NoMemory = ⊤
 
 -- an end before all lines were gone through
 abbrev pub IsEarly : End → Type 0
 IsEarly Through = ⊥
 IsEarly (NoCompletion line) = ⊤
 IsEarly NoMemory = ⊤
-
--- a guest goes through one more line: its answer joins those before it, and what its port was told along it
-pub record GoesThrough (guest : ℕ) (does : Task) (before : List Answer) (old : List Logged) (after : List Answer) (new : List Logged) : Type 0 where
-  pub answer : Answer
-  pub answers : after ≡ before ++ answer ∷ []
-  pub calls : Grows old new (IsAnswered guest does answer)

@@ -1,3 +1,5 @@
 pub mod Opening
 pub mod Driving
+pub mod Parts
+pub mod Played
 pub mod Shown

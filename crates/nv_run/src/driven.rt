@@ -1,13 +1,13 @@
 //! A guest's thread: its port, driven through its lines.
 
 ghost use Rattle.std.specs.Prelude.{◌≡◌, ◌↔◌, IsTrue, IfErr, IfOk, OnOk, []};
-ghost use Rattle.nv_run.specs.Driving.{GoesThrough, Grows, HasWaited, IsAnswered, IsEarly, IsMet, IsThrough, look_of, shown};
+ghost use Rattle.nv_run.specs.Driving.{Grows, HasWaited, IsEarly, IsGone, IsMet, IsThrough, look_of, shown};
+ghost use Rattle.nv_run.specs.Shown.{shows};
 
-use crate::answers::Answer;
 use nv_mem::NoMemory;
 use nv_model::{Act, Reply};
 use nv_run_script::{Line, Task};
-use nv_threads::{Port, Shared};
+use nv_threads::{Port, Shared, copies};
 use std::alloc::Global;
 use std::sync::Wait;
 use std::thread;
@@ -36,124 +36,87 @@ pub enum End {
     NoMemory,
 }
 
-/// What a guest's thread went through.
+/// What became of a guest's thread.
 #[derive(Drop)]
 pub struct Driven {
     /// what the guest acted by
     pub port: Port,
-    /// what the lines that it went through came to, in order
-    pub answers: Vec<Answer>,
     /// how it ended
     pub end: End,
 }
 
 /// Drives a guest's port through its lines, in order, to the first that doesn't end well. This waits for the world's lock.
 ///
-/// A port that was told nothing before has been told, where all lines were gone through, what the lines say with these answers, in order.
+/// A port that was told nothing before has been told, where all lines were gone through, just what they say.
 pub fn drive<R: Wait + Clock>(
     rt: &R,
     alloc: Global,
     shared: &Shared,
-    port: Port,
-    lines: Vec<Line>,
+    mut port: Port,
+    lines: &[Line],
 ) -> Driven
     ensures guest { result.port.guest ≡ port.guest }
-    ensures through { port.calls ≡ [] → IsThrough port.guest lines.items result.answers.items result.port.calls result.end }
+    ensures through { port.calls ≡ [] → IsThrough port.guest lines.now result.port.calls result.end }
 {
-    let mut driven = Driven {
-        port,
-        answers: Vec::new(alloc),
-        end: End::Through,
-    };
     for line in lines {
-        if let Err(end) = driven.go_through(rt, alloc, shared, line) {
-            return driven.ended(end);
+        if let Err(end) = go_through(rt, alloc, shared, &mut port, line) {
+            return Driven { port, end };
         }
     }
-    driven
-}
-
-impl Driven {
-    // It ended so.
-    fn ended(self, end: End) -> Self
-        ensures port { result.port ≡ self.port }
-        ensures answers { result.answers.items ≡ self.answers.items }
-        ensures end { result.end ≡ end }
-    {
-        Driven { end, ..self }
-    }
-
-    // Goes through a line, and keeps what it comes to.
-    fn go_through<R: Wait + Clock>(
-        &mut self,
-        rt: &R,
-        alloc: Global,
-        shared: &Shared,
-        line: Line,
-    ) -> Result<(), End>
-        ensures guest { self.new.port.guest ≡ self.old.port.guest }
-        ensures end { self.new.end ≡ self.old.end }
-        ensures ok { OnOk result (GoesThrough self.old.port.guest line.task self.old.answers.items self.old.port.calls self.new.answers.items self.new.port.calls) }
-        ensures err { IfErr result IsEarly }
-    {
-        if self.answers.reserve(1).is_err() {
-            return Err(End::NoMemory);
-        }
-        let answer = answer(rt, alloc, shared, &mut self.port, line)?;
-        self.answers.push_reserved(answer);
-        Ok(())
+    Driven {
+        port,
+        end: End::Through,
     }
 }
 
-// What a line comes to.
-fn answer<R: Wait + Clock>(
+// Goes through a line.
+fn go_through<R: Wait + Clock>(
     rt: &R,
     alloc: Global,
     shared: &Shared,
     port: &mut Port,
-    line: Line,
-) -> Result<Answer, End>
+    line: &Line,
+) -> Result<(), End>
     ensures guest { port.new.guest ≡ port.old.guest }
-    ensures ok { IfOk result (λ answer. Grows port.old.calls port.new.calls (IsAnswered port.old.guest line.task answer)) }
+    ensures ok { OnOk result (Grows port.old.calls port.new.calls (IsGone port.old.guest line.now.task)) }
     ensures err { IfErr result IsEarly }
 {
-    let Line {
-        number,
-        guest: _,
-        task,
-    } = line;
-    match task {
-        Task::Act(act) => match port.act(rt, alloc, shared, act) {
-            Ok(reply) => Ok(Answer::Reply(reply)),
-            Err(NoMemory) => Err(End::NoMemory),
-        },
+    match &line.task {
+        Task::Act(act) => go(rt, alloc, shared, port, act),
         Task::Await { addr, value } => {
-            met(
-                rt,
-                alloc,
-                shared,
-                port,
-                Probe::Memory { addr },
-                value,
-                number,
-            )
+            let probe = Probe::Memory { addr: *addr };
+            meet(rt, alloc, shared, port, probe, *value, line.number)
         }
         Task::AwaitReg { offset, value } => {
-            met(
-                rt,
-                alloc,
-                shared,
-                port,
-                Probe::Register { offset },
-                value,
-                number,
-            )
+            let probe = Probe::Register { offset: *offset };
+            meet(rt, alloc, shared, port, probe, *value, line.number)
         }
     }
 }
 
-// What a line of this number comes to that waits for a value.
-fn met<R: Wait + Clock>(
+// Acts once.
+fn go<R: Wait>(
+    rt: &R,
+    alloc: Global,
+    shared: &Shared,
+    port: &mut Port,
+    act: &Act,
+) -> Result<(), End>
+    ensures guest { port.new.guest ≡ port.old.guest }
+    ensures ok { OnOk result (Grows port.old.calls port.new.calls (IsGone port.old.guest (Task.Act act.now))) }
+    ensures err { IfErr result IsEarly }
+{
+    let Ok(act) = copies::act(alloc, act) else {
+        return Err(End::NoMemory);
+    };
+    match port.act(rt, alloc, shared, act) {
+        Ok(_) => Ok(()),
+        Err(NoMemory) => Err(End::NoMemory),
+    }
+}
+
+// Goes through a line of this number that waits for a value.
+fn meet<R: Wait + Clock>(
     rt: &R,
     alloc: Global,
     shared: &Shared,
@@ -161,30 +124,30 @@ fn met<R: Wait + Clock>(
     probe: Probe,
     value: u32,
     number: u64,
-) -> Result<Answer, End>
+) -> Result<(), End>
     ensures guest { port.new.guest ≡ port.old.guest }
-    ensures ok { IfOk result (λ answer. (answer ≡ Answer.Met) × Grows port.old.calls port.new.calls (IsMet port.old.guest (look_of probe) value)) }
+    ensures ok { OnOk result (Grows port.old.calls port.new.calls (IsMet port.old.guest (look_of probe) value)) }
     ensures err { IfErr result IsEarly }
 {
     match wait_for(rt, alloc, shared, port, probe, value) {
-        Ok(true) => Ok(Answer::Met),
+        Ok(true) => Ok(()),
         Ok(false) => Err(End::NoCompletion { line: number }),
         Err(NoMemory) => Err(End::NoMemory),
     }
 }
 
-// What a line that waits looks at.
+/// What a line that waits looks at.
 #[derive(Clone, Copy, Debug)]
-enum Probe {
-    // the four bytes at this address
+pub(crate) enum Probe {
+    /// the four bytes at this address
     Memory { addr: u64 },
-    // the register at this offset
+    /// the register at this offset
     Register { offset: u32 },
 }
 
 impl Probe {
-    // One look.
-    fn act(self) -> Act
+    /// One look.
+    pub(crate) fn act(self) -> Act
         ensures { result ≡ look_of self }
     {
         match self {
@@ -216,9 +179,10 @@ fn wait_for<R: Wait + Clock>(
     Ok(false)
 }
 
-// Whether a reply has the bytes of this value, lowest first.
-fn shows(reply: &Reply, value: u32) -> bool
-    ensures { IsTrue result ↔ (reply.now ≡ shown value) }
+/// Whether a reply has the bytes of this value, lowest first.
+pub(crate) fn shows(reply: &Reply, value: u32) -> bool
+    ensures is { IsTrue result ↔ (reply.now ≡ shown value) }
+    ensures value { result ≡ shows value reply.now }
 {
     match reply {
         Reply::Bytes(bytes) => bytes.as_slice() == value.to_le_bytes().as_slice(),

@@ -1,23 +1,25 @@
-//! What `nvmed run` does: a script's world under a lock, each guest's lines in a thread of their own, and a line for each answer.
+//! What `nvmed run` does: a script's world under a lock, each guest's lines in a thread of their own, and a line of output for each of them.
 //!
 //! [`read`] takes a script whole, and opens its world. [`play`] runs its guests beside the mediator's workers until all guests are through,
-//! and compares what the guests were told with the world's log. [`print`] prints the answers.
+//! and compares what the guests were told with the world's log, and with their lines. [`print`] prints what the lines came to.
 //!
-//! A guest's thread goes through its lines by its port: what the port's list says of that is `specs/Driven`. What is printed of the answers
-//! is `specs/Answers`. Of what threads do beside each other nothing is claimed but what `nv_threads` says.
+//! A guest's thread goes through its lines by its port: what the port's list says of that is `specs/Driving`. What is printed is by the lines
+//! and the log alone (`specs/Shown`): `specs/Played` says of which log. Of what threads do beside each other nothing is claimed but what
+//! `nv_threads` says.
 #![tactic(auto)]
 
-mod answers;
 mod driven;
 mod fault;
 mod opening;
+mod part;
 mod played;
 mod printing;
 mod stage;
+mod walk;
 
-pub use answers::Answer;
 pub use driven::{Driven, End, drive};
 pub use fault::RunFault;
 pub use opening::{Run, read};
-pub use played::{Played, Told, play};
+pub use part::Part;
+pub use played::{Played, play};
 pub use printing::print;

@@ -1,20 +1,20 @@
 //! From a text to a world and the guests that act in it.
 
-ghost use Rattle.std.specs.Prelude.{◌≡◌, ◌<◌, map, MatchResult};
+ghost use Rattle.std.specs.Prelude.{◌≡◌, ◌<◌, IfOk, map, MatchResult};
 ghost use Rattle.nv_replay.specs.Opening.{IsFaultOf, set_up_of};
 ghost use Rattle.nv_replay_script.specs.ReplaySetUp.{guest_value};
 ghost use Rattle.nv_run.specs.Opening.{run_of};
+ghost use Rattle.nv_run.specs.Parts.{AreParted};
+ghost use Rattle.nv_run.specs.Played.{ArePartsOf};
 ghost use Rattle.nv_world.specs.Mediated.{mediated};
 
+use crate::part::{GUESTS, Part, cast};
 use nv_replay::{ReplayFault, open_world};
 use nv_replay_script::GuestSetUp;
-use nv_run_script::{Line, Script, parse};
+use nv_run_script::{Script, parse};
 use nv_threads::Port;
 use nv_world::World;
 use std::alloc::{AllocError, Global};
-
-/// How many guests a world can have.
-const GUESTS: u8 = 16;
 
 /// A guest before its run.
 #[derive(Drop)]
@@ -25,8 +25,6 @@ pub struct Guest {
     pub lane: u8,
     /// how many bytes its planner's heap has
     pub heap: u64,
-    /// its lines, in order
-    pub lines: Vec<Line>,
 }
 
 /// A world that was just opened, and the guests that are to act in it.
@@ -38,6 +36,8 @@ pub struct Run {
     pub(crate) lanes: u8,
     /// its guests, in order
     pub(crate) guests: Vec<Guest>,
+    /// what each guest is to do, by its number
+    pub(crate) parts: Vec<Part>,
 }
 
 /// Reads a script whole, and opens its world.
@@ -46,7 +46,8 @@ pub struct Run {
 ///
 /// The first faulty line; the first guest whose regions are no map; why the set-up is refused; or that memory was refused.
 pub fn read(alloc: Global, text: &[u8]) -> Result<Run, ReplayFault>
-    ensures { MatchResult result (λ run. run_of text.now ≡ Ok (mediated run.world).setup) (IsFaultOf (run_of text.now)) }
+    ensures opened { MatchResult result (λ run. run_of text.now ≡ Ok (mediated run.world).setup) (IsFaultOf (run_of text.now)) }
+    ensures parts { IfOk result (λ run. ArePartsOf text.now run.parts.items) }
 {
     let script = parse(alloc, text)?;
     open(alloc, script)
@@ -54,8 +55,9 @@ pub fn read(alloc: Global, text: &[u8]) -> Result<Run, ReplayFault>
 
 // Opens the world of a script.
 fn open(alloc: Global, script: Script) -> Result<Run, ReplayFault>
-    ensures { let wanted = set_up_of script.sizes (map guest_value script.guests.items)
+    ensures opened { let wanted = set_up_of script.sizes (map guest_value script.guests.items)
         in MatchResult result (λ run. wanted ≡ Ok (mediated run.world).setup) (IsFaultOf wanted) }
+    ensures parts { IfOk result (λ run. AreParted script.lines.items run.parts.items) }
 {
     let Script {
         sizes,
@@ -65,11 +67,13 @@ fn open(alloc: Global, script: Script) -> Result<Run, ReplayFault>
     let heaps = heaps_of(alloc, &guests)?;
     let world = open_world(alloc, sizes, guests)?;
     let lanes = sizes.lanes as u8;
-    let guests = cast(alloc, lanes, &heaps, lines)?;
+    let guests = guests_with(alloc, lanes, &heaps)?;
+    let parts = cast(alloc, lines)?;
     Ok(Run {
         world,
         lanes,
         guests,
+        parts,
     })
 }
 
@@ -82,8 +86,8 @@ fn heaps_of(alloc: Global, guests: &[GuestSetUp]) -> Result<Vec<u64>, AllocError
     Ok(heaps)
 }
 
-// The guests with these heaps, each with its own of these lines. A guest's planner works by the lane of its number modulo their number.
-fn cast(alloc: Global, lanes: u8, heaps: &[u64], lines: Vec<Line>) -> Result<Vec<Guest>, AllocError>
+// The guests with these heaps. A guest's planner works by the lane of its number modulo their number.
+fn guests_with(alloc: Global, lanes: u8, heaps: &[u64]) -> Result<Vec<Guest>, AllocError>
     requires { 0 < lanes }
 {
     let mut guests = Vec::new(alloc);
@@ -95,13 +99,7 @@ fn cast(alloc: Global, lanes: u8, heaps: &[u64], lines: Vec<Line>) -> Result<Vec
             port: Port::new(alloc, number),
             lane: number % lanes,
             heap: *heap,
-            lines: Vec::new(alloc),
         })?;
-    }
-    for line in lines {
-        if let Some(guest) = guests.get_mut(line.guest) {
-            guest.lines.push(line)?;
-        }
     }
     Ok(guests)
 }

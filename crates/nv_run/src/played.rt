@@ -1,28 +1,20 @@
 //! A run from its world to its answers.
 
 ghost use Rattle.std.specs.Prelude.{IfOk};
-ghost use Rattle.nv_threads.specs.Finished.{IsFinished};
+ghost use Rattle.nv_run.specs.Played.{IsPlayed};
 
-use crate::answers::Answer;
 use crate::driven::{Driven, End};
 use crate::fault::RunFault;
 use crate::opening::Run;
+use crate::part::Part;
 use crate::stage::{Staged, stage};
+use crate::walk::check_parts;
 use nv_threads::{Port, Share, Shared, finish};
 use nv_world::World;
-use std::alloc::Global;
+use std::alloc::{AllocError, Global};
 use std::sync::Wait;
 use std::thread::Threads;
 use std::time::Clock;
-
-/// What a guest was told.
-#[derive(Drop)]
-pub struct Told {
-    /// its number
-    pub guest: u8,
-    /// what its lines came to, in order
-    pub answers: Vec<Answer>,
-}
 
 /// A run that ended well.
 #[derive(Drop)]
@@ -33,8 +25,8 @@ pub struct Played {
     pub ports: Vec<Port>,
     /// how much each worker put into the log
     pub shares: Vec<Share>,
-    /// what the guests were told
-    pub told: Vec<Told>,
+    /// what each guest did, by its number
+    pub parts: Vec<Part>,
 }
 
 /// Runs the guests of a script in threads of their own, beside the mediator's workers.
@@ -42,44 +34,43 @@ pub struct Played {
 /// # Errors
 ///
 /// Memory was refused to a guest's thread, or to what goes on around the threads; else the lowest line whose wait wasn't met; else the
-/// first difference between the log and what ports and workers kept.
+/// first difference between the log and what ports and workers kept, or between what a port was told and what its guest's lines say.
 pub fn play<R: Threads + Wait + Clock + Sync>(
     rt: &R,
     alloc: Global,
     run: Run,
 ) -> Result<Played, RunFault>
-    ensures finished { IfOk result (λ played. IsFinished played.world.log played.ports.items played.shares.items) }
+    ensures { IfOk result (IsPlayed run.parts.items) }
 {
     let Run {
         world,
         lanes,
         guests,
+        parts,
     } = run;
     let shared = Shared::new(world);
-    let Staged { driven, shares } = stage(rt, alloc, &shared, lanes, guests)?;
+    let Staged { driven, shares } = stage(rt, alloc, &shared, lanes, guests, &parts)?;
     let world = shared.close();
     check_ends(&driven)?;
-    let mut ports = Vec::with_capacity(alloc, driven.len())?;
-    let mut told = Vec::with_capacity(alloc, driven.len())?;
-    for one in driven {
-        let Driven {
-            port,
-            answers,
-            end: _,
-        } = one;
-        told.push(Told {
-            guest: port.guest(),
-            answers,
-        })?;
-        ports.push(port)?;
-    }
+    let ports = ports_of(alloc, driven)?;
     finish(&world, &ports, &shares)?;
+    check_parts(&parts, &ports)?;
     Ok(Played {
         world,
         ports,
         shares,
-        told,
+        parts,
     })
+}
+
+// The ports that the guests acted by.
+fn ports_of(alloc: Global, driven: Vec<Driven>) -> Result<Vec<Port>, AllocError> {
+    let mut ports = Vec::with_capacity(alloc, driven.len())?;
+    for one in driven {
+        let Driven { port, end: _ } = one;
+        ports.push(port)?;
+    }
+    Ok(ports)
 }
 
 // That all guests' threads went through all their lines. Want of memory goes before a wait that was not met, and of these the lowest line.

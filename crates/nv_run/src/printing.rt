@@ -2,70 +2,94 @@
 
 ghost use Rattle.std.specs.Prelude.{OnOk};
 ghost use Rattle.std.specs.Io.KnownBytes.{Appends};
-ghost use Rattle.nv_run.specs.Shown.{answer_line, answer_lines, guest_lines, printed, told_lines};
+ghost use Rattle.nv_run.specs.Parts.{part_of};
+ghost use Rattle.nv_run.specs.Shown.{first_line, guest_lines, line_of, lines_below, met_line};
+ghost use Rattle.nv_run.specs.Played.{PrintsPlayed};
+ghost use Rattle.nv_threads.specs.Finished.{told_to};
 
-use crate::answers::Answer;
-use crate::played::Told;
+use crate::part::{GUESTS, Part, lines_of};
+use crate::played::Played;
+use crate::walk::behind;
 use nv_print::{CannotWrite, print_text};
 use nv_replay::print_reply;
+use nv_run_script::{Line, Task};
+use nv_threads::{Port, told_to};
+use nv_world_model::Logged;
 use std::io::Write;
 
-/// How many guests there can be.
-const GUESTS: u8 = 16;
-
-/// Prints the answers to each guest's lines, guest by guest, and `ok` behind them.
+/// Prints what each guest's lines came to, guest by guest, and `ok` behind them: of an act its reply, and of a wait that it was met.
 ///
 /// # Errors
 ///
 /// The output failed; what it holds is then a beginning of what was to be printed.
-pub fn print<W: Write>(told: &[Told], output: &mut W) -> Result<(), CannotWrite>
-    ensures { OnOk result (Appends (W.contents output.old) (W.contents output.new) (printed told.now)) }
+pub fn print<W: Write>(played: &Played, output: &mut W) -> Result<(), CannotWrite>
+    ensures { OnOk result (PrintsPlayed played.now (W.contents output.old) (W.contents output.new)) }
 {
-    for guest in 0..GUESTS {
-        print_guest(guest, told, output)?;
-    }
+    print_guests(&played.parts, &played.ports, output)?;
     print_text(b"ok\n", output)
 }
 
-// Prints what a guest was told.
-fn print_guest<W: Write>(guest: u8, told: &[Told], output: &mut W) -> Result<(), CannotWrite>
-    ensures { OnOk result (Appends (W.contents output.old) (W.contents output.new) (guest_lines guest told.now)) }
+// Prints what all guests' lines came to.
+fn print_guests<W: Write>(parts: &[Part], ports: &[Port], output: &mut W) -> Result<(), CannotWrite>
+    ensures { OnOk result (Appends (W.contents output.old) (W.contents output.new)
+        (lines_below 16 (λ guest. part_of guest parts.now) (λ guest. told_to guest ports.now))) }
 {
-    for one in told {
-        print_told(guest, one, output)?;
+    for guest in 0..GUESTS {
+        print_guest(guest, lines_of(parts, guest), told_to(ports, guest), output)?;
     }
     Ok(())
 }
 
-// Prints it if it is what this guest was told.
-fn print_told<W: Write>(guest: u8, one: &Told, output: &mut W) -> Result<(), CannotWrite>
-    ensures { OnOk result (Appends (W.contents output.old) (W.contents output.new) (told_lines guest one.now)) }
+// Prints what a guest's lines came to, of which its port was told these calls.
+fn print_guest<W: Write>(
+    guest: u8,
+    lines: &[Line],
+    calls: &[Logged],
+    output: &mut W,
+) -> Result<(), CannotWrite>
+    ensures { OnOk result (Appends (W.contents output.old) (W.contents output.new) (guest_lines guest lines.now calls.now)) }
 {
-    if one.guest == guest {
-        print_answers(guest, &one.answers, output)?;
+    let mut left = calls;
+    for line in lines {
+        print_line(guest, &line.task, left, output)?;
+        left = behind(&line.task, left);
     }
     Ok(())
 }
 
-// Prints a guest's answers, a line each.
-fn print_answers<W: Write>(guest: u8, answers: &[Answer], output: &mut W) -> Result<(), CannotWrite>
-    ensures { OnOk result (Appends (W.contents output.old) (W.contents output.new) (answer_lines guest answers.now)) }
+// Prints what a line came to, of which its guest's port was told the first of these calls.
+fn print_line<W: Write>(
+    guest: u8,
+    task: &Task,
+    calls: &[Logged],
+    output: &mut W,
+) -> Result<(), CannotWrite>
+    ensures { OnOk result (Appends (W.contents output.old) (W.contents output.new) (line_of guest task.now calls.now)) }
 {
-    for answer in answers {
-        print_answer(guest, answer, output)?;
+    match task {
+        Task::Act(_) => print_first(guest, calls, output),
+        Task::Await { addr: _, value: _ } => print_met(guest, output),
+        Task::AwaitReg {
+            offset: _,
+            value: _,
+        } => print_met(guest, output),
     }
-    Ok(())
 }
 
-// Prints the line of an answer.
-fn print_answer<W: Write>(guest: u8, answer: &Answer, output: &mut W) -> Result<(), CannotWrite>
-    ensures { OnOk result (Appends (W.contents output.old) (W.contents output.new) (answer_line guest answer.now)) }
+// Prints the reply of the first of these calls, if there is one.
+fn print_first<W: Write>(guest: u8, calls: &[Logged], output: &mut W) -> Result<(), CannotWrite>
+    ensures { OnOk result (Appends (W.contents output.old) (W.contents output.new) (first_line guest calls.now)) }
 {
-    match answer {
-        Answer::Reply(reply) => print_reply(u64::from(guest), reply, output),
-        Answer::Met => {
-            writeln!(output, "{guest} met")?;
-            Ok(())
-        }
+    match calls.first() {
+        Some(call) => print_reply(u64::from(guest), &call.reply, output),
+        None => Ok(()),
     }
+}
+
+// Prints that what a guest waited for was met.
+fn print_met<W: Write>(guest: u8, output: &mut W) -> Result<(), CannotWrite>
+    ensures { OnOk result (Appends (W.contents output.old) (W.contents output.new) (met_line guest)) }
+{
+    writeln!(output, "{guest} met")?;
+    Ok(())
 }

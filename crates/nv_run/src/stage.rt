@@ -2,6 +2,7 @@
 
 use crate::driven::{Driven, drive};
 use crate::opening::Guest;
+use crate::part::{Part, lines_of};
 use crossbeam_channel::{Sender, bounded};
 use nv_threads::{Open, Share, Shared, device_loop, planner, reaper};
 use std::alloc::{AllocError, Global};
@@ -40,6 +41,7 @@ pub fn stage<R: Threads + Wait + Clock + Sync>(
     shared: &Shared,
     lanes: u8,
     guests: Vec<Guest>,
+    parts: &[Part],
 ) -> Result<Staged, AllocError> {
     thread::scope(thread::scope_env(), rt, |scope| {
         let curtain = Curtain(shared);
@@ -64,8 +66,8 @@ pub fn stage<R: Threads + Wait + Clock + Sync>(
                 port,
                 lane: _,
                 heap: _,
-                lines,
             } = guest;
+            let lines = lines_of(parts, port.guest());
             let to = to.clone()?;
             let thread = scope.spawn(move || {
                 let driven = drive(rt, alloc, shared, port, lines);

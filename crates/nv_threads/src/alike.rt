@@ -6,7 +6,7 @@ use nv_mem::Bytes;
 use nv_model::{Act, Reply};
 
 /// Whether two acts are the same.
-pub(crate) fn same_act(a: &Act, b: &Act) -> bool
+pub fn same_act(a: &Act, b: &Act) -> bool
     ensures { IsTrue result ↔ (a.now ≡ b.now) }
 {
     match a {

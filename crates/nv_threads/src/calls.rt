@@ -68,8 +68,8 @@ fn is_single(ports: &[Port], guest: u8) -> bool
     ports.iter().filter(|port| port.guest() == guest).count() <= 1
 }
 
-// What a guest's port was told; nothing where it has none.
-fn told_to(ports: &[Port], guest: u8) -> &[Logged]
+/// What a guest's port was told; nothing where it has none. Of several ports of a guest it is the first.
+pub fn told_to(ports: &[Port], guest: u8) -> &[Logged]
     ensures { result.now ≡ told_to guest ports.now }
 {
     for port in ports {

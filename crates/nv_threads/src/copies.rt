@@ -7,7 +7,11 @@ use nv_model::Act;
 use std::alloc::Global;
 
 /// An act once more. Memory is taken for the bytes of a store alone.
-pub(crate) fn act(alloc: Global, act: &Act) -> Result<Act, NoMemory>
+///
+/// # Errors
+///
+/// There was no memory for them.
+pub fn act(alloc: Global, act: &Act) -> Result<Act, NoMemory>
     ensures { IfOk result (λ copy. copy ≡ act.now) }
 {
     match act {

@@ -14,9 +14,9 @@
 //! gets on, or that a guest, a planner or the device ever gets a turn.
 #![tactic(auto)]
 
-mod alike;
+pub mod alike;
 mod calls;
-mod copies;
+pub mod copies;
 mod counting;
 mod device_side;
 mod finishing;
@@ -33,6 +33,7 @@ mod sums;
 mod tasks;
 mod telling;
 
+pub use calls::told_to;
 pub use device_side::device_loop;
 pub use finishing::finish;
 pub use gate::{Gate, Open};

@@ -1,16 +1,9 @@
-use Rattle.std.proofs.Common.{◌≡◌, [], length}
-use Rattle.std.specs.Vec.Iter.{into_iter_items, into_iter_len}
-use Rattle.nv_run.specs.declared.driven.End.TheVariants.{Through}
-use Rattle.nv_run.proofs.Drives.{SoFar}
+use Rattle.std.proofs.Common.{◌≡◌, [], take}
+use Rattle.nv_run.specs.Driving.{AreGone}
 use Rattle.nv_run.proofs.driven.drive.Given as goal
 
--- the lines before those that are left came to the answers so far
+-- the port was told just what the lines so far say
 abbrev pub invariant-loop-line : goal.invariant-loop-line
 invariant-loop-line g l =
-    (l.fn.port.calls ≡ []
-    → SoFar l.fn.port.guest l.fn.lines.items l.driven.answers.items l.driven.port.calls (into_iter_items l.line-iterator))
-    × (l.driven.port.guest ≡ l.fn.port.guest)
-    × (l.driven.end ≡ Through)
-    × (length (into_iter_items l.line-iterator) ≡ into_iter_len l.line-iterator)
-    × (goal.iterator-loop-line g).can_next l.line-iterator
-    × (goal.iterator-loop-line g).is_finite l.line-iterator
+    (l.initial.port.calls ≡ [] → AreGone l.initial.port.guest (take l.line-index l.lines) l.port.calls)
+    × (l.port.guest ≡ l.initial.port.guest)

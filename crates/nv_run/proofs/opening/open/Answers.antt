@@ -8,6 +8,6 @@ overflow_cast-lanes c =
     let few = lanes-few c.args.script.sizes (map guest_value c.args.script.guests.items) _ c.in_ok-world.ensures.opened c.in_ok-world.ensures.accepted in
     omega (arith, few)
 
-pub cast-requires : goal.cast-requires
-cast-requires c =
+pub guests_with-requires : goal.guests_with-requires
+guests_with-requires c =
     lanes-some c.args.script.sizes (map guest_value c.args.script.guests.items) _ c.in_ok-world.ensures.opened c.in_ok-world.ensures.accepted
