@@ -1,8 +1,7 @@
 -- What is printed of a run's guests
-use Rattle.std.proofs.Common.{ℕ, List, Option, Some, None}
+use Rattle.std.proofs.Common.{ℕ, List, Option}
 use Rattle.std.specs.Prelude.{IfOk, Result, Ok, Err}
-use Rattle.nv_run.specs.Played.{AreRead, IsPlayOf, IsPlayed, PrintsPlayed, PrintsText}
-use Rattle.nv_run.specs.declared.part.Part.{Part}
+use Rattle.nv_run.specs.Played.{IsPlayOf, PrintsPlayed, PrintsText}
 use Rattle.nv_run.specs.declared.played.Played.{Played}
 use Rattle.nv_run.proofs.Plays.{text-printed}
 

@@ -5,7 +5,6 @@ use Rattle.nv_print.specs.Printed.{line_feed}
 use Rattle.nv_run.specs.Driving.{AreGone}
 use Rattle.nv_run.specs.Parts.{lines_of, part_of}
 use Rattle.nv_run.specs.Played.{ArePartsOf, IsPlayOf, IsPlayed, PrintsPlayed, PrintsRun, PrintsText}
-use Rattle.nv_run.specs.Shown.{printed}
 use Rattle.nv_run.specs.declared.part.Part.{Part}
 use Rattle.nv_run.specs.declared.played.Played.{Played}
 use Rattle.nv_run.proofs.Printings.{lines_below-same}

@@ -1,4 +1,4 @@
-use Rattle.std.proofs.Common.{◌≡◌, ◌<◌, ℕ, length, get_or, refl, sym, ap, ◌∙◌, subst, arith, rules}
+use Rattle.std.proofs.Common.{◌≡◌, ◌<◌, ℕ, length, get_or, refl, ◌∙◌, subst, arith, rules}
 use Rattle.nv_run.specs.Driving.{Grows, IsGone}
 use Rattle.nv_run.proofs.Drives.{AreGone-all, AreGone-more, AreGone-none}
 use Rattle.nv_run.proofs.driven.drive.Goals as goal

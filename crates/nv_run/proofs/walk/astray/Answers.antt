@@ -1,4 +1,4 @@
-use Rattle.std.proofs.Common.{◌≡◌, ◌<◌, ◌≤◌, List, [], ◌∷◌, length, get_or, drop, sym, ap, ◌∙◌, subst, arith, rules}
+use Rattle.std.proofs.Common.{◌≡◌, ◌<◌, length, get_or, arith, rules}
 use Rattle.std.proofs.lemmas.List.{nil_from_length}
 use Rattle.nv_run.proofs.Drives.{AreGone-front, AreGone-ended}
 use Rattle.nv_run.proofs.walk.astray.Goals as goal

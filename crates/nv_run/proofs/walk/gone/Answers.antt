@@ -1,4 +1,3 @@
-use Rattle.std.proofs.Common.{rules}
 use Rattle.nv_run.proofs.Drives.{IsGone-act}
 use Rattle.nv_run.proofs.walk.gone.Goals as goal
 
