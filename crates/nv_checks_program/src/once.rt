@@ -409,6 +409,38 @@ fn a_script_whose_writer_fails(rt: HostRuntime) -> Result<(), Fail> {
     Ok(())
 }
 
+/// A world of one guest, and 8,192 zeros that it loads.
+const REPLAYED: &str = "\
+host 0x1000000
+mediator 0x400000
+disk 4096
+lanes 1
+guest 0 range 1000 64 heap 65536
+map 0 0x0 0x100000 0x20000
+load 0 0x0 8192
+regread 0 0x8
+";
+
+/// The digits of the zeros, and 35 bytes besides, are printed.
+const REPLAYED_INTO: [Written; 8] = [
+    (0, true, Err(Fault::CannotWrite)),
+    (1, true, Err(Fault::CannotWrite)),
+    (8191, true, Err(Fault::CannotWrite)),
+    (8193, true, Err(Fault::CannotWrite)),
+    (16_393, true, Err(Fault::CannotWrite)),
+    (16_418, true, Err(Fault::CannotWrite)),
+    (20_000, false, Err(Fault::CannotWrite)),
+    (16_419, true, Ok(())),
+];
+
+#[test]
+fn a_replay_whose_writer_fails(rt: HostRuntime) -> Result<(), Fail> {
+    let digits = "00".repeat(rt.alloc(), 8192)?;
+    let whole = format!(in rt.alloc(); "1 bytes {digits}\n2 bytes 00000200\nevents 2\n")?;
+    expect_written(&rt, Command::Replay, REPLAYED, &whole, &REPLAYED_INTO);
+    Ok(())
+}
+
 /// Refusals of words, what is told, and how the program ends.
 const REFUSALS: [(Refusal, &str, ExitStatus); 2] = [
     (

@@ -1,24 +1,12 @@
 //! Guests of scripts in threads of their own. Expected lines are read off the rules by hand.
 
-use nv_flat::FlatController;
-use nv_once::{ExitStatus, Request, serve};
+use crate::bench::{SET_UP, same_text, served};
+use nv_once::ExitStatus;
 use std::process::Abort;
 use std::sync::Wait;
 use std::test::Fail;
 use std::thread::Threads;
 use std::time::Clock;
-
-/// Two guests, each with 128 KiB of memory and 64 blocks.
-const SET_UP: &str = "\
-host 0x1000000
-mediator 0x400000
-disk 4096
-lanes 1
-guest 0 range 1000 64 heap 65536
-guest 1 range 2000 64 heap 65536
-map 0 0x0 0x100000 0x20000
-map 1 0x0 0x200000 0x20000
-";
 
 /// The first guest's queue pair 1, of 16 slots each.
 const BRING_UP: &str = "\
@@ -69,28 +57,11 @@ fn expect<T: Abort + AllocGlobal + Threads + Wait + Clock + Sync>(
     } = case;
     let text = format!(in rt.alloc(); "{beginning}{lines}")?;
     let printed = format!(in rt.alloc(); "{begun}{printed}")?;
-    let mut output = Vec::new(rt.alloc());
-    let mut faults = Vec::new(rt.alloc());
-    let ended = serve::<FlatController, T, &[u8], &mut Vec<u8>, Vec<u8>>(
-        rt,
-        rt.alloc(),
-        Ok(Request::Run),
-        &mut text.as_bytes(),
-        &mut output,
-        &mut faults,
-    );
-    assert!(rt; ExitStatus::of(&ended) == *status, "{lines:?}");
-    same_text(rt, lines, &output, &printed);
-    same_text(rt, lines, &faults, told);
+    let outcome = served(rt, &text);
+    assert!(rt; outcome.status == *status, "{lines:?}");
+    same_text(rt, lines, &outcome.output, &printed);
+    same_text(rt, lines, &outcome.faults, told);
     Ok(())
-}
-
-// Ends the test where something else was written than is wanted.
-fn same_text(rt: &impl Abort, lines: &str, found: &[u8], want: &str) {
-    assert!(rt;
-        found == want.as_bytes(),
-        "{lines:?} gives {found:?}, and not {want:?}"
-    );
 }
 
 /// Behind the set-up: nothing; looks of both guests, the later guest's first; a map and a line that are refused.

@@ -1,7 +1,7 @@
 //! Four guests on two lanes, over and over. Expected lines are read off the rules by hand.
 
-use nv_flat::FlatController;
-use nv_once::{ExitStatus, Request, serve};
+use crate::bench::{same_text, served};
+use nv_once::ExitStatus;
 use std::alloc::Global;
 use std::process::Abort;
 use std::sync::Wait;
@@ -115,18 +115,13 @@ fn told_to(alloc: Global, guest: u8) -> Result<String, Fail> {
 
 // Ends the test where the program ends otherwise, or prints something else.
 fn expect<T: Abort + AllocGlobal + Threads + Wait + Clock + Sync>(rt: &T, text: &str, want: &str) {
-    let mut output = Vec::new(rt.alloc());
-    let mut faults = Vec::new(rt.alloc());
-    let ended = serve::<FlatController, T, &[u8], &mut Vec<u8>, Vec<u8>>(
-        rt,
-        rt.alloc(),
-        Ok(Request::Run),
-        &mut text.as_bytes(),
-        &mut output,
-        &mut faults,
+    let outcome = served(rt, text);
+    assert!(rt;
+        outcome.status == ExitStatus::Success,
+        "{:?}",
+        outcome.faults
     );
-    assert!(rt; ExitStatus::of(&ended) == ExitStatus::Success, "{faults:?}");
-    assert!(rt; output.as_slice() == want.as_bytes(), "{output:?}");
+    same_text(rt, text, &outcome.output, want);
 }
 
 #[test]

@@ -1,22 +1,9 @@
 //! Worlds put through the events of scripts. Expected lines are read off the rules by hand.
 
-use nv_flat::FlatController;
-use nv_once::{Command, ExitStatus, run};
-use std::alloc::Global;
+use crate::bench::{SET_UP, replayed, same_text};
+use nv_once::ExitStatus;
 use std::process::Abort;
 use std::test::Fail;
-
-/// Two guests, each with 128 KiB of memory and 64 blocks.
-const SET_UP: &str = "\
-host 0x1000000
-mediator 0x400000
-disk 4096
-lanes 1
-guest 0 range 1000 64 heap 65536
-guest 1 range 2000 64 heap 65536
-map 0 0x0 0x100000 0x20000
-map 1 0x0 0x200000 0x20000
-";
 
 /// A script, what is printed of it, what is told, and how the program ends.
 #[derive(Drop)]
@@ -27,50 +14,15 @@ struct Case {
     status: ExitStatus,
 }
 
-/// What a run printed and told, and how it ended.
-#[derive(Drop)]
-struct Outcome {
-    status: ExitStatus,
-    output: Vec<u8>,
-    faults: Vec<u8>,
-}
-
-// What the program does that is to replay this script.
-fn replay(alloc: Global, script: &str) -> Outcome {
-    let mut output = Vec::new(alloc);
-    let mut faults = Vec::new(alloc);
-    let ended = run::<FlatController, &[u8], &mut Vec<u8>, Vec<u8>>(
-        alloc,
-        Ok(Command::Replay),
-        &mut script.as_bytes(),
-        &mut output,
-        &mut faults,
-    );
-    let status = ExitStatus::of(&ended);
-    Outcome {
-        status,
-        output,
-        faults,
-    }
-}
-
 // Ends the test where the program does otherwise with the script of a case behind a beginning.
 fn expect(rt: &(impl Abort + AllocGlobal), beginning: &str, case: &Case) -> Result<(), Fail> {
     let script = case.script;
     let text = format!(in rt.alloc(); "{beginning}{script}")?;
-    let outcome = replay(rt.alloc(), &text);
+    let outcome = replayed(rt.alloc(), &text);
     same_text(rt, script, &outcome.output, case.printed);
     same_text(rt, script, &outcome.faults, case.told);
     assert!(rt; outcome.status == case.status, "{script:?}");
     Ok(())
-}
-
-// Ends the test where something else was written than is wanted.
-fn same_text(rt: &impl Abort, script: &str, found: &[u8], want: &str) {
-    assert!(rt;
-        found == want.as_bytes(),
-        "{script:?} gives {found:?}, and not {want:?}"
-    );
 }
 
 fn expect_all(
