@@ -105,7 +105,7 @@ fn command(kind: Kind) -> Sqe {
 fn job(alloc: Global, kind: Kind) -> Result<Job, NoMemory> {
     let mut reads = Transcript::new(alloc);
     for (addr, len) in kind.reads() {
-        reads.push(ReadDone::new(*addr, Bytes::new(bytes_at(alloc, *addr, *len)?)))?;
+        reads.push(ReadDone::new(*addr, Bytes::new(alloc, bytes_at(alloc, *addr, *len)?)?))?;
     }
     Ok(Job {
         lane: 0,

@@ -141,8 +141,8 @@ impl Guest {
         len: u64,
         to: &mut Transcript,
     ) -> Result<(), NoMemory> {
-        let bytes = Vec::from_slice(alloc, self.bytes(addr, len))?;
-        to.push(ReadDone::new(addr, Bytes::new(bytes)))
+        let bytes = Bytes::from_slice(alloc, self.bytes(addr, len))?;
+        to.push(ReadDone::new(addr, bytes))
     }
 
     /// A job of the command with these reads.

@@ -41,7 +41,7 @@ pub fn stores<R: Wait>(
     addr: u64,
     bytes: &[u8],
 ) -> Result<bool, NoMemory> {
-    let bytes = Bytes::new(Vec::from_slice(seat.alloc, bytes)?);
+    let bytes = Bytes::from_slice(seat.alloc, bytes)?;
     is_done(rt, seat, Act::Store { addr, bytes })
 }
 

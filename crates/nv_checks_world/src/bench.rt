@@ -73,7 +73,7 @@ fn is_due_and_done(world: &mut World, alloc: Global, event: Event) -> bool {
 
 /// Whether the guest stores bytes.
 pub fn stores(world: &mut World, alloc: Global, addr: u64, bytes: &[u8]) -> Result<bool, NoMemory> {
-    let bytes = Bytes::new(Vec::from_slice(alloc, bytes)?);
+    let bytes = Bytes::from_slice(alloc, bytes)?;
     let act = Act::Store { addr, bytes };
     Ok(is_done(world, alloc, Event::Guest(0, act)))
 }

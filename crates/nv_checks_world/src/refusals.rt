@@ -83,7 +83,7 @@ const BEHIND: &[Deed] = &[
 fn event_of(alloc: Global, deed: &Deed) -> Result<Event, NoMemory> {
     Ok(match *deed {
         Deed::Entry(addr, dwords) => {
-            let bytes = Bytes::new(Vec::from_slice(alloc, &bytes_of(&dwords))?);
+            let bytes = Bytes::from_slice(alloc, &bytes_of(&dwords))?;
             Event::Guest(0, Act::Store { addr, bytes })
         }
         Deed::Load(addr, len) => Event::Guest(0, Act::Load { addr, len }),

@@ -64,7 +64,7 @@ pub(crate) fn read_bytes(
 {
     let mut bytes = vec![in alloc; 0; len as usize]?;
     nv_bounce::load(addr, given.map(), host, &mut bytes);
-    Ok(Bytes::new(bytes))
+    Bytes::new(alloc, bytes)
 }
 
 /// Reads the dword of the register at an offset.
@@ -82,8 +82,8 @@ pub(crate) fn read_register(
     let Some(value) = vctl.reg_read(offset) else {
         return Ok(Reply::Ignored);
     };
-    let bytes = Vec::from_slice(alloc, &value.to_le_bytes())?;
-    Ok(Reply::Bytes(Bytes::new(bytes)))
+    let bytes = Bytes::from_slice(alloc, &value.to_le_bytes())?;
+    Ok(Reply::Bytes(bytes))
 }
 
 /// Writes the dword of the register at an offset.

@@ -15,8 +15,8 @@ impl ReadDone {
     pub fn try_clone(&self, alloc: Global) -> Result<Self, NoMemory>
         ensures { IfOk result (λ read. read ≡ self.now) }
     {
-        let bytes = Vec::from_slice(alloc, self.bytes())?;
-        Ok(ReadDone::new(self.addr(), Bytes::new(bytes)))
+        let bytes = Bytes::from_slice(alloc, self.bytes())?;
+        Ok(ReadDone::new(self.addr(), bytes))
     }
 }
 

@@ -42,7 +42,8 @@ pub(crate) fn fetch(
         }
         pieces = behind;
     }
-    Ok(Outcome::Settled(Bytes::new(bytes)))
+    let fetched = Bytes::new(alloc, bytes)?;
+    Ok(Outcome::Settled(fetched))
 }
 
 /// The ranges in these bytes, as the disk has them. Each lies in the namespace.

@@ -1,6 +1,7 @@
 //! The acts of guests, as their lines write them.
 ghost use Rattle.std.specs.Prelude.{◌≡◌, length, replicate, IfOk, MatchResult};
 ghost use Rattle.nv_script.specs.OnceFault.{Refuses};
+ghost use Rattle.nv_script.specs.declared.once.fault.LineFault.TheVariants.{NoMemory};
 ghost use Rattle.nv_replay_script.specs.ReplayEvents.{act_of};
 ghost use Rattle.nv_replay_script.specs.ReplayVocabulary.{act_arguments};
 ghost use Rattle.nv_replay_script.specs.declared.vocabulary.ActKind.TheVariants as kind;
@@ -40,7 +41,7 @@ fn store(alloc: Global, mut words: Words<'_>) -> Result<Act, LineFault>
         in MatchResult result (λ made. act ≡ Ok made) (Refuses act) }
 {
     let addr = number(words.next_word())?;
-    let bytes = Bytes::new(bytes(alloc, words.next_word())?);
+    let bytes = held(alloc, bytes(alloc, words.next_word())?)?;
     Ok(Act::Store { addr, bytes })
 }
 
@@ -53,8 +54,18 @@ fn fill(alloc: Global, mut words: Words<'_>) -> Result<Act, LineFault>
     let addr = number(words.next_word())?;
     let len = up_to(words.next_word(), FILL_MAX)?;
     let value = byte(words.next_word())?;
-    let bytes = Bytes::new(equal_bytes(alloc, len as usize, value)?);
+    let bytes = held(alloc, equal_bytes(alloc, len as usize, value)?)?;
     Ok(Act::Store { addr, bytes })
+}
+
+// The bytes of the vector as those of an act.
+fn held(alloc: Global, bytes: Vec<u8>) -> Result<Bytes, LineFault>
+    ensures { MatchResult result (λ held. held ≡ bytes.items) (λ fault. fault ≡ NoMemory) }
+{
+    let Ok(held) = Bytes::new(alloc, bytes) else {
+        return Err(LineFault::NoMemory);
+    };
+    Ok(held)
 }
 
 // The act of a line `load`, made of its words.

@@ -16,7 +16,7 @@ pub fn act(alloc: Global, act: &Act) -> Result<Act, NoMemory>
 {
     match act {
         Act::Store { addr, bytes } => {
-            let bytes = Bytes::new(Vec::from_slice(alloc, bytes.as_slice())?);
+            let bytes = Bytes::from_slice(alloc, bytes.as_slice())?;
             Ok(Act::Store { addr: *addr, bytes })
         }
         Act::Load { addr, len } => Ok(Act::Load {

@@ -37,11 +37,11 @@ pub(crate) fn tell(
 }
 
 // Room for the bytes that an act will be answered.
-fn room_for(world: &World, alloc: Global, guest: u8, act: &Act) -> Result<Vec<u8>, NoMemory>
-    ensures { IfOk result (λ room. length room.items ≡ bytes_of (slice_get world.now.geometry.guests guest) act.now) }
+fn room_for(world: &World, alloc: Global, guest: u8, act: &Act) -> Result<Bytes, NoMemory>
+    ensures { IfOk result (λ room. length room ≡ bytes_of (slice_get world.now.geometry.guests guest) act.now) }
 {
     let len = bytes_of(world, guest, act);
-    Ok(vec![in alloc; 0; len]?)
+    Bytes::new(alloc, vec![in alloc; 0; len]?)
 }
 
 // How many bytes an act will be answered.
@@ -73,15 +73,15 @@ fn bytes_of(world: &World, guest: u8, act: &Act) -> usize
 }
 
 // A reply once more, its bytes in this room.
-fn filled(mut room: Vec<u8>, reply: &Reply) -> Reply
-    requires { (bytes : List ℕ) → bytes_told reply.now ≡ Some bytes → length bytes ≡ length room.items }
+fn filled(mut room: Bytes, reply: &Reply) -> Reply
+    requires { (bytes : List ℕ) → bytes_told reply.now ≡ Some bytes → length bytes ≡ length room }
     ensures { result ≡ reply.now }
 {
     match reply {
         Reply::Done => Reply::Done,
         Reply::Bytes(bytes) => {
             room.copy_from_slice(bytes.as_slice());
-            Reply::Bytes(Bytes::new(room))
+            Reply::Bytes(room)
         }
         Reply::Idle => Reply::Idle,
         Reply::Busy => Reply::Busy,

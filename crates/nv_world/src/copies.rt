@@ -76,5 +76,5 @@ fn act(alloc: Global, act: &Act) -> Result<Act, NoMemory>
 fn bytes(alloc: Global, bytes: &Bytes) -> Result<Bytes, NoMemory>
     ensures { IfOk result (λ copy. copy ≡ bytes.now) }
 {
-    Ok(Bytes::new(Vec::from_slice(alloc, bytes.as_slice())?))
+    Bytes::from_slice(alloc, bytes.as_slice())
 }

@@ -22,5 +22,5 @@ loop-piece-preserved c =
 
 pub returns-clause-fetched : goal.returns-clause-fetched
 returns-clause-fetched c = λ f.
-    ap (λ (b : List ℕ). Settled (f b)) c.new.ensures
+    ap (λ (b : List ℕ). Settled (f b)) c.in_ok-fetched.ensures
     ∙ (IsFetching-end c.args.places.now c.args.reads.now c.loop-piece.pieces.now c.loop-piece.bytes.items c.loop-piece.reads c.loop-piece.invariant c.in_default.ensures.cases).0 f
