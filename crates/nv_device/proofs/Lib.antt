@@ -8,3 +8,4 @@ mod TakeLemmas
 mod UnitLemmas
 mod UnitMarks
 mod LeftLemmas
+mod PagedLemmas

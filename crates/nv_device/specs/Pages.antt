@@ -1,6 +1,7 @@
 -- Reading PRPs in a host: Base Specification 2.0, "Physical Region Page Entry and List"
-use Rattle.std.specs.Prelude.{◌≡◌, ℕ, ◌+◌, ◌*◌, ◌<◌, ◌≤◌, min, Bool, true, false, nat_lt, List, length}
+use Rattle.std.specs.Prelude.{◌≡◌, ℕ, ◌+◌, ◌*◌, ◌<◌, ◌≤◌, min, Bool, true, false, nat_lt, All, List, drop, length, take}
 use Rattle.nv_mem.specs.GuestMap.{everywhere}
+use Rattle.nv_mem.specs.Places.{piece_len}
 use Rattle.nv_mem.specs.declared.piece.Piece.{Piece}
 use Rattle.nv_mem.specs.declared.piece.Piece.TheVariants.{Bucket, Run}
 use Rattle.nv_model.specs.Dialogue.{in_memory}
@@ -53,3 +54,11 @@ pub record IsNextEntry (host : List ℕ) (pages slots from entry_slots entry : �
   pub there : entry + 8 * min entry_slots pages ≤ length host
   pub some : 0 < entry_slots
   pub no_pointer : 1 < pages → 1 < entry_slots
+
+-- a piece is a page long
+abbrev pub IsPage : Piece → Type 0
+IsPage piece = piece_len piece ≡ 4096
+
+-- all pieces between the first and the last are a page long, as PRP has them
+abbrev pub ArePaged : List Piece → Type 0
+ArePaged pieces = (k : ℕ) → 1 + k < length pieces → All IsPage (take k (drop 1 pieces))

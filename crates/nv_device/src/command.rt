@@ -1,21 +1,25 @@
 //! A command in the device.
 
-ghost use Rattle.std.specs.Prelude.{◌≡◌, ◌+◌, ◌==◌, ◌<◌, ◌≤◌, ◌^◌, ◌↔◌, [], Some, true, IfOk, IsTrue};
+ghost use Rattle.std.specs.Prelude.{◌≡◌, ◌+◌, ◌==◌, ◌<◌, ◌≤◌, ◌^◌, ◌↔◌, [], Some, true, drop, IfOk, IsTrue};
 ghost use Rattle.nv_entry.specs.Opcode.{io_opcode};
 ghost use Rattle.nv_entry.specs.Submission.{opcode_of, prp1_of, prp2_of, slba_of};
 ghost use Rattle.nv_model.specs.Judge.{count_of, deallocates, is_fua};
 ghost use Rattle.nv_model.specs.Memory.{byte_in};
 ghost use Rattle.nv_world_model.specs.Device.{held_of, held_status, host_pieces, unit_count, unit_gone};
-ghost use Rattle.nv_device.specs.Pages.{host_reading, spells};
+ghost use Rattle.nv_device.specs.Pages.{ArePaged, host_reading, spells};
+ghost use Rattle.nv_mem.specs.Places.{places_of as named};
+ghost use Rattle.nv_moves.specs.Buffer.{AreBelow};
 ghost use Rattle.nv_device.specs.Physical.{len_of, names_blocks};
 ghost use Rattle.std.specs.List.{list_any};
 
+use crate::paged;
 use crate::pages::read_pages;
 use crate::spelling::spells;
 use crate::units::Units;
 use nv_entry::{IoOpcode, Sqe, Status, StatusCode};
 use nv_mem::{Host, NoMemory, Places};
 use nv_model::limits::{BLOCK_SIZE, RANGE_SIZE};
+use nv_moves::Buffer;
 use std::alloc::Global;
 use std::marker::Model;
 
@@ -30,11 +34,14 @@ pub(crate) struct Command {
 }
 
 impl Model for Command {
+    ghost use Rattle.nv_device.specs.Pages.{ArePaged};
     ghost use Rattle.nv_world_model.specs.Device.{Held};
 
     ghost Value = { Held };
 
     ghost view = { λ c. record { entry = c.sqe; pieces = c.places; left = c.left; differed = c.differed } };
+
+    ghost invariant = { λ c. ArePaged c.places };
 }
 
 impl Command {
@@ -66,6 +73,14 @@ impl Command {
         ensures { result.now ≡ self.now.pieces }
     {
         &self.places
+    }
+
+    /// What is left of these places behind the first `count`.
+    pub(crate) fn buffer_behind(&self, count: u64) -> Buffer<'_>
+        requires { AreBelow (2 ^ 64) (named self.now.pieces) }
+        ensures { result ≡ drop count (named self.now.pieces) }
+    {
+        paged::buffer_behind(self.places.pieces(), count)
     }
 
     /// SLBA, the first of its blocks.
@@ -147,7 +162,8 @@ impl Command {
 fn places_of(alloc: Global, sqe: &Sqe, host: &Host) -> Result<Places, NoMemory>
     requires { 0 < len_of (io_opcode (opcode_of sqe.now)) sqe.now →
         spells (host_reading host.now (prp1_of sqe.now) (prp2_of sqe.now) (len_of (io_opcode (opcode_of sqe.now)) sqe.now)) ≡ true }
-    ensures { IfOk result (λ places. places ≡ host_pieces (io_opcode (opcode_of sqe.now)) sqe.now (byte_in host.now)) }
+    ensures named { IfOk result (λ places. places ≡ host_pieces (io_opcode (opcode_of sqe.now)) sqe.now (byte_in host.now)) }
+    ensures paged { IfOk result ArePaged }
 {
     let len = transfer_len(sqe);
     if len == 0 {

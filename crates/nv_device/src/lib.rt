@@ -13,6 +13,7 @@ mod device;
 mod lane;
 pub mod laws;
 mod moving;
+mod paged;
 mod pages;
 mod posting;
 mod response;

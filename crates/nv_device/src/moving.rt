@@ -204,8 +204,7 @@ fn range_of(command: &Command, number: u64, host: &Host) -> Range
 {
     // The end of the host fits in 64 bits, and so do its addresses.
     let _size = host.len();
-    let mut buffer = Buffer::new(command.places());
-    buffer.skip(RANGE_SIZE as u64 * number);
+    let mut buffer = command.buffer_behind(RANGE_SIZE as u64 * number);
     let mut bytes = [0; RANGE_SIZE];
     buffer.fetch(host, &mut bytes);
     Range::of(&bytes)
@@ -291,7 +290,6 @@ fn block_of<'a>(
 {
     // Numbers of blocks and host addresses fit in 64 bits.
     let (_blocks, _size) = (disk.len(), host.len());
-    let mut buffer = Buffer::new(command.places());
-    buffer.skip(BLOCK_SIZE as u64 * number);
+    let buffer = command.buffer_behind(BLOCK_SIZE as u64 * number);
     (command.slba() + number, buffer)
 }

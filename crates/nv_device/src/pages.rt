@@ -6,7 +6,7 @@ ghost use Rattle.nv_mem.specs.declared.piece.Piece.{Piece};
 ghost use Rattle.nv_model.specs.Memory.{byte_in, bytes_from};
 ghost use Rattle.nv_model.specs.Prp.{pages_of, slots_of};
 ghost use Rattle.nv_model.specs.Reading.{Spells};
-ghost use Rattle.nv_device.specs.Pages.{IsEntryAt, behind_reading, entries_reading, host_reading, spells};
+ghost use Rattle.nv_device.specs.Pages.{ArePaged, IsEntryAt, behind_reading, entries_reading, host_reading, spells};
 
 use byteorder::{ByteOrder, LittleEndian};
 use nv_mem::{Host, NoMemory, PAGE_SIZE, Piece, Places};
@@ -27,7 +27,8 @@ pub(crate) fn read_pages(
     requires some { 0 < len }
     requires most { len < 2 ^ 32 }
     requires spelled { spells (host_reading host.now prp1 prp2 len) ≡ true }
-    ensures { IfOk result (λ places. host_reading host.now prp1 prp2 len ≡ Spells places) }
+    ensures read { IfOk result (λ places. host_reading host.now prp1 prp2 len ≡ Spells places) }
+    ensures paged { IfOk result ArePaged }
 {
     let first = len.min(PAGE_SIZE - prp1 % PAGE_SIZE);
     let left = len - first;
@@ -54,7 +55,9 @@ pub(crate) fn pages_of(bytes: u64) -> u64
 fn read_behind(host: &Host, prp2: u64, bytes: u64, places: &mut Places) -> Result<(), NoMemory>
     requires most { bytes < 2 ^ 32 }
     requires spelled { spells (behind_reading host.now (pages_of bytes) prp2 bytes places.old) ≡ true }
-    ensures { OnOk result (behind_reading host.now (pages_of bytes) prp2 bytes places.old ≡ Spells places.new) }
+    requires first { length places.old ≡ 1 }
+    ensures read { OnOk result (behind_reading host.now (pages_of bytes) prp2 bytes places.old ≡ Spells places.new) }
+    ensures paged { OnOk result (ArePaged places.new) }
 {
     let pages = pages_of(bytes);
     match pages {
@@ -80,7 +83,9 @@ fn read_list(
     requires full { 4096 * pages < bytes + 4096 }
     requires spelled { spells (entries_reading host.now pages (slots_of list) list bytes places.old) ≡ true }
     requires there { list + 8 * min (slots_of list) pages ≤ length host.now }
-    ensures { OnOk result (entries_reading host.now pages (slots_of list) list bytes places.old ≡ Spells places.new) }
+    requires first { length places.old ≡ 1 }
+    ensures read { OnOk result (entries_reading host.now pages (slots_of list) list bytes places.old ≡ Spells places.new) }
+    ensures paged { OnOk result (ArePaged places.new) }
 {
     // The end of the host fits in 64 bits, and so does the place behind a slot.
     let _size = host.len();

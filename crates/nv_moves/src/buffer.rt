@@ -33,9 +33,16 @@ impl<'a> Buffer<'a> {
     pub fn new(places: &'a Places) -> Self
         ensures { result ≡ places_of places.now }
     {
+        Buffer::of(places.pieces())
+    }
+
+    /// The buffer of these pieces.
+    pub fn of(pieces: &'a [Piece]) -> Self
+        ensures { result ≡ places_of pieces.now }
+    {
         Buffer {
             under_way: Piece::Bucket { len: 0 },
-            behind: places.pieces(),
+            behind: pieces,
         }
     }
 

@@ -1,4 +1,4 @@
-use Rattle.std.proofs.Common.{◌≡◌, ◌*◌, length, drop, refl, arith, ap, ◌∙◌}
+use Rattle.std.proofs.Common.{◌*◌, length, refl, arith, ap}
 use Rattle.std.proofs.lemmas.List.{length-drop}
 use Rattle.nv_entry.specs.Opcode.{io_opcode}
 use Rattle.nv_entry.specs.Submission.{opcode_of}
@@ -26,7 +26,6 @@ returns-clause-there c =
 pub returns-clause-enough : goal.returns-clause-enough
 returns-clause-enough c =
     let there = transfer-there (length c.args.disk.now) c.args.host.now c.args.number c.args.command.now (io_opcode (opcode_of c.args.command.now.entry)) refl c.requires.transfer c.requires.ready in
-    let len : length c.skip.new.self ≡ length (drop (512 * c.args.number) (places_of c.args.command.now.pieces)) =
-    ap length (c.skip.ensures ∙ ap (drop (512 * c.args.number)) (c.new-buffer.ensures ∙ ap places_of c.places.ensures)) in
+    let len = ap length c.buffer_behind-buffer.ensures in
     let left = length-drop (512 * c.args.number) (places_of c.args.command.now.pieces) in
     omega arith

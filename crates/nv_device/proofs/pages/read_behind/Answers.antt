@@ -1,9 +1,10 @@
-use Rattle.std.proofs.Common.{◌≡◌, ℕ, ◌++◌, ◌∷◌, [], List, sym, ap, ◌∙◌, arith}
+use Rattle.std.proofs.Common.{◌≡◌, ℕ, ◌++◌, ◌∷◌, [], List, sym, subst, ap, ◌∙◌, arith}
 use Rattle.nv_mem.specs.declared.piece.Piece.{Piece}
 use Rattle.nv_mem.specs.declared.piece.Piece.TheVariants.{Run}
 use Rattle.nv_model.specs.Prp.{pages_of, slots_of}
 use Rattle.nv_model.specs.Reading.{Spells}
-use Rattle.nv_device.specs.Pages.{entries_reading, spells}
+use Rattle.nv_device.specs.Pages.{ArePaged, entries_reading, spells}
+use Rattle.nv_device.proofs.PagedLemmas.{paged-few, paged-push, pages-none}
 use Rattle.nv_device.proofs.PageLemmas.{behind-list, behind-none, behind-one, on_ok}
 use Rattle.nv_device.proofs.pages.read_behind.Goals as goal
 
@@ -25,11 +26,11 @@ read_list-requires-clause-there c =
     let there = (behind-list c.args.host.now (pages_of c.args.bytes) c.args.prp2 c.args.bytes c.args.places.now (omega arith) c.requires.spelled).there in
     rw n there
 
-pub returns-in-0 : goal.returns-in-0
-returns-in-0 c = behind-none c.args.host.now (pages_of c.args.bytes) c.args.prp2 c.args.bytes c.args.places.now (let n = c.pages_of-pages.ensures.value in let is = c.in-0.is in omega arith)
+pub returns-in-0-clause-read : goal.returns-in-0-clause-read
+returns-in-0-clause-read c = behind-none c.args.host.now (pages_of c.args.bytes) c.args.prp2 c.args.bytes c.args.places.now (let n = c.pages_of-pages.ensures.value in let is = c.in-0.is in omega arith)
 
-pub returns-in-1 : goal.returns-in-1
-returns-in-1 c =
+pub returns-in-1-clause-read : goal.returns-in-1-clause-read
+returns-in-1-clause-read c =
     on_ok c.push.result (c.push.new.self ≡ c.args.places.now ++ Run c.args.prp2 c.args.bytes ∷ []) _
     (λ added.
     let one : pages_of c.args.bytes ≡ 1 = (let n = c.pages_of-pages.ensures.value in let is = c.in-1.is in omega arith) in
@@ -37,8 +38,8 @@ returns-in-1 c =
     ∙ ap (λ (ps : List Piece). Spells ps) (sym added))
     c.push.ensures.ok
 
-pub returns-in_default : goal.returns-in_default
-returns-in_default c =
+pub returns-in_default-clause-read : goal.returns-in_default-clause-read
+returns-in_default-clause-read c =
     let n : c.pages_of-pages.result ≡ pages_of c.args.bytes = c.pages_of-pages.ensures.value in
     let there = behind-list c.args.host.now (pages_of c.args.bytes) c.args.prp2 c.args.bytes c.args.places.now (omega arith) c.requires.spelled in
     on_ok c.read_list.result
@@ -47,4 +48,15 @@ returns-in_default c =
     there.same
     ∙ ap (λ (k : ℕ). entries_reading c.args.host.now k (slots_of c.args.prp2) c.args.prp2 c.args.bytes c.args.places.now) (sym n)
     ∙ listed)
-    c.read_list.ensures
+    c.read_list.ensures.read
+
+pub returns-in-0-clause-paged : goal.returns-in-0-clause-paged
+returns-in-0-clause-paged c = paged-few c.args.places.now (let one = c.requires.first in omega arith)
+
+pub returns-in-1-clause-paged : goal.returns-in-1-clause-paged
+returns-in-1-clause-paged c =
+    on_ok c.push.result (c.push.new.self ≡ c.args.places.now ++ Run c.args.prp2 c.args.bytes ∷ []) _
+    (λ added.
+    let A : List Piece → Type 0 = λ ps. ArePaged ps in
+    subst A (sym added) (paged-push c.args.places.now (Run c.args.prp2 c.args.bytes) (let one = c.requires.first in omega arith) (pages-none c.args.places.now c.requires.first)))
+    c.push.ensures.ok

@@ -11,8 +11,8 @@ read_behind-requires-clause-spelled c =
     (c.in_ok-push.ensures.ok ∙ ap (λ (ps : List Piece). ps ++ Run c.args.prp1 c.min-first.result ∷ []) (c.reserve.ensures ∙ c.new-places.ensures)) c.requires.spelled))
     ∙ c.requires.spelled
 
-pub returns : goal.returns
-returns c =
+pub returns-clause-read : goal.returns-clause-read
+returns-clause-read c =
     host_reading-behind c.args.host.now c.args.prp1 c.args.prp2 c.args.len c.min-first.result c.push.new.self c.requires.some c.min-first.ensures
     (c.in_ok-push.ensures.ok ∙ ap (λ (ps : List Piece). ps ++ Run c.args.prp1 c.min-first.result ∷ []) (c.reserve.ensures ∙ c.new-places.ensures)) c.requires.spelled
-    ∙ c.in_ok-read_behind.ensures
+    ∙ c.in_ok-read_behind.ensures.read
