@@ -1,16 +1,14 @@
 -- Lines one after another, of a script of any kind
-use Rattle.std.proofs.Common.{◌≡◌, ℕ, ◌+◌, ◌<◌, ◌≤◌, List, [], ◌∷◌, length, get_or, drop, Result, Ok, Err, refl, sym, ◌∙◌, arith, inl, inr, ◌⊎◌}
+use Rattle.std.proofs.Common.{◌≡◌, ℕ, ◌+◌, List, [], ◌∷◌, length, Result, Ok, Err, refl, sym, ap, ◌∙◌, arith, inl, inr, ◌⊎◌}
 use Rattle.std.specs.Option.{ok_or}
 use Rattle.std.specs.Prelude.{MatchResult}
-use Rattle.std.proofs.lemmas.List.{drop_more, drop_all}
 use Rattle.nv_script.specs.declared.once.fault.FaultKind.{FaultKind}
 use Rattle.nv_script.specs.declared.once.fault.FaultKind.TheVariants.{UnknownWord}
 use Rattle.nv_script.specs.declared.once.fault.LineFault.{LineFault}
 use Rattle.nv_script.specs.declared.once.fault.LineFault.TheVariants.{Faulty, NoMemory}
 use Rattle.nv_script.specs.declared.once.fault.ScriptFault.{ScriptFault}
 use Rattle.nv_script.specs.declared.once.fault.ScriptFault.TheVariants as fault
-use Rattle.nv_script.specs.OnceFault.{◌>>=◌, Refuses, fault_on}
-use Rattle.nv_script.specs.OnceScript.{on_line}
+use Rattle.nv_script.specs.OnceFault.{Refuses, fault_on}
 use Rattle.nv_script.specs.OnceWords.{lines_of, words_of}
 use Rattle.nv_replay_script.specs.declared.vocabulary.Keyword.{Keyword}
 use Rattle.nv_replay_script.specs.ReplayLines.{after_lines, after_words, script_by}
@@ -43,64 +41,53 @@ after_words-known by p words first rest k e known = rw (e, known) refl
 abbrev pub ByLine : Type 0 → Type 0
 ByLine P = ℕ → P → List (List ℕ) → Result P FaultKind
 
--- the next line
-next-line : {P : Type 0} → (add : ByLine P) (n i : ℕ) (p : P) (lines : List (List ℕ)) (line : List ℕ)
-    → (i < length lines) × (line ≡ get_or lines i line)
-    → after_lines add n p (drop i lines)
-    ≡ (on_line n (add n p (words_of line)) >>= λ next. after_lines add (n + 1) next (drop (i + 1) lines))
-unfolding after_lines
-next-line add n i p lines line h =
-    rw (drop_more lines i line h.0, ← h.1) refl
-
 -- a line that is read
-pub after_lines-read : {P : Type 0} → (add : ByLine P) (n i : ℕ) (p next : P) (lines : List (List ℕ)) (line : List ℕ)
-    → (i < length lines) × (line ≡ get_or lines i line)
-    → add n p (words_of line) ≡ Ok next
-    → after_lines add n p (drop i lines) ≡ after_lines add (n + 1) next (drop (i + 1) lines)
-after_lines-read add n i p next lines line h read = next-line add n i p lines line h ∙ rw read refl
+pub after_lines-read : {P : Type 0} → (add : ByLine P) (n : ℕ) (p next : P) (line : List ℕ) (rest : List (List ℕ))
+    → add n p (words_of line) ≡ Ok next → after_lines add n p (line ∷ rest) ≡ after_lines add (n + 1) next rest
+unfolding after_lines
+after_lines-read add n p next line rest read = rw read refl
 
 -- a line that is faulty
-after_lines-faulty : {P : Type 0} → (add : ByLine P) (n i : ℕ) (p : P) (lines : List (List ℕ)) (line : List ℕ) (kind : FaultKind)
-    → (i < length lines) × (line ≡ get_or lines i line)
-    → add n p (words_of line) ≡ Err kind → after_lines add n p (drop i lines) ≡ Err (fault.Line n kind)
-after_lines-faulty add n i p lines line kind h faulty = next-line add n i p lines line h ∙ rw faulty refl
+after_lines-faulty : {P : Type 0} → (add : ByLine P) (n : ℕ) (p : P) (line : List ℕ) (rest : List (List ℕ)) (kind : FaultKind)
+    → add n p (words_of line) ≡ Err kind → after_lines add n p (line ∷ rest) ≡ Err (fault.Line n kind)
+unfolding after_lines
+after_lines-faulty add n p line rest kind faulty = rw faulty refl
 
 -- behind the last line
-after_lines-end : {P : Type 0} → (add : ByLine P) (n i : ℕ) (p : P) (lines : List (List ℕ)) → length lines ≤ i
-    → after_lines add n p (drop i lines) ≡ Ok p
+after_lines-end : {P : Type 0} → (add : ByLine P) (n : ℕ) (p : P) → after_lines add n p [] ≡ Ok p
 unfolding after_lines
-after_lines-end add n i p lines h = rw (drop_all i lines h) refl
+after_lines-end add n p = refl
 
 -- the fault of a script is that of its first faulty line
 pub script_by-refused : {P S : Type 0} → (add : ByLine P) (finish : ℕ → P → Result S ScriptFault) (nothing : P)
-    (n i : ℕ) (p : P) (text line : List ℕ) (refusal : LineFault)
-    → (i < length (lines_of text)) × (line ≡ get_or (lines_of text) i line)
-    → after_lines add n p (drop i (lines_of text)) ≡ after_lines add 1 nothing (lines_of text)
+    (n : ℕ) (p : P) (text line : List ℕ) (left rest : List (List ℕ)) (refusal : LineFault)
+    → left ≡ line ∷ rest → after_lines add n p left ≡ after_lines add 1 nothing (lines_of text)
     → Refuses (add n p (words_of line)) refusal
     → (fault_on n refusal ≡ fault.NoMemory) ⊎ (script_by add finish nothing text ≡ Err (fault_on n refusal))
 unfolding script_by
-script_by-refused add finish nothing n i p text line (Faulty kind) h kept refused =
-    let first = sym kept ∙ after_lines-faulty add n i p (lines_of text) line kind h refused in
+script_by-refused add finish nothing n p text line left rest (Faulty kind) is kept refused =
+    let first = sym kept ∙ ap (after_lines add n p) is ∙ after_lines-faulty add n p line rest kind refused in
     inr (rw first refl)
-script_by-refused add finish nothing n i p text line NoMemory h kept refused = inl refl
+script_by-refused add finish nothing n p text line left rest NoMemory is kept refused = inl refl
 
 -- a script whose lines were all read
 script_by-read : {P S : Type 0} → (add : ByLine P) (finish : ℕ → P → Result S ScriptFault) (nothing : P)
-    (n : ℕ) (p : P) (text : List ℕ) → n ≡ length (lines_of text)
-    → after_lines add (n + 1) p (drop n (lines_of text)) ≡ after_lines add 1 nothing (lines_of text)
+    (n : ℕ) (p : P) (text : List ℕ) (left : List (List ℕ)) → left ≡ [] → n + length left ≡ length (lines_of text)
+    → after_lines add (n + 1) p left ≡ after_lines add 1 nothing (lines_of text)
     → script_by add finish nothing text ≡ finish n p
 unfolding script_by
-script_by-read add finish nothing n p text whole kept =
-    let read = sym kept ∙ after_lines-end add (n + 1) n p (lines_of text) (omega (arith, whole)) in
-    rw (read, ← whole) refl
+script_by-read add finish nothing n p text left none count kept =
+    let read = sym kept ∙ ap (after_lines add (n + 1) p) none ∙ after_lines-end add (n + 1) p in
+    let whole : length (lines_of text) ≡ n = (let zero = ap length none in omega arith) in
+    rw (read, whole) refl
 
 -- and what comes of it
 pub script_by-finished : {P S T : Type 0} → (add : ByLine P) (finish : ℕ → P → Result S ScriptFault) (nothing : P)
-    (value : T → S) (n : ℕ) (p : P) (text : List ℕ) (r : Result T ScriptFault)
-    → n ≡ length (lines_of text)
-    → after_lines add (n + 1) p (drop n (lines_of text)) ≡ after_lines add 1 nothing (lines_of text)
+    (value : T → S) (n : ℕ) (p : P) (text : List ℕ) (left : List (List ℕ)) (r : Result T ScriptFault)
+    → left ≡ [] → n + length left ≡ length (lines_of text)
+    → after_lines add (n + 1) p left ≡ after_lines add 1 nothing (lines_of text)
     → MatchResult r (λ script. finish n p ≡ Ok (value script)) (λ e. finish n p ≡ Err e)
     → MatchResult r (λ script. script_by add finish nothing text ≡ Ok (value script))
     (λ e. (e ≡ fault.NoMemory) ⊎ (script_by add finish nothing text ≡ Err e))
-script_by-finished add finish nothing value n p text (Ok script) whole kept made = script_by-read add finish nothing n p text whole kept ∙ made
-script_by-finished add finish nothing value n p text (Err e) whole kept made = inr (script_by-read add finish nothing n p text whole kept ∙ made)
+script_by-finished add finish nothing value n p text left (Ok script) none count kept made = script_by-read add finish nothing n p text left none count kept ∙ made
+script_by-finished add finish nothing value n p text left (Err e) none count kept made = inr (script_by-read add finish nothing n p text left none count kept ∙ made)

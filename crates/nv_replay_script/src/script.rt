@@ -6,7 +6,7 @@ use crate::reading::Reading;
 use crate::set_up::GuestSetUp;
 use crate::sizes::Sizes;
 use nv_script::ScriptFault;
-use nv_script::once::script::before_last_feed;
+use nv_script::once::lines::Lines;
 use nv_world_model::Event;
 use std::alloc::Global;
 
@@ -32,7 +32,8 @@ pub fn parse(alloc: Global, text: &[u8]) -> Result<Script, ScriptFault>
 {
     let mut reading = Reading::new(alloc);
     let mut number = 0;
-    for line in before_last_feed(text).split(|byte| *byte == b'\n') {
+    let mut lines = Lines::of(text);
+    while let Some(line) = lines.next() {
         number += 1;
         if let Err(fault) = reading.read(alloc, line) {
             return Err(fault.on(number));

@@ -1,3 +1,4 @@
+pub mod OnceLinesLemmas
 pub mod OnceWordsLemmas
 pub mod OnceNumberLemmas
 pub mod OnceVocabularyLemmas

@@ -1,9 +1,9 @@
 -- Lines one after another
-use Rattle.std.proofs.Common.{◌≡◌, ℕ, zero, suc, ◌+◌, ◌<◌, ◌≤◌, true, false, ltb, List, [], ◌∷◌, ◌++◌, length, get_or, drop, Option, Some, None, Result, Ok, Err, refl, sym, ap, ◌∙◌, arith, inl, inr, ◌⊎◌}
+use Rattle.std.proofs.Common.{◌≡◌, ℕ, zero, suc, ◌+◌, ◌<◌, ◌≤◌, true, false, ltb, List, [], ◌∷◌, ◌++◌, length, drop, Option, Some, None, Result, Ok, Err, refl, sym, ap, ◌∙◌, arith, inl, inr, ◌⊎◌}
 use Rattle.std.specs.Option.{is_some, ok_or}
 use Rattle.std.specs.Prelude.{map, MatchResult}
 use Rattle.std.proofs.lemmas.Bool.Decides.{nat_tests}
-use Rattle.std.proofs.lemmas.List.{map-append, drop_more, drop_all}
+use Rattle.std.proofs.lemmas.List.{map-append}
 use Rattle.nv_script.specs.declared.once.fault.FaultKind.{FaultKind}
 use Rattle.nv_script.specs.declared.once.fault.FaultKind.TheVariants.{OutOfPlace, UnknownWord, MissingWord, TooManyWords}
 use Rattle.nv_script.specs.declared.once.vocabulary.Keyword.{Keyword}
@@ -20,7 +20,7 @@ use Rattle.nv_script.specs.declared.once.script.Script.{Script}
 use Rattle.nv_script.specs.OnceFault.{◌>>=◌, Refuses, fault_on}
 use Rattle.nv_script.specs.OnceWords.{lines_of, words_of}
 use Rattle.nv_script.specs.OnceLine.{LineValue, line_of, value_of}
-use Rattle.nv_script.specs.OnceScript.{Progress, sizes_in, first_time, after_body, after_keyword, after_line, after_lines, finished, nothing, on_line, script_of, script_value}
+use Rattle.nv_script.specs.OnceScript.{Progress, sizes_in, first_time, after_body, after_keyword, after_line, after_lines, finished, nothing, script_of, script_value}
 
 -- ---- counts
 
@@ -194,58 +194,47 @@ body-read p k words sizes old new line m b set made before after =
 
 -- ---- a script
 
--- the next line
-next-line : (n i : ℕ) (p : Progress) (lines : List (List ℕ)) (line : List ℕ)
-    → (i < length lines) × (line ≡ get_or lines i line)
-    → after_lines n p (drop i lines) ≡ (on_line n (after_line p (words_of line)) >>= λ next. after_lines (n + 1) next (drop (i + 1) lines))
-unfolding after_lines
-next-line n i p lines line h =
-    rw (drop_more lines i line h.0, ← h.1) refl
-
 -- a line that is read
-pub after_lines-read : (n i : ℕ) (p next : Progress) (lines : List (List ℕ)) (line : List ℕ)
-    → (i < length lines) × (line ≡ get_or lines i line)
-    → after_line p (words_of line) ≡ Ok next
-    → after_lines n p (drop i lines) ≡ after_lines (n + 1) next (drop (i + 1) lines)
-after_lines-read n i p next lines line h read = next-line n i p lines line h ∙ rw read refl
+pub after_lines-read : (n : ℕ) (p next : Progress) (line : List ℕ) (rest : List (List ℕ))
+    → after_line p (words_of line) ≡ Ok next → after_lines n p (line ∷ rest) ≡ after_lines (n + 1) next rest
+unfolding after_lines
+after_lines-read n p next line rest read = rw read refl
 
 -- a line that is faulty
-pub after_lines-faulty : (n i : ℕ) (p : Progress) (lines : List (List ℕ)) (line : List ℕ) (kind : FaultKind)
-    → (i < length lines) × (line ≡ get_or lines i line)
-    → after_line p (words_of line) ≡ Err kind → after_lines n p (drop i lines) ≡ Err (fault.Line n kind)
-after_lines-faulty n i p lines line kind h faulty = next-line n i p lines line h ∙ rw faulty refl
+after_lines-faulty : (n : ℕ) (p : Progress) (line : List ℕ) (rest : List (List ℕ)) (kind : FaultKind)
+    → after_line p (words_of line) ≡ Err kind → after_lines n p (line ∷ rest) ≡ Err (fault.Line n kind)
+unfolding after_lines
+after_lines-faulty n p line rest kind faulty = rw faulty refl
 
 -- behind the last line
-pub after_lines-end : (n i : ℕ) (p : Progress) (lines : List (List ℕ)) → length lines ≤ i
-    → after_lines n p (drop i lines) ≡ Ok p
+after_lines-end : (n : ℕ) (p : Progress) → after_lines n p [] ≡ Ok p
 unfolding after_lines
-after_lines-end n i p lines h = rw (drop_all i lines h) refl
+after_lines-end n p = refl
 
 -- the fault of a script is that of its first faulty line
-pub script_of-refused : (n i : ℕ) (p : Progress) (text line : List ℕ) (refusal : LineFault)
-    → (i < length (lines_of text)) × (line ≡ get_or (lines_of text) i line)
-    → after_lines n p (drop i (lines_of text)) ≡ after_lines 1 nothing (lines_of text)
+pub script_of-refused : (n : ℕ) (p : Progress) (text line : List ℕ) (rest : List (List ℕ)) (refusal : LineFault)
+    → after_lines n p (line ∷ rest) ≡ after_lines 1 nothing (lines_of text)
     → Refuses (after_line p (words_of line)) refusal
     → (fault_on n refusal ≡ fault.NoMemory) ⊎ (script_of text ≡ Err (fault_on n refusal))
 unfolding script_of
-script_of-refused n i p text line (Faulty kind) h kept refused =
-    let first = sym kept ∙ after_lines-faulty n i p (lines_of text) line kind h refused in
+script_of-refused n p text line rest (Faulty kind) kept refused =
+    let first = sym kept ∙ after_lines-faulty n p line rest kind refused in
     inr (rw first refl)
-script_of-refused n i p text line NoMemory h kept refused = inl refl
+script_of-refused n p text line rest NoMemory kept refused = inl refl
 
 -- a script whose lines were all read
 script_of-read : (n : ℕ) (p : Progress) (text : List ℕ) → n ≡ length (lines_of text)
-    → after_lines (n + 1) p (drop n (lines_of text)) ≡ after_lines 1 nothing (lines_of text)
+    → after_lines (n + 1) p [] ≡ after_lines 1 nothing (lines_of text)
     → script_of text ≡ finished n p
 unfolding script_of
 script_of-read n p text whole kept =
-    let read = sym kept ∙ after_lines-end (n + 1) n p (lines_of text) (omega (arith, whole)) in
+    let read = sym kept ∙ after_lines-end (n + 1) p in
     rw (read, ← whole) refl
 
 -- and what comes of it
 pub script_of-finished : (n : ℕ) (p : Progress) (text : List ℕ) (r : Result Script ScriptFault)
     → n ≡ length (lines_of text)
-    → after_lines (n + 1) p (drop n (lines_of text)) ≡ after_lines 1 nothing (lines_of text)
+    → after_lines (n + 1) p [] ≡ after_lines 1 nothing (lines_of text)
     → MatchResult r (λ script. finished n p ≡ Ok (script_value script)) (λ e. finished n p ≡ Err e)
     → MatchResult r (λ script. script_of text ≡ Ok (script_value script)) (λ e. (e ≡ fault.NoMemory) ⊎ (script_of text ≡ Err e))
 script_of-finished n p text (Ok script) whole kept made = script_of-read n p text whole kept ∙ made

@@ -1,5 +1,5 @@
 -- Lines and words of a script. A byte is its code: 10 is the line feed, 32 the space, 35 is `#`.
-use Rattle.std.specs.Prelude.{ℕ, ◌-◌, ◌==◌, nat_lt, List, length, slice_index, take, filter, if◌then◌else◌}
+use Rattle.std.specs.Prelude.{ℕ, ◌-◌, ◌==◌, nat_lt, Bool, true, false, List, [], length, slice_index, take, filter, if◌then◌else◌}
 use Rattle.std.specs.List.{before_first, slice_split}
 
 -- a text without the line feed that ends its last line
@@ -9,6 +9,11 @@ without_last_feed text = if slice_index text (length text - 1) == 10 then take (
 -- the lines of a text. A line feed ends a line, and the last line may lack it; a text of no bytes is one empty line.
 unfoldable pub lines_of : List ℕ → List (List ℕ)
 lines_of text = slice_split (λ b. b == 10) (without_last_feed text)
+
+-- the lines of what is left of a text, or none where the last was taken
+abbrev pub lines_left : (is_over : Bool) → List ℕ → List (List ℕ)
+lines_left true text = []
+lines_left false text = slice_split (λ b. b == 10) text
 
 -- the words in a text: what stands between its spaces
 unfoldable pub words_in : List ℕ → List (List ℕ)

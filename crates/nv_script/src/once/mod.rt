@@ -6,6 +6,7 @@
 
 pub mod fault;
 mod line;
+pub mod lines;
 pub mod number;
 mod reading;
 pub mod script;

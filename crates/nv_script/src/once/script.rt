@@ -1,10 +1,10 @@
 //! The parse of a whole script.
 ghost use Rattle.std.specs.Prelude.{◌≡◌, ◌⊎◌, IfOk, MatchResult};
 ghost use Rattle.nv_script.specs.OnceScript.{IsInRange, script_of, script_value};
-ghost use Rattle.nv_script.specs.OnceWords.{without_last_feed};
 
 use crate::once::fault::ScriptFault;
 use crate::once::line::Line;
+use crate::once::lines::Lines;
 use crate::once::reading::Reading;
 use std::alloc::Global;
 
@@ -27,21 +27,12 @@ pub fn parse(alloc: Global, text: &[u8]) -> Result<Script, ScriptFault>
 {
     let mut reading = Reading::new(alloc);
     let mut number = 0;
-    for line in before_last_feed(text).split(|byte| *byte == b'\n') {
+    let mut lines = Lines::of(text);
+    while let Some(line) = lines.next() {
         number += 1;
         if let Err(fault) = reading.read(alloc, line) {
             return Err(fault.on(number));
         }
     }
     reading.finish(number)
-}
-
-/// A text without the line feed that ends its last line.
-pub fn before_last_feed(text: &[u8]) -> &[u8]
-    ensures { result.now ≡ without_last_feed text.now }
-{
-    match text.split_last() {
-        Some((last, front)) if *last == b'\n' => front,
-        _ => text,
-    }
 }

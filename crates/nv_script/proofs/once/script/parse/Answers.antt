@@ -1,39 +1,46 @@
-use Rattle.std.proofs.Common.{◌+◌, eqb, sym, ◌∙◌, arith, rules, tests}
-use Rattle.std.proofs.lemmas.List.{length_push}
-use Rattle.std.proofs.lemmas.Iterator.Consumers.{YieldsList-at, YieldsList-turn, YieldsList-end}
-use Rattle.std.proofs.lemmas.Iterator.Splits.{YieldsList-from_slice_split}
-use Rattle.nv_script.specs.OnceScript.{progress}
-use Rattle.nv_script.specs.OnceWords.{lines_of, without_last_feed}
+use Rattle.std.proofs.Common.{◌+◌, ap, length, ◌∙◌, sym, arith}
+use Rattle.nv_script.specs.OnceScript.{after_lines, progress}
 use Rattle.nv_script.proofs.OnceRangeLemmas.{IsInRange-parsed}
 use Rattle.nv_script.proofs.OnceScriptLemmas.{after_lines-read, script_of-refused, script_of-finished}
 use Rattle.nv_script.proofs.once.script.parse.Goals as goal
 
+pub overflow_add-number : goal.overflow_add-number
+overflow_add-number c =
+    let left = ap length c.in-Some.ensures.steps in
+    let count = c.loop-line.invariant.count in
+    let all = ap length c.of-lines.ensures.lines in
+    let few = c.of-lines.ensures.few in
+    omega arith
+
 pub returns-in-Err-clause-value : goal.returns-in-Err-clause-value
-unfolding lines_of
 returns-in-Err-clause-value c =
-    let turn = rw (← c.loop-line.invariant.0) at (YieldsList-turn (YieldsList-at c.into_iter-line-iterator.ensures.into_iter_gives (YieldsList-from_slice_split _ (λ b. eqb b 10) (without_last_feed c.args.text.now) (c.split-line-items.ensures.rest ∙ c.before_last_feed.ensures) c.split-line-items.ensures.done c.split-line-items.ensures.closure (λ x b q k. search (rules, tests)))) c.loop-line.yielded _ c.loop-line.yielded_by _ _ c.in-Some.line c.in-Some.is c.next.ensures.steps) in
     rw c.on.ensures
-    (script_of-refused (c.loop-line.number + 1) c.loop-line.number (progress c.loop-line.reading) c.args.text.now c.in-Some.line.now c.in-Err.fault turn c.loop-line.invariant.1 c.in-Err.ensures)
+    (script_of-refused (c.loop-line.number + 1) (progress c.loop-line.reading) c.args.text.now c.in-Some.line.now c.next.new.self c.in-Err.fault
+    (ap (after_lines (c.loop-line.number + 1) (progress c.loop-line.reading)) (sym c.in-Some.ensures.steps) ∙ c.loop-line.invariant.kept) c.in-Err.ensures)
 
 pub loop-line-preserved : goal.loop-line-preserved
-unfolding lines_of
 loop-line-preserved c =
-    let turn = rw (← c.loop-line.invariant.0) at (YieldsList-turn (YieldsList-at c.into_iter-line-iterator.ensures.into_iter_gives (YieldsList-from_slice_split _ (λ b. eqb b 10) (without_last_feed c.args.text.now) (c.split-line-items.ensures.rest ∙ c.before_last_feed.ensures) c.split-line-items.ensures.done c.split-line-items.ensures.closure (λ x b q k. search (rules, tests)))) c.loop-line.yielded _ c.loop-line.yielded_by _ _ c.in-Some.line c.in-Some.is c.next.ensures.steps) in (
-      omega (arith, length_push c.loop-line.yielded c.in-Some.line),
-      sym (after_lines-read (c.loop-line.number + 1) c.loop-line.number (progress c.loop-line.reading) (progress c.read.new.self) (lines_of c.args.text.now) c.in-Some.line.now turn c.in_default.ensures)
-          ∙ c.loop-line.invariant.1,
-      search rules,
-      search rules,
-    )
+    let left = ap length c.in-Some.ensures.steps in
+    let count = c.loop-line.invariant.count in
+    record {
+      count = omega arith;
+      kept = sym (ap (after_lines (c.loop-line.number + 1) (progress c.loop-line.reading)) c.in-Some.ensures.steps
+          ∙ after_lines-read (c.loop-line.number + 1) (progress c.loop-line.reading) (progress c.read.new.self) c.in-Some.line.now c.next.new.self c.in_default-read.ensures)
+          ∙ c.loop-line.invariant.kept;
+    }
 
 pub returns-clause-value : goal.returns-clause-value
-unfolding lines_of
 returns-clause-value c =
-    let all = YieldsList-end (YieldsList-at c.into_iter-line-iterator.ensures.into_iter_gives (YieldsList-from_slice_split _ (λ b. eqb b 10) (without_last_feed c.args.text.now) (c.split-line-items.ensures.rest ∙ c.before_last_feed.ensures) c.split-line-items.ensures.done c.split-line-items.ensures.closure (λ x b q k. search (rules, tests)))) c.loop-line.yielded _ c.loop-line.yielded_by _ _ c.in-None.is c.next.ensures.steps in
-    script_of-finished c.loop-line.number (progress c.loop-line.reading) c.args.text.now c.finish.result (c.loop-line.invariant.0 ∙ all.1) c.loop-line.invariant.1 c.finish.ensures
+    let none = c.in_default.ensures.steps.0 in
+    let left = ap length none in
+    let count = c.loop-line.invariant.count in
+    script_of-finished c.loop-line.number (progress c.loop-line.reading) c.args.text.now c.finish.result (omega arith)
+    (ap (after_lines (c.loop-line.number + 1) (progress c.loop-line.reading)) (sym none) ∙ c.loop-line.invariant.kept) c.finish.ensures
 
 pub returns-clause-in_range : goal.returns-clause-in_range
-unfolding lines_of
 returns-clause-in_range c =
-    let all = YieldsList-end (YieldsList-at c.into_iter-line-iterator.ensures.into_iter_gives (YieldsList-from_slice_split _ (λ b. eqb b 10) (without_last_feed c.args.text.now) (c.split-line-items.ensures.rest ∙ c.before_last_feed.ensures) c.split-line-items.ensures.done c.split-line-items.ensures.closure (λ x b q k. search (rules, tests)))) c.loop-line.yielded _ c.loop-line.yielded_by _ _ c.in-None.is c.next.ensures.steps in
-    IsInRange-parsed c.args.text.now c.finish.result (script_of-finished c.loop-line.number (progress c.loop-line.reading) c.args.text.now c.finish.result (c.loop-line.invariant.0 ∙ all.1) c.loop-line.invariant.1 c.finish.ensures)
+    let none = c.in_default.ensures.steps.0 in
+    let left = ap length none in
+    let count = c.loop-line.invariant.count in
+    IsInRange-parsed c.args.text.now c.finish.result (script_of-finished c.loop-line.number (progress c.loop-line.reading) c.args.text.now c.finish.result (omega arith)
+    (ap (after_lines (c.loop-line.number + 1) (progress c.loop-line.reading)) (sym none) ∙ c.loop-line.invariant.kept) c.finish.ensures)
