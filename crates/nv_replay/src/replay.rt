@@ -10,6 +10,7 @@ use nv_world_model::Event;
 use std::alloc::Global;
 use std::io::Write;
 use std::marker::Model;
+use std::mem;
 
 /// A world that was just opened, and the events that it is to be put through, in order.
 ///
@@ -44,6 +45,9 @@ impl Replay {
 
 /// Puts the world through its events, and prints the line of each reply at once, and the number of events at the end.
 ///
+/// The world's memory is not given back where all went well: the program ends behind this call, and the system takes all of it at once,
+/// where a walk over the log would give back the bytes of each act and reply.
+///
 /// # Errors
 ///
 /// The output failed; what it holds is then a beginning of what was to be printed.
@@ -57,5 +61,7 @@ pub fn run<W: Write>(alloc: Global, replay: Replay, output: &mut W) -> Result<()
         let reply = world.step(alloc, event);
         print_reply(count, &reply, output)?;
     }
-    print_count(count, output)
+    print_count(count, output)?;
+    mem::forget(world);
+    Ok(())
 }

@@ -1,4 +1,5 @@
-use Rattle.std.proofs.Common.{◌≡◌, ◌∷◌, [], length, ap, ◌∙◌, arith, rules}
+use Rattle.std.proofs.Common.{◌≡◌, ◌∷◌, [], Ok, length, ap, ◌∙◌, arith, rules}
+use Rattle.nv_print.specs.declared.cannot_write.CannotWrite.{CannotWrite}
 use Rattle.std.proofs.lemmas.List.{nil_from_length}
 use Rattle.std.specs.Vec.Iter.{into_iter_items}
 use Rattle.nv_replay.proofs.Runs.{RunsSoFar-none, RunsSoFar-then, RunsSoFar-all}
@@ -38,4 +39,4 @@ loop-event-preserved g c =
 pub returns : goal.returns
 returns g c =
     let none : into_iter_items c.loop-event.event-iterator ≡ [] = nil_from_length _ (c.loop-event.invariant.1 ∙ c.in-None.ensures.steps.0) in
-    RunsSoFar-all _ _ _ _ _ _ _ c.print_count.result c.loop-event.invariant.0 none c.print_count.ensures
+    RunsSoFar-all {E = CannotWrite} _ _ _ _ _ _ _ (Ok tt) c.loop-event.invariant.0 none c.in_ok-print_count.ensures
