@@ -68,6 +68,12 @@ abbrev pub read_named_twice : (first second : ℕ) → World
 read_named_twice first second =
     world_with (stored (holding 0x113000 (by_sgl 0x02 5 1 (last_segment 0x6000 32))) 0x106000 (data_block first 512 ++ data_block second 512)) 16 1 0
 
+-- two Writes of blocks 5 and 6 by one Last Segment at 6000h, whose two Data Blocks name 1,024 bytes from 3000h on
+abbrev pub writes_by_one_list : World
+writes_by_one_list =
+    world_with (stored (holding 0x113000 (by_sgl 0x01 5 1 (last_segment 0x6000 32) ++ by_sgl 0x01 5 1 (last_segment 0x6000 32)))
+    0x106000 (data_block 0x3000 512 ++ data_block 0x3200 512)) 16 2 0
+
 -- ---- agreement
 
 -- whether these addresses of the first guest are awaited behind these events

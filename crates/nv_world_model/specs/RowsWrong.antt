@@ -1,5 +1,5 @@
 -- Worked examples: steps that are wrong, each of which would let a guest be seen or changed by another
-use Rattle.std.specs.Prelude.{ℕ, List, [], ◌∷◌, ◌++◌, true, slice_get}
+use Rattle.std.specs.Prelude.{ℕ, ◌==◌, List, [], ◌∷◌, ◌++◌, true, not, ◌&&◌, if◌then◌else◌, slice_get}
 use Rattle.nv_entry.specs.Status.{StatusField}
 use Rattle.nv_entry.specs.StatusCode.{done_with}
 use Rattle.nv_entry.specs.Submission.{cid_of}
@@ -117,3 +117,28 @@ loaded_unmapped addr w = replied (reply.Bytes (w.host addr ∷ [])) w
 -- a world in which the second guest has stored a byte
 abbrev pub second_stored : World
 second_stored = behind (event.Guest 1 (act.Store 0x3000 (7 ∷ [])) ∷ []) (one_command first_example) (λ w. w)
+
+-- ---- what is nobody's, and marks
+
+-- a change of block 500, which is nobody's
+abbrev pub stray_block : World → After
+stray_block w = replied reply.Done (record w { disk = (λ lba offset. if lba == 500 then 7 else w.disk lba offset) })
+
+-- its mark is lost
+abbrev pub mark_lost : World → After
+mark_lost w = replied reply.Done (record w { kept = (λ lba. not (lba == 500) && w.kept lba) })
+
+-- the second guest's mark of block 2000 is taken for the first guest's of block 1000
+abbrev pub mark_told : World → After
+mark_told w = replied reply.Done (record w { kept = (λ lba. if lba == 1000 then w.kept 2000 else w.kept lba) })
+
+-- a Keep that takes the device's lanes away
+abbrev pub kept_and_more : World → After
+kept_and_more w = replied reply.Done (record w { device = [] })
+
+-- a world in which each block is kept, and one in which block 2000 alone is
+abbrev pub all_kept : World
+all_kept = record (one_command first_example) { kept = (λ lba. true) }
+
+abbrev pub second_kept : World
+second_kept = record (one_command first_example) { kept = (λ lba. lba == 2000) }

@@ -3,10 +3,10 @@
 ghost use Rattle.nv_model.specs.Memory.{stored};
 ghost use Rattle.nv_model.specs.Rows.{first_example};
 ghost use Rattle.nv_world_model.specs.Agrees.{Agrees};
-ghost use Rattle.nv_world_model.specs.Rows.{one_command};
+ghost use Rattle.nv_world_model.specs.Rows.{controller_with, one_command};
 ghost use Rattle.nv_world_model.specs.RowsShown.{first_guest};
 ghost use Rattle.nv_world_model.specs.RowsSteps.{first_seat};
-ghost use Rattle.std.specs.Prelude.{[], ◌∷◌, true};
+ghost use Rattle.std.specs.Prelude.{[], ◌∷◌, false, true};
 
 /// The examples of this module, a clause each.
 #[tactic(none)]
@@ -22,4 +22,7 @@ pub fn examples()
     // Other marks.
     ensures other_marks_do_not_agree { Agrees 0 first_guest (one_command first_example)
         (record (first_seat (one_command first_example)) { kept = (λ lba. true) }) → ⊥ }
+    // Another controller: one whose RDY has fallen.
+    ensures another_controller_does_not_agree { Agrees 0 first_guest (one_command first_example)
+        (record (first_seat (one_command first_example)) { controller = record (controller_with 16 1) { ready = false } }) → ⊥ }
 {}

@@ -2,9 +2,10 @@
 
 ghost use Rattle.std.specs.Prelude.{◌≡◌, [], ◌∷◌, ◌++◌, true, false};
 ghost use Rattle.nv_model.specs.declared.act.Act.TheVariants as act;
-ghost use Rattle.nv_model.specs.Rows.{by_sgl, data_block, first_example};
+ghost use Rattle.nv_model.specs.Rows.{block_range, by_sgl, data_block, first_example};
 ghost use Rattle.nv_world_model.specs.Rows.{in_device, moves, one_command, two_at_once, two_commands, whole};
-ghost use Rattle.nv_world_model.specs.RowsSteps.{awaited_behind, keeps_to_it, read_named_twice, two_rung};
+ghost use Rattle.nv_world_model.specs.RowsSteps.{awaited_behind, keeps_to_it, read_named_twice, two_rung, writes_by_one_list};
+ghost use Rattle.nv_world_model.specs.RowsWorlds.{list_whole, two_ranges};
 ghost use Rattle.nv_world_model.specs.declared.event.Event.TheVariants as event;
 
 /// The examples of this module, a clause each.
@@ -50,6 +51,15 @@ pub fn examples()
     ensures two_reads_apart { keeps_to_it [] (two_rung first_example (by_sgl 0x02 6 0 (data_block 0x3200 512))) ≡ true }
     // Two Writes that share their source.
     ensures two_writes_that_share_a_source { keeps_to_it [] (two_rung (by_sgl 0x01 5 0 (data_block 0x3000 512)) (by_sgl 0x01 6 0 (data_block 0x3000 512))) ≡ true }
+    // Two Writes by one list.
+    ensures two_writes_by_one_list { keeps_to_it [] writes_by_one_list ≡ true }
+    // A load of a list.
+    ensures a_load_of_a_list { keeps_to_it (event.Guest 0 (act.Load 0x6000 32) ∷ []) writes_by_one_list ≡ true }
+    // A Dataset Management that is left alone until it is completed: its ranges are in its source.
+    ensures ranges_left_alone { keeps_to_it (list_whole 0x3000 32 2) (two_ranges (block_range 5 1) (block_range 6 2)) ≡ true }
+    // A load of its ranges, and a store into them.
+    ensures a_load_of_ranges { keeps_to_it (event.Guest 0 (act.Load 0x3000 32) ∷ []) (two_ranges (block_range 5 1) (block_range 6 2)) ≡ true }
+    ensures a_store_into_ranges { keeps_to_it (event.Guest 0 (act.Store 0x301f (0 ∷ [])) ∷ []) (two_ranges (block_range 5 1) (block_range 6 2)) ≡ false }
     // A Write from what a Read fills.
     ensures a_write_from_a_destination { keeps_to_it [] (two_rung first_example (by_sgl 0x01 6 0 (data_block 0x31ff 512))) ≡ false }
     // A destination with a slot of the completion queue in it.

@@ -4,7 +4,9 @@ ghost use Rattle.std.specs.Prelude.{◌≡◌, [], ◌∷◌, ◌++◌, replicat
 ghost use Rattle.nv_model.specs.declared.act.Act.TheVariants as act;
 ghost use Rattle.nv_model.specs.declared.reply.Reply.TheVariants as reply;
 ghost use Rattle.nv_model.specs.Rows.{by_sgl, data_block, first_example};
-ghost use Rattle.nv_world_model.specs.Rows.{behind, first_answers, host_bytes, host_number, in_device, moves, one_command, told, whole};
+ghost use Rattle.nv_world_model.specs.Rows.{behind, first_answers, host_bytes, host_number, in_device, moves, one_command, set_up, told, whole};
+ghost use Rattle.nv_world_model.specs.RowsSteps.{logged};
+ghost use Rattle.nv_world_model.specs.Headline.{none_failed};
 ghost use Rattle.nv_world_model.specs.declared.event.Event.TheVariants as event;
 
 /// The examples of this module, a clause each.
@@ -13,6 +15,9 @@ pub fn examples()
     // A media error is passed on with its code.
     ensures a_media_error_is_passed_on { behind (in_device ++ event.DevFail 0 0 (record { sct = 2; sc = 0x81; dnr = false }) ∷ event.Reap 0 ∷ event.Post 0 0 ∷ [])
         (one_command first_example) (host_number 0x11200c 4) ≡ 0x05030007 }
+    // And with its DNR.
+    ensures a_media_error_keeps_its_dnr { behind (in_device ++ event.DevFail 0 0 (record { sct = 2; sc = 0x81; dnr = true }) ∷ event.Reap 0 ∷ event.Post 0 0 ∷ [])
+        (one_command first_example) (host_number 0x11200c 4) ≡ 0x85030007 }
     // Any other failure becomes Internal Error, and nothing of a bounced Read is delivered, although its block was moved.
     ensures another_failure_is_an_internal_error { behind (in_device ++ moves 1 ++ event.DevFail 0 0 (record { sct = 0; sc = 0x04; dnr = true }) ∷ event.Reap 0 ∷ event.Post 0 0 ∷ [])
         (one_command (by_sgl 0x02 5 0 (data_block 0x3002 512))) (λ w. host_number 0x404000 1 w ∷ host_number 0x11200c 4 w ∷ host_number 0x103002 1 w ∷ [])
@@ -20,6 +25,11 @@ pub fn examples()
     // Success is no failure.
     ensures success_is_no_failure { told (in_device ++ event.DevFail 0 0 (record { sct = 0; sc = 0; dnr = true }) ∷ []) (one_command first_example)
         ≡ replicate 3 reply.Done ++ reply.Ignored ∷ [] }
+    // A command has failed where its DevFail is done, and not where it is ignored or finds no command.
+    ensures a_failure_that_is_done { none_failed set_up 0 (logged (in_device ++ event.DevFail 0 0 (record { sct = 2; sc = 0x81; dnr = false }) ∷ [])
+        (one_command first_example)) (one_command first_example) ≡ false }
+    ensures failures_that_are_not { none_failed set_up 0 (logged (in_device ++ event.DevFail 0 0 (record { sct = 0; sc = 0; dnr = true })
+        ∷ event.DevFail 0 5 (record { sct = 2; sc = 0x81; dnr = false }) ∷ []) (one_command first_example)) (one_command first_example) ≡ true }
     // A Compare that differs.
     ensures a_compare_that_differs { behind (whole 1) (one_command (by_sgl 0x05 5 0 (data_block 0x3000 512))) (host_number 0x11200c 4) ≡ 0x050b0007 }
     // A refused command ends at Submit, with nothing handed on.

@@ -5,7 +5,7 @@ ghost use Rattle.nv_model.specs.declared.act.Act.TheVariants as act;
 ghost use Rattle.nv_model.specs.Rows.{first_example};
 ghost use Rattle.nv_world_model.specs.Contained.{Contained, IsContained};
 ghost use Rattle.nv_world_model.specs.Rows.{one_command, set_up};
-ghost use Rattle.nv_world_model.specs.RowsWrong.{clear_untranslated, delivered_anyway, loaded_unmapped, low_set_up, old_bytes_left, posted_astray, ranges_untranslated, read_ended, read_failed, read_untranslated, second_stored, stored_unmapped};
+ghost use Rattle.nv_world_model.specs.RowsWrong.{clear_untranslated, delivered_anyway, loaded_unmapped, low_set_up, old_bytes_left, posted_astray, ranges_untranslated, read_ended, read_failed, read_untranslated, all_kept, kept_and_more, mark_lost, mark_told, second_kept, second_stored, stored_unmapped, stray_block};
 ghost use Rattle.nv_world_model.specs.declared.event.Event.TheVariants as event;
 
 /// The steps of this module, a clause each.
@@ -27,4 +27,14 @@ pub fn examples()
     ensures a_store_is_mapped { IsContained (stored_unmapped 0x3000 (7 ∷ [])) set_up (event.Guest 0 (act.Store 0x3000 (7 ∷ []))) (one_command first_example) → ⊥ }
     // A reply tells of another guest's byte.
     ensures a_load_is_mapped { IsContained (loaded_unmapped 0x203000) set_up (event.Guest 0 (act.Load 0x203000 1)) second_stored → ⊥ }
+    // The first byte behind the mediator's area changes, which is nobody's.
+    ensures a_byte_behind_the_area_is_nobodys { IsContained (stored_unmapped 0xc43000 (7 ∷ [])) set_up (event.Guest 0 (act.Store 0x3000 (7 ∷ []))) (one_command first_example) → ⊥ }
+    // A block changes that is nobody's.
+    ensures a_block_of_nobody_stays { IsContained stray_block set_up (event.Guest 0 (act.Store 0x3000 (7 ∷ []))) (one_command first_example) → ⊥ }
+    // A mark is lost that is nobody's.
+    ensures a_mark_of_nobody_stays { IsContained mark_lost set_up (event.Guest 0 (act.Store 0x3000 (7 ∷ []))) all_kept → ⊥ }
+    // The mark of a guest's block tells of another guest's.
+    ensures a_mark_tells_of_no_other { IsContained mark_told set_up (event.Guest 0 (act.Store 0x3000 (7 ∷ []))) second_kept → ⊥ }
+    // A Keep changes more than a mark.
+    ensures a_keep_changes_a_mark_alone { IsContained kept_and_more set_up (event.Keep 5) (one_command first_example) → ⊥ }
 {}

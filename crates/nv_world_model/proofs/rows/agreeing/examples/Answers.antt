@@ -1,4 +1,4 @@
-use Rattle.std.proofs.Common.{◌≡◌, ℕ, Bool, true, false, arith, refl}
+use Rattle.std.proofs.Common.{◌≡◌, ℕ, Bool, true, false, Option, Some, None, ap, arith, refl}
 use Rattle.nv_entry.specs.Layout.{number_at, dword, qword, bits, bytes_of_dwords}
 use Rattle.nv_entry.specs.Completion.{completion}
 use Rattle.nv_mem.specs.GuestMap.{everywhere}
@@ -21,7 +21,12 @@ use Rattle.nv_world_model.specs.Seat.{units_behind, members, seat, put_back}
 use Rattle.nv_world_model.specs.Step.{acted_in, administered_in, taken_to, listed, ended_at_once, submitted, device_took, device_moved, device_posted, kept_block, reaped, scattered_to, posted_to, ran_out_of, step, replay, replies}
 use Rattle.nv_model.specs.Admin.{admin_command, admin}
 use Rattle.nv_world_model.specs.Disciplined.{taken_entries}
+use Rattle.nv_model.specs.Controller.{Controller}
 use Rattle.nv_world_model.proofs.rows.agreeing.examples.Goals as goal
+
+abbrev is_ready : Option Controller → Bool
+is_ready None = false
+is_ready (Some c) = c.ready
 
 -- all four are the same things
 pub returns-clause-a_seat_agrees : goal.returns-clause-a_seat_agrees
@@ -42,3 +47,8 @@ returns-clause-another_block_does_not_agree c agrees = (let bad : ◌≡◌ {A =
 pub returns-clause-other_marks_do_not_agree : goal.returns-clause-other_marks_do_not_agree
 unfolding number_at dword qword bits bytes_of_dwords completion everywhere addresses bytes_from stored gathered scattered image in_memory and_then first_read in_transcript read_array read_sgl read_entries read_source ranges_in move_units clear_units range_units judge units_moved opening register reg_write doorbell front took post ran_out differs hosts_of fit_behind built plan_over physical_entry written held_of device_unit completion_written put_image units_behind members seat put_back acted_in administered_in taken_to listed ended_at_once submitted device_took device_moved device_posted kept_block reaped scattered_to posted_to ran_out_of step replay replies admin_command admin taken_entries
 returns-clause-other_marks_do_not_agree c agrees = (let bad : ◌≡◌ {A = Bool} true false = agrees.marks 0 (omega arith) in absurd (cc))
+
+-- RDY
+pub returns-clause-another_controller_does_not_agree : goal.returns-clause-another_controller_does_not_agree
+unfolding number_at dword qword bits bytes_of_dwords completion everywhere addresses bytes_from stored gathered scattered image in_memory and_then first_read in_transcript read_array read_sgl read_entries read_source ranges_in move_units clear_units range_units judge units_moved opening register reg_write doorbell front took post ran_out differs hosts_of fit_behind built plan_over physical_entry written held_of device_unit completion_written put_image units_behind members seat put_back acted_in administered_in taken_to listed ended_at_once submitted device_took device_moved device_posted kept_block reaped scattered_to posted_to ran_out_of step replay replies admin_command admin taken_entries
+returns-clause-another_controller_does_not_agree c agrees = (let bad : ◌≡◌ {A = Bool} true false = ap is_ready agrees.controller in absurd (cc))

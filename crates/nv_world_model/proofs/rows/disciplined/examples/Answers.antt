@@ -143,3 +143,23 @@ returns-clause-nothing_is_awaited_behind_the_completion c = refl
 pub returns-clause-no_source_is_awaited : goal.returns-clause-no_source_is_awaited
 unfolding number_at dword qword bits bytes_of_dwords completion everywhere addresses bytes_from stored gathered scattered image in_memory and_then asked first_read in_transcript read_array read_sgl read_entries read_source ranges_in move_units clear_units range_units judge units_moved opening register reg_write doorbell front took post ran_out differs hosts_of fit_behind built plan_over physical_entry written held_of device_unit completion_written put_image units_behind members seat put_back acted_in administered_in taken_to listed ended_at_once submitted device_took device_moved device_posted kept_block reaped scattered_to posted_to ran_out_of step replay replies footprints completion_slots stores_into loads_from_destination taken_entries is_disciplined logged
 returns-clause-no_source_is_awaited c = refl
+
+pub returns-clause-two_writes_by_one_list : goal.returns-clause-two_writes_by_one_list
+unfolding number_at dword qword bits bytes_of_dwords completion everywhere addresses bytes_from stored gathered scattered image in_memory and_then asked first_read in_transcript read_array read_sgl read_entries read_source ranges_in move_units clear_units range_units judge units_moved opening register reg_write doorbell front took post ran_out differs hosts_of fit_behind built plan_over physical_entry written held_of device_unit completion_written put_image units_behind members seat put_back acted_in administered_in taken_to listed ended_at_once submitted device_took device_moved device_posted kept_block reaped scattered_to posted_to ran_out_of step replay replies footprints completion_slots stores_into loads_from_destination taken_entries is_disciplined logged
+returns-clause-two_writes_by_one_list c = refl
+
+pub returns-clause-a_load_of_a_list : goal.returns-clause-a_load_of_a_list
+unfolding number_at dword qword bits bytes_of_dwords completion everywhere addresses bytes_from stored gathered scattered image in_memory and_then asked first_read in_transcript read_array read_sgl read_entries read_source ranges_in move_units clear_units range_units judge units_moved opening register reg_write doorbell front took post ran_out differs hosts_of fit_behind built plan_over physical_entry written held_of device_unit completion_written put_image units_behind members seat put_back acted_in administered_in taken_to listed ended_at_once submitted device_took device_moved device_posted kept_block reaped scattered_to posted_to ran_out_of step replay replies footprints completion_slots stores_into loads_from_destination taken_entries is_disciplined logged
+returns-clause-a_load_of_a_list c = refl
+
+pub returns-clause-ranges_left_alone : goal.returns-clause-ranges_left_alone
+unfolding number_at dword qword bits bytes_of_dwords completion everywhere addresses bytes_from stored gathered scattered image in_memory and_then asked first_read in_transcript read_array read_sgl read_entries read_source ranges_in move_units clear_units range_units judge units_moved opening register reg_write doorbell front took post ran_out differs hosts_of fit_behind built plan_over physical_entry written held_of device_unit completion_written put_image units_behind members seat put_back acted_in administered_in taken_to listed ended_at_once submitted device_took device_moved device_posted kept_block reaped scattered_to posted_to ran_out_of step replay replies footprints completion_slots stores_into loads_from_destination taken_entries is_disciplined logged
+returns-clause-ranges_left_alone c = refl
+
+pub returns-clause-a_load_of_ranges : goal.returns-clause-a_load_of_ranges
+unfolding number_at dword qword bits bytes_of_dwords completion everywhere addresses bytes_from stored gathered scattered image in_memory and_then asked first_read in_transcript read_array read_sgl read_entries read_source ranges_in move_units clear_units range_units judge units_moved opening register reg_write doorbell front took post ran_out differs hosts_of fit_behind built plan_over physical_entry written held_of device_unit completion_written put_image units_behind members seat put_back acted_in administered_in taken_to listed ended_at_once submitted device_took device_moved device_posted kept_block reaped scattered_to posted_to ran_out_of step replay replies footprints completion_slots stores_into loads_from_destination taken_entries is_disciplined logged
+returns-clause-a_load_of_ranges c = refl
+
+pub returns-clause-a_store_into_ranges : goal.returns-clause-a_store_into_ranges
+unfolding number_at dword qword bits bytes_of_dwords completion everywhere addresses bytes_from stored gathered scattered image in_memory and_then asked first_read in_transcript read_array read_sgl read_entries read_source ranges_in move_units clear_units range_units judge units_moved opening register reg_write doorbell front took post ran_out differs hosts_of fit_behind built plan_over physical_entry written held_of device_unit completion_written put_image units_behind members seat put_back acted_in administered_in taken_to listed ended_at_once submitted device_took device_moved device_posted kept_block reaped scattered_to posted_to ran_out_of step replay replies footprints completion_slots stores_into loads_from_destination taken_entries is_disciplined logged
+returns-clause-a_store_into_ranges c = refl

@@ -19,6 +19,8 @@ use Rattle.nv_world_model.specs.Area.{physical_entry, written}
 use Rattle.nv_world_model.specs.Device.{held_of, device_unit, completion_written}
 use Rattle.nv_world_model.specs.Seat.{units_behind, members, seat, put_back}
 use Rattle.nv_world_model.specs.Step.{acted_in, administered_in, taken_to, listed, ended_at_once, submitted, device_took, device_moved, device_posted, kept_block, reaped, scattered_to, posted_to, ran_out_of, step, replay, replies}
+use Rattle.nv_world_model.specs.Headline.{none_failed}
+use Rattle.nv_world_model.specs.RowsSteps.{logged}
 use Rattle.nv_world_model.proofs.rows.failing.examples.Goals as goal
 
 pub returns-clause-a_media_error_is_passed_on : goal.returns-clause-a_media_error_is_passed_on
@@ -56,3 +58,15 @@ returns-clause-ready_falls_behind_the_last_command c = refl
 pub returns-clause-a_command_that_runs_out_is_delivered : goal.returns-clause-a_command_that_runs_out_is_delivered
 unfolding number_at dword qword bits bytes_of_dwords completion everywhere addresses bytes_from stored gathered scattered image in_memory and_then first_read in_transcript read_array read_sgl read_entries read_source ranges_in move_units clear_units range_units judge units_moved opening register reg_write doorbell front took post ran_out differs hosts_of fit_behind built plan_over physical_entry written held_of device_unit completion_written put_image units_behind members seat put_back acted_in administered_in taken_to listed ended_at_once submitted device_took device_moved device_posted kept_block reaped scattered_to posted_to ran_out_of step replay replies
 returns-clause-a_command_that_runs_out_is_delivered c = refl
+
+pub returns-clause-a_media_error_keeps_its_dnr : goal.returns-clause-a_media_error_keeps_its_dnr
+unfolding number_at dword qword bits bytes_of_dwords completion everywhere addresses bytes_from stored gathered scattered image in_memory and_then first_read in_transcript read_array read_sgl read_entries read_source ranges_in move_units clear_units range_units judge units_moved opening register reg_write doorbell front took post ran_out differs hosts_of fit_behind built plan_over physical_entry written held_of device_unit completion_written put_image units_behind members seat put_back acted_in administered_in taken_to listed ended_at_once submitted device_took device_moved device_posted kept_block reaped scattered_to posted_to ran_out_of step replay replies
+returns-clause-a_media_error_keeps_its_dnr c = refl
+
+pub returns-clause-a_failure_that_is_done : goal.returns-clause-a_failure_that_is_done
+unfolding number_at dword qword bits bytes_of_dwords completion everywhere addresses bytes_from stored gathered scattered image in_memory and_then first_read in_transcript read_array read_sgl read_entries read_source ranges_in move_units clear_units range_units judge units_moved opening register reg_write doorbell front took post ran_out differs hosts_of fit_behind built plan_over physical_entry written held_of device_unit completion_written put_image units_behind members seat put_back acted_in administered_in taken_to listed ended_at_once submitted device_took device_moved device_posted kept_block reaped scattered_to posted_to ran_out_of step replay replies none_failed logged
+returns-clause-a_failure_that_is_done c = refl
+
+pub returns-clause-failures_that_are_not : goal.returns-clause-failures_that_are_not
+unfolding number_at dword qword bits bytes_of_dwords completion everywhere addresses bytes_from stored gathered scattered image in_memory and_then first_read in_transcript read_array read_sgl read_entries read_source ranges_in move_units clear_units range_units judge units_moved opening register reg_write doorbell front took post ran_out differs hosts_of fit_behind built plan_over physical_entry written held_of device_unit completion_written put_image units_behind members seat put_back acted_in administered_in taken_to listed ended_at_once submitted device_took device_moved device_posted kept_block reaped scattered_to posted_to ran_out_of step replay replies none_failed logged
+returns-clause-failures_that_are_not c = refl

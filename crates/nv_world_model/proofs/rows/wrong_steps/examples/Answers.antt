@@ -1,4 +1,4 @@
-use Rattle.std.proofs.Common.{◌≡◌, ℕ, [], ◌∷◌, arith, refl}
+use Rattle.std.proofs.Common.{◌≡◌, ℕ, Bool, true, false, [], ◌∷◌, ap, length, arith, refl}
 use Rattle.nv_model.specs.declared.reply.Reply.{Reply}
 use Rattle.nv_model.specs.declared.reply.Reply.TheVariants as reply
 use Rattle.nv_entry.specs.Layout.{number_at, dword, qword, bits, bytes_of_dwords}
@@ -27,6 +27,7 @@ use Rattle.nv_world_model.specs.Contained.{guest_standing}
 use Rattle.nv_world_model.specs.View.{shown, shared_numbers}
 use Rattle.nv_world_model.specs.RowsShown.{first_guest, second_guest}
 use Rattle.nv_world_model.specs.Rows.{guest_at}
+use Rattle.nv_world_model.specs.World.{World}
 use Rattle.nv_world_model.proofs.rows.wrong_steps.examples.Goals as goal
 
 -- a byte of the guest's buffer, which is zero in the world cut down
@@ -77,3 +78,28 @@ unfolding number_at dword qword bits bytes_of_dwords completion everywhere addre
 returns-clause-a_load_is_mapped c contained =
     (let told : ◌≡◌ {A = Reply} (reply.Bytes (7 ∷ [])) (reply.Bytes (0 ∷ [])) = (contained.own 0 first_guest refl refl).reply in
     let bad : ◌≡◌ {A = ℕ} 7 0 = cc in absurd (omega arith))
+
+-- that byte
+pub returns-clause-a_byte_behind_the_area_is_nobodys : goal.returns-clause-a_byte_behind_the_area_is_nobodys
+unfolding number_at dword qword bits bytes_of_dwords completion everywhere addresses bytes_from stored gathered scattered image in_memory and_then first_read in_transcript read_array read_sgl read_entries read_source ranges_in move_units clear_units range_units judge units_moved opening register reg_write doorbell front took post ran_out differs hosts_of fit_behind built plan_over physical_entry written held_of device_unit completion_written put_image units_behind members seat put_back acted_in administered_in taken_to listed ended_at_once submitted device_took device_moved device_posted kept_block reaped scattered_to posted_to ran_out_of step replay replies admin_command admin cut shown shared_numbers guest_standing
+returns-clause-a_byte_behind_the_area_is_nobodys c contained = (let bad : ◌≡◌ {A = ℕ} 0 7 = contained.others.bytes 0xc43000 refl refl in absurd (omega arith))
+
+-- a byte of that block
+pub returns-clause-a_block_of_nobody_stays : goal.returns-clause-a_block_of_nobody_stays
+unfolding number_at dword qword bits bytes_of_dwords completion everywhere addresses bytes_from stored gathered scattered image in_memory and_then first_read in_transcript read_array read_sgl read_entries read_source ranges_in move_units clear_units range_units judge units_moved opening register reg_write doorbell front took post ran_out differs hosts_of fit_behind built plan_over physical_entry written held_of device_unit completion_written put_image units_behind members seat put_back acted_in administered_in taken_to listed ended_at_once submitted device_took device_moved device_posted kept_block reaped scattered_to posted_to ran_out_of step replay replies admin_command admin cut shown shared_numbers guest_standing
+returns-clause-a_block_of_nobody_stays c contained = (let bad : ◌≡◌ {A = ℕ} 0xf4 7 = contained.others.blocks 500 0 refl in absurd (omega arith))
+
+-- that mark
+pub returns-clause-a_mark_of_nobody_stays : goal.returns-clause-a_mark_of_nobody_stays
+unfolding number_at dword qword bits bytes_of_dwords completion everywhere addresses bytes_from stored gathered scattered image in_memory and_then first_read in_transcript read_array read_sgl read_entries read_source ranges_in move_units clear_units range_units judge units_moved opening register reg_write doorbell front took post ran_out differs hosts_of fit_behind built plan_over physical_entry written held_of device_unit completion_written put_image units_behind members seat put_back acted_in administered_in taken_to listed ended_at_once submitted device_took device_moved device_posted kept_block reaped scattered_to posted_to ran_out_of step replay replies admin_command admin cut shown shared_numbers guest_standing
+returns-clause-a_mark_of_nobody_stays c contained = (let bad : ◌≡◌ {A = Bool} false true = contained.others.marks 500 refl refl in absurd (cc))
+
+-- the mark of block 0 of the guest, which is not set in the world cut down
+pub returns-clause-a_mark_tells_of_no_other : goal.returns-clause-a_mark_tells_of_no_other
+unfolding number_at dword qword bits bytes_of_dwords completion everywhere addresses bytes_from stored gathered scattered image in_memory and_then first_read in_transcript read_array read_sgl read_entries read_source ranges_in move_units clear_units range_units judge units_moved opening register reg_write doorbell front took post ran_out differs hosts_of fit_behind built plan_over physical_entry written held_of device_unit completion_written put_image units_behind members seat put_back acted_in administered_in taken_to listed ended_at_once submitted device_took device_moved device_posted kept_block reaped scattered_to posted_to ran_out_of step replay replies admin_command admin cut shown shared_numbers guest_standing
+returns-clause-a_mark_tells_of_no_other c contained = (let bad : ◌≡◌ {A = Bool} true false = (contained.own 0 first_guest refl refl).alike.marks 0 (omega arith) in absurd (cc))
+
+-- how many lanes the device has
+pub returns-clause-a_keep_changes_a_mark_alone : goal.returns-clause-a_keep_changes_a_mark_alone
+unfolding number_at dword qword bits bytes_of_dwords completion everywhere addresses bytes_from stored gathered scattered image in_memory and_then first_read in_transcript read_array read_sgl read_entries read_source ranges_in move_units clear_units range_units judge units_moved opening register reg_write doorbell front took post ran_out differs hosts_of fit_behind built plan_over physical_entry written held_of device_unit completion_written put_image units_behind members seat put_back acted_in administered_in taken_to listed ended_at_once submitted device_took device_moved device_posted kept_block reaped scattered_to posted_to ran_out_of step replay replies admin_command admin cut shown shared_numbers guest_standing
+returns-clause-a_keep_changes_a_mark_alone c contained = (let bad : ◌≡◌ {A = ℕ} 0 1 = ap (λ (z : World). length z.device) (contained.keep 5 refl).others in absurd (omega arith))
