@@ -26,6 +26,9 @@ pub fn examples()
     ensures an_unknown_opcode { refusal_in zeros (command (dword0 0x04 0 1) 1 one_block 5 0 0) ≡ Some 0x80030007 }
     // FUSE is looked at before the opcode: Invalid Field in Command.
     ensures an_unknown_opcode_that_is_fused { refusal_in zeros (command (dword0 0x04 1 1) 1 one_block 5 0 0) ≡ Some 0x80050007 }
+    // A Read that is the second of two fused commands, and one with the reserved value.
+    ensures a_second_fused_command { refusal_in zeros (command (dword0 read 2 1) 1 one_block 5 0 0) ≡ Some 0x80050007 }
+    ensures a_command_fused_otherwise { refusal_in zeros (command (dword0 read 3 1) 1 one_block 5 0 0) ≡ Some 0x80050007 }
     // The opcode is looked at before NSID.
     ensures an_unknown_opcode_in_another_namespace { refusal_in zeros (command (dword0 0x04 0 1) 2 one_block 5 0 0) ≡ Some 0x80030007 }
     // NSID is looked at before PSDT.

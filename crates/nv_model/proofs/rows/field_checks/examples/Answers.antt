@@ -103,3 +103,11 @@ returns-clause-dataset_management_with_psdt_three c = refl
 pub returns-clause-the_identifier_has_no_bearing : goal.returns-clause-the_identifier_has_no_bearing
 unfolding number_at dword qword bits bytes_of_dwords completion everywhere bytes_from stored in_memory and_then read_array read_sgl move_units judge
 returns-clause-the_identifier_has_no_bearing c = refl
+
+pub returns-clause-a_second_fused_command : goal.returns-clause-a_second_fused_command
+unfolding number_at dword qword bits bytes_of_dwords completion everywhere bytes_from stored in_memory and_then read_array read_sgl move_units judge
+returns-clause-a_second_fused_command c = refl
+
+pub returns-clause-a_command_fused_otherwise : goal.returns-clause-a_command_fused_otherwise
+unfolding number_at dword qword bits bytes_of_dwords completion everywhere bytes_from stored in_memory and_then read_array read_sgl move_units judge
+returns-clause-a_command_fused_otherwise c = refl
