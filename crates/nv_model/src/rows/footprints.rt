@@ -43,6 +43,11 @@ pub fn examples()
     // One that will be refused names its entry alone.
     ensures a_refused_identify_names_its_entry { after (bring_up ++ store 0x10080 (admin_entry 0x06 3 0 0x15000 0 0x03 0) ∷ ring 0x1000 3 ∷ []) start named_bytes
         ≡ Some ((named_as Entry 0x10080 64 ∷ []) ∷ []) }
+    // So does one that is fused, and one with a list in the place of PRP entries.
+    ensures a_fused_identify_names_its_entry { after (bring_up ++ store 0x10080 (admin_entry 0x0106 3 0 0x15000 0 0x01 0) ∷ ring 0x1000 3 ∷ []) start named_bytes
+        ≡ Some ((named_as Entry 0x10080 64 ∷ []) ∷ []) }
+    ensures an_identify_with_a_list_names_its_entry { after (bring_up ++ store 0x10080 (admin_entry 0x4006 3 0 0x15000 0 0x01 0) ∷ ring 0x1000 3 ∷ []) start named_bytes
+        ≡ Some ((named_as Entry 0x10080 64 ∷ []) ∷ []) }
     // Other admin commands their entries, until they are taken; held event requests name nothing.
     ensures other_admin_commands_name_their_entries { after (bring_up ++ store 0x10080 five_event_requests ∷ ring 0x1000 5 ∷ AdminQueueStep ∷ []) start named_bytes
         ≡ Some ((named_as Entry 0x100c0 64 ∷ []) ∷ (named_as Entry 0x10100 64 ∷ []) ∷ []) }

@@ -33,6 +33,11 @@ pub fn examples()
         ≡ Some (
         replicate 4 reply.Done ++ replicate 5 reply.Ignored
         ++ reply.Bytes (0x1f ∷ 0x00 ∷ 0x1f ∷ 0x00 ∷ []) ∷ reply.Bytes (1 ∷ 0 ∷ 0 ∷ 0 ∷ []) ∷ []) }
+    // The other bits of CC are kept and have no effect, whether EN is 1 or 0.
+    ensures cc_written_while_enabled { replied_to (enable ++ write_register 0x14 0xffff0001 ∷ read_register 0x14 ∷ read_register 0x1c ∷ ring 0x1000 1 ∷ []) start
+        ≡ Some (replicate 5 reply.Done ++ reply.Bytes (0x01 ∷ 0x00 ∷ 0xff ∷ 0xff ∷ []) ∷ reply.Bytes (1 ∷ 0 ∷ 0 ∷ 0 ∷ []) ∷ reply.Done ∷ []) }
+    ensures cc_written_while_disabled { replied_to (write_register 0x14 0x00460000 ∷ read_register 0x14 ∷ read_register 0x1c ∷ []) start
+        ≡ Some (reply.Done ∷ reply.Bytes (0x00 ∷ 0x00 ∷ 0x46 ∷ 0x00 ∷ []) ∷ reply.Bytes (0 ∷ 0 ∷ 0 ∷ 0 ∷ []) ∷ []) }
     // EN with admin queues of one slot: CFS, and RDY stays 0; EN clear clears CFS.
     ensures admin_queues_of_one_slot_fail { replied_to (write_register 0x14 1 ∷ read_register 0x1c ∷ write_register 0x14 0 ∷ read_register 0x1c ∷ []) start
         ≡ Some (reply.Done ∷ reply.Bytes (2 ∷ 0 ∷ 0 ∷ 0 ∷ []) ∷ reply.Done ∷ reply.Bytes (0 ∷ 0 ∷ 0 ∷ 0 ∷ []) ∷ []) }

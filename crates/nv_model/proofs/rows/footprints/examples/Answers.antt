@@ -69,3 +69,11 @@ returns-clause-other_admin_commands_name_their_entries c = refl
 pub returns-clause-untaken_commands_of_a_closing_queue_name_nothing : goal.returns-clause-untaken_commands_of_a_closing_queue_name_nothing
 unfolding number_at dword qword bits bytes_of_dwords completion everywhere addresses bytes_from stored gathered scattered in_memory asked and_then read_array read_sgl read_entries read_source ranges_in move_units clear_units range_units judge opening register reg_write doorbell front took post ran_out admin_command admin footprints start differs step run_of
 returns-clause-untaken_commands_of_a_closing_queue_name_nothing c = refl
+
+pub returns-clause-a_fused_identify_names_its_entry : goal.returns-clause-a_fused_identify_names_its_entry
+unfolding number_at dword qword bits bytes_of_dwords completion everywhere addresses bytes_from stored gathered scattered in_memory asked and_then read_array read_sgl read_entries read_source ranges_in move_units clear_units range_units judge opening register reg_write doorbell front took post ran_out admin_command admin footprints start differs step run_of
+returns-clause-a_fused_identify_names_its_entry c = refl
+
+pub returns-clause-an_identify_with_a_list_names_its_entry : goal.returns-clause-an_identify_with_a_list_names_its_entry
+unfolding number_at dword qword bits bytes_of_dwords completion everywhere addresses bytes_from stored gathered scattered in_memory asked and_then read_array read_sgl read_entries read_source ranges_in move_units clear_units range_units judge opening register reg_write doorbell front took post ran_out admin_command admin footprints start differs step run_of
+returns-clause-an_identify_with_a_list_names_its_entry c = refl

@@ -67,3 +67,11 @@ returns-clause-a_completion_head_goes_up_to_the_tail c = refl
 pub returns-clause-acts_outside_the_memory : goal.returns-clause-acts_outside_the_memory
 unfolding number_at dword qword bits bytes_of_dwords completion everywhere addresses bytes_from stored gathered scattered in_memory and_then read_array read_sgl move_units judge opening register reg_write doorbell front took post ran_out admin_command admin start differs step run_of
 returns-clause-acts_outside_the_memory c = refl
+
+pub returns-clause-cc_written_while_enabled : goal.returns-clause-cc_written_while_enabled
+unfolding number_at dword qword bits bytes_of_dwords completion everywhere addresses bytes_from stored gathered scattered in_memory and_then read_array read_sgl move_units judge opening register reg_write doorbell front took post ran_out admin_command admin start differs step run_of
+returns-clause-cc_written_while_enabled c = refl
+
+pub returns-clause-cc_written_while_disabled : goal.returns-clause-cc_written_while_disabled
+unfolding number_at dword qword bits bytes_of_dwords completion everywhere addresses bytes_from stored gathered scattered in_memory and_then read_array read_sgl move_units judge opening register reg_write doorbell front took post ran_out admin_command admin start differs step run_of
+returns-clause-cc_written_while_disabled c = refl
