@@ -5,6 +5,10 @@
 #[cfg(test)]
 mod bench;
 #[cfg(test)]
+mod commands;
+#[cfg(test)]
+mod events;
+#[cfg(test)]
 mod guests;
 #[cfg(test)]
 mod many;

@@ -13,7 +13,7 @@ use std::time::{Clock, Duration};
 const LOOKS: u32 = 200_000;
 
 /// The registers of the bring-up, and their values: AQA, ASQ, ACQ and CC.
-const REGISTERS: [(u32, u32); 4] = [
+pub const REGISTERS: [(u32, u32); 4] = [
     (0x24, 0x001f_001f),
     (0x28, 0x1_0000),
     (0x30, 0x1_1000),

@@ -94,12 +94,37 @@ fn is_submitted(logged: &Logged) -> bool {
     matches!(logged.event, Event::Submit(_, _)) && matches!(logged.reply, Reply::Done)
 }
 
+// Whether a worker makes such an event only where it is due.
+fn is_asked_for(event: &Event) -> bool {
+    matches!(
+        event,
+        Event::Admin(_)
+            | Event::Take(_, _, _)
+            | Event::DevTake(_)
+            | Event::DevMove(_, _, _)
+            | Event::DevPost(_, _)
+            | Event::Reap(_)
+            | Event::Post(_, _)
+    )
+}
+
+// How many such events came to nothing.
+fn made_in_vain(log: &[Logged]) -> usize {
+    log.iter().filter(|logged| is_in_vain(logged)).count()
+}
+
+// Whether such an event came to nothing.
+fn is_in_vain(logged: &Logged) -> bool {
+    is_asked_for(&logged.event) && !matches!(logged.reply, Reply::Done)
+}
+
 // Ends the test where the run didn't come to this.
 fn expect(rt: &impl Abort, world: &World, ran: &Outcome, plans: u64, ups: usize) {
     let log = world.log();
     assert!(rt; ran.met, "each guest did its part");
     assert!(rt; finish(world, &ran.ports, &ran.shares).is_ok());
     assert_eq!(rt; given_up(log), ups);
+    assert_eq!(rt; made_in_vain(log), 0);
     assert_eq!(rt; carried_out(log) as u64, plans);
 }
 

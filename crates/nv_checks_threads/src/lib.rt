@@ -14,4 +14,6 @@ mod heaps;
 #[cfg(test)]
 mod mismatches;
 #[cfg(test)]
+mod resuming;
+#[cfg(test)]
 mod running;

@@ -154,8 +154,8 @@ fn planners<G: Gate + Sync, R: Threads + Wait + Clock + Sync>(
     )
 }
 
-// The reaper and the physical controller.
-fn others<R: Threads + Wait + Clock + Sync>(
+/// The reaper and the physical controller.
+pub fn others<R: Threads + Wait + Clock + Sync>(
     rt: &R,
     alloc: Global,
     shared: &Shared,

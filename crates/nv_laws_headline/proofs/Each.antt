@@ -14,12 +14,12 @@ use Rattle.nv_laws_others.specs.Alike.{HasFittingStatus}
 use Rattle.nv_laws_related.specs.Following.{AreRestFollowed, EachEventIsFollowed}
 use Rattle.nv_laws_related.proofs.Every.{each-followed}
 use Rattle.nv_laws_related.proofs.Following.{private-run}
-use Rattle.nv_laws_admin.proofs.Admins.{admins-go}
-use Rattle.nv_laws_device.proofs.MoveEvents.{moves-go}
-use Rattle.nv_laws_device.proofs.Posts.{posts-go}
-use Rattle.nv_laws_device.proofs.Rings.{takes-go}
-use Rattle.nv_laws_tags.proofs.Submits.{submits-go}
-use Rattle.nv_laws_tags.proofs.Posts as completed
+use Rattle.nv_laws_headline.proofs.Admins.{admins-go}
+use Rattle.nv_laws_headline.proofs.MoveEvents.{moves-go}
+use Rattle.nv_laws_headline.proofs.Posts.{posts-go}
+use Rattle.nv_laws_headline.proofs.Rings.{takes-go}
+use Rattle.nv_laws_headline.proofs.Submits.{submits-go}
+use Rattle.nv_laws_headline.proofs.Completions as completed
 
 rest-followed : (host_bytes : ℕ) (geometry : Geometry) (number : ℕ) (guest : Guest) → slice_get geometry.guests number ≡ Some guest
     → AreRestFollowed geometry host_bytes number guest

@@ -1,2 +1,7 @@
-//! The promise, as functions that do nothing: each contract is a law.
+//! The promise, and the events by which it is kept, as functions that do nothing: each contract is a law.
+pub mod admins;
 pub mod headline;
+pub mod moves;
+pub mod posting;
+pub mod rings;
+pub mod submitting;

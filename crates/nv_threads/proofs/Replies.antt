@@ -11,7 +11,7 @@ use Rattle.nv_model.specs.declared.act.Act.{Act}
 use Rattle.nv_model.specs.declared.act.Act.TheVariants as act
 use Rattle.nv_model.specs.declared.reply.Reply.{Reply}
 use Rattle.nv_model.specs.declared.reply.Reply.TheVariants as reply
-use Rattle.nv_threads.specs.Told.{bytes_given, bytes_of}
+use Rattle.nv_threads.specs.Told.{bytes_given, bytes_of, room_of}
 use Rattle.nv_world.specs.Mediated.{IsLogged, IsStepped, Mediated}
 use Rattle.nv_world_model.specs.Geometry.{Geometry, Guest, shape_of}
 use Rattle.nv_world_model.specs.Seat.{Owner, owner_by, seat}
@@ -20,9 +20,9 @@ use Rattle.nv_world_model.specs.World.{World}
 use Rattle.nv_world_model.specs.declared.event.Event.TheVariants as event
 
 -- a reply to an act: its bytes, if it has some, are that many
-abbrev pub IsAnswer : (len : ℕ) → Reply → Type 0
+abbrev pub IsAnswer : (len : Option ℕ) → Reply → Type 0
 IsAnswer len reply.Done = Unit {0}
-IsAnswer len (reply.Bytes bytes) = length bytes ≡ len
+IsAnswer len (reply.Bytes bytes) = Some (length bytes) ≡ len
 IsAnswer len reply.Idle = ⊥
 IsAnswer len reply.Busy = ⊥
 IsAnswer len reply.Held = ⊥
@@ -31,20 +31,20 @@ IsAnswer len reply.Unmapped = Unit {0}
 IsAnswer len reply.Ignored = Unit {0}
 IsAnswer len reply.NoMemory = ⊥
 
-stored-answer : (b : Bool) (p q : Private) → IsAnswer 0 (cond b (replied reply.Done p) (replied reply.Unmapped q)).reply
+stored-answer : (b : Bool) (p q : Private) → IsAnswer None (cond b (replied reply.Done p) (replied reply.Unmapped q)).reply
 stored-answer true p q = tt
 stored-answer false p q = tt
 
 loaded-answer : (b : Bool) (len : ℕ) (bytes : List ℕ) (p : Private) → length bytes ≡ len
-    → IsAnswer (cond b len 0) (cond b (replied (reply.Bytes bytes) p) (replied reply.Unmapped p)).reply
-loaded-answer true len bytes p is = is
+    → IsAnswer (cond b (Some len) None) (cond b (replied (reply.Bytes bytes) p) (replied reply.Unmapped p)).reply
+loaded-answer true len bytes p is = ap Some is
 loaded-answer false len bytes p is = tt
 
-read-answer : (b : Bool) (value : ℕ) (p : Private) → IsAnswer (cond b 4 0) (register_replied (cond b (Some value) None) p).reply
+read-answer : (b : Bool) (value : ℕ) (p : Private) → IsAnswer (cond b (Some 4) None) (register_replied (cond b (Some value) None) p).reply
 read-answer true value p = refl
 read-answer false value p = tt
 
-written-answer : (o : Option Controller) (p : Private) → IsAnswer 0 (controlled o p).reply
+written-answer : (o : Option Controller) (p : Private) → IsAnswer None (controlled o p).reply
 written-answer None p = tt
 written-answer (Some c) p = tt
 
@@ -56,7 +56,7 @@ acted-answer given (act.RegRead offset) p = read-answer (offset % 4 == 0) (regis
 acted-answer given (act.RegWrite offset value) p = written-answer (reg_write (shape_of given).mapped p.controller offset value) p
 acted-answer given (act.Doorbell offset value) p = written-answer (doorbell p.controller offset value) p
 
-put-answer : (len : ℕ) (r : Reply) (p : Private) (o : Owner) (w : World) → IsAnswer len r → IsAnswer len (act_put_back r p o w).reply
+put-answer : (len : Option ℕ) (r : Reply) (p : Private) (o : Owner) (w : World) → IsAnswer len r → IsAnswer len (act_put_back r p o w).reply
 put-answer len reply.Done p o w is = is
 put-answer len (reply.Bytes bytes) p o w is = is
 put-answer len reply.Idle p o w is = is
@@ -86,16 +86,12 @@ unfolding step
 step-answer geometry guest a w = guest-answer geometry a guest (slice_get geometry.guests guest) (slice_get w.controllers guest) w
 
 -- it is never want of memory
-pub IsAnswer-memory : (len : ℕ) (r : Reply) → IsAnswer len r → r ≢ reply.NoMemory
+pub IsAnswer-memory : (len : Option ℕ) (r : Reply) → IsAnswer len r → r ≢ reply.NoMemory
 IsAnswer-memory len r is same = subst (IsAnswer len) same is
 
 -- and its bytes are that many
-pub IsAnswer-bytes : (len : ℕ) (r : Reply) (bytes : List ℕ) → IsAnswer len r → bytes_told r ≡ Some bytes → length bytes ≡ len
-IsAnswer-bytes len (reply.Bytes told) bytes is same = subst (λ (o : Option (List ℕ)). length-of o ≡ len) same is
-  where
-    length-of : Option (List ℕ) → ℕ
-    length-of None = 0
-    length-of (Some xs) = length xs
+pub IsAnswer-bytes : (len : Option ℕ) (r : Reply) (bytes : List ℕ) → IsAnswer len r → bytes_told r ≡ Some bytes → Some (length bytes) ≡ len
+IsAnswer-bytes len (reply.Bytes told) bytes is same = subst (λ (o : Option (List ℕ)). room_of o ≡ len) same is
 IsAnswer-bytes len reply.Done bytes is same = cc
 IsAnswer-bytes len reply.Idle bytes is same = cc
 IsAnswer-bytes len reply.Busy bytes is same = cc
@@ -120,7 +116,7 @@ act-memory guest a old new r (inr is) no_memory =
 
 -- its bytes are as many as its room
 pub act-bytes : (guest : ℕ) (a : Act) (old new : Mediated) (r : Reply) (bytes : List ℕ) → IsStepped (event.Guest guest a) old r new
-    → bytes_told r ≡ Some bytes → length bytes ≡ bytes_of (slice_get old.setup.geometry.guests guest) a
+    → bytes_told r ≡ Some bytes → Some (length bytes) ≡ bytes_of (slice_get old.setup.geometry.guests guest) a
 act-bytes guest a old new r bytes (inl same) told = absurd (none-some bytes (sym (ap bytes_told same.0) ∙ told))
 act-bytes guest a old new r bytes (inr is) told =
     IsAnswer-bytes (bytes_of (slice_get old.setup.geometry.guests guest) a) r bytes (logged-reply guest a old new r is) told

@@ -15,12 +15,15 @@ use std::time::Clock;
 /// How many slots a lane of the physical controller has.
 const SLOTS: usize = 64;
 
+/// How many units a command has at most: a block each.
+const UNITS: u64 = 65_536;
+
 /// Takes the physical commands of a lane, moves their units in order and completes them, until the workers are to stop. Where there is
-/// no memory for a step, it is tried again.
+/// no memory for a step, it is tried again. Commands that were in the lane before, some of whose units may have moved, go on, too.
 ///
 /// This waits for the world's lock. It tells how many events it put into the log.
 pub fn device_loop<R: Wait + Clock>(rt: &R, alloc: Global, shared: &Shared, lane: u8) -> Share {
-    let mut device = LaneDevice::new(lane);
+    let mut device = LaneDevice::new(lane, was_used(&shared.world.lock(rt), lane));
     let mut rest = Rest::new();
     for _ in rt.forever() {
         if shared.is_stopped() {
@@ -36,6 +39,18 @@ pub fn device_loop<R: Wait + Clock>(rt: &R, alloc: Global, shared: &Shared, lane
     device.share
 }
 
+// Whether a physical command of a lane was taken before.
+fn was_used(world: &World, lane: u8) -> bool {
+    for logged in world.log() {
+        if let Event::DevTake(at) = &logged.event {
+            if *at == lane {
+                return true;
+            }
+        }
+    }
+    false
+}
+
 // The physical controller on a lane.
 #[derive(Debug, Drop)]
 struct LaneDevice {
@@ -46,17 +61,20 @@ struct LaneDevice {
     held: bool,
     // the next unit of each slot's command
     units: [u64; SLOTS],
+    // of commands that were there before the worker came, no unit below this one is left
+    earlier: u64,
     share: Share,
     ghost in_range: { slot < 64 },
 }
 
 impl LaneDevice {
-    fn new(lane: u8) -> Self {
+    fn new(lane: u8, was_used: bool) -> Self {
         LaneDevice {
             lane,
             slot: 0,
             held: true,
             units: [0; SLOTS],
+            earlier: if was_used { 0 } else { UNITS },
             share: Share::new(),
         }
     }
@@ -72,19 +90,28 @@ impl LaneDevice {
             self.held = true;
             return is_done(self.share.step(world, alloc, take));
         }
-        if !self.held {
-            return false;
+        if self.held {
+            return self.turn_to_another(world, alloc);
         }
-        self.turn_to_another(world, alloc)
+        self.earlier < UNITS && self.look_further()
+    }
+
+    // The units of earlier commands that had moved are passed by, one number a turn.
+    fn look_further(&mut self) -> bool {
+        self.earlier = self.earlier.saturating_add(1);
+        self.held = true;
+        true
     }
 
     // The next event of a slot's command, where one is due.
     fn due(&self, world: &World, slot: u8) -> Option<Event>
         requires { slot < 64 }
     {
-        let unit = Event::DevMove(self.lane, slot, self.units[usize::from(slot)]);
-        if world.due(&unit) {
-            return Some(unit);
+        for unit in [self.units[usize::from(slot)], self.earlier] {
+            let unit = Event::DevMove(self.lane, slot, unit);
+            if world.due(&unit) {
+                return Some(unit);
+            }
         }
         let post = Event::DevPost(self.lane, slot);
         if world.due(&post) {
@@ -95,15 +122,13 @@ impl LaneDevice {
 
     // Carries out the next event of the last slot's command, and keeps which unit comes next.
     fn carry_out(&mut self, world: &mut World, alloc: Global, event: Event) -> bool {
-        let at = usize::from(self.slot);
-        let unit = self.units[at];
         let next = match &event {
-            Event::DevMove(_, _, _) => unit.wrapping_add(1),
+            Event::DevMove(_, _, unit) => unit.wrapping_add(1),
             _ => 0,
         };
         let done = is_done(self.share.step(world, alloc, event));
         if done {
-            self.units[at] = next;
+            self.units[usize::from(self.slot)] = next;
         }
         done
     }

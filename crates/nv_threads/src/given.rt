@@ -2,11 +2,13 @@
 
 ghost use Rattle.nv_core.specs.Submit.{IsLimit};
 
+use crate::shared::Shared;
 use nv_mem::{GuestMap, NoMemory};
 use nv_ns::VirtualNs;
 use nv_world::World;
 use std::alloc::Global;
 use std::marker::Model;
+use std::sync::Wait;
 
 /// The map, the range and the limit on descriptors that a guest was given.
 #[derive(Debug, Drop)]
@@ -28,18 +30,20 @@ impl Model for Given {
 }
 
 impl Given {
-    /// What a guest was given, with a copy of its map; `None` where there is no such guest.
-    pub(crate) fn of(world: &World, alloc: Global, guest: u8) -> Result<Option<Self>, NoMemory> {
-        let Some(map) = world.map(guest) else {
+    /// What a guest was given, with a copy of its map; `None` where there is no such guest. Each is read while the world's lock is held for
+    /// it alone.
+    pub(crate) fn of<R: Wait>(
+        rt: &R,
+        alloc: Global,
+        shared: &Shared,
+        guest: u8,
+    ) -> Result<Option<Self>, NoMemory> {
+        let map = map_of(&shared.world.lock(rt), alloc, guest)?;
+        let ns = shared.world.lock(rt).range(guest);
+        let limit = shared.world.lock(rt).limit(guest);
+        let (Some(map), Some(ns), Some(limit)) = (map, ns, limit) else {
             return Ok(None);
         };
-        let Some(ns) = world.range(guest) else {
-            return Ok(None);
-        };
-        let Some(limit) = world.limit(guest) else {
-            return Ok(None);
-        };
-        let map = map.try_clone(alloc)?;
         Ok(Some(Given { map, ns, limit }))
     }
 
@@ -58,5 +62,13 @@ impl Given {
         ensures { IsLimit result }
     {
         self.limit
+    }
+}
+
+// A copy of a guest's map, where there is such a guest.
+fn map_of(world: &World, alloc: Global, guest: u8) -> Result<Option<GuestMap>, NoMemory> {
+    match world.map(guest) {
+        Some(map) => Ok(Some(map.try_clone(alloc)?)),
+        None => Ok(None),
     }
 }

@@ -70,8 +70,7 @@ fn given<R: Wait + Clock>(rt: &R, alloc: Global, shared: &Shared, guest: u8) -> 
         if shared.is_stopped() {
             return None;
         }
-        let given = Given::of(&shared.world.lock(rt), alloc, guest);
-        match given {
+        match Given::of(rt, alloc, shared, guest) {
             Ok(given) => return given,
             Err(NoMemory) => rest.pause(rt),
         }
@@ -101,6 +100,8 @@ struct GuestPlanner {
     lane: u8,
     // the queue that a command was taken of last, 0 where there was none
     queue: u16,
+    // the tag that a command was found at last
+    tag: u8,
     task: Task,
     share: Share,
 }
@@ -112,17 +113,18 @@ impl GuestPlanner {
             guest,
             lane,
             queue: 0,
-            task: Task::Search,
+            tag: 0,
+            task: Task::Search(0),
             share: Share::new(),
         }
     }
 
-    // What is done under the lock: one event at most, and the next job.
+    // What is done under the lock: one event, or a look at one job.
     fn turn(&mut self, world: &mut World, alloc: Global) -> Turn {
         match self.task {
-            Task::Search => self.search(world, alloc),
+            Task::Search(looked) => self.search(world, alloc, looked),
             Task::TakeUp => self.take_up(world, alloc),
-            Task::Plan(tag) => self.job(world, alloc, tag),
+            Task::Plan(tag) => self.plan(world, alloc, tag),
             Task::Read(tag, addr, len) => self.read(world, alloc, tag, addr, len),
             Task::GiveUp(tag) => self.give_up(world, alloc, tag),
         }
@@ -146,38 +148,31 @@ impl GuestPlanner {
         }
     }
 
-    // Looks for a tag with a command of the guest's that was taken.
-    fn search(&mut self, world: &World, alloc: Global) -> Turn {
-        match self.found(world, alloc) {
-            Ok(Some(job)) => self.at(job),
+    // Looks at a tag behind the last that had a command of the guest's, itself the first, for another that was taken. A tag that another
+    // planner's command has costs a copy of what was read for it.
+    fn search(&mut self, world: &World, alloc: Global, looked: u8) -> Turn {
+        let tag = self.tag.wrapping_add(looked) % TAGS;
+        match self.own_job(world, alloc, tag) {
+            Ok(Some(job)) => {
+                self.tag = tag;
+                self.task = Task::Plan(tag);
+                Turn::Job(job)
+            }
             Ok(None) => {
-                self.task = Task::TakeUp;
+                self.task = behind(looked);
                 Turn::Done
             }
             Err(NoMemory) => Turn::Nothing,
         }
     }
 
-    // The job of the lowest tag with a command of the guest's that was taken. A tag that another planner's command has costs a copy of
-    // what was read for it.
-    fn found(&self, world: &World, alloc: Global) -> Result<Option<Job>, NoMemory> {
-        for tag in 0..TAGS {
-            if let Some(job) = world.job(alloc, self.lane, tag)? {
-                if job.guest == self.guest {
-                    return Ok(Some(job));
-                }
-            }
-        }
-        Ok(None)
+    // The job of a tag, where it is one of the guest's.
+    fn own_job(&self, world: &World, alloc: Global, tag: u8) -> Result<Option<Job>, NoMemory> {
+        let job = world.job(alloc, self.lane, tag)?;
+        Ok(job.filter(|job| job.guest == self.guest))
     }
 
-    // A job is to be planned.
-    fn at(&mut self, job: Job) -> Turn {
-        self.task = Task::Plan(job.tag);
-        Turn::Job(job)
-    }
-
-    // Takes up an admin command, or takes a command and looks for its tag: of the next queue, behind the last, that has one.
+    // Takes up an admin command, or takes a command of the next queue, behind the last, that has one.
     fn take_up(&mut self, world: &mut World, alloc: Global) -> Turn {
         let admin = Event::Admin(self.guest);
         if world.due(&admin) {
@@ -194,27 +189,21 @@ impl GuestPlanner {
         Turn::Nothing
     }
 
-    // Takes a command, and looks for its tag.
+    // Takes a command, whose tag is to be looked for.
     fn take(&mut self, world: &mut World, alloc: Global, take: Event) -> Turn {
         match self.share.step(world, alloc, take) {
             Reply::Done => {
-                self.task = Task::Search;
-                self.search(world, alloc)
+                self.task = Task::Search(0);
+                Turn::Done
             }
             _ => Turn::Nothing,
         }
     }
 
     // The job of a tag as it stands. Where the command was dropped, there is another to be taken up.
-    fn job(&mut self, world: &World, alloc: Global, tag: u8) -> Turn {
-        match world.job(alloc, self.lane, tag) {
-            Ok(Some(job)) => {
-                if job.guest == self.guest {
-                    return Turn::Job(job);
-                }
-                self.task = Task::TakeUp;
-                Turn::Done
-            }
+    fn plan(&mut self, world: &World, alloc: Global, tag: u8) -> Turn {
+        match self.own_job(world, alloc, tag) {
+            Ok(Some(job)) => Turn::Job(job),
             Ok(None) => {
                 self.task = Task::TakeUp;
                 Turn::Done
@@ -223,14 +212,14 @@ impl GuestPlanner {
         }
     }
 
-    // Reads bytes for the command of a tag, and gives its job with them.
+    // Reads bytes for the command of a tag, which is to be planned with them.
     fn read(&mut self, world: &mut World, alloc: Global, tag: u8, addr: u64, len: u64) -> Turn {
         let list = Event::List(self.lane, tag, addr, len);
         match self.share.step(world, alloc, list) {
             Reply::NoMemory => Turn::Nothing,
             _ => {
                 self.task = Task::Plan(tag);
-                self.job(world, alloc, tag)
+                Turn::Done
             }
         }
     }
@@ -244,6 +233,16 @@ impl GuestPlanner {
                 Turn::Done
             }
         }
+    }
+}
+
+// What is done behind a look at a tag that had nothing, where so many were looked at before it.
+fn behind(looked: u8) -> Task {
+    let looked = looked.saturating_add(1);
+    if looked < TAGS {
+        Task::Search(looked)
+    } else {
+        Task::TakeUp
     }
 }
 

@@ -5,8 +5,8 @@ use nv_plan::Job;
 /// What a planner does next.
 #[derive(Clone, Copy, Debug)]
 pub(crate) enum Task {
-    /// It looks whether a tag of its lane has a command of its guest's that was taken.
-    Search,
+    /// It looks for a tag of its lane with a command of its guest's that was taken, and has looked at so many.
+    Search(u8),
     /// It takes up an admin command, or takes a command.
     TakeUp,
     /// It plans the command of that tag.

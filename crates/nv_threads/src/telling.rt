@@ -2,7 +2,7 @@
 
 ghost use Rattle.std.specs.Prelude.{◌≡◌, ◌≢◌, ℕ, IfOk, List, OnErr, Some, length, slice_get};
 ghost use Rattle.nv_core.specs.Seat.{bytes_told};
-ghost use Rattle.nv_threads.specs.Told.{bytes_of};
+ghost use Rattle.nv_threads.specs.Told.{bytes_of, room_of};
 ghost use Rattle.nv_world.specs.Mediated.{IsLogged, mediated};
 
 use nv_mem::{Bytes, NoMemory};
@@ -15,7 +15,7 @@ use std::alloc::Global;
 const REGISTER_BYTES: usize = 4;
 
 /// Carries out a guest's act in the world. Its reply comes twice; room for the bytes of the second is taken first, where the reply will
-/// have some. Where no memory is left, nothing has changed.
+/// have some, and none else. Where no memory is left, nothing has changed.
 pub(crate) fn tell(
     world: &mut World,
     alloc: Global,
@@ -36,50 +36,58 @@ pub(crate) fn tell(
     Ok((reply, again))
 }
 
-// Room for the bytes that an act will be answered.
-fn room_for(world: &World, alloc: Global, guest: u8, act: &Act) -> Result<Bytes, NoMemory>
-    ensures { IfOk result (λ room. length room ≡ bytes_of (slice_get world.now.geometry.guests guest) act.now) }
+// Room for the bytes that an act will be answered, where it will have some.
+fn room_for(world: &World, alloc: Global, guest: u8, act: &Act) -> Result<Option<Bytes>, NoMemory>
+    ensures { IfOk result (λ room. room_of room ≡ bytes_of (slice_get world.now.geometry.guests guest) act.now) }
 {
-    let len = bytes_of(world, guest, act);
-    Bytes::new(alloc, vec![in alloc; 0; len]?)
+    let Some(len) = bytes_of(world, guest, act) else {
+        return Ok(None);
+    };
+    let room = Bytes::new(alloc, vec![in alloc; 0; len]?)?;
+    Ok(Some(room))
 }
 
-// How many bytes an act will be answered.
-fn bytes_of(world: &World, guest: u8, act: &Act) -> usize
+// How many bytes an act will be answered, if it will have some.
+fn bytes_of(world: &World, guest: u8, act: &Act) -> Option<usize>
     ensures { result ≡ bytes_of (slice_get world.now.geometry.guests guest) act.now }
 {
-    let Some(map) = world.map(guest) else {
-        return 0;
-    };
+    let map = world.map(guest)?;
     match act {
         Act::Load { addr, len } => {
             if map.holds(*addr, *len) {
-                *len as usize
+                Some(*len as usize)
             } else {
-                0
+                None
             }
         }
-        Act::RegRead { offset } => { if *offset % 4 == 0 { REGISTER_BYTES } else { 0 } }
-        Act::Store { addr: _, bytes: _ } => 0,
+        Act::RegRead { offset } => {
+            if *offset % 4 == 0 {
+                Some(REGISTER_BYTES)
+            } else {
+                None
+            }
+        }
+        Act::Store { addr: _, bytes: _ } => None,
         Act::RegWrite {
             offset: _,
             value: _,
-        } => 0,
+        } => None,
         Act::Doorbell {
             offset: _,
             value: _,
-        } => 0,
+        } => None,
     }
 }
 
 // A reply once more, its bytes in this room.
-fn filled(mut room: Bytes, reply: &Reply) -> Reply
-    requires { (bytes : List ℕ) → bytes_told reply.now ≡ Some bytes → length bytes ≡ length room }
+fn filled(room: Option<Bytes>, reply: &Reply) -> Reply
+    requires { (bytes : List ℕ) → bytes_told reply.now ≡ Some bytes → room_of room ≡ Some (length bytes) }
     ensures { result ≡ reply.now }
 {
     match reply {
         Reply::Done => Reply::Done,
         Reply::Bytes(bytes) => {
+            let Some(mut room) = room else { unreachable!() };
             room.copy_from_slice(bytes.as_slice());
             Reply::Bytes(room)
         }

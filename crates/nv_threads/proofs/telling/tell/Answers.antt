@@ -9,5 +9,5 @@ returns-in-NoMemory-clause-err c =
 
 pub filled-again-requires : goal.filled-again-requires
 filled-again-requires c = λ bytes told.
-    act-bytes c.args.guest c.args.act (mediated c.args.world.now) (mediated c.step-reply.new.self) c.step-reply.result bytes c.step-reply.ensures.step told
-    ∙ sym c.in_ok-room.ensures
+    c.in_ok-room.ensures
+    ∙ sym (act-bytes c.args.guest c.args.act (mediated c.args.world.now) (mediated c.step-reply.new.self) c.step-reply.result bytes c.step-reply.ensures.step told)

@@ -1,4 +1,0 @@
-pub mod Effects
-pub mod Stepping
-pub mod Apart
-pub mod Admins

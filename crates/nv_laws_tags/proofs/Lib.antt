@@ -1,4 +1,0 @@
-pub mod Submits
-pub mod Freed
-pub mod Delivered
-pub mod Posts
