@@ -2,6 +2,7 @@
 
 use crate::bench::{SET_UP, same_text, served};
 use nv_once::ExitStatus;
+use std::alloc::Global;
 use std::process::Abort;
 use std::sync::Wait;
 use std::test::Fail;
@@ -167,4 +168,54 @@ const IN_VAIN: Case = Case {
 #[test]
 fn waits_in_vain(rt: HostRuntime) -> Result<(), Fail> {
     expect(&rt, SET_UP, "", &IN_VAIN)
+}
+
+/// A Read of block 5 by a Last Segment of 1,000 Data Blocks, of which the last alone has bytes; and a Read by PRP.
+const READ_BY_SEGMENT: &str = "\
+store 0 0x13000 0240070001000000000000000000000000000000000000000060000000000000803e000000000030\
+050000000000000000000000000000000000000000000000
+bell 0 0x1008 1
+";
+
+const READ_BY_PRP: &str = "\
+store 0 0x13040 02000800010000000000000000000000000000000000000000500000000000000000000000000000\
+050000000000000000000000000000000000000000000000
+bell 0 0x1008 2
+await 0 0x1201c 0x00010008
+";
+
+// A script of a guest whose planner has a heap of so many bytes, and whose Read by a long list ends so.
+fn heap_script(alloc: Global, heap: u32, dword: &str) -> Result<String, Fail> {
+    let zeros = "00000000000000000000000000000000".repeat(alloc, 999)?;
+    let text = format!(in alloc;
+        "host 0x1000000\nmediator 0x400000\ndisk 4096\nlanes 1\nguest 0 range 1000 64 heap {heap}\nmap 0 0x0 0x100000 0x20000\n{BRING_UP}\
+         store 0 0x6000 {zeros}00300000000000000002000000000000\n{READ_BY_SEGMENT}await 0 0x1200c {dword}\n{READ_BY_PRP}"
+    )?;
+    Ok(text)
+}
+
+// Ends the test where such a guest sees something else.
+fn expect_with_heap<T: Abort + AllocGlobal + Threads + Wait + Clock + Sync>(
+    rt: &T,
+    heap: u32,
+    dword: &str,
+) -> Result<(), Fail> {
+    let text = heap_script(rt.alloc(), heap, dword)?;
+    let printed = format!(in rt.alloc();
+        "{BROUGHT_UP}0 done\n0 done\n0 done\n0 met\n0 done\n0 done\n0 met\nok\n"
+    )?;
+    let outcome = served(rt, &text);
+    assert!(rt;
+        outcome.status == ExitStatus::Success,
+        "{:?}",
+        outcome.faults
+    );
+    same_text(rt, dword, &outcome.output, &printed);
+    Ok(())
+}
+
+#[test]
+fn a_list_beyond_the_heap_is_an_internal_error(rt: HostRuntime) -> Result<(), Fail> {
+    expect_with_heap(&rt, 256, "0x000d0007")?;
+    expect_with_heap(&rt, 1_048_576, "0x00010007")
 }

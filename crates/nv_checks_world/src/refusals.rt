@@ -4,7 +4,7 @@
 use crate::bench::{self, bytes_of, completion_at};
 use nv_mem::{Bytes, NoMemory};
 use nv_model::{Act, Reply};
-use nv_plan::{Planned, make_plan};
+use nv_plan::{Plan, Planned, make_plan};
 use nv_world::World;
 use nv_world_model::{Event, Logged};
 use std::alloc::Global;
@@ -133,19 +133,17 @@ fn expect_done(rt: &impl Abort, alloc: Global, world: &mut World, deeds: &[Deed]
     }
 }
 
+// What is planned of the command of tag 0; none where there was no memory, or there is no such command.
+fn planned(world: &World, alloc: Global) -> Option<Planned> {
+    let job = world.job(alloc, 0, 0).ok()??;
+    let map = world.map(job.guest)?;
+    let range = world.range(job.guest)?;
+    Some(make_plan(alloc, alloc, job, map, &range, 1024))
+}
+
 // Whether the command of tag 0 is planned, and its plan carried out; none where there was no memory.
 fn submits(world: &mut World, alloc: Global) -> Option<bool> {
-    let job = world.job(alloc, 0, 0).ok()?;
-    let Some(job) = job else {
-        return Some(false);
-    };
-    let Some(map) = world.map(job.guest) else {
-        return Some(false);
-    };
-    let Some(range) = world.range(job.guest) else {
-        return Some(false);
-    };
-    match make_plan(alloc, alloc, job, map, &range, 1024) {
+    match planned(world, alloc)? {
         Planned::Plan(plan) => is_done(&world.submit_plan(plan)),
         Planned::NoMemory(_job) => None,
         Planned::Need(_job, _addr, _len) => Some(false),
@@ -198,4 +196,33 @@ fn steps_again_where_memory_was_refused(rt: HostRuntime) {
 #[test]
 fn runs_again_where_memory_was_refused(rt: HostRuntime) {
     expect_command(&rt, rt.alloc(), true);
+}
+
+// The plan of the command of tag 0, where nothing is wanted of its list.
+fn plan_of(world: &World, alloc: Global) -> Option<Plan> {
+    match planned(world, alloc)? {
+        Planned::Plan(plan) => Some(plan),
+        _ => None,
+    }
+}
+
+// Ends the test where a plan is answered otherwise than as stale, or is logged.
+fn expect_stale(rt: &impl Abort, world: &mut World, plan: Plan) {
+    let before = world.log().len();
+    assert!(rt; matches!(world.submit_plan(plan), Reply::Stale));
+    assert_eq!(rt; world.log().len(), before);
+}
+
+#[test]
+fn a_plan_of_fewer_reads_is_stale(rt: HostRuntime) {
+    let alloc = rt.alloc();
+    let mut world = bench::opened(alloc).expect(&rt, "a world");
+    expect_done(&rt, alloc, &mut world, BEFORE, false);
+    let earlier = plan_of(&world, alloc).expect(&rt, "a plan");
+    let again = [Deed::List(0x6000, 16)];
+    expect_done(&rt, alloc, &mut world, &again, false);
+    expect_stale(&rt, &mut world, earlier);
+    let twice = plan_of(&world, alloc).expect(&rt, "a plan");
+    expect_submitted(&rt, alloc, &mut world);
+    expect_stale(&rt, &mut world, twice);
 }
