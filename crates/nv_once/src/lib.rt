@@ -6,7 +6,7 @@
 //! kind of controller that runs one command at a time, and [`run`] all of that which waits for nobody. It is proved what is printed: the line
 //! of an entry, field by field, and of a script,
 //! where it is known what there is to read, what its lines print one after another on a run of the controller, or the replies to its
-//! events along the world; of the guests of `run`, that these are lines of answers. A command ends with a
+//! events along the world; of the guests of `run`, what each guest's lines came to in one log that keeps the whole promise. A command ends with a
 //! fault only as its definition says, the output is left as it was but behind want of memory and failed output, `decode` reads nothing,
 //! and each outcome has its exit status. What a writer holds that failed is tested and not proved.
 #![tactic(auto)]
