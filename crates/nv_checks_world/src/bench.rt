@@ -30,11 +30,11 @@ const SLOTS: u16 = 16;
 /// Where the I/O queues lie in the guest's memory, and their doorbells.
 const COMPLETIONS: u64 = 0x1_2000;
 
-const SUBMISSIONS: u64 = 0x1_3000;
+pub const SUBMISSIONS: u64 = 0x1_3000;
 
-const TAIL: u32 = 0x1008;
+pub const TAIL: u32 = 0x1008;
 
-const HEAD: u32 = 0x100c;
+pub const HEAD: u32 = 0x100c;
 
 /// The world at its start; none where memory was refused.
 pub fn opened(alloc: Global) -> Option<World> {
@@ -61,8 +61,8 @@ pub fn opened(alloc: Global) -> Option<World> {
     World::new(alloc, setup).ok()
 }
 
-// Whether an event is done.
-fn is_done(world: &mut World, alloc: Global, event: Event) -> bool {
+/// Whether an event is done.
+pub fn is_done(world: &mut World, alloc: Global, event: Event) -> bool {
     matches!(world.step(alloc, event), Reply::Done)
 }
 
@@ -148,8 +148,8 @@ fn writes_registers(world: &mut World, alloc: Global, rows: &[(u32, u32)]) -> bo
     true
 }
 
-// Whether a doorbell is rung.
-fn rings(world: &mut World, alloc: Global, offset: u32, value: u16) -> bool {
+/// Whether a doorbell is rung.
+pub fn rings(world: &mut World, alloc: Global, offset: u32, value: u16) -> bool {
     let act = Act::Doorbell {
         offset,
         value: u32::from(value),
@@ -222,8 +222,8 @@ fn moves(world: &mut World, alloc: Global, backwards: bool) -> bool {
         && is_due_and_done(world, alloc, Event::Reap(0))
 }
 
-// The next slot of an I/O queue.
-fn behind(slot: u16) -> u16 {
+/// The next slot of an I/O queue.
+pub fn behind(slot: u16) -> u16 {
     if slot >= SLOTS - 1 { 0 } else { slot + 1 }
 }
 

@@ -9,6 +9,8 @@ mod bench;
 #[cfg(test)]
 mod commands;
 #[cfg(test)]
+mod phases;
+#[cfg(test)]
 mod refusals;
 #[cfg(test)]
 mod sizes;

@@ -2,6 +2,7 @@
 
 use nv_mem::{GuestMap, Region};
 use nv_world::{GuestSetup, Refusal, Setup, World};
+use nv_world_model::Logged;
 use std::alloc::Global;
 use std::process::Abort;
 use std::test::Fail;
@@ -411,4 +412,12 @@ fn expect_lowest(rt: &impl Abort, alloc: Global, cases: &[(Refusal, Case)]) -> R
         assert_eq!(rt; refused, Some(*want), "{}", case.name);
     }
     Ok(())
+}
+
+/// How many bytes a member of the log has at most, beside the bytes that it carries behind a pointer.
+const LOGGED: usize = 64;
+
+#[test]
+fn a_member_of_the_log_is_small(rt: HostRuntime) {
+    assert!(rt; size_of::<Logged>() <= LOGGED);
 }

@@ -57,7 +57,7 @@ fn act_in_seat(
     match act {
         Act::Store { addr, bytes } => Ok(seat::store(given, *addr, bytes, host)),
         Act::Load { addr, len } => seat::load(alloc, given, *addr, *len, host),
-        Act::RegRead { offset } => seat::read_register(alloc, given, vctl, *offset),
+        Act::RegRead { offset } => Ok(seat::read_register(given, vctl, *offset)),
         Act::RegWrite { offset, value } => Ok(seat::write_register(given, vctl, *offset, *value)),
         Act::Doorbell { offset, value } => Ok(seat::ring_doorbell(given, vctl, *offset, *value)),
     }

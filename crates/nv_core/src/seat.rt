@@ -1,13 +1,13 @@
 //! Acts in a guest's seat: on its part of the host and on its controller.
 
-ghost use Rattle.std.specs.Prelude.{◌≡◌, ℕ, IfOk, length, true};
+ghost use Rattle.std.specs.Prelude.{◌≡◌, ◌≤◌, ℕ, IfOk, length, true};
 ghost use Rattle.nv_core.specs.Seat.{IsActed};
 ghost use Rattle.nv_mem.specs.GuestMap.{everywhere, mapped};
 ghost use Rattle.nv_model.specs.Controller.{Controller};
 ghost use Rattle.nv_model.specs.Memory.{byte_in, bytes_from, image};
 
 use crate::layout::Given;
-use nv_mem::{Bytes, Host, NoMemory};
+use nv_mem::{Bytes, FEW, Host, NoMemory};
 use nv_model::{Act, Reply};
 use nv_vctl::Vctl;
 use std::alloc::Global;
@@ -62,28 +62,37 @@ pub(crate) fn read_bytes(
     requires mapped { everywhere (mapped given.now.memory_map.regions) addr len ≡ true }
     ensures { IfOk result (λ bytes. bytes ≡ bytes_from (image given.now.memory_map.regions (byte_in host.now)) addr len) }
 {
+    if len <= FEW as u64 {
+        let mut room = [0; FEW];
+        return Ok(read_few(given, addr, host, &mut room[..len as usize]));
+    }
     let mut bytes = vec![in alloc; 0; len as usize]?;
     nv_bounce::load(addr, given.map(), host, &mut bytes);
     Bytes::new(alloc, bytes)
 }
 
+// As many bytes from guest address `addr` on as there is room, which are mapped, and few. They take no memory.
+fn read_few(given: &Given, addr: u64, host: &Host, room: &mut [u8]) -> Bytes
+    requires host { given.now.memory_map.host_len ≡ length host.now }
+    requires mapped { everywhere (mapped given.now.memory_map.regions) addr (length room.old) ≡ true }
+    requires few { length room.old ≤ 14 }
+    ensures { result ≡ bytes_from (image given.now.memory_map.regions (byte_in host.now)) addr (length room.old) }
+{
+    nv_bounce::load(addr, given.map(), host, room);
+    Bytes::few(room)
+}
+
 /// Reads the dword of the register at an offset.
-pub(crate) fn read_register(
-    alloc: Global,
-    given: &Given,
-    vctl: &Vctl,
-    offset: u32,
-) -> Result<Reply, NoMemory>
-    ensures { IfOk result (λ reply. (host : ℕ → ℕ) → IsActed given.now (Act.RegRead offset) host vctl.now reply host vctl.now) }
+pub(crate) fn read_register(given: &Given, vctl: &Vctl, offset: u32) -> Reply
+    ensures { (host : ℕ → ℕ) → IsActed given.now (Act.RegRead offset) host vctl.now result host vctl.now }
 {
     // With the length of the host comes what is known of every map.
     let map = given.map();
     let _host_len = map.host_len();
     let Some(value) = vctl.reg_read(offset) else {
-        return Ok(Reply::Ignored);
+        return Reply::Ignored;
     };
-    let bytes = Bytes::from_slice(alloc, &value.to_le_bytes())?;
-    Ok(Reply::Bytes(bytes))
+    Reply::Bytes(Bytes::few(&value.to_le_bytes()))
 }
 
 /// Writes the dword of the register at an offset.

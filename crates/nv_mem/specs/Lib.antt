@@ -1,4 +1,5 @@
 pub mod Bytes
 pub mod GuestMap
+pub mod Kept
 pub mod Page
 pub mod Places

@@ -1,24 +1,35 @@
 //! Bytes as a value of their own, for the acts and replies of the crates above.
 
-ghost use Rattle.std.specs.Prelude.{◌≡◌, IfOk, length};
+ghost use Rattle.std.specs.Prelude.{◌≡◌, ◌≤◌, IfOk, length};
 
 use crate::NoMemory;
+use crate::few::{FEW, Few};
 use std::alloc::Global;
 use std::marker::Model;
 
-/// Bytes that an act or a reply carries. They stand behind one pointer, so that what carries them stays small: a log holds millions of acts
-/// and replies, and few of them have bytes.
+/// Bytes that an act or a reply carries. A few stand in the value itself and take no memory; more stand behind one pointer, so that what
+/// carries them stays small: a log holds millions of acts and replies, and few of them have many bytes.
 #[derive(Debug, Drop)]
 pub struct Bytes {
-    bytes: Box<Vec<u8>>,
+    kept: Kept,
 }
 
 impl Model for Bytes {
     ghost use Rattle.std.specs.Prelude.{List, ℕ};
+    ghost use Rattle.nv_mem.specs.Kept.{kept_bytes};
 
     ghost Value = { List ℕ };
 
-    ghost view = { λ b. b.bytes.value.items };
+    ghost view = { λ b. kept_bytes b.kept };
+}
+
+// Where the bytes stand.
+#[derive(Debug, Drop)]
+enum Kept {
+    // in the value itself
+    Few(Few),
+    // behind a pointer
+    Many(Box<Vec<u8>>),
 }
 
 impl Bytes {
@@ -26,30 +37,51 @@ impl Bytes {
     ///
     /// # Errors
     ///
-    /// There was no memory for what the pointer names.
+    /// There was no memory for what the pointer names, where they are more than [`FEW`].
     pub fn new(alloc: Global, bytes: Vec<u8>) -> Result<Self, NoMemory>
         ensures { IfOk result (λ made. made ≡ bytes.items) }
     {
+        if bytes.len() <= FEW {
+            return Ok(Bytes::few(&bytes));
+        }
         let bytes = Box::new(alloc, bytes)?;
-        Ok(Bytes { bytes })
+        Ok(Bytes {
+            kept: Kept::Many(bytes),
+        })
     }
 
     /// These bytes once more.
     ///
     /// # Errors
     ///
-    /// There was no memory for them.
+    /// There was no memory for them, where they are more than [`FEW`].
     pub fn from_slice(alloc: Global, bytes: &[u8]) -> Result<Self, NoMemory>
         ensures { IfOk result (λ made. made ≡ bytes.now) }
     {
+        if bytes.len() <= FEW {
+            return Ok(Bytes::few(bytes));
+        }
         Bytes::new(alloc, Vec::from_slice(alloc, bytes)?)
+    }
+
+    /// These bytes, [`FEW`] at most, which take no memory.
+    pub fn few(bytes: &[u8]) -> Self
+        requires { length bytes.now ≤ 14 }
+        ensures { result ≡ bytes.now }
+    {
+        Bytes {
+            kept: Kept::Few(Few::of(bytes)),
+        }
     }
 
     /// The bytes.
     pub fn as_slice(&self) -> &[u8]
         ensures { result.now ≡ self.now }
     {
-        self.bytes.as_slice()
+        match &self.kept {
+            Kept::Few(few) => few.as_slice(),
+            Kept::Many(bytes) => bytes.as_slice(),
+        }
     }
 
     /// Puts as many other bytes in the place of these.
@@ -57,6 +89,9 @@ impl Bytes {
         requires { length bytes.now ≡ length self.old }
         ensures { self.new ≡ bytes.now }
     {
-        self.bytes.copy_from_slice(bytes);
+        match &mut self.kept {
+            Kept::Few(few) => *few = Few::of(bytes),
+            Kept::Many(kept) => kept.copy_from_slice(bytes),
+        }
     }
 }

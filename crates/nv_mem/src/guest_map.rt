@@ -156,6 +156,3 @@ impl GuestMap {
         n
     }
 }
-
-#[cfg(test)]
-mod tests;

@@ -15,22 +15,3 @@ pub enum MapError {
     #[error("3 OutsideHost")]
     OutsideHost,
 }
-
-#[cfg(test)]
-mod tests {
-    use super::*;
-    use std::test::Fail;
-
-    #[test]
-    fn texts(rt: HostRuntime) -> Result<(), Fail> {
-        for (error, want) in [
-            (MapError::Unaligned, "1 Unaligned"),
-            (MapError::Overlap, "2 Overlap"),
-            (MapError::OutsideHost, "3 OutsideHost"),
-        ] {
-            let text = format!(in rt.alloc(); "{error}")?;
-            assert_eq!(rt; text.as_str(), want);
-        }
-        Ok(())
-    }
-}

@@ -28,17 +28,3 @@ impl<T: Drop> From<AllocFailed<T>> for NoMemory {
         NoMemory
     }
 }
-
-#[cfg(test)]
-mod tests {
-    use super::*;
-    use std::test::Fail;
-
-    #[test]
-    fn comes_of_the_errors_of_the_library(rt: HostRuntime) -> Result<(), Fail> {
-        let error = NoMemory::from(AllocError);
-        let text = format!(in rt.alloc(); "{error}")?;
-        assert_eq!(rt; text.as_str(), "no memory");
-        Ok(())
-    }
-}

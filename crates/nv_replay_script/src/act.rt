@@ -1,5 +1,5 @@
 //! The acts of guests, as their lines write them.
-ghost use Rattle.std.specs.Prelude.{◌≡◌, length, replicate, IfOk, MatchResult};
+ghost use Rattle.std.specs.Prelude.{◌≡◌, ◌∷◌, [], length, replicate, IfOk, MatchResult};
 ghost use Rattle.nv_script.specs.OnceFault.{Refuses};
 ghost use Rattle.nv_script.specs.declared.once.fault.LineFault.TheVariants.{NoMemory};
 ghost use Rattle.nv_replay_script.specs.ReplayEvents.{act_of};
@@ -10,6 +10,7 @@ use crate::numbers::dword;
 use crate::vocabulary::ActKind;
 use nv_mem::Bytes;
 use nv_model::Act;
+use nv_script::FaultKind;
 use nv_script::once::fault::LineFault;
 use nv_script::once::number::{byte, bytes, number, up_to};
 use nv_script::once::words::Words;
@@ -19,43 +20,92 @@ use std::alloc::{AllocError, Global};
 const FILL_MAX: u64 = 131_072;
 
 /// Makes the act of this kind and the words behind its guest, which are as many as it wants.
-pub fn make_act(alloc: Global, kind: ActKind, words: Words<'_>) -> Result<Act, LineFault>
+pub fn make_act(alloc: Global, kind: ActKind, mut words: Words<'_>) -> Result<Act, LineFault>
     requires { length words ≡ act_arguments kind }
     ensures { let act = act_of kind words.entry
         in MatchResult result (λ made. act ≡ Ok made) (Refuses act) }
 {
     match kind {
-        ActKind::Store => store(alloc, words),
-        ActKind::Fill => fill(alloc, words),
-        ActKind::Load => load(words),
-        ActKind::RegRead => reg_read(words),
-        ActKind::RegWrite => reg_write(words),
-        ActKind::Bell => bell(words),
+        ActKind::Store => {
+            let addr = words.next_word();
+            store(alloc, addr, words.next_word())
+        }
+        ActKind::Fill => {
+            let addr = words.next_word();
+            let len = words.next_word();
+            fill(alloc, addr, len, words.next_word())
+        }
+        ActKind::Load => {
+            let addr = words.next_word();
+            Ok(load(addr, words.next_word())?)
+        }
+        ActKind::RegRead => Ok(reg_read(words.next_word())?),
+        ActKind::RegWrite => {
+            let offset = words.next_word();
+            Ok(reg_write(offset, words.next_word())?)
+        }
+        ActKind::Bell => {
+            let offset = words.next_word();
+            Ok(bell(offset, words.next_word())?)
+        }
     }
 }
 
-// The act of a line `store`, made of its words.
-fn store(alloc: Global, mut words: Words<'_>) -> Result<Act, LineFault>
-    requires { length words ≡ 2 }
-    ensures { let act = act_of kind.Store words.entry
+/// The act of a line `store`: an address and bytes.
+pub(crate) fn store(alloc: Global, addr: &[u8], digits: &[u8]) -> Result<Act, LineFault>
+    ensures { let act = act_of kind.Store (addr.now ∷ digits.now ∷ [])
         in MatchResult result (λ made. act ≡ Ok made) (Refuses act) }
 {
-    let addr = number(words.next_word())?;
-    let bytes = held(alloc, bytes(alloc, words.next_word())?)?;
+    let addr = number(addr)?;
+    let bytes = held(alloc, bytes(alloc, digits)?)?;
     Ok(Act::Store { addr, bytes })
 }
 
-// The act of a line `fill`, made of its words.
-fn fill(alloc: Global, mut words: Words<'_>) -> Result<Act, LineFault>
-    requires { length words ≡ 3 }
-    ensures { let act = act_of kind.Fill words.entry
+/// The act of a line `fill`: an address, how many bytes, and which.
+pub(crate) fn fill(alloc: Global, addr: &[u8], len: &[u8], value: &[u8]) -> Result<Act, LineFault>
+    ensures { let act = act_of kind.Fill (addr.now ∷ len.now ∷ value.now ∷ [])
         in MatchResult result (λ made. act ≡ Ok made) (Refuses act) }
 {
-    let addr = number(words.next_word())?;
-    let len = up_to(words.next_word(), FILL_MAX)?;
-    let value = byte(words.next_word())?;
+    let addr = number(addr)?;
+    let len = up_to(len, FILL_MAX)?;
+    let value = byte(value)?;
     let bytes = held(alloc, equal_bytes(alloc, len as usize, value)?)?;
     Ok(Act::Store { addr, bytes })
+}
+
+/// The act of a line `load`: an address, and how many bytes.
+pub(crate) fn load(addr: &[u8], len: &[u8]) -> Result<Act, FaultKind>
+    ensures { result ≡ act_of kind.Load (addr.now ∷ len.now ∷ []) }
+{
+    let addr = number(addr)?;
+    let len = number(len)?;
+    Ok(Act::Load { addr, len })
+}
+
+/// The act of a line `regread`: the offset of a register.
+pub(crate) fn reg_read(offset: &[u8]) -> Result<Act, FaultKind>
+    ensures { result ≡ act_of kind.RegRead (offset.now ∷ []) }
+{
+    let offset = dword(offset)?;
+    Ok(Act::RegRead { offset })
+}
+
+/// The act of a line `regwrite`: the offset of a register, and its value.
+pub(crate) fn reg_write(offset: &[u8], value: &[u8]) -> Result<Act, FaultKind>
+    ensures { result ≡ act_of kind.RegWrite (offset.now ∷ value.now ∷ []) }
+{
+    let offset = dword(offset)?;
+    let value = dword(value)?;
+    Ok(Act::RegWrite { offset, value })
+}
+
+/// The act of a line `bell`: the offset of a doorbell, and its value.
+pub(crate) fn bell(offset: &[u8], value: &[u8]) -> Result<Act, FaultKind>
+    ensures { result ≡ act_of kind.Bell (offset.now ∷ value.now ∷ []) }
+{
+    let offset = dword(offset)?;
+    let value = dword(value)?;
+    Ok(Act::Doorbell { offset, value })
 }
 
 // The bytes of the vector as those of an act.
@@ -66,49 +116,6 @@ fn held(alloc: Global, bytes: Vec<u8>) -> Result<Bytes, LineFault>
         return Err(LineFault::NoMemory);
     };
     Ok(held)
-}
-
-// The act of a line `load`, made of its words.
-fn load(mut words: Words<'_>) -> Result<Act, LineFault>
-    requires { length words ≡ 2 }
-    ensures { let act = act_of kind.Load words.entry
-        in MatchResult result (λ made. act ≡ Ok made) (Refuses act) }
-{
-    let addr = number(words.next_word())?;
-    let len = number(words.next_word())?;
-    Ok(Act::Load { addr, len })
-}
-
-// The act of a line `regread`, made of its words.
-fn reg_read(mut words: Words<'_>) -> Result<Act, LineFault>
-    requires { length words ≡ 1 }
-    ensures { let act = act_of kind.RegRead words.entry
-        in MatchResult result (λ made. act ≡ Ok made) (Refuses act) }
-{
-    let offset = dword(words.next_word())?;
-    Ok(Act::RegRead { offset })
-}
-
-// The act of a line `regwrite`, made of its words.
-fn reg_write(mut words: Words<'_>) -> Result<Act, LineFault>
-    requires { length words ≡ 2 }
-    ensures { let act = act_of kind.RegWrite words.entry
-        in MatchResult result (λ made. act ≡ Ok made) (Refuses act) }
-{
-    let offset = dword(words.next_word())?;
-    let value = dword(words.next_word())?;
-    Ok(Act::RegWrite { offset, value })
-}
-
-// The act of a line `bell`, made of its words.
-fn bell(mut words: Words<'_>) -> Result<Act, LineFault>
-    requires { length words ≡ 2 }
-    ensures { let act = act_of kind.Bell words.entry
-        in MatchResult result (λ made. act ≡ Ok made) (Refuses act) }
-{
-    let offset = dword(words.next_word())?;
-    let value = dword(words.next_word())?;
-    Ok(Act::Doorbell { offset, value })
 }
 
 // So many equal bytes.

@@ -2,9 +2,10 @@
 ghost use Rattle.std.specs.Prelude.{◌≡◌, MatchResult};
 ghost use Rattle.nv_script.specs.OnceFault.{Refuses};
 ghost use Rattle.nv_replay_script.specs.ReplayEvents.{counted_event};
+ghost use Rattle.nv_replay_script.specs.declared.vocabulary.ActKind.TheVariants as act_kind;
 ghost use Rattle.nv_replay_script.specs.declared.vocabulary.EventKind.TheVariants as kind;
 
-use crate::act::make_act;
+use crate::act;
 use crate::numbers::{status, word};
 use crate::vocabulary::{ActKind, EventKind};
 use nv_script::once::fault::LineFault;
@@ -36,13 +37,83 @@ pub fn make_event(alloc: Global, kind: EventKind, words: Words<'_>) -> Result<Ev
 }
 
 // A line of a guest's act, made of its words.
-fn guest_act(alloc: Global, act: ActKind, mut words: Words<'_>) -> Result<Event, LineFault>
+fn guest_act(alloc: Global, act: ActKind, words: Words<'_>) -> Result<Event, LineFault>
     ensures { let event = counted_event (kind.Act act) words.entry
         in MatchResult result (λ made. event ≡ Ok made) (Refuses event) }
 {
-    words.check_count(1 + act.arguments())?;
-    let guest = byte(words.next_word())?;
-    let act = make_act(alloc, act, words)?;
+    match act {
+        ActKind::Store => store(alloc, words),
+        ActKind::Fill => fill(alloc, words),
+        ActKind::Load => load(words),
+        ActKind::RegRead => reg_read(words),
+        ActKind::RegWrite => reg_write(words),
+        ActKind::Bell => bell(words),
+    }
+}
+
+// The line `store`, made of its words.
+fn store(alloc: Global, words: Words<'_>) -> Result<Event, LineFault>
+    ensures { let event = counted_event (kind.Act act_kind.Store) words.entry
+        in MatchResult result (λ made. event ≡ Ok made) (Refuses event) }
+{
+    let (guest, addr, digits) = words.three()?;
+    let guest = byte(guest)?;
+    let act = act::store(alloc, addr, digits)?;
+    Ok(Event::Guest(guest, act))
+}
+
+// The line `fill`, made of its words.
+fn fill(alloc: Global, words: Words<'_>) -> Result<Event, LineFault>
+    ensures { let event = counted_event (kind.Act act_kind.Fill) words.entry
+        in MatchResult result (λ made. event ≡ Ok made) (Refuses event) }
+{
+    let (guest, addr, len, value) = words.four()?;
+    let guest = byte(guest)?;
+    let act = act::fill(alloc, addr, len, value)?;
+    Ok(Event::Guest(guest, act))
+}
+
+// The line `load`, made of its words.
+fn load(words: Words<'_>) -> Result<Event, LineFault>
+    ensures { let event = counted_event (kind.Act act_kind.Load) words.entry
+        in MatchResult result (λ made. event ≡ Ok made) (Refuses event) }
+{
+    let (guest, addr, len) = words.three()?;
+    let guest = byte(guest)?;
+    let act = act::load(addr, len)?;
+    Ok(Event::Guest(guest, act))
+}
+
+// The line `regread`, made of its words.
+fn reg_read(words: Words<'_>) -> Result<Event, LineFault>
+    ensures { let event = counted_event (kind.Act act_kind.RegRead) words.entry
+        in MatchResult result (λ made. event ≡ Ok made) (Refuses event) }
+{
+    let (guest, offset) = words.two()?;
+    let guest = byte(guest)?;
+    let act = act::reg_read(offset)?;
+    Ok(Event::Guest(guest, act))
+}
+
+// The line `regwrite`, made of its words.
+fn reg_write(words: Words<'_>) -> Result<Event, LineFault>
+    ensures { let event = counted_event (kind.Act act_kind.RegWrite) words.entry
+        in MatchResult result (λ made. event ≡ Ok made) (Refuses event) }
+{
+    let (guest, offset, value) = words.three()?;
+    let guest = byte(guest)?;
+    let act = act::reg_write(offset, value)?;
+    Ok(Event::Guest(guest, act))
+}
+
+// The line `bell`, made of its words.
+fn bell(words: Words<'_>) -> Result<Event, LineFault>
+    ensures { let event = counted_event (kind.Act act_kind.Bell) words.entry
+        in MatchResult result (λ made. event ≡ Ok made) (Refuses event) }
+{
+    let (guest, offset, value) = words.three()?;
+    let guest = byte(guest)?;
+    let act = act::bell(offset, value)?;
     Ok(Event::Guest(guest, act))
 }
 

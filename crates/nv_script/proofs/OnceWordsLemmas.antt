@@ -4,9 +4,10 @@ use Rattle.std.specs.Prelude.{◌||◌, filter, nat_lt, unwrap_or}
 use Rattle.std.specs.List.{before_first, onto_first, position, position_or_len, slice_split}
 use Rattle.std.proofs.lemmas.Bool.{cases_lt}
 use Rattle.std.proofs.lemmas.Bool.Decides.{nat_tests}
-use Rattle.std.proofs.lemmas.List.{take_all, take_at, drop_all, drop_more, get_or_push, length-take-le, length_push}
-use Rattle.std.proofs.lemmas.List.Sums.{prefix_len-le-length, passes_at_first}
+use Rattle.std.proofs.lemmas.List.{take_all, take_at, drop_all, drop_more, get_or_push, length-take-le, length_push, take-append-drop}
+use Rattle.std.proofs.lemmas.List.Sums.{prefix_len-le-length, prefix_len_is, passes_at_first}
 use Rattle.std.proofs.lemmas.List.Splits.{slice_split_first}
+use Rattle.memchr.specs.Find.{IsFirstByte}
 use Rattle.nv_script.specs.OnceWords.{without_last_feed, words_in, words_of}
 
 -- a place is within the text or its end
@@ -23,6 +24,47 @@ pub unwrap_or-position : (p : ℕ → Bool) (xs : List ℕ) (r : Option ℕ) →
 unwrap_or-position p xs r e =
     ap (λ (o : Option ℕ). unwrap_or o (length xs)) e
     ∙ unwrap_or-below (position_or_len p xs) (length xs) (position_or_len-le p xs)
+
+-- what `position` gave: a place, or none
+pub position-some : (n m i : ℕ) (r : Option ℕ) → r ≡ Some i → r ≡ cond (ltb n m) (Some n) None → (i ≡ n) × (n < m)
+position-some n m i r is e = grind (arith, nat_tests)
+
+pub position-none : (n m : ℕ) (r : Option ℕ) → r ≡ None → r ≡ cond (ltb n m) (Some n) None → m ≤ n
+position-none n m r is e = grind (arith, nat_tests)
+
+-- the first place of a list whose front has one
+position-near-at : (p : ℕ → Bool) (b : ℕ) (near far : List ℕ) (t : Bool) → p b ≡ t
+    → (position_or_len p near < length near → position_or_len p (near ++ far) ≡ position_or_len p near)
+    → position_or_len p (b ∷ near) < length (b ∷ near) → position_or_len p (b ∷ near ++ far) ≡ position_or_len p (b ∷ near)
+position-near-at p b near far true e rest within = rw e refl
+position-near-at p b near far false e rest within =
+    let within' = rw e at within in
+    let same = rest (omega arith) in
+    rw (e, same) refl
+
+pub position-near : (p : ℕ → Bool) (near far : List ℕ) → position_or_len p near < length near
+    → position_or_len p (near ++ far) ≡ position_or_len p near
+position-near p [] far within = absurd (omega arith)
+position-near p (b ∷ near) far within = position-near-at p b near far (p b) refl (position-near p near far) within
+
+-- and of one whose front has none
+position-far-at : (p : ℕ → Bool) (b : ℕ) (near far : List ℕ) (t : Bool) → p b ≡ t
+    → (length near ≤ position_or_len p near → position_or_len p (near ++ far) ≡ length near + position_or_len p far)
+    → length (b ∷ near) ≤ position_or_len p (b ∷ near) → position_or_len p (b ∷ near ++ far) ≡ length (b ∷ near) + position_or_len p far
+position-far-at p b near far true e rest none = absurd (let none' = rw e at none in omega arith)
+position-far-at p b near far false e rest none =
+    let none' = rw e at none in
+    let same = rest (omega arith) in
+    rw e (omega arith)
+
+pub position-far : (p : ℕ → Bool) (near far : List ℕ) → length near ≤ position_or_len p near
+    → position_or_len p (near ++ far) ≡ length near + position_or_len p far
+position-far p [] far none = omega arith
+position-far p (b ∷ near) far none = position-far-at p b near far (p b) refl (position-far p near far) none
+
+-- a list is its two parts
+pub two-parts : (text near far : List ℕ) (n : ℕ) → near ≡ take n text → far ≡ drop n text → near ++ far ≡ text
+two-parts text near far n front back = rw (front, back) (take-append-drop n text)
 
 abbrev pub is_space : ℕ → Bool
 is_space b = eqb b 32
@@ -290,3 +332,20 @@ first_word-some text rest word more start end at cut place some front back =
     let there : eqb (length (bare rest)) 0 ≡ false = grind (arith, nat_tests) in
     split_word-some (bare text) (bare rest) word (bare more) _ end refl (bare-skipped text rest start at cut) there ends
     (front ∙ bare-take end rest within) (ap bare back ∙ bare-drop end rest within)
+
+-- ---- a search for two bytes
+
+never-true : (t : Bool) → ¬ (t ≡ true) → not t ≡ true
+never-true true never = absurd (never refl)
+never-true false never = refl
+
+is-true : (t : Bool) → t ≡ true → not t ≡ false
+is-true t e = ap not e
+
+-- the place that a search for a byte gives is the first, or the length where it gives none
+pub first-byte : (p : ℕ → Bool) (text : List ℕ) (r : Option ℕ) → IsFirstByte p text r → unwrap_or r (length text) ≡ position_or_len p text
+first-byte p text None nowhere =
+    sym (prefix_len_is (λ b. not (p b)) text (length text) 0 (omega arith) (λ k l. never-true (p (get_or text k 0)) (nowhere k (omega arith) l)) (λ l. absurd (omega arith)))
+first-byte p text (Some end) found =
+    let high = found.0.high in
+    sym (prefix_len_is (λ b. not (p b)) text end 0 (omega arith) (λ k l. never-true (p (get_or text k 0)) (found.0.before k (omega arith) l)) (λ l. is-true (p (get_or text end 0)) found.1))

@@ -23,7 +23,7 @@ const UNITS: u64 = 65_536;
 ///
 /// This waits for the world's lock. It tells how many events it put into the log.
 pub fn device_loop<R: Wait + Clock>(rt: &R, alloc: Global, shared: &Shared, lane: u8) -> Share {
-    let mut device = LaneDevice::new(lane, was_used(&shared.world.lock(rt), lane));
+    let mut device = LaneDevice::new(lane, shared.was_used(lane));
     let mut rest = Rest::new();
     for _ in rt.forever() {
         if shared.is_stopped() {
@@ -37,18 +37,6 @@ pub fn device_loop<R: Wait + Clock>(rt: &R, alloc: Global, shared: &Shared, lane
         }
     }
     device.share
-}
-
-// Whether a physical command of a lane was taken before.
-fn was_used(world: &World, lane: u8) -> bool {
-    for logged in world.log() {
-        if let Event::DevTake(at) = &logged.event {
-            if *at == lane {
-                return true;
-            }
-        }
-    }
-    false
 }
 
 // The physical controller on a lane.

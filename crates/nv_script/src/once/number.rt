@@ -9,6 +9,8 @@ use nv_entry::Sqe;
 use std::alloc::Global;
 
 // The number that these digits spell, or `None` where they are none, are not all digits, or spell one beyond 64 bits.
+// It stands once for each base, so that what a digit may be is known where it is looked at.
+#[inline(always)]
 fn spelled_number(digits: &[u8], base: u32) -> Option<u64>
     requires least { 2 ≤ base }
     requires most { base ≤ 36 }

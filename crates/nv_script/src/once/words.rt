@@ -1,5 +1,5 @@
 //! The words of a line.
-ghost use Rattle.std.specs.Prelude.{◌≡◌, ◌==◌, ◌||◌, ◌<◌, ◌∷◌, [], length, not, MatchOption, MatchResult};
+ghost use Rattle.std.specs.Prelude.{◌≡◌, ◌==◌, ◌||◌, ◌<◌, ◌≤◌, ◌∷◌, [], length, not, MatchOption, MatchResult};
 ghost use Rattle.std.specs.List.{position_or_len};
 ghost use Rattle.std.specs.Iterator.{YieldsFirstRef, item_count};
 ghost use Rattle.nv_script.specs.OnceVocabulary.{count_check};
@@ -7,6 +7,7 @@ ghost use Rattle.nv_script.specs.declared.once.fault.FaultKind.TheVariants.{Miss
 ghost use Rattle.nv_script.specs.OnceWords.{words_of};
 
 use crate::once::fault::FaultKind;
+use memchr::memchr2;
 use std::marker::Model;
 
 /// The words that are left of a line. A contract sees them as a list of words.
@@ -24,13 +25,27 @@ impl<'a> Model for Words<'a> {
     ghost view = { λ words. words_of words.text.now };
 }
 
+/// How many bytes of a word are looked at one by one: few words are longer.
+const NEAR: usize = 16;
+
 // The place of the first byte that ends a word, a space or the `#` of a comment, or the length where there is none.
 fn word_end(text: &[u8]) -> usize
     ensures { result ≡ position_or_len (λ b. b == 32 || b == 35) text.now }
 {
-    text.iter()
-        .position(|b| *b == b' ' || *b == b'#')
-        .unwrap_or(text.len())
+    let (near, far) = text.split_at(text.len().min(NEAR));
+    match near.iter().position(|b| *b == b' ' || *b == b'#') {
+        Some(end) => end,
+        None => near.len() + long_word_end(far),
+    }
+}
+
+// The same of a long word, behind its first bytes.
+#[inline(never)]
+fn long_word_end(text: &[u8]) -> usize
+    ensures place { result ≡ position_or_len (λ b. b == 32 || b == 35) text.now }
+    ensures within { result ≤ length text.now }
+{
+    memchr2(b' ', b'#', text).unwrap_or(text.len())
 }
 
 // The place of the first byte that is no space, or the length where there is none.

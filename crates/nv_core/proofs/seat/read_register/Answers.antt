@@ -16,8 +16,8 @@ returns-in_default c = λ host disk kept bag.
 
 pub returns : goal.returns
 returns c = λ host disk kept bag.
-    register-is c.args.given.now host c.args.vctl.now (reg_read c.args.vctl.now c.args.offset) (reply.Bytes c.in_ok-bytes.bytes)
+    register-is c.args.given.now host c.args.vctl.now (reg_read c.args.vctl.now c.args.offset) (reply.Bytes c.few.result)
     (subst IsSound c.map-map.ensures c.host_len-host_len.ensures.sound) disk kept bag
-    (ap reply.Bytes (c.in_ok-bytes.ensures ∙ c.to_le_bytes.ensures)
+    (ap reply.Bytes (c.few.ensures ∙ c.to_le_bytes.ensures)
     ∙ ap (λ (x : Option ℕ). (register_replied x (seated c.args.given.now host c.args.vctl.now disk kept bag)).reply)
     (sym c.in-Some.is ∙ c.reg_read.ensures))

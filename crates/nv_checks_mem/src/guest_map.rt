@@ -1,6 +1,7 @@
 //! Tests of memory maps: what is refused, what is held, and the longest runs.
 
-use super::*;
+use nv_mem::{GuestMap, MapError, NoMemory, Region};
+use std::alloc::Global;
 use std::process::Abort;
 use std::test::Fail;
 

@@ -1,0 +1,29 @@
+//! Bytes as a value of their own, a few and many.
+
+use nv_mem::Bytes;
+use std::process::Abort;
+use std::test::Fail;
+
+/// How many bytes: none, up to all that stand in place, and more.
+const LENGTHS: [usize; 5] = [0, 1, 14, 15, 512];
+
+// Ends the test where so many bytes are not kept, or not exchanged for others.
+fn expect(rt: &(impl Abort + AllocGlobal), len: usize) -> Result<(), Fail> {
+    let sevens = vec![in rt.alloc(); 7u8; len]?;
+    let nines = vec![in rt.alloc(); 9u8; len]?;
+    let mut bytes = Bytes::from_slice(rt.alloc(), &sevens)?;
+    assert!(rt; bytes.as_slice() == sevens.as_slice());
+    bytes.copy_from_slice(&nines);
+    assert!(rt; bytes.as_slice() == nines.as_slice());
+    let moved = Bytes::new(rt.alloc(), sevens)?;
+    assert!(rt; moved.as_slice().len() == len && moved.as_slice() != bytes.as_slice() || len == 0);
+    Ok(())
+}
+
+#[test]
+fn keeps_few_and_many(rt: HostRuntime) -> Result<(), Fail> {
+    for len in LENGTHS {
+        expect(&rt, len)?;
+    }
+    Ok(())
+}

@@ -1,0 +1,67 @@
+//! The checks of a command's fields, in their order.
+
+use nv_entry::{Sqe, Status, StatusCode};
+use nv_judge::judge_fields;
+use nv_ns::VirtualNs;
+
+/// The dwords of a Read of one block from LBA 5 by one Data Block of 512 bytes at 3000h, CID 7.
+const READ: [u32; 16] = [
+    0x0007_4002,
+    1,
+    0,
+    0,
+    0,
+    0,
+    0x3000,
+    0,
+    0x200,
+    0,
+    5,
+    0,
+    0,
+    0,
+    0,
+    0,
+];
+
+fn entry(dwords: [u32; 16]) -> Sqe {
+    let mut bytes = [0; 64];
+    for (dword, out) in dwords.iter().zip(bytes.chunks_exact_mut(4)) {
+        out.copy_from_slice(&dword.to_le_bytes());
+    }
+    Sqe::of(&bytes)
+}
+
+#[test]
+fn judges_fields_in_their_order(rt: HostRuntime) {
+    let refused = |code: StatusCode| -> Result<u32, Status> { Err(code.refused()) };
+    let table = [
+        // dword, its value, the bytes of the transfer or the refusal
+        (12, 0, Ok(512)),
+        (12, 255, Ok(131_072)),
+        (12, 256, refused(StatusCode::InvalidField)),
+        (0, 0x0007_4102, refused(StatusCode::InvalidField)),
+        (0, 0x0007_4004, refused(StatusCode::InvalidOpcode)),
+        (0, 0x0007_4104, refused(StatusCode::InvalidField)),
+        (0, 0x0007_c002, refused(StatusCode::InvalidField)),
+        (0, 0x0007_c000, Ok(0)),
+        (0, 0x0007_c008, Ok(0)),
+        (0, 0x0007_4009, Ok(96)),
+        (1, 2, refused(StatusCode::InvalidNamespace)),
+        (10, 1023, Ok(512)),
+        (10, 1024, refused(StatusCode::LbaOutOfRange)),
+        (11, 0xffff_ffff, refused(StatusCode::LbaOutOfRange)),
+    ];
+    let ns = VirtualNs::new(7, 1024);
+    for (dword, value, want) in table {
+        let mut dwords = READ;
+        assert!(rt; dword < 16);
+        dwords[dword] = value;
+        let got = judge_fields(&entry(dwords), &ns);
+        assert_eq!(rt;
+            got.map(|need| need.bytes),
+            want,
+            "dword {dword} is {value:#x}"
+        );
+    }
+}

@@ -1,0 +1,20 @@
+//! Tests of host memory, maps, namespaces and the checks of a command, by public calls alone: a crate with tests is proved twice, so
+//! they stand here and not beside the code.
+#![tactic(auto)]
+
+#[cfg(test)]
+mod bytes;
+#[cfg(test)]
+mod fields;
+#[cfg(test)]
+mod guest_map;
+#[cfg(test)]
+mod host;
+#[cfg(test)]
+mod places;
+#[cfg(test)]
+mod ranges;
+#[cfg(test)]
+mod texts;
+#[cfg(test)]
+mod virtual_ns;

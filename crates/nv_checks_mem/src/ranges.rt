@@ -1,0 +1,41 @@
+//! The check of the ranges of a Dataset Management.
+
+use nv_entry::StatusCode;
+use nv_judge::judge_ranges;
+use nv_model::limits::RANGE_SIZE;
+use nv_ns::VirtualNs;
+
+// The bytes of two ranges of Dataset Management.
+fn ranges(dwords: [u32; 8]) -> [u8; 32] {
+    let mut bytes = [0; 32];
+    for (dword, out) in dwords.iter().zip(bytes.chunks_exact_mut(4)) {
+        out.copy_from_slice(&dword.to_le_bytes());
+    }
+    bytes
+}
+
+#[test]
+fn judges_each_range(rt: HostRuntime) {
+    let ns = VirtualNs::new(1000, 64);
+    // attributes, blocks and start of two ranges, and whether both fit
+    let table = [
+        ([0, 1, 0, 0, 0, 1, 63, 0], true),
+        ([7, 64, 0, 0, 9, 0, 64, 0], true),
+        ([0, 1, 0, 0, 0, 1, 64, 0], false),
+        ([0, 1, 64, 0, 0, 1, 0, 0], false),
+        ([0, 65, 0, 0, 0, 1, 0, 0], false),
+        ([0, 1, 0, 0, 0, 2, 63, 0], false),
+        ([0, 1, 0, 1, 0, 1, 0, 0], false),
+        ([0, 0, 65, 0, 0, 1, 0, 0], false),
+    ];
+    for (dwords, fit) in table {
+        let want = if fit {
+            Ok(())
+        } else {
+            Err(StatusCode::LbaOutOfRange.refused())
+        };
+        let bytes = ranges(dwords);
+        assert!(rt; bytes.len() % RANGE_SIZE == 0);
+        assert_eq!(rt; judge_ranges(&bytes, &ns), want, "{dwords:?}");
+    }
+}

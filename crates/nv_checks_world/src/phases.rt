@@ -1,0 +1,84 @@
+//! The mediator reaps by positions, and a driver by phase tags: along commands that go round the physical completion ring more than twice,
+//! the slot that is reaped next has the phase tag that a driver waits for exactly where a completion is due to be reaped.
+
+use crate::bench::{self, HEAD, SUBMISSIONS, TAIL, behind, is_done, rings, stores};
+use crate::commands::{ROWS, entry};
+use nv_entry::Cqe;
+use nv_mem::NoMemory;
+use nv_world::World;
+use nv_world_model::Event;
+use std::alloc::Global;
+use std::process::Abort;
+use std::test::Fail;
+
+/// How many commands there are, a Flush each.
+const COMMANDS: u16 = 140;
+
+/// How many slots a physical ring has.
+const RING: u64 = 65;
+
+/// Where the completion ring of the first lane lies in the host: it is the third page of the mediator's area.
+const FIRST_SLOT: u64 = 0x40_2000;
+
+/// How many events a Flush has between its doorbell and that of its completion, and which of them reaps.
+const STEPS: u8 = 7;
+
+const REAP: u8 = 5;
+
+// An event of a Flush under tag 0, by its number.
+fn step_of(number: u8) -> Event {
+    match number {
+        0 => Event::Take(0, 1, 0),
+        1 => Event::Submit(0, 0),
+        2 => Event::DevTake(0),
+        3 => Event::DevMove(0, 0, 0),
+        4 => Event::DevPost(0, 0),
+        REAP => Event::Reap(0),
+        _ => Event::Post(0, 0),
+    }
+}
+
+// Whether the slot that is reaped next, behind so many completions, has the phase tag that a driver waits for there.
+fn is_found(world: &World, reaped: u64) -> bool {
+    let addr = FIRST_SLOT + 16 * (reaped % RING);
+    let host = world.host();
+    if !host.holds(addr, 16) {
+        return false;
+    }
+    let mut bytes = [0; 16];
+    host.load(addr, &mut bytes);
+    Cqe::of(&bytes).phase() == (reaped / RING % 2 == 0)
+}
+
+// Whether the guest puts a Flush into its submission queue.
+fn puts_flush(world: &mut World, alloc: Global, number: u16) -> Result<bool, NoMemory> {
+    let slot = number % 16;
+    let addr = SUBMISSIONS + 64 * u64::from(slot);
+    let flush = entry(&ROWS[0], number);
+    Ok(stores(world, alloc, addr, &flush.bytes())? && rings(world, alloc, TAIL, behind(slot)))
+}
+
+// Ends the test where position and phase tag say different things along a Flush, behind so many completions.
+fn expect_agreement(rt: &impl Abort, alloc: Global, world: &mut World, completed: u16) {
+    for number in 0..STEPS {
+        let reaped = u64::from(completed) + u64::from(number > REAP);
+        let due = world.due(&Event::Reap(0));
+        assert!(rt;
+            due == (number == REAP) && is_found(world, reaped) == due,
+            "{completed}"
+        );
+        assert!(rt; is_done(world, alloc, step_of(number)), "{completed}");
+    }
+}
+
+#[test]
+fn phase_tags_tell_what_is_due_to_be_reaped(rt: HostRuntime) -> Result<(), Fail> {
+    let mut world = bench::opened(rt.alloc()).expect(&rt, "a world");
+    assert!(rt; bench::brings_up(&mut world, rt.alloc())?);
+    for completed in 0..COMMANDS {
+        assert!(rt; puts_flush(&mut world, rt.alloc(), completed)?);
+        expect_agreement(&rt, rt.alloc(), &mut world, completed);
+        assert!(rt; rings(&mut world, rt.alloc(), HEAD, behind(completed % 16)));
+    }
+    Ok(())
+}
