@@ -4,7 +4,7 @@ use Rattle.std.specs.Prelude.{◌||◌, filter, nat_lt, unwrap_or}
 use Rattle.std.specs.List.{before_first, onto_first, position, position_or_len, slice_split}
 use Rattle.std.proofs.lemmas.Bool.{cases_lt}
 use Rattle.std.proofs.lemmas.Bool.Decides.{nat_tests}
-use Rattle.std.proofs.lemmas.List.{take_all, take_at, drop_all, drop_more, get_or_push, length-take-le, length_push, take-append-drop}
+use Rattle.std.proofs.lemmas.List.{take_all, take_at, drop_all, drop_more, get_or_push, length-take-le, length_push}
 use Rattle.std.proofs.lemmas.List.Sums.{prefix_len-le-length, prefix_len_is, passes_at_first}
 use Rattle.std.proofs.lemmas.List.Splits.{slice_split_first}
 use Rattle.memchr.specs.Find.{IsFirstByte}
@@ -24,47 +24,6 @@ pub unwrap_or-position : (p : ℕ → Bool) (xs : List ℕ) (r : Option ℕ) →
 unwrap_or-position p xs r e =
     ap (λ (o : Option ℕ). unwrap_or o (length xs)) e
     ∙ unwrap_or-below (position_or_len p xs) (length xs) (position_or_len-le p xs)
-
--- what `position` gave: a place, or none
-pub position-some : (n m i : ℕ) (r : Option ℕ) → r ≡ Some i → r ≡ cond (ltb n m) (Some n) None → (i ≡ n) × (n < m)
-position-some n m i r is e = grind (arith, nat_tests)
-
-pub position-none : (n m : ℕ) (r : Option ℕ) → r ≡ None → r ≡ cond (ltb n m) (Some n) None → m ≤ n
-position-none n m r is e = grind (arith, nat_tests)
-
--- the first place of a list whose front has one
-position-near-at : (p : ℕ → Bool) (b : ℕ) (near far : List ℕ) (t : Bool) → p b ≡ t
-    → (position_or_len p near < length near → position_or_len p (near ++ far) ≡ position_or_len p near)
-    → position_or_len p (b ∷ near) < length (b ∷ near) → position_or_len p (b ∷ near ++ far) ≡ position_or_len p (b ∷ near)
-position-near-at p b near far true e rest within = rw e refl
-position-near-at p b near far false e rest within =
-    let within' = rw e at within in
-    let same = rest (omega arith) in
-    rw (e, same) refl
-
-pub position-near : (p : ℕ → Bool) (near far : List ℕ) → position_or_len p near < length near
-    → position_or_len p (near ++ far) ≡ position_or_len p near
-position-near p [] far within = absurd (omega arith)
-position-near p (b ∷ near) far within = position-near-at p b near far (p b) refl (position-near p near far) within
-
--- and of one whose front has none
-position-far-at : (p : ℕ → Bool) (b : ℕ) (near far : List ℕ) (t : Bool) → p b ≡ t
-    → (length near ≤ position_or_len p near → position_or_len p (near ++ far) ≡ length near + position_or_len p far)
-    → length (b ∷ near) ≤ position_or_len p (b ∷ near) → position_or_len p (b ∷ near ++ far) ≡ length (b ∷ near) + position_or_len p far
-position-far-at p b near far true e rest none = absurd (let none' = rw e at none in omega arith)
-position-far-at p b near far false e rest none =
-    let none' = rw e at none in
-    let same = rest (omega arith) in
-    rw e (omega arith)
-
-pub position-far : (p : ℕ → Bool) (near far : List ℕ) → length near ≤ position_or_len p near
-    → position_or_len p (near ++ far) ≡ length near + position_or_len p far
-position-far p [] far none = omega arith
-position-far p (b ∷ near) far none = position-far-at p b near far (p b) refl (position-far p near far) none
-
--- a list is its two parts
-pub two-parts : (text near far : List ℕ) (n : ℕ) → near ≡ take n text → far ≡ drop n text → near ++ far ≡ text
-two-parts text near far n front back = rw (front, back) (take-append-drop n text)
 
 abbrev pub is_space : ℕ → Bool
 is_space b = eqb b 32

@@ -32,14 +32,29 @@ const NEAR: usize = 16;
 fn word_end(text: &[u8]) -> usize
     ensures { result ≡ position_or_len (λ b. b == 32 || b == 35) text.now }
 {
-    let (near, far) = text.split_at(text.len().min(NEAR));
-    match near.iter().position(|b| *b == b' ' || *b == b'#') {
-        Some(end) => end,
-        None => near.len() + long_word_end(far),
+    if text.len() <= NEAR {
+        return short_word_end(text);
+    }
+    let (near, far) = text.split_at(NEAR);
+    let end = short_word_end(near);
+    if end < near.len() {
+        end
+    } else {
+        near.len() + long_word_end(far)
     }
 }
 
-// The same of a long word, behind its first bytes.
+// The same, byte by byte.
+#[inline(always)]
+fn short_word_end(text: &[u8]) -> usize
+    ensures { result ≡ position_or_len (λ b. b == 32 || b == 35) text.now }
+{
+    text.iter()
+        .position(|b| *b == b' ' || *b == b'#')
+        .unwrap_or(text.len())
+}
+
+// The same of a long word, behind its first bytes, by a search of many bytes at once.
 #[inline(never)]
 fn long_word_end(text: &[u8]) -> usize
     ensures place { result ≡ position_or_len (λ b. b == 32 || b == 35) text.now }
