@@ -31,6 +31,11 @@ fill 1 12 3 0x11|[Guest(1, Store { addr: 12, bytes: Bytes { kept: Few(Few { len:
 fill 1 12 0 255|[Guest(1, Store { addr: 12, bytes: Bytes { kept: Few(Few { len: 0, bytes: [0, 0, 0, 0, 0, 0, 0, 0, 0, 0, 0, 0, 0, 0] }) } })]
 load 0 0x0 4|[Guest(0, Load { addr: 0, len: 4 })]
 load 0 0x1ffff 0xffffffffffffffff|[Guest(0, Load { addr: 131071, len: 18446744073709551615 })]
+load 0 18446744073709551615 18446744073709551614|[Guest(0, Load { addr: 18446744073709551615, len: 18446744073709551614 })]
+load 0 1844674407370955161 1844674407370955160|[Guest(0, Load { addr: 1844674407370955161, len: 1844674407370955160 })]
+load 0 00000000000000000000000000000000000000000012 0|[Guest(0, Load { addr: 12, len: 0 })]
+load 0 1 4# what stands close behind a number|[Guest(0, Load { addr: 1, len: 4 })]
+load  0   1 2   |[Guest(0, Load { addr: 1, len: 2 })]
 regread 0 0x4|[Guest(0, RegRead { offset: 4 })]
 regwrite 0 0x24 0x001f001f|[Guest(0, RegWrite { offset: 36, value: 2031647 })]
 bell 0 0x1008 0xffffffff|[Guest(0, Doorbell { offset: 4104, value: 4294967295 })]
@@ -66,6 +71,15 @@ store 256 0 zz|bad number
 fill 0 0 131073 zz|bad number
 fill 0 0 131072 256|bad number
 load 0 0x10000000000000000 4|bad number
+load 0 18446744073709551616 4|bad number
+load 0 18446744073709551619 4|bad number
+load 0 184467440737095516150 4|bad number
+load 0 12x 4|bad number
+load 0 1a 4|bad number
+load 0 0x 4|bad number
+load 0 0X1 4|bad number
+load 0 +1 4|bad number
+load 0 1#4|missing word
 regread 0 0x100000000|bad number
 regwrite 0 0 4294967296|bad number
 take 0 65536 0|bad number

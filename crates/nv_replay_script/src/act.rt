@@ -13,6 +13,7 @@ use nv_model::Act;
 use nv_script::FaultKind;
 use nv_script::once::fault::LineFault;
 use nv_script::once::number::{byte, bytes, number, up_to};
+use nv_script::once::word::Word;
 use nv_script::once::words::Words;
 use std::alloc::{AllocError, Global};
 
@@ -52,8 +53,8 @@ pub fn make_act(alloc: Global, kind: ActKind, mut words: Words<'_>) -> Result<Ac
 }
 
 /// The act of a line `store`: an address and bytes.
-pub(crate) fn store(alloc: Global, addr: &[u8], digits: &[u8]) -> Result<Act, LineFault>
-    ensures { let act = act_of kind.Store (addr.now ∷ digits.now ∷ [])
+pub(crate) fn store(alloc: Global, addr: Word<'_>, digits: Word<'_>) -> Result<Act, LineFault>
+    ensures { let act = act_of kind.Store (addr.entry ∷ digits.entry ∷ [])
         in MatchResult result (λ made. act ≡ Ok made) (Refuses act) }
 {
     let addr = number(addr)?;
@@ -62,8 +63,13 @@ pub(crate) fn store(alloc: Global, addr: &[u8], digits: &[u8]) -> Result<Act, Li
 }
 
 /// The act of a line `fill`: an address, how many bytes, and which.
-pub(crate) fn fill(alloc: Global, addr: &[u8], len: &[u8], value: &[u8]) -> Result<Act, LineFault>
-    ensures { let act = act_of kind.Fill (addr.now ∷ len.now ∷ value.now ∷ [])
+pub(crate) fn fill(
+    alloc: Global,
+    addr: Word<'_>,
+    len: Word<'_>,
+    value: Word<'_>,
+) -> Result<Act, LineFault>
+    ensures { let act = act_of kind.Fill (addr.entry ∷ len.entry ∷ value.entry ∷ [])
         in MatchResult result (λ made. act ≡ Ok made) (Refuses act) }
 {
     let addr = number(addr)?;
@@ -74,8 +80,9 @@ pub(crate) fn fill(alloc: Global, addr: &[u8], len: &[u8], value: &[u8]) -> Resu
 }
 
 /// The act of a line `load`: an address, and how many bytes.
-pub(crate) fn load(addr: &[u8], len: &[u8]) -> Result<Act, FaultKind>
-    ensures { result ≡ act_of kind.Load (addr.now ∷ len.now ∷ []) }
+#[inline(always)]
+pub(crate) fn load(addr: Word<'_>, len: Word<'_>) -> Result<Act, FaultKind>
+    ensures { result ≡ act_of kind.Load (addr.entry ∷ len.entry ∷ []) }
 {
     let addr = number(addr)?;
     let len = number(len)?;
@@ -83,16 +90,18 @@ pub(crate) fn load(addr: &[u8], len: &[u8]) -> Result<Act, FaultKind>
 }
 
 /// The act of a line `regread`: the offset of a register.
-pub(crate) fn reg_read(offset: &[u8]) -> Result<Act, FaultKind>
-    ensures { result ≡ act_of kind.RegRead (offset.now ∷ []) }
+#[inline(always)]
+pub(crate) fn reg_read(offset: Word<'_>) -> Result<Act, FaultKind>
+    ensures { result ≡ act_of kind.RegRead (offset.entry ∷ []) }
 {
     let offset = dword(offset)?;
     Ok(Act::RegRead { offset })
 }
 
 /// The act of a line `regwrite`: the offset of a register, and its value.
-pub(crate) fn reg_write(offset: &[u8], value: &[u8]) -> Result<Act, FaultKind>
-    ensures { result ≡ act_of kind.RegWrite (offset.now ∷ value.now ∷ []) }
+#[inline(always)]
+pub(crate) fn reg_write(offset: Word<'_>, value: Word<'_>) -> Result<Act, FaultKind>
+    ensures { result ≡ act_of kind.RegWrite (offset.entry ∷ value.entry ∷ []) }
 {
     let offset = dword(offset)?;
     let value = dword(value)?;
@@ -100,8 +109,9 @@ pub(crate) fn reg_write(offset: &[u8], value: &[u8]) -> Result<Act, FaultKind>
 }
 
 /// The act of a line `bell`: the offset of a doorbell, and its value.
-pub(crate) fn bell(offset: &[u8], value: &[u8]) -> Result<Act, FaultKind>
-    ensures { result ≡ act_of kind.Bell (offset.now ∷ value.now ∷ []) }
+#[inline(always)]
+pub(crate) fn bell(offset: Word<'_>, value: Word<'_>) -> Result<Act, FaultKind>
+    ensures { result ≡ act_of kind.Bell (offset.entry ∷ value.entry ∷ []) }
 {
     let offset = dword(offset)?;
     let value = dword(value)?;

@@ -5,29 +5,32 @@ ghost use Rattle.nv_replay_script.specs.ReplayEvents.{dword_of, status_of, word_
 use nv_entry::Status;
 use nv_script::FaultKind;
 use nv_script::once::number::{byte, up_to};
+use nv_script::once::word::Word;
 
 /// The most of a status code type.
 const SCT_MAX: u64 = 7;
 
 /// The number of 16 bits that a word writes.
-pub fn word(text: &[u8]) -> Result<u16, FaultKind>
-    ensures { result ≡ word_of text.now }
+#[inline(always)]
+pub fn word(text: Word<'_>) -> Result<u16, FaultKind>
+    ensures { result ≡ word_of text.entry }
 {
     let value = up_to(text, u64::from(u16::MAX))?;
     Ok(value as u16)
 }
 
 /// The number of 32 bits that a word writes.
-pub fn dword(text: &[u8]) -> Result<u32, FaultKind>
-    ensures { result ≡ dword_of text.now }
+#[inline(always)]
+pub fn dword(text: Word<'_>) -> Result<u32, FaultKind>
+    ensures { result ≡ dword_of text.entry }
 {
     let value = up_to(text, u64::from(u32::MAX))?;
     Ok(value as u32)
 }
 
 /// The status that three words write: SCT of 3 bits, SC of 8, DNR of one.
-pub fn status(sct: &[u8], sc: &[u8], dnr: &[u8]) -> Result<Status, FaultKind>
-    ensures { result ≡ status_of sct.now sc.now dnr.now }
+pub fn status(sct: Word<'_>, sc: Word<'_>, dnr: Word<'_>) -> Result<Status, FaultKind>
+    ensures { result ≡ status_of sct.entry sc.entry dnr.entry }
 {
     let sct = up_to(sct, SCT_MAX)?;
     let sc = byte(sc)?;

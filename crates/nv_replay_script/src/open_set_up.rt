@@ -8,6 +8,7 @@ use crate::sizes::OpenSizes;
 use crate::vocabulary::{SetUpKind, Size};
 use nv_script::FaultKind;
 use nv_script::once::fault::LineFault;
+use nv_script::once::word::Word;
 use nv_script::once::words::Words;
 use std::alloc::Global;
 
@@ -68,8 +69,8 @@ impl OpenSetUp {
     }
 
     // Adds what a line that names a size says.
-    fn add_size(&mut self, size: Size, word: &[u8]) -> Result<(), LineFault>
-        ensures { let after = add_size (set_up_so_far self.old) size word.now
+    fn add_size(&mut self, size: Size, word: Word<'_>) -> Result<(), LineFault>
+        ensures { let after = add_size (set_up_so_far self.old) size word.entry
             in MatchResult result (λ _. after ≡ Ok (set_up_so_far self.new)) (Refuses after) }
     {
         self.sizes = self.sizes.name(size, word)?;
@@ -90,12 +91,12 @@ impl OpenSetUp {
     // Adds the region of a line `map`.
     fn add_map(
         &mut self,
-        number: &[u8],
-        guest: &[u8],
-        host: &[u8],
-        len: &[u8],
+        number: Word<'_>,
+        guest: Word<'_>,
+        host: Word<'_>,
+        len: Word<'_>,
     ) -> Result<(), LineFault>
-        ensures { let after = add_map (set_up_so_far self.old) number.now guest.now host.now len.now
+        ensures { let after = add_map (set_up_so_far self.old) number.entry guest.entry host.entry len.entry
             in MatchResult result (λ _. after ≡ Ok (set_up_so_far self.new)) (Refuses after) }
     {
         let number = known(self.guests.len(), number)?;

@@ -5,6 +5,7 @@ ghost use Rattle.nv_replay_script.specs.ReplaySetUp.{fixed_word, guest_of, guest
 use nv_mem::Region;
 use nv_script::FaultKind;
 use nv_script::once::number::{byte, number};
+use nv_script::once::word::Word;
 use nv_script::once::words::Words;
 use std::alloc::Global;
 
@@ -28,10 +29,10 @@ const HEAP_MIN: u64 = 256;
 const HEAP_MAX: u64 = 16_777_216;
 
 // That a word is the one that always stands at its place.
-fn fixed(word: &[u8], want: &[u8]) -> Result<(), FaultKind>
-    ensures { result ≡ fixed_word want.now word.now }
+fn fixed(word: Word<'_>, want: &[u8]) -> Result<(), FaultKind>
+    ensures { result ≡ fixed_word want.now word.entry }
 {
-    if word == want {
+    if word.text() == want {
         Ok(())
     } else {
         Err(FaultKind::UnknownWord)
@@ -39,8 +40,8 @@ fn fixed(word: &[u8], want: &[u8]) -> Result<(), FaultKind>
 }
 
 // The bytes of a heap that a word writes.
-fn heap(word: &[u8]) -> Result<u64, FaultKind>
-    ensures { result ≡ heap_bytes word.now }
+fn heap(word: Word<'_>) -> Result<u64, FaultKind>
+    ensures { result ≡ heap_bytes word.entry }
 {
     let bytes = number(word)?;
     if bytes < HEAP_MIN || bytes > HEAP_MAX {
@@ -50,8 +51,8 @@ fn heap(word: &[u8]) -> Result<u64, FaultKind>
 }
 
 // That a word writes the number of the next guest.
-fn next(count: usize, word: &[u8]) -> Result<(), FaultKind>
-    ensures { result ≡ next_guest count word.now }
+fn next(count: usize, word: Word<'_>) -> Result<(), FaultKind>
+    ensures { result ≡ next_guest count word.entry }
 {
     let number = byte(word)?;
     if usize::from(number) == count {
@@ -62,8 +63,8 @@ fn next(count: usize, word: &[u8]) -> Result<(), FaultKind>
 }
 
 /// The number of a guest that a word writes, where it is below `count`.
-pub fn known(count: usize, word: &[u8]) -> Result<usize, FaultKind>
-    ensures { result ≡ known_guest count word.now }
+pub fn known(count: usize, word: Word<'_>) -> Result<usize, FaultKind>
+    ensures { result ≡ known_guest count word.entry }
 {
     let number = usize::from(byte(word)?);
     if number < count {
@@ -98,8 +99,8 @@ pub fn make_guest(
 }
 
 /// Makes a region of its three words.
-pub fn make_region(guest: &[u8], host: &[u8], len: &[u8]) -> Result<Region, FaultKind>
-    ensures { result ≡ region_of guest.now host.now len.now }
+pub fn make_region(guest: Word<'_>, host: Word<'_>, len: Word<'_>) -> Result<Region, FaultKind>
+    ensures { result ≡ region_of guest.entry host.entry len.entry }
 {
     let guest = number(guest)?;
     let host = number(host)?;

@@ -4,6 +4,7 @@ ghost use Rattle.std.specs.Prelude.{◌≡◌};
 use crate::vocabulary::Size;
 use nv_script::FaultKind;
 use nv_script::once::number::number;
+use nv_script::once::word::Word;
 
 /// The sizes of a set-up, as its lines name them.
 #[derive(Clone, Copy, Debug, PartialEq, Eq)]
@@ -80,8 +81,8 @@ impl OpenSizes {
     }
 
     /// The sizes behind a line that names one by this word.
-    pub fn name(self, size: Size, word: &[u8]) -> Result<Self, FaultKind>
-        ensures { result ≡ after_size self size word.now }
+    pub fn name(self, size: Size, word: Word<'_>) -> Result<Self, FaultKind>
+        ensures { result ≡ after_size self size word.entry }
     {
         if self.get(size).is_some() {
             return Err(FaultKind::OutOfPlace);

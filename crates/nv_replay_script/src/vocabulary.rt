@@ -3,6 +3,7 @@ ghost use Rattle.std.specs.Prelude.{◌≡◌};
 ghost use Rattle.nv_replay_script.specs.ReplayVocabulary.{keyword_of};
 
 use nv_script::once::vocabulary::keyword_in;
+use nv_script::once::word::Word;
 
 /// A size of the set-up.
 #[derive(Clone, Copy, Debug, PartialEq, Eq)]
@@ -139,8 +140,8 @@ const VOCABULARY: [(&[u8], Keyword); 32] = [
 ];
 
 /// What a line is that begins with this word, or `None` for a word that no subcommand knows.
-pub fn look_up(word: &[u8]) -> Option<Keyword>
-    ensures { result ≡ keyword_of word.now }
+pub fn look_up(word: Word<'_>) -> Option<Keyword>
+    ensures { result ≡ keyword_of word.entry }
 {
-    keyword_in(&VOCABULARY, word)
+    keyword_in(&VOCABULARY, word.text())
 }

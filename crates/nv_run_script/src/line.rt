@@ -12,6 +12,7 @@ use nv_replay_script::vocabulary::ActKind;
 use nv_script::FaultKind;
 use nv_script::once::fault::LineFault;
 use nv_script::once::number::number;
+use nv_script::once::word::Word;
 use nv_script::once::words::Words;
 use std::alloc::Global;
 
@@ -63,11 +64,11 @@ pub fn make_act_line(
 pub fn make_await_line(
     count: usize,
     line: u64,
-    guest: &[u8],
-    addr: &[u8],
-    value: &[u8],
+    guest: Word<'_>,
+    addr: Word<'_>,
+    value: Word<'_>,
 ) -> Result<Line, FaultKind>
-    ensures { result ≡ await_line count line guest.now addr.now value.now }
+    ensures { result ≡ await_line count line guest.entry addr.entry value.entry }
 {
     let guest = known(count, guest)?;
     let addr = number(addr)?;
@@ -84,11 +85,11 @@ pub fn make_await_line(
 pub fn make_await_register_line(
     count: usize,
     line: u64,
-    guest: &[u8],
-    offset: &[u8],
-    value: &[u8],
+    guest: Word<'_>,
+    offset: Word<'_>,
+    value: Word<'_>,
 ) -> Result<Line, FaultKind>
-    ensures { result ≡ await_register_line count line guest.now offset.now value.now }
+    ensures { result ≡ await_register_line count line guest.entry offset.entry value.entry }
 {
     let guest = known(count, guest)?;
     let offset = dword(offset)?;

@@ -1,5 +1,6 @@
 pub mod OnceLinesLemmas
 pub mod OnceWordsLemmas
+pub mod OnceDigitsLemmas
 pub mod OnceNumberLemmas
 pub mod OnceVocabularyLemmas
 pub mod OnceScriptLemmas

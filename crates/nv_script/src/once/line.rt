@@ -9,6 +9,7 @@ use crate::once::fault::{FaultKind, LineFault};
 use crate::once::number::{byte, bytes, entry, number, up_to};
 use crate::once::sizes::Sizes;
 use crate::once::vocabulary::Keyword;
+use crate::once::word::Word;
 use crate::once::words::Words;
 use nv_entry::Sqe;
 use std::alloc::Global;
@@ -70,8 +71,8 @@ pub fn make_line(
 }
 
 // The line `store`, made of its words.
-fn store(alloc: Global, sizes: Sizes, addr: &[u8], digits: &[u8]) -> Result<Line, LineFault>
-    ensures { let line = line_of sizes keyword.Store (addr.now ∷ digits.now ∷ [])
+fn store(alloc: Global, sizes: Sizes, addr: Word<'_>, digits: Word<'_>) -> Result<Line, LineFault>
+    ensures { let line = line_of sizes keyword.Store (addr.entry ∷ digits.entry ∷ [])
         in MatchResult result (λ made. line ≡ Ok (value_of made)) (Refuses line) }
 {
     let addr = number(addr)?;
@@ -83,8 +84,8 @@ fn store(alloc: Global, sizes: Sizes, addr: &[u8], digits: &[u8]) -> Result<Line
 }
 
 // The line `fill`, made of its words.
-fn fill(sizes: Sizes, addr: &[u8], len: &[u8], value: &[u8]) -> Result<Line, LineFault>
-    ensures { let line = line_of sizes keyword.Fill (addr.now ∷ len.now ∷ value.now ∷ [])
+fn fill(sizes: Sizes, addr: Word<'_>, len: Word<'_>, value: Word<'_>) -> Result<Line, LineFault>
+    ensures { let line = line_of sizes keyword.Fill (addr.entry ∷ len.entry ∷ value.entry ∷ [])
         in MatchResult result (λ made. line ≡ Ok (value_of made)) (Refuses line) }
 {
     let addr = number(addr)?;
@@ -97,8 +98,8 @@ fn fill(sizes: Sizes, addr: &[u8], len: &[u8], value: &[u8]) -> Result<Line, Lin
 }
 
 // The line `paint`, made of its words.
-fn paint(sizes: Sizes, place: &[u8], value: &[u8]) -> Result<Line, LineFault>
-    ensures { let line = line_of sizes keyword.Paint (place.now ∷ value.now ∷ [])
+fn paint(sizes: Sizes, place: Word<'_>, value: Word<'_>) -> Result<Line, LineFault>
+    ensures { let line = line_of sizes keyword.Paint (place.entry ∷ value.entry ∷ [])
         in MatchResult result (λ made. line ≡ Ok (value_of made)) (Refuses line) }
 {
     let block = number(place)?;
@@ -110,16 +111,16 @@ fn paint(sizes: Sizes, place: &[u8], value: &[u8]) -> Result<Line, LineFault>
 }
 
 // The line `cmd`, made of its word.
-fn command(sizes: Sizes, digits: &[u8]) -> Result<Line, LineFault>
-    ensures { let line = line_of sizes keyword.Cmd (digits.now ∷ [])
+fn command(sizes: Sizes, digits: Word<'_>) -> Result<Line, LineFault>
+    ensures { let line = line_of sizes keyword.Cmd (digits.entry ∷ [])
         in MatchResult result (λ made. line ≡ Ok (value_of made)) (Refuses line) }
 {
     Ok(Line::Command(entry(digits)?))
 }
 
 // The line `dump`, made of its words.
-fn dump(sizes: Sizes, addr: &[u8], len: &[u8]) -> Result<Line, LineFault>
-    ensures { let line = line_of sizes keyword.Dump (addr.now ∷ len.now ∷ [])
+fn dump(sizes: Sizes, addr: Word<'_>, len: Word<'_>) -> Result<Line, LineFault>
+    ensures { let line = line_of sizes keyword.Dump (addr.entry ∷ len.entry ∷ [])
         in MatchResult result (λ made. line ≡ Ok (value_of made)) (Refuses line) }
 {
     let addr = number(addr)?;
@@ -131,8 +132,8 @@ fn dump(sizes: Sizes, addr: &[u8], len: &[u8]) -> Result<Line, LineFault>
 }
 
 // The line `block`, made of its word.
-fn block(sizes: Sizes, place: &[u8]) -> Result<Line, LineFault>
-    ensures { let line = line_of sizes keyword.Block (place.now ∷ [])
+fn block(sizes: Sizes, place: Word<'_>) -> Result<Line, LineFault>
+    ensures { let line = line_of sizes keyword.Block (place.entry ∷ [])
         in MatchResult result (λ made. line ≡ Ok (value_of made)) (Refuses line) }
 {
     let block = number(place)?;

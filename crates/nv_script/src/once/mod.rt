@@ -12,6 +12,7 @@ mod reading;
 pub mod script;
 mod sizes;
 pub mod vocabulary;
+pub mod word;
 pub mod words;
 
 pub use fault::{FaultKind, ScriptFault};

@@ -4,6 +4,7 @@ ghost use Rattle.nv_script.specs.OnceFault.{Refuses};
 ghost use Rattle.nv_script.specs.OnceNumber.{bytes_of, entry_of, number_of, number_up_to, spelled, written};
 
 use crate::once::fault::{FaultKind, LineFault};
+use crate::once::word::Word;
 use hex::{FromHex, FromHexError};
 use nv_entry::Sqe;
 use std::alloc::Global;
@@ -30,13 +31,18 @@ fn spelled_number(digits: &[u8], base: u32) -> Option<u64>
 }
 
 /// The number that a word writes: decimal, or `0x` and hexadecimal digits.
-pub fn number(word: &[u8]) -> Result<u64, FaultKind>
-    ensures { result ≡ number_of word.now }
+#[inline(always)]
+pub fn number(word: Word<'_>) -> Result<u64, FaultKind>
+    ensures { result ≡ number_of word.entry }
 {
-    written_number(word).ok_or(FaultKind::BadNumber)
+    match word.plain() {
+        Some(number) => Ok(number),
+        None => written_number(word.text()).ok_or(FaultKind::BadNumber),
+    }
 }
 
 // The number that a word writes, or none.
+#[inline(never)]
 fn written_number(word: &[u8]) -> Option<u64>
     ensures { result ≡ written word.now }
 {
@@ -47,8 +53,9 @@ fn written_number(word: &[u8]) -> Option<u64>
 }
 
 /// The number that a word writes, where it is at most `most`.
-pub fn up_to(word: &[u8], most: u64) -> Result<u64, FaultKind>
-    ensures { result ≡ number_up_to most word.now }
+#[inline(always)]
+pub fn up_to(word: Word<'_>, most: u64) -> Result<u64, FaultKind>
+    ensures { result ≡ number_up_to most word.entry }
 {
     let value = number(word)?;
     if value > most {
@@ -58,17 +65,19 @@ pub fn up_to(word: &[u8], most: u64) -> Result<u64, FaultKind>
 }
 
 /// The byte that a word writes as a number.
-pub fn byte(word: &[u8]) -> Result<u8, FaultKind>
-    ensures { result ≡ number_up_to 255 word.now }
+#[inline(always)]
+pub fn byte(word: Word<'_>) -> Result<u8, FaultKind>
+    ensures { result ≡ number_up_to 255 word.entry }
 {
     let value = up_to(word, u64::from(u8::MAX))?;
     Ok(value as u8)
 }
 
 /// The bytes that a word spells: two hexadecimal digits each, or `-` for none.
-pub fn bytes(alloc: Global, word: &[u8]) -> Result<Vec<u8>, LineFault>
-    ensures { MatchResult result (λ bytes. bytes_of word.now ≡ Ok bytes.items) (Refuses (bytes_of word.now)) }
+pub fn bytes(alloc: Global, word: Word<'_>) -> Result<Vec<u8>, LineFault>
+    ensures { MatchResult result (λ bytes. bytes_of word.entry ≡ Ok bytes.items) (Refuses (bytes_of word.entry)) }
 {
+    let word = word.text();
     if word == b"-".as_slice() {
         return Ok(Vec::new(alloc));
     }
@@ -80,10 +89,10 @@ pub fn bytes(alloc: Global, word: &[u8]) -> Result<Vec<u8>, LineFault>
 }
 
 /// The submission queue entry whose 64 bytes a word spells.
-pub fn entry(word: &[u8]) -> Result<Sqe, FaultKind>
-    ensures { result ≡ entry_of word.now }
+pub fn entry(word: Word<'_>) -> Result<Sqe, FaultKind>
+    ensures { result ≡ entry_of word.entry }
 {
-    match <[u8; 64]>::from_hex(word) {
+    match <[u8; 64]>::from_hex(word.text()) {
         Ok(bytes) => Ok(Sqe::of(&bytes)),
         Err(_) => Err(FaultKind::BadBytes),
     }

@@ -40,7 +40,7 @@ impl Reading {
             in MatchResult result (λ _. after ≡ Ok (progress self.new)) (Refuses after) }
     {
         let mut words = Words::of(line);
-        let Some(first) = words.next() else {
+        let Some(first) = words.next_name() else {
             return Ok(());
         };
         let keyword = look_up(first).ok_or(FaultKind::UnknownWord)?;

@@ -4,6 +4,7 @@ ghost use Rattle.nv_script.specs.OnceSizes.{block_count, memory_size};
 
 use crate::once::fault::FaultKind;
 use crate::once::number::number;
+use crate::once::word::Word;
 
 /// The sizes that the set-up names.
 #[derive(Clone, Copy, Debug, PartialEq, Eq)]
@@ -24,8 +25,8 @@ const MEMORY_MAX: u64 = 16_777_216;
 const BLOCKS_MAX: u64 = 65_536;
 
 /// The size of the memory that a word writes: 1 to 4,096 pages.
-pub fn memory(word: &[u8]) -> Result<u64, FaultKind>
-    ensures { result ≡ memory_size word.now }
+pub fn memory(word: Word<'_>) -> Result<u64, FaultKind>
+    ensures { result ≡ memory_size word.entry }
 {
     let size = number(word)?;
     if size < PAGE || size > MEMORY_MAX || size % PAGE != 0 {
@@ -35,8 +36,8 @@ pub fn memory(word: &[u8]) -> Result<u64, FaultKind>
 }
 
 /// The number of blocks that a word writes.
-pub fn blocks(word: &[u8]) -> Result<u64, FaultKind>
-    ensures { result ≡ block_count word.now }
+pub fn blocks(word: Word<'_>) -> Result<u64, FaultKind>
+    ensures { result ≡ block_count word.entry }
 {
     let count = number(word)?;
     if count < 1 || count > BLOCKS_MAX {

@@ -4,6 +4,8 @@ ghost use Rattle.std.specs.Map.{lookup};
 ghost use Rattle.std.specs.Str.{bytes_eq};
 ghost use Rattle.nv_script.specs.OnceVocabulary.{keyword_of};
 
+use crate::once::word::Word;
+
 /// What a line is, by its first word.
 #[derive(Clone, Copy, Debug, PartialEq, Eq)]
 pub enum Keyword {
@@ -72,10 +74,10 @@ const VOCABULARY: [(&[u8], Keyword); 32] = [
 ];
 
 /// What a line is that begins with this word, or `None` for a word that no subcommand knows.
-pub fn look_up(word: &[u8]) -> Option<Keyword>
-    ensures { result ≡ keyword_of word.now }
+pub fn look_up(word: Word<'_>) -> Option<Keyword>
+    ensures { result ≡ keyword_of word.entry }
 {
-    keyword_in(&VOCABULARY, word)
+    keyword_in(&VOCABULARY, word.text())
 }
 
 /// What the first row with this word says.

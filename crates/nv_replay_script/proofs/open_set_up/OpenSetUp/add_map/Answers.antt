@@ -9,9 +9,9 @@ returns c =
     let guest = c.index_mut.result.now in
     let count : vec_len c.args.self.now.guests ≡ length c.args.self.now.guests.items = search rules in
     let value : List Region → GuestValue = λ regions. record { base = guest.base; blocks = guest.blocks; heap = guest.heap; regions = regions } in
-    add_map-read (set_up_so_far c.args.self.now) c.args.number.now c.args.guest.now c.args.host.now c.args.len.now c.in_ok-number.number c.in_ok-region.region
+    add_map-read (set_up_so_far c.args.self.now) c.args.number c.args.guest c.args.host c.args.len c.in_ok-number.number c.in_ok-region.region
     c.args.self.now.guests.items guest _ refl
-    (ap (λ (n : ℕ). known_guest n c.args.number.now) (sym (c.len.ensures ∙ count)) ∙ sym c.known.ensures ∙ c.in_ok-number.was)
+    (ap (λ (n : ℕ). known_guest n c.args.number) (sym (c.len.ensures ∙ count)) ∙ sym c.known.ensures ∙ c.in_ok-number.was)
     (sym c.make_region.ensures ∙ c.in_ok-region.was)
     c.index_mut.ensures.value
     (ap value c.in_ok-push.ensures.items)

@@ -22,12 +22,12 @@ returns-in_err-keyword c =
 pub returns-in_err-check_count : goal.returns-in_err-check_count
 returns-in_err-check_count c =
     let known = ap (λ (o : Option Keyword). ok_or o UnknownWord) (sym c.look_up.ensures) ∙ sym c.ok_or.ensures.value ∙ c.in_ok-keyword.was in
-    let wrong = ap (λ (n : ℕ). count_check (length c.next.new.self) n) (sym c.arguments.ensures) ∙ sym c.check_count.ensures ∙ c.in_err-check_count.was in
+    let wrong = ap (λ (n : ℕ). count_check (length c.next_name.new.self) n) (sym c.arguments.ensures) ∙ sym c.check_count.ensures ∙ c.in_err-check_count.was in
     let p = err_from_is_err_and c.from_residual-in_err-check_count.result c.from_residual-in_err-check_count.ensures.1 in
     rw (p.1, p.2) (after_line-miscounted (progress c.args.self.now) (words_of c.args.line.now) _ _ _ _ (sym c.of-words.ensures ∙ c.in-Some.ensures.steps) known wrong)
 
 pub returns : goal.returns
 returns c =
     let known = ap (λ (o : Option Keyword). ok_or o UnknownWord) (sym c.look_up.ensures) ∙ sym c.ok_or.ensures.value ∙ c.in_ok-keyword.was in
-    let right = ap (λ (n : ℕ). count_check (length c.next.new.self) n) (sym c.arguments.ensures) ∙ sym c.check_count.ensures ∙ c.in_ok-check_count.was in
+    let right = ap (λ (n : ℕ). count_check (length c.next_name.new.self) n) (sym c.arguments.ensures) ∙ sym c.check_count.ensures ∙ c.in_ok-check_count.was in
     rw (after_line-known (progress c.args.self.now) (words_of c.args.line.now) _ _ _ _ (sym c.of-words.ensures ∙ c.in-Some.ensures.steps) known right) c.add.ensures

@@ -2,7 +2,7 @@ use Rattle.std.proofs.Common.{rules, tests, not, eqb}
 use Rattle.std.proofs.lemmas.Iterator.{YieldsList-from_slice}
 use Rattle.std.proofs.lemmas.Iterator.Search.{position_from_yields_List}
 use Rattle.nv_script.proofs.OnceWordsLemmas.{unwrap_or-position}
-use Rattle.nv_script.proofs.once.words.leading_spaces.Goals as goal
+use Rattle.nv_script.proofs.once.word.leading_spaces.Goals as goal
 
 pub returns : goal.returns
 returns c =

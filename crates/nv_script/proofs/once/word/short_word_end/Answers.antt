@@ -2,7 +2,7 @@ use Rattle.std.proofs.Common.{rules, tests}
 use Rattle.std.proofs.lemmas.Iterator.{YieldsList-from_slice}
 use Rattle.std.proofs.lemmas.Iterator.Search.{position_from_yields_List}
 use Rattle.nv_script.proofs.OnceWordsLemmas.{ends_word, unwrap_or-position}
-use Rattle.nv_script.proofs.once.words.short_word_end.Goals as goal
+use Rattle.nv_script.proofs.once.word.short_word_end.Goals as goal
 
 pub returns : goal.returns
 returns c =
