@@ -3,12 +3,11 @@ use Rattle.std.proofs.Common.{◌≡◌, ℕ, ◌+◌, ◌*◌, ◌^◌, ◌<◌
 use Rattle.std.specs.Prelude.{nat_lt}
 use Rattle.std.proofs.lemmas.Bool.{cases_lt}
 use Rattle.std.proofs.lemmas.List.Elements.{All-head, All-tail}
-use Rattle.std.specs.List.{All, list_any}
+use Rattle.std.specs.List.{All}
 use Rattle.nv_mem.specs.GuestMap.{IsInside, IsSound, span_met, spans_meet}
 use Rattle.nv_mem.specs.declared.region.Region.{Region}
-use Rattle.nv_world_model.specs.Area.{lane_pages}
 use Rattle.nv_world_model.specs.Geometry.{Guest, regions_of}
-use Rattle.nv_world_model.specs.SetUp.{SetUp, area_bytes, meets_area}
+use Rattle.nv_world_model.specs.SetUp.{SetUp, meets_area}
 
 -- two ends that are both behind the first
 ends : (m a b : ℕ) → m ≤ a → m ≤ b → min m a ≡ min m b

@@ -1,20 +1,18 @@
 -- No queue of a guest has more taken commands than there are tags.
-use Rattle.std.proofs.Common.{◌≡◌, ℕ, zero, suc, ◌+◌, ◌*◌, ◌/◌, ◌%◌, ◌<◌, ◌≤◌, inl, inr, Bool, true, false, List, length, slice_get, slice_index, Option, Some, None, arith, refl, sym, subst, ap, ◌∙◌}
+use Rattle.std.proofs.Common.{◌≡◌, ℕ, zero, suc, ◌*◌, ◌/◌, ◌%◌, ◌≤◌, inl, inr, Bool, true, false, length, Option, Some, None, arith, ap}
 use Rattle.std.proofs.lemmas.Bool.{cases_lt}
 use Rattle.std.proofs.lemmas.Option.{slice_get_past, slice_get_within}
 use Rattle.std.specs.Prelude.{◌==◌}
-use Rattle.nv_core.specs.State.{CountsMore, IsOf, State, world_of}
+use Rattle.nv_core.specs.State.{CountsMore, world_of}
 use Rattle.nv_entry.specs.Status.{bit}
 use Rattle.nv_laws_sound.proofs.LaidOuts.{accepted, sizes-of}
 use Rattle.nv_laws_sound.proofs.Lists.{slice_get-there}
 use Rattle.nv_laws_sound.specs.Counted.{command_in, commands}
-use Rattle.nv_model.specs.Controller.{Controller}
 use Rattle.nv_model.specs.Private.{Bag, Taken as Member}
 use Rattle.nv_model.specs.Running.{count_below, one_of}
-use Rattle.nv_vctl.specs.Vctl.{most_taken}
 use Rattle.nv_world.specs.Mediated.{IsRunning, Kept, setup_of}
 use Rattle.nv_world_model.specs.Area.{tag_count}
-use Rattle.nv_world_model.specs.World.{Lane, World, tag_in, tag_of}
+use Rattle.nv_world_model.specs.World.{Lane, World, tag_in}
 
 one-most : (queue : ℕ) (t : Option Member) → one_of queue t ≤ 1
 one-most queue None = omega arith

@@ -1,8 +1,8 @@
 -- An event that tells bytes changes nothing, but for a read of a list.
-use Rattle.std.proofs.Common.{◌≡◌, ℕ, Bool, true, false, ◌&&◌, inl, inr, List, [], ◌∷◌, length, Option, Some, None, refl, sym, subst, ap, ◌∙◌}
+use Rattle.std.proofs.Common.{◌≡◌, ℕ, Bool, true, false, ◌&&◌, inl, inr, List, [], ◌∷◌, Option, Some, None, refl, sym, subst, ap, ◌∙◌}
 use Rattle.std.specs.Prelude.{Err, IsSome, Ok, OnErr, Result}
 use Rattle.nv_core.specs.Seat.{bytes_told}
-use Rattle.nv_core.specs.State.{IsSameSize, IsStep, State, world_of}
+use Rattle.nv_core.specs.State.{IsStep, State, world_of}
 use Rattle.nv_model.specs.Private.{Acted, Private, acted}
 use Rattle.nv_model.specs.declared.act.Act.{Act}
 use Rattle.nv_model.specs.declared.reply.Reply.{Reply}

@@ -1,8 +1,8 @@
 -- The world of a set-up that is not refused, at its start.
-use Rattle.std.proofs.Common.{◌≡◌, ℕ, zero, suc, ◌+◌, ◌*◌, ◌^◌, ◌<◌, ◌≤◌, List, [], ◌∷◌, ◌++◌, length, slice_get, None, Some, arith, refl, sym, subst, ap, ◌∙◌}
+use Rattle.std.proofs.Common.{◌≡◌, ℕ, zero, suc, ◌<◌, List, [], ◌∷◌, ◌++◌, length, slice_get, None, Some, arith, refl, sym, subst, ap, ◌∙◌}
 use Rattle.std.proofs.lemmas.List.{length-replicate}
 use Rattle.std.proofs.lemmas.List.Elements.{All-nil}
-use Rattle.nv_core.specs.State.{IsOf, IsOpening, State, world_of}
+use Rattle.nv_core.specs.State.{IsOpening, State, world_of}
 use Rattle.nv_device.specs.Physical.{FitsLimits}
 use Rattle.nv_laws_others.specs.Alike.{HasFittingStatus}
 use Rattle.nv_laws_sound.proofs.CountedRuns.{opening-counted}
@@ -12,15 +12,12 @@ use Rattle.nv_laws_sound.specs.Consistent.{IsConsistent}
 use Rattle.nv_laws_sound.specs.Counted.{IsCounted}
 use Rattle.nv_laws_sound.specs.LaidOut.{IsLaidOut}
 use Rattle.nv_mem.specs.GuestMap.{IsSound}
-use Rattle.nv_model.specs.declared.reply.Reply.{Reply}
 use Rattle.nv_world.specs.Mediated.{IsRunning, Kept, MayBeGiven, Mediated, mediated, opened, setup_of}
-use Rattle.nv_world_model.specs.Area.{lane_start}
 use Rattle.nv_world_model.specs.Geometry.{Geometry, Guest}
-use Rattle.nv_world_model.specs.Log.{IsReplay}
 use Rattle.nv_world_model.specs.declared.logged.Logged.{Logged}
-use Rattle.nv_world_model.specs.SetUp.{SetUp, guest_fits, most_disk_blocks, refusal_of, world_at_start}
+use Rattle.nv_world_model.specs.SetUp.{SetUp, guest_fits, refusal_of, world_at_start}
 use Rattle.nv_world_model.specs.Step.{replay, replies}
-use Rattle.nv_world_model.specs.World.{Lane, World, opening_lane, opening_world}
+use Rattle.nv_world_model.specs.World.{World, opening_lane, opening_world}
 
 -- what its guests' ranges and its sizes come to
 pub may-be-given : (s : SetUp) → refusal_of s ≡ None → (number : ℕ) (guest : Guest) → slice_get s.geometry.guests number ≡ Some guest → MayBeGiven guest

@@ -1,5 +1,5 @@
 -- A step of the state, with the log: what is kept of a mediator, and what its callers see.
-use Rattle.std.proofs.Common.{◌≡◌, ℕ, inl, inr, Bool, true, false, List, [], ◌∷◌, ◌++◌, length, map, arith, refl, sym, subst, ap, ◌∙◌}
+use Rattle.std.proofs.Common.{◌≡◌, ℕ, List, [], ◌∷◌, ◌++◌, length, refl, sym, subst, ap, ◌∙◌}
 use Rattle.std.proofs.lemmas.List.Elements.{All-append, All-cons, All-nil}
 use Rattle.std.specs.List.{All}
 use Rattle.nv_core.specs.State.{IsOf, IsSameSize, IsStep, State, world_of}
@@ -12,7 +12,7 @@ use Rattle.nv_laws_sound.specs.Consistent.{IsConsistent}
 use Rattle.nv_laws_sound.specs.Counted.{IsCounted}
 use Rattle.nv_laws_sound.specs.LaidOut.{IsLaidOut}
 use Rattle.nv_model.specs.declared.reply.Reply.{Reply}
-use Rattle.nv_world.specs.Mediated.{IsContained, IsLogged, IsRunning, IsUnchanged, KeepsPromise, Kept, Mediated, mediated, setup_of}
+use Rattle.nv_world.specs.Mediated.{IsContained, IsLogged, IsRunning, KeepsPromise, Kept, Mediated, mediated, setup_of}
 use Rattle.nv_world_model.specs.declared.event.Event.{Event}
 use Rattle.nv_world_model.specs.declared.logged.Logged.{Logged}
 use Rattle.nv_world_model.specs.Geometry.{Geometry}

@@ -1,29 +1,65 @@
 //! Copies of what allocates.
 
-ghost use Rattle.std.specs.Prelude.{◌≡◌, IfOk, IsSome, OnErr};
+ghost use Rattle.std.specs.Prelude.{◌≡◌, IfOk, IfSome, IsSome, None, OnErr, Some};
 ghost use Rattle.nv_core.specs.Seat.{bytes_told};
+ghost use Rattle.nv_model.specs.declared.reply.Reply.TheVariants as Reply;
 
 use nv_mem::{Bytes, NoMemory};
 use nv_model::{Act, Reply};
 use nv_world_model::Event;
 use std::alloc::Global;
+use std::mem;
 
-/// A reply once more. Memory is taken for bytes alone.
-pub(crate) fn reply(alloc: Global, reply: &Reply) -> Result<Reply, NoMemory>
-    ensures ok { IfOk result (λ copy. copy ≡ reply.now) }
-    ensures err { OnErr result (IsSome (bytes_told reply.now)) }
+/// A reply, and once more: with the bytes that came once more, or with a copy of its own. Nothing is moved of a reply that has none.
+pub(crate) fn twice(
+    alloc: Global,
+    reply: Reply,
+    again: Option<Bytes>,
+) -> Result<(Reply, Reply), NoMemory>
+    requires { IfSome again (λ bytes. bytes_told reply ≡ Some bytes) }
+    ensures first { IfOk result (λ both. both.0 ≡ reply) }
+    ensures second { IfOk result (λ both. both.1 ≡ reply) }
+    ensures err { OnErr result ((again ≡ None) × IsSome (bytes_told reply)) }
 {
     match reply {
-        Reply::Done => Ok(Reply::Done),
-        Reply::Bytes(bytes) => Ok(Reply::Bytes(self::bytes(alloc, bytes)?)),
-        Reply::Idle => Ok(Reply::Idle),
-        Reply::Busy => Ok(Reply::Busy),
-        Reply::Held => Ok(Reply::Held),
-        Reply::Stale => Ok(Reply::Stale),
-        Reply::Unmapped => Ok(Reply::Unmapped),
-        Reply::Ignored => Ok(Reply::Ignored),
-        Reply::NoMemory => Ok(Reply::NoMemory),
+        Reply::Bytes(bytes) => bytes_twice(alloc, bytes, again),
+        Reply::Done => Ok(words(Reply::Done, Reply::Done, again)),
+        Reply::Idle => Ok(words(Reply::Idle, Reply::Idle, again)),
+        Reply::Busy => Ok(words(Reply::Busy, Reply::Busy, again)),
+        Reply::Held => Ok(words(Reply::Held, Reply::Held, again)),
+        Reply::Stale => Ok(words(Reply::Stale, Reply::Stale, again)),
+        Reply::Unmapped => Ok(words(Reply::Unmapped, Reply::Unmapped, again)),
+        Reply::Ignored => Ok(words(Reply::Ignored, Reply::Ignored, again)),
+        Reply::NoMemory => Ok(words(Reply::NoMemory, Reply::NoMemory, again)),
     }
+}
+
+// Two replies without bytes, where none came once more: nothing has to be given back, and so nothing is looked at.
+#[inline(always)]
+fn words(first: Reply, second: Reply, none: Option<Bytes>) -> (Reply, Reply)
+    requires { none ≡ None }
+    ensures { result ≡ (first, second) }
+{
+    mem::forget(none);
+    (first, second)
+}
+
+// The same of a reply with bytes.
+fn bytes_twice(
+    alloc: Global,
+    bytes: Bytes,
+    again: Option<Bytes>,
+) -> Result<(Reply, Reply), NoMemory>
+    requires { IfSome again (λ copy. copy ≡ bytes) }
+    ensures first { IfOk result (λ both. both.0 ≡ Reply.Bytes bytes) }
+    ensures second { IfOk result (λ both. both.1 ≡ Reply.Bytes bytes) }
+    ensures err { OnErr result (again ≡ None) }
+{
+    let again = match again {
+        Some(again) => again,
+        None => self::bytes(alloc, &bytes)?,
+    };
+    Ok((Reply::Bytes(bytes), Reply::Bytes(again)))
 }
 
 /// An event once more. Memory is taken for the bytes of a store alone.

@@ -1,7 +1,6 @@
 //! Events, each as the call that carries it out.
 
-ghost use Rattle.std.specs.Prelude.{◌≡◌, IfOk, IfSome, IsSome, None, OnErr, Some};
-ghost use Rattle.nv_core.specs.Seat.{bytes_told};
+ghost use Rattle.std.specs.Prelude.{◌≡◌, IfOk, OnErr};
 ghost use Rattle.nv_core.specs.State.{IsOf, IsStep, world_of};
 ghost use Rattle.nv_laws_others.specs.Alike.{HasFittingStatus};
 ghost use Rattle.nv_laws_sound.specs.Counted.{IsCounted};
@@ -30,8 +29,8 @@ pub(crate) fn perform(
     ensures err { OnErr result (IsUnchanged core.old core.new) }
 {
     let (reply, again) = carry_out(alloc, layout, core, event)?;
-    let logged = logged(alloc, &reply, again)?;
-    Ok((reply, logged))
+    let told = copies::twice(alloc, reply, again)?;
+    Ok(told)
 }
 
 /// What is known of an event by its type: a status with which the physical controller fails a command fits a completion.
@@ -77,16 +76,4 @@ fn carry_out(
         Event::Post(lane, tag) => core.post(layout, *lane, *tag),
     };
     Ok((reply, None))
-}
-
-// A reply for the log: with the bytes that came once more, or with a copy of its own.
-fn logged(alloc: Global, reply: &Reply, again: Option<Bytes>) -> Result<Reply, NoMemory>
-    requires { IfSome again (λ bytes. bytes_told reply.now ≡ Some bytes) }
-    ensures ok { IfOk result (λ logged. logged ≡ reply.now) }
-    ensures err { OnErr result ((again ≡ None) × IsSome (bytes_told reply.now)) }
-{
-    if let Some(bytes) = again {
-        return Ok(Reply::Bytes(bytes));
-    }
-    copies::reply(alloc, reply)
 }

@@ -1,8 +1,8 @@
-use Rattle.std.proofs.Common.{◌≡◌, ◌∙◌, ◌++◌, ◌∷◌, [], List, inr, ap, sym, subst}
+use Rattle.std.proofs.Common.{◌≡◌, ◌∙◌, ◌++◌, ◌∷◌, [], List, inr, ap, subst}
 use Rattle.nv_model.specs.declared.reply.Reply.{Reply}
 use Rattle.nv_world.proofs.Counts.{counts-more}
 use Rattle.nv_world.proofs.Steps.{step-logged, step-running}
-use Rattle.nv_world.specs.Mediated.{IsLogged, IsStepped, Kept, mediated}
+use Rattle.nv_world.specs.Mediated.{IsLogged, Kept, mediated}
 use Rattle.nv_world_model.specs.declared.logged.Logged.{Logged}
 use Rattle.nv_world.proofs.world.World.advance.Goals as goal
 

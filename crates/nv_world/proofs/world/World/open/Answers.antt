@@ -1,4 +1,4 @@
-use Rattle.std.proofs.Common.{◌≡◌, arith, refl, sym, subst, ap, ◌∙◌, ℕ, ◌+◌, ◌<◌, ◌^◌, List, slice_get, Some, None}
+use Rattle.std.proofs.Common.{◌≡◌, arith, sym, subst, ap, ◌∙◌, ℕ, List, slice_get, Some}
 use Rattle.nv_world.proofs.Starts.{fits-limits, lanes-small, may-be-given, starts-as, starts-running}
 use Rattle.nv_world_model.specs.Geometry.{Geometry, Guest}
 use Rattle.nv_device.specs.Physical.{FitsLimits}

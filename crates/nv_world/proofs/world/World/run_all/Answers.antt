@@ -1,7 +1,6 @@
-use Rattle.std.proofs.Common.{◌≡◌, ◌+◌, ◌≤◌, arith, length, subst, sym, vec_len, vec_capacity, List}
+use Rattle.std.proofs.Common.{arith, subst, sym, List}
 use Rattle.nv_model.specs.declared.reply.Reply.{Reply}
 use Rattle.nv_world.proofs.Runs.{answered-more, answered-none}
-use Rattle.nv_world.proofs.world.World.run_all.Invariants.{SoFar}
 use Rattle.nv_world.specs.Mediated.{AreAnswered, mediated}
 use Rattle.nv_world.proofs.world.World.run_all.Goals as goal
 

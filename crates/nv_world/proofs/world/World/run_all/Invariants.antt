@@ -1,4 +1,4 @@
-use Rattle.std.proofs.Common.{◌≡◌, ◌+◌, ◌≤◌, List, ℕ, length, take, vec_len, vec_capacity}
+use Rattle.std.proofs.Common.{◌+◌, ◌≤◌, List, ℕ, length, take, vec_len, vec_capacity}
 use Rattle.nv_model.specs.declared.reply.Reply.{Reply}
 use Rattle.nv_world.specs.Mediated.{AreAnswered, Mediated, mediated}
 use Rattle.nv_world_model.specs.declared.event.Event.{Event}

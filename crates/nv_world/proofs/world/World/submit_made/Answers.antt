@@ -1,11 +1,9 @@
-use Rattle.std.proofs.Common.{◌≡◌, ◌∙◌, ◌++◌, ◌∷◌, [], List, ℕ, inl, inr, ap, refl, sym, subst}
-use Rattle.nv_core.specs.Submit.{IsCurrent}
-use Rattle.nv_core.specs.State.{IsStep, State, world_of}
+use Rattle.std.proofs.Common.{◌≡◌, ◌∙◌, ◌++◌, ◌∷◌, [], List, inr, ap, sym, subst}
 use Rattle.nv_model.specs.declared.reply.Reply.{Reply}
 use Rattle.nv_model.specs.declared.reply.Reply.TheVariants as reply
 use Rattle.nv_plan.specs.declared.job.Job.{Job}
 use Rattle.nv_world.proofs.Steps.{step-logged, step-running}
-use Rattle.nv_world.specs.Mediated.{IsLogged, IsSubmitted, Kept, mediated}
+use Rattle.nv_world.specs.Mediated.{IsSubmitted, Kept, mediated}
 use Rattle.nv_world_model.specs.declared.event.Event.{Event}
 use Rattle.nv_world_model.specs.declared.event.Event.TheVariants as event
 use Rattle.nv_world_model.specs.declared.logged.Logged.{Logged}
