@@ -3,7 +3,7 @@ ghost use Rattle.std.specs.Prelude.{◌≡◌, OnOk};
 ghost use Rattle.nv_world.specs.Mediated.{mediated, opened};
 ghost use Rattle.nv_replay.specs.Shown.{PrintsReplay};
 
-use crate::reply_line::{print_count, print_reply};
+use crate::reply_line::{print_count, print_own_reply};
 use nv_print::CannotWrite;
 use nv_world::World;
 use nv_world_model::Event;
@@ -59,7 +59,7 @@ pub fn run<W: Write>(alloc: Global, replay: Replay, output: &mut W) -> Result<()
     for event in events {
         count += 1;
         let reply = world.step(alloc, event);
-        print_reply(count, &reply, output)?;
+        print_own_reply(count, reply, output)?;
     }
     print_count(count, output)?;
     mem::forget(world);

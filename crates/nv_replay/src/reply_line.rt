@@ -1,8 +1,10 @@
 //! The lines that a run prints.
 ghost use Rattle.std.specs.Prelude.{OnOk};
 ghost use Rattle.std.specs.Io.KnownBytes.{Appends};
+ghost use Rattle.nv_model.specs.declared.reply.Reply.TheVariants as reply;
 ghost use Rattle.nv_replay.specs.Shown.{count_line, reply_line};
 
+use nv_mem::Bytes;
 use nv_model::Reply;
 use nv_print::{CannotWrite, print_dump, print_numbered};
 use std::io::Write;
@@ -13,10 +15,7 @@ pub fn print_reply<W: Write>(number: u64, reply: &Reply, output: &mut W) -> Resu
 {
     match reply {
         Reply::Done => print_numbered(number, b" done\n", output),
-        Reply::Bytes(bytes) => {
-            print_numbered(number, b" bytes ", output)?;
-            print_dump(bytes.as_slice(), output)
-        }
+        Reply::Bytes(bytes) => print_bytes(number, bytes, output),
         Reply::Idle => print_numbered(number, b" idle\n", output),
         Reply::Busy => print_numbered(number, b" busy\n", output),
         Reply::Held => print_numbered(number, b" held\n", output),
@@ -25,6 +24,28 @@ pub fn print_reply<W: Write>(number: u64, reply: &Reply, output: &mut W) -> Resu
         Reply::Ignored => print_numbered(number, b" ignored\n", output),
         Reply::NoMemory => print_numbered(number, b" nomemory\n", output),
     }
+}
+
+/// The same of a reply that is given away: of one without bytes nothing but its word is looked at.
+pub(crate) fn print_own_reply<W: Write>(
+    number: u64,
+    reply: Reply,
+    output: &mut W,
+) -> Result<(), CannotWrite>
+    ensures { OnOk result (Appends (W.contents output.old) (W.contents output.new) (reply_line number reply)) }
+{
+    match reply {
+        Reply::Bytes(bytes) => print_bytes(number, &bytes, output),
+        word => print_reply(number, &word, output),
+    }
+}
+
+// Prints the line of a reply with these bytes.
+fn print_bytes<W: Write>(number: u64, bytes: &Bytes, output: &mut W) -> Result<(), CannotWrite>
+    ensures { OnOk result (Appends (W.contents output.old) (W.contents output.new) (reply_line number (reply.Bytes bytes.now))) }
+{
+    print_numbered(number, b" bytes ", output)?;
+    print_dump(bytes.as_slice(), output)
 }
 
 /// Prints the last line: how many events there were.

@@ -12,36 +12,12 @@ loop-event-init g c =
     let all = given.0 ∙ ap (λ r. r.events) c.replay.view_is in
     (RunsSoFar-none _ _ _ _ kept c.replay.invariant all, search rules, omega (arith, given.2), search rules, search rules)
 
-pub loop-event-preserved-in_ok-print_reply : goal.loop-event-preserved-in_ok-print_reply
-loop-event-preserved-in_ok-print_reply g c =
-    let steps = c.in-Some.ensures.steps in
-    let turn : into_iter_items c.loop-event.event-iterator ≡ c.in-Some.event ∷ into_iter_items c.next.new.self = steps.0 in (
-      RunsSoFar-then _ _ _ _ _ _ _ c.in-Some.event c.step-reply.result _ _
-          c.loop-event.invariant.0 turn c.step-reply.ensures.step c.in_ok-print_reply.ensures,
-      omega (arith, ap length turn, steps.1),
-      omega (arith, steps.1),
-      search rules,
-      search rules,
-    )
-
-pub loop-event-preserved-in_ok-print_reply-2 : goal.loop-event-preserved-in_ok-print_reply-2
-loop-event-preserved-in_ok-print_reply-2 g c =
-    let steps = c.in-Some.ensures.steps in
-    let turn : into_iter_items c.loop-event.event-iterator ≡ c.in-Some.event ∷ into_iter_items c.next.new.self = steps.0 in (
-      RunsSoFar-then _ _ _ _ _ _ _ c.in-Some.event c.step-reply.result _ _
-          c.loop-event.invariant.0 turn c.step-reply.ensures.step c.in_ok-print_reply.ensures,
-      omega (arith, ap length turn, steps.1),
-      omega (arith, steps.1),
-      search rules,
-      search rules,
-    )
-
 pub loop-event-preserved : goal.loop-event-preserved
 loop-event-preserved g c =
     let steps = c.in-Some.ensures.steps in
     let turn : into_iter_items c.loop-event.event-iterator ≡ c.in-Some.event ∷ into_iter_items c.next.new.self = steps.0 in (
       RunsSoFar-then _ _ _ _ _ _ _ c.in-Some.event c.step-reply.result _ _
-          c.loop-event.invariant.0 turn c.step-reply.ensures.step c.in_ok-print_reply.ensures,
+          c.loop-event.invariant.0 turn c.step-reply.ensures.step c.in_ok-print_own_reply.ensures,
       omega (arith, ap length turn, steps.1),
       omega (arith, steps.1),
       search rules,
