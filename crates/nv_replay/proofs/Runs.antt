@@ -3,6 +3,7 @@ use Rattle.std.proofs.Common.{◌≡◌, ℕ, ◌+◌, List, [], ◌∷◌, ◌+
 use Rattle.std.proofs.lemmas.List.{append-nil}
 use Rattle.std.specs.Io.KnownBytes.{Appends}
 use Rattle.nv_model.specs.declared.reply.Reply.{Reply}
+use Rattle.nv_model.specs.declared.reply.Reply.TheVariants as reply
 use Rattle.nv_print.proofs.Growing.{Appends-nothing, Appends-then}
 use Rattle.nv_world.specs.Mediated.{IsStepped, Mediated, opened}
 use Rattle.nv_world_model.specs.Geometry.{Geometry}
@@ -10,7 +11,7 @@ use Rattle.nv_world_model.specs.SetUp.{SetUp, world_at_start}
 use Rattle.nv_world_model.specs.World.{World}
 use Rattle.nv_world_model.specs.declared.event.Event.{Event}
 use Rattle.nv_replay.specs.Opening.{ReplayValue}
-use Rattle.nv_replay.specs.Shown.{AreAnswered, IsAnswered, PrintsReplay, count_line, reply_line, reply_lines, shown}
+use Rattle.nv_replay.specs.Shown.{AreAnswered, IsAnswered, PrintsReplay, PrintsStep, count_line, reply_line, reply_lines, shown}
 
 -- the line of one more reply
 pub reply_lines-then : (n : ℕ) (replies : List Reply) (reply : Reply)
@@ -57,6 +58,12 @@ IsStepped-answers : (set_up : SetUp) (event : Event) (old new : Mediated) (reply
     → IsAnswered set_up.geometry old.world event reply new.world × (new.setup ≡ set_up)
 IsStepped-answers set_up event old new reply kept (inl (none, same)) = (inl (none, ap (λ m. m.world) same), ap (λ r. r.setup) same ∙ kept)
 IsStepped-answers set_up event old new reply kept (inr done) = (inr (rw (← kept) done.after), done.setup ∙ kept)
+
+-- an event for which there was no memory has that line
+pub PrintsStep-none : {E : Type 0} → (n : ℕ) (e : Event) (old new : Mediated) (u v : Option (List ℕ)) (r : Result (Unit {0}) E)
+    → new ≡ old → OnOk r (Appends u v (reply_line n reply.NoMemory)) → OnOk r (PrintsStep n e old new u v)
+PrintsStep-none n e old new u v (Err error) same line = tt
+PrintsStep-none n e old new u v (Ok x) same line = (reply.NoMemory, inl (refl, same), line)
 
 -- an output has grown by the lines of so many replies, and these answer the events before those that are left
 pub record RunsSoFar (replay : ReplayValue) (u v : Option (List ℕ)) (count : ℕ) (now : Mediated) (left : List Event) : Type 0 where

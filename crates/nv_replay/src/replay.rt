@@ -1,9 +1,11 @@
 //! A world that is put through events.
 ghost use Rattle.std.specs.Prelude.{◌≡◌, OnOk};
 ghost use Rattle.nv_world.specs.Mediated.{mediated, opened};
-ghost use Rattle.nv_replay.specs.Shown.{PrintsReplay};
+ghost use Rattle.nv_replay.specs.Shown.{PrintsReplay, PrintsStep};
 
-use crate::reply_line::{print_count, print_own_reply};
+use crate::reply_line::{print_count, print_reply};
+use nv_mem::NoMemory;
+use nv_model::Reply;
 use nv_print::CannotWrite;
 use nv_world::World;
 use nv_world_model::Event;
@@ -58,10 +60,28 @@ pub fn run<W: Write>(alloc: Global, replay: Replay, output: &mut W) -> Result<()
     let mut count = 0;
     for event in events {
         count += 1;
-        let reply = world.step(alloc, event);
-        print_own_reply(count, reply, output)?;
+        step(alloc, &mut world, count, event, output)?;
     }
     print_count(count, output)?;
     mem::forget(world);
     Ok(())
+}
+
+// Carries out an event, and prints the line of its reply, which is read where it stands in the log.
+fn step<W: Write>(
+    alloc: Global,
+    world: &mut World,
+    number: u64,
+    event: Event,
+    output: &mut W,
+) -> Result<(), CannotWrite>
+    ensures { OnOk result (PrintsStep number event (mediated world.old) (mediated world.new) (W.contents output.old) (W.contents output.new)) }
+{
+    if let Err(NoMemory) = world.advance(alloc, event) {
+        return print_reply(number, &Reply::NoMemory, output);
+    }
+    let Some((logged, _earlier)) = world.log().split_last() else {
+        unreachable!()
+    };
+    print_reply(number, &logged.reply, output)
 }

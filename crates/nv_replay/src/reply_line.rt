@@ -26,20 +26,6 @@ pub fn print_reply<W: Write>(number: u64, reply: &Reply, output: &mut W) -> Resu
     }
 }
 
-/// The same of a reply that is given away: of one without bytes nothing but its word is looked at.
-pub(crate) fn print_own_reply<W: Write>(
-    number: u64,
-    reply: Reply,
-    output: &mut W,
-) -> Result<(), CannotWrite>
-    ensures { OnOk result (Appends (W.contents output.old) (W.contents output.new) (reply_line number reply)) }
-{
-    match reply {
-        Reply::Bytes(bytes) => print_bytes(number, &bytes, output),
-        word => print_reply(number, &word, output),
-    }
-}
-
 // Prints the line of a reply with these bytes.
 fn print_bytes<W: Write>(number: u64, bytes: &Bytes, output: &mut W) -> Result<(), CannotWrite>
     ensures { OnOk result (Appends (W.contents output.old) (W.contents output.new) (reply_line number (reply.Bytes bytes.now))) }

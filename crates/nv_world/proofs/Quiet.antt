@@ -1,5 +1,5 @@
 -- An event that tells bytes changes nothing, but for a read of a list.
-use Rattle.std.proofs.Common.{◌≡◌, ℕ, Bool, true, false, ◌&&◌, inl, inr, List, [], ◌∷◌, Option, Some, None, refl, sym, subst, ap, ◌∙◌}
+use Rattle.std.proofs.Common.{◌≡◌, ◌≢◌, ℕ, Bool, true, false, ◌&&◌, inl, inr, List, [], ◌∷◌, Option, Some, None, refl, sym, ap, ◌∙◌}
 use Rattle.std.specs.Prelude.{Err, IsSome, Ok, OnErr, Result}
 use Rattle.nv_core.specs.Seat.{bytes_told}
 use Rattle.nv_core.specs.State.{IsStep, State, world_of}
@@ -8,7 +8,6 @@ use Rattle.nv_model.specs.declared.act.Act.{Act}
 use Rattle.nv_model.specs.declared.reply.Reply.{Reply}
 use Rattle.nv_model.specs.declared.reply.Reply.TheVariants as reply
 use Rattle.nv_world.specs.Mediated.{IsUnchanged}
-use Rattle.nv_world.specs.Told.{IsAgain}
 use Rattle.nv_world_model.proofs.Replies.{step-answers}
 use Rattle.nv_world_model.specs.declared.event.Event.{Event}
 use Rattle.nv_world_model.specs.declared.event.Event.TheVariants as event
@@ -17,6 +16,10 @@ use Rattle.nv_world_model.specs.Laws.{IsAmong}
 use Rattle.nv_world_model.specs.Seat.{Owner, owner_of, seat}
 use Rattle.nv_world_model.specs.Step.{After, act_put_back, acted_in, for_guest, step}
 use Rattle.nv_world_model.specs.World.{World}
+
+-- any event but a read of a list
+abbrev pub IsNoList : Event → Type 0
+IsNoList e = (lane tag addr len : ℕ) → e ≢ event.List lane tag addr len
 
 -- replies without bytes
 abbrev is_plain : Option (List ℕ) → Bool
@@ -66,41 +69,40 @@ module _ (geometry : Geometry) (w : World) (bytes : List ℕ) where
       → (step geometry e w).world ≡ w
   not-told xs e plain is told = among-plain xs (step geometry e w).reply bytes plain is told
 
-  same-behind : (e : Event) → IsAgain e (step geometry e w).reply None → bytes_told (step geometry e w).reply ≡ Some bytes → (step geometry e w).world ≡ w
+  same-behind : (e : Event) → IsNoList e → bytes_told (step geometry e w).reply ≡ Some bytes → (step geometry e w).world ≡ w
   unfolding step
-  same-behind (event.Guest guest a) is told = act-same geometry a (owner_of geometry w guest) w bytes told
-  same-behind (event.Admin guest) is told =
+  same-behind (event.Guest guest a) other told = act-same geometry a (owner_of geometry w guest) w bytes told
+  same-behind (event.Admin guest) other told =
       not-told (reply.Done ∷ reply.Idle ∷ reply.Held ∷ reply.Ignored ∷ []) (event.Admin guest) refl (step-answers geometry (event.Admin guest) w).may told
-  same-behind (event.Take guest queue lane) is told =
+  same-behind (event.Take guest queue lane) other told =
       not-told (reply.Done ∷ reply.Idle ∷ reply.Busy ∷ reply.Ignored ∷ []) (event.Take guest queue lane) refl (step-answers geometry (event.Take guest queue lane) w).may told
-  same-behind (event.List lane tag addr len) is told = (let no : None ≡ Some bytes = is ∙ told in cc)
-  same-behind (event.Submit lane tag) is told =
+  same-behind (event.List lane tag addr len) other told = absurd (other lane tag addr len refl)
+  same-behind (event.Submit lane tag) other told =
       not-told (reply.Done ∷ reply.Stale ∷ reply.Ignored ∷ []) (event.Submit lane tag) refl (step-answers geometry (event.Submit lane tag) w).may told
-  same-behind (event.GiveUp lane tag) is told =
+  same-behind (event.GiveUp lane tag) other told =
       not-told (reply.Done ∷ reply.Stale ∷ reply.Ignored ∷ []) (event.GiveUp lane tag) refl (step-answers geometry (event.GiveUp lane tag) w).may told
-  same-behind (event.DevTake lane) is told =
+  same-behind (event.DevTake lane) other told =
       not-told (reply.Done ∷ reply.Idle ∷ reply.Ignored ∷ []) (event.DevTake lane) refl (step-answers geometry (event.DevTake lane) w).may told
-  same-behind (event.DevMove lane slot number) is told =
+  same-behind (event.DevMove lane slot number) other told =
       not-told (reply.Done ∷ reply.Idle ∷ reply.Ignored ∷ []) (event.DevMove lane slot number) refl (step-answers geometry (event.DevMove lane slot number) w).may told
-  same-behind (event.DevPost lane slot) is told =
+  same-behind (event.DevPost lane slot) other told =
       not-told (reply.Done ∷ reply.Idle ∷ reply.Ignored ∷ []) (event.DevPost lane slot) refl (step-answers geometry (event.DevPost lane slot) w).may told
-  same-behind (event.DevFail lane slot st) is told =
+  same-behind (event.DevFail lane slot st) other told =
       not-told (reply.Done ∷ reply.Idle ∷ reply.Ignored ∷ []) (event.DevFail lane slot st) refl (step-answers geometry (event.DevFail lane slot st) w).may told
-  same-behind (event.Keep block) is told =
+  same-behind (event.Keep block) other told =
       not-told (reply.Done ∷ reply.Idle ∷ []) (event.Keep block) refl (step-answers geometry (event.Keep block) w).may told
-  same-behind (event.Reap lane) is told =
+  same-behind (event.Reap lane) other told =
       not-told (reply.Done ∷ reply.Idle ∷ reply.Ignored ∷ []) (event.Reap lane) refl (step-answers geometry (event.Reap lane) w).may told
-  same-behind (event.Post lane tag) is told =
+  same-behind (event.Post lane tag) other told =
       not-told (reply.Done ∷ reply.Stale ∷ reply.Held ∷ reply.Ignored ∷ []) (event.Post lane tag) refl (step-answers geometry (event.Post lane tag) w).may told
 
 -- so nothing is to be undone where its bytes can't be kept
-pub unchanged : (geometry : Geometry) (e : Event) (old new : State) (r : Reply) (bytes : List ℕ) → IsStep geometry e old r new
-    → IsAgain e r None → bytes_told r ≡ Some bytes → IsUnchanged old new
-unchanged geometry e old new r bytes is again told =
+unchanged : (geometry : Geometry) (e : Event) (old new : State) (r : Reply) (bytes : List ℕ) → IsStep geometry e old r new
+    → IsNoList e → bytes_told r ≡ Some bytes → IsUnchanged old new
+unchanged geometry e old new r bytes is other told =
     let same : r ≡ (step geometry e (world_of old)).reply = ap (λ (a : After). a.reply) is.after in
     record {
-      world = ap (λ (a : After). a.world) is.after
-          ∙ same-behind geometry (world_of old) bytes e (subst (λ (x : Reply). IsAgain e x None) same again) (ap bytes_told (sym same) ∙ told);
+      world = ap (λ (a : After). a.world) is.after ∙ same-behind geometry (world_of old) bytes e other (ap bytes_told (sym same) ∙ told);
       size = is.size;
     }
 
@@ -108,29 +110,12 @@ told-some : (o : Option (List ℕ)) → IsSome o → (bytes : List ℕ) × (o �
 told-some None some = cc
 told-some (Some bytes) some = (bytes, refl)
 
-pub unchanged-told : (geometry : Geometry) (e : Event) (old new : State) (r : Reply) (again : Option (List ℕ)) → IsStep geometry e old r new
-    → IsAgain e r again → again ≡ None → IsSome (bytes_told r) → IsUnchanged old new
-unchanged-told geometry e old new r again is told none some =
-    let bytes = told-some (bytes_told r) some in
-    unchanged geometry e old new r bytes.0 is (subst (IsAgain e r) none told) bytes.1
+pub unchanged-told : (geometry : Geometry) (e : Event) (old new : State) (r : Reply) → IsStep geometry e old r new → IsNoList e → IsSome (bytes_told r)
+    → IsUnchanged old new
+unchanged-told geometry e old new r is other some =
+    let bytes = told-some (bytes_told r) some in unchanged geometry e old new r bytes.0 is other bytes.1
 
 -- whatever the error
 pub on-err : {T E : Type 0} (r : Result T E) (P : Type 0) → P → OnErr r P
 on-err (Ok x) P p = tt
 on-err (Err e) P p = p
-
--- what comes once more is the reply's bytes
-pub again-told : (e : Event) (r : Reply) (bytes : List ℕ) → IsAgain e r (Some bytes) → bytes_told r ≡ Some bytes
-again-told (event.Guest guest a) r bytes is = cc
-again-told (event.Admin guest) r bytes is = cc
-again-told (event.Take guest queue lane) r bytes is = cc
-again-told (event.List lane tag addr len) r bytes is = sym is
-again-told (event.Submit lane tag) r bytes is = cc
-again-told (event.GiveUp lane tag) r bytes is = cc
-again-told (event.DevTake lane) r bytes is = cc
-again-told (event.DevMove lane slot number) r bytes is = cc
-again-told (event.DevPost lane slot) r bytes is = cc
-again-told (event.DevFail lane slot st) r bytes is = cc
-again-told (event.Keep block) r bytes is = cc
-again-told (event.Reap lane) r bytes is = cc
-again-told (event.Post lane tag) r bytes is = cc

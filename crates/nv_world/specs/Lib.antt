@@ -1,3 +1,2 @@
 pub mod Mediated
 pub mod Refused
-pub mod Told

@@ -40,6 +40,10 @@ pub record IsLogged (e : Event) (old : Mediated) (r : Reply) (new : Mediated) : 
 abbrev pub IsStepped : Event → (old : Mediated) → Reply → (new : Mediated) → Type 0
 IsStepped e old r new = (r ≡ reply.NoMemory) × (new ≡ old) ⊎ IsLogged e old r new
 
+-- the event was carried out, whatever its reply
+abbrev pub IsAdvanced : Event → (old new : Mediated) → Type 0
+IsAdvanced e old new = (r : Reply) × IsLogged e old r new
+
 -- a plan that was made elsewhere was the Submit of its tag, where it was made of what stands; or nothing has changed
 abbrev pub IsSubmitted : MadePlan → (old : Mediated) → Reply → (new : Mediated) → Type 0
 IsSubmitted plan old r new =

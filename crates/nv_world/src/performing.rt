@@ -5,17 +5,16 @@ ghost use Rattle.nv_core.specs.State.{IsOf, IsStep, world_of};
 ghost use Rattle.nv_laws_others.specs.Alike.{HasFittingStatus};
 ghost use Rattle.nv_laws_sound.specs.Counted.{IsCounted};
 ghost use Rattle.nv_world.specs.Mediated.{CanCount, IsUnchanged};
-ghost use Rattle.nv_world.specs.Told.{IsAgain};
 
 use crate::copies;
 use nv_core::{Core, Layout};
-use nv_mem::{Bytes, NoMemory};
+use nv_mem::NoMemory;
 use nv_model::Reply;
 use nv_world_model::Event;
 use std::alloc::Global;
 
 /// Carries out an event. Its reply comes twice, once for the log. Where no memory is left, nothing has changed.
-pub(crate) fn perform(
+pub(crate) fn perform_twice(
     alloc: Global,
     layout: &Layout,
     core: &mut Core,
@@ -28,8 +27,13 @@ pub(crate) fn perform(
     ensures logged { IfOk result (λ told. told.1 ≡ told.0) }
     ensures err { OnErr result (IsUnchanged core.old core.new) }
 {
-    let (reply, again) = carry_out(alloc, layout, core, event)?;
-    let told = copies::twice(alloc, reply, again)?;
+    if let Event::List(lane, tag, addr, len) = event {
+        let (reply, again) = core.list(alloc, layout, *lane, *tag, *addr, *len)?;
+        let told = copies::twice(alloc, reply, again)?;
+        return Ok(told);
+    }
+    let reply = perform(alloc, layout, core, event)?;
+    let told = copies::twice(alloc, reply, None)?;
     Ok(told)
 }
 
@@ -43,37 +47,35 @@ pub(crate) fn known(event: &Event)
     }
 }
 
-// Carries out an event. Where it changes something and has bytes for a reply, these come once more.
-fn carry_out(
+/// Carries out an event. Where no memory is left, nothing has changed.
+pub(crate) fn perform(
     alloc: Global,
     layout: &Layout,
     core: &mut Core,
     event: &Event,
-) -> Result<(Reply, Option<Bytes>), NoMemory>
+) -> Result<Reply, NoMemory>
     requires of { IsOf layout.now core.old }
     requires counted { IsCounted layout.now (world_of core.old) }
     requires can_count { CanCount core.old }
-    ensures step { IfOk result (λ told. IsStep layout.now event.now core.old told.0 core.new) }
-    ensures again { IfOk result (λ told. IsAgain event.now told.0 told.1) }
+    ensures step { IfOk result (λ reply. IsStep layout.now event.now core.old reply core.new) }
     ensures err { OnErr result (core.new ≡ core.old) }
 {
-    let reply = match event {
-        Event::Guest(guest, act) => core.act(alloc, layout, *guest, act)?,
-        Event::Admin(guest) => core.admin(layout, *guest),
-        Event::Take(guest, queue, lane) => core.take(alloc, layout, *guest, *queue, *lane),
+    match event {
+        Event::Guest(guest, act) => core.act(alloc, layout, *guest, act),
+        Event::Admin(guest) => Ok(core.admin(layout, *guest)),
+        Event::Take(guest, queue, lane) => Ok(core.take(alloc, layout, *guest, *queue, *lane)),
         Event::List(lane, tag, addr, len) => {
-            let told = core.list(alloc, layout, *lane, *tag, *addr, *len)?;
-            return Ok(told);
+            let (reply, _again) = core.list(alloc, layout, *lane, *tag, *addr, *len)?;
+            Ok(reply)
         }
-        Event::Submit(lane, tag) => core.submit(alloc, layout, *lane, *tag)?,
-        Event::GiveUp(lane, tag) => core.give_up(layout, *lane, *tag),
-        Event::DevTake(lane) => core.dev_take(alloc, layout, *lane)?,
-        Event::DevMove(lane, slot, number) => core.dev_move(layout, *lane, *slot, *number),
-        Event::DevPost(lane, slot) => core.dev_post(layout, *lane, *slot),
-        Event::DevFail(lane, slot, status) => core.dev_fail(layout, *lane, *slot, *status),
-        Event::Keep(block) => core.keep(layout, *block),
-        Event::Reap(lane) => core.reap(layout, *lane),
-        Event::Post(lane, tag) => core.post(layout, *lane, *tag),
-    };
-    Ok((reply, None))
+        Event::Submit(lane, tag) => core.submit(alloc, layout, *lane, *tag),
+        Event::GiveUp(lane, tag) => Ok(core.give_up(layout, *lane, *tag)),
+        Event::DevTake(lane) => core.dev_take(alloc, layout, *lane),
+        Event::DevMove(lane, slot, number) => Ok(core.dev_move(layout, *lane, *slot, *number)),
+        Event::DevPost(lane, slot) => Ok(core.dev_post(layout, *lane, *slot)),
+        Event::DevFail(lane, slot, status) => Ok(core.dev_fail(layout, *lane, *slot, *status)),
+        Event::Keep(block) => Ok(core.keep(layout, *block)),
+        Event::Reap(lane) => Ok(core.reap(layout, *lane)),
+        Event::Post(lane, tag) => Ok(core.post(layout, *lane, *tag)),
+    }
 }

@@ -46,13 +46,13 @@ impl World {
     {
         replies.reserve(events.len())?;
         for event in events {
-            replies.push_reserved(self.step_once(alloc, event));
+            replies.push_reserved(self.step_lent(alloc, event));
         }
         Ok(())
     }
 
     // Carries out an event that is lent.
-    fn step_once(&mut self, alloc: Global, event: &Event) -> Reply
+    fn step_lent(&mut self, alloc: Global, event: &Event) -> Reply
         ensures { IsStepped event.now (mediated self.old) result (mediated self.new) }
     {
         let Ok(event) = copies::event(alloc, event) else {

@@ -1,10 +1,11 @@
 //! Steps of the world.
 
-ghost use Rattle.std.specs.Prelude.{◌≡◌};
-ghost use Rattle.nv_world.specs.Mediated.{IsContained, IsStepped, KeepsPromise, mediated};
+ghost use Rattle.std.specs.Prelude.{◌≡◌, OnErr, OnOk};
+ghost use Rattle.nv_world.specs.Mediated.{IsAdvanced, IsContained, IsStepped, KeepsPromise, mediated};
 
 use crate::performing;
 use crate::world::World;
+use nv_mem::NoMemory;
 use nv_model::Reply;
 use nv_world_model::{Event, Logged};
 use std::alloc::Global;
@@ -18,21 +19,40 @@ impl World {
         ensures contained { IsContained self.new }
         ensures promise { KeepsPromise self.new }
     {
-        let reply = self.advance(alloc, event);
+        let reply = self.step_twice(alloc, event);
         // With the log comes what is known of its steps.
         let _log = self.log();
         reply
     }
 
-    // The step itself.
-    fn advance(&mut self, alloc: Global, event: Event) -> Reply
+    /// Carries out an event and logs it with its reply, which stands last in the log then, and nowhere else: nothing of it is copied.
+    ///
+    /// Each step in the log is contained: it reads and changes nothing of a guest but its owner's.
+    ///
+    /// # Errors
+    ///
+    /// There was no memory for it. Nothing has changed, the log neither.
+    pub fn advance(&mut self, alloc: Global, event: Event) -> Result<(), NoMemory>
+        ensures ok { OnOk result (IsAdvanced event (mediated self.old) (mediated self.new)) }
+        ensures err { OnErr result (mediated self.new ≡ mediated self.old) }
+        ensures contained { IsContained self.new }
+        ensures promise { KeepsPromise self.new }
+    {
+        let ended = self.step_once(alloc, event);
+        // With the log comes what is known of its steps.
+        let _log = self.log();
+        ended
+    }
+
+    // The step itself, with its reply for the log and for the caller.
+    fn step_twice(&mut self, alloc: Global, event: Event) -> Reply
         ensures { IsStepped event (mediated self.old) result (mediated self.new) }
     {
         performing::known(&event);
         if self.log.reserve(1).is_err() {
             return Reply::NoMemory;
         }
-        let told = performing::perform(alloc, &self.layout, &mut self.core, &event);
+        let told = performing::perform_twice(alloc, &self.layout, &mut self.core, &event);
         let Ok((reply, logged)) = told else {
             return Reply::NoMemory;
         };
@@ -41,5 +61,17 @@ impl World {
             reply: logged,
         });
         reply
+    }
+
+    // The step itself, with its reply for the log alone.
+    fn step_once(&mut self, alloc: Global, event: Event) -> Result<(), NoMemory>
+        ensures ok { OnOk result (IsAdvanced event (mediated self.old) (mediated self.new)) }
+        ensures err { OnErr result (mediated self.new ≡ mediated self.old) }
+    {
+        performing::known(&event);
+        self.log.reserve(1)?;
+        let reply = performing::perform(alloc, &self.layout, &mut self.core, &event)?;
+        self.log.push_reserved(Logged { event, reply });
+        Ok(())
     }
 }

@@ -16,8 +16,8 @@ pub loop-event-preserved : goal.loop-event-preserved
 loop-event-preserved g c =
     let steps = c.in-Some.ensures.steps in
     let turn : into_iter_items c.loop-event.event-iterator ≡ c.in-Some.event ∷ into_iter_items c.next.new.self = steps.0 in (
-      RunsSoFar-then _ _ _ _ _ _ _ c.in-Some.event c.step-reply.result _ _
-          c.loop-event.invariant.0 turn c.step-reply.ensures.step c.in_ok-print_own_reply.ensures,
+      RunsSoFar-then _ _ _ _ _ _ _ c.in-Some.event c.in_ok-step.ensures.0 _ _
+          c.loop-event.invariant.0 turn c.in_ok-step.ensures.1 c.in_ok-step.ensures.2,
       omega (arith, ap length turn, steps.1),
       omega (arith, steps.1),
       search rules,

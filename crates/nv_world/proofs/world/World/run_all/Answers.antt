@@ -22,8 +22,8 @@ loop-event-preserved c =
     let capacity = c.push_reserved.ensures.capacity in
     record {
       answered =
-          answered-more c.args.events.now c.loop-event.event-index c.event-item.result (mediated c.args.self.now) (mediated c.loop-event.self) (mediated c.step_once.new.self)
-          c.args.replies.now.items c.loop-event.replies.items c.push_reserved.new.self.items c.step_once.result c.loop-event-test.true c.event-item.is
-          c.loop-event.invariant.answered c.step_once.ensures c.push_reserved.ensures.items;
+          answered-more c.args.events.now c.loop-event.event-index c.event-item.result (mediated c.args.self.now) (mediated c.loop-event.self) (mediated c.step_lent.new.self)
+          c.args.replies.now.items c.loop-event.replies.items c.push_reserved.new.self.items c.step_lent.result c.loop-event-test.true c.event-item.is
+          c.loop-event.invariant.answered c.step_lent.ensures c.push_reserved.ensures.items;
       room = omega (arith, room, len, capacity);
     }
