@@ -22,3 +22,4 @@ pub mod RowsShown
 pub mod RowsSteps
 pub mod RowsSmall
 pub mod RowsWrong
+pub mod RowsAlone

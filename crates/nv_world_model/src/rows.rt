@@ -15,4 +15,5 @@ pub mod rings;
 pub mod set_ups;
 pub mod two_guests;
 pub mod views;
+pub mod wrong_alone;
 pub mod wrong_steps;

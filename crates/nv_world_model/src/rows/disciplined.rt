@@ -3,9 +3,9 @@
 ghost use Rattle.std.specs.Prelude.{◌≡◌, [], ◌∷◌, ◌++◌, true, false};
 ghost use Rattle.nv_model.specs.declared.act.Act.TheVariants as act;
 ghost use Rattle.nv_model.specs.Rows.{block_range, by_sgl, data_block, first_example};
-ghost use Rattle.nv_world_model.specs.Rows.{in_device, moves, one_command, two_at_once, two_commands, whole};
+ghost use Rattle.nv_world_model.specs.Rows.{behind, in_device, moves, one_command, two_at_once, two_commands, whole};
 ghost use Rattle.nv_world_model.specs.RowsSteps.{awaited_behind, keeps_to_it, read_named_twice, two_rung, writes_by_one_list};
-ghost use Rattle.nv_world_model.specs.RowsWorlds.{list_whole, two_ranges};
+ghost use Rattle.nv_world_model.specs.RowsWorlds.{list_whole, two_lanes, two_ranges};
 ghost use Rattle.nv_world_model.specs.declared.event.Event.TheVariants as event;
 
 /// The examples of this module, a clause each.
@@ -47,6 +47,9 @@ pub fn examples()
     ensures two_reads_into_one_buffer { keeps_to_it [] (two_rung first_example first_example) ≡ false }
     // One of which is taken.
     ensures one_of_them_is_taken { keeps_to_it (event.Take 0 1 0 ∷ []) (two_rung first_example first_example) ≡ false }
+    // Which end with a reset: the states on the way count, and not the last alone.
+    ensures they_end_with_a_reset { keeps_to_it (event.Guest 0 (act.RegWrite 0x14 0x00460000) ∷ []) (two_rung first_example first_example) ≡ false }
+    ensures behind_the_reset_nothing_is_rung { keeps_to_it [] (behind (event.Guest 0 (act.RegWrite 0x14 0x00460000) ∷ []) (two_rung first_example first_example) (λ w. w)) ≡ true }
     // Two Reads into buffers side by side.
     ensures two_reads_apart { keeps_to_it [] (two_rung first_example (by_sgl 0x02 6 0 (data_block 0x3200 512))) ≡ true }
     // Two Writes that share their source.
@@ -78,6 +81,8 @@ pub fn examples()
     ensures nothing_is_awaited_before { awaited_behind [] (one_command first_example) (0x3000 ∷ []) ≡ false ∷ [] }
     // Nor behind its completion.
     ensures nothing_is_awaited_behind_the_completion { awaited_behind (whole 1) (one_command first_example) (0x3000 ∷ []) ≡ false ∷ [] }
+    // On another lane too.
+    ensures what_another_lane_has_is_awaited { awaited_behind (event.Take 0 1 1 ∷ event.Submit 1 0 ∷ []) (two_lanes first_example) (0x3000 ∷ 0x3200 ∷ []) ≡ true ∷ false ∷ [] }
     // No source is.
     ensures no_source_is_awaited { awaited_behind in_device (one_command (by_sgl 0x01 5 0 (data_block 0x3000 512))) (0x3000 ∷ []) ≡ false ∷ [] }
 {}

@@ -30,6 +30,9 @@ pub fn examples()
         (one_command first_example)) (one_command first_example) ≡ false }
     ensures failures_that_are_not { none_failed set_up 0 (logged (in_device ++ event.DevFail 0 0 (record { sct = 0; sc = 0; dnr = true })
         ∷ event.DevFail 0 5 (record { sct = 2; sc = 0x81; dnr = false }) ∷ []) (one_command first_example)) (one_command first_example) ≡ true }
+    // Another guest's failure is not this one's.
+    ensures anothers_failure { none_failed set_up 1 (logged (in_device ++ event.DevFail 0 0 (record { sct = 2; sc = 0x81; dnr = false }) ∷ [])
+        (one_command first_example)) (one_command first_example) ≡ true }
     // A Compare that differs.
     ensures a_compare_that_differs { behind (whole 1) (one_command (by_sgl 0x05 5 0 (data_block 0x3000 512))) (host_number 0x11200c 4) ≡ 0x050b0007 }
     // A refused command ends at Submit, with nothing handed on.

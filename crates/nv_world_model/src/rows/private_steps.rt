@@ -1,14 +1,15 @@
 //! The steps of a guest's private controller that events of the world stand for.
 
-ghost use Rattle.std.specs.Prelude.{◌≡◌, [], ◌∷◌, ◌++◌, Some, is_some, false, map};
+ghost use Rattle.std.specs.Prelude.{◌≡◌, [], ◌∷◌, ◌++◌, Some, None, is_some, false, map};
 ghost use Rattle.std.specs.List.{range_with_len};
 ghost use Rattle.nv_model.specs.declared.act.Act.TheVariants as act;
 ghost use Rattle.nv_model.specs.declared.reply.Reply.TheVariants as reply;
-ghost use Rattle.nv_model.specs.Private.{ActStep, GiveUpStep, JudgeStep, KeepStep, MoveStep, PostStep, RunOutStep, TakeStep};
+ghost use Rattle.nv_model.specs.Private.{ActStep, GiveUpStep, JudgeStep, KeepStep, MoveStep, PostStep, RunOutStep, TakeStep, run_of};
 ghost use Rattle.nv_model.specs.Rows.{block_range, by_sgl, data_block, first_example};
 ghost use Rattle.nv_model.specs.RowsRuns.{flush_of};
+ghost use Rattle.nv_world_model.specs.Geometry.{shape_of};
 ghost use Rattle.nv_world_model.specs.Rows.{behind, completed, in_device, moves, one_command, two_at_once, two_commands, whole};
-ghost use Rattle.nv_world_model.specs.RowsSteps.{at_end, first_run, first_steps, first_steps_of, private_bytes, second_steps};
+ghost use Rattle.nv_world_model.specs.RowsSteps.{at_end, first_run, first_seat, first_steps, first_steps_of, private_bytes, second_steps};
 ghost use Rattle.nv_world_model.specs.RowsWorlds.{by_second_lane, list_in_device, list_whole, read_apart, two_lanes, two_ranges};
 ghost use Rattle.nv_world_model.specs.PrivateSteps.{steps_of};
 ghost use Rattle.nv_world_model.specs.RowsShown.{first_guest};
@@ -68,6 +69,12 @@ pub fn examples()
     // Where the device fails a command before its units have moved, the private controller has no such run.
     ensures a_failure_is_no_run { is_some (first_run (in_device ++ event.DevFail 0 0 (record { sct = 2; sc = 0x81; dnr = false }) ∷ event.Reap 0 ∷ event.Post 0 0 ∷ []) (one_command first_example))
         ≡ false }
+    // A private controller has its guest's limit: a list of two descriptors, and the Read's own, go with a limit of 3, and not with one of 2.
+    ensures a_private_controller_has_the_guests_limit { map (λ limit. at_end (run_of (shape_of (record first_guest { limit = limit }))
+        (TakeStep 1 0 ∷ JudgeStep 0 ∷ MoveStep 0 0 ∷ MoveStep 0 1 ∷ PostStep 0 ∷ []) (first_seat (read_apart 0x3000 0x8000))) (private_bytes 0x1200e 2)) (3 ∷ 2 ∷ [])
+        ≡ Some (0x01 ∷ 0x00 ∷ []) ∷ None ∷ [] }
+    ensures a_list_past_it_is_an_internal_error { at_end (run_of (shape_of (record first_guest { limit = 2 })) (TakeStep 1 0 ∷ JudgeStep 0 ∷ PostStep 0 ∷ [])
+        (first_seat (read_apart 0x3000 0x8000))) (private_bytes 0x1200e 2) ≡ Some (0x0d ∷ 0x00 ∷ []) }
     // A command with a list that is longer than its guest may have ends at its judgement, as any refused one: it is not given up.
     ensures a_list_that_is_too_long_is_judged { behind (event.Take 0 1 0 ∷ []) (read_apart 0x3000 0x8000)
         (λ z. steps_of 0 (record first_guest { limit = 1 }) z (event.Submit 0 0) reply.Done) ≡ JudgeStep 0 ∷ [] }

@@ -3,9 +3,10 @@
 ghost use Rattle.std.specs.Prelude.{◌≡◌, [], ◌∷◌, ◌++◌, replicate, slice_get, Some, None, is_some, true, false};
 ghost use Rattle.nv_mem.specs.declared.piece.Piece.TheVariants as piece;
 ghost use Rattle.nv_model.specs.Controller.{opening};
+ghost use Rattle.nv_model.specs.Rows.{block_range, first_example};
 ghost use Rattle.nv_world_model.specs.Rows.{host_number, in_device, moves, one_command, two_commands, whole};
 ghost use Rattle.nv_world_model.specs.RowsShown.{both_in_device, both_shared, bounced_write, cut_to_first, first_flying, first_shown, first_took, held_pieces, second_shown, span};
-ghost use Rattle.nv_world_model.specs.RowsWorlds.{list_in_device, marks_at, paged_read, read_apart};
+ghost use Rattle.nv_world_model.specs.RowsWorlds.{list_in_device, marks_at, paged_read, read_apart, two_lanes, two_ranges};
 ghost use Rattle.nv_world_model.specs.Seat.{held_in};
 ghost use Rattle.nv_world_model.specs.View.{shared_numbers};
 ghost use Rattle.nv_world_model.specs.World.{Free, Taken, tag_of};
@@ -24,6 +25,10 @@ pub fn examples()
         ≡ span 0x403000 16 ∷ [] }
     // Of a bounced Write in the device, its source.
     ensures a_source_is_shown { first_shown in_device bounced_write ≡ span 0x403000 0 ∷ span 0x404000 512 ∷ [] }
+    // Of a Dataset Management its ranges.
+    ensures ranges_are_shown { first_shown (list_in_device 0x3000 32) (two_ranges (block_range 5 2) (block_range 0 1)) ≡ span 0x403000 0 ∷ span 0x404000 32 ∷ [] }
+    // Of a command on another lane what stands in that lane's pages.
+    ensures another_lanes_pages_are_shown { first_shown (event.Take 0 1 1 ∷ event.Submit 1 0 ∷ []) (two_lanes first_example) ≡ span 0xc43000 64 ∷ span 0xc46000 0 ∷ [] }
     // Of a bounced Read in the device, nothing before a unit has moved.
     ensures no_block_is_shown_before_it_moves { first_shown (list_in_device 0x6000 32) (read_apart 0x3e00 0x5200) ≡ span 0x403000 0 ∷ [] }
     // Then the blocks that have, here the second of two.

@@ -1,4 +1,6 @@
 use Rattle.std.proofs.Common.{◌≡◌, ℕ, Bool, true, false, Option, Some, None, ap, arith, refl}
+use Rattle.std.specs.List.{slice_index_or}
+use Rattle.nv_model.specs.Queue.{SubmissionQueue}
 use Rattle.nv_entry.specs.Layout.{number_at, dword, qword, bits, bytes_of_dwords}
 use Rattle.nv_entry.specs.Completion.{completion}
 use Rattle.nv_mem.specs.GuestMap.{everywhere}
@@ -28,6 +30,14 @@ abbrev is_ready : Option Controller → Bool
 is_ready None = false
 is_ready (Some c) = c.ready
 
+abbrev tail_of : Option SubmissionQueue → ℕ
+tail_of None = 0
+tail_of (Some q) = q.tail
+
+abbrev first_tail : Option Controller → ℕ
+first_tail None = 0
+first_tail (Some c) = tail_of (slice_index_or c.submission 1 None)
+
 -- all four are the same things
 pub returns-clause-a_seat_agrees : goal.returns-clause-a_seat_agrees
 unfolding number_at dword qword bits bytes_of_dwords completion everywhere addresses bytes_from stored gathered scattered image in_memory and_then first_read in_transcript read_array read_sgl read_entries read_source ranges_in move_units clear_units range_units judge units_moved opening register reg_write doorbell front took post ran_out differs hosts_of fit_behind built plan_over physical_entry written held_of device_unit completion_written put_image units_behind members seat put_back acted_in administered_in taken_to listed ended_at_once submitted device_took device_moved device_posted kept_block reaped scattered_to posted_to ran_out_of step replay replies admin_command admin taken_entries
@@ -52,3 +62,23 @@ returns-clause-other_marks_do_not_agree c agrees = (let bad : ◌≡◌ {A = Boo
 pub returns-clause-another_controller_does_not_agree : goal.returns-clause-another_controller_does_not_agree
 unfolding number_at dword qword bits bytes_of_dwords completion everywhere addresses bytes_from stored gathered scattered image in_memory and_then first_read in_transcript read_array read_sgl read_entries read_source ranges_in move_units clear_units range_units judge units_moved opening register reg_write doorbell front took post ran_out differs hosts_of fit_behind built plan_over physical_entry written held_of device_unit completion_written put_image units_behind members seat put_back acted_in administered_in taken_to listed ended_at_once submitted device_took device_moved device_posted kept_block reaped scattered_to posted_to ran_out_of step replay replies admin_command admin taken_entries
 returns-clause-another_controller_does_not_agree c agrees = (let bad : ◌≡◌ {A = Bool} true false = ap is_ready agrees.controller in absurd (cc))
+
+-- the byte at 1ffffh
+pub returns-clause-another_last_byte_does_not_agree : goal.returns-clause-another_last_byte_does_not_agree
+unfolding number_at dword qword bits bytes_of_dwords completion everywhere addresses bytes_from stored gathered scattered image in_memory and_then first_read in_transcript read_array read_sgl read_entries read_source ranges_in move_units clear_units range_units judge units_moved opening register reg_write doorbell front took post ran_out differs hosts_of fit_behind built plan_over physical_entry written held_of device_unit completion_written put_image units_behind members seat put_back acted_in administered_in taken_to listed ended_at_once submitted device_took device_moved device_posted kept_block reaped scattered_to posted_to ran_out_of step replay replies admin_command admin taken_entries
+returns-clause-another_last_byte_does_not_agree c agrees = (let bad : ◌≡◌ {A = ℕ} 1 0 = agrees.memory 0x1ffff refl refl in absurd (omega arith))
+
+-- the last byte of block 63, which is disk block 1063
+pub returns-clause-another_last_block_does_not_agree : goal.returns-clause-another_last_block_does_not_agree
+unfolding number_at dword qword bits bytes_of_dwords completion everywhere addresses bytes_from stored gathered scattered image in_memory and_then first_read in_transcript read_array read_sgl read_entries read_source ranges_in move_units clear_units range_units judge units_moved opening register reg_write doorbell front took post ran_out differs hosts_of fit_behind built plan_over physical_entry written held_of device_unit completion_written put_image units_behind members seat put_back acted_in administered_in taken_to listed ended_at_once submitted device_took device_moved device_posted kept_block reaped scattered_to posted_to ran_out_of step replay replies admin_command admin taken_entries
+returns-clause-another_last_block_does_not_agree c agrees = (let bad : ◌≡◌ {A = ℕ} 0 0x27 = agrees.blocks 63 511 (omega arith) in absurd (omega arith))
+
+-- the mark of block 63
+pub returns-clause-another_last_mark_does_not_agree : goal.returns-clause-another_last_mark_does_not_agree
+unfolding number_at dword qword bits bytes_of_dwords completion everywhere addresses bytes_from stored gathered scattered image in_memory and_then first_read in_transcript read_array read_sgl read_entries read_source ranges_in move_units clear_units range_units judge units_moved opening register reg_write doorbell front took post ran_out differs hosts_of fit_behind built plan_over physical_entry written held_of device_unit completion_written put_image units_behind members seat put_back acted_in administered_in taken_to listed ended_at_once submitted device_took device_moved device_posted kept_block reaped scattered_to posted_to ran_out_of step replay replies admin_command admin taken_entries
+returns-clause-another_last_mark_does_not_agree c agrees = (let bad : ◌≡◌ {A = Bool} true false = agrees.marks 63 (omega arith) in absurd (cc))
+
+-- the tail
+pub returns-clause-another_queue_does_not_agree : goal.returns-clause-another_queue_does_not_agree
+unfolding number_at dword qword bits bytes_of_dwords completion everywhere addresses bytes_from stored gathered scattered image in_memory and_then first_read in_transcript read_array read_sgl read_entries read_source ranges_in move_units clear_units range_units judge units_moved opening register reg_write doorbell front took post ran_out differs hosts_of fit_behind built plan_over physical_entry written held_of device_unit completion_written put_image units_behind members seat put_back acted_in administered_in taken_to listed ended_at_once submitted device_took device_moved device_posted kept_block reaped scattered_to posted_to ran_out_of step replay replies admin_command admin taken_entries
+returns-clause-another_queue_does_not_agree c agrees = (let bad : ◌≡◌ {A = ℕ} 1 2 = ap first_tail agrees.controller in absurd (omega arith))

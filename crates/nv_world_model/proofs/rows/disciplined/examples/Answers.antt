@@ -163,3 +163,15 @@ returns-clause-a_load_of_ranges c = refl
 pub returns-clause-a_store_into_ranges : goal.returns-clause-a_store_into_ranges
 unfolding number_at dword qword bits bytes_of_dwords completion everywhere addresses bytes_from stored gathered scattered image in_memory and_then asked first_read in_transcript read_array read_sgl read_entries read_source ranges_in move_units clear_units range_units judge units_moved opening register reg_write doorbell front took post ran_out differs hosts_of fit_behind built plan_over physical_entry written held_of device_unit completion_written put_image units_behind members seat put_back acted_in administered_in taken_to listed ended_at_once submitted device_took device_moved device_posted kept_block reaped scattered_to posted_to ran_out_of step replay replies footprints completion_slots stores_into loads_from_destination taken_entries is_disciplined logged
 returns-clause-a_store_into_ranges c = refl
+
+pub returns-clause-they_end_with_a_reset : goal.returns-clause-they_end_with_a_reset
+unfolding number_at dword qword bits bytes_of_dwords completion everywhere addresses bytes_from stored gathered scattered image in_memory and_then asked first_read in_transcript read_array read_sgl read_entries read_source ranges_in move_units clear_units range_units judge units_moved opening register reg_write doorbell front took post ran_out differs hosts_of fit_behind built plan_over physical_entry written held_of device_unit completion_written put_image units_behind members seat put_back acted_in administered_in taken_to listed ended_at_once submitted device_took device_moved device_posted kept_block reaped scattered_to posted_to ran_out_of step replay replies footprints completion_slots stores_into loads_from_destination taken_entries is_disciplined logged
+returns-clause-they_end_with_a_reset c = refl
+
+pub returns-clause-behind_the_reset_nothing_is_rung : goal.returns-clause-behind_the_reset_nothing_is_rung
+unfolding number_at dword qword bits bytes_of_dwords completion everywhere addresses bytes_from stored gathered scattered image in_memory and_then asked first_read in_transcript read_array read_sgl read_entries read_source ranges_in move_units clear_units range_units judge units_moved opening register reg_write doorbell front took post ran_out differs hosts_of fit_behind built plan_over physical_entry written held_of device_unit completion_written put_image units_behind members seat put_back acted_in administered_in taken_to listed ended_at_once submitted device_took device_moved device_posted kept_block reaped scattered_to posted_to ran_out_of step replay replies footprints completion_slots stores_into loads_from_destination taken_entries is_disciplined logged
+returns-clause-behind_the_reset_nothing_is_rung c = refl
+
+pub returns-clause-what_another_lane_has_is_awaited : goal.returns-clause-what_another_lane_has_is_awaited
+unfolding number_at dword qword bits bytes_of_dwords completion everywhere addresses bytes_from stored gathered scattered image in_memory and_then asked first_read in_transcript read_array read_sgl read_entries read_source ranges_in move_units clear_units range_units judge units_moved opening register reg_write doorbell front took post ran_out differs hosts_of fit_behind built plan_over physical_entry written held_of device_unit completion_written put_image units_behind members seat put_back acted_in administered_in taken_to listed ended_at_once submitted device_took device_moved device_posted kept_block reaped scattered_to posted_to ran_out_of step replay replies footprints completion_slots stores_into loads_from_destination taken_entries is_disciplined logged
+returns-clause-what_another_lane_has_is_awaited c = refl

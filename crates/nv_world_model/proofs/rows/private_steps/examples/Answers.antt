@@ -107,3 +107,11 @@ returns-clause-a_failure_is_no_run c = refl
 pub returns-clause-a_list_that_is_too_long_is_judged : goal.returns-clause-a_list_that_is_too_long_is_judged
 unfolding number_at dword qword bits bytes_of_dwords completion everywhere addresses bytes_from stored gathered scattered image in_memory and_then first_read in_transcript read_array read_sgl read_entries read_source ranges_in move_units clear_units range_units judge units_moved opening register reg_write doorbell front took post ran_out differs private_step run_of hosts_of fit_behind built plan_over physical_entry written held_of device_unit completion_written put_image units_behind members seat put_back acted_in administered_in taken_to listed ended_at_once submitted device_took device_moved device_posted kept_block reaped scattered_to posted_to ran_out_of step replay replies admin_command admin private_steps logged
 returns-clause-a_list_that_is_too_long_is_judged c = refl
+
+pub returns-clause-a_private_controller_has_the_guests_limit : goal.returns-clause-a_private_controller_has_the_guests_limit
+unfolding number_at dword qword bits bytes_of_dwords completion everywhere addresses bytes_from stored gathered scattered image in_memory and_then first_read in_transcript read_array read_sgl read_entries read_source ranges_in move_units clear_units range_units judge units_moved opening register reg_write doorbell front took post ran_out differs private_step run_of hosts_of fit_behind built plan_over physical_entry written held_of device_unit completion_written put_image units_behind members seat put_back acted_in administered_in taken_to listed ended_at_once submitted device_took device_moved device_posted kept_block reaped scattered_to posted_to ran_out_of step replay replies admin_command admin private_steps logged
+returns-clause-a_private_controller_has_the_guests_limit c = refl
+
+pub returns-clause-a_list_past_it_is_an_internal_error : goal.returns-clause-a_list_past_it_is_an_internal_error
+unfolding number_at dword qword bits bytes_of_dwords completion everywhere addresses bytes_from stored gathered scattered image in_memory and_then first_read in_transcript read_array read_sgl read_entries read_source ranges_in move_units clear_units range_units judge units_moved opening register reg_write doorbell front took post ran_out differs private_step run_of hosts_of fit_behind built plan_over physical_entry written held_of device_unit completion_written put_image units_behind members seat put_back acted_in administered_in taken_to listed ended_at_once submitted device_took device_moved device_posted kept_block reaped scattered_to posted_to ran_out_of step replay replies admin_command admin private_steps logged
+returns-clause-a_list_past_it_is_an_internal_error c = refl

@@ -122,3 +122,11 @@ returns-clause-the_shared_numbers c = refl
 pub returns-clause-a_cut_keeps_the_shared_numbers : goal.returns-clause-a_cut_keeps_the_shared_numbers
 unfolding number_at dword qword bits bytes_of_dwords completion everywhere addresses bytes_from stored gathered scattered image in_memory and_then first_read in_transcript read_array read_sgl read_entries read_source ranges_in move_units clear_units range_units judge units_moved opening register reg_write doorbell front took post ran_out differs hosts_of fit_behind built plan_over physical_entry written held_of device_unit completion_written put_image units_behind members seat put_back acted_in administered_in taken_to listed ended_at_once submitted device_took device_moved device_posted kept_block reaped scattered_to posted_to ran_out_of step replay replies shown shared_numbers cut
 returns-clause-a_cut_keeps_the_shared_numbers c = refl
+
+pub returns-clause-ranges_are_shown : goal.returns-clause-ranges_are_shown
+unfolding number_at dword qword bits bytes_of_dwords completion everywhere addresses bytes_from stored gathered scattered image in_memory and_then first_read in_transcript read_array read_sgl read_entries read_source ranges_in move_units clear_units range_units judge units_moved opening register reg_write doorbell front took post ran_out differs hosts_of fit_behind built plan_over physical_entry written held_of device_unit completion_written put_image units_behind members seat put_back acted_in administered_in taken_to listed ended_at_once submitted device_took device_moved device_posted kept_block reaped scattered_to posted_to ran_out_of step replay replies shown shared_numbers cut
+returns-clause-ranges_are_shown c = refl
+
+pub returns-clause-another_lanes_pages_are_shown : goal.returns-clause-another_lanes_pages_are_shown
+unfolding number_at dword qword bits bytes_of_dwords completion everywhere addresses bytes_from stored gathered scattered image in_memory and_then first_read in_transcript read_array read_sgl read_entries read_source ranges_in move_units clear_units range_units judge units_moved opening register reg_write doorbell front took post ran_out differs hosts_of fit_behind built plan_over physical_entry written held_of device_unit completion_written put_image units_behind members seat put_back acted_in administered_in taken_to listed ended_at_once submitted device_took device_moved device_posted kept_block reaped scattered_to posted_to ran_out_of step replay replies shown shared_numbers cut
+returns-clause-another_lanes_pages_are_shown c = refl
