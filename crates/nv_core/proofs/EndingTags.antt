@@ -188,7 +188,7 @@ module _ (head : ℕ) (phase : Bool) (slots : List Slot) (ps : List Progress) (o
       → new ≡ with_point (slot.Ended st) tag slots → p ≡ progress.Over f.plan_kept → IsWhole head new (set ps i p)
   end-whole tag i command plan st p new f number ended kept =
       lane-whole head phase slots ps old whole view tag i (slot.Used command (slot.Ended st)) p new number (ended ∙ end-slot tag command st f.slot_is)
-      (subst (λ (q : Progress). IsUsed (slot.Used command (slot.Ended st)) (tag_made (slot.Used command (slot.Ended st)) q)) (sym kept) tt)
+      (subst (λ (q : Progress). IsUsed (slot.Used command (slot.Ended st)) q) (sym kept) tt)
 
   pub end-changed : (tag i : ℕ) (command : Command) (plan : Plan) (st : StatusField) (p : Progress) (new : List Slot) → (f : FliesAt tag command plan) → i ≡ tag
       → new ≡ with_point (slot.Ended st) tag slots → p ≡ progress.Over f.plan_kept

@@ -23,7 +23,7 @@ pub record IsTakenBy (t : Tag) (s : Slot) (p : Progress) : Type 0 where
   pub slot_is : s ≡ slot.Used command slot.Taken
   pub progress_is : p ≡ progress.Reading reads
 
-taken-by : (s : Slot) (p : Progress) → IsUsed s (tag_made s p) → state.Taken ≡ state_of_tag (tag_made s p) → IsTakenBy (tag_made s p) s p
+taken-by : (s : Slot) (p : Progress) → IsUsed s p → state.Taken ≡ state_of_tag (tag_made s p) → IsTakenBy (tag_made s p) s p
 taken-by slot.Free p is e = cc
 taken-by (slot.Used command slot.Taken) progress.Nothing is e = absurd is
 taken-by (slot.Used command slot.Taken) (progress.Reading reads) is e = record { command = command; reads = reads; is = refl; slot_is = refl; progress_is = refl }
@@ -98,7 +98,7 @@ module _ (head : ℕ) (phase : Bool) (slots : List Slot) (ps : List Progress) (o
   lane-taken tag e = taken-at slots ps tag same whole.used (ap (λ (ts : List Tag). state_in (slice_get ts tag)) seen ∙ e)
 
   -- a tag that is changed
-  pub lane-whole : (tag i : ℕ) (s : Slot) (p : Progress) (new : List Slot) → i ≡ tag → new ≡ set slots tag s → IsUsed s (tag_made s p)
+  pub lane-whole : (tag i : ℕ) (s : Slot) (p : Progress) (new : List Slot) → i ≡ tag → new ≡ set slots tag s → IsUsed s p
       → IsWhole head new (set ps i p)
   lane-whole tag i s p new at is used =
       subst (λ (k : ℕ). IsWhole head new (set ps k p)) (sym at)
@@ -144,7 +144,7 @@ module _ (head : ℕ) (phase : Bool) (slots : List Slot) (ps : List Progress) (o
   pub read-whole : (tag i : ℕ) (p : Progress) (reads : List ReadDone) → IsTakenAt slots ps tag → i ≡ tag → p ≡ progress.Reading reads → IsWhole head slots (set ps i p)
   read-whole tag i p reads at number is =
       lane-whole tag i (slot.Used at.command slot.Taken) p slots number (read-slot tag at)
-      (subst (λ (q : Progress). IsUsed (slot.Used at.command slot.Taken) (tag_made (slot.Used at.command slot.Taken) q)) (sym is) tt)
+      (subst (λ (q : Progress). IsUsed (slot.Used at.command slot.Taken) q) (sym is) tt)
 
   pub read-changed : (tag i : ℕ) (p : Progress) (reads : List ReadDone) → (at : IsTakenAt slots ps tag) → i ≡ tag → p ≡ progress.Reading reads
       → (let l : Lane = record { head = head; phase = phase; tags = tags_of slots (set ps i p) } in l) ≡ tag_changed tag (Taken at.command reads) old

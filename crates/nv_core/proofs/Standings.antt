@@ -24,7 +24,7 @@ pub record IsFlyingBy (t : Tag) (s : Slot) (p : Progress) : Type 0 where
   pub slot_is : s ≡ slot.Used command slot.Flying
   pub progress_is : p ≡ progress.Going plan place
 
-flying-by : (s : Slot) (p : Progress) → IsUsed s (tag_made s p) → state.Flying ≡ state_of_tag (tag_made s p) → IsFlyingBy (tag_made s p) s p
+flying-by : (s : Slot) (p : Progress) → IsUsed s p → state.Flying ≡ state_of_tag (tag_made s p) → IsFlyingBy (tag_made s p) s p
 flying-by slot.Free p is e = cc
 flying-by (slot.Used command slot.Taken) progress.Nothing is e = absurd is
 flying-by (slot.Used command slot.Taken) (progress.Reading reads) is e = cc
@@ -104,7 +104,7 @@ module _ (head : ℕ) (phase : Bool) (slots : List Slot) (ps : List Progress) (o
       → IsWhole head slots (set ps i p)
   stands-whole tag i p place at number is =
       lane-whole head phase slots ps old whole view tag i (slot.Used at.command slot.Flying) p slots number (flying-slot tag at)
-      (subst (λ (q : Progress). IsUsed (slot.Used at.command slot.Flying) (tag_made (slot.Used at.command slot.Flying) q)) (sym is) tt)
+      (subst (λ (q : Progress). IsUsed (slot.Used at.command slot.Flying) q) (sym is) tt)
 
   -- its command and its plan are those of the tag
   same-flying : (tag : ℕ) (command : Command) (plan : Plan) (before : Standing) → (at : IsFlyingAt slots ps tag)

@@ -11,7 +11,7 @@ use Rattle.nv_world_model.specs.Step.{free_tag, is_free}
 use Rattle.nv_world_model.specs.World.{Ended, Flying, Free, Taken, Tag}
 
 -- a tag that is made is at its slot's point
-made-state : (s : Slot) (p : Progress) → IsUsed s (tag_made s p) → state_of_tag (tag_made s p) ≡ state_of s
+made-state : (s : Slot) (p : Progress) → IsUsed s p → state_of_tag (tag_made s p) ≡ state_of s
 made-state slot.Free p is = refl
 made-state (slot.Used command slot.Taken) progress.Nothing is = absurd is
 made-state (slot.Used command slot.Taken) (progress.Reading reads) is = refl
@@ -27,15 +27,17 @@ made-state (slot.Used command (slot.Ended st)) (progress.Going plan at) is = abs
 made-state (slot.Used command (slot.Ended st)) (progress.Over plan) is = refl
 
 -- and free where its slot is
-free-by : (s : Slot) (t : Tag) → IsUsed s t → state_of_tag t ≡ state_of s → is_free t ≡ slot_free s
-free-by slot.Free Free is e = refl
-free-by slot.Free (Taken command reads) is e = cc
-free-by slot.Free (Flying command plan at) is e = cc
-free-by slot.Free (Ended command st plan) is e = cc
-free-by (slot.Used c point) Free is e = absurd is
-free-by (slot.Used c point) (Taken command reads) is e = refl
-free-by (slot.Used c point) (Flying command plan at) is e = refl
-free-by (slot.Used c point) (Ended command st plan) is e = refl
+free-by : (s : Slot) (t : Tag) → state_of_tag t ≡ state_of s → is_free t ≡ slot_free s
+free-by slot.Free Free e = refl
+free-by slot.Free (Taken command reads) e = cc
+free-by slot.Free (Flying command plan at) e = cc
+free-by slot.Free (Ended command st plan) e = cc
+free-by (slot.Used c slot.Taken) Free e = cc
+free-by (slot.Used c slot.Flying) Free e = cc
+free-by (slot.Used c (slot.Ended st)) Free e = cc
+free-by (slot.Used c point) (Taken command reads) e = refl
+free-by (slot.Used c point) (Flying command plan at) e = refl
+free-by (slot.Used c point) (Ended command st plan) e = refl
 
 -- the point of a tag
 pub tags-state : (slots : List Slot) (ps : List Progress) (tag : ℕ) → length slots ≡ length ps → AreUsed slots ps → tag < length slots
@@ -61,7 +63,7 @@ unfolding tags_of
 position-tags [] ps same used = refl
 position-tags (s ∷ slots) [] same used = absurd (omega arith)
 position-tags (s ∷ slots) (p ∷ ps) same used =
-    rw (free-by s (tag_made s p) used.0 (made-state s p used.0), position-tags slots ps (omega arith) used.1)
+    rw (free-by s (tag_made s p) (made-state s p used.0), position-tags slots ps (omega arith) used.1)
 
 pub tags-length : (slots : List Slot) (ps : List Progress) → length slots ≡ length ps → length (tags_of slots ps) ≡ length slots
 unfolding tags_of
@@ -82,7 +84,7 @@ tags-set (x ∷ slots) (y ∷ ps) zero s p same = refl
 tags-set (x ∷ slots) (y ∷ ps) (suc tag) s p same = ap (λ ts. tag_made x y ∷ ts) (tags-set slots ps tag s p (omega arith))
 
 pub used-set : (slots : List Slot) (ps : List Progress) (tag : ℕ) (s : Slot) (p : Progress) → length slots ≡ length ps → AreUsed slots ps
-    → IsUsed s (tag_made s p) → AreUsed (set slots tag s) (set ps tag p)
+    → IsUsed s p → AreUsed (set slots tag s) (set ps tag p)
 used-set [] ps tag s p same used is = used
 used-set (x ∷ slots) [] tag s p same used is = absurd (omega arith)
 used-set (x ∷ slots) (y ∷ ps) zero s p same used is = (is, used.1)

@@ -57,18 +57,29 @@ tag_made (slot.Used command slot.Taken) p = taken_tag command p
 tag_made (slot.Used command slot.Flying) p = flying_tag command p
 tag_made (slot.Used command (slot.Ended st)) p = ended_tag command st p
 
--- what is kept of a command goes with its point: a tag that is used is that of a command
-abbrev pub IsUsed : Slot → Tag → Type 0
-IsUsed slot.Free t = ⊤
-IsUsed (slot.Used command point) Free = ⊥
-IsUsed (slot.Used command point) (Taken c reads) = ⊤
-IsUsed (slot.Used command point) (Flying c plan at) = ⊤
-IsUsed (slot.Used command point) (Ended c st plan) = ⊤
+-- nothing is kept
+abbrev pub IsNothing : Progress → Type 0
+IsNothing progress.Nothing = ⊤
+IsNothing (progress.Reading reads) = ⊥
+IsNothing (progress.Going plan at) = ⊥
+IsNothing (progress.Over plan) = ⊥
+
+-- a tag has a command
+abbrev pub HasCommand : Tag → Type 0
+HasCommand Free = ⊥
+HasCommand (Taken c reads) = ⊤
+HasCommand (Flying c plan at) = ⊤
+HasCommand (Ended c st plan) = ⊤
+
+-- what is kept of a command goes with its point: a tag that is used is that of a command, and of a free one nothing is kept
+abbrev pub IsUsed : Slot → Progress → Type 0
+IsUsed slot.Free p = IsNothing p
+IsUsed (slot.Used command point) p = HasCommand (tag_made (slot.Used command point) p)
 
 abbrev pub AreUsed : List Slot → List Progress → Type 0
 AreUsed [] ps = ⊤
 AreUsed (s ∷ slots) [] = ⊤
-AreUsed (s ∷ slots) (p ∷ ps) = IsUsed s (tag_made s p) × AreUsed slots ps
+AreUsed (s ∷ slots) (p ∷ ps) = IsUsed s p × AreUsed slots ps
 
 -- the tags of a lane
 unfoldable pub tags_of : List Slot → List Progress → List Tag
