@@ -1,5 +1,5 @@
 -- One event, as a line writes it (profile)
-use Rattle.std.specs.Prelude.{ℕ, ◌==◌, List, [], ◌∷◌, length, replicate, Result, Ok, Err}
+use Rattle.std.specs.Prelude.{ℕ, ◌==◌, List, [], ◌∷◌, ◌++◌, length, replicate, Result, Ok, Err}
 use Rattle.nv_entry.specs.Status.{StatusField, status}
 use Rattle.nv_model.specs.declared.act.Act.{Act}
 use Rattle.nv_model.specs.declared.act.Act.TheVariants as act
@@ -125,3 +125,7 @@ abbrev pub counted_event : EventKind → List (List ℕ) → Result Event FaultK
 counted_event kind words = do
   counted ← count_check (length words) (event_arguments kind)
   event_of kind words
+
+-- the events with this one behind them
+abbrev pub event_added : Result Event FaultKind → (before : List Event) → Result (List Event) FaultKind
+event_added event before = event >>= λ e. Ok (before ++ e ∷ [])

@@ -1,7 +1,8 @@
 //! The events behind the set-up.
-ghost use Rattle.std.specs.Prelude.{◌≡◌, MatchResult};
+ghost use Rattle.std.specs.Prelude.{◌≡◌, ◌++◌, ◌∷◌, [], Ok, MatchResult};
 ghost use Rattle.nv_script.specs.OnceFault.{Refuses};
-ghost use Rattle.nv_replay_script.specs.ReplayEvents.{counted_event};
+ghost use Rattle.nv_script.specs.declared.once.fault.LineFault.TheVariants.{NoMemory};
+ghost use Rattle.nv_replay_script.specs.ReplayEvents.{counted_event, event_added};
 ghost use Rattle.nv_replay_script.specs.declared.vocabulary.ActKind.TheVariants as act_kind;
 ghost use Rattle.nv_replay_script.specs.declared.vocabulary.EventKind.TheVariants as kind;
 
@@ -14,41 +15,66 @@ use nv_script::once::words::Words;
 use nv_world_model::Event;
 use std::alloc::Global;
 
-/// Makes the event of this kind and the words behind it, where they are as many as it wants.
-pub fn make_event(alloc: Global, kind: EventKind, words: Words<'_>) -> Result<Event, LineFault>
-    ensures { let event = counted_event kind words.entry
-        in MatchResult result (λ made. event ≡ Ok made) (Refuses event) }
+/// Puts the event of this kind and the words behind it behind the others, where the words are as many as it wants. Each kind pushes its own,
+/// so that an event is written once, where it stays.
+///
+/// # Errors
+///
+/// What is wrong with the words; or that memory was refused.
+pub fn push_event(
+    alloc: Global,
+    kind: EventKind,
+    words: Words<'_>,
+    events: &mut Vec<Event>,
+) -> Result<(), LineFault>
+    ensures { let after = event_added (counted_event kind words.entry) events.old.items
+        in MatchResult result (λ _. after ≡ Ok events.new.items) (Refuses after) }
 {
     match kind {
-        EventKind::Act(act) => guest_act(alloc, act, words),
-        EventKind::Admin => admin(words),
-        EventKind::Take => take(words),
-        EventKind::List => list(words),
-        EventKind::Submit => submit(words),
-        EventKind::GiveUp => give_up(words),
-        EventKind::DevTake => dev_take(words),
-        EventKind::DevMove => dev_move(words),
-        EventKind::DevPost => dev_post(words),
-        EventKind::DevFail => dev_fail(words),
-        EventKind::Keep => keep(words),
-        EventKind::Reap => reap(words),
-        EventKind::Post => post(words),
+        EventKind::Act(act) => add_act(alloc, act, words, events),
+        EventKind::Admin => push(events, admin(words)?),
+        EventKind::Take => push(events, take(words)?),
+        EventKind::List => push(events, list(words)?),
+        EventKind::Submit => push(events, submit(words)?),
+        EventKind::GiveUp => push(events, give_up(words)?),
+        EventKind::DevTake => push(events, dev_take(words)?),
+        EventKind::DevMove => push(events, dev_move(words)?),
+        EventKind::DevPost => push(events, dev_post(words)?),
+        EventKind::DevFail => push(events, dev_fail(words)?),
+        EventKind::Keep => push(events, keep(words)?),
+        EventKind::Reap => push(events, reap(words)?),
+        EventKind::Post => push(events, post(words)?),
     }
 }
 
-// A line of a guest's act, made of its words.
-fn guest_act(alloc: Global, act: ActKind, words: Words<'_>) -> Result<Event, LineFault>
-    ensures { let event = counted_event (kind.Act act) words.entry
-        in MatchResult result (λ made. event ≡ Ok made) (Refuses event) }
+// The same of a line of a guest's act.
+#[inline(always)]
+fn add_act(
+    alloc: Global,
+    act: ActKind,
+    words: Words<'_>,
+    events: &mut Vec<Event>,
+) -> Result<(), LineFault>
+    ensures { let after = event_added (counted_event (kind.Act act) words.entry) events.old.items
+        in MatchResult result (λ _. after ≡ Ok events.new.items) (Refuses after) }
 {
     match act {
-        ActKind::Store => store(alloc, words),
-        ActKind::Fill => fill(alloc, words),
-        ActKind::Load => load(words),
-        ActKind::RegRead => reg_read(words),
-        ActKind::RegWrite => reg_write(words),
-        ActKind::Bell => bell(words),
+        ActKind::Store => push(events, store(alloc, words)?),
+        ActKind::Fill => push(events, fill(alloc, words)?),
+        ActKind::Load => push(events, load(words)?),
+        ActKind::RegRead => push(events, reg_read(words)?),
+        ActKind::RegWrite => push(events, reg_write(words)?),
+        ActKind::Bell => push(events, bell(words)?),
     }
+}
+
+// Puts an event behind the others.
+#[inline(always)]
+fn push(events: &mut Vec<Event>, event: Event) -> Result<(), LineFault>
+    ensures { MatchResult result (λ _. events.new.items ≡ events.old.items ++ event ∷ []) (λ fault. fault ≡ NoMemory) }
+{
+    events.push(event)?;
+    Ok(())
 }
 
 // The line `store`, made of its words.
@@ -74,6 +100,7 @@ fn fill(alloc: Global, words: Words<'_>) -> Result<Event, LineFault>
 }
 
 // The line `load`, made of its words.
+#[inline(always)]
 fn load(words: Words<'_>) -> Result<Event, LineFault>
     ensures { let event = counted_event (kind.Act act_kind.Load) words.entry
         in MatchResult result (λ made. event ≡ Ok made) (Refuses event) }
@@ -85,6 +112,7 @@ fn load(words: Words<'_>) -> Result<Event, LineFault>
 }
 
 // The line `regread`, made of its words.
+#[inline(always)]
 fn reg_read(words: Words<'_>) -> Result<Event, LineFault>
     ensures { let event = counted_event (kind.Act act_kind.RegRead) words.entry
         in MatchResult result (λ made. event ≡ Ok made) (Refuses event) }
@@ -96,6 +124,7 @@ fn reg_read(words: Words<'_>) -> Result<Event, LineFault>
 }
 
 // The line `regwrite`, made of its words.
+#[inline(always)]
 fn reg_write(words: Words<'_>) -> Result<Event, LineFault>
     ensures { let event = counted_event (kind.Act act_kind.RegWrite) words.entry
         in MatchResult result (λ made. event ≡ Ok made) (Refuses event) }
@@ -107,6 +136,7 @@ fn reg_write(words: Words<'_>) -> Result<Event, LineFault>
 }
 
 // The line `bell`, made of its words.
+#[inline(always)]
 fn bell(words: Words<'_>) -> Result<Event, LineFault>
     ensures { let event = counted_event (kind.Act act_kind.Bell) words.entry
         in MatchResult result (λ made. event ≡ Ok made) (Refuses event) }
@@ -118,6 +148,7 @@ fn bell(words: Words<'_>) -> Result<Event, LineFault>
 }
 
 // The line `admin`, made of its words.
+#[inline(always)]
 fn admin(words: Words<'_>) -> Result<Event, LineFault>
     ensures { let event = counted_event kind.Admin words.entry
         in MatchResult result (λ made. event ≡ Ok made) (Refuses event) }
@@ -128,6 +159,7 @@ fn admin(words: Words<'_>) -> Result<Event, LineFault>
 }
 
 // The line `take`, made of its words.
+#[inline(always)]
 fn take(words: Words<'_>) -> Result<Event, LineFault>
     ensures { let event = counted_event kind.Take words.entry
         in MatchResult result (λ made. event ≡ Ok made) (Refuses event) }
@@ -140,6 +172,7 @@ fn take(words: Words<'_>) -> Result<Event, LineFault>
 }
 
 // The line `list`, made of its words.
+#[inline(always)]
 fn list(words: Words<'_>) -> Result<Event, LineFault>
     ensures { let event = counted_event kind.List words.entry
         in MatchResult result (λ made. event ≡ Ok made) (Refuses event) }
@@ -153,6 +186,7 @@ fn list(words: Words<'_>) -> Result<Event, LineFault>
 }
 
 // The line `submit`, made of its words.
+#[inline(always)]
 fn submit(words: Words<'_>) -> Result<Event, LineFault>
     ensures { let event = counted_event kind.Submit words.entry
         in MatchResult result (λ made. event ≡ Ok made) (Refuses event) }
@@ -164,6 +198,7 @@ fn submit(words: Words<'_>) -> Result<Event, LineFault>
 }
 
 // The line `giveup`, made of its words.
+#[inline(always)]
 fn give_up(words: Words<'_>) -> Result<Event, LineFault>
     ensures { let event = counted_event kind.GiveUp words.entry
         in MatchResult result (λ made. event ≡ Ok made) (Refuses event) }
@@ -175,6 +210,7 @@ fn give_up(words: Words<'_>) -> Result<Event, LineFault>
 }
 
 // The line `devtake`, made of its words.
+#[inline(always)]
 fn dev_take(words: Words<'_>) -> Result<Event, LineFault>
     ensures { let event = counted_event kind.DevTake words.entry
         in MatchResult result (λ made. event ≡ Ok made) (Refuses event) }
@@ -185,6 +221,7 @@ fn dev_take(words: Words<'_>) -> Result<Event, LineFault>
 }
 
 // The line `devmove`, made of its words.
+#[inline(always)]
 fn dev_move(words: Words<'_>) -> Result<Event, LineFault>
     ensures { let event = counted_event kind.DevMove words.entry
         in MatchResult result (λ made. event ≡ Ok made) (Refuses event) }
@@ -197,6 +234,7 @@ fn dev_move(words: Words<'_>) -> Result<Event, LineFault>
 }
 
 // The line `devpost`, made of its words.
+#[inline(always)]
 fn dev_post(words: Words<'_>) -> Result<Event, LineFault>
     ensures { let event = counted_event kind.DevPost words.entry
         in MatchResult result (λ made. event ≡ Ok made) (Refuses event) }
@@ -220,6 +258,7 @@ fn dev_fail(words: Words<'_>) -> Result<Event, LineFault>
 }
 
 // The line `keep`, made of its words.
+#[inline(always)]
 fn keep(words: Words<'_>) -> Result<Event, LineFault>
     ensures { let event = counted_event kind.Keep words.entry
         in MatchResult result (λ made. event ≡ Ok made) (Refuses event) }
@@ -230,6 +269,7 @@ fn keep(words: Words<'_>) -> Result<Event, LineFault>
 }
 
 // The line `reap`, made of its words.
+#[inline(always)]
 fn reap(words: Words<'_>) -> Result<Event, LineFault>
     ensures { let event = counted_event kind.Reap words.entry
         in MatchResult result (λ made. event ≡ Ok made) (Refuses event) }
@@ -240,6 +280,7 @@ fn reap(words: Words<'_>) -> Result<Event, LineFault>
 }
 
 // The line `post`, made of its words.
+#[inline(always)]
 fn post(words: Words<'_>) -> Result<Event, LineFault>
     ensures { let event = counted_event kind.Post words.entry
         in MatchResult result (λ made. event ≡ Ok made) (Refuses event) }

@@ -3,7 +3,7 @@ ghost use Rattle.std.specs.Prelude.{◌≡◌, MatchResult};
 ghost use Rattle.nv_script.specs.OnceFault.{Refuses};
 ghost use Rattle.nv_script.specs.OnceWords.{words_of};
 
-use crate::event::make_event;
+use crate::event::push_event;
 use crate::open_set_up::OpenSetUp;
 use crate::script::Script;
 use crate::vocabulary::{AWAIT_ARGUMENTS, EventKind, Keyword, look_up};
@@ -82,9 +82,7 @@ impl Reading {
             words.check_count(kind.arguments())?;
             return Err(LineFault::Faulty(FaultKind::OutOfPlace));
         };
-        let event = make_event(alloc, kind, words)?;
-        self.events.push(event)?;
-        Ok(())
+        push_event(alloc, kind, words, &mut self.events)
     }
 
     /// The script whose last line is this one.
