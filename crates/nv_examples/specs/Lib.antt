@@ -5,3 +5,4 @@ pub mod StoryRun
 pub mod Events
 pub mod Breaches
 pub mod WrongWorlds
+pub mod SecondStory

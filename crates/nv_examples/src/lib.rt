@@ -3,5 +3,7 @@
 #![tactic(auto)]
 
 pub mod breaches;
+pub mod no_replays;
+pub mod second_story;
 pub mod story;
 pub mod wrong_worlds;
