@@ -1,6 +1,6 @@
 //! Steps of the world.
 
-ghost use Rattle.std.specs.Prelude.{◌≡◌, OnErr, OnOk};
+ghost use Rattle.std.specs.Prelude.{◌≡◌, ◌<◌, ◌++◌, ◌∷◌, [], OnErr, OnOk, vec_capacity, vec_len};
 ghost use Rattle.nv_world.specs.Mediated.{IsAdvanced, IsContained, IsStepped, KeepsPromise, mediated};
 
 use crate::performing;
@@ -71,7 +71,36 @@ impl World {
         performing::known(&event);
         self.log.reserve(1)?;
         let reply = performing::perform(alloc, &self.layout, &mut self.core, &event)?;
-        self.log.push_reserved(Logged { event, reply });
+        put(&mut self.log, event, reply);
         Ok(())
     }
+}
+
+// Puts an event into a log that has room, with its reply. Each kind of reply is written as what it is: of one without bytes nothing is read
+// where bytes would stand.
+#[inline(always)]
+fn put(log: &mut Vec<Logged>, event: Event, reply: Reply)
+    requires { vec_len log.old < vec_capacity log.old }
+    ensures { log.new.items ≡ log.old.items ++ (record { event = event; reply = reply }) ∷ [] }
+{
+    match reply {
+        Reply::Bytes(bytes) => push(log, event, Reply::Bytes(bytes)),
+        Reply::Done => push(log, event, Reply::Done),
+        Reply::Idle => push(log, event, Reply::Idle),
+        Reply::Busy => push(log, event, Reply::Busy),
+        Reply::Held => push(log, event, Reply::Held),
+        Reply::Stale => push(log, event, Reply::Stale),
+        Reply::Unmapped => push(log, event, Reply::Unmapped),
+        Reply::Ignored => push(log, event, Reply::Ignored),
+        Reply::NoMemory => push(log, event, Reply::NoMemory),
+    }
+}
+
+// An event and its reply at the end of a log that has room.
+#[inline(always)]
+fn push(log: &mut Vec<Logged>, event: Event, reply: Reply)
+    requires { vec_len log.old < vec_capacity log.old }
+    ensures { log.new.items ≡ log.old.items ++ (record { event = event; reply = reply }) ∷ [] }
+{
+    log.push_reserved(Logged { event, reply });
 }
