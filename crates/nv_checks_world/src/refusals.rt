@@ -51,7 +51,7 @@ const READ: [u32; 16] = [
 
 const DESCRIPTOR: [u32; 16] = [0x3002, 0, 512, 0, 0, 0, 0, 0, 0, 0, 0, 0, 0, 0, 0, 0];
 
-/// The guest is brought up, its command is taken and its list is read.
+/// The guest is brought up, its command is taken and its list is read: 16 events, so that the log has no room left for the next.
 const BEFORE: &[Deed] = &[
     Deed::Entry(0x1_0000, bench::CREATE_COMPLETION_QUEUE),
     Deed::Entry(0x1_0040, bench::CREATE_SUBMISSION_QUEUE),
@@ -67,6 +67,8 @@ const BEFORE: &[Deed] = &[
     Deed::Doorbell(0x1008, 1),
     Deed::Take,
     Deed::List(0x6000, 16),
+    Deed::Load(0x6000, 4),
+    Deed::Load(0x3002, 4),
 ];
 
 /// It is carried out and completed, and what it read is loaded.
