@@ -1,0 +1,6 @@
+pub mod Kept
+pub mod Rounds
+pub mod Events
+pub mod Posts
+pub mod Ends
+pub mod Steps

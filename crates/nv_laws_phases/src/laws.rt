@@ -1,0 +1,2 @@
+//! Phase tags, as functions that do nothing: each contract is a law.
+pub mod phases;
