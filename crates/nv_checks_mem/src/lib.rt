@@ -18,3 +18,5 @@ mod ranges;
 mod texts;
 #[cfg(test)]
 mod virtual_ns;
+#[cfg(test)]
+mod zeroed;

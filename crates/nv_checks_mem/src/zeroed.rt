@@ -1,0 +1,114 @@
+//! A memory that is zero until it is written, over the ends of its chunks of 65,536 bytes.
+
+use nv_zeroed::Zeroed;
+use std::test::Fail;
+
+// Whether these bytes, 16 at most, are loaded, lent and told equal, and others are not.
+fn shows(zeroed: &Zeroed, at: usize, want: &[u8]) -> bool {
+    let mut bytes = [9; 16];
+    let mut room = [9; 16];
+    let len = want.len();
+    if len > 16 || len > zeroed.len() || at > zeroed.len() - len {
+        return false;
+    }
+    zeroed.load(at, &mut bytes[..len]);
+    if &bytes[..len] != want || zeroed.bytes(at, len, &mut room) != want {
+        return false;
+    }
+    bytes[len / 2] ^= 1;
+    zeroed.equals(at, want) && (len == 0 || !zeroed.equals(at, &bytes[..len]))
+}
+
+// Stores bytes, and says whether the memory holds them.
+fn stores(zeroed: &mut Zeroed, at: usize, bytes: &[u8]) -> bool {
+    if bytes.len() > zeroed.len() || at > zeroed.len() - bytes.len() {
+        return false;
+    }
+    zeroed.store(at, bytes);
+    true
+}
+
+// Copies bytes, and says whether the memory holds both places and they are apart.
+fn copies(zeroed: &mut Zeroed, from: usize, to: usize, len: usize) -> bool {
+    if len > zeroed.len() || from > zeroed.len() - len || to > zeroed.len() - len {
+        return false;
+    }
+    if from + len > to && to + len > from {
+        return false;
+    }
+    zeroed.copy(from, to, len);
+    true
+}
+
+const ROW: [u8; 12] = [1, 2, 3, 4, 5, 6, 7, 8, 9, 10, 11, 12];
+
+#[test]
+fn is_zero_at_first(rt: HostRuntime) -> Result<(), Fail> {
+    let zeroed = Zeroed::new(rt.alloc(), 200_000)?;
+    assert!(rt; zeroed.len() == 200_000 && !zeroed.is_empty());
+    assert!(rt; shows(&zeroed, 0, &[0; 16]) && shows(&zeroed, 65_530, &[0; 12]));
+    assert!(rt; shows(&zeroed, 199_988, &[0; 12]) && !shows(&zeroed, 199_989, &[0; 12]));
+    Ok(())
+}
+
+#[test]
+fn shows_what_was_stored(rt: HostRuntime) -> Result<(), Fail> {
+    let mut zeroed = Zeroed::new(rt.alloc(), 200_000)?;
+    assert!(rt; stores(&mut zeroed, 65_530, &ROW) && stores(&mut zeroed, 199_988, &ROW));
+    assert!(rt;
+        shows(
+            &zeroed,
+            65_528,
+            &[0, 0, 1, 2, 3, 4, 5, 6, 7, 8, 9, 10, 11, 12, 0, 0]
+        )
+    );
+    assert!(rt; shows(&zeroed, 65_530, &ROW[..6]) && shows(&zeroed, 65_536, &ROW[6..]));
+    assert!(rt; shows(&zeroed, 199_988, &ROW) && shows(&zeroed, 131_066, &[0; 12]));
+    assert!(rt; stores(&mut zeroed, 65_535, &[20, 21]));
+    assert!(rt; shows(&zeroed, 65_530, &[1, 2, 3, 4, 5, 20, 21, 8, 9, 10, 11, 12]));
+    assert!(rt; stores(&mut zeroed, 200_000, &[]) && !stores(&mut zeroed, 200_000, &[1]));
+    Ok(())
+}
+
+#[test]
+fn copies_from_chunk_to_chunk(rt: HostRuntime) -> Result<(), Fail> {
+    let mut zeroed = Zeroed::new(rt.alloc(), 200_000)?;
+    assert!(rt; stores(&mut zeroed, 65_530, &ROW));
+    assert!(rt; copies(&mut zeroed, 65_530, 131_068, 12) && copies(&mut zeroed, 65_532, 10, 8));
+    assert!(rt;
+        shows(
+            &zeroed,
+            131_066,
+            &[0, 0, 1, 2, 3, 4, 5, 6, 7, 8, 9, 10, 11, 12, 0, 0]
+        )
+    );
+    assert!(rt; shows(&zeroed, 8, &[0, 0, 3, 4, 5, 6, 7, 8, 9, 10, 0, 0]));
+    assert!(rt; shows(&zeroed, 65_530, &ROW));
+    // within a chunk, and of bytes that were never written
+    assert!(rt; copies(&mut zeroed, 12, 24, 4) && copies(&mut zeroed, 199_000, 12, 3));
+    assert!(rt;
+        shows(&zeroed, 8, &[0, 0, 3, 4, 0, 0, 0, 8, 9, 10, 0, 0])
+            && shows(&zeroed, 22, &[0, 0, 5, 6, 7, 8, 0])
+    );
+    Ok(())
+}
+
+#[test]
+fn has_the_length_asked_for(rt: HostRuntime) -> Result<(), Fail> {
+    let none = Zeroed::new(rt.alloc(), 0)?;
+    assert!(rt; none.is_empty() && shows(&none, 0, &[]) && !shows(&none, 0, &[0]));
+    let mut more = Zeroed::new(rt.alloc(), 65_537)?;
+    assert!(rt;
+        stores(&mut more, 65_536, &[7])
+            && shows(&more, 65_535, &[0, 7])
+            && !shows(&more, 65_536, &[7, 0])
+    );
+    let mut whole = Zeroed::new(rt.alloc(), 65_536)?;
+    assert!(rt;
+        stores(&mut whole, 65_535, &[7])
+            && shows(&whole, 65_534, &[0, 7])
+            && !stores(&mut whole, 65_536, &[7])
+    );
+    assert!(rt; Zeroed::new(rt.alloc(), usize::MAX).is_err());
+    Ok(())
+}
