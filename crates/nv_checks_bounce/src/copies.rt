@@ -157,9 +157,15 @@ fn holds_only(
         return Ok(false);
     };
     let stored = store_all(&mut wanted, changed);
-    Ok(stored && all_bytes(host) == all_bytes(&wanted))
+    Ok(stored && are_alike(host, &wanted))
 }
 
-fn all_bytes(host: &Host) -> &[u8] {
-    host.bytes(0, host.len())
+// Whether two hosts show the same bytes.
+fn are_alike(host: &Host, other: &Host) -> bool {
+    if host.len() != HOST_LEN || other.len() != HOST_LEN {
+        return false;
+    }
+    let mut bytes = [0; HOST_LEN as usize];
+    host.load(0, &mut bytes);
+    other.equals(0, &bytes)
 }

@@ -29,7 +29,7 @@ fn loads(addr: u64, map: &GuestMap, host: &Host, want: [u8; 4]) -> bool {
 // Whether these bytes stand at a host address.
 fn shows(host: &Host, addr: u64, want: &[u8]) -> bool {
     let len = want.len() as u64;
-    host.holds(addr, len) && host.bytes(addr, len) == want
+    host.holds(addr, len) && host.equals(addr, want)
 }
 
 #[test]

@@ -11,6 +11,9 @@ pub const MEDIATOR: u64 = 0x40_0000;
 /// The bytes of a lane's area.
 const LANE: u64 = 2115 * 4096;
 
+/// The most bytes that [`Bench::is_filled`] looks at.
+const ROOM: usize = 12_288;
+
 /// A host and a device.
 #[derive(Drop)]
 pub struct Bench {
@@ -82,12 +85,19 @@ impl Bench {
     /// Whether these bytes stand at an address.
     pub fn shows(&self, addr: u64, bytes: &[u8]) -> bool {
         let len = bytes.len() as u64;
-        self.host.holds(addr, len) && self.host.bytes(addr, len) == bytes
+        self.host.holds(addr, len) && self.host.equals(addr, bytes)
     }
 
-    /// Whether `len` bytes from an address on are this one.
+    /// Whether `len` bytes from an address on, [`ROOM`] at most, are this one.
     pub fn is_filled(&self, addr: u64, len: u64, byte: u8) -> bool {
-        self.host.holds(addr, len) && self.host.bytes(addr, len).iter().all(|b| *b == byte)
+        let mut room = [0; ROOM];
+        self.host.holds(addr, len)
+            && len <= ROOM as u64
+            && self
+                .host
+                .bytes(addr, len, &mut room)
+                .iter()
+                .all(|b| *b == byte)
     }
 
     /// Whether the bytes of a block are this one, and its mark is as told.

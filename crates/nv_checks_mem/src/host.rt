@@ -12,7 +12,10 @@ fn loads(host: &Host, addr: u64, want: &[u8]) -> bool {
         return false;
     }
     host.load(addr, &mut bytes[..len]);
-    &bytes[..len] == want && host.bytes(addr, len as u64) == want
+    let mut room = [9u8; 8];
+    &bytes[..len] == want
+        && host.bytes(addr, len as u64, &mut room) == want
+        && host.equals(addr, want)
 }
 
 // Stores bytes, and says whether the host holds them.

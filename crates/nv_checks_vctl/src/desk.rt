@@ -65,7 +65,7 @@ impl Desk {
             return false;
         };
         let len = bytes.len() as u64;
-        self.host.holds(at, len) && self.host.bytes(at, len) == bytes
+        self.host.holds(at, len) && self.host.equals(at, bytes)
     }
 
     /// The identifier of the command at the front of a queue; none where none may be taken.

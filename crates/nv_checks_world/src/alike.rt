@@ -52,7 +52,7 @@ impl Pair {
             return false;
         }
         self.flat.load(addr, &mut bytes);
-        host.bytes(image, PAGE) == bytes.as_slice()
+        host.equals(image, &bytes)
     }
 
     // Whether a block and its mark are the same.

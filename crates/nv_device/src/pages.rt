@@ -126,5 +126,7 @@ pub(crate) fn slot(host: &Host, at: u64) -> u64
     requires { at + 8 ≤ length host.now }
     ensures { result ≡ number_at (bytes_from (byte_in host.now) at 8) 0 8 }
 {
-    LittleEndian::read_u64(host.bytes(at, 8))
+    let mut bytes = [0; 8];
+    host.load(at, &mut bytes);
+    LittleEndian::read_u64(&bytes)
 }

@@ -1,9 +1,10 @@
 -- Lemmas on runs of mapped addresses.
-use Rattle.std.proofs.Common.{◌≡◌, ℕ, ◌+◌, ◌<◌, ◌≤◌, ◌^◌, true, List, None, is_some, ap, inl, inr}
+use Rattle.std.proofs.Common.{◌≡◌, ℕ, ◌+◌, ◌-◌, ◌<◌, ◌≤◌, ◌^◌, ◌⊎◌, true, false, List, None, is_some, ap, subst, arith, inl, inr}
 use Rattle.std.proofs.lemmas.Bool.{cases_lt}
 use Rattle.nv_mem.specs.declared.region.Region.{Region}
-use Rattle.nv_mem.specs.GuestMap.{IsLongestRun, IsSound, Mapping, everywhere, host_of, mapped}
+use Rattle.nv_mem.specs.GuestMap.{InImage, IsContiguous, IsLongestRun, IsSound, Mapping, everywhere, host_of, mapped, span_met}
 use Rattle.nv_mem.proofs.Counts.{AllMapped-tested}
+use Rattle.nv_mem.proofs.Memory.{span_met-image}
 use Rattle.nv_mem.proofs.Images.{IsContiguous-inside, host_of-high}
 
 -- an address of a run that is mapped has a host address
@@ -24,3 +25,21 @@ mapped-below m addr len i sound all below =
 -- a run that is there ends in the host
 pub run-inside : (m : Mapping) (addr len host n : ℕ) → IsSound m → IsLongestRun m.regions addr len host n → host + n ≤ m.host_len
 run-inside m addr len host n sound longest = IsContiguous-inside m.host_len m.regions addr host n sound.inside longest.run
+
+-- a run of a map and a part of a span that meets no region don't meet
+pub run-apart : (rs : List Region) (addr from n slot len at : ℕ) → span_met rs slot len ≡ false → IsContiguous rs addr from n → slot ≤ at → at + n ≤ slot + len
+    → (from + n ≤ at) ⊎ (at + n ≤ from)
+run-apart rs addr from n slot len at clear run low high =
+    elim (cases_lt at (from + n)) [
+      | inr before ↦ inl before
+      | inl starts ↦ elim (cases_lt from (at + n)) [
+        | inr behind ↦ inr behind
+        | inl ends ↦ elim (cases_lt at from) [
+          | inl later ↦ (let first : InImage rs (from + 0) = (addr + 0, run.contiguous 0 run.nonempty) in
+              absurd (span_met-image rs slot len (from + 0) clear first (omega arith) (omega arith)))
+          | inr earlier ↦ (let inside : at - from < n = omega arith in
+              let met : InImage rs (from + (at - from)) = (addr + (at - from), run.contiguous (at - from) inside) in
+              absurd (span_met-image rs slot len (from + (at - from)) clear met (omega arith) (omega arith)))
+        ]
+      ]
+    ]

@@ -1,9 +1,10 @@
 //! The host's memory, read and written in ranges.
 
-ghost use Rattle.std.specs.Prelude.{◌≡◌, ℕ, List, [], length, replicate, ◌↔◌, IfOk, IsTrue};
+ghost use Rattle.std.specs.Prelude.{◌≡◌, ◌+◌, ◌≤◌, ◌⊎◌, [], length, replicate, ◌↔◌, IfOk, IsTrue};
 ghost use Rattle.nv_mem.specs.Bytes.{InMemory, bytes_at, after_store};
 
 use crate::no_memory::NoMemory;
+use nv_zeroed::Zeroed;
 use std::alloc::Global;
 use std::marker::Model;
 
@@ -12,22 +13,24 @@ use std::marker::Model;
 /// Its length stays as it was made. A contract sees it as the list of its bytes.
 #[derive(Debug, Drop)]
 pub struct Host {
-    bytes: Vec<u8>,
+    bytes: Zeroed,
 }
 
 impl Model for Host {
+    ghost use Rattle.std.specs.Prelude.{ℕ, List};
+
     ghost Value = { List ℕ };
 
-    ghost view = { λ h. h.bytes.items };
+    ghost view = { λ h. h.bytes };
 }
 
 impl Host {
-    /// A memory of `len` bytes, all zero.
+    /// A memory of `len` bytes, all zero. It takes the room of all of them, and no time for those that are never written.
     pub fn new(alloc: Global, len: u64) -> Result<Self, NoMemory>
         ensures { IfOk result (λ host. host ≡ replicate len 0) }
     {
         Ok(Host {
-            bytes: zeros(alloc, len as usize)?,
+            bytes: Zeroed::new(alloc, len as usize)?,
         })
     }
 
@@ -63,22 +66,31 @@ impl Host {
         if out.is_empty() {
             return;
         }
-        let start = addr as usize;
-        out.copy_from_slice(&self.bytes[start..start + out.len()]);
+        self.bytes.load(addr as usize, out);
     }
 
-    /// The `len` bytes from host address `addr` on, where they lie.
+    /// The `len` bytes from host address `addr` on: where they lie, or loaded into `room` where they don't lie in one place.
     ///
     /// The caller knows that they lie in the memory ([`Host::holds`] tests it).
-    pub fn bytes(&self, addr: u64, len: u64) -> &[u8]
-        requires { InMemory (length self.now) addr len }
+    pub fn bytes<'a>(&'a self, addr: u64, len: u64, room: &'a mut [u8]) -> &'a [u8]
+        requires bytes { InMemory (length self.now) addr len }
+        requires room { len ≤ length room.old }
         ensures { result.now ≡ bytes_at self.now addr len }
     {
         if len == 0 {
             return &[];
         }
-        let start = addr as usize;
-        &self.bytes[start..start + len as usize]
+        self.bytes.bytes(addr as usize, len as usize, room)
+    }
+
+    /// Whether the bytes from host address `addr` on are these.
+    ///
+    /// The caller knows that so many lie in the memory ([`Host::holds`] tests it).
+    pub fn equals(&self, addr: u64, bytes: &[u8]) -> bool
+        requires { InMemory (length self.now) addr (length bytes.now) }
+        ensures { IsTrue result ↔ (bytes_at self.now addr (length bytes.now) ≡ bytes.now) }
+    {
+        bytes.is_empty() || self.bytes.equals(addr as usize, bytes)
     }
 
     /// Writes the bytes to host address `addr` on, and changes no other byte.
@@ -92,31 +104,22 @@ impl Host {
         if bytes.is_empty() {
             return;
         }
-        let start = addr as usize;
-        self.bytes[start..start + bytes.len()].copy_from_slice(bytes);
+        self.bytes.store(addr as usize, bytes);
     }
 
-    /// Copies the `len` bytes from host address `from` on to `to`, and changes no other byte. The two may meet.
+    /// Copies the `len` bytes from host address `from` on to `to`, and changes no other byte. The two don't meet.
     ///
     /// The caller knows that both lie in the memory ([`Host::holds`] tests it).
     pub fn copy(&mut self, from: u64, to: u64, len: u64)
         requires from { InMemory (length self.old) from len }
         requires to { InMemory (length self.old) to len }
+        requires apart { (from + len ≤ to) ⊎ (to + len ≤ from) }
         ensures bytes { self.new ≡ after_store self.old to (bytes_at self.old from len) }
         ensures len { length self.new ≡ length self.old }
     {
         if len == 0 {
             return;
         }
-        let start = from as usize;
-        self.bytes
-            .copy_within(start..start + len as usize, to as usize);
+        self.bytes.copy(from as usize, to as usize, len as usize);
     }
-}
-
-// `len` zero bytes.
-fn zeros(alloc: Global, len: usize) -> Result<Vec<u8>, NoMemory>
-    ensures { IfOk result (λ bytes. bytes.items ≡ replicate len 0) }
-{
-    Ok(vec![in alloc; 0; len]?)
 }

@@ -1,6 +1,7 @@
 -- Bytes that are compared, part by part
-use Rattle.std.proofs.Common.{◌≡◌, ℕ, suc, ◌+◌, ◌≤◌, Bool, true, false, not, ◌||◌, ◌==◌, List, [], ◌∷◌, ◌++◌, length, take, drop, replicate, refl, sym, ap, subst, ◌∙◌, arith}
+use Rattle.std.proofs.Common.{◌≡◌, ℕ, suc, ◌+◌, ◌≤◌, Bool, true, false, true≢false, not, ◌||◌, ◌&&◌, ◌==◌, ◌↔◌, IsTrue, nat_eq, List, [], ◌∷◌, ◌++◌, length, take, drop, replicate, refl, sym, ap, subst, ◌∙◌, arith}
 use Rattle.std.proofs.lemmas.Bool.Decides.{nat_tests}
+use lib.Pointwise.{bytes_decides, pointwise}
 use Rattle.std.specs.List.{list_any}
 use Rattle.std.proofs.lemmas.List.{length-take-le, take-append-drop, length-append}
 use Rattle.nv_mem.specs.Places.{Place, places_of_piece, piece_len}
@@ -27,6 +28,30 @@ differs-append (x ∷ xs) [] ys vs e = absurd (omega arith)
 differs-append (x ∷ xs) (u ∷ us) ys vs e =
     ap (λ (b : Bool). not (x == u) || b) (differs-append xs us ys vs (omega arith))
     ∙ or-assoc (not (x == u)) (differs xs us) (differs ys vs)
+
+-- two lists of bytes differ where they are not equal byte by byte
+differs-pointwise : (xs ys : List ℕ) → differs xs ys ≡ not (pointwise nat_eq xs ys)
+unfolding differs
+differs-pointwise [] [] = refl
+differs-pointwise [] (y ∷ ys) = refl
+differs-pointwise (x ∷ xs) [] = refl
+differs-pointwise (x ∷ xs) (y ∷ ys) =
+    ap (λ (b : Bool). not (x == y) || b) (differs-pointwise xs ys) ∙ not-and (x == y) (pointwise nat_eq xs ys)
+  where
+    not-and : (a b : Bool) → not a || not b ≡ not (a && b)
+    not-and true b = refl
+    not-and false b = refl
+
+-- what tells whether they are equal tells whether they differ
+pub differs-told : (xs ys : List ℕ) (same : Bool) → (IsTrue same ↔ (xs ≡ ys)) → not same ≡ differs xs ys
+differs-told xs ys same told = told-not same (pointwise nat_eq xs ys) (λ t. (bytes_decides xs ys).1 (told.0 t)) (λ t. told.1 ((bytes_decides xs ys).0 t))
+    ∙ sym (differs-pointwise xs ys)
+  where
+    told-not : (a b : Bool) → (a ≡ true → b ≡ true) → (b ≡ true → a ≡ true) → not a ≡ not b
+    told-not true true there back = refl
+    told-not false false there back = refl
+    told-not true false there back = absurd (true≢false (sym (there refl)))
+    told-not false true there back = absurd (true≢false (sym (back refl)))
 
 -- bytes other than zeros
 pub differs-zeros : (bytes : List ℕ) → differs (replicate (length bytes) 0) bytes ≡ list_any (λ b. not (b == 0)) bytes

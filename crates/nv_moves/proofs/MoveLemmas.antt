@@ -106,19 +106,6 @@ write-moved memory disk kept places index lba bytes fua block mark gather pieces
     ∙ ap (block_written (byte_of_block disk) lba) (gather ∙ ap (λ (ps : List Place). gathered (byte_in memory) (take 512 ps)) at))
     (marked-set kept lba fua mark) (sym (or-false differed))
 
--- two lists of bytes differ where they are not equal byte by byte
-pub differs-pointwise : (xs ys : List ℕ) → differs xs ys ≡ not (pointwise nat_eq xs ys)
-unfolding differs
-differs-pointwise [] [] = refl
-differs-pointwise [] (y ∷ ys) = refl
-differs-pointwise (x ∷ xs) [] = refl
-differs-pointwise (x ∷ xs) (y ∷ ys) =
-    ap (λ (b : Bool). not (x == y) || b) (differs-pointwise xs ys) ∙ not-and (x == y) (pointwise nat_eq xs ys)
-  where
-    not-and : (a b : Bool) → not a || not b ≡ not (a && b)
-    not-and true b = refl
-    not-and false b = refl
-
 -- a block that was compared with the buffer is one moved unit
 pub compare-moved : (memory : List ℕ) (disk : List (List ℕ)) (kept marks : List Bool) (places : List Place) (index lba : ℕ) (bytes : List ℕ) (fua unlike : Bool)
     → length (slice_index_or disk lba []) ≡ 512

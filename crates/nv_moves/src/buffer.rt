@@ -235,7 +235,7 @@ fn piece_differs(memory: &Host, piece: &Piece, bytes: &[u8]) -> bool
     ensures { result ≡ differs (gathered (byte_in memory.now) (places_of_piece piece.now)) bytes.now }
 {
     match *piece {
-        Piece::Run { addr, len } => *memory.bytes(addr, len) != *bytes,
+        Piece::Run { addr, .. } => !memory.equals(addr, bytes),
         Piece::Bucket { .. } => has_others_than_zeros(bytes),
     }
 }

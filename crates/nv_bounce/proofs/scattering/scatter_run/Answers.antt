@@ -1,9 +1,12 @@
-use Rattle.std.proofs.Common.{◌+◌, ◌-◌, ◌<◌, ◌≤◌, ◌^◌, arith}
+use Rattle.std.proofs.Common.{◌+◌, ◌-◌, ◌<◌, ◌≤◌, ◌^◌, ◌⊎◌, arith, inl, inr}
 use Rattle.nv_bounce.specs.Bounce.{scattered_from}
 use Rattle.nv_bounce.proofs.Copies.{IsAtRow-end, IsAtRow-first}
-use Rattle.nv_mem.proofs.MappedRuns.{mapped-below, mapped-none, run-inside}
+use Rattle.nv_mem.proofs.MappedRuns.{mapped-below, mapped-none, run-apart, run-inside}
 use Rattle.nv_bounce.proofs.Scattered.{scattered-next, scattering-in_order}
 use Rattle.nv_bounce.proofs.scattering.scatter_run.Goals as goal
+
+swapped : {A B : Type 0} → A ⊎ B → B ⊎ A
+swapped either = elim either [ inl a ↦ inr a | inr b ↦ inl b ]
 
 pub loop-done-init : goal.loop-done-init
 loop-done-init c = IsAtRow-first (scattered_from c.args.map.now.regions) c.args.host.now c.args.from c.args.addr c.args.len
@@ -26,6 +29,14 @@ copy-requires-clause-to c = λ some.
     let size = c.loop-done.invariant.size in
     let host = c.requires.host in
     omega arith
+
+pub copy-requires-clause-apart : goal.copy-requires-clause-apart
+copy-requires-clause-apart c =
+    let most = c.in-Some.ensures.within in
+    let less = c.loop-done-test.true in
+    let fits : c.args.from + c.loop-done.done + c.in-Some.n ≤ c.args.from + c.args.len = omega arith in
+    swapped (run-apart c.args.map.now.regions (c.args.addr + c.loop-done.done) c.in-Some.to c.in-Some.n c.args.from c.args.len (c.args.from + c.loop-done.done)
+    c.requires.apart c.in-Some.ensures.run (omega arith) fits)
 
 pub loop-done-preserved : goal.loop-done-preserved
 loop-done-preserved c =

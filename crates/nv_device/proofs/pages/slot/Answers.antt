@@ -7,4 +7,4 @@ pub returns : goal.returns
 unfolding number_at
 returns c =
     c.read_u64.ensures
-    ∙ ap (λ (bytes : List ℕ). number_at bytes 0 8) (c.bytes.ensures ∙ bytes_at-from c.args.host.now c.args.at 8 c.requires)
+    ∙ ap (λ (bytes : List ℕ). number_at bytes 0 8) (c.load.ensures ∙ bytes_at-from c.args.host.now c.args.at 8 c.requires)

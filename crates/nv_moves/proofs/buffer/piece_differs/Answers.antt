@@ -1,24 +1,24 @@
-use Rattle.std.proofs.Common.{◌+◌, ◌≤◌, ℕ, List, length, replicate, ap, sym, ◌∙◌}
+use Rattle.std.proofs.Common.{◌+◌, ◌≤◌, ℕ, List, length, replicate, ap, subst, sym, ◌∙◌}
+use Rattle.nv_mem.specs.Bytes.{bytes_at}
 use Rattle.nv_mem.specs.Places.{places_of_piece, piece_len}
 use Rattle.nv_model.specs.Memory.{byte_in, gathered}
 use Rattle.nv_model.specs.Private.{differs}
 use Rattle.nv_moves.proofs.BufferLemmas.{addresses-below, gathered-buckets, gathered-run}
-use Rattle.nv_moves.proofs.CompareLemmas.{differs-zeros}
-use Rattle.nv_moves.proofs.MoveLemmas.{differs-pointwise}
+use Rattle.nv_moves.proofs.CompareLemmas.{differs-told, differs-zeros}
 use Rattle.nv_moves.proofs.buffer.piece_differs.Goals as goal
 
-pub bytes-requires : goal.bytes-requires
-bytes-requires c =
-    λ some. addresses-below (length c.args.memory.now) c.in-Run.addr c.in-Run.len some (rw c.in-Run.is at c.requires.in_memory)
+pub equals-requires : goal.equals-requires
+equals-requires c =
+    λ some. subst (λ (n : ℕ). c.in-Run.addr + n ≤ length c.args.memory.now) (sym (c.requires.whole ∙ ap piece_len c.in-Run.is))
+    (addresses-below (length c.args.memory.now) c.in-Run.addr c.in-Run.len (rw c.in-Run.is at c.requires.some) (rw c.in-Run.is at c.requires.in_memory))
 
 pub returns-in-Run : goal.returns-in-Run
 returns-in-Run c =
     let inside : c.in-Run.addr + c.in-Run.len ≤ length c.args.memory.now =
     addresses-below (length c.args.memory.now) c.in-Run.addr c.in-Run.len (rw c.in-Run.is at c.requires.some) (rw c.in-Run.is at c.requires.in_memory) in
-    c.ne.ensures
-    ∙ sym (differs-pointwise c.bytes.result.now c.args.bytes.now)
+    differs-told (bytes_at c.args.memory.now c.in-Run.addr (length c.args.bytes.now)) c.args.bytes.now c.equals.result c.equals.ensures
     ∙ ap (λ (l : List ℕ). differs l c.args.bytes.now)
-    (c.bytes.ensures
+    (ap (λ (n : ℕ). bytes_at c.args.memory.now c.in-Run.addr n) (c.requires.whole ∙ ap piece_len c.in-Run.is)
     ∙ gathered-run c.args.memory.now c.in-Run.addr c.in-Run.len inside
     ∙ ap (λ p. gathered (byte_in c.args.memory.now) (places_of_piece p)) (sym c.in-Run.is))
 
