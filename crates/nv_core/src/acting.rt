@@ -17,6 +17,7 @@ use std::alloc::Global;
 impl Core {
     /// A guest acts: it reads and writes its memory, its controller's registers and its doorbells. Ignored where there is no such guest.
     /// Memory is taken for the bytes of the reply alone; where none is left, nothing has changed.
+    #[inline(never)]
     pub fn act(
         &mut self,
         alloc: Global,

@@ -13,6 +13,7 @@ use nv_world_model::Event;
 impl Core {
     /// One event of a guest's admin queue: a command of it, or the end of a deletion that waits. Idle where there is nothing to do, Held
     /// where the admin completion queue is full, Ignored where there is no such guest.
+    #[inline(never)]
     pub fn admin(&mut self, layout: &Layout, guest: u8) -> Reply
         requires { IsOf layout.now self.old }
         ensures { IsStep layout.now (Event.Admin guest) self.old result self.new }

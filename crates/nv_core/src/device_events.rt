@@ -18,6 +18,7 @@ use std::alloc::Global;
 impl Core {
     /// The physical controller takes the front entry of a lane's submission ring. Idle where none waits, Ignored where there is no such lane.
     /// Memory is taken for the command in the controller; where none is left, nothing has changed.
+    #[inline(never)]
     pub fn dev_take(&mut self, alloc: Global, _layout: &Layout, lane: u8) -> Result<Reply, NoMemory>
         requires { IsOf _layout.now self.old }
         ensures ok { IfOk result (λ reply. IsStep _layout.now (Event.DevTake lane) self.old reply self.new) }
@@ -36,6 +37,7 @@ impl Core {
 
     /// The physical controller moves a unit, by its number, of the command that it holds in a slot of a lane. Idle where it holds none there,
     /// or one without such a unit left, Ignored where there is no such lane or slot.
+    #[inline(never)]
     pub fn dev_move(&mut self, _layout: &Layout, lane: u8, slot: u8, number: u64) -> Reply
         requires { IsOf _layout.now self.old }
         ensures { IsStep _layout.now (Event.DevMove lane slot number) self.old result self.new }
@@ -49,6 +51,7 @@ impl Core {
 
     /// The physical controller completes the command that it holds in a slot of a lane: with success, or with Compare Failure. Idle where it
     /// holds none there, or one that has units left, Ignored where there is no such lane or slot.
+    #[inline(never)]
     pub fn dev_post(&mut self, _layout: &Layout, lane: u8, slot: u8) -> Reply
         requires { IsOf _layout.now self.old }
         ensures { IsStep _layout.now (Event.DevPost lane slot) self.old result self.new }
@@ -68,6 +71,7 @@ impl Core {
 
     /// The command that the physical controller holds in a slot of a lane fails with that status. Idle where it holds none there, Ignored
     /// where there is no such lane or slot, or the status is that of success.
+    #[inline(never)]
     pub fn dev_fail(&mut self, _layout: &Layout, lane: u8, slot: u8, status: Status) -> Reply
         requires { IsOf _layout.now self.old }
         ensures { IsStep _layout.now (Event.DevFail lane slot status) self.old result self.new }

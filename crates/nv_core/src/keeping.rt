@@ -10,6 +10,7 @@ use nv_world_model::Event;
 
 impl Core {
     /// A block of the disk becomes kept, as the physical controller may make it at any time. Idle where there is no such block.
+    #[inline(never)]
     pub fn keep(&mut self, layout: &Layout, block: u64) -> Reply
         requires { IsOf layout.now self.old }
         ensures { IsStep layout.now (Event.Keep block) self.old result self.new }

@@ -41,6 +41,7 @@ impl Core {
     /// such tag.
     ///
     /// The caller knows that each guest's controller counts the guest's commands, as it does in every world that events lead to.
+    #[inline(never)]
     pub fn post(&mut self, layout: &Layout, lane: u8, tag: u8) -> Reply
         requires of { IsOf layout.now self.old }
         requires counted { IsCounted layout.now (world_of self.old) }

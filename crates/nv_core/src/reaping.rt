@@ -20,6 +20,7 @@ const MEDIA_ERROR: u8 = 2;
 impl Core {
     /// The next completion of a lane ends the command of the tag that it names, with the status that the guest gets. Idle where none
     /// waits, Ignored where there is no such lane.
+    #[inline(never)]
     pub fn reap(&mut self, _layout: &Layout, lane: u8) -> Reply
         requires { IsOf _layout.now self.old }
         ensures { IsStep _layout.now (Event.Reap lane) self.old result self.new }

@@ -21,6 +21,7 @@ use std::alloc::Global;
 impl Core {
     /// Ends the command of a tag that was taken with Internal Error. Stale where the tag is at another point, Ignored where there is no
     /// such tag.
+    #[inline(never)]
     pub fn give_up(&mut self, _layout: &Layout, lane: u8, tag: u8) -> Reply
         requires { IsOf _layout.now self.old }
         ensures { IsStep _layout.now (Event.GiveUp lane tag) self.old result self.new }
@@ -37,6 +38,7 @@ impl Core {
     /// 4,096. Where no memory is left, nothing has changed.
     ///
     /// Bytes that are the reply come once more, for a log: behind the event memory for a copy might be wanting.
+    #[inline(never)]
     pub fn list(
         &mut self,
         alloc: Global,

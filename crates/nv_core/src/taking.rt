@@ -25,6 +25,7 @@ impl Core {
     /// is free, Ignored where there is no such guest or lane, or the queue is none of 1 to 8.
     ///
     /// The caller knows that one more taken command can be counted.
+    #[inline(never)]
     pub fn take(&mut self, alloc: Global, layout: &Layout, guest: u8, queue: u16, lane: u8) -> Reply
         requires of { IsOf layout.now self.old }
         requires counted { CountsMore guest self.old }

@@ -43,3 +43,11 @@ run-apart rs addr from n slot len at clear run low high =
         ]
       ]
     ]
+
+-- the longest run that is there and the same part of a span that meets no region don't meet
+pub longest-apart : (rs : List Region) (addr len done from n slot : ℕ) → span_met rs slot len ≡ false → IsLongestRun rs (addr + done) (len - done) from n → done < len
+    → (from + n ≤ slot + done) ⊎ (slot + done + n ≤ from)
+longest-apart rs addr len done from n slot clear longest less =
+    let most = longest.within in
+    let fits : slot + done + n ≤ slot + len = omega arith in
+    run-apart rs (addr + done) from n slot len (slot + done) clear longest.run (omega arith) fits

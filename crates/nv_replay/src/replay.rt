@@ -57,6 +57,8 @@ pub fn run<W: Write>(alloc: Global, replay: Replay, output: &mut W) -> Result<()
     ensures { OnOk result (PrintsReplay replay (W.contents output.old) (W.contents output.new)) }
 {
     let Replay { mut world, events } = replay;
+    // Where there is no memory for all of the log, each step takes its own room.
+    let _room = world.reserve(events.len());
     let mut count = 0;
     for event in events {
         count += 1;

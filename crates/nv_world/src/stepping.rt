@@ -44,6 +44,19 @@ impl World {
         ended
     }
 
+    /// Takes room in the log for so many more events, so that these find it there: nothing is logged, and nothing else changes. A step whose
+    /// room is not there takes it itself.
+    ///
+    /// # Errors
+    ///
+    /// There was no memory for it. Nothing has changed.
+    pub fn reserve(&mut self, events: usize) -> Result<(), NoMemory>
+        ensures { mediated self.new ≡ mediated self.old }
+    {
+        self.log.reserve(events)?;
+        Ok(())
+    }
+
     // The step itself, with its reply for the log and for the caller.
     fn step_twice(&mut self, alloc: Global, event: Event) -> Reply
         ensures { IsStepped event (mediated self.old) result (mediated self.new) }

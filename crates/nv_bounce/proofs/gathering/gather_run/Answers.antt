@@ -1,7 +1,7 @@
 use Rattle.std.proofs.Common.{◌+◌, ◌-◌, ◌<◌, ◌≤◌, ◌^◌, arith}
 use Rattle.nv_bounce.specs.Bounce.{gathered_to}
 use Rattle.nv_bounce.proofs.Copies.{IsAtRow-end, IsAtRow-first}
-use Rattle.nv_mem.proofs.MappedRuns.{mapped-below, mapped-none, run-apart, run-inside}
+use Rattle.nv_mem.proofs.MappedRuns.{longest-apart, mapped-below, mapped-none, run-inside}
 use Rattle.nv_bounce.proofs.Gathered.{gathered-next, gathering-in_order}
 use Rattle.nv_bounce.proofs.gathering.gather_run.Goals as goal
 
@@ -29,11 +29,8 @@ copy-requires-clause-from c = λ some.
 
 pub copy-requires-clause-apart : goal.copy-requires-clause-apart
 copy-requires-clause-apart c =
-    let most = c.in-Some.ensures.within in
-    let less = c.loop-done-test.true in
-    let fits : c.args.to + c.loop-done.done + c.in-Some.n ≤ c.args.to + c.args.len = omega arith in
-    run-apart c.args.map.now.regions (c.args.addr + c.loop-done.done) c.in-Some.from c.in-Some.n c.args.to c.args.len (c.args.to + c.loop-done.done)
-    c.requires.apart c.in-Some.ensures.run (omega arith) fits
+    longest-apart c.args.map.now.regions c.args.addr c.args.len c.loop-done.done c.in-Some.from c.in-Some.n c.args.to
+    c.requires.apart c.in-Some.ensures c.loop-done-test.true
 
 pub loop-done-preserved : goal.loop-done-preserved
 loop-done-preserved c =

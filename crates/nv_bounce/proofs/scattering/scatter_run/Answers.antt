@@ -1,7 +1,7 @@
 use Rattle.std.proofs.Common.{◌+◌, ◌-◌, ◌<◌, ◌≤◌, ◌^◌, ◌⊎◌, arith, inl, inr}
 use Rattle.nv_bounce.specs.Bounce.{scattered_from}
 use Rattle.nv_bounce.proofs.Copies.{IsAtRow-end, IsAtRow-first}
-use Rattle.nv_mem.proofs.MappedRuns.{mapped-below, mapped-none, run-apart, run-inside}
+use Rattle.nv_mem.proofs.MappedRuns.{longest-apart, mapped-below, mapped-none, run-inside}
 use Rattle.nv_bounce.proofs.Scattered.{scattered-next, scattering-in_order}
 use Rattle.nv_bounce.proofs.scattering.scatter_run.Goals as goal
 
@@ -32,11 +32,8 @@ copy-requires-clause-to c = λ some.
 
 pub copy-requires-clause-apart : goal.copy-requires-clause-apart
 copy-requires-clause-apart c =
-    let most = c.in-Some.ensures.within in
-    let less = c.loop-done-test.true in
-    let fits : c.args.from + c.loop-done.done + c.in-Some.n ≤ c.args.from + c.args.len = omega arith in
-    swapped (run-apart c.args.map.now.regions (c.args.addr + c.loop-done.done) c.in-Some.to c.in-Some.n c.args.from c.args.len (c.args.from + c.loop-done.done)
-    c.requires.apart c.in-Some.ensures.run (omega arith) fits)
+    swapped (longest-apart c.args.map.now.regions c.args.addr c.args.len c.loop-done.done c.in-Some.to c.in-Some.n c.args.from
+    c.requires.apart c.in-Some.ensures c.loop-done-test.true)
 
 pub loop-done-preserved : goal.loop-done-preserved
 loop-done-preserved c =

@@ -10,7 +10,7 @@ loop-event-init g c =
     let given = c.into_iter-event-iterator.ensures.into_iter_gives in
     let kept = ap (λ r. r.set_up) c.replay.view_is in
     let all = given.0 ∙ ap (λ r. r.events) c.replay.view_is in
-    (RunsSoFar-none _ _ _ _ kept c.replay.invariant all, search rules, omega (arith, given.2), search rules, search rules)
+    (rw c.reserve-room.ensures (RunsSoFar-none _ _ _ _ kept c.replay.invariant all), search rules, omega (arith, given.2), search rules, search rules)
 
 pub loop-event-preserved : goal.loop-event-preserved
 loop-event-preserved g c =
