@@ -1,4 +1,4 @@
-//! A memory that is zero until it is written, over the ends of its chunks of 65,536 bytes.
+//! A memory that is zero until it is written, over the ends of its chunks of 262,144 bytes.
 
 use nv_zeroed::Zeroed;
 use std::test::Fail;
@@ -44,48 +44,48 @@ const ROW: [u8; 12] = [1, 2, 3, 4, 5, 6, 7, 8, 9, 10, 11, 12];
 
 #[test]
 fn is_zero_at_first(rt: HostRuntime) -> Result<(), Fail> {
-    let zeroed = Zeroed::new(rt.alloc(), 200_000)?;
-    assert!(rt; zeroed.len() == 200_000 && !zeroed.is_empty());
-    assert!(rt; shows(&zeroed, 0, &[0; 16]) && shows(&zeroed, 65_530, &[0; 12]));
-    assert!(rt; shows(&zeroed, 199_988, &[0; 12]) && !shows(&zeroed, 199_989, &[0; 12]));
+    let zeroed = Zeroed::new(rt.alloc(), 800_000)?;
+    assert!(rt; zeroed.len() == 800_000 && !zeroed.is_empty());
+    assert!(rt; shows(&zeroed, 0, &[0; 16]) && shows(&zeroed, 262_138, &[0; 12]));
+    assert!(rt; shows(&zeroed, 799_988, &[0; 12]) && !shows(&zeroed, 799_989, &[0; 12]));
     Ok(())
 }
 
 #[test]
 fn shows_what_was_stored(rt: HostRuntime) -> Result<(), Fail> {
-    let mut zeroed = Zeroed::new(rt.alloc(), 200_000)?;
-    assert!(rt; stores(&mut zeroed, 65_530, &ROW) && stores(&mut zeroed, 199_988, &ROW));
+    let mut zeroed = Zeroed::new(rt.alloc(), 800_000)?;
+    assert!(rt; stores(&mut zeroed, 262_138, &ROW) && stores(&mut zeroed, 799_988, &ROW));
     assert!(rt;
         shows(
             &zeroed,
-            65_528,
+            262_136,
             &[0, 0, 1, 2, 3, 4, 5, 6, 7, 8, 9, 10, 11, 12, 0, 0]
         )
     );
-    assert!(rt; shows(&zeroed, 65_530, &ROW[..6]) && shows(&zeroed, 65_536, &ROW[6..]));
-    assert!(rt; shows(&zeroed, 199_988, &ROW) && shows(&zeroed, 131_066, &[0; 12]));
-    assert!(rt; stores(&mut zeroed, 65_535, &[20, 21]));
-    assert!(rt; shows(&zeroed, 65_530, &[1, 2, 3, 4, 5, 20, 21, 8, 9, 10, 11, 12]));
-    assert!(rt; stores(&mut zeroed, 200_000, &[]) && !stores(&mut zeroed, 200_000, &[1]));
+    assert!(rt; shows(&zeroed, 262_138, &ROW[..6]) && shows(&zeroed, 262_144, &ROW[6..]));
+    assert!(rt; shows(&zeroed, 799_988, &ROW) && shows(&zeroed, 524_282, &[0; 12]));
+    assert!(rt; stores(&mut zeroed, 262_143, &[20, 21]));
+    assert!(rt; shows(&zeroed, 262_138, &[1, 2, 3, 4, 5, 20, 21, 8, 9, 10, 11, 12]));
+    assert!(rt; stores(&mut zeroed, 800_000, &[]) && !stores(&mut zeroed, 800_000, &[1]));
     Ok(())
 }
 
 #[test]
 fn copies_from_chunk_to_chunk(rt: HostRuntime) -> Result<(), Fail> {
-    let mut zeroed = Zeroed::new(rt.alloc(), 200_000)?;
-    assert!(rt; stores(&mut zeroed, 65_530, &ROW));
-    assert!(rt; copies(&mut zeroed, 65_530, 131_068, 12) && copies(&mut zeroed, 65_532, 10, 8));
+    let mut zeroed = Zeroed::new(rt.alloc(), 800_000)?;
+    assert!(rt; stores(&mut zeroed, 262_138, &ROW));
+    assert!(rt; copies(&mut zeroed, 262_138, 524_284, 12) && copies(&mut zeroed, 262_140, 10, 8));
     assert!(rt;
         shows(
             &zeroed,
-            131_066,
+            524_282,
             &[0, 0, 1, 2, 3, 4, 5, 6, 7, 8, 9, 10, 11, 12, 0, 0]
         )
     );
     assert!(rt; shows(&zeroed, 8, &[0, 0, 3, 4, 5, 6, 7, 8, 9, 10, 0, 0]));
-    assert!(rt; shows(&zeroed, 65_530, &ROW));
+    assert!(rt; shows(&zeroed, 262_138, &ROW));
     // within a chunk, and of bytes that were never written
-    assert!(rt; copies(&mut zeroed, 12, 24, 4) && copies(&mut zeroed, 199_000, 12, 3));
+    assert!(rt; copies(&mut zeroed, 12, 24, 4) && copies(&mut zeroed, 799_000, 12, 3));
     assert!(rt;
         shows(&zeroed, 8, &[0, 0, 3, 4, 0, 0, 0, 8, 9, 10, 0, 0])
             && shows(&zeroed, 22, &[0, 0, 5, 6, 7, 8, 0])
@@ -97,17 +97,17 @@ fn copies_from_chunk_to_chunk(rt: HostRuntime) -> Result<(), Fail> {
 fn has_the_length_asked_for(rt: HostRuntime) -> Result<(), Fail> {
     let none = Zeroed::new(rt.alloc(), 0)?;
     assert!(rt; none.is_empty() && shows(&none, 0, &[]) && !shows(&none, 0, &[0]));
-    let mut more = Zeroed::new(rt.alloc(), 65_537)?;
+    let mut more = Zeroed::new(rt.alloc(), 262_145)?;
     assert!(rt;
-        stores(&mut more, 65_536, &[7])
-            && shows(&more, 65_535, &[0, 7])
-            && !shows(&more, 65_536, &[7, 0])
+        stores(&mut more, 262_144, &[7])
+            && shows(&more, 262_143, &[0, 7])
+            && !shows(&more, 262_144, &[7, 0])
     );
-    let mut whole = Zeroed::new(rt.alloc(), 65_536)?;
+    let mut whole = Zeroed::new(rt.alloc(), 262_144)?;
     assert!(rt;
-        stores(&mut whole, 65_535, &[7])
-            && shows(&whole, 65_534, &[0, 7])
-            && !stores(&mut whole, 65_536, &[7])
+        stores(&mut whole, 262_143, &[7])
+            && shows(&whole, 262_142, &[0, 7])
+            && !stores(&mut whole, 262_144, &[7])
     );
     assert!(rt; Zeroed::new(rt.alloc(), usize::MAX).is_err());
     Ok(())

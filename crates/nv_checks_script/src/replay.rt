@@ -25,10 +25,10 @@ const SIZES: &str = "host 8192\nmediator 4096\ndisk 1\nlanes 1\n";
 /// Lines behind the set-up, and their events.
 const EVENTS: &str = "\
 |[]
-store 0 0x10000 abCD|[Guest(0, Store { addr: 65536, bytes: Bytes { kept: Few(Few { len: 2, bytes: [171, 205, 0, 0, 0, 0, 0, 0, 0, 0, 0, 0, 0, 0] }) } })]
-store 255 0xffffffffffffffff -|[Guest(255, Store { addr: 18446744073709551615, bytes: Bytes { kept: Few(Few { len: 0, bytes: [0, 0, 0, 0, 0, 0, 0, 0, 0, 0, 0, 0, 0, 0] }) } })]
-fill 1 12 3 0x11|[Guest(1, Store { addr: 12, bytes: Bytes { kept: Few(Few { len: 3, bytes: [17, 17, 17, 0, 0, 0, 0, 0, 0, 0, 0, 0, 0, 0] }) } })]
-fill 1 12 0 255|[Guest(1, Store { addr: 12, bytes: Bytes { kept: Few(Few { len: 0, bytes: [0, 0, 0, 0, 0, 0, 0, 0, 0, 0, 0, 0, 0, 0] }) } })]
+store 0 0x10000 abCD|[Guest(0, Store { addr: 65536, bytes: BoxedBytes { bytes: [171, 205] } })]
+store 255 0xffffffffffffffff -|[Guest(255, Store { addr: 18446744073709551615, bytes: BoxedBytes { bytes: [] } })]
+fill 1 12 3 0x11|[Guest(1, Store { addr: 12, bytes: BoxedBytes { bytes: [17, 17, 17] } })]
+fill 1 12 0 255|[Guest(1, Store { addr: 12, bytes: BoxedBytes { bytes: [] } })]
 load 0 0x0 4|[Guest(0, Load { addr: 0, len: 4 })]
 load 0 0x1ffff 0xffffffffffffffff|[Guest(0, Load { addr: 131071, len: 18446744073709551615 })]
 load 0 18446744073709551615 18446744073709551614|[Guest(0, Load { addr: 18446744073709551615, len: 18446744073709551614 })]

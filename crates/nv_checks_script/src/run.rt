@@ -11,8 +11,8 @@ use std::test::Fail;
 /// Lines behind the set-up, and what they are.
 const LINES: &str = "\
 |[]
-store 0 0x10000 abCD|[Line { number: 9, guest: 0, task: Act(Store { addr: 65536, bytes: Bytes { kept: Few(Few { len: 2, bytes: [171, 205, 0, 0, 0, 0, 0, 0, 0, 0, 0, 0, 0, 0] }) } }) }]
-fill 1 12 3 0x11|[Line { number: 9, guest: 1, task: Act(Store { addr: 12, bytes: Bytes { kept: Few(Few { len: 3, bytes: [17, 17, 17, 0, 0, 0, 0, 0, 0, 0, 0, 0, 0, 0] }) } }) }]
+store 0 0x10000 abCD|[Line { number: 9, guest: 0, task: Act(Store { addr: 65536, bytes: BoxedBytes { bytes: [171, 205] } }) }]
+fill 1 12 3 0x11|[Line { number: 9, guest: 1, task: Act(Store { addr: 12, bytes: BoxedBytes { bytes: [17, 17, 17] } }) }]
 load 0 0x1ffff 2|[Line { number: 9, guest: 0, task: Act(Load { addr: 131071, len: 2 }) }]
 regread 0 0x4;regwrite 1 0x24 0x001f001f|[Line { number: 9, guest: 0, task: Act(RegRead { offset: 4 }) }, Line { number: 10, guest: 1, task: Act(RegWrite { offset: 36, value: 2031647 }) }]
 # a comment;;bell 0 0x1008 1|[Line { number: 11, guest: 0, task: Act(Doorbell { offset: 4104, value: 1 }) }]

@@ -1,7 +1,7 @@
 //! What a guest's thread does by its port.
 
 use crate::bench::{CREATE_COMPLETION_QUEUE, CREATE_SUBMISSION_QUEUE, bytes_of};
-use nv_mem::{Bytes, NoMemory};
+use nv_mem::{BoxedBytes, NoMemory};
 use nv_model::{Act, Reply};
 use nv_threads::{Port, Shared};
 use std::alloc::Global;
@@ -41,7 +41,7 @@ pub fn stores<R: Wait>(
     addr: u64,
     bytes: &[u8],
 ) -> Result<bool, NoMemory> {
-    let bytes = Bytes::from_slice(seat.alloc, bytes)?;
+    let bytes = BoxedBytes::from_slice(seat.alloc, bytes)?;
     is_done(rt, seat, Act::Store { addr, bytes })
 }
 

@@ -3,7 +3,7 @@
 use crate::acting::{REGISTERS, Seat, awaits};
 use crate::bench::{CREATE_COMPLETION_QUEUE, CREATE_SUBMISSION_QUEUE, bytes_of, opened};
 use crate::running::others;
-use nv_mem::Bytes;
+use nv_mem::BoxedBytes;
 use nv_model::{Act, Reply};
 use nv_threads::{Port, Shared};
 use nv_world::World;
@@ -51,7 +51,7 @@ fn acts(world: &mut World, alloc: Global, act: Act) -> bool {
 
 // Whether the guest stores an entry.
 fn stores(world: &mut World, alloc: Global, addr: u64, entry: &[u32; 16]) -> bool {
-    match Bytes::from_slice(alloc, &bytes_of(entry)) {
+    match BoxedBytes::from_slice(alloc, &bytes_of(entry)) {
         Ok(bytes) => acts(world, alloc, Act::Store { addr, bytes }),
         Err(_) => false,
     }

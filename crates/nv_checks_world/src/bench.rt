@@ -2,7 +2,7 @@
 //! the disk on.
 
 use nv_entry::{Cqe, Sqe};
-use nv_mem::{Bytes, GuestMap, NoMemory, Region};
+use nv_mem::{BoxedBytes, GuestMap, NoMemory, Region};
 use nv_model::{Act, Reply};
 use nv_plan::{Planned, make_plan};
 use nv_world::{GuestSetup, Setup, World};
@@ -73,7 +73,7 @@ fn is_due_and_done(world: &mut World, alloc: Global, event: Event) -> bool {
 
 /// Whether the guest stores bytes.
 pub fn stores(world: &mut World, alloc: Global, addr: u64, bytes: &[u8]) -> Result<bool, NoMemory> {
-    let bytes = Bytes::from_slice(alloc, bytes)?;
+    let bytes = BoxedBytes::from_slice(alloc, bytes)?;
     let act = Act::Store { addr, bytes };
     Ok(is_done(world, alloc, Event::Guest(0, act)))
 }

@@ -2,7 +2,7 @@
 //! test is refused; the log has to be the same whichever it is, or none.
 
 use crate::bench::{self, bytes_of, completion_at};
-use nv_mem::{Bytes, NoMemory};
+use nv_mem::{BoxedBytes, NoMemory};
 use nv_model::{Act, Reply};
 use nv_plan::{Plan, Planned, make_plan};
 use nv_world::World;
@@ -85,7 +85,7 @@ const BEHIND: &[Deed] = &[
 fn event_of(alloc: Global, deed: &Deed) -> Result<Event, NoMemory> {
     Ok(match *deed {
         Deed::Entry(addr, dwords) => {
-            let bytes = Bytes::from_slice(alloc, &bytes_of(&dwords))?;
+            let bytes = BoxedBytes::from_slice(alloc, &bytes_of(&dwords))?;
             Event::Guest(0, Act::Store { addr, bytes })
         }
         Deed::Load(addr, len) => Event::Guest(0, Act::Load { addr, len }),

@@ -7,13 +7,13 @@ ghost use Rattle.nv_model.specs.Controller.{Controller};
 ghost use Rattle.nv_model.specs.Memory.{byte_in, bytes_from, image};
 
 use crate::layout::Given;
-use nv_mem::{Bytes, FEW, Host, NoMemory};
+use nv_mem::{BoxedBytes, Bytes, FEW, Host, NoMemory};
 use nv_model::{Act, Reply};
 use nv_vctl::Vctl;
 use std::alloc::Global;
 
 /// Stores bytes from guest address `addr` on.
-pub(crate) fn store(given: &Given, addr: u64, bytes: &Bytes, host: &mut Host) -> Reply
+pub(crate) fn store(given: &Given, addr: u64, bytes: &BoxedBytes, host: &mut Host) -> Reply
     requires { given.now.memory_map.host_len ≡ length host.old }
     ensures acted { (c : Controller) → IsActed given.now (Act.Store addr bytes.now) (byte_in host.old) c result (byte_in host.new) c }
     ensures len { length host.new ≡ length host.old }

@@ -5,4 +5,4 @@ use Rattle.nv_mem.specs.declared.bytes.Kept.TheVariants as kept
 
 abbrev pub kept_bytes : Kept → List ℕ
 kept_bytes (kept.Few few) = take few.len few.bytes
-kept_bytes (kept.Many bytes) = bytes.value.items
+kept_bytes (kept.Many bytes) = bytes

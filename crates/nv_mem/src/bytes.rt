@@ -1,14 +1,14 @@
-//! Bytes as a value of their own, for the acts and replies of the crates above.
+//! Bytes as a value of their own, for the replies of the crates above.
 
 ghost use Rattle.std.specs.Prelude.{◌≡◌, ◌≤◌, IfOk, length};
 
-use crate::NoMemory;
 use crate::few::{FEW, Few};
+use crate::{BoxedBytes, NoMemory};
 use std::alloc::Global;
 use std::marker::Model;
 
-/// Bytes that an act or a reply carries. A few stand in the value itself and take no memory; more stand behind one pointer, so that what
-/// carries them stays small: a log holds millions of acts and replies, and few of them have many bytes.
+/// Bytes that a reply carries. A few stand in the value itself and take no memory; more stand behind one pointer, so that what carries
+/// them stays small: a log holds millions of replies, and few of them have many bytes.
 #[derive(Debug, Drop)]
 pub struct Bytes {
     kept: Kept,
@@ -29,7 +29,7 @@ enum Kept {
     // in the value itself
     Few(Few),
     // behind a pointer
-    Many(Box<Vec<u8>>),
+    Many(BoxedBytes),
 }
 
 impl Bytes {
@@ -44,7 +44,7 @@ impl Bytes {
         if bytes.len() <= FEW {
             return Ok(Bytes::few(&bytes));
         }
-        let bytes = Box::new(alloc, bytes)?;
+        let bytes = BoxedBytes::new(alloc, bytes)?;
         Ok(Bytes {
             kept: Kept::Many(bytes),
         })

@@ -5,7 +5,7 @@
 //!   addresses and inside the host. It means a finite function from guest to host addresses.
 //! - [`Places`] is where the bytes of a transfer lie in a guest's memory, as the guest's list named
 //!   them: [`Piece`]s, which are runs of addresses or bytes that go nowhere.
-//! - [`Bytes`] are bytes as a value of their own; [`FEW`] of them take no memory.
+//! - [`Bytes`] are bytes as a value of their own, of which [`FEW`] take no memory; [`BoxedBytes`] are bytes behind one pointer.
 //! - [`NoMemory`] is the one answer to a refused growth, here and in every crate above.
 //! - [`laws`] states what the definitions come to: different guest addresses lie at different host
 //!   addresses, maps that do not meet share no byte, a store changes the bytes that it names.
@@ -13,13 +13,14 @@
 //! NVM Express says nothing of memory maps: they are the hypervisor's, and so is every rule on them
 //! here. Sums are taken in whole numbers, so a region may end exactly at 2 to the 64.
 //!
-//! [`Host::new`], [`Places::reserve`], [`Places::push`], the two `try_clone`, and [`Bytes::new`] and [`Bytes::from_slice`] where there are more
-//! than [`FEW`] bytes, take memory, and nothing else does. Each
+//! [`Host::new`], [`Places::reserve`], [`Places::push`], the two `try_clone`, [`BoxedBytes::new`] and [`BoxedBytes::from_slice`],
+//! and [`Bytes::new`] and [`Bytes::from_slice`] where there are more than [`FEW`] bytes, take memory, and nothing else does. Each
 //! is called with ample memory in a test of `nv_checks_mem` that compares its answer. There `rt try --test --fail-alloc N`
 //! was run for each N up to 22: the test whose Nth allocation is refused ends with that call's
 //! error, and all others pass.
 #![tactic(auto)]
 
+pub use boxed_bytes::BoxedBytes;
 pub use bytes::Bytes;
 pub use few::FEW;
 pub use guest_map::GuestMap;
@@ -30,6 +31,7 @@ pub use piece::Piece;
 pub use places::Places;
 pub use region::{PAGE_SIZE, Region};
 
+mod boxed_bytes;
 mod bytes;
 mod few;
 pub mod guest_map;

@@ -5,8 +5,8 @@
 
 mod bytes;
 mod cannot_write;
-mod numbered;
+mod numeral;
 
 pub use bytes::{end_line, print_bytes, print_dump, print_line, print_text};
 pub use cannot_write::CannotWrite;
-pub use numbered::print_numbered;
+pub use numeral::{Numeral, print_numbered};

@@ -6,7 +6,7 @@ ghost use Rattle.nv_replay.specs.Shown.{PrintsReplay, PrintsStep};
 use crate::reply_line::{print_count, print_reply};
 use nv_mem::NoMemory;
 use nv_model::Reply;
-use nv_print::CannotWrite;
+use nv_print::{CannotWrite, Numeral};
 use nv_world::World;
 use nv_world_model::Event;
 use std::alloc::Global;
@@ -59,12 +59,12 @@ pub fn run<W: Write>(alloc: Global, replay: Replay, output: &mut W) -> Result<()
     let Replay { mut world, events } = replay;
     // Where there is no memory for all of the log, each step takes its own room.
     let _room = world.reserve(events.len());
-    let mut count = 0;
+    let mut count = Numeral::of(0);
     for event in events {
-        count += 1;
-        step(alloc, &mut world, count, event, output)?;
+        count.increase();
+        step(alloc, &mut world, &count, event, output)?;
     }
-    print_count(count, output)?;
+    print_count(&count, output)?;
     mem::forget(world);
     Ok(())
 }
@@ -73,11 +73,11 @@ pub fn run<W: Write>(alloc: Global, replay: Replay, output: &mut W) -> Result<()
 fn step<W: Write>(
     alloc: Global,
     world: &mut World,
-    number: u64,
+    number: &Numeral,
     event: Event,
     output: &mut W,
 ) -> Result<(), CannotWrite>
-    ensures { OnOk result (PrintsStep number event (mediated world.old) (mediated world.new) (W.contents output.old) (W.contents output.new)) }
+    ensures { OnOk result (PrintsStep number.now event (mediated world.old) (mediated world.new) (W.contents output.old) (W.contents output.new)) }
 {
     if let Err(NoMemory) = world.advance(alloc, event) {
         return print_reply(number, &Reply::NoMemory, output);

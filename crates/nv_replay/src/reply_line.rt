@@ -6,12 +6,16 @@ ghost use Rattle.nv_replay.specs.Shown.{count_line, reply_line};
 
 use nv_mem::Bytes;
 use nv_model::Reply;
-use nv_print::{CannotWrite, print_dump, print_numbered};
+use nv_print::{CannotWrite, Numeral, print_dump, print_numbered, print_text};
 use std::io::Write;
 
 /// Prints the line of the reply to event number `number`.
-pub fn print_reply<W: Write>(number: u64, reply: &Reply, output: &mut W) -> Result<(), CannotWrite>
-    ensures { OnOk result (Appends (W.contents output.old) (W.contents output.new) (reply_line number reply.now)) }
+pub fn print_reply<W: Write>(
+    number: &Numeral,
+    reply: &Reply,
+    output: &mut W,
+) -> Result<(), CannotWrite>
+    ensures { OnOk result (Appends (W.contents output.old) (W.contents output.new) (reply_line number.now reply.now)) }
 {
     match reply {
         Reply::Done => print_numbered(number, b" done\n", output),
@@ -27,17 +31,17 @@ pub fn print_reply<W: Write>(number: u64, reply: &Reply, output: &mut W) -> Resu
 }
 
 // Prints the line of a reply with these bytes.
-fn print_bytes<W: Write>(number: u64, bytes: &Bytes, output: &mut W) -> Result<(), CannotWrite>
-    ensures { OnOk result (Appends (W.contents output.old) (W.contents output.new) (reply_line number (reply.Bytes bytes.now))) }
+fn print_bytes<W: Write>(number: &Numeral, bytes: &Bytes, output: &mut W) -> Result<(), CannotWrite>
+    ensures { OnOk result (Appends (W.contents output.old) (W.contents output.new) (reply_line number.now (reply.Bytes bytes.now))) }
 {
     print_numbered(number, b" bytes ", output)?;
     print_dump(bytes.as_slice(), output)
 }
 
 /// Prints the last line: how many events there were.
-pub fn print_count<W: Write>(count: u64, output: &mut W) -> Result<(), CannotWrite>
-    ensures { OnOk result (Appends (W.contents output.old) (W.contents output.new) (count_line count)) }
+pub fn print_count<W: Write>(count: &Numeral, output: &mut W) -> Result<(), CannotWrite>
+    ensures { OnOk result (Appends (W.contents output.old) (W.contents output.new) (count_line count.now)) }
 {
-    writeln!(output, "events {count}")?;
-    Ok(())
+    print_text(b"events ", output)?;
+    print_numbered(count, b"\n", output)
 }

@@ -30,8 +30,11 @@ vocabulary =
     ∷ []
 
 -- the line that a first word begins
+abbrev pub keyword_among : List (List ℕ × Keyword) → List ℕ → Option Keyword
+keyword_among rows word = lookup (λ name. bytes_eq name word) rows
+
 unfoldable pub keyword_of : List ℕ → Option Keyword
-keyword_of word = lookup (λ name. bytes_eq name word) vocabulary
+keyword_of word = keyword_among vocabulary word
 
 -- how many words stand behind the number of the guest whose act a line is
 abbrev pub act_arguments : ActKind → ℕ

@@ -8,7 +8,7 @@ ghost use Rattle.nv_replay_script.specs.declared.vocabulary.ActKind.TheVariants 
 
 use crate::numbers::dword;
 use crate::vocabulary::ActKind;
-use nv_mem::Bytes;
+use nv_mem::BoxedBytes;
 use nv_model::Act;
 use nv_script::FaultKind;
 use nv_script::once::fault::LineFault;
@@ -119,10 +119,10 @@ pub(crate) fn bell(offset: Word<'_>, value: Word<'_>) -> Result<Act, FaultKind>
 }
 
 // The bytes of the vector as those of an act.
-fn held(alloc: Global, bytes: Vec<u8>) -> Result<Bytes, LineFault>
+fn held(alloc: Global, bytes: Vec<u8>) -> Result<BoxedBytes, LineFault>
     ensures { MatchResult result (λ held. held ≡ bytes.items) (λ fault. fault ≡ NoMemory) }
 {
-    let Ok(held) = Bytes::new(alloc, bytes) else {
+    let Ok(held) = BoxedBytes::new(alloc, bytes) else {
         return Err(LineFault::NoMemory);
     };
     Ok(held)

@@ -10,7 +10,7 @@ ghost use Rattle.nv_threads.specs.Finished.{told_to};
 use crate::part::{GUESTS, Part, lines_of};
 use crate::played::Played;
 use crate::walk::behind;
-use nv_print::{CannotWrite, print_text};
+use nv_print::{CannotWrite, Numeral, print_text};
 use nv_replay::print_reply;
 use nv_run_script::{Line, Task};
 use nv_threads::{Port, told_to};
@@ -81,7 +81,7 @@ fn print_first<W: Write>(guest: u8, calls: &[Logged], output: &mut W) -> Result<
     ensures { OnOk result (Appends (W.contents output.old) (W.contents output.new) (first_line guest calls.now)) }
 {
     match calls.first() {
-        Some(call) => print_reply(u64::from(guest), &call.reply, output),
+        Some(call) => print_reply(&Numeral::of(u64::from(guest)), &call.reply, output),
         None => Ok(()),
     }
 }

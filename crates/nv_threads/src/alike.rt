@@ -2,7 +2,7 @@
 
 ghost use Rattle.std.specs.Prelude.{◌≡◌, ◌↔◌, IsTrue};
 
-use nv_mem::Bytes;
+use nv_mem::{BoxedBytes, Bytes};
 use nv_model::{Act, Reply};
 
 /// Whether two acts are the same.
@@ -19,14 +19,14 @@ pub fn same_act(a: &Act, b: &Act) -> bool
 }
 
 // Whether an act stores these bytes there.
-fn is_store(b: &Act, addr: u64, bytes: &Bytes) -> bool
+fn is_store(b: &Act, addr: u64, bytes: &BoxedBytes) -> bool
     ensures { IsTrue result ↔ (Act.Store addr bytes.now ≡ b.now) }
 {
     match b {
         Act::Store {
             addr: at,
             bytes: stored,
-        } => addr == *at && same_bytes(bytes, stored),
+        } => addr == *at && bytes.as_slice() == stored.as_slice(),
         Act::Load { addr: _, len: _ } => false,
         Act::RegRead { offset: _ } => false,
         Act::RegWrite {

@@ -2,7 +2,7 @@
 
 ghost use Rattle.std.specs.Prelude.{◌≡◌, IfOk};
 
-use nv_mem::{Bytes, NoMemory};
+use nv_mem::{BoxedBytes, NoMemory};
 use nv_model::Act;
 use std::alloc::Global;
 
@@ -16,7 +16,7 @@ pub fn act(alloc: Global, act: &Act) -> Result<Act, NoMemory>
 {
     match act {
         Act::Store { addr, bytes } => {
-            let bytes = Bytes::from_slice(alloc, bytes.as_slice())?;
+            let bytes = BoxedBytes::from_slice(alloc, bytes.as_slice())?;
             Ok(Act::Store { addr: *addr, bytes })
         }
         Act::Load { addr, len } => Ok(Act::Load {

@@ -4,7 +4,7 @@ ghost use Rattle.std.specs.Prelude.{◌≡◌, IfOk, IfSome, IsSome, None, OnErr
 ghost use Rattle.nv_core.specs.Seat.{bytes_told};
 ghost use Rattle.nv_model.specs.declared.reply.Reply.TheVariants as Reply;
 
-use nv_mem::{Bytes, NoMemory};
+use nv_mem::{BoxedBytes, Bytes, NoMemory};
 use nv_model::{Act, Reply};
 use nv_world_model::Event;
 use std::alloc::Global;
@@ -89,7 +89,7 @@ fn act(alloc: Global, act: &Act) -> Result<Act, NoMemory>
 {
     match act {
         Act::Store { addr, bytes } => {
-            let bytes = self::bytes(alloc, bytes)?;
+            let bytes = BoxedBytes::from_slice(alloc, bytes.as_slice())?;
             Ok(Act::Store { addr: *addr, bytes })
         }
         Act::Load { addr, len } => Ok(Act::Load {

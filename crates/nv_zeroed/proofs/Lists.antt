@@ -504,3 +504,12 @@ pub earlier-at : (items low high : List (List ℕ)) (at : ℕ) (chunk : List ℕ
     → chunk ≡ slice_index_or low at chunk → chunk ≡ slice_index_or items at chunk
 earlier-at items low high at chunk is below here =
     here ∙ sym (get_or_append_left low high chunk at below) ∙ ap (λ (xs : List (List ℕ)). slice_index_or xs at chunk) (sym is)
+
+-- as many alike, and one more
+pub one-more : (n : ℕ) (one alike : List ℕ) (before after : List (List ℕ)) → before ≡ replicate n alike → one ≡ alike → after ≡ before ++ one ∷ []
+    → after ≡ replicate (n + 1) alike
+one-more n one alike before after all same pushed =
+    pushed
+    ∙ ap (λ (xs : List (List ℕ)). xs ++ one ∷ []) all
+    ∙ ap (λ (x : List ℕ). replicate n alike ++ x ∷ []) same
+    ∙ replicate-append-replicate n 1 alike

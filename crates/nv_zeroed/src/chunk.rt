@@ -7,8 +7,9 @@ ghost use Rattle.std.specs.Vec.{vec_capacity};
 use std::alloc::{AllocError, Global};
 use std::marker::Model;
 
-/// How many bytes a chunk has.
-pub(crate) const CHUNK: usize = 65_536;
+/// How many bytes a chunk has: so many that an allocator takes pages of its own for each. In the heap each chunk would begin behind a few
+/// bytes that the allocator writes, and with huge pages these alone have the system clear the whole.
+pub(crate) const CHUNK: usize = 262_144;
 
 /// A chunk: [`CHUNK`] bytes. Those of one that was never written are not there yet, but their room is.
 #[derive(Debug, Drop)]
@@ -23,15 +24,15 @@ impl Model for Chunk {
 
     ghost Value = { List ℕ };
 
-    ghost view = { λ c. laid 65536 c.bytes.items };
+    ghost view = { λ c. laid 262144 c.bytes.items };
 
-    ghost invariant = { λ c. IsChunk 65536 (vec_capacity c.bytes) c.bytes.items };
+    ghost invariant = { λ c. IsChunk 262144 (vec_capacity c.bytes) c.bytes.items };
 }
 
 impl Chunk {
     /// A chunk that was never written.
     pub(crate) fn new(alloc: Global) -> Result<Self, AllocError>
-        ensures { IfOk result (λ chunk. chunk ≡ replicate 65536 0) }
+        ensures { IfOk result (λ chunk. chunk ≡ replicate 262144 0) }
     {
         Ok(Chunk {
             bytes: Vec::with_capacity(alloc, CHUNK)?,
@@ -40,7 +41,7 @@ impl Chunk {
 
     /// Reads the bytes from `at` on, as many as `out` has.
     pub(crate) fn load(&self, at: usize, out: &mut [u8])
-        requires { at + length out.old ≤ 65536 }
+        requires { at + length out.old ≤ 262144 }
         ensures { out.new ≡ bytes_at self.now at (length out.old) }
     {
         if self.bytes.is_empty() {
@@ -52,8 +53,8 @@ impl Chunk {
 
     /// The `len` bytes from `at` on where they lie; `None` in a chunk that was never written.
     pub(crate) fn bytes(&self, at: usize, len: usize) -> Option<&[u8]>
-        requires { at + len ≤ 65536 }
-        ensures { MatchOption result (self.now ≡ replicate 65536 0) (λ bytes. bytes.now ≡ bytes_at self.now at len) }
+        requires { at + len ≤ 262144 }
+        ensures { MatchOption result (self.now ≡ replicate 262144 0) (λ bytes. bytes.now ≡ bytes_at self.now at len) }
     {
         if self.bytes.is_empty() {
             return None;
@@ -63,7 +64,7 @@ impl Chunk {
 
     /// Writes the bytes from `at` on.
     pub(crate) fn store(&mut self, at: usize, bytes: &[u8])
-        requires { at + length bytes.now ≤ 65536 }
+        requires { at + length bytes.now ≤ 262144 }
         ensures { self.new ≡ after_store self.old at bytes.now }
     {
         lay(&mut self.bytes);
@@ -72,8 +73,8 @@ impl Chunk {
 
     /// Writes `len` bytes of another chunk, those from `from` on, to `to`.
     pub(crate) fn copy_of(&mut self, to: usize, source: &Chunk, from: usize, len: usize)
-        requires from { from + len ≤ 65536 }
-        requires to { to + len ≤ 65536 }
+        requires from { from + len ≤ 262144 }
+        requires to { to + len ≤ 262144 }
         ensures { self.new ≡ after_store self.old to (bytes_at source.now from len) }
     {
         match source.bytes(from, len) {
@@ -87,8 +88,8 @@ impl Chunk {
 
     /// Copies the `len` bytes from `from` on to `to`.
     pub(crate) fn copy(&mut self, from: usize, to: usize, len: usize)
-        requires from { from + len ≤ 65536 }
-        requires to { to + len ≤ 65536 }
+        requires from { from + len ≤ 262144 }
+        requires to { to + len ≤ 262144 }
         ensures { self.new ≡ after_store self.old to (bytes_at self.old from len) }
     {
         lay(&mut self.bytes);
@@ -98,10 +99,10 @@ impl Chunk {
 
 // Gives a chunk its bytes, where it was never written.
 fn lay(bytes: &mut Vec<u8>)
-    requires { IsChunk 65536 (vec_capacity bytes.old) bytes.old.items }
-    ensures bytes { bytes.new.items ≡ laid 65536 bytes.old.items }
-    ensures size { length bytes.new.items ≡ 65536 }
-    ensures room { 65536 ≤ vec_capacity bytes.new }
+    requires { IsChunk 262144 (vec_capacity bytes.old) bytes.old.items }
+    ensures bytes { bytes.new.items ≡ laid 262144 bytes.old.items }
+    ensures size { length bytes.new.items ≡ 262144 }
+    ensures room { 262144 ≤ vec_capacity bytes.new }
 {
     if bytes.is_empty() {
         // There is room.

@@ -2,7 +2,7 @@
 //!
 //! - [`Zeroed`] is such a memory: a fixed number of bytes, all zero at first, read and written in ranges.
 //!
-//! A memory of many gigabytes of which few are ever written costs what is written: its bytes lie in chunks of 64 KiB, each of which has its
+//! A memory of many gigabytes of which few are ever written costs what is written: its bytes lie in chunks of 256 KiB, each of which has its
 //! room from the start and gets its bytes at its first store. So no store wants memory, and the system gives pages to what is written alone.
 //!
 //! [`Zeroed::new`] takes memory, and nothing else does.

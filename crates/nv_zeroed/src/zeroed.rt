@@ -27,7 +27,7 @@ impl Model for Zeroed {
 
     ghost view = { λ z. memory_of z.len z.chunks.items };
 
-    ghost invariant = { λ z. IsMemory 65536 z.len z.chunks.items };
+    ghost invariant = { λ z. IsMemory 262144 z.len z.chunks.items };
 }
 
 impl Zeroed {
@@ -136,7 +136,7 @@ impl Zeroed {
     // Reads bytes that lie in one chunk.
     fn load_part(&self, at: usize, out: &mut [u8])
         requires bytes { at + length out.old ≤ length self.now }
-        requires chunk { at % 65536 + length out.old ≤ 65536 }
+        requires chunk { at % 262144 + length out.old ≤ 262144 }
         ensures { out.new ≡ bytes_at self.now at (length out.old) }
     {
         if out.is_empty() {
@@ -159,7 +159,7 @@ impl Zeroed {
     // Writes bytes of one chunk.
     fn store_part(&mut self, at: usize, bytes: &[u8])
         requires bytes { at + length bytes.now ≤ length self.old }
-        requires chunk { at % 65536 + length bytes.now ≤ 65536 }
+        requires chunk { at % 262144 + length bytes.now ≤ 262144 }
         ensures { self.new ≡ after_store self.old at bytes.now }
     {
         if bytes.is_empty() {
@@ -172,8 +172,8 @@ impl Zeroed {
     fn copy_part(&mut self, from: usize, to: usize, len: usize)
         requires from { from + len ≤ length self.old }
         requires to { to + len ≤ length self.old }
-        requires from_chunk { from % 65536 + len ≤ 65536 }
-        requires to_chunk { to % 65536 + len ≤ 65536 }
+        requires from_chunk { from % 262144 + len ≤ 262144 }
+        requires to_chunk { to % 262144 + len ≤ 262144 }
         ensures { self.new ≡ after_store self.old to (bytes_at self.old from len) }
     {
         if len == 0 {

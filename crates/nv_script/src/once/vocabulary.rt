@@ -84,6 +84,17 @@ pub fn look_up(word: Word<'_>) -> Option<Keyword>
 pub fn keyword_in<K: Copy>(rows: &[(&[u8], K)], word: &[u8]) -> Option<K>
     ensures { result ≡ lookup (λ name. bytes_eq name word.now) (map (λ row. (row.0.now, row.1)) rows.now) }
 {
-    let (_, keyword) = rows.iter().find(|row| row.0 == word)?;
+    let (_, keyword) = rows.iter().find(|row| is_same(row.0, word))?;
     Some(*keyword)
+}
+
+// Whether two words are the same. Most differ in their first byte, which spares the look at the others.
+#[inline(always)]
+fn is_same(one: &[u8], other: &[u8]) -> bool
+    ensures { result ≡ bytes_eq one.now other.now }
+{
+    match (one.first(), other.first()) {
+        (Some(a), Some(b)) if *a != *b => false,
+        _ => one == other,
+    }
 }

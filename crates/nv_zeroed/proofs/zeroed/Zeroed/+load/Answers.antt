@@ -10,5 +10,5 @@ returns-else-out-room m c =
     ap (λ (xs : List ℕ). length xs) c.split_at_mut-part.ensures.value ∙ length-append c.split_at_mut-part.result.0.now c.split_at_mut-part.result.1.now in
     ap (λ (xs : List ℕ). xs ++ c.load.new.out) c.load_part-else-out-room.ensures
     ∙ ap (λ (xs : List ℕ). bytes_at c.args.self.now c.args.at (length c.split_at_mut-part.result.0.now) ++ xs) c.load.ensures
-    ∙ read-in-two c.args.at (65536 - c.args.at % 65536) (length c.split_at_mut-part.result.0.now) (length c.split_at_mut-part.result.1.now) (length c.args.out.now)
+    ∙ read-in-two c.args.at (262144 - c.args.at % 262144) (length c.split_at_mut-part.result.0.now) (length c.split_at_mut-part.result.1.now) (length c.args.out.now)
     c.args.self.now c.split_at_mut-part.ensures.front_len all

@@ -6,8 +6,8 @@ use Rattle.nv_zeroed.proofs.zeroed.Zeroed.+store.Goals as goal
 pub returns-else-bytes-room : goal.returns-else-bytes-room
 returns-else-bytes-room m c =
     let some = c.if-bytes-room.false in
-    let fits : 65536 - c.args.at % 65536 ≤ length c.args.bytes.now = omega arith in
+    let fits : 262144 - c.args.at % 262144 ≤ length c.args.bytes.now = omega arith in
     c.store.ensures
-    ∙ ap (λ (xs : List ℕ). after_store xs (c.args.at + (65536 - c.args.at % 65536))
-    (take (length c.args.bytes.now - (65536 - c.args.at % 65536)) (drop (65536 - c.args.at % 65536) c.args.bytes.now))) c.store_part-else-bytes-room.ensures
-    ∙ store-in-two c.args.at (65536 - c.args.at % 65536) c.args.bytes.now c.args.self.now fits c.requires
+    ∙ ap (λ (xs : List ℕ). after_store xs (c.args.at + (262144 - c.args.at % 262144))
+    (take (length c.args.bytes.now - (262144 - c.args.at % 262144)) (drop (262144 - c.args.at % 262144) c.args.bytes.now))) c.store_part-else-bytes-room.ensures
+    ∙ store-in-two c.args.at (262144 - c.args.at % 262144) c.args.bytes.now c.args.self.now fits c.requires

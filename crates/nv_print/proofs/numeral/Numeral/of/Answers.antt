@@ -1,0 +1,6 @@
+use Rattle.std.proofs.Common.{arith, rules}
+use Rattle.std.proofs.lemmas.Fmt.{length-decimal-le}
+use Rattle.nv_print.proofs.numeral.Numeral.of.Goals as goal
+
+pub write_digits-start-requires : goal.write_digits-start-requires
+write_digits-start-requires c = (search (rules, length-decimal-le 20), search rules)
