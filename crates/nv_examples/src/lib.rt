@@ -3,6 +3,7 @@
 #![tactic(auto)]
 
 pub mod breaches;
+pub mod edges;
 pub mod no_replays;
 pub mod second_story;
 pub mod story;
