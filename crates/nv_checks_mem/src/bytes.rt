@@ -1,6 +1,6 @@
 //! Bytes as a value of their own, a few and many.
 
-use nv_mem::Bytes;
+use nv_mem::{BoxedBytes, Bytes};
 use std::process::Abort;
 use std::test::Fail;
 
@@ -20,10 +20,31 @@ fn expect(rt: &(impl Abort + AllocGlobal), len: usize) -> Result<(), Fail> {
     Ok(())
 }
 
+// The same of bytes behind one pointer.
+fn expect_boxed(rt: &(impl Abort + AllocGlobal), len: usize) -> Result<(), Fail> {
+    let sevens = vec![in rt.alloc(); 7u8; len]?;
+    let nines = vec![in rt.alloc(); 9u8; len]?;
+    let mut bytes = BoxedBytes::from_slice(rt.alloc(), &sevens)?;
+    assert!(rt; bytes.as_slice() == sevens.as_slice());
+    bytes.copy_from_slice(&nines);
+    assert!(rt; bytes.as_slice() == nines.as_slice());
+    let moved = BoxedBytes::new(rt.alloc(), sevens)?;
+    assert!(rt; moved.as_slice().len() == len && moved.as_slice() != bytes.as_slice() || len == 0);
+    Ok(())
+}
+
 #[test]
 fn keeps_few_and_many(rt: HostRuntime) -> Result<(), Fail> {
     for len in LENGTHS {
         expect(&rt, len)?;
+    }
+    Ok(())
+}
+
+#[test]
+fn keeps_them_behind_a_pointer(rt: HostRuntime) -> Result<(), Fail> {
+    for len in LENGTHS {
+        expect_boxed(&rt, len)?;
     }
     Ok(())
 }
