@@ -1,11 +1,11 @@
-//! A world with two guests, each with 128 KiB of memory and 64 blocks, and the entries of their commands.
+//! A world with two lanes and two guests, each with 128 KiB of memory and 64 blocks, and the entries of their commands.
 
 use nv_mem::{GuestMap, Region};
 use nv_world::{GuestSetup, Setup, World};
 use std::alloc::Global;
 
 /// How many bytes the host has, and each guest's memory.
-pub const HOST: u64 = 0x100_0000;
+pub const HOST: u64 = 0x200_0000;
 
 pub const MEMORY: u64 = 0x2_0000;
 
@@ -44,7 +44,7 @@ pub fn opened(alloc: Global) -> Option<World> {
         host_bytes: HOST,
         mediator: 0x40_0000,
         disk_blocks: 4096,
-        lanes: 1,
+        lanes: 2,
         guests: vec![in alloc; first, second].ok()?,
     };
     World::new(alloc, setup).ok()

@@ -14,6 +14,10 @@ mod heaps;
 #[cfg(test)]
 mod mismatches;
 #[cfg(test)]
+mod preparing;
+#[cfg(test)]
 mod resuming;
 #[cfg(test)]
 mod running;
+#[cfg(test)]
+mod turns;

@@ -75,7 +75,7 @@ pub(crate) fn read_bytes(
 fn read_few(given: &Given, addr: u64, host: &Host, room: &mut [u8]) -> Bytes
     requires host { given.now.memory_map.host_len ≡ length host.now }
     requires mapped { everywhere (mapped given.now.memory_map.regions) addr (length room.old) ≡ true }
-    requires few { length room.old ≤ 14 }
+    requires few { length room.old ≤ 7 }
     ensures { result ≡ bytes_from (image given.now.memory_map.regions (byte_in host.now)) addr (length room.old) }
 {
     nv_bounce::load(addr, given.map(), host, room);

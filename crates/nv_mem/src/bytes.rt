@@ -66,7 +66,7 @@ impl Bytes {
 
     /// These bytes, [`FEW`] at most, which take no memory.
     pub fn few(bytes: &[u8]) -> Self
-        requires { length bytes.now ≤ 14 }
+        requires { length bytes.now ≤ 7 }
         ensures { result ≡ bytes.now }
     {
         Bytes {

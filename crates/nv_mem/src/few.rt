@@ -3,20 +3,22 @@
 ghost use Rattle.std.specs.Prelude.{◌≡◌, ◌≤◌, length, take};
 
 /// How many bytes stand in a value of [`crate::Bytes`] itself, at most.
-pub const FEW: usize = 14;
+pub const FEW: usize = 7;
 
-/// So many bytes, the first of these.
+/// So many bytes, the first of these: one word together, which a copy loads and stores at once.
 #[derive(Debug, Drop)]
 pub(crate) struct Few {
     len: u8,
     bytes: [u8; FEW],
-    ghost in_range: { len ≤ 14 },
+    // Of no length: it has the value stand where words do.
+    place: [u64; 0],
+    ghost in_range: { len ≤ 7 },
 }
 
 impl Few {
     /// As many bytes as there are.
     pub(crate) fn of(bytes: &[u8]) -> Self
-        requires { length bytes.now ≤ 14 }
+        requires { length bytes.now ≤ 7 }
         ensures { take result.len result.bytes ≡ bytes.now }
     {
         let mut few = [0; FEW];
@@ -24,6 +26,7 @@ impl Few {
         Few {
             len: bytes.len() as u8,
             bytes: few,
+            place: [],
         }
     }
 

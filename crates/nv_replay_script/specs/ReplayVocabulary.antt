@@ -12,7 +12,7 @@ use Rattle.nv_replay_script.specs.declared.vocabulary.SetUpKind.{SetUpKind}
 use Rattle.nv_replay_script.specs.declared.vocabulary.SetUpKind.TheVariants.{Size, Guest, Map}
 use Rattle.nv_replay_script.specs.declared.vocabulary.Keyword.TheVariants.{SetUp, Event, Await, AwaitReg, Foreign}
 
--- the first words, and the lines that they begin: events first, since a script has mostly these. A line of `once` keeps
+-- the first words, and the lines that they begin. A line of `once` keeps
 -- only how many words stand behind its first; of `store` and `fill` it is the count of `replay` and `run`.
 unfoldable pub vocabulary : List (List ℕ × Keyword)
 vocabulary =
@@ -30,11 +30,8 @@ vocabulary =
     ∷ []
 
 -- the line that a first word begins
-abbrev pub keyword_among : List (List ℕ × Keyword) → List ℕ → Option Keyword
-keyword_among rows word = lookup (λ name. bytes_eq name word) rows
-
 unfoldable pub keyword_of : List ℕ → Option Keyword
-keyword_of word = keyword_among vocabulary word
+keyword_of word = lookup (λ name. bytes_eq name word) vocabulary
 
 -- how many words stand behind the number of the guest whose act a line is
 abbrev pub act_arguments : ActKind → ℕ

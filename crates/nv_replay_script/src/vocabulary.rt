@@ -1,6 +1,6 @@
 //! The words that a line may begin with.
-ghost use Rattle.std.specs.Prelude.{◌≡◌, ◌∷◌, ℕ, List, map};
-ghost use Rattle.nv_replay_script.specs.ReplayVocabulary.{keyword_among, keyword_of};
+ghost use Rattle.std.specs.Prelude.{◌≡◌, Some};
+ghost use Rattle.nv_replay_script.specs.ReplayVocabulary.{keyword_of};
 
 use nv_script::once::vocabulary::keyword_in;
 use nv_script::once::word::Word;
@@ -100,91 +100,89 @@ pub enum Keyword {
 /// How many words stand behind the first of a line of `run` alone.
 pub const AWAIT_ARGUMENTS: usize = 3;
 
-/// The first words of every subcommand, by their first letter: those of the letters that a script has most.
-static ON_A: [(&[u8], Keyword); 3] = [
-    (b"admin", Keyword::Event(EventKind::Admin)),
-    (b"await", Keyword::Await),
-    (b"awaitreg", Keyword::AwaitReg),
-];
-
-static ON_B: [(&[u8], Keyword); 3] = [
-    (b"bell", Keyword::Event(EventKind::Act(ActKind::Bell))),
-    (b"blocks", Keyword::Foreign(1)),
-    (b"block", Keyword::Foreign(1)),
-];
-
-static ON_D: [(&[u8], Keyword); 6] = [
+/// Every first word of every subcommand.
+const VOCABULARY: [(&[u8], Keyword); 32] = [
     (b"devmove", Keyword::Event(EventKind::DevMove)),
     (b"devtake", Keyword::Event(EventKind::DevTake)),
     (b"devpost", Keyword::Event(EventKind::DevPost)),
-    (b"devfail", Keyword::Event(EventKind::DevFail)),
-    (b"disk", Keyword::SetUp(SetUpKind::Size(Size::Disk))),
-    (b"dump", Keyword::Foreign(2)),
-];
-
-static ON_L: [(&[u8], Keyword); 3] = [
+    (b"reap", Keyword::Event(EventKind::Reap)),
+    (b"post", Keyword::Event(EventKind::Post)),
+    (b"bell", Keyword::Event(EventKind::Act(ActKind::Bell))),
+    (b"store", Keyword::Event(EventKind::Act(ActKind::Store))),
+    (b"take", Keyword::Event(EventKind::Take)),
+    (b"submit", Keyword::Event(EventKind::Submit)),
     (b"list", Keyword::Event(EventKind::List)),
     (b"load", Keyword::Event(EventKind::Act(ActKind::Load))),
-    (b"lanes", Keyword::SetUp(SetUpKind::Size(Size::Lanes))),
-];
-
-static ON_P: [(&[u8], Keyword); 2] = [
-    (b"post", Keyword::Event(EventKind::Post)),
-    (b"paint", Keyword::Foreign(2)),
-];
-
-static ON_R: [(&[u8], Keyword); 3] = [
-    (b"reap", Keyword::Event(EventKind::Reap)),
     (b"regread", Keyword::Event(EventKind::Act(ActKind::RegRead))),
     (
         b"regwrite",
         Keyword::Event(EventKind::Act(ActKind::RegWrite)),
     ),
-];
-
-static ON_S: [(&[u8], Keyword); 2] = [
-    (b"store", Keyword::Event(EventKind::Act(ActKind::Store))),
-    (b"submit", Keyword::Event(EventKind::Submit)),
-];
-
-static ON_T: [(&[u8], Keyword); 1] = [(b"take", Keyword::Event(EventKind::Take))];
-
-/// Those of all other letters.
-static OTHERS: [(&[u8], Keyword); 9] = [
+    (b"admin", Keyword::Event(EventKind::Admin)),
     (b"fill", Keyword::Event(EventKind::Act(ActKind::Fill))),
     (b"giveup", Keyword::Event(EventKind::GiveUp)),
+    (b"devfail", Keyword::Event(EventKind::DevFail)),
     (b"keep", Keyword::Event(EventKind::Keep)),
     (b"host", Keyword::SetUp(SetUpKind::Size(Size::Host))),
     (b"mediator", Keyword::SetUp(SetUpKind::Size(Size::Mediator))),
+    (b"disk", Keyword::SetUp(SetUpKind::Size(Size::Disk))),
+    (b"lanes", Keyword::SetUp(SetUpKind::Size(Size::Lanes))),
     (b"guest", Keyword::SetUp(SetUpKind::Guest)),
     (b"map", Keyword::SetUp(SetUpKind::Map)),
+    (b"await", Keyword::Await),
+    (b"awaitreg", Keyword::AwaitReg),
     (b"memory", Keyword::Foreign(1)),
+    (b"blocks", Keyword::Foreign(1)),
+    (b"paint", Keyword::Foreign(2)),
     (b"cmd", Keyword::Foreign(1)),
+    (b"dump", Keyword::Foreign(2)),
+    (b"block", Keyword::Foreign(1)),
 ];
 
 /// What a line is that begins with this word, or `None` for a word that no subcommand knows.
+#[inline(always)]
 pub fn look_up(word: Word<'_>) -> Option<Keyword>
     ensures { result ≡ keyword_of word.entry }
 {
     let word = word.text();
-    let (first, _) = word.split_first()?;
-    keyword_in(words_on(*first), word)
+    let (name, keyword) = likely(word);
+    if word == name {
+        return Some(keyword);
+    }
+    look_up_any(word)
 }
 
-// The words that may begin with this letter.
+// The word of an event that this one is likely to be, as its first letters say, and what its line is. Nearly all lines of a script are told so,
+// by a comparison.
 #[inline(always)]
-fn words_on(first: u8) -> &'static [(&'static [u8], Keyword)]
-    ensures { (rest : List ℕ) → keyword_among (map (λ row. (row.0.now, row.1)) result.now) (first ∷ rest) ≡ keyword_of (first ∷ rest) }
+fn likely(word: &[u8]) -> (&'static [u8], Keyword)
+    ensures { keyword_of result.0.now ≡ Some result.1 }
 {
-    match first {
-        b'a' => &ON_A,
-        b'b' => &ON_B,
-        b'd' => &ON_D,
-        b'l' => &ON_L,
-        b'p' => &ON_P,
-        b'r' => &ON_R,
-        b's' => &ON_S,
-        b't' => &ON_T,
-        _ => &OTHERS,
+    match word {
+        [b'a', ..] => (b"admin", Keyword::Event(EventKind::Admin)),
+        [b'b', ..] => (b"bell", Keyword::Event(EventKind::Act(ActKind::Bell))),
+        [b'd', _, _, b't', ..] => (b"devtake", Keyword::Event(EventKind::DevTake)),
+        [b'd', _, _, b'p', ..] => (b"devpost", Keyword::Event(EventKind::DevPost)),
+        [b'd', ..] => (b"devmove", Keyword::Event(EventKind::DevMove)),
+        [b'l', b'i', ..] => (b"list", Keyword::Event(EventKind::List)),
+        [b'l', ..] => (b"load", Keyword::Event(EventKind::Act(ActKind::Load))),
+        [b'p', ..] => (b"post", Keyword::Event(EventKind::Post)),
+        [b'r', _, b'a', ..] => (b"reap", Keyword::Event(EventKind::Reap)),
+        [b'r', _, _, b'w', ..] => (
+            b"regwrite",
+            Keyword::Event(EventKind::Act(ActKind::RegWrite)),
+        ),
+        [b'r', ..] => (b"regread", Keyword::Event(EventKind::Act(ActKind::RegRead))),
+        [b's', b'u', ..] => (b"submit", Keyword::Event(EventKind::Submit)),
+        [b't', ..] => (b"take", Keyword::Event(EventKind::Take)),
+        _ => (b"store", Keyword::Event(EventKind::Act(ActKind::Store))),
     }
+}
+
+// The same of any word.
+#[inline(never)]
+fn look_up_any(word: &[u8]) -> Option<Keyword>
+    ensures { result ≡ keyword_of word.now }
+{
+    keyword_in(&VOCABULARY, word)
 }

@@ -7,7 +7,7 @@ ghost use Rattle.nv_run.specs.Shown.{shows};
 use nv_mem::NoMemory;
 use nv_model::{Act, Reply};
 use nv_run_script::{Line, Task};
-use nv_threads::{Port, Shared, copies};
+use nv_threads::{Port, Shared};
 use std::alloc::Global;
 use std::sync::Wait;
 use std::thread;
@@ -106,7 +106,7 @@ fn go<R: Wait>(
     ensures ok { OnOk result (Grows port.old.calls port.new.calls (IsGone port.old.guest (Task.Act act.now))) }
     ensures err { IfErr result IsEarly }
 {
-    let Ok(act) = copies::act(alloc, act) else {
+    let Ok(act) = act.try_clone(alloc) else {
         return Err(End::NoMemory);
     };
     match port.act(rt, alloc, shared, act) {

@@ -16,7 +16,6 @@
 
 pub mod alike;
 mod calls;
-pub mod copies;
 mod counting;
 mod device_side;
 mod finishing;

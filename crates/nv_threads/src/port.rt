@@ -2,7 +2,6 @@
 
 ghost use Rattle.std.specs.Prelude.{◌≡◌, ◌≢◌, ◌<◌, IfOk, [], ◌∷◌, ◌++◌, OnErr};
 
-use crate::copies;
 use crate::shared::Shared;
 use crate::telling::tell;
 use nv_mem::NoMemory;
@@ -62,7 +61,7 @@ impl Port {
         ensures err { OnErr result (self.new ≡ self.old) }
     {
         self.calls.reserve(1)?;
-        let again = copies::act(alloc, &act)?;
+        let again = act.try_clone(alloc)?;
         let (reply, kept) = tell(&mut shared.world.lock(rt), alloc, self.guest, act)?;
         self.calls.push_reserved(Logged {
             event: Event::Guest(self.guest, again),

@@ -4,8 +4,8 @@ ghost use Rattle.std.specs.Prelude.{◌≡◌, IfOk, IfSome, IsSome, None, OnErr
 ghost use Rattle.nv_core.specs.Seat.{bytes_told};
 ghost use Rattle.nv_model.specs.declared.reply.Reply.TheVariants as Reply;
 
-use nv_mem::{BoxedBytes, Bytes, NoMemory};
-use nv_model::{Act, Reply};
+use nv_mem::{Bytes, NoMemory};
+use nv_model::Reply;
 use nv_world_model::Event;
 use std::alloc::Global;
 use std::mem;
@@ -67,7 +67,7 @@ pub(crate) fn event(alloc: Global, event: &Event) -> Result<Event, NoMemory>
     ensures { IfOk result (λ copy. copy ≡ event.now) }
 {
     match event {
-        Event::Guest(guest, act) => Ok(Event::Guest(*guest, self::act(alloc, act)?)),
+        Event::Guest(guest, act) => Ok(Event::Guest(*guest, act.try_clone(alloc)?)),
         Event::Admin(guest) => Ok(Event::Admin(*guest)),
         Event::Take(guest, queue, lane) => Ok(Event::Take(*guest, *queue, *lane)),
         Event::List(lane, tag, addr, len) => Ok(Event::List(*lane, *tag, *addr, *len)),
@@ -80,31 +80,6 @@ pub(crate) fn event(alloc: Global, event: &Event) -> Result<Event, NoMemory>
         Event::Keep(block) => Ok(Event::Keep(*block)),
         Event::Reap(lane) => Ok(Event::Reap(*lane)),
         Event::Post(lane, tag) => Ok(Event::Post(*lane, *tag)),
-    }
-}
-
-// An act once more.
-fn act(alloc: Global, act: &Act) -> Result<Act, NoMemory>
-    ensures { IfOk result (λ copy. copy ≡ act.now) }
-{
-    match act {
-        Act::Store { addr, bytes } => {
-            let bytes = BoxedBytes::from_slice(alloc, bytes.as_slice())?;
-            Ok(Act::Store { addr: *addr, bytes })
-        }
-        Act::Load { addr, len } => Ok(Act::Load {
-            addr: *addr,
-            len: *len,
-        }),
-        Act::RegRead { offset } => Ok(Act::RegRead { offset: *offset }),
-        Act::RegWrite { offset, value } => Ok(Act::RegWrite {
-            offset: *offset,
-            value: *value,
-        }),
-        Act::Doorbell { offset, value } => Ok(Act::Doorbell {
-            offset: *offset,
-            value: *value,
-        }),
     }
 }
 
