@@ -1,6 +1,7 @@
 //! Bytes as a value of their own, a few and many.
 
 use nv_mem::{BoxedBytes, Bytes};
+use std::mem::{align_of, size_of};
 use std::process::Abort;
 use std::test::Fail;
 
@@ -46,5 +47,13 @@ fn keeps_them_behind_a_pointer(rt: HostRuntime) -> Result<(), Fail> {
     for len in LENGTHS {
         expect_boxed(&rt, len)?;
     }
+    Ok(())
+}
+
+// So few that they are copied as words, whatever they carry.
+#[test]
+fn takes_two_words(rt: HostRuntime) -> Result<(), Fail> {
+    assert_eq!(rt; size_of::<Bytes>(), 16);
+    assert_eq!(rt; align_of::<Bytes>(), 8);
     Ok(())
 }
