@@ -1,0 +1,171 @@
+//! The workloads.
+
+use crate::digest::Digest;
+use crate::guests;
+use crate::lists::Lists;
+use crate::shape::Shape;
+use crate::sink::{Mediated, Script};
+use crate::text::Text;
+use crate::traffic::Traffic;
+use nv_flat::FlatController;
+use nv_mem::NoMemory;
+use nv_once::{Command, Request, serve};
+use nv_world::World;
+use std::alloc::Global;
+use std::sync::Wait;
+use std::thread::Threads;
+use std::time::Clock;
+
+/// A workload.
+#[derive(Clone, Copy, Debug, PartialEq, Eq)]
+pub enum Workload {
+    /// a script of `nvmed replay`
+    Replay,
+    /// a host that steps a world
+    Host,
+    /// a script of `nvmed once`
+    Lists,
+    /// a script of `nvmed run`
+    Guests,
+    /// a host that steps a world which is as awkward as may be
+    Awkward,
+}
+
+/// It ended with a fault, or there was no memory.
+#[derive(Clone, Copy, Debug)]
+pub struct Failed;
+
+impl From<NoMemory> for Failed {
+    fn from(_error: NoMemory) -> Self {
+        Failed
+    }
+}
+
+/// 8 guests on 4 lanes, queues filled up to 32 deep, each guest's memory in 4 regions.
+const REPLAYED: Shape = Shape {
+    guests: 8,
+    lanes: 4,
+    regions: 4,
+    host: 0x1000_0000,
+    disk: 0x2_0000,
+    depth: 32,
+    flushes: 32,
+    odd: 8,
+    large: 16,
+    is_awkward: false,
+};
+
+/// 16 guests on 8 lanes, each guest's memory in 16 regions.
+const HOSTED: Shape = Shape {
+    guests: 16,
+    lanes: 8,
+    regions: 16,
+    host: 0x2000_0000,
+    disk: 0x4_0000,
+    depth: 32,
+    flushes: 64,
+    odd: 10,
+    large: 16,
+    is_awkward: false,
+};
+
+/// 16 guests on 8 lanes, each guest's memory in 64 regions, the largest host and disk, and one command in 8 a Flush.
+const AWKWARD: Shape = Shape {
+    guests: 16,
+    lanes: 8,
+    regions: 64,
+    host: 0x4000_0000,
+    disk: 0x20_0000,
+    depth: 32,
+    flushes: 8,
+    odd: 4,
+    large: 16,
+    is_awkward: true,
+};
+
+impl Workload {
+    /// The workload of that name.
+    pub fn of(word: &str) -> Option<Self> {
+        match word {
+            "replay" => Some(Workload::Replay),
+            "host" => Some(Workload::Host),
+            "lists" => Some(Workload::Lists),
+            "guests" => Some(Workload::Guests),
+            "awkward" => Some(Workload::Awkward),
+            _ => None,
+        }
+    }
+
+    /// Its script, of so many commands.
+    pub fn script(self, alloc: Global, seed: u64, count: u64) -> Result<Text, NoMemory> {
+        match self {
+            Workload::Replay => replay_script(alloc, REPLAYED, seed, count),
+            Workload::Host => replay_script(alloc, HOSTED, seed, count),
+            Workload::Awkward => replay_script(alloc, AWKWARD, seed, count),
+            Workload::Lists => Lists::script(alloc, seed, count),
+            Workload::Guests => guests::script(alloc, seed, count),
+        }
+    }
+
+    /// Does it with so many commands, and gives the digest of its results.
+    pub fn run<R: Threads + Wait + Clock + Sync>(
+        self,
+        rt: &R,
+        alloc: Global,
+        seed: u64,
+        count: u64,
+    ) -> Result<Digest, Failed> {
+        let request = match self {
+            Workload::Host => return hosted(alloc, HOSTED, seed, count),
+            Workload::Awkward => return hosted(alloc, AWKWARD, seed, count),
+            Workload::Replay => Request::Alone(Command::Replay),
+            Workload::Lists => Request::Alone(Command::Once),
+            Workload::Guests => Request::Run,
+        };
+        let text = self.script(alloc, seed, count)?;
+        let mut input = text.as_slice();
+        let mut faults = Digest::new();
+        let ended = serve::<FlatController, R, &[u8], Digest, Digest>(
+            rt,
+            alloc,
+            Ok(request),
+            &mut input,
+            Digest::new(),
+            &mut faults,
+        );
+        ended.map_err(|_| Failed)
+    }
+}
+
+// The script of `nvmed replay` with the traffic of a shape.
+fn replay_script(alloc: Global, shape: Shape, seed: u64, count: u64) -> Result<Text, NoMemory> {
+    let mut text = Text::new(alloc);
+    shape.script(&mut text)?;
+    let mut traffic = Traffic::new(alloc, shape, seed, Script { text })?;
+    traffic.run(count)?;
+    Ok(traffic.end().text)
+}
+
+// A host that steps the world of a shape.
+fn hosted(alloc: Global, shape: Shape, seed: u64, count: u64) -> Result<Digest, Failed> {
+    let Some(setup) = shape.setup(alloc)? else {
+        return Err(Failed);
+    };
+    let Ok(world) = World::new(alloc, setup) else {
+        return Err(Failed);
+    };
+    let mut traffic = Traffic::new(alloc, shape, seed, Mediated::new(alloc, world))?;
+    traffic.run(count)?;
+    let (world, mut digest) = traffic.end().end();
+    digest.number(world.log().len() as u64);
+    for number in 0..2048u64 {
+        let block = number.wrapping_mul(shape.disk / 2048);
+        if let Some(bytes) = world.block(block) {
+            digest.bytes(bytes);
+        }
+        if let Some(kept) = world.kept(block) {
+            digest.number(u64::from(kept));
+        }
+    }
+    Ok(digest)
+}
