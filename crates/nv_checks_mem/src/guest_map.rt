@@ -347,6 +347,103 @@ fn takes_sixty_four_regions(rt: HostRuntime) -> Result<(), Fail> {
     Ok(())
 }
 
+// The host address of a guest address in a map of pages that lie in pairs, a page apart: those of every other pair touch in guest and
+// host, those of the pairs between in the guest alone, since they lie the other way round in the host.
+fn paired_at(addr: u64) -> Option<u64> {
+    let pair = addr / PAGE / 3;
+    let of_pair = addr / PAGE % 3;
+    if of_pair == 2 {
+        return None;
+    }
+    let in_host = if pair % 2 == 0 { of_pair } else { 1 - of_pair };
+    Some((2 * (pair % 0x1000) + in_host) * PAGE + addr % PAGE)
+}
+
+// That many pages in pairs, in no order.
+fn paired(alloc: Global, count: u64) -> Result<Vec<Region>, NoMemory> {
+    let mut regions = Vec::new(alloc);
+    for i in 0..count.min(0x1000) {
+        let page = i * 37 % count;
+        let guest = (page / 2 % 0x1000 * 3 + page % 2) * PAGE;
+        regions.push(region!(guest, paired_at(guest).unwrap_or(0), PAGE))?;
+    }
+    Ok(regions)
+}
+
+// Whether the map has the first and the last byte of each page where they are to lie, as far as its pairs reach.
+fn has_each_page_in_place(map: &GuestMap, pages: u64) -> bool {
+    (0..pages.min(0x1000)).all(|page| {
+        let first = page * PAGE;
+        let last = first + (PAGE - 1);
+        has_byte_in_place(map, first) && has_byte_in_place(map, last)
+    })
+}
+
+fn has_byte_in_place(map: &GuestMap, addr: u64) -> bool {
+    let host = paired_at(addr);
+    map.run(addr, 1) == host.map(|host| (host, 1)) && map.holds(addr, 1) == host.is_some()
+}
+
+/// An address, a length, and whether so many bytes from there on are mapped by 64 paired pages, or more.
+const HELD_PAIRED: &[(u64, u64, bool)] = &[
+    // both pages of a pair, the first and the last of 64 pages
+    (0, 0x2000, true),
+    (0, 0x2001, false),
+    (0x3000, 0x2000, true),
+    (0x3fff, 2, true),
+    (0x5d000, 0x2000, true),
+    (0x5d000, 0x2001, false),
+    // up to a gap, in it, and across it
+    (0x4fff, 1, true),
+    (0x4fff, 2, false),
+    (0x2000, 1, false),
+    (0x2fff, 2, false),
+    (0x1000, 0x3000, false),
+    (0, 0x5f000, false),
+    (0, MAX, false),
+    (MAX, 1, false),
+    (MAX, MAX, false),
+    (0x5f000, 0, true),
+];
+
+/// An address, a length, and the run of 64 paired pages, or more, that begins there.
+const RUNS_PAIRED: &[(u64, u64, Option<(u64, u64)>)] = &[
+    // across pages that touch in guest and host
+    (0, 0x2000, Some((0, 0x2000))),
+    (1, MAX, Some((1, 0x1fff))),
+    (0xfff, 2, Some((0xfff, 2))),
+    (0x5a800, 0x3000, Some((0x3c800, 0x1800))),
+    // up to the end of one, where they touch in the guest alone
+    (0x3000, 0x2000, Some((0x3000, 0x1000))),
+    (0x3fff, 2, Some((0x3fff, 1))),
+    (0x4000, 0x2000, Some((0x2000, 0x1000))),
+    (0x5efff, 2, Some((0x3efff, 1))),
+    // in a gap
+    (0x2000, 1, None),
+    (0x2fff, 2, None),
+    (0x5f000, 1, None),
+    (MAX, 1, None),
+];
+
+// A map of that many paired pages is right in every page, and in runs and ranges that go from one to another.
+fn check_paired(rt: &impl Abort, alloc: Global, count: u64) -> Result<(), Fail> {
+    let map = map_of(alloc, 0x80_000, &paired(alloc, count)?)?;
+    assert!(rt; has_each_page_in_place(&map, 3 * 32));
+    check_held(rt, &map, HELD_PAIRED);
+    check_runs(rt, &map, RUNS_PAIRED);
+    Ok(())
+}
+
+#[test]
+fn finds_sixty_four_regions_in_no_order(rt: HostRuntime) -> Result<(), Fail> {
+    check_paired(&rt, rt.alloc(), 64)
+}
+
+#[test]
+fn finds_more_than_sixty_four_regions_in_no_order(rt: HostRuntime) -> Result<(), Fail> {
+    check_paired(&rt, rt.alloc(), 128)
+}
+
 // Whether the map of 64 pages meets the host in all but its first page.
 fn meets_all_but_the_first_page(map: &GuestMap) -> bool {
     !map.meets_host(0, PAGE) && map.meets_host(0, PAGE + 1) && !map.meets_host(PAGE, 0)

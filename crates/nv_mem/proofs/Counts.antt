@@ -1,5 +1,5 @@
 -- How many addresses of a range the regions cover, against which of them are mapped.
-use Rattle.std.proofs.Common.{◌≡◌, ℕ, zero, suc, ◌+◌, ◌-◌, ◌<◌, ◌≤◌, true, false, ◌&&◌, List, [], ◌∷◌, Some, is_some, arith, refl, ap, ◌∙◌, cond, sum_by, get_or, eqb, eq-eqb}
+use Rattle.std.proofs.Common.{◌≡◌, ℕ, zero, suc, ◌+◌, ◌-◌, ◌<◌, ◌≤◌, ◌↔◌, Bool, IsTrue, true, false, ◌&&◌, List, [], ◌∷◌, Some, is_some, arith, refl, sym, ap, ◌∙◌, cond, sum_by, get_or, eqb, eq-eqb}
 use Rattle.std.proofs.lemmas.Bool.Decides.{nat_tests, Decides-below_and}
 use Rattle.std.proofs.lemmas.List.Elements.{All-head, All-tail}
 use Rattle.std.proofs.lemmas.List.Sums.{sum_by-cons}
@@ -25,6 +25,10 @@ AllMapped-tested rs addr len = (Decides-all_mapped rs addr len).0
 -- and wherever it is
 pub all_mapped-true : (rs : List Region) (addr len : ℕ) → AllMapped rs addr len → all_mapped rs addr len ≡ true
 all_mapped-true rs addr len = (Decides-all_mapped rs addr len).1
+
+-- what is equal to the test decides, too
+pub AllMapped-told : (rs : List Region) (addr len : ℕ) (told : Bool) → told ≡ all_mapped rs addr len → IsTrue told ↔ AllMapped rs addr len
+AllMapped-told rs addr len told same = (λ is. AllMapped-tested rs addr len (sym same ∙ is), λ all. same ∙ all_mapped-true rs addr len all)
 
 -- ---- the count
 

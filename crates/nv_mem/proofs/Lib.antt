@@ -3,6 +3,7 @@ pub mod Examples
 pub mod Images
 pub mod MappedRuns
 pub mod Memory
+pub mod Orders
 pub mod Overlaps
 pub mod PlaceLists
 pub mod Soundness

@@ -1,8 +1,9 @@
 -- Lemmas on runs of mapped addresses.
-use Rattle.std.proofs.Common.{◌≡◌, ℕ, ◌+◌, ◌-◌, ◌<◌, ◌≤◌, ◌^◌, ◌⊎◌, true, false, List, None, is_some, ap, arith, inl, inr}
+use Rattle.std.proofs.Common.{◌≡◌, ℕ, zero, suc, ◌+◌, ◌-◌, ◌<◌, ◌≤◌, ◌^◌, ◌⊎◌, true, false, List, None, Some, is_some, eqb, refl, sym, ap, ◌∙◌, subst, arith, inl, inr}
 use Rattle.std.proofs.lemmas.Bool.{cases_lt}
+use Rattle.std.proofs.lemmas.Bool.Decides.{nat_tests}
 use Rattle.nv_mem.specs.declared.region.Region.{Region}
-use Rattle.nv_mem.specs.GuestMap.{InImage, IsContiguous, IsLongestRun, IsSound, Mapping, everywhere, host_of, mapped, span_met}
+use Rattle.nv_mem.specs.GuestMap.{AllMapped, InImage, all_mapped, IsContiguous, IsLongestRun, IsSound, Mapping, everywhere, host_of, mapped, span_met}
 use Rattle.nv_mem.proofs.Counts.{AllMapped-tested}
 use Rattle.nv_mem.proofs.Memory.{span_met-image}
 use Rattle.nv_mem.proofs.Images.{IsContiguous-inside, host_of-high}
@@ -13,6 +14,42 @@ mapped-none rs addr len i all below none =
     let is : is_some (host_of rs (addr + i)) ≡ true = AllMapped-tested rs addr len all i below in
     let not : is_some (host_of rs (addr + i)) ≡ is_some {T = ℕ} None = ap (λ o. is_some o) none in
     cc
+
+-- so a range with an address that has none is not mapped
+pub all_mapped-gap : (rs : List Region) (addr len i : ℕ) → i < len → host_of rs (addr + i) ≡ None → all_mapped rs addr len ≡ false
+all_mapped-gap rs addr len i below none =
+    (elim (all_mapped rs addr len) as (λ b. all_mapped rs addr len ≡ b → b ≡ false) [
+      | true ↦ λ all. absurd (mapped-none rs addr len i all below none)
+      | false ↦ λ _. refl
+    ]) refl
+
+-- and where the first address has none, no range is mapped but the empty one
+pub all_mapped-none : (rs : List Region) (addr len : ℕ) → host_of rs addr ≡ None → eqb len 0 ≡ all_mapped rs addr len
+unfolding everywhere
+all_mapped-none rs addr zero none = refl
+all_mapped-none rs addr (suc n) none =
+    let P : ℕ → Type 0 = λ at. host_of rs at ≡ None in
+    let same : addr ≡ addr + 0 = omega arith in
+    let gap : all_mapped rs addr (suc n) ≡ false = all_mapped-gap rs addr (suc n) 0 (omega arith) (subst P same none) in
+    let some : eqb (suc n) 0 ≡ false = grind (arith, nat_tests) in
+    some ∙ sym gap
+
+-- mapped addresses and the front of a run behind them are mapped
+pub AllMapped-more : (rs : List Region) (addr done host n k : ℕ) → AllMapped rs addr done → IsContiguous rs (addr + done) host n → k ≤ n → AllMapped rs addr (done + k)
+AllMapped-more rs addr done host n k all run within = λ i below.
+    elim (cases_lt i done) [
+      | inl low ↦ all i low
+      | inr high ↦
+          let at : host_of rs (addr + done + (i - done)) ≡ Some (host + (i - done)) = run.contiguous (i - done) (omega arith) in
+          let same : addr + done + (i - done) ≡ addr + i = omega arith in
+          let is : host_of rs (addr + i) ≡ Some (host + (i - done)) = cc in
+          ap (λ o. is_some o) is
+    ]
+
+-- the front of a run is mapped
+pub AllMapped-run : (rs : List Region) (addr host n k : ℕ) → IsContiguous rs addr host n → k ≤ n → AllMapped rs addr k
+AllMapped-run rs addr host n k run within = λ i below.
+    let is : host_of rs (addr + i) ≡ Some (host + i) = run.contiguous i (omega arith) in ap (λ o. is_some o) is
 
 -- so it is below 2 to the 64
 pub mapped-below : (m : Mapping) (addr len i : ℕ) → IsSound m → everywhere (mapped m.regions) addr len ≡ true → i < len → addr + i < 2 ^ 64

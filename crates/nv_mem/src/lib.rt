@@ -35,6 +35,7 @@ mod boxed_bytes;
 mod bytes;
 mod few;
 pub mod guest_map;
+mod guest_order;
 pub mod host;
 pub mod laws;
 mod lookup;

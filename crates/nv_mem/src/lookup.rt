@@ -6,23 +6,9 @@ ghost use Rattle.nv_mem.specs.GuestMap.{covered_of, covers, hosts_meet, span_met
 use crate::region::Region;
 
 // How many of the `len` guest addresses from `addr` on lie in the regions, taken together.
-#[tactic(auto, unfolding(crate::specs::GuestMap::covered_of))]
-#[inline(always)]
-pub fn covered(regions: &[Region], addr: u64, len: u64) -> u64
-    requires { covered_of regions.now addr len ≤ len }
-    ensures { result ≡ covered_of regions.now addr len }
-{
-    // Most often the first region has them all.
-    match regions.first() {
-        Some(first) if first.overlap(addr, len) == len => len,
-        _ => covered_by_all(regions, addr, len),
-    }
-}
-
-// The same, region by region.
 #[inline(never)]
 #[tactic(auto, unfolding(crate::specs::GuestMap::covered_of))]
-fn covered_by_all(regions: &[Region], addr: u64, len: u64) -> u64
+pub fn covered(regions: &[Region], addr: u64, len: u64) -> u64
     requires { covered_of regions.now addr len ≤ len }
     ensures { result ≡ covered_of regions.now addr len }
 {
@@ -30,6 +16,7 @@ fn covered_by_all(regions: &[Region], addr: u64, len: u64) -> u64
 }
 
 // The region that a guest address lies in.
+#[inline(never)]
 pub fn find(regions: &[Region], addr: u64) -> Option<Region>
     ensures { result ≡ find (λ region. covers region addr) regions.now }
 {
