@@ -130,6 +130,34 @@ impl Cursor {
         }
     }
 
+    // Looks at `d`, behind which `self` is, and adds the piece that it names. A Data Block, the most
+    // frequent of them, is told from the others once for both.
+    #[inline(always)]
+    fn take(
+        &mut self,
+        map: &GuestMap,
+        dest: bool,
+        d: &Descriptor,
+        places: &mut Places,
+    ) -> Result<(), NoMemory>
+        requires array { self.old.from + 16 * self.old.left ≤ 2 ^ 64 }
+        requires total { self.old.total + (2 ^ 32 - 1) * (self.old.budget + 1) < 2 ^ 64 }
+        ensures behind { StandsBehind (mapped map.now.regions) dest self.old d.now self.new }
+        ensures in_range { IsInRange self.new }
+        ensures named { OnOk result (places.new ≡ places.old ++ pieces_by (kind_of d.now) dest d.now) }
+    {
+        match d.kind() {
+            Some(DescriptorType::DataBlock) => {
+                self.look_at_block(map, dest, d);
+                push_block(d, dest, places)
+            }
+            _ => {
+                self.look_at_any(map, dest, d);
+                push_piece(d, dest, places)
+            }
+        }
+    }
+
     // The same of a Data Block, the most frequent of them.
     #[inline(always)]
     fn look_at_block(&mut self, map: &GuestMap, _dest: bool, d: &Descriptor)
@@ -308,6 +336,20 @@ pub fn push_piece(d: &Descriptor, dest: bool, places: &mut Places) -> Result<(),
     Ok(())
 }
 
+// The same of a Data Block.
+#[inline(always)]
+fn push_block(d: &Descriptor, _dest: bool, places: &mut Places) -> Result<(), NoMemory>
+    requires { kind_of d.now ≡ Some DescriptorType.DataBlock }
+    ensures { OnOk result (places.new ≡ places.old ++ pieces_by (kind_of d.now) _dest d.now) }
+{
+    let len = u64::from(d.length());
+    if len > 0 {
+        let addr = d.address();
+        places.push(Piece::Run { addr, len })?;
+    }
+    Ok(())
+}
+
 /// Reads the descriptors in these bytes, from the cursor on, adds the pieces that they name, and gives the cursor behind them. Room for
 /// those of the array is taken at once.
 #[inline(always)]
@@ -331,8 +373,7 @@ pub fn read_places(
         };
         let d = Descriptor::of(own);
         cursor.pass_one();
-        cursor.look_at(map, dest, &d);
-        push_piece(&d, dest, places)?;
+        cursor.take(map, dest, &d, places)?;
         rest = more;
     }
     Ok(cursor)

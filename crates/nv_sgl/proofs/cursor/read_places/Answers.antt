@@ -10,7 +10,7 @@ loop-rest-preserved c =
     let some : 16 ≤ length c.loop-rest.rest.now = omega arith in
     NamesSoFar-next
     _ _ _ _ _ _ _ _ _ _ _ _ _ c.loop-rest.invariant asking some c.pass_one.ensures (c.of-d.ensures ∙ c.in-Some.ensures.cases.0)
-    c.in-Some.ensures.cases.1 c.in_ok-push_piece.ensures c.look_at.ensures.behind c.look_at.ensures.in_range
+    c.in-Some.ensures.cases.1 c.in_ok-take.ensures.named c.in_ok-take.ensures.behind c.in_ok-take.ensures.in_range
 
 pub returns-after-loop-rest : goal.returns-after-loop-rest
 returns-after-loop-rest c =
