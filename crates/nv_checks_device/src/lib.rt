@@ -7,6 +7,8 @@ mod bench;
 #[cfg(test)]
 mod conditions;
 #[cfg(test)]
+mod disk;
+#[cfg(test)]
 mod effects;
 #[cfg(test)]
 mod rings;

@@ -8,6 +8,7 @@ ghost use Rattle.nv_device.specs.Physical.{FitsLimits, HoldsArea, done_where, la
 
 use crate::lane::Lane;
 use crate::response::Response;
+use nv_disk::{Blocks, Marks};
 use nv_mem::{Host, NoMemory, PAGE_SIZE};
 use nv_model::limits::BLOCK_SIZE;
 use std::alloc::Global;
@@ -19,8 +20,8 @@ use std::marker::Model;
 pub struct Device {
     /// Where the mediator's area begins.
     pub(crate) mediator: u64,
-    pub(crate) disk: Vec<[u8; BLOCK_SIZE]>,
-    pub(crate) kept: Vec<bool>,
+    pub(crate) disk: Blocks,
+    pub(crate) kept: Marks,
     pub(crate) lanes: Vec<Lane>,
 }
 
@@ -29,9 +30,9 @@ impl Model for Device {
 
     ghost Value = { Physical };
 
-    ghost view = { λ d. record { mediator = d.mediator; disk = d.disk.items; kept = d.kept.items; lanes = d.lanes.items } };
+    ghost view = { λ d. record { mediator = d.mediator; disk = d.disk; kept = d.kept; lanes = d.lanes.items } };
 
-    ghost invariant = { λ d. IsWhole d.mediator d.disk.items d.kept.items d.lanes.items };
+    ghost invariant = { λ d. IsWhole d.mediator d.disk d.kept d.lanes.items };
 }
 
 /// The pages of a lane: two for its submission ring, one for its completion ring, and 33 for each identifier.
@@ -72,8 +73,8 @@ impl Device {
         requires { FitsLimits mediator lanes blocks }
         ensures { IfOk result (λ device. device ≡ opening_physical mediator lanes blocks) }
     {
-        let disk = zero_blocks(alloc, blocks as usize)?;
-        let kept = clear_marks(alloc, blocks as usize)?;
+        let disk = Blocks::new(alloc, blocks as usize)?;
+        let kept = Marks::new(alloc, blocks as usize)?;
         let lanes = new_lanes(alloc, lanes)?;
         Ok(Device {
             mediator,
@@ -144,7 +145,7 @@ impl Device {
         if block >= self.disk.len() as u64 {
             return Response::Idle;
         }
-        self.kept[block as usize] = true;
+        self.kept.set(block as usize, true);
         Response::Done
     }
 
@@ -153,7 +154,7 @@ impl Device {
         requires { block < length self.now.disk }
         ensures { result.now ≡ slice_index_or self.now.disk block result.now }
     {
-        &self.disk[block as usize]
+        self.disk.block(block as usize)
     }
 
     /// Whether a block is kept when power is lost.
@@ -161,7 +162,7 @@ impl Device {
         requires { block < length self.now.disk }
         ensures { result ≡ slice_index_or self.now.kept block false }
     {
-        self.kept[block as usize]
+        self.kept.get(block as usize)
     }
 
     /// Where a slot of a lane's submission ring lies in the host.
@@ -186,24 +187,6 @@ impl Device {
             + 2 * PAGE_SIZE
             + COMPLETION_SIZE * u64::from(at)
     }
-}
-
-/// Blocks of zeros.
-fn zero_blocks(alloc: Global, blocks: usize) -> Result<Vec<[u8; BLOCK_SIZE]>, NoMemory>
-    ensures { IfOk result (λ disk. disk.items ≡ replicate blocks (replicate 512 0)) }
-{
-    let mut disk = Vec::with_capacity(alloc, blocks)?;
-    for _block in 0..blocks {
-        disk.push([0; BLOCK_SIZE])?;
-    }
-    Ok(disk)
-}
-
-/// Marks that are clear.
-fn clear_marks(alloc: Global, blocks: usize) -> Result<Vec<bool>, NoMemory>
-    ensures { IfOk result (λ kept. kept.items ≡ replicate blocks false) }
-{
-    Ok(vec![in alloc; false; blocks]?)
 }
 
 /// Lanes whose rings are empty.

@@ -19,6 +19,7 @@ ghost use Rattle.nv_device.specs.Pages.{piece_in};
 use crate::command::Command;
 use crate::device::Device;
 use crate::response::Response;
+use nv_disk::{Blocks, Marks};
 use nv_entry::{IoOpcode, Range};
 use nv_mem::{Host, Piece};
 use nv_model::limits::{BLOCK_SIZE, RANGE_SIZE};
@@ -83,13 +84,15 @@ fn move_one(
     command: &Command,
     number: u64,
     host: &mut Host,
-    disk: &mut [[u8; BLOCK_SIZE]],
-    kept: &mut [bool],
+    disk: &mut Blocks,
+    kept: &mut Marks,
 ) -> bool
     requires ready { IsReady (length disk.old) host.old number command.now }
     requires marks { length kept.old ≡ length disk.old }
     ensures moved { moved_of (flat host.new disk.new kept.new) result ≡ unit_of number command.now host.old disk.old kept.old }
     ensures size { length host.new ≡ length host.old }
+    ensures disk_size { length disk.new ≡ length disk.old }
+    ensures marks_size { length kept.new ≡ length kept.old }
 {
     match command.opcode() {
         Some(IoOpcode::Read) => read_unit(command, number, host, disk, kept),
@@ -107,17 +110,18 @@ fn read_unit(
     command: &Command,
     number: u64,
     host: &mut Host,
-    disk: &[[u8; BLOCK_SIZE]],
-    kept: &mut [bool],
+    disk: &Blocks,
+    kept: &mut Marks,
 ) -> bool
     requires ready { IsReady (length disk.now) host.old number command.now }
     requires opcode { io_opcode (opcode_of command.now.entry) ≡ Some IoOpcode.Read }
     requires marks { length kept.old ≡ length disk.now }
     ensures moved { moved_of (flat host.new disk.now kept.new) result ≡ unit_of number command.now host.old disk.now kept.old }
     ensures size { length host.new ≡ length host.old }
+    ensures marks_size { length kept.new ≡ length kept.old }
 {
     let (lba, mut buffer) = block_of(command, number, host, disk);
-    nv_moves::read_block(host, disk, kept, &mut buffer, lba, command.fua());
+    nv_disk::read_block(host, disk, kept, &mut buffer, lba, command.fua());
     command.has_differed()
 }
 
@@ -126,16 +130,18 @@ fn write_unit(
     command: &Command,
     number: u64,
     host: &Host,
-    disk: &mut [[u8; BLOCK_SIZE]],
-    kept: &mut [bool],
+    disk: &mut Blocks,
+    kept: &mut Marks,
 ) -> bool
     requires ready { IsReady (length disk.old) host.now number command.now }
     requires opcode { io_opcode (opcode_of command.now.entry) ≡ Some IoOpcode.Write }
     requires marks { length kept.old ≡ length disk.old }
-    ensures { moved_of (flat host.now disk.new kept.new) result ≡ unit_of number command.now host.now disk.old kept.old }
+    ensures moved { moved_of (flat host.now disk.new kept.new) result ≡ unit_of number command.now host.now disk.old kept.old }
+    ensures disk_size { length disk.new ≡ length disk.old }
+    ensures marks_size { length kept.new ≡ length kept.old }
 {
     let (lba, mut buffer) = block_of(command, number, host, disk);
-    nv_moves::write_block(host, disk, kept, &mut buffer, lba, command.fua());
+    nv_disk::write_block(host, disk, kept, &mut buffer, lba, command.fua());
     command.has_differed()
 }
 
@@ -144,33 +150,31 @@ fn compare_unit(
     command: &Command,
     number: u64,
     host: &Host,
-    disk: &[[u8; BLOCK_SIZE]],
-    kept: &mut [bool],
+    disk: &Blocks,
+    kept: &mut Marks,
 ) -> bool
     requires ready { IsReady (length disk.now) host.now number command.now }
     requires opcode { io_opcode (opcode_of command.now.entry) ≡ Some IoOpcode.Compare }
     requires marks { length kept.old ≡ length disk.now }
-    ensures { moved_of (flat host.now disk.now kept.new) result ≡ unit_of number command.now host.now disk.now kept.old }
+    ensures moved { moved_of (flat host.now disk.now kept.new) result ≡ unit_of number command.now host.now disk.now kept.old }
+    ensures marks_size { length kept.new ≡ length kept.old }
 {
     let (lba, mut buffer) = block_of(command, number, host, disk);
-    let differs = nv_moves::compare_block(host, disk, kept, &mut buffer, lba, command.fua());
+    let differs = nv_disk::compare_block(host, disk, kept, &mut buffer, lba, command.fua());
     command.has_differed() || differs
 }
 
 /// A block of a Write Zeroes: it becomes zeros.
-fn clear_unit(
-    command: &Command,
-    number: u64,
-    disk: &mut [[u8; BLOCK_SIZE]],
-    kept: &mut [bool],
-) -> bool
+fn clear_unit(command: &Command, number: u64, disk: &mut Blocks, kept: &mut Marks) -> bool
     requires ready { (host : List ℕ) × IsReady (length disk.old) host number command.now }
     requires opcode { io_opcode (opcode_of command.now.entry) ≡ Some IoOpcode.WriteZeroes }
     requires marks { length kept.old ≡ length disk.old }
-    ensures { (host : List ℕ) → moved_of (flat host disk.new kept.new) result ≡ unit_of number command.now host disk.old kept.old }
+    ensures moved { (host : List ℕ) → moved_of (flat host disk.new kept.new) result ≡ unit_of number command.now host disk.old kept.old }
+    ensures disk_size { length disk.new ≡ length disk.old }
+    ensures marks_size { length kept.new ≡ length kept.old }
 {
     let _blocks = disk.len();
-    nv_moves::clear_block(disk, kept, command.slba() + number, command.fua());
+    nv_disk::clear_block(disk, kept, command.slba() + number, command.fua());
     command.has_differed()
 }
 
@@ -180,13 +184,15 @@ fn manage_unit(
     command: &Command,
     number: u64,
     host: &Host,
-    disk: &mut [[u8; BLOCK_SIZE]],
-    kept: &mut [bool],
+    disk: &mut Blocks,
+    kept: &mut Marks,
 ) -> bool
     requires ready { IsReady (length disk.old) host.now number command.now }
     requires opcode { io_opcode (opcode_of command.now.entry) ≡ Some IoOpcode.DatasetManagement }
     requires marks { length kept.old ≡ length disk.old }
-    ensures { moved_of (flat host.now disk.new kept.new) result ≡ unit_of number command.now host.now disk.old kept.old }
+    ensures moved { moved_of (flat host.now disk.new kept.new) result ≡ unit_of number command.now host.now disk.old kept.old }
+    ensures disk_size { length disk.new ≡ length disk.old }
+    ensures marks_size { length kept.new ≡ length kept.old }
 {
     if !command.deallocates() {
         return command.has_differed();
@@ -251,35 +257,33 @@ fn piece_lies_in(piece: &Piece, host: &Host) -> bool
 }
 
 /// Makes the blocks of a range zeros that are not kept.
-fn clear_range(range: Range, disk: &mut [[u8; BLOCK_SIZE]], kept: &mut [bool])
+fn clear_range(range: Range, disk: &mut Blocks, kept: &mut Marks)
     requires blocks { IsRangeOnDisk (length disk.old) range }
     requires marks { length kept.old ≡ length disk.old }
-    ensures { (memory : List ℕ) (differed : Bool) → moved_of (flat memory disk.new kept.new) differed
+    ensures moved { (memory : List ℕ) (differed : Bool) → moved_of (flat memory disk.new kept.new) differed
         ≡ cleared (range_with_len (start_of range) (blocks_of range)) false (moved_of (flat memory disk.old kept.old) differed) }
+    ensures disk_size { length disk.new ≡ length disk.old }
+    ensures marks_size { length kept.new ≡ length kept.old }
 {
     let count = u64::from(range.blocks());
     if count > 0 {
-        nv_moves::clear_blocks(disk, kept, range.start(), count, false);
+        nv_disk::clear_blocks(disk, kept, range.start(), count, false);
     }
 }
 
 /// A Flush: every block becomes kept.
-fn keep_unit(command: &Command, kept: &mut [bool]) -> bool
+fn keep_unit(command: &Command, kept: &mut Marks) -> bool
     requires opcode { io_opcode (opcode_of command.now.entry) ≡ Some IoOpcode.Flush }
-    ensures { (number : ℕ) (host : List ℕ) (disk : List (List ℕ)) → length kept.old ≡ length disk →
+    ensures moved { (number : ℕ) (host : List ℕ) (disk : List (List ℕ)) → length kept.old ≡ length disk →
         moved_of (flat host disk kept.new) result ≡ unit_of number command.now host disk kept.old }
+    ensures marks_size { length kept.new ≡ length kept.old }
 {
-    nv_moves::keep_all(kept);
+    nv_disk::keep_all(kept);
     command.has_differed()
 }
 
 /// Where a block of a command stands: its LBA, and its places in the host with those behind it.
-fn block_of<'a>(
-    command: &'a Command,
-    number: u64,
-    host: &Host,
-    disk: &[[u8; BLOCK_SIZE]],
-) -> (u64, Buffer<'a>)
+fn block_of<'a>(command: &'a Command, number: u64, host: &Host, disk: &Blocks) -> (u64, Buffer<'a>)
     requires ready { IsReady (length disk.now) host.now number command.now }
     requires transfer { moves_blocks (io_opcode (opcode_of command.now.entry)) ≡ true }
     ensures lba { result.0 ≡ slba_of command.now.entry + number }

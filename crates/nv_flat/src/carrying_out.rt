@@ -117,7 +117,7 @@ impl FlatController {
         ensures memory_size { length self.new.memory ≡ length self.old.memory }
         ensures disk_size { length self.new.disk ≡ length self.old.disk }
     {
-        nv_moves::clear_blocks(&mut self.disk, &mut self.kept, start, count, mark);
+        nv_disk::clear_blocks(&mut self.disk, &mut self.kept, start, count, mark);
     }
 
     // Makes every block kept.
@@ -126,6 +126,6 @@ impl FlatController {
         ensures memory_size { length self.new.memory ≡ length self.old.memory }
         ensures disk_size { length self.new.disk ≡ length self.old.disk }
     {
-        nv_moves::keep_all(&mut self.kept);
+        nv_disk::keep_all(&mut self.kept);
     }
 }

@@ -7,6 +7,7 @@ ghost use Rattle.nv_model.specs.Limits.{block as block_size, page};
 ghost use Rattle.nv_flat.specs.Flat.{FitsLimits, identity_map};
 ghost use Rattle.nv_moves.specs.Flat.{flat};
 
+use nv_disk::{Blocks, Marks};
 use nv_mem::{GuestMap, Host, NoMemory, PAGE_SIZE, Region};
 use nv_model::limits::{BLOCK_SIZE, LARGEST_MEMORY, LARGEST_NAMESPACE};
 use std::alloc::Global;
@@ -17,8 +18,8 @@ use std::marker::Model;
 pub struct FlatController {
     pub(crate) memory: Host,
     pub(crate) map: GuestMap,
-    pub(crate) disk: Vec<[u8; BLOCK_SIZE]>,
-    pub(crate) kept: Vec<bool>,
+    pub(crate) disk: Blocks,
+    pub(crate) kept: Marks,
 }
 
 impl Model for FlatController {
@@ -27,9 +28,9 @@ impl Model for FlatController {
 
     ghost Value = { Flat };
 
-    ghost view = { λ c. flat c.memory c.disk.items c.kept.items };
+    ghost view = { λ c. flat c.memory c.disk c.kept };
 
-    ghost invariant = { λ c. IsWhole c.memory c.map c.disk.items c.kept.items };
+    ghost invariant = { λ c. IsWhole c.memory c.map c.disk c.kept };
 }
 
 impl FlatController {
@@ -52,8 +53,8 @@ impl FlatController {
     {
         let memory = Host::new(alloc, memory_len)?;
         let map = identity(alloc, memory_len)?;
-        let disk = zero_blocks(alloc, blocks as usize)?;
-        let kept = clear_marks(alloc, blocks as usize)?;
+        let disk = Blocks::new(alloc, blocks as usize)?;
+        let kept = Marks::new(alloc, blocks as usize)?;
         Ok(FlatController {
             memory,
             map,
@@ -93,7 +94,7 @@ impl FlatController {
         ensures block { self.new ≡ flat self.old.memory (slice_set self.old.disk block (replicate block_size byte)) self.old.kept }
         ensures disk_size { length self.new.disk ≡ length self.old.disk }
     {
-        self.disk[block as usize] = [byte; BLOCK_SIZE];
+        self.disk.set(block as usize, &[byte; BLOCK_SIZE]);
     }
 
     /// The bytes of a block.
@@ -101,7 +102,7 @@ impl FlatController {
         requires { block < length self.now.disk }
         ensures { result.now ≡ slice_index_or self.now.disk block result.now }
     {
-        &self.disk[block as usize]
+        self.disk.block(block as usize)
     }
 
     /// Whether a block is kept when power is lost.
@@ -109,7 +110,7 @@ impl FlatController {
         requires { block < length self.now.disk }
         ensures { result ≡ slice_index_or self.now.kept block false }
     {
-        self.kept[block as usize]
+        self.kept.get(block as usize)
     }
 
     /// How many bytes of memory there are.
@@ -144,22 +145,4 @@ fn identity(alloc: Global, len: u64) -> Result<GuestMap, NoMemory>
         Ok(map) => Ok(map),
         Err(_) => unreachable!(),
     }
-}
-
-// Blocks of zeros.
-fn zero_blocks(alloc: Global, blocks: usize) -> Result<Vec<[u8; BLOCK_SIZE]>, NoMemory>
-    ensures { IfOk result (λ disk. disk.items ≡ replicate blocks (replicate block_size 0)) }
-{
-    let mut disk = Vec::with_capacity(alloc, blocks)?;
-    for _block in 0..blocks {
-        disk.push([0; BLOCK_SIZE])?;
-    }
-    Ok(disk)
-}
-
-// Marks that are clear.
-fn clear_marks(alloc: Global, blocks: usize) -> Result<Vec<bool>, NoMemory>
-    ensures { IfOk result (λ kept. kept.items ≡ replicate blocks false) }
-{
-    Ok(vec![in alloc; false; blocks]?)
 }

@@ -36,7 +36,7 @@ impl FlatController {
         let mut buffer = Buffer::new(places);
         match opcode {
             IoOpcode::Read => {
-                nv_moves::read_blocks(
+                nv_disk::read_blocks(
                     &mut self.memory,
                     &self.disk,
                     &mut self.kept,
@@ -47,7 +47,7 @@ impl FlatController {
                 );
                 false
             }
-            IoOpcode::Compare => nv_moves::compare_blocks(
+            IoOpcode::Compare => nv_disk::compare_blocks(
                 &self.memory,
                 &self.disk,
                 &mut self.kept,
@@ -93,7 +93,7 @@ impl FlatController {
         ensures disk_size { length self.new.disk ≡ length self.old.disk }
         ensures rest { buffer.new ≡ drop block_size buffer.old }
     {
-        nv_moves::write_block(
+        nv_disk::write_block(
             &self.memory,
             &mut self.disk,
             &mut self.kept,

@@ -4,7 +4,7 @@ use Rattle.nv_moves.specs.Flat.{flat, moved_of}
 use Rattle.nv_moves.proofs.MoveLemmas.{cleared-none}
 use Rattle.nv_device.proofs.moving.clear_range.Goals as goal
 
-pub returns-else-count-gt0 : goal.returns-else-count-gt0
-returns-else-count-gt0 c = λ memory differed.
+pub returns-else-count-gt0-clause-moved : goal.returns-else-count-gt0-clause-moved
+returns-else-count-gt0-clause-moved c = λ memory differed.
     let none : blocks_of c.args.range ≡ 0 = (let count = c.from-count.ensures in let blocks = c.blocks-2.ensures in let few = c.if-count-gt0.false in omega arith) in
     sym (cleared-none false (moved_of (flat memory c.args.disk.now c.args.kept.now) differed) (start_of c.args.range) (blocks_of c.args.range) none)

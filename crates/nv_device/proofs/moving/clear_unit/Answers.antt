@@ -16,8 +16,8 @@ clear_block-requires-clause-block c =
     let slba = c.slba.ensures in
     omega arith
 
-pub returns : goal.returns
-returns c = λ host.
+pub returns-clause-moved : goal.returns-clause-moved
+returns-clause-moved c = λ host.
     ap (moved_of (flat host c.clear_block.new.disk c.clear_block.new.kept)) c.has_differed.ensures
     ∙ c.clear_block.ensures.moved host c.args.command.now.differed
     ∙ same-clear _ (slba_of c.args.command.now.entry + c.args.number) c.fua.result _ (moved_of (flat host c.args.disk.now c.args.kept.now) c.args.command.now.differed)

@@ -4,15 +4,15 @@ use Rattle.nv_world_model.specs.Device.{range_at}
 use Rattle.nv_device.proofs.UnitLemmas.{deallocate-unit, leave-unit, memory-of, range-there}
 use Rattle.nv_device.proofs.moving.manage_unit.Goals as goal
 
-pub returns-then-not-deallocates : goal.returns-then-not-deallocates
-returns-then-not-deallocates c =
+pub returns-then-not-deallocates-clause-moved : goal.returns-then-not-deallocates-clause-moved
+returns-then-not-deallocates-clause-moved c =
     ap (moved_of (flat c.args.host.now c.args.disk.now c.args.kept.now)) c.has_differed.ensures
     ∙ leave-unit c.args.number c.args.command.now c.args.host.now c.args.disk.now c.args.kept.now c.requires.opcode (sym c.deallocates.ensures ∙ c.if-not-deallocates.true)
 
-pub returns : goal.returns
-returns c =
+pub returns-clause-moved : goal.returns-clause-moved
+returns-clause-moved c =
     ap (moved_of (flat c.args.host.now c.clear_range.new.disk c.clear_range.new.kept)) c.has_differed-2.ensures
-    ∙ c.clear_range.ensures c.args.host.now c.args.command.now.differed
+    ∙ c.clear_range.ensures.moved c.args.host.now c.args.command.now.differed
     ∙ deallocate-unit c.args.number c.args.command.now c.args.host.now c.args.disk.now c.args.kept.now c.range_of.result c.requires.opcode
     (sym c.deallocates.ensures ∙ c.if-not-deallocates.false)
     (c.range_of.ensures ∙ ap (range_at c.args.number c.args.command.now.pieces) (sym (memory-of c.args.host.now c.args.disk.now c.args.kept.now c.args.command.now.differed)))

@@ -11,7 +11,7 @@ returns-clause-posted c =
     let L : Physical → Type 0 = λ p. c.args.lane < length p.lanes in
     let there : c.args.lane < length c.self.inside.lanes.items = subst L (sym c.self.view_is) c.requires.lane in
     let ring : c.index-ring.result.now ≡ lane_of c.args.self.now c.args.lane =
-    lane-got (record { mediator = c.self.inside.mediator; disk = c.self.inside.disk.items; kept = c.self.inside.kept.items; lanes = c.self.inside.lanes.items })
+    lane-got (record { mediator = c.self.inside.mediator; disk = c.self.inside.disk; kept = c.self.inside.kept; lanes = c.self.inside.lanes.items })
     c.args.lane c.from.result c.index-ring.result.now c.from.ensures there c.index-ring.ensures
     ∙ ap (λ (p : Physical). lane_of p c.args.lane) c.self.view_is in
     record {
@@ -26,7 +26,7 @@ returns-clause-posted c =
           ∙ same-completion _ _ _ _ _ _ _ _ c.args.status (c.head-head.ensures.value ∙ ap (λ (d : DeviceLane). d.head) ring)
           (ap (λ (n : ℕ). n + 1) c.from-queue.ensures) c.from-2.ensures (c.phase-phase.ensures ∙ ap (λ (d : DeviceLane). d.phase) ring));
       device =
-          lane-changed (record { mediator = c.self.inside.mediator; disk = c.self.inside.disk.items; kept = c.self.inside.kept.items; lanes = c.self.inside.lanes.items })
+          lane-changed (record { mediator = c.self.inside.mediator; disk = c.self.inside.disk; kept = c.self.inside.kept; lanes = c.self.inside.lanes.items })
           c.args.lane c.from-3.result c.index_mut.result.now c.complete.new.self (completion_posted c.args.slot) c.from-3.ensures there c.index_mut.ensures.value c.complete.ensures
           ∙ ap (λ (p : Physical). with_lane c.args.lane (completion_posted c.args.slot (lane_of p c.args.lane)) p) c.self.view_is;
     }

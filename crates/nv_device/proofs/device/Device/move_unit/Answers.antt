@@ -1,8 +1,7 @@
-use Rattle.std.proofs.Common.{◌≡◌, ◌<◌, ℕ, Bool, List, Option, Some, None, length, take, drop, set, ◌++◌, sym, ap, subst, ◌∙◌, arith}
+use Rattle.std.proofs.Common.{◌≡◌, ◌<◌, Option, Some, None, length, set, sym, ap, subst, ◌∙◌, arith}
 use Rattle.std.specs.Prelude.{IfSome, MatchOption}
 use Rattle.std.specs.List.{slice_index_or}
 use Rattle.nv_moves.specs.Flat.{flat, moved_of}
-use Rattle.nv_moves.proofs.UnitLemmas.{refilled}
 use Rattle.nv_world_model.specs.Device.{DeviceLane, Held, unit_gone, with_held}
 use Rattle.nv_device.specs.Moving.{IsMoved, unit_of}
 use Rattle.nv_device.specs.Physical.{Physical, held_at, lane_of}
@@ -22,12 +21,9 @@ invariant_of-self c =
     let there : slice_index_or c.index_mut.result.now.held c.args.slot None ≡ Some c.in-Some.command.now =
     ap (λ (d : DeviceLane). slice_index_or d.held c.args.slot None) (lane ∙ sym ring) ∙ c.in-Some.ensures in
     let M : Option Held → Type 0 = λ o. MatchOption o ⊥ (λ h. c.unit_done.new.self ≡ with_held c.args.slot (Some (unit_gone c.args.number c.move_one-differed.result h)) c.index_mut.result.now) in
-    moved-whole c.self.inside.mediator c.self.inside.disk.items _ c.self.inside.kept.items _ c.self.inside.lanes.items c.from-2.result c.args.slot c.args.number
+    moved-whole c.self.inside.mediator c.self.inside.disk _ c.self.inside.kept _ c.self.inside.lanes.items c.from-2.result c.args.slot c.args.number
     c.index_mut.result.now c.unit_done.new.self c.in-Some.command.now c.move_one-differed.result c.self.invariant
-    (ap length (refilled c.self.inside.disk.len c.move_one-differed.new.disk c.self.inside.disk.items (c.move_one-differed.auto.disk ∙ c.deref_mut.ensures.len))
-    ∙ c.move_one-differed.auto.disk ∙ ap length c.deref_mut.ensures.value)
-    (ap length (refilled c.self.inside.kept.len c.move_one-differed.new.kept c.self.inside.kept.items (c.move_one-differed.auto.kept ∙ c.deref_mut-2.ensures.len))
-    ∙ c.move_one-differed.auto.kept ∙ ap length c.deref_mut-2.ensures.value)
+    c.move_one-differed.ensures.disk_size c.move_one-differed.ensures.marks_size
     (omega arith) c.index_mut.ensures.value there (subst M there c.unit_done.ensures)
 
 pub returns-clause-done : goal.returns-clause-done
@@ -40,21 +36,17 @@ returns-clause-done c = λ done.
     ap (λ (d : DeviceLane). slice_index_or d.held c.args.slot None) (lane ∙ sym ring) ∙ c.in-Some.ensures in
     let held : held_at c.args.self.now c.args.lane c.args.slot ≡ Some c.in-Some.command.now =
     ap (λ (d : DeviceLane). slice_index_or d.held c.args.slot None) (sym lane) ∙ there in
-    let disk = refilled c.self.inside.disk.len c.move_one-differed.new.disk c.self.inside.disk.items (c.move_one-differed.auto.disk ∙ c.deref_mut.ensures.len) in
-    let kept = refilled c.self.inside.kept.len c.move_one-differed.new.kept c.self.inside.kept.items (c.move_one-differed.auto.kept ∙ c.deref_mut-2.ensures.len) in
     let unit : moved_of (flat c.move_one-differed.new.host c.move_one-differed.new.disk c.move_one-differed.new.kept) c.move_one-differed.result
-    ≡ unit_of c.args.number c.in-Some.command.now c.args.host.now c.self.inside.disk.items c.self.inside.kept.items =
-    c.move_one-differed.ensures.moved
-    ∙ ap (λ (ds : List (List ℕ)). unit_of c.args.number c.in-Some.command.now c.args.host.now ds c.deref_mut-2.result.now) c.deref_mut.ensures.value
-    ∙ ap (unit_of c.args.number c.in-Some.command.now c.args.host.now c.self.inside.disk.items) c.deref_mut-2.ensures.value in
+    ≡ unit_of c.args.number c.in-Some.command.now c.args.host.now c.self.inside.disk c.self.inside.kept =
+    c.move_one-differed.ensures.moved in
     let L : Physical → Type 0 = λ p. c.args.lane < length p.lanes in
     let within : c.args.lane < length c.self.inside.lanes.items = subst L (sym c.self.view_is) c.requires.lane in
     let M : Option Held → Type 0 = λ o. MatchOption o ⊥ (λ h. c.unit_done.new.self ≡ with_held c.args.slot (Some (unit_gone c.args.number c.move_one-differed.result h)) c.index_mut.result.now) in
-    let before : Physical = record { mediator = c.self.inside.mediator; disk = c.self.inside.disk.items; kept = c.self.inside.kept.items; lanes = c.self.inside.lanes.items } in
+    let before : Physical = record { mediator = c.self.inside.mediator; disk = c.self.inside.disk; kept = c.self.inside.kept; lanes = c.self.inside.lanes.items } in
     let behind : Physical = record {
       mediator = c.self.inside.mediator;
-      disk = take c.self.inside.disk.len (c.move_one-differed.new.disk ++ drop (length c.move_one-differed.new.disk) c.self.inside.disk.items);
-      kept = take c.self.inside.kept.len (c.move_one-differed.new.kept ++ drop (length c.move_one-differed.new.kept) c.self.inside.kept.items);
+      disk = c.move_one-differed.new.disk;
+      kept = c.move_one-differed.new.kept;
       lanes = set c.self.inside.lanes.items c.from-2.result c.unit_done.new.self;
     } in
     let P : Physical → Type 0 = λ p. IsMoved c.args.lane c.args.slot c.args.number c.in-Some.command.now c.args.host.now p c.move_one-differed.new.host behind in
@@ -62,7 +54,5 @@ returns-clause-done c = λ done.
     subst H (sym held) (subst P c.self.view_is
     (moved-device c.args.lane c.args.slot c.args.number c.from-2.result c.in-Some.command.now c.args.host.now c.move_one-differed.new.host before behind.disk behind.kept
     c.index_mut.result.now c.unit_done.new.self c.move_one-differed.result c.from-2.ensures within c.index_mut.ensures.value
-    (ap (λ (ds : List (List ℕ)). moved_of (flat c.move_one-differed.new.host ds behind.kept) c.move_one-differed.result) disk
-    ∙ ap (λ (ks : List Bool). moved_of (flat c.move_one-differed.new.host c.move_one-differed.new.disk ks) c.move_one-differed.result) kept
-    ∙ unit)
+    unit
     (subst M there c.unit_done.ensures)))

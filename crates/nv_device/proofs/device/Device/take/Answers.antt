@@ -22,7 +22,7 @@ invariant_of-self c =
     let kept : IsHeld (length c.args.self.now.disk) (held_of c.front_entry-sqe.result (byte_in c.args.host.now)) =
     (let E : List ℕ → Type 0 = λ e. IsHeld (length c.args.self.now.disk) (held_of e (byte_in c.args.host.now)) in
     subst E (sym c.front_entry-sqe.ensures) (taken-held (length c.args.self.now.disk) c.args.host.now _ _ (c.requires.may waiting))) in
-    let H : Held → Type 0 = λ h. IsHeld (length c.self.inside.disk.items) h in
+    let H : Held → Type 0 = λ h. IsHeld (length c.self.inside.disk) h in
     let D : Physical → Type 0 = λ p. IsHeld (length p.disk) (held_of c.front_entry-sqe.result (byte_in c.args.host.now)) in
     let size : length (set c.self.inside.lanes.items c.from-2.result c.take.new.self) ≡ length c.self.inside.lanes.items =
     length-set c.self.inside.lanes.items c.from-2.result c.take.new.self in
@@ -32,7 +32,7 @@ invariant_of-self c =
       area = subst A (sym size) c.self.invariant.area;
       few = omega arith;
       marked = c.self.invariant.marked;
-      held = lanes-held (length c.self.inside.disk.items) c.self.inside.lanes.items c.from-2.result c.index_mut.result.now c.take.new.self _ (Some c.in_ok-command.command)
+      held = lanes-held (length c.self.inside.disk) c.self.inside.lanes.items c.from-2.result c.index_mut.result.now c.take.new.self _ (Some c.in_ok-command.command)
           c.self.invariant.held (omega arith) c.index_mut.ensures.value (ap (λ (d : DeviceLane). d.held) c.take.ensures)
           (subst H (sym c.in_ok-command.ensures) (subst D (sym c.self.view_is) kept));
     }

@@ -1,0 +1,147 @@
+//! Blocks that are stored where they are first written, and marks that a flush sets: in any order of writes, beside a plain disk.
+
+use nv_disk::{Blocks, Marks};
+use std::alloc::{AllocError, Global};
+use std::test::Fail;
+
+/// How many blocks the disks of these tests have.
+const COUNT: usize = 600;
+
+// What is done to a block, or to all of them.
+#[derive(Clone, Copy)]
+enum Step {
+    // it is filled with that byte, and its mark is as told
+    Write(usize, u8, bool),
+    // it becomes zeros, and its mark is as told
+    Clear(usize, bool),
+    // all are kept
+    Flush,
+}
+
+const STEPS: [Step; 15] = [
+    Step::Write(599, 1, false),
+    Step::Clear(4, true),
+    Step::Write(3, 2, true),
+    Step::Write(4, 3, false),
+    Step::Write(5, 4, false),
+    Step::Flush,
+    Step::Write(4, 5, false),
+    Step::Clear(599, false),
+    Step::Write(0, 6, true),
+    Step::Flush,
+    Step::Clear(3, true),
+    Step::Clear(4, false),
+    Step::Write(4, 9, true),
+    Step::Write(599, 7, false),
+    Step::Write(6, 8, false),
+];
+
+// A disk, and beside it the byte and the mark that each block should have.
+#[derive(Drop)]
+struct Beside {
+    blocks: Blocks,
+    marks: Marks,
+    bytes: Vec<u8>,
+    kept: Vec<bool>,
+}
+
+impl Beside {
+    fn new(alloc: Global) -> Result<Self, Fail> {
+        Ok(Beside {
+            blocks: Blocks::new(alloc, COUNT)?,
+            marks: Marks::new(alloc, COUNT)?,
+            bytes: filled(alloc, 0u8)?,
+            kept: filled(alloc, false)?,
+        })
+    }
+
+    // Does a step on both; nothing where there is no such block.
+    fn step(&mut self, step: Step) {
+        match step {
+            Step::Write(block, byte, mark) => {
+                if block < self.blocks.len() && block < self.marks.len() {
+                    self.blocks.set(block, &[byte; 512]);
+                    self.marks.set(block, mark);
+                }
+                self.note(block, byte, mark);
+            }
+            Step::Clear(block, mark) => {
+                if block < self.blocks.len() && block < self.marks.len() {
+                    self.blocks.clear(block);
+                    self.marks.set(block, mark);
+                }
+                self.note(block, 0, mark);
+            }
+            Step::Flush => {
+                self.marks.set_all();
+                self.kept.fill(true);
+            }
+        }
+    }
+
+    // What the block should have.
+    fn note(&mut self, block: usize, byte: u8, mark: bool) {
+        if let Some(place) = self.bytes.get_mut(block) {
+            *place = byte;
+        }
+        if let Some(place) = self.kept.get_mut(block) {
+            *place = mark;
+        }
+    }
+
+    // Whether each block is as it should be.
+    fn is_same(&self) -> bool {
+        let count = self.blocks.len();
+        for (block, (byte, mark)) in self.bytes.iter().zip(self.kept.iter()).enumerate() {
+            if block >= count || block >= self.marks.len() {
+                return false;
+            }
+            if self.blocks.block(block) != &[*byte; 512] || self.marks.get(block) != *mark {
+                return false;
+            }
+        }
+        count == COUNT && self.marks.len() == COUNT
+    }
+}
+
+// So many equal values.
+fn filled<T: Copy + Clone + Drop>(alloc: Global, value: T) -> Result<Vec<T>, AllocError> {
+    let mut all = Vec::with_capacity(alloc, COUNT)?;
+    for _ in 0..COUNT {
+        all.push(value)?;
+    }
+    Ok(all)
+}
+
+#[test]
+fn blocks_and_marks_are_those_of_a_plain_disk(rt: HostRuntime) -> Result<(), Fail> {
+    let mut disk = Beside::new(rt.alloc())?;
+    assert!(rt; disk.is_same());
+    for step in STEPS {
+        disk.step(step);
+        assert!(rt; disk.is_same());
+    }
+    Ok(())
+}
+
+// How many blocks of the front of these lie in a row.
+fn row(blocks: &Blocks, block: usize, most: usize) -> usize {
+    if 0 < most && most <= blocks.len() && block <= blocks.len() - most {
+        blocks.row(block, most).len()
+    } else {
+        0
+    }
+}
+
+#[test]
+fn blocks_that_are_written_in_order_lie_in_a_row(rt: HostRuntime) -> Result<(), Fail> {
+    let mut blocks = Blocks::new(rt.alloc(), COUNT)?;
+    for block in [7usize, 8, 9, 3, 10] {
+        if block < blocks.len() {
+            blocks.set(block, &[1; 512]);
+        }
+    }
+    assert!(rt; row(&blocks, 7, 4) == 3 && row(&blocks, 8, 1) == 1 && row(&blocks, 10, 2) == 1);
+    assert!(rt; row(&blocks, 4, 3) == 1 && row(&blocks, 3, 5) == 1);
+    Ok(())
+}

@@ -1,0 +1,3 @@
+pub mod StoredLemmas
+pub mod MarkLemmas
+pub mod RowLemmas

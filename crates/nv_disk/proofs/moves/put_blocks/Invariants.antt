@@ -1,0 +1,18 @@
+use Rattle.std.proofs.Common.{◌≡◌, ◌+◌, ◌*◌, ◌≤◌, length, drop, take}
+use Rattle.nv_model.specs.Memory.{byte_in, scattered}
+use Rattle.nv_moves.specs.Buffer.{AreBelow}
+use Rattle.nv_moves.proofs.ReadLemmas.{joined}
+use Rattle.nv_disk.proofs.moves.put_blocks.Given as goal
+
+abbrev pub invariant-loop-left : goal.invariant-loop-left
+invariant-loop-left l = record {
+  whole : scattered (byte_in l.memory) l.buffer (joined (take l.left (drop l.at l.disk)))
+      ≡ scattered (byte_in l.fn.memory) l.fn.buffer (joined (take l.fn.count (drop l.fn.start l.disk)));
+  size : length l.memory ≡ length l.fn.memory;
+  below : AreBelow (length l.memory) l.buffer;
+  enough : 512 * l.left ≤ length l.buffer;
+  within : l.at + l.left ≤ length l.disk;
+}
+
+abbrev pub decreases-loop-left : goal.decreases-loop-left
+decreases-loop-left l = l.left

@@ -1,0 +1,222 @@
+//! Blocks that are zero until they are written.
+
+ghost use Rattle.std.specs.Prelude.{◌≡◌, ◌+◌, ◌*◌, ◌/◌, ◌<◌, ◌≤◌, ◌^◌, ℕ, All, List, [], length, replicate, slice_index, slice_set, take, drop, IfOk, vec_capacity};
+ghost use Rattle.std.specs.List.{slice_index_or};
+ghost use Rattle.nv_model.specs.Memory.{byte_in, gathered};
+ghost use Rattle.nv_moves.specs.Buffer.{AreBelow};
+ghost use Rattle.nv_disk.specs.Stored.{IsStored, blocks_of, is_blank, places_of};
+
+use nv_mem::{Host, NoMemory};
+use nv_model::limits::BLOCK_SIZE;
+use nv_moves::Buffer;
+use std::alloc::Global;
+use std::marker::Model;
+
+/// The bytes of a block that was never written.
+static ZEROS: [u8; BLOCK_SIZE] = [0; BLOCK_SIZE];
+
+/// Blocks that are zero until they are written, from 0 on. Their number stays as it was made.
+///
+/// A contract sees the list of the blocks. There is room for all of them from the start, so no write wants memory, and what is stored are those
+/// that were written, in the order in which they were first: the system gives pages to these alone. A block that is cleared is noted as zeros, and
+/// its bytes are left alone until it is written again, in the same place.
+#[derive(Debug, Drop)]
+pub struct Blocks {
+    /// Of each block twice its place among those that are stored, from 1 on, and one more where it holds zeros; 0 where it was never written.
+    entries: Vec<u32>,
+    stored: Vec<[u8; BLOCK_SIZE]>,
+}
+
+impl Model for Blocks {
+    ghost use Rattle.std.specs.Prelude.{List, ℕ};
+    ghost use Rattle.nv_disk.specs.Stored.{IsStored, blocks_of, places_of};
+    ghost use Rattle.std.specs.Vec.{vec_capacity};
+
+    ghost Value = { List (List ℕ) };
+
+    ghost view = { λ b. blocks_of b.stored.items b.entries.items };
+
+    ghost invariant = { λ b. IsStored (vec_capacity b.stored) (places_of b.entries.items) b.stored.items };
+}
+
+impl Blocks {
+    /// So many blocks, all zero. It takes the room of all of them, and no time for their bytes.
+    pub fn new(alloc: Global, count: usize) -> Result<Self, NoMemory>
+        requires { count < 2 ^ 31 }
+        ensures { IfOk result (λ blocks. blocks ≡ replicate count (replicate 512 0)) }
+    {
+        let stored = Vec::with_capacity(alloc, count)?;
+        let entries = no_entries(alloc, count)?;
+        Ok(Blocks { entries, stored })
+    }
+
+    /// How many blocks there are. Each has 512 bytes.
+    pub fn len(&self) -> usize
+        ensures value { result ≡ length self.now }
+        ensures sized { All (λ block. length block ≡ 512) self.now }
+    {
+        self.entries.len()
+    }
+
+    /// The bytes of a block.
+    pub fn block(&self, block: usize) -> &[u8; BLOCK_SIZE]
+        requires { block < length self.now }
+        ensures value { (other : List ℕ) → result.now ≡ slice_index_or self.now block other }
+        ensures sized { length result.now ≡ 512 }
+    {
+        let entry = self.entries[block] as usize;
+        if is_blank(entry) {
+            return &ZEROS;
+        }
+        &self.stored[entry / 2 - 1]
+    }
+
+    /// The front of the `most` blocks from `block` on that lie in a row, one behind the other: at least one.
+    pub fn row(&self, block: usize, most: usize) -> &[[u8; BLOCK_SIZE]]
+        requires some { 0 < most }
+        requires within { block + most ≤ length self.now }
+        ensures value { result.now ≡ take (length result.now) (drop block self.now) }
+        ensures some { 0 < length result.now }
+        ensures most { length result.now ≤ most }
+    {
+        let first = self.entries[block] as usize;
+        if is_blank(first) {
+            return zero_row();
+        }
+        let count = count_in_row(&self.entries, block, most, first);
+        part(&self.stored, first / 2 - 1, count)
+    }
+
+    /// Puts other bytes into a block.
+    pub fn set(&mut self, block: usize, bytes: &[u8; BLOCK_SIZE])
+        requires { block < length self.old }
+        ensures { self.new ≡ slice_set self.old block bytes.now }
+    {
+        let place = settle(&mut self.entries, &mut self.stored, block);
+        put(&mut self.stored, place, bytes);
+        show(&mut self.entries, block, place);
+    }
+
+    /// Makes a block zeros. It is noted, and none of its bytes is written.
+    pub fn clear(&mut self, block: usize)
+        requires { block < length self.old }
+        ensures { self.new ≡ slice_set self.old block (replicate 512 0) }
+    {
+        blank(&mut self.entries, block);
+    }
+
+    /// Takes the bytes of a block from the first of the places that are left of a buffer, which goes on behind these.
+    #[inline(always)]
+    pub fn fetch(&mut self, block: usize, memory: &Host, buffer: &mut Buffer)
+        requires block { block < length self.old }
+        requires in_memory { AreBelow (length memory.now) buffer.old }
+        requires enough { 512 ≤ length buffer.old }
+        ensures bytes { self.new ≡ slice_set self.old block (gathered (byte_in memory.now) (take 512 buffer.old)) }
+        ensures rest { buffer.new ≡ drop 512 buffer.old }
+    {
+        let place = settle(&mut self.entries, &mut self.stored, block);
+        buffer.fetch(memory, &mut self.stored[place]);
+        show(&mut self.entries, block, place);
+    }
+}
+
+// Whether a block of this entry holds zeros, whatever is stored at its place.
+#[inline(always)]
+fn is_blank(entry: usize) -> bool
+    ensures { result ≡ is_blank entry }
+{
+    entry < 2 || entry % 2 == 1
+}
+
+// The place of a block's bytes, from 0 on. A block that has none gets the next, and zeros there; it holds zeros still.
+#[inline(always)]
+fn settle(entries: &mut Vec<u32>, stored: &mut Vec<[u8; BLOCK_SIZE]>, block: usize) -> usize
+    requires stored { IsStored (vec_capacity stored.old) (places_of entries.old.items) stored.old.items }
+    requires block { block < length entries.old.items }
+    ensures stored { IsStored (vec_capacity stored.new) (places_of entries.new.items) stored.new.items }
+    ensures same { blocks_of stored.new.items entries.new.items ≡ blocks_of stored.old.items entries.old.items }
+    ensures place { slice_index entries.new.items block / 2 ≡ result + 1 }
+    ensures block { block < length entries.new.items }
+    ensures there { result < length stored.new.items }
+    ensures few { result + 1 < 2 ^ 31 }
+{
+    let place = entries[block] as usize / 2;
+    if place != 0 {
+        return place - 1;
+    }
+    let next = stored.len();
+    // There is room for each block that has no place yet.
+    stored.push_reserved([0; BLOCK_SIZE]);
+    entries[block] = (2 * (next + 1) + 1) as u32;
+    next
+}
+
+// A block holds what is stored at its place, which is this, from 0 on.
+#[inline(always)]
+fn show(entries: &mut Vec<u32>, block: usize, place: usize)
+    requires block { block < length entries.old.items }
+    requires few { place + 1 < 2 ^ 31 }
+    ensures { entries.new.items ≡ slice_set entries.old.items block (2 * (place + 1)) }
+{
+    entries[block] = (2 * (place + 1)) as u32;
+}
+
+// A block holds zeros, and keeps its place.
+#[inline(always)]
+fn blank(entries: &mut Vec<u32>, block: usize)
+    requires { block < length entries.old.items }
+    ensures { entries.new.items ≡ slice_set entries.old.items block (2 * (slice_index entries.old.items block / 2) + 1) }
+{
+    entries[block] = 2 * (entries[block] / 2) + 1;
+}
+
+// Puts other bytes in the place of those that are stored there.
+fn put(stored: &mut Vec<[u8; BLOCK_SIZE]>, place: usize, bytes: &[u8; BLOCK_SIZE])
+    requires { place < length stored.old.items }
+    ensures bytes { stored.new.items ≡ slice_set stored.old.items place bytes.now }
+    ensures room { vec_capacity stored.new ≡ vec_capacity stored.old }
+{
+    stored[place] = *bytes;
+}
+
+// How many of the `most` blocks from `block` on, whose entries are these, lie in a row: the first has this entry.
+fn count_in_row(entries: &[u32], block: usize, most: usize, first: usize) -> usize
+    requires some { 0 < most }
+    requires within { block + most ≤ length entries.now }
+    requires first { slice_index entries.now block ≡ first }
+    ensures some { 0 < result }
+    ensures most { result ≤ most }
+    ensures row { (i : ℕ) → i < result → slice_index entries.now (block + i) ≡ first + 2 * i }
+{
+    let mut count = 1;
+    while count < most && entries[block + count] as usize == first + 2 * count {
+        count += 1;
+    }
+    count
+}
+
+// The `count` of these blocks from `at` on.
+fn part(stored: &[[u8; BLOCK_SIZE]], at: usize, count: usize) -> &[[u8; BLOCK_SIZE]]
+    requires { at + count ≤ length stored.now }
+    ensures part { result.now ≡ take count (drop at stored.now) }
+    ensures len { length result.now ≡ count }
+{
+    &stored[at..at + count]
+}
+
+// One block that was never written.
+fn zero_row() -> &'static [[u8; BLOCK_SIZE]]
+    ensures { result.now ≡ replicate 1 (replicate 512 0) }
+{
+    &ZERO_ROW
+}
+
+/// A row of blocks that were never written.
+static ZERO_ROW: [[u8; BLOCK_SIZE]; 1] = [[0; BLOCK_SIZE]];
+
+// The entries of so many blocks that were never written.
+fn no_entries(alloc: Global, count: usize) -> Result<Vec<u32>, NoMemory>
+    ensures { IfOk result (λ entries. entries.items ≡ replicate count 0) }
+{
+    Ok(vec![in alloc; 0u32; count]?)
+}

@@ -1,9 +1,0 @@
-use Rattle.std.proofs.Common.{◌∙◌, ap, ◌++◌, ◌∷◌, [], List, ℕ, replicate}
-use Rattle.std.proofs.lemmas.List.{replicate_more}
-use Rattle.nv_flat.proofs.controller.zero_blocks.Goals as goal
-
-pub loop-block-preserved : goal.loop-block-preserved
-loop-block-preserved c =
-    c.in_ok-push.ensures.items
-    ∙ ap (λ (blocks : List (List ℕ)). blocks ++ replicate 512 0 ∷ []) c.loop-block.invariant
-    ∙ replicate_more c.loop-block._block (replicate 512 0)
