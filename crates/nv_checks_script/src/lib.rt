@@ -3,6 +3,8 @@
 #![tactic(auto)]
 
 #[cfg(test)]
+mod digits;
+#[cfg(test)]
 mod refusals;
 #[cfg(test)]
 mod replay;

@@ -6,3 +6,4 @@ pub mod OnceVocabularyLemmas
 pub mod OnceScriptLemmas
 pub mod OnceRangeLemmas
 pub mod OnceExamples
+pub mod HexadecimalLemmas

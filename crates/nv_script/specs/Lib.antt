@@ -6,3 +6,4 @@ pub mod OnceVocabulary
 pub mod OnceSizes
 pub mod OnceLine
 pub mod OnceScript
+pub mod OnceHexadecimal

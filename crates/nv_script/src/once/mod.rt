@@ -5,6 +5,7 @@
 //! comment wherever it stands, and every other byte is part of its word.
 
 pub mod fault;
+pub mod hexadecimal;
 mod line;
 pub mod lines;
 pub mod number;

@@ -4,10 +4,13 @@ ghost use Rattle.nv_script.specs.OnceFault.{Refuses};
 ghost use Rattle.nv_script.specs.OnceNumber.{bytes_of, entry_of, number_of, number_up_to, spelled, written};
 
 use crate::once::fault::{FaultKind, LineFault};
+use crate::once::hexadecimal::spell;
 use crate::once::word::Word;
-use hex::{FromHex, FromHexError};
 use nv_entry::Sqe;
 use std::alloc::Global;
+
+/// The bytes of a submission queue entry.
+const ENTRY: usize = 64;
 
 // The number that these digits spell, or `None` where they are none, are not all digits, or spell one beyond 64 bits.
 // It stands once for each base, so that what a digit may be is known where it is looked at.
@@ -81,19 +84,23 @@ pub fn bytes(alloc: Global, word: Word<'_>) -> Result<Vec<u8>, LineFault>
     if word == b"-".as_slice() {
         return Ok(Vec::new(alloc));
     }
-    match hex::decode(alloc, word) {
-        Ok(bytes) => Ok(bytes),
-        Err(FromHexError::OutOfMemory) => Err(LineFault::NoMemory),
-        Err(_) => Err(LineFault::Faulty(FaultKind::BadBytes)),
+    if word.len() % 2 != 0 {
+        return Err(LineFault::Faulty(FaultKind::BadBytes));
     }
+    let mut bytes = vec![in alloc; 0; word.len() / 2]?;
+    spell(word, &mut bytes)?;
+    Ok(bytes)
 }
 
 /// The submission queue entry whose 64 bytes a word spells.
 pub fn entry(word: Word<'_>) -> Result<Sqe, FaultKind>
     ensures { result ≡ entry_of word.entry }
 {
-    match <[u8; 64]>::from_hex(word.text()) {
-        Ok(bytes) => Ok(Sqe::of(&bytes)),
-        Err(_) => Err(FaultKind::BadBytes),
+    let word = word.text();
+    if word.len() != 2 * ENTRY {
+        return Err(FaultKind::BadBytes);
     }
+    let mut bytes = [0; ENTRY];
+    spell(word, &mut bytes)?;
+    Ok(Sqe::of(&bytes))
 }
