@@ -7,6 +7,8 @@ mod bench;
 #[cfg(test)]
 mod commands;
 #[cfg(test)]
+mod digits;
+#[cfg(test)]
 mod events;
 #[cfg(test)]
 mod guests;

@@ -5,6 +5,7 @@ ghost use Rattle.hex.specs.Hex.{encode_lower};
 ghost use Rattle.nv_print.specs.Printed.{dump_line, hex_line, line_feed};
 
 use crate::cannot_write::CannotWrite;
+use crate::digits::write_hex;
 use std::io::Write;
 
 /// How many bytes are printed at once.
@@ -47,11 +48,9 @@ fn print_chunk<W: Write>(bytes: &[u8], output: &mut W) -> Result<(), CannotWrite
     ensures { OnOk result (Appends (W.contents output.old) (W.contents output.new) (encode_lower bytes.now)) }
 {
     let mut digits = [0; 2 * CHUNK];
-    let count = 2 * bytes.len();
-    match hex::encode_to_slice(bytes, &mut digits[..count]) {
-        Ok(()) => print_text(&digits[..count], output),
-        Err(_) => unreachable!(),
-    }
+    let digits = &mut digits[..2 * bytes.len()];
+    write_hex(bytes, digits);
+    print_text(digits, output)
 }
 
 /// Prints bytes as a line of hexadecimal digits.
@@ -83,10 +82,7 @@ fn write_line(bytes: &[u8], line: &mut [u8])
 {
     let (digits, end) = line.split_at_mut(2 * bytes.len());
     end[0] = b'\n';
-    match hex::encode_to_slice(bytes, digits) {
-        Ok(()) => {}
-        Err(_) => unreachable!(),
-    }
+    write_hex(bytes, digits);
 }
 
 /// Prints bytes as a line of hexadecimal digits, or of a dash where they are none.

@@ -5,6 +5,7 @@
 
 mod bytes;
 mod cannot_write;
+mod digits;
 mod numeral;
 
 pub use bytes::{end_line, print_bytes, print_dump, print_line, print_text};
