@@ -1,9 +1,14 @@
 -- Lines one after another
-use Rattle.std.proofs.Common.{◌≡◌, ℕ, ◌+◌, ◌<◌, ◌≤◌, Bool, true, false, eqb, List, [], ◌∷◌, ◌++◌, length, get_or, take, drop, refl, sym, subst, ap, ◌∙◌, arith}
+use Rattle.std.proofs.Common.{◌≡◌, ℕ, suc, cond, map, not, ◌*◌, ◌+◌, ◌<◌, ◌≤◌, Bool, true, false, eqb, List, [], ◌∷◌, ◌++◌, length, get_or, take, drop, refl, sym, subst, ap, ◌∙◌, arith}
 use Rattle.std.specs.List.{All, slice_split}
 use Rattle.std.proofs.lemmas.List.{drop-drop, drop_more, get_or-take, get_or_default, length-take-le, take-append-drop, take_all}
 use Rattle.std.proofs.lemmas.List.Splits.{length-slice_split, slice_split_none, slice_split_at}
 use Rattle.std.proofs.lemmas.List.Sums.{count_by-le-length}
+use Rattle.std.proofs.lemmas.Simd.{run_in_chunk_fails, run_in_chunk_stops, trailing_mask_l}
+use Rattle.std.proofs.lemmas.Bool.{false≢true}
+use Rattle.std.specs.List.{prefix_len}
+use lib.Count.{count_trailing_zeros}
+use lib.Lanes.{mask_l}
 use Rattle.memchr.specs.Find.{NoneBefore, Nowhere, Passes, is_byte}
 
 abbrev pub is_feed : ℕ → Bool
@@ -55,3 +60,34 @@ few-lines text =
     let lines = length-slice_split is_feed text in
     let feeds = count_by-le-length is_feed text in
     omega arith
+
+-- ---- the first bytes of a text as the lanes of a vector
+
+set-at : (p : ℕ → Bool) (x : ℕ) (xs : List ℕ) (t : Bool) → p x ≡ t → (0 < mask_l (map p xs) → prefix_len (λ y. not (p y)) xs < length xs)
+    → 0 < cond t 1 0 + 2 * mask_l (map p xs) → prefix_len (λ y. not (p y)) (x ∷ xs) < suc (length xs)
+set-at p x xs true e rest some = rw e (omega arith)
+set-at p x xs false e rest some = let more = rest (omega arith) in rw e (omega (arith, more))
+
+-- where a bit is set, a lane passes
+some-set : (p : ℕ → Bool) (xs : List ℕ) → 0 < mask_l (map p xs) → prefix_len (λ x. not (p x)) xs < length xs
+some-set p [] some = absurd (omega arith)
+some-set p (x ∷ xs) some = set-at p x xs (p x) refl (some-set p xs) some
+
+-- the lowest bit that is set stands for the first line feed
+pub first-feed : (text : List ℕ) (mask place : ℕ) → 32 ≤ length text → mask ≡ mask_l (map is_feed (take 32 text)) → 0 < mask
+    → place ≡ count_trailing_zeros 64 mask → NoneBefore (Passes (is_byte 10) text) 0 (length text) place × Passes (is_byte 10) text place
+first-feed text mask place room is some at =
+    let long = length-take-le 32 text room in
+    let counted : place ≡ prefix_len (λ x. not (is_feed x)) (take 32 text) =
+    at ∙ ap (count_trailing_zeros 64) is ∙ trailing_mask_l is_feed 64 (take 32 text) (omega (arith, long)) (omega (arith, is)) in
+    let within = some-set is_feed (take 32 text) (omega (arith, is)) in
+    let before = run_in_chunk_fails is_feed text 0 32 place 0 room counted in
+    let here = run_in_chunk_stops is_feed text 0 32 place 0 room counted (omega (arith, counted, within, long)) in
+    let from_start : 0 + place ≡ place = omega arith in (
+      record {
+        low = omega arith;
+        high = omega (arith, counted, within, long);
+        before = λ k low high feed. false≢true (sym (before k low (omega arith)) ∙ feed);
+      },
+      ap (λ k. is_feed (get_or text k 0)) (sym from_start) ∙ here,
+    )

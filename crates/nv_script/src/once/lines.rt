@@ -1,10 +1,13 @@
 //! The lines of a script.
-ghost use Rattle.std.specs.Prelude.{◌≡◌, ◌<◌, ◌≤◌, ◌^◌, length};
+ghost use Rattle.std.specs.Prelude.{◌≡◌, ◌==◌, ◌<◌, ◌≤◌, ◌^◌, length, map, take};
 ghost use Rattle.std.specs.Iterator.{YieldsFirstRef, item_count};
+ghost use Rattle.std.specs.Simd.Lanes.{mask_l};
+ghost use Rattle.memchr.specs.Find.{IsFirstByte, is_byte};
 ghost use Rattle.nv_script.specs.OnceWords.{lines_of, without_last_feed};
 
 use memchr::memchr;
 use std::marker::Model;
+use std::simd::prelude::*;
 
 /// The lines that are left of a text. A contract sees them as a list of lines.
 #[derive(Drop)]
@@ -42,11 +45,12 @@ impl<'a> Iterator for Lines<'a> {
 
     ghost remaining = { item_count (λ lines. lines) };
 
+    #[inline(always)]
     fn next(&mut self) -> Option<&'a [u8]> {
         if self.is_over {
             return None;
         }
-        let Some(end) = memchr(b'\n', self.text) else {
+        let Some(end) = line_end(self.text) else {
             self.is_over = true;
             return Some(self.text);
         };
@@ -55,6 +59,34 @@ impl<'a> Iterator for Lines<'a> {
         self.text = behind;
         Some(line)
     }
+}
+
+/// How many bytes are looked at at once for the end of a line.
+const LANES: usize = 32;
+
+// The place of the line feed that ends the first line of a text, or `None` where there is none. Nearly all lines are so short that a look at the
+// first bytes finds their end, which spares a call.
+#[inline(always)]
+fn line_end(text: &[u8]) -> Option<usize>
+    ensures { IsFirstByte (is_byte 10) text.now result }
+{
+    if text.len() >= LANES {
+        let feeds = feeds(text);
+        if feeds != 0 {
+            return Some(feeds.trailing_zeros() as usize);
+        }
+    }
+    memchr(b'\n', text)
+}
+
+// Where the first bytes of a text are line feeds: the lowest bit stands for the first byte.
+#[inline(always)]
+fn feeds(text: &[u8]) -> u64
+    requires { LANES ≤ length text.now }
+    ensures { result ≡ mask_l (map (λ b. b == 10) (take 32 text.now)) }
+{
+    let bytes = u8x32::from_slice(text);
+    bytes.simd_eq(u8x32::splat(b'\n')).to_bitmask()
 }
 
 // A text without the line feed that ends its last line.
