@@ -1,3 +1,4 @@
 pub mod LineLemmas
 pub mod ReplayScriptLemmas
 pub mod SetUpLemmas
+pub mod LeadingLemmas

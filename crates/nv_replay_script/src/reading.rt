@@ -6,7 +6,7 @@ ghost use Rattle.nv_script.specs.OnceWords.{words_of};
 use crate::event::push_event;
 use crate::open_set_up::OpenSetUp;
 use crate::script::Script;
-use crate::vocabulary::{AWAIT_ARGUMENTS, EventKind, Keyword, look_up};
+use crate::vocabulary::{AWAIT_ARGUMENTS, EventKind, Keyword, leading, look_up};
 use nv_script::once::fault::LineFault;
 use nv_script::once::words::Words;
 use nv_script::{FaultKind, ScriptFault};
@@ -38,6 +38,18 @@ impl Reading {
         ensures { let after = after_line 1 (progress self.old) (words_of line.now)
             in MatchResult result (λ _. after ≡ Ok (progress self.new)) (Refuses after) }
     {
+        match leading(line) {
+            Some((keyword, behind)) => self.add(alloc, keyword, Words::of(behind)),
+            None => self.read_any(alloc, line),
+        }
+    }
+
+    // Reads the next line, whatever it begins with.
+    #[inline(never)]
+    fn read_any(&mut self, alloc: Global, line: &[u8]) -> Result<(), LineFault>
+        ensures { let after = after_line 1 (progress self.old) (words_of line.now)
+            in MatchResult result (λ _. after ≡ Ok (progress self.new)) (Refuses after) }
+    {
         let mut words = Words::of(line);
         let Some(first) = words.next_name() else {
             return Ok(());
@@ -47,6 +59,7 @@ impl Reading {
     }
 
     // Adds what a line with this keyword says, where its words are as many as it wants.
+    #[inline(always)]
     fn add(&mut self, alloc: Global, keyword: Keyword, words: Words<'_>) -> Result<(), LineFault>
         ensures { let after = after_keyword (progress self.old) keyword words.entry
             in MatchResult result (λ _. after ≡ Ok (progress self.new)) (Refuses after) }
@@ -69,6 +82,7 @@ impl Reading {
     }
 
     // Adds the event of a line, once all sizes are there.
+    #[inline(always)]
     fn add_event(
         &mut self,
         alloc: Global,

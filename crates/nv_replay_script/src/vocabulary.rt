@@ -1,5 +1,6 @@
 //! The words that a line may begin with.
-ghost use Rattle.std.specs.Prelude.{◌≡◌, Some};
+ghost use Rattle.std.specs.Prelude.{◌≡◌, ◌∷◌, ℕ, List, IfSome, Some};
+ghost use Rattle.nv_script.specs.OnceWords.{words_of};
 ghost use Rattle.nv_replay_script.specs.ReplayVocabulary.{keyword_of};
 
 use nv_script::once::vocabulary::keyword_in;
@@ -150,6 +151,20 @@ pub fn look_up(word: Word<'_>) -> Option<Keyword>
         return Some(keyword);
     }
     look_up_any(word)
+}
+
+/// What a line is that begins with the word of an event, and what stands behind that word; `None` for a line that has to be looked at otherwise.
+/// Nearly all lines are told so, with no search for the end of their first word.
+#[inline(always)]
+pub(crate) fn leading(line: &[u8]) -> Option<(Keyword, &[u8])>
+    ensures { IfSome result (λ found. (first : List ℕ) × (words_of line.now ≡ first ∷ words_of found.1.now) × (keyword_of first ≡ Some found.0)) }
+{
+    let (name, keyword) = likely(line);
+    let behind = line.strip_prefix(name)?;
+    match behind.first() {
+        Some(byte) if *byte == b' ' => Some((keyword, behind)),
+        _ => None,
+    }
 }
 
 // The word of an event that this one is likely to be, as its first letters say, and what its line is. Nearly all lines of a script are told so,

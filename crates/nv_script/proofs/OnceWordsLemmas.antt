@@ -1,8 +1,9 @@
 -- Words one after another
 use Rattle.std.proofs.Common.{◌≡◌, ℕ, zero, suc, ◌+◌, ◌-◌, ◌<◌, ◌≤◌, ◌≢◌, Bool, true, false, not, cond, eqb, ltb, List, [], ◌∷◌, ◌++◌, length, get_or, take, drop, Option, Some, None, refl, sym, ap, ◌∙◌, arith, inl, inr, ◌⊎◌}
 use Rattle.std.specs.Prelude.{◌||◌, filter, nat_lt, unwrap_or}
-use Rattle.std.specs.List.{before_first, onto_first, position, position_or_len, slice_split}
-use Rattle.std.proofs.lemmas.Bool.{cases_lt}
+use Rattle.std.proofs.Math.Seq.{drop-append_seam, take-append_seam}
+use Rattle.std.specs.List.{before_first, list_all, onto_first, position, position_or_len, slice_split}
+use Rattle.std.proofs.lemmas.Bool.{and_parts, cases_lt}
 use Rattle.std.proofs.lemmas.Bool.Decides.{nat_tests}
 use Rattle.std.proofs.lemmas.List.{take_all, take_at, drop_all, drop_more, get_or_push, length-take-le, length_push}
 use Rattle.std.proofs.lemmas.List.Sums.{prefix_len-le-length, prefix_len_is, passes_at_first}
@@ -308,3 +309,26 @@ first-byte p text None nowhere =
 first-byte p text (Some end) found =
     let high = found.0.high in
     sym (prefix_len_is (λ b. not (p b)) text end 0 (omega arith) (λ k l. never-true (p (get_or text k 0)) (found.0.before k (omega arith) l)) (λ l. is-true (p (get_or text end 0)) found.1))
+
+-- ---- a line that begins with a name
+
+place-named : (p : ℕ → Bool) (name more : List ℕ) (b : ℕ) → list_all (λ x. not (p x)) name ≡ true → p b ≡ true
+    → length name ≡ position_or_len p (name ++ b ∷ more)
+place-named p [] more b none ends = rw ends refl
+place-named p (x ∷ name) more b none ends =
+    let parts = and_parts (not (p x)) (list_all (λ y. not (p y)) name) none in
+    let rest = place-named p name more b parts.1 ends in
+    rw parts.0 (omega (arith, rest))
+
+no_space-first : (x : ℕ) (text : List ℕ) → not (ends_word x) ≡ true → 0 ≡ position_or_len is_no_space (x ∷ text)
+no_space-first x text none = grind (arith, nat_tests)
+
+-- a name of whole letters, and a space behind it: it is the first word, and what stands behind it has the others
+pub words_of-named : (name more : List ℕ) → 0 < length name → list_all (λ b. not (ends_word b)) name ≡ true
+    → words_of (name ++ 32 ∷ more) ≡ name ∷ words_of (32 ∷ more)
+words_of-named [] more some none = absurd (omega arith)
+words_of-named (x ∷ name) more some none =
+    let parts = and_parts (not (ends_word x)) (list_all (λ y. not (ends_word y)) name) none in
+    first_word-some ((x ∷ name) ++ 32 ∷ more) ((x ∷ name) ++ 32 ∷ more) (x ∷ name) (32 ∷ more) 0 (length (x ∷ name))
+    (no_space-first x (name ++ 32 ∷ more) parts.0) refl (place-named ends_word (x ∷ name) more 32 none refl) some
+    (sym (take-append_seam (x ∷ name) (32 ∷ more))) (sym (drop-append_seam (x ∷ name) (32 ∷ more)))
