@@ -7,3 +7,4 @@ pub mod OnceScriptLemmas
 pub mod OnceRangeLemmas
 pub mod OnceExamples
 pub mod HexadecimalLemmas
+pub mod OneDigitLemmas

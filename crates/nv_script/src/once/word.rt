@@ -35,6 +35,45 @@ impl<'a> Word<'a> {
         ensures { MatchOption result (words_of line.now ≡ [])
             (λ parts. words_of line.now ≡ parts.0 ∷ words_of parts.1.now) }
     {
+        match Word::digit(line) {
+            Some(found) => Some(found),
+            None => Word::any(line),
+        }
+    }
+
+    // The same where the word is one decimal digit behind one space, as most numbers of guests, lanes and slots are: it is told by three bytes.
+    #[inline(always)]
+    fn digit(line: &'a [u8]) -> Option<(Self, &'a [u8])>
+        ensures { IfSome result (λ parts. words_of line.now ≡ parts.0 ∷ words_of parts.1.now) }
+    {
+        if line.len() < 2 {
+            return None;
+        }
+        let (space, line) = line.split_at(1);
+        let (text, behind) = line.split_at(1);
+        if space[0] != b' ' {
+            return None;
+        }
+        let digit = text[0];
+        if digit < b'0' {
+            return None;
+        }
+        if digit > b'9' {
+            return None;
+        }
+        if !is_at_end(behind) {
+            return None;
+        }
+        let plain = Some(u64::from(digit - b'0'));
+        Some((Word { text, plain }, behind))
+    }
+
+    // The same, whatever the line begins with.
+    #[inline(always)]
+    fn any(line: &'a [u8]) -> Option<(Self, &'a [u8])>
+        ensures { MatchOption result (words_of line.now ≡ [])
+            (λ parts. words_of line.now ≡ parts.0 ∷ words_of parts.1.now) }
+    {
         let (_, line) = line.split_at(leading_spaces(line));
         let (digits, value) = leading_digits(line);
         let (text, behind) = line.split_at(digits);

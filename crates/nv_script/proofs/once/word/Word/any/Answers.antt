@@ -1,7 +1,7 @@
 use Rattle.std.proofs.Common.{arith}
 use Rattle.nv_script.proofs.OnceDigitsLemmas.{digits-end, plain-number, whole-end}
 use Rattle.nv_script.proofs.OnceWordsLemmas.{ends_word, first_word-none, first_word-some, is_no_space, position_or_len-le}
-use Rattle.nv_script.proofs.once.word.Word.first.Goals as goal
+use Rattle.nv_script.proofs.once.word.Word.any.Goals as goal
 
 pub split_at-requires : goal.split_at-requires
 split_at-requires c = omega (arith, c.leading_spaces.ensures, position_or_len-le is_no_space c.args.line.now)
