@@ -15,11 +15,14 @@ const CHUNK: usize = 512;
 const SHORT: usize = 32;
 
 /// Prints a text as it is.
+#[inline(always)]
 pub fn print_text<W: Write>(text: &[u8], output: &mut W) -> Result<(), CannotWrite>
     ensures { OnOk result (Appends (W.contents output.old) (W.contents output.new) text.now) }
 {
-    output.write_all(text)?;
-    Ok(())
+    match output.write_all(text) {
+        Ok(()) => Ok(()),
+        Err(_) => Err(CannotWrite),
+    }
 }
 
 /// Ends a line of the output.

@@ -82,7 +82,9 @@ fn increase_digits(digits: &mut [u8]) -> bool
     increase_digits(front)
 }
 
-/// Prints a number in decimal digits and a text behind it.
+/// Prints a number in decimal digits and a text behind it. It stands where it is called, so that a text whose length is known there is copied
+/// with no call.
+#[inline(always)]
 pub fn print_numbered<W: Write>(
     number: &Numeral,
     text: &[u8],
