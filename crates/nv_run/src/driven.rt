@@ -19,7 +19,11 @@ const POLLS: u32 = 1_000_000;
 /// How many bytes a line that waits loads.
 const DWORD: u64 = 4;
 
-/// After how many looks a thread that waits sleeps; behind the others it only lets other threads run.
+/// How many looks of a line that waits come only where there is news for the guest, or after a millisecond or so without. A line that
+/// has looked so often in vain mostly waits in vain.
+const PATIENT_LOOKS: u32 = 256;
+
+/// After how many of the others a thread that waits sleeps; behind the rest it only lets other threads run.
 const LOOKS_A_NAP: u32 = 256;
 
 /// How long it sleeps then, in microseconds.
@@ -170,11 +174,12 @@ fn wait_for<R: Wait + Clock>(
     ensures ok { IfOk result (λ met. Grows port.old.calls port.new.calls (HasWaited port.old.guest (look_of probe) value met)) }
 {
     for look in 0..POLLS {
+        let seen = shared.news(port.guest());
         let reply = port.act(rt, alloc, shared, probe.act())?;
         if shows(&reply, value) {
             return Ok(true);
         }
-        pause(rt, look);
+        pause(rt, shared, port.guest(), seen, look);
     }
     Ok(false)
 }
@@ -190,9 +195,12 @@ pub(crate) fn shows(reply: &Reply, value: u32) -> bool
     }
 }
 
-// Lets other threads run, and sleeps behind every so many looks.
-fn pause<R: Wait + Clock>(rt: &R, look: u32) {
-    if look % LOOKS_A_NAP == LOOKS_A_NAP - 1 {
+// Waits before the next look: for more news than the guest had seen, as long as it is patient. Each look is an act that is logged, so one
+// that is not made spares time and memory.
+fn pause<R: Wait + Clock>(rt: &R, shared: &Shared, guest: u8, seen: u64, look: u32) {
+    if look < PATIENT_LOOKS {
+        shared.wait_for_news(rt, guest, seen);
+    } else if look % LOOKS_A_NAP == LOOKS_A_NAP - 1 {
         thread::sleep(rt, Duration::from_micros(NAP));
     } else {
         thread::yield_now();

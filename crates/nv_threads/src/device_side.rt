@@ -2,7 +2,9 @@
 
 ghost use Rattle.std.specs.Prelude.{◌<◌};
 
-use crate::resting::Rest;
+use crate::bits::{bit, next_behind};
+use crate::concern::Concern;
+use crate::locked::Locked;
 use crate::share::Share;
 use crate::shared::Shared;
 use nv_model::Reply;
@@ -24,16 +26,20 @@ const UNITS: u64 = 65_536;
 /// This waits for the world's lock. It tells how many events it put into the log.
 pub fn device_loop<R: Wait + Clock>(rt: &R, alloc: Global, shared: &Shared, lane: u8) -> Share {
     let mut device = LaneDevice::new(lane, shared.was_used(lane));
-    let mut rest = Rest::new();
+    let bell = shared.bells.device(lane);
     for _ in rt.forever() {
+        let rings = bell.rings();
         if shared.is_stopped() {
             break;
         }
-        let done = device.turn(&mut shared.world.lock(rt), alloc);
-        if done {
-            rest.end();
-        } else {
-            rest.pause(rt);
+        let concern = device.turn(&mut shared.locked.lock(rt), alloc);
+        match concern {
+            Some(concern) => shared.bells.ring(concern),
+            None => {
+                if !bell.wait(rt, rings) {
+                    device.look_everywhere();
+                }
+            }
         }
     }
     device.share
@@ -47,6 +53,8 @@ struct LaneDevice {
     slot: u8,
     // whether some slot may hold a command
     held: bool,
+    // whether all slots are looked at next, and not only those whose tags are noted as taken
+    thorough: bool,
     // the next unit of each slot's command
     units: [u64; SLOTS],
     // of commands that were there before the worker came, no unit below this one is left
@@ -61,34 +69,50 @@ impl LaneDevice {
             lane,
             slot: 0,
             held: true,
+            thorough: true,
             units: [0; SLOTS],
             earlier: if was_used { 0 } else { UNITS },
             share: Share::new(),
         }
     }
 
-    // What is done under the lock, one event at most; whether something was. The command of the last slot goes on; else the next entry
-    // is taken; else another slot's command goes on.
-    fn turn(&mut self, world: &mut World, alloc: Global) -> bool {
-        if let Some(event) = self.due(world, self.slot) {
-            return self.carry_out(world, alloc, event);
+    // What is done under the lock, one event at most: whom it concerns, or `None` where nothing was done. The command of the last slot
+    // goes on; else the next entry is taken; else another slot's command goes on.
+    fn turn(&mut self, locked: &mut Locked, alloc: Global) -> Option<Concern> {
+        if let Some(event) = self.due(&locked.world, self.slot) {
+            return self.carry_out(&mut locked.world, alloc, event);
         }
         let take = Event::DevTake(self.lane);
-        if world.due(&take) {
+        if locked.world.due(&take) {
             self.held = true;
-            return is_done(self.share.step(world, alloc, take));
+            return done(
+                self.share.step(&mut locked.world, alloc, take),
+                Concern::nobody(),
+            );
         }
         if self.held {
-            return self.turn_to_another(world, alloc);
+            let concern = self.turn_to_another(locked, alloc);
+            if self.held {
+                return concern;
+            }
         }
-        self.earlier < UNITS && self.look_further()
+        self.look_further()
+    }
+
+    // Nobody rang for a while: all slots are looked at once more.
+    fn look_everywhere(&mut self) {
+        self.held = true;
+        self.thorough = true;
     }
 
     // The units of earlier commands that had moved are passed by, one number a turn.
-    fn look_further(&mut self) -> bool {
+    fn look_further(&mut self) -> Option<Concern> {
+        if self.earlier >= UNITS {
+            return None;
+        }
         self.earlier = self.earlier.saturating_add(1);
         self.held = true;
-        true
+        Some(Concern::nobody())
     }
 
     // The next event of a slot's command, where one is due.
@@ -109,33 +133,46 @@ impl LaneDevice {
     }
 
     // Carries out the next event of the last slot's command, and keeps which unit comes next.
-    fn carry_out(&mut self, world: &mut World, alloc: Global, event: Event) -> bool {
-        let next = match &event {
-            Event::DevMove(_, _, unit) => unit.wrapping_add(1),
-            _ => 0,
+    fn carry_out(&mut self, world: &mut World, alloc: Global, event: Event) -> Option<Concern> {
+        let (next, concern) = match &event {
+            Event::DevMove(_, _, unit) => (unit.wrapping_add(1), Concern::nobody()),
+            _ => (0, Concern::reaper(self.lane)),
         };
-        let done = is_done(self.share.step(world, alloc, event));
-        if done {
-            self.units[usize::from(self.slot)] = next;
-        }
-        done
+        let concern = done(self.share.step(world, alloc, event), concern)?;
+        self.units[usize::from(self.slot)] = next;
+        Some(concern)
     }
 
-    // The next slot behind the last whose command has something due goes on. Where there is none, no slot holds a command.
-    fn turn_to_another(&mut self, world: &mut World, alloc: Global) -> bool {
-        for step in 1..=SLOTS as u8 {
-            let slot = self.slot.wrapping_add(step) % SLOTS as u8;
-            if let Some(event) = self.due(world, slot) {
+    // The next slot behind the last whose command has something due goes on. Where there is none, no slot holds a command, as far as is
+    // known. A slot has the number of its command's tag, so those of free tags hold none.
+    fn turn_to_another(&mut self, locked: &mut Locked, alloc: Global) -> Option<Concern> {
+        let mut left = if self.thorough {
+            u64::MAX
+        } else {
+            locked.notes.used(self.lane)
+        };
+        let mut slot = self.slot;
+        for _ in 0..SLOTS {
+            let Some(next) = next_behind(left, slot) else {
+                break;
+            };
+            slot = next;
+            if let Some(event) = self.due(&locked.world, slot) {
                 self.slot = slot;
-                return self.carry_out(world, alloc, event);
+                return self.carry_out(&mut locked.world, alloc, event);
             }
+            left &= !bit(slot);
         }
         self.held = false;
-        false
+        self.thorough = false;
+        None
     }
 }
 
-// Whether an event that was due was done, and there was memory for it.
-fn is_done(reply: Reply) -> bool {
-    matches!(reply, Reply::Done)
+// Whom an event concerns that was due, where it was done and there was memory for it.
+fn done(reply: Reply, concern: Concern) -> Option<Concern> {
+    match reply {
+        Reply::Done => Some(concern),
+        _ => None,
+    }
 }

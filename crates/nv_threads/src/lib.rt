@@ -7,6 +7,10 @@
 //! - [`Port`] is what a guest acts by. It keeps its own list of events with the replies that it gave back.
 //! - [`planner`], [`reaper`] and [`device_loop`] are the workers. They make an event only where it is due under the same hold of the
 //!   lock, so waiting logs nothing. Plans are made outside the lock, by a [`Gate`], in a heap of the planner's own.
+//! - A worker that finds nothing to do waits outside the lock, for a bell. Whoever has made an event rings for those whom it concerns, and
+//!   a wait ends by itself after a millisecond or so. So may a guest wait for what was posted to it ([`Shared::wait_for_news`]). Beside the
+//!   world is noted which tags are not free, and whose they are, so that workers need not look at others. Nothing is claimed of bells or
+//!   notes: which event is due the world says.
 //! - [`finish`] compares the log with what ports and workers kept. After `Ok` each reply that a port gave is that of one history, which
 //!   holds each of the port's calls once, in its order.
 //!
@@ -15,17 +19,22 @@
 #![tactic(auto)]
 
 pub mod alike;
+mod bell;
+mod bells;
+mod bits;
 mod calls;
+mod concern;
 mod counting;
 mod device_side;
 mod finishing;
 mod gate;
 mod given;
+mod locked;
 mod mismatch;
+mod notes;
 mod planning;
 mod port;
 mod reaping;
-mod resting;
 mod share;
 mod shared;
 mod sums;

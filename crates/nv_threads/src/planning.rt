@@ -1,15 +1,16 @@
 //! The worker that takes and plans a guest's commands.
 
+use crate::concern::Concern;
 use crate::gate::Gate;
 use crate::given::Given;
-use crate::resting::Rest;
+use crate::locked::Locked;
 use crate::share::Share;
 use crate::shared::Shared;
 use crate::tasks::{Task, Turn};
 use linked_list_allocator::LocalHeap;
 use nv_mem::NoMemory;
 use nv_model::Reply;
-use nv_plan::{Job, Plan, Planned};
+use nv_plan::{Job, Plan, PlanKind, Planned};
 use nv_world::World;
 use nv_world_model::Event;
 use std::alloc::Global;
@@ -43,20 +44,22 @@ pub fn planner<G: Gate, R: Wait + Clock>(
         return planner.share;
     };
     let heap = LocalHeap::new(alloc, heap_bytes as usize).ok();
-    let mut rest = Rest::new();
+    let bell = shared.bells.planner(guest);
     for _ in rt.forever() {
+        let rings = bell.rings();
         if shared.is_stopped() {
             break;
         }
-        let turn = planner.turn(&mut shared.world.lock(rt), alloc);
+        let turn = planner.turn(&mut shared.locked.lock(rt), alloc);
         match turn {
             Turn::Job(job) => {
-                rest.end();
                 let planned = planned(rt, alloc, &heap, gate, &given, job);
                 planner.go_on(rt, shared, planned);
             }
-            Turn::Done => rest.end(),
-            Turn::Nothing => rest.pause(rt),
+            Turn::Done(concern) => shared.bells.ring(concern),
+            Turn::Nothing => {
+                let _rung = bell.wait(rt, rings);
+            }
         }
     }
     planner.share
@@ -65,14 +68,17 @@ pub fn planner<G: Gate, R: Wait + Clock>(
 // What the guest was given. It is tried again until there is memory for it; `None` where there is no such guest, or the workers are
 // to stop.
 fn given<R: Wait + Clock>(rt: &R, alloc: Global, shared: &Shared, guest: u8) -> Option<Given> {
-    let mut rest = Rest::new();
+    let bell = shared.bells.planner(guest);
     for _ in rt.forever() {
+        let rings = bell.rings();
         if shared.is_stopped() {
             return None;
         }
         match Given::of(rt, alloc, shared, guest) {
             Ok(given) => return given,
-            Err(NoMemory) => rest.pause(rt),
+            Err(NoMemory) => {
+                let _rung = bell.wait(rt, rings);
+            }
         }
     }
     unreachable!()
@@ -120,13 +126,13 @@ impl GuestPlanner {
     }
 
     // What is done under the lock: one event, or a look at one job.
-    fn turn(&mut self, world: &mut World, alloc: Global) -> Turn {
+    fn turn(&mut self, locked: &mut Locked, alloc: Global) -> Turn {
         match self.task {
-            Task::Search(looked) => self.search(world, alloc, looked),
-            Task::TakeUp => self.take_up(world, alloc),
-            Task::Plan(tag) => self.plan(world, alloc, tag),
-            Task::Read(tag, addr, len) => self.read(world, alloc, tag, addr, len),
-            Task::GiveUp(tag) => self.give_up(world, alloc, tag),
+            Task::Search(looked) => self.search(&locked.world, alloc, looked),
+            Task::TakeUp => self.take_up(locked, alloc),
+            Task::Plan(tag) => self.plan(&locked.world, alloc, tag),
+            Task::Read(tag, addr, len) => self.read(&mut locked.world, alloc, tag, addr, len),
+            Task::GiveUp(tag) => self.give_up(locked, alloc, tag),
         }
     }
 
@@ -135,17 +141,29 @@ impl GuestPlanner {
         self.task = match planned {
             Planned::Need(job, addr, len) => Task::Read(job.tag, addr, len),
             Planned::NoMemory(job) => Task::GiveUp(job.tag),
-            Planned::Plan(plan) => self.submit(&mut shared.world.lock(rt), plan),
+            Planned::Plan(plan) => {
+                let (task, concern) = self.submit(&mut shared.locked.lock(rt), plan);
+                shared.bells.ring(concern);
+                task
+            }
         };
     }
 
-    // Hands a plan over. Where it is stale, or there was no memory, its job is looked at again.
-    fn submit(&mut self, world: &mut World, plan: Plan) -> Task {
+    // Hands a plan over: what comes next, and whom it concerns. Where it is stale, or there was no memory, its job is looked at again.
+    fn submit(&mut self, locked: &mut Locked, plan: Plan) -> (Task, Concern) {
         let tag = plan.job().tag;
-        match self.share.submit(world, plan) {
-            Reply::Done => Task::TakeUp,
-            _ => Task::Plan(tag),
+        let is_answer = matches!(plan.kind(), PlanKind::Answer(_));
+        match self.share.submit(&mut locked.world, plan) {
+            Reply::Done if is_answer => (Task::TakeUp, self.ended(locked)),
+            Reply::Done => (Task::TakeUp, Concern::device(self.lane)),
+            _ => (Task::Plan(tag), Concern::nobody()),
         }
+    }
+
+    // Whom it concerns that a command has ended without a physical one.
+    fn ended(&self, locked: &mut Locked) -> Concern {
+        locked.notes.end(self.lane);
+        Concern::reaper(self.lane)
     }
 
     // Looks at a tag behind the last that had a command of the guest's, itself the first, for another that was taken. A tag that another
@@ -160,7 +178,7 @@ impl GuestPlanner {
             }
             Ok(None) => {
                 self.task = behind(looked);
-                Turn::Done
+                Turn::Done(Concern::nobody())
             }
             Err(NoMemory) => Turn::Nothing,
         }
@@ -173,28 +191,39 @@ impl GuestPlanner {
     }
 
     // Takes up an admin command, or takes a command of the next queue, behind the last, that has one.
-    fn take_up(&mut self, world: &mut World, alloc: Global) -> Turn {
+    fn take_up(&mut self, locked: &mut Locked, alloc: Global) -> Turn {
         let admin = Event::Admin(self.guest);
-        if world.due(&admin) {
-            return done(self.share.step(world, alloc, admin));
+        if locked.world.due(&admin) {
+            return self.answer(locked, alloc, admin);
         }
         for step in 0..LAST_QUEUE {
             let queue = self.queue.wrapping_add(step) % LAST_QUEUE + 1;
             let take = Event::Take(self.guest, queue, self.lane);
-            if world.due(&take) {
+            if locked.world.due(&take) {
                 self.queue = queue;
-                return self.take(world, alloc, take);
+                return self.take(locked, alloc, take);
             }
         }
         Turn::Nothing
     }
 
-    // Takes a command, whose tag is to be looked for.
-    fn take(&mut self, world: &mut World, alloc: Global, take: Event) -> Turn {
-        match self.share.step(world, alloc, take) {
+    // Takes up an admin command, whose completion is the guest's to see.
+    fn answer(&mut self, locked: &mut Locked, alloc: Global, admin: Event) -> Turn {
+        match self.share.step(&mut locked.world, alloc, admin) {
+            Reply::NoMemory => Turn::Nothing,
+            _ => Turn::Done(Concern::guest(self.guest)),
+        }
+    }
+
+    // Takes a command, whose tag is to be looked for, first where it should be.
+    fn take(&mut self, locked: &mut Locked, alloc: Global, take: Event) -> Turn {
+        match self.share.step(&mut locked.world, alloc, take) {
             Reply::Done => {
+                if let Some(tag) = locked.notes.take(self.lane, self.guest) {
+                    self.tag = tag;
+                }
                 self.task = Task::Search(0);
-                Turn::Done
+                Turn::Done(Concern::nobody())
             }
             _ => Turn::Nothing,
         }
@@ -206,7 +235,7 @@ impl GuestPlanner {
             Ok(Some(job)) => Turn::Job(job),
             Ok(None) => {
                 self.task = Task::TakeUp;
-                Turn::Done
+                Turn::Done(Concern::nobody())
             }
             Err(NoMemory) => Turn::Nothing,
         }
@@ -219,19 +248,22 @@ impl GuestPlanner {
             Reply::NoMemory => Turn::Nothing,
             _ => {
                 self.task = Task::Plan(tag);
-                Turn::Done
+                Turn::Done(Concern::nobody())
             }
         }
     }
 
-    // Gives up the command of a tag.
-    fn give_up(&mut self, world: &mut World, alloc: Global, tag: u8) -> Turn {
-        match self.share.step(world, alloc, Event::GiveUp(self.lane, tag)) {
-            Reply::NoMemory => Turn::Nothing,
-            _ => {
-                self.task = Task::TakeUp;
-                Turn::Done
-            }
+    // Gives up the command of a tag. Where it was dropped, there is another to be taken up, too.
+    fn give_up(&mut self, locked: &mut Locked, alloc: Global, tag: u8) -> Turn {
+        let give_up = Event::GiveUp(self.lane, tag);
+        let reply = self.share.step(&mut locked.world, alloc, give_up);
+        if let Reply::NoMemory = &reply {
+            return Turn::Nothing;
+        }
+        self.task = Task::TakeUp;
+        match reply {
+            Reply::Done => Turn::Done(self.ended(locked)),
+            _ => Turn::Done(Concern::nobody()),
         }
     }
 }
@@ -243,13 +275,5 @@ fn behind(looked: u8) -> Task {
         Task::Search(looked)
     } else {
         Task::TakeUp
-    }
-}
-
-// How a turn ends whose event was answered so.
-fn done(reply: Reply) -> Turn {
-    match reply {
-        Reply::NoMemory => Turn::Nothing,
-        _ => Turn::Done,
     }
 }

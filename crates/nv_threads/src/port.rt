@@ -2,6 +2,7 @@
 
 ghost use Rattle.std.specs.Prelude.{◌≡◌, ◌≢◌, ◌<◌, IfOk, [], ◌∷◌, ◌++◌, OnErr};
 
+use crate::locked::Errand;
 use crate::shared::Shared;
 use crate::telling::tell;
 use nv_mem::NoMemory;
@@ -62,7 +63,12 @@ impl Port {
     {
         self.calls.reserve(1)?;
         let again = act.try_clone(alloc)?;
-        let (reply, kept) = tell(&mut shared.world.lock(rt), alloc, self.guest, act)?;
+        let errand = Errand::of(&act);
+        let mut locked = shared.locked.lock(rt);
+        let (reply, kept) = tell(&mut locked.world, alloc, self.guest, act)?;
+        let concern = locked.concern(self.guest, errand);
+        drop(locked);
+        shared.bells.ring(concern);
         self.calls.push_reserved(Logged {
             event: Event::Guest(self.guest, again),
             reply: kept,

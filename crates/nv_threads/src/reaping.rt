@@ -1,10 +1,11 @@
 //! The worker that ends commands.
 
-use crate::resting::Rest;
+use crate::bits::{bit, next_behind};
+use crate::concern::Concern;
+use crate::locked::Locked;
 use crate::share::Share;
 use crate::shared::Shared;
 use nv_model::Reply;
-use nv_world::World;
 use nv_world_model::Event;
 use std::alloc::Global;
 use std::sync::Wait;
@@ -19,16 +20,16 @@ const TAGS: u8 = 64;
 /// This waits for the world's lock. It tells how many events it put into the log.
 pub fn reaper<R: Wait + Clock>(rt: &R, alloc: Global, shared: &Shared, lane: u8) -> Share {
     let mut reaper = LaneReaper::new(lane);
-    let mut rest = Rest::new();
+    let bell = shared.bells.reaper(lane);
     for _ in rt.forever() {
+        let rings = bell.rings();
         if shared.is_stopped() {
             break;
         }
-        let done = reaper.turn(&mut shared.world.lock(rt), alloc);
-        if done {
-            rest.end();
-        } else {
-            rest.pause(rt);
+        let concern = reaper.turn(&mut shared.locked.lock(rt), alloc);
+        match concern {
+            Some(concern) => shared.bells.ring(concern),
+            None => reaper.thorough = !bell.wait(rt, rings),
         }
     }
     reaper.share
@@ -38,8 +39,10 @@ pub fn reaper<R: Wait + Clock>(rt: &R, alloc: Global, shared: &Shared, lane: u8)
 #[derive(Debug, Drop)]
 struct LaneReaper {
     lane: u8,
-    // the tag that is looked at first
+    // the tag that was posted last
     tag: u8,
+    // whether all tags are looked at, and not only those that are noted as taken
+    thorough: bool,
     share: Share,
 }
 
@@ -48,30 +51,58 @@ impl LaneReaper {
         LaneReaper {
             lane,
             tag: 0,
+            thorough: true,
             share: Share::new(),
         }
     }
 
-    // What is done under the lock, one event at most; whether something was.
-    fn turn(&mut self, world: &mut World, alloc: Global) -> bool {
+    // What is done under the lock, one event at most: whom it concerns, or `None` where there was none.
+    fn turn(&mut self, locked: &mut Locked, alloc: Global) -> Option<Concern> {
         let reap = Event::Reap(self.lane);
-        if world.due(&reap) {
-            return is_done(self.share.step(world, alloc, reap));
+        if locked.world.due(&reap) {
+            return self.reap(locked, alloc, reap);
         }
-        let Some(tag) = self.ended(world) else {
-            return false;
-        };
+        let tag = self.ended(locked)?;
         self.tag = tag;
-        is_done(self.share.step(world, alloc, Event::Post(self.lane, tag)))
+        self.post(locked, alloc, tag)
+    }
+
+    // Reaps a completion.
+    fn reap(&mut self, locked: &mut Locked, alloc: Global, reap: Event) -> Option<Concern> {
+        if !is_done(self.share.step(&mut locked.world, alloc, reap)) {
+            return None;
+        }
+        locked.notes.end(self.lane);
+        Some(Concern::nobody())
+    }
+
+    // Posts the command of a tag. Behind it, a deletion may be finished that waited for it.
+    fn post(&mut self, locked: &mut Locked, alloc: Global, tag: u8) -> Option<Concern> {
+        let post = Event::Post(self.lane, tag);
+        if !is_done(self.share.step(&mut locked.world, alloc, post)) {
+            return None;
+        }
+        let mut concern = locked.notes.post(self.lane, tag);
+        if let Some(guest) = locked.notes.owner(self.lane, tag) {
+            concern.planners |= locked.with_admin(guest);
+        }
+        Some(concern)
     }
 
     // The next tag whose command may be completed, behind the one that was the last.
-    fn ended(&self, world: &World) -> Option<u8> {
-        for step in 1..=TAGS {
-            let tag = self.tag.wrapping_add(step) % TAGS;
-            if world.due(&Event::Post(self.lane, tag)) {
+    fn ended(&self, locked: &Locked) -> Option<u8> {
+        let mut left = if self.thorough {
+            u64::MAX
+        } else {
+            locked.notes.used(self.lane)
+        };
+        let mut tag = self.tag;
+        for _ in 0..TAGS {
+            tag = next_behind(left, tag)?;
+            if locked.world.due(&Event::Post(self.lane, tag)) {
                 return Some(tag);
             }
+            left &= !bit(tag);
         }
         None
     }

@@ -6,18 +6,20 @@ ghost use Rattle.nv_world.specs.Mediated.{IsContained, KeepsPromise, setup_of};
 ghost use Rattle.nv_world_model.specs.Log.{IsReplay};
 ghost use Rattle.nv_world_model.specs.SetUp.{refusal_of, world_at_start};
 
+use crate::bells::Bells;
+use crate::locked::Locked;
+use crate::notes::{LANES, Notes};
 use nv_world::World;
 use nv_world_model::{Event, Logged};
-use std::sync::Mutex;
 use std::sync::atomic::{AtomicBool, Ordering};
-
-/// How many lanes there are at most.
-const LANES: usize = 8;
+use std::sync::{Mutex, Wait};
 
 /// The world under one lock, and whether the workers are to stop.
 #[derive(Drop)]
 pub struct Shared {
-    pub(crate) world: Mutex<World>,
+    pub(crate) locked: Mutex<Locked>,
+    // what those who found nothing to do wait for, outside the lock
+    pub(crate) bells: Bells,
     // the lanes on which the physical controller took commands before the world was shared
     used: [bool; LANES],
     stopped: AtomicBool,
@@ -27,8 +29,10 @@ impl Shared {
     /// The world under a lock that nobody holds. Its log is gone through once.
     pub fn new(world: World) -> Self {
         let used = used_lanes(world.log());
+        let notes = Notes::of(world.log());
         Shared {
-            world: Mutex::new(world),
+            locked: Mutex::new(Locked { world, notes }),
+            bells: Bells::new(),
             used,
             stopped: AtomicBool::new(false),
         }
@@ -37,11 +41,24 @@ impl Shared {
     /// Tells the workers to stop: each ends at its next turn.
     pub fn stop(&self) {
         self.stopped.store(true, Ordering::SeqCst);
+        self.bells.ring_all();
     }
 
     /// Whether the workers are to stop.
     pub fn is_stopped(&self) -> bool {
         self.stopped.load(Ordering::SeqCst)
+    }
+
+    /// How often workers did something that a guest may wait for: they answered an admin command of its, or posted a command. It is read
+    /// without the lock, and nothing is claimed of it.
+    pub fn news(&self, guest: u8) -> u64 {
+        self.bells.guest(guest).rings()
+    }
+
+    /// Waits until there is more news for a guest than had been seen, or for a millisecond or so. A guest that asks how much news there is
+    /// before it looks at the world misses none.
+    pub fn wait_for_news<R: Wait>(&self, rt: &R, guest: u8, seen: u64) {
+        let _rung = self.bells.guest(guest).wait(rt, seen);
     }
 
     // Whether the physical controller took commands on a lane before the world was shared.
@@ -61,11 +78,12 @@ impl Shared {
         ensures promise { KeepsPromise result }
     {
         let Shared {
-            world,
+            locked,
+            bells: _,
             used: _,
             stopped: _,
         } = self;
-        let world = world.into_inner();
+        let Locked { world, notes: _ } = locked.into_inner();
         // With the log comes what is known of the world.
         let _log = world.log();
         world

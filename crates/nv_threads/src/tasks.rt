@@ -1,5 +1,6 @@
 //! What a planner does next, and how a turn of its ends.
 
+use crate::concern::Concern;
 use nv_plan::Job;
 
 /// What a planner does next.
@@ -22,8 +23,8 @@ pub(crate) enum Task {
 pub(crate) enum Turn {
     /// A job is to be planned, outside the lock.
     Job(Job),
-    /// Something was done.
-    Done,
+    /// Something was done, which concerns these.
+    Done(Concern),
     /// There was nothing to do, or no memory for it.
     Nothing,
 }

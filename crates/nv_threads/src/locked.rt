@@ -1,0 +1,72 @@
+//! What the lock keeps.
+
+use crate::bits::bit;
+use crate::concern::Concern;
+use crate::notes::Notes;
+use nv_model::Act;
+use nv_world::World;
+use nv_world_model::Event;
+
+/// The world, and what is noted beside it.
+#[derive(Drop)]
+pub(crate) struct Locked {
+    pub(crate) world: World,
+    pub(crate) notes: Notes,
+}
+
+/// What a guest's act may give workers to do.
+#[derive(Clone, Copy, Debug)]
+pub(crate) enum Errand {
+    /// Nothing.
+    Nothing,
+    /// Entries to be taken.
+    Entries,
+    /// A completion queue that has room, or a controller that is enabled or reset: commands that have ended may be posted.
+    Room,
+}
+
+impl Errand {
+    /// What this act may give them to do. The doorbells of submission queues and of completion queues take turns, four bytes each.
+    pub(crate) fn of(act: &Act) -> Self {
+        match act {
+            Act::Store { addr: _, bytes: _ } => Errand::Nothing,
+            Act::Load { addr: _, len: _ } => Errand::Nothing,
+            Act::RegRead { offset: _ } => Errand::Nothing,
+            Act::RegWrite {
+                offset: _,
+                value: _,
+            } => Errand::Room,
+            Act::Doorbell { offset, value: _ } => {
+                if *offset % 8 == 0 {
+                    Errand::Entries
+                } else {
+                    Errand::Room
+                }
+            }
+        }
+    }
+}
+
+impl Locked {
+    /// Whom an act concerns that the guest has done.
+    pub(crate) fn concern(&self, guest: u8, errand: Errand) -> Concern {
+        match errand {
+            Errand::Nothing => Concern::nobody(),
+            Errand::Entries => Concern::planner(guest),
+            Errand::Room => Concern {
+                reapers: self.notes.with_ended(),
+                planners: self.with_admin(guest),
+                ..Concern::nobody()
+            },
+        }
+    }
+
+    /// The guest, as a set, where its admin queue has something to do: its planner takes that up.
+    pub(crate) fn with_admin(&self, guest: u8) -> u64 {
+        if self.world.due(&Event::Admin(guest)) {
+            bit(guest)
+        } else {
+            0
+        }
+    }
+}
