@@ -69,10 +69,7 @@ impl World {
         let Ok((reply, logged)) = told else {
             return Reply::NoMemory;
         };
-        self.log.push_reserved(Logged {
-            event,
-            reply: logged,
-        });
+        put(&mut self.log, event, logged);
         reply
     }
 
