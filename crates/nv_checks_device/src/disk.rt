@@ -133,15 +133,33 @@ fn row(blocks: &Blocks, block: usize, most: usize) -> usize {
     }
 }
 
-#[test]
-fn blocks_that_are_written_in_order_lie_in_a_row(rt: HostRuntime) -> Result<(), Fail> {
-    let mut blocks = Blocks::new(rt.alloc(), COUNT)?;
-    for block in [7usize, 8, 9, 3, 10] {
+// Writes these blocks in this order.
+fn write_all<const N: usize>(blocks: &mut Blocks, order: [usize; N]) {
+    for block in order {
         if block < blocks.len() {
             blocks.set(block, &[1; 512]);
         }
     }
-    assert!(rt; row(&blocks, 7, 4) == 3 && row(&blocks, 8, 1) == 1 && row(&blocks, 10, 2) == 1);
+}
+
+#[test]
+fn blocks_that_are_written_in_order_lie_in_a_row(rt: HostRuntime) -> Result<(), Fail> {
+    let mut blocks = Blocks::new(rt.alloc(), COUNT)?;
+    write_all(&mut blocks, [7usize, 8, 9, 3, 10]);
+    assert!(rt; row(&blocks, 7, 4) == 4 && row(&blocks, 8, 1) == 1 && row(&blocks, 10, 2) == 1);
     assert!(rt; row(&blocks, 4, 3) == 1 && row(&blocks, 3, 5) == 1);
+    Ok(())
+}
+
+#[test]
+fn blocks_of_a_page_lie_in_a_row_in_whatever_order_they_are_written(
+    rt: HostRuntime,
+) -> Result<(), Fail> {
+    let mut blocks = Blocks::new(rt.alloc(), COUNT)?;
+    write_all(&mut blocks, [10usize, 8, 7, 9]);
+    assert!(rt; row(&blocks, 8, 3) == 3 && row(&blocks, 7, 2) == 1);
+    let mut last = Blocks::new(rt.alloc(), 13)?;
+    write_all(&mut last, [12usize, 11]);
+    assert!(rt; row(&last, 12, 1) == 1 && row(&last, 11, 2) == 2);
     Ok(())
 }

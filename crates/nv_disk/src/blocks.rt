@@ -12,17 +12,20 @@ use nv_moves::Buffer;
 use std::alloc::Global;
 use std::marker::Model;
 
+/// How many blocks get their places together: those of a page of 4 KiB.
+const PAGE_BLOCKS: usize = 8;
+
 /// The bytes of a block that was never written.
 static ZEROS: [u8; BLOCK_SIZE] = [0; BLOCK_SIZE];
 
 /// Blocks that are zero until they are written, from 0 on. Their number stays as it was made.
 ///
-/// A contract sees the list of the blocks. There is room for all of them from the start, so no write wants memory, and what is stored are those
-/// that were written, in the order in which they were first: the system gives pages to these alone. A block that is cleared is noted as zeros, and
-/// its bytes are left alone until it is written again, in the same place.
+/// A contract sees the list of the blocks. There is room for all of them from the start, so no write wants memory, and what is stored are pages of
+/// eight blocks of which one was written, in the order in which they were first: the system gives pages to these alone, and blocks that are next to
+/// each other lie so. A block that is cleared is noted as zeros, and its bytes are left alone until it is written again, in the same place.
 #[derive(Debug, Drop)]
 pub struct Blocks {
-    /// Of each block twice its place among those that are stored, from 1 on, and one more where it holds zeros; 0 where it was never written.
+    /// Of each block twice its place among those that are stored, from 1 on, and one more where it holds zeros; 0 where nothing of its page was written.
     entries: Vec<u32>,
     stored: Vec<[u8; BLOCK_SIZE]>,
 }
@@ -128,13 +131,49 @@ fn is_blank(entry: usize) -> bool
     entry < 2 || entry % 2 == 1
 }
 
-// The place of a block's bytes, from 0 on. A block that has none gets the next, and zeros there; it holds zeros still.
+// The place of a block's bytes, from 0 on. A block that has none gets one with all blocks of its page, and zeros there; it holds zeros still.
 #[inline(always)]
 fn settle(entries: &mut Vec<u32>, stored: &mut Vec<[u8; BLOCK_SIZE]>, block: usize) -> usize
     requires stored { IsStored (vec_capacity stored.old) (places_of entries.old.items) stored.old.items }
     requires block { block < length entries.old.items }
     ensures stored { IsStored (vec_capacity stored.new) (places_of entries.new.items) stored.new.items }
     ensures same { blocks_of stored.new.items entries.new.items ≡ blocks_of stored.old.items entries.old.items }
+    ensures place { slice_index entries.new.items block / 2 ≡ result + 1 }
+    ensures block { block < length entries.new.items }
+    ensures there { result < length stored.new.items }
+    ensures few { result + 1 < 2 ^ 31 }
+{
+    if entries[block] < 2 {
+        settle_page(entries, stored, block);
+    }
+    settle_one(entries, stored, block)
+}
+
+// Gives places, one behind the other, to the blocks of a block's page: those that are written next to each other lie so, whatever is written
+// between, and share a page of the system's.
+#[inline(never)]
+fn settle_page(entries: &mut Vec<u32>, stored: &mut Vec<[u8; BLOCK_SIZE]>, block: usize)
+    requires stored { IsStored (vec_capacity stored.old) (places_of entries.old.items) stored.old.items }
+    requires block { block < length entries.old.items }
+    ensures stored { IsStored (vec_capacity stored.new) (places_of entries.new.items) stored.new.items }
+    ensures same { blocks_of stored.new.items entries.new.items ≡ blocks_of stored.old.items entries.old.items }
+    ensures count { length entries.new.items ≡ length entries.old.items }
+{
+    let first = block - block % PAGE_BLOCKS;
+    let end = entries.len().min(first + PAGE_BLOCKS);
+    for at in first..end {
+        let _place = settle_one(entries, stored, at);
+    }
+}
+
+// The place of a block's bytes, from 0 on. A block that has none gets the next, and zeros there; it holds zeros still.
+#[inline(always)]
+fn settle_one(entries: &mut Vec<u32>, stored: &mut Vec<[u8; BLOCK_SIZE]>, block: usize) -> usize
+    requires stored { IsStored (vec_capacity stored.old) (places_of entries.old.items) stored.old.items }
+    requires block { block < length entries.old.items }
+    ensures stored { IsStored (vec_capacity stored.new) (places_of entries.new.items) stored.new.items }
+    ensures same { blocks_of stored.new.items entries.new.items ≡ blocks_of stored.old.items entries.old.items }
+    ensures count { length entries.new.items ≡ length entries.old.items }
     ensures place { slice_index entries.new.items block / 2 ≡ result + 1 }
     ensures block { block < length entries.new.items }
     ensures there { result < length stored.new.items }

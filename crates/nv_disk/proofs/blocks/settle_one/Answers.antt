@@ -4,7 +4,7 @@ use Rattle.std.specs.Vec.{vec_len, vec_capacity}
 use Rattle.std.proofs.lemmas.Grind.{get_or_default_zero}
 use Rattle.nv_disk.specs.Stored.{IsStored, blocks_of, places_of}
 use Rattle.nv_disk.proofs.StoredLemmas.{blocks-settled, counted-fewer, entry-there, length-places, place-told, places-settled, settled}
-use Rattle.nv_disk.proofs.blocks.settle.Goals as goal
+use Rattle.nv_disk.proofs.blocks.settle_one.Goals as goal
 
 pub returns-then-place-ne0-clause-there : goal.returns-then-place-ne0-clause-there
 returns-then-place-ne0-clause-there c =
