@@ -14,11 +14,13 @@ enum Step {
     Write(usize, u8, bool),
     // it becomes zeros, and its mark is as told
     Clear(usize, bool),
+    // so many blocks from that one on become zeros, and their marks are as told
+    ClearRange(usize, usize, bool),
     // all are kept
     Flush,
 }
 
-const STEPS: [Step; 15] = [
+const STEPS: [Step; 21] = [
     Step::Write(599, 1, false),
     Step::Clear(4, true),
     Step::Write(3, 2, true),
@@ -34,6 +36,12 @@ const STEPS: [Step; 15] = [
     Step::Write(4, 9, true),
     Step::Write(599, 7, false),
     Step::Write(6, 8, false),
+    Step::ClearRange(5, 592, false),
+    Step::Write(100, 10, true),
+    Step::ClearRange(598, 2, true),
+    Step::ClearRange(100, 0, false),
+    Step::ClearRange(0, 4, true),
+    Step::Write(99, 11, false),
 ];
 
 // A disk, and beside it the byte and the mark that each block should have.
@@ -72,10 +80,24 @@ impl Beside {
                 }
                 self.note(block, 0, mark);
             }
+            Step::ClearRange(start, count, mark) => self.clear_range(start, count, mark),
             Step::Flush => {
                 self.marks.set_all();
                 self.kept.fill(true);
             }
+        }
+    }
+
+    // Clears a range of both; nothing where there are not so many blocks.
+    fn clear_range(&mut self, start: usize, count: usize, mark: bool) {
+        let all = self.blocks.len().min(self.marks.len());
+        if start > all || count > all - start {
+            return;
+        }
+        self.blocks.clear_range(start, count);
+        self.marks.set_range(start, count, mark);
+        for block in start..start + count {
+            self.note(block, 0, mark);
         }
     }
 

@@ -1,3 +1,5 @@
 pub mod StoredLemmas
 pub mod MarkLemmas
 pub mod RowLemmas
+pub mod RangeLemmas
+pub mod ClearLemmas

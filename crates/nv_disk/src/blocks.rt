@@ -1,9 +1,10 @@
 //! Blocks that are zero until they are written.
 
-ghost use Rattle.std.specs.Prelude.{◌≡◌, ◌+◌, ◌*◌, ◌/◌, ◌<◌, ◌≤◌, ◌^◌, ℕ, All, List, [], length, replicate, slice_index, slice_set, take, drop, IfOk, vec_capacity};
+ghost use Rattle.std.specs.Prelude.{◌≡◌, ◌+◌, ◌++◌, ◌*◌, ◌/◌, ◌<◌, ◌≤◌, ◌^◌, ℕ, All, List, [], length, replicate, slice_index, slice_set, take, drop, IfOk, vec_capacity};
 ghost use Rattle.std.specs.List.{slice_index_or};
 ghost use Rattle.nv_model.specs.Memory.{byte_in, gathered};
 ghost use Rattle.nv_moves.specs.Buffer.{AreBelow};
+ghost use Rattle.nv_disk.specs.Ranged.{ranged};
 ghost use Rattle.nv_disk.specs.Stored.{IsStored, blocks_of, is_blank, places_of};
 
 use nv_mem::{Host, NoMemory};
@@ -108,6 +109,14 @@ impl Blocks {
         blank(&mut self.entries, block);
     }
 
+    /// Makes the `count` blocks from `start` on zeros. They are noted, and none of their bytes is written.
+    pub fn clear_range(&mut self, start: usize, count: usize)
+        requires { start + count ≤ length self.old }
+        ensures { self.new ≡ take start self.old ++ (replicate count (replicate 512 0) ++ drop (start + count) self.old) }
+    {
+        clear_entries(&mut self.entries, start, count);
+    }
+
     /// Takes the bytes of a block from the first of the places that are left of a buffer, which goes on behind these.
     #[inline(always)]
     pub fn fetch(&mut self, block: usize, memory: &Host, buffer: &mut Buffer)
@@ -207,6 +216,18 @@ fn blank(entries: &mut Vec<u32>, block: usize)
     ensures { entries.new.items ≡ slice_set entries.old.items block (2 * (slice_index entries.old.items block / 2) + 1) }
 {
     entries[block] = 2 * (entries[block] / 2) + 1;
+}
+
+// The `count` blocks from `start` on hold zeros, and keep their places. Many entries of a slice are changed at once.
+fn clear_entries(entries: &mut [u32], start: usize, count: usize)
+    requires { start + count ≤ length entries.old }
+    ensures shown { (stored : List (List ℕ)) → blocks_of stored entries.new ≡ ranged (blocks_of stored entries.old) start count (replicate 512 0) }
+    ensures places { places_of entries.new ≡ places_of entries.old }
+    ensures size { length entries.new ≡ length entries.old }
+{
+    for at in start..start + count {
+        entries[at] = 2 * (entries[at] / 2) + 1;
+    }
 }
 
 // Puts other bytes in the place of those that are stored there.

@@ -1,7 +1,8 @@
 //! A mark for each block.
 
-ghost use Rattle.std.specs.Prelude.{◌≡◌, ◌+◌, ◌<◌, ◌≤◌, ◌^◌, false, true, length, replicate, slice_set, IfOk};
+ghost use Rattle.std.specs.Prelude.{◌≡◌, ◌+◌, ◌++◌, ◌<◌, ◌≤◌, ◌^◌, false, true, drop, length, replicate, slice_set, take, IfOk};
 ghost use Rattle.std.specs.List.{slice_index_or};
+ghost use Rattle.nv_disk.specs.Ranged.{ranged};
 ghost use Rattle.nv_disk.specs.Since.{is_kept};
 
 use nv_mem::NoMemory;
@@ -63,6 +64,15 @@ impl Marks {
         self.since[block] = first_flush(self.flushes, mark);
     }
 
+    /// Gives the `count` blocks from `start` on this mark.
+    pub fn set_range(&mut self, start: usize, count: usize, mark: bool)
+        requires { start + count ≤ length self.old }
+        ensures { self.new ≡ take start self.old ++ (replicate count mark ++ drop (start + count) self.old) }
+    {
+        let from = first_flush(self.flushes, mark);
+        put_range(&mut self.since, start, count, from);
+    }
+
     /// Sets all marks.
     pub fn set_all(&mut self)
         ensures { self.new ≡ replicate (length self.old) true }
@@ -75,6 +85,17 @@ impl Marks {
             anew(&mut self.since);
             self.flushes = 0;
         }
+    }
+}
+
+// Puts a number into `count` places from `start` on. Many numbers of a slice are written at once.
+fn put_range(since: &mut [u32], start: usize, count: usize, number: u32)
+    requires { start + count ≤ length since.old }
+    ensures put { since.new ≡ ranged since.old start count number }
+    ensures size { length since.new ≡ length since.old }
+{
+    for at in start..start + count {
+        since[at] = number;
     }
 }
 

@@ -109,11 +109,7 @@ fn raise_marks(kept: &mut Marks, start: u64, count: u64)
     ensures marks { mark_of kept.new ≡ raised true start count (mark_of kept.old) }
     ensures marks_size { length kept.new ≡ length kept.old }
 {
-    // The end of the range fits in 64 bits, as the number of marks does.
-    let _marks = kept.len();
-    for lba in start..start + count {
-        kept.set(lba as usize, true);
-    }
+    kept.set_range(start as usize, count as usize, true);
 }
 
 /// Moves a block from the next places of the buffer. It is kept where the FUA bit is set.
@@ -240,11 +236,8 @@ pub fn clear_blocks(disk: &mut Blocks, kept: &mut Marks, start: u64, count: u64,
     ensures disk_size { length disk.new ≡ length disk.old }
     ensures marks_size { length kept.new ≡ length kept.old }
 {
-    // The end of the range fits in 64 bits, as the number of blocks does.
-    let _blocks = disk.len();
-    for lba in start..start + count {
-        clear_block(disk, kept, lba, mark);
-    }
+    disk.clear_range(start as usize, count as usize);
+    kept.set_range(start as usize, count as usize, mark);
 }
 
 /// Makes a block zeros, and gives its mark this value.
