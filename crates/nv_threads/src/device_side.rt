@@ -32,7 +32,7 @@ pub fn device_loop<R: Wait + Clock>(rt: &R, alloc: Global, shared: &Shared, lane
         if shared.is_stopped() {
             break;
         }
-        let concern = device.turn(&mut shared.locked.lock(rt), alloc);
+        let concern = device.turn(&mut shared.lock(rt), alloc);
         match concern {
             Some(concern) => shared.bells.ring(concern),
             None => {

@@ -38,9 +38,9 @@ impl Given {
         shared: &Shared,
         guest: u8,
     ) -> Result<Option<Self>, NoMemory> {
-        let map = map_of(&shared.locked.lock(rt).world, alloc, guest)?;
-        let ns = shared.locked.lock(rt).world.range(guest);
-        let limit = shared.locked.lock(rt).world.limit(guest);
+        let map = map_of(&shared.lock(rt).world, alloc, guest)?;
+        let ns = shared.lock(rt).world.range(guest);
+        let limit = shared.lock(rt).world.limit(guest);
         let (Some(map), Some(ns), Some(limit)) = (map, ns, limit) else {
             return Ok(None);
         };

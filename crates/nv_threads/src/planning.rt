@@ -50,7 +50,7 @@ pub fn planner<G: Gate, R: Wait + Clock>(
         if shared.is_stopped() {
             break;
         }
-        let turn = planner.turn(&mut shared.locked.lock(rt), alloc);
+        let turn = planner.turn(&mut shared.lock(rt), alloc);
         match turn {
             Turn::Job(job) => {
                 let planned = planned(rt, alloc, &heap, gate, &given, job);
@@ -142,7 +142,7 @@ impl GuestPlanner {
             Planned::Need(job, addr, len) => Task::Read(job.tag, addr, len),
             Planned::NoMemory(job) => Task::GiveUp(job.tag),
             Planned::Plan(plan) => {
-                let (task, concern) = self.submit(&mut shared.locked.lock(rt), plan);
+                let (task, concern) = self.submit(&mut shared.lock(rt), plan);
                 shared.bells.ring(concern);
                 task
             }

@@ -64,7 +64,7 @@ impl Port {
         self.calls.reserve(1)?;
         let again = act.try_clone(alloc)?;
         let errand = Errand::of(&act);
-        let mut locked = shared.locked.lock(rt);
+        let mut locked = shared.lock(rt);
         let (reply, kept) = tell(&mut locked.world, alloc, self.guest, act)?;
         let concern = locked.concern(self.guest, errand);
         drop(locked);

@@ -26,7 +26,7 @@ pub fn reaper<R: Wait + Clock>(rt: &R, alloc: Global, shared: &Shared, lane: u8)
         if shared.is_stopped() {
             break;
         }
-        let concern = reaper.turn(&mut shared.locked.lock(rt), alloc);
+        let concern = reaper.turn(&mut shared.lock(rt), alloc);
         match concern {
             Some(concern) => shared.bells.ring(concern),
             None => reaper.thorough = !bell.wait(rt, rings),

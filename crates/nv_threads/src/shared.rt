@@ -11,13 +11,17 @@ use crate::locked::Locked;
 use crate::notes::{LANES, Notes};
 use nv_world::World;
 use nv_world_model::{Event, Logged};
+use std::hint;
 use std::sync::atomic::{AtomicBool, Ordering};
-use std::sync::{Mutex, Wait};
+use std::sync::{Mutex, MutexGuard, Wait};
+
+/// How often a thread tries to take the world's lock before it sleeps: for some 15 microseconds.
+const TRIES: u32 = 300;
 
 /// The world under one lock, and whether the workers are to stop.
 #[derive(Drop)]
 pub struct Shared {
-    pub(crate) locked: Mutex<Locked>,
+    locked: Mutex<Locked>,
     // what those who found nothing to do wait for, outside the lock
     pub(crate) bells: Bells,
     // the lanes on which the physical controller took commands before the world was shared
@@ -59,6 +63,18 @@ impl Shared {
     /// before it looks at the world misses none.
     pub fn wait_for_news<R: Wait>(&self, rt: &R, guest: u8, seen: u64) {
         let _rung = self.bells.guest(guest).wait(rt, seen);
+    }
+
+    /// Takes the world's lock. It is held for as long as one event takes, mostly less than a microsecond, so a thread tries for a while before it
+    /// sleeps: whoever gives the lock back has to wake one that sleeps, which takes longer than what is done under the lock.
+    pub(crate) fn lock<R: Wait>(&self, rt: &R) -> MutexGuard<'_, Locked> {
+        for _ in 0..TRIES {
+            if let Some(guard) = self.locked.try_lock() {
+                return guard;
+            }
+            hint::spin_loop();
+        }
+        self.locked.lock(rt)
     }
 
     // Whether the physical controller took commands on a lane before the world was shared.
