@@ -69,7 +69,10 @@ impl World {
         let Ok((reply, logged)) = told else {
             return Reply::NoMemory;
         };
-        put(&mut self.log, event, logged);
+        self.log.push_reserved(Logged {
+            event,
+            reply: logged,
+        });
         reply
     }
 
