@@ -169,7 +169,7 @@ fn blocks_that_are_written_in_order_lie_in_a_row(rt: HostRuntime) -> Result<(), 
     let mut blocks = Blocks::new(rt.alloc(), COUNT)?;
     write_all(&mut blocks, [7usize, 8, 9, 3, 10]);
     assert!(rt; row(&blocks, 7, 4) == 4 && row(&blocks, 8, 1) == 1 && row(&blocks, 10, 2) == 1);
-    assert!(rt; row(&blocks, 4, 3) == 1 && row(&blocks, 3, 5) == 1);
+    assert!(rt; row(&blocks, 4, 3) == 3 && row(&blocks, 3, 5) == 1);
     Ok(())
 }
 
@@ -183,5 +183,119 @@ fn blocks_of_a_page_lie_in_a_row_in_whatever_order_they_are_written(
     let mut last = Blocks::new(rt.alloc(), 13)?;
     write_all(&mut last, [12usize, 11]);
     assert!(rt; row(&last, 12, 1) == 1 && row(&last, 11, 2) == 2);
+    Ok(())
+}
+
+#[test]
+fn blocks_that_hold_zeros_lie_in_a_row(rt: HostRuntime) -> Result<(), Fail> {
+    let mut blocks = Blocks::new(rt.alloc(), COUNT)?;
+    assert!(rt;
+        row(&blocks, 0, 63) == 63 && row(&blocks, 8, 64) == 64 && row(&blocks, 8, 65) == 64
+    );
+    write_all(&mut blocks, [40usize, 41, 44]);
+    assert!(rt; row(&blocks, 0, 100) == 40 && row(&blocks, 40, 8) == 2 && row(&blocks, 42, 8) == 2);
+    if blocks.len() == COUNT {
+        blocks.clear(41);
+        blocks.clear_range(44, 1);
+    }
+    assert!(rt;
+        row(&blocks, 40, 8) == 1 && row(&blocks, 41, 8) == 8 && row(&blocks, 41, 100) == 64
+    );
+    Ok(())
+}
+
+/// How many blocks are shown.
+const FEW: usize = 20;
+
+/// How many steps are made between two looks, and how many looks there are.
+const STEPS_A_LOOK: u32 = 7;
+
+const LOOKS: u32 = 24;
+
+// A disk of few blocks, and beside it the lists that a device's disk and marks were before.
+#[derive(Drop)]
+struct Shown {
+    blocks: Blocks,
+    marks: Marks,
+    disk: Vec<[u8; 512]>,
+    kept: Vec<bool>,
+}
+
+impl Shown {
+    fn new(alloc: Global) -> Result<Self, Fail> {
+        Ok(Shown {
+            blocks: Blocks::new(alloc, FEW)?,
+            marks: Marks::new(alloc, FEW)?,
+            disk: vec![in alloc; [0; 512]; FEW]?,
+            kept: vec![in alloc; false; FEW]?,
+        })
+    }
+
+    // Does what a number says to what it names, on both.
+    fn step(&mut self, number: u64) {
+        let block = (number / 16 % FEW as u64) as usize;
+        let byte = (number / 1024 % 256) as u8;
+        let mark = number / 8 % 2 == 0;
+        if block >= self.blocks.len() || block >= self.marks.len() {
+            return;
+        }
+        match number % 8 {
+            0 => {
+                self.marks.set_all();
+                self.kept.fill(true);
+            }
+            1 | 2 => {
+                self.blocks.clear(block);
+                self.note(block, 0, mark);
+            }
+            _ => {
+                self.blocks.set(block, &[byte; 512]);
+                self.note(block, byte, mark);
+            }
+        }
+    }
+
+    // Gives a block's bytes and its mark to both.
+    fn note(&mut self, block: usize, byte: u8, mark: bool) {
+        if block < self.marks.len() {
+            self.marks.set(block, mark);
+        }
+        if let Some(place) = self.disk.get_mut(block) {
+            *place = [byte; 512];
+        }
+        if let Some(place) = self.kept.get_mut(block) {
+            *place = mark;
+        }
+    }
+
+    // Whether both are shown alike, on one line and on many.
+    fn is_shown_alike(&self, alloc: Global) -> Result<bool, AllocError> {
+        let Shown {
+            blocks,
+            marks,
+            disk,
+            kept,
+        } = self;
+        let shown = format!(in alloc; "{blocks:?} {marks:?} {blocks:#?} {marks:#?}")?;
+        let wanted = format!(in alloc; "{disk:?} {kept:?} {disk:#?} {kept:#?}")?;
+        Ok(shown == wanted)
+    }
+}
+
+#[test]
+fn blocks_and_marks_are_shown_as_lists(rt: HostRuntime) -> Result<(), Fail> {
+    let mut disk = Shown::new(rt.alloc())?;
+    assert!(rt; disk.is_shown_alike(rt.alloc())?);
+    let mut number = 1u64;
+    for _ in 0..LOOKS {
+        for _ in 0..STEPS_A_LOOK {
+            // Of the next numbers of a linear congruence the upper bits say what is done.
+            number = number
+                .wrapping_mul(6_364_136_223_846_793_005)
+                .wrapping_add(1);
+            disk.step(number >> 32);
+        }
+        assert!(rt; disk.is_shown_alike(rt.alloc())?);
+    }
     Ok(())
 }

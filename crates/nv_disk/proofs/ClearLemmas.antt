@@ -7,7 +7,7 @@ use Rattle.nv_moves.specs.Flat.{flat, moved_of}
 use Rattle.nv_moves.specs.Marks.{mark_of, raised}
 use Rattle.nv_moves.proofs.MoveLemmas.{cleared-more, cleared-none, cleared-set, marks-raised}
 use Rattle.nv_moves.proofs.ReadLemmas.{raised-more, raised-none}
-use Rattle.nv_disk.specs.Ranged.{ranged}
+use Rattle.nv_disk.proofs.Ranged.{ranged}
 use Rattle.nv_disk.proofs.RangeLemmas.{length-ranged, ranged-is}
 
 cleared-ranged : (memory : List ℕ) (disk : List (List ℕ)) (kept : List Bool) (start n : ℕ) (mark differed : Bool)

@@ -1,3 +1,4 @@
+pub mod Ranged
 pub mod StoredLemmas
 pub mod MarkLemmas
 pub mod RowLemmas

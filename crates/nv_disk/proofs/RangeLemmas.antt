@@ -2,7 +2,7 @@
 use Rattle.std.proofs.Common.{◌≡◌, ℕ, zero, suc, ◌+◌, ◌≤◌, List, [], ◌∷◌, ◌++◌, length, map, replicate, set, take, drop, All, refl, sym, ap, ◌∙◌, arith}
 use Rattle.std.proofs.lemmas.List.{append_assoc, drop-set-lt, length-set, map-set, take-append-drop, take_more_set}
 use Rattle.std.proofs.lemmas.List.Elements.{All-set}
-use Rattle.nv_disk.specs.Ranged.{ranged}
+use Rattle.nv_disk.proofs.Ranged.{ranged}
 
 -- one more of them
 pub ranged-more : {X : Type 0} (xs : List X) (start left n : ℕ) (x : X) → left ≡ suc n → ranged (set xs start x) (start + 1) n x ≡ ranged xs start left x

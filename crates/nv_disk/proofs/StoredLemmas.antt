@@ -382,15 +382,25 @@ row-shown stored entries block first at (suc n) within there told place row =
     ∙ ap (λ (k : ℕ). slice_index_or stored at [] ∷ take n (drop k stored)) (sym more)
     ∙ ap (λ (bs : List (List ℕ)). take (suc n) bs) (sym (drop-cons stored at [] (omega arith)))
 
--- a block of zeros is a row
-pub row-none : (stored : List (List ℕ)) (entries : List ℕ) (block : ℕ) → block < length entries → is_blank (slice_index_or entries block 0) ≡ true
-    → replicate 1 (replicate 512 0) ≡ take 1 (drop block (blocks_of stored entries))
-row-none stored entries block below blank =
+-- blocks of zeros are a row
+pub row-blank : (stored : List (List ℕ)) (entries : List ℕ) (block n : ℕ) → block + n ≤ length entries
+    → ((i : ℕ) → i < n → is_blank (slice_index_or entries (block + i) 0) ≡ true)
+    → take n (drop block (blocks_of stored entries)) ≡ replicate n (replicate 512 0)
+row-blank stored entries block zero within blank = refl
+row-blank stored entries block (suc n) within blank =
     let same = length-blocks stored entries in
-    let zeros : slice_index_or (blocks_of stored entries) block [] ≡ replicate 512 0 =
-    block-shown stored entries block [] below ∙ shown-none stored (slice_index_or entries block 0) blank in
-    sym (ap (λ (bs : List (List ℕ)). take 1 bs) (drop-cons (blocks_of stored entries) block [] (omega arith))
-    ∙ ap (λ (b : List ℕ). b ∷ []) zeros)
+    let next : suc block ≡ block + 1 = omega arith in
+    let start : block + 0 ≡ block = omega arith in
+    let first : is_blank (slice_index_or entries block 0) ≡ true = ap (λ (k : ℕ). is_blank (slice_index_or entries k 0)) (sym start) ∙ blank 0 (omega arith) in
+    let here : slice_index_or (blocks_of stored entries) block [] ≡ replicate 512 0 =
+    block-shown stored entries block [] (omega arith) ∙ shown-none stored (slice_index_or entries block 0) first in
+    let rest : take n (drop (block + 1) (blocks_of stored entries)) ≡ replicate n (replicate 512 0) =
+    row-blank stored entries (block + 1) n (omega arith)
+    (λ i below. let k : block + 1 + i ≡ block + suc i = omega arith in ap (λ (j : ℕ). is_blank (slice_index_or entries j 0)) k ∙ blank (suc i) (omega arith)) in
+    ap (λ (bs : List (List ℕ)). take (suc n) bs) (drop-cons (blocks_of stored entries) block [] (omega arith))
+    ∙ ap (λ (b : List ℕ). b ∷ take n (drop (suc block) (blocks_of stored entries))) here
+    ∙ ap (λ (k : ℕ). replicate 512 0 ∷ take n (drop k (blocks_of stored entries))) next
+    ∙ ap (λ (bs : List (List ℕ)). replicate 512 0 ∷ bs) rest
 
 -- the end of a row is stored, too
 pub row-inside : (stored : List (List ℕ)) (entries : List ℕ) (block first n : ℕ) → All (λ place. place ≤ length stored) (places_of entries) → 0 < n

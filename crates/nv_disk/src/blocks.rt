@@ -1,30 +1,36 @@
 //! Blocks that are zero until they are written.
 
-ghost use Rattle.std.specs.Prelude.{◌≡◌, ◌+◌, ◌++◌, ◌*◌, ◌/◌, ◌<◌, ◌≤◌, ◌^◌, ℕ, All, List, [], length, replicate, slice_index, slice_set, take, drop, IfOk, vec_capacity};
+ghost use Rattle.std.specs.Prelude.{◌≡◌, true, ◌+◌, ◌++◌, ◌*◌, ◌/◌, ◌<◌, ◌≤◌, ◌^◌, ℕ, All, List, [], length, replicate, slice_index, slice_set, take, drop, IfOk, vec_capacity};
 ghost use Rattle.std.specs.List.{slice_index_or};
 ghost use Rattle.nv_model.specs.Memory.{byte_in, gathered};
 ghost use Rattle.nv_moves.specs.Buffer.{AreBelow};
-ghost use Rattle.nv_disk.specs.Ranged.{ranged};
 ghost use Rattle.nv_disk.specs.Stored.{IsStored, blocks_of, is_blank, places_of};
 
 use nv_mem::{Host, NoMemory};
 use nv_model::limits::BLOCK_SIZE;
 use nv_moves::Buffer;
 use std::alloc::Global;
+use std::fmt::{self, Debug, Formatter};
 use std::marker::Model;
 
 /// How many blocks get their places together: those of a page of 4 KiB.
 const PAGE_BLOCKS: usize = 8;
 
+/// How many blocks that hold zeros are given as one row at most.
+const ZERO_ROW_BLOCKS: usize = 64;
+
 /// The bytes of a block that was never written.
 static ZEROS: [u8; BLOCK_SIZE] = [0; BLOCK_SIZE];
+
+/// The bytes of blocks that were never written.
+static ZERO_ROW: [[u8; BLOCK_SIZE]; ZERO_ROW_BLOCKS] = [[0; BLOCK_SIZE]; ZERO_ROW_BLOCKS];
 
 /// Blocks that are zero until they are written, from 0 on. Their number stays as it was made.
 ///
 /// A contract sees the list of the blocks. There is room for all of them from the start, so no write wants memory, and what is stored are pages of
 /// eight blocks of which one was written, in the order in which they were first: the system gives pages to these alone, and blocks that are next to
 /// each other lie so. A block that is cleared is noted as zeros, and its bytes are left alone until it is written again, in the same place.
-#[derive(Debug, Drop)]
+#[derive(Drop)]
 pub struct Blocks {
     /// Of each block twice its place among those that are stored, from 1 on, and one more where it holds zeros; 0 where nothing of its page was written.
     entries: Vec<u32>,
@@ -41,6 +47,17 @@ impl Model for Blocks {
     ghost view = { λ b. blocks_of b.stored.items b.entries.items };
 
     ghost invariant = { λ b. IsStored (vec_capacity b.stored) (places_of b.entries.items) b.stored.items };
+}
+
+// They are shown as the list that they are for a contract, wherever they are stored.
+impl Debug for Blocks {
+    fn fmt<W: fmt::Write>(&self, f: &mut Formatter<W>) -> fmt::Result {
+        let mut blocks = f.debug_list();
+        for block in 0..self.len() {
+            blocks.entry(self.block(block));
+        }
+        blocks.finish()
+    }
 }
 
 impl Blocks {
@@ -85,7 +102,8 @@ impl Blocks {
     {
         let first = self.entries[block] as usize;
         if is_blank(first) {
-            return zero_row();
+            let most = most.min(ZERO_ROW_BLOCKS);
+            return zero_row(count_blank(&self.entries, block, most));
         }
         let count = count_in_row(&self.entries, block, most, first);
         part(&self.stored, first / 2 - 1, count)
@@ -221,7 +239,8 @@ fn blank(entries: &mut Vec<u32>, block: usize)
 // The `count` blocks from `start` on hold zeros, and keep their places. Many entries of a slice are changed at once.
 fn clear_entries(entries: &mut [u32], start: usize, count: usize)
     requires { start + count ≤ length entries.old }
-    ensures shown { (stored : List (List ℕ)) → blocks_of stored entries.new ≡ ranged (blocks_of stored entries.old) start count (replicate 512 0) }
+    ensures shown { (stored : List (List ℕ)) → blocks_of stored entries.new
+        ≡ take start (blocks_of stored entries.old) ++ (replicate count (replicate 512 0) ++ drop (start + count) (blocks_of stored entries.old)) }
     ensures places { places_of entries.new ≡ places_of entries.old }
     ensures size { length entries.new ≡ length entries.old }
 {
@@ -264,15 +283,29 @@ fn part(stored: &[[u8; BLOCK_SIZE]], at: usize, count: usize) -> &[[u8; BLOCK_SI
     &stored[at..at + count]
 }
 
-// One block that was never written.
-fn zero_row() -> &'static [[u8; BLOCK_SIZE]]
-    ensures { result.now ≡ replicate 1 (replicate 512 0) }
+// How many of the `most` blocks from `block` on, whose entries are these, hold zeros up to the first that does not: the first one does.
+fn count_blank(entries: &[u32], block: usize, most: usize) -> usize
+    requires some { 0 < most }
+    requires within { block + most ≤ length entries.now }
+    requires first { is_blank (slice_index entries.now block) ≡ true }
+    ensures some { 0 < result }
+    ensures most { result ≤ most }
+    ensures blank { (i : ℕ) → i < result → is_blank (slice_index entries.now (block + i)) ≡ true }
 {
-    &ZERO_ROW
+    let mut count = 1;
+    while count < most && is_blank(entries[block + count] as usize) {
+        count += 1;
+    }
+    count
 }
 
-/// A row of blocks that were never written.
-static ZERO_ROW: [[u8; BLOCK_SIZE]; 1] = [[0; BLOCK_SIZE]];
+// So many blocks of zeros.
+fn zero_row(count: usize) -> &'static [[u8; BLOCK_SIZE]]
+    requires { count ≤ ZERO_ROW_BLOCKS }
+    ensures { result.now ≡ replicate count (replicate 512 0) }
+{
+    &ZERO_ROW[..count]
+}
 
 // The entries of so many blocks that were never written.
 fn no_entries(alloc: Global, count: usize) -> Result<Vec<u32>, NoMemory>

@@ -2,18 +2,18 @@
 
 ghost use Rattle.std.specs.Prelude.{◌≡◌, ◌+◌, ◌++◌, ◌<◌, ◌≤◌, ◌^◌, false, true, drop, length, replicate, slice_set, take, IfOk};
 ghost use Rattle.std.specs.List.{slice_index_or};
-ghost use Rattle.nv_disk.specs.Ranged.{ranged};
 ghost use Rattle.nv_disk.specs.Since.{is_kept};
 
 use nv_mem::NoMemory;
 use std::alloc::Global;
+use std::fmt::{self, Debug, Formatter};
 use std::marker::Model;
 
 /// Whether each block is kept. A contract sees the list of the marks.
 ///
 /// All marks are set by a number that goes up by one, so that a Flush costs the same on every disk: each block has the number of the flush from
 /// which on it is kept, which is 0, or that of the next one.
-#[derive(Debug, Drop)]
+#[derive(Drop)]
 pub struct Marks {
     since: Vec<u32>,
     flushes: u32,
@@ -28,6 +28,17 @@ impl Model for Marks {
     ghost view = { λ m. marks_of m.flushes m.since.items };
 
     ghost invariant = { λ m. IsCounted m.flushes m.since.items };
+}
+
+// They are shown as the list that they are for a contract, whatever was counted.
+impl Debug for Marks {
+    fn fmt<W: fmt::Write>(&self, f: &mut Formatter<W>) -> fmt::Result {
+        let mut marks = f.debug_list();
+        for block in 0..self.len() {
+            marks.entry(&self.get(block));
+        }
+        marks.finish()
+    }
 }
 
 impl Marks {
@@ -91,7 +102,7 @@ impl Marks {
 // Puts a number into `count` places from `start` on. Many numbers of a slice are written at once.
 fn put_range(since: &mut [u32], start: usize, count: usize, number: u32)
     requires { start + count ≤ length since.old }
-    ensures put { since.new ≡ ranged since.old start count number }
+    ensures put { since.new ≡ take start since.old ++ (replicate count number ++ drop (start + count) since.old) }
     ensures size { length since.new ≡ length since.old }
 {
     for at in start..start + count {

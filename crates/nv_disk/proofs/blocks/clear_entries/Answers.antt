@@ -1,10 +1,10 @@
 use Rattle.std.proofs.Common.{◌≡◌, ◌+◌, ◌-◌, ◌*◌, ◌/◌, ℕ, List, suc, replicate, ap, sym, ◌∙◌, arith}
 use Rattle.std.specs.List.{slice_index_or}
 use Rattle.std.proofs.lemmas.List.{length-set}
-use Rattle.nv_disk.specs.Ranged.{ranged}
+use Rattle.nv_disk.proofs.Ranged.{ranged}
 use Rattle.nv_disk.specs.Stored.{blocks_of}
-use Rattle.nv_disk.proofs.RangeLemmas.{ranged-more, ranged-none}
-use Rattle.nv_disk.proofs.StoredLemmas.{blocks-cleared, places-same}
+use Rattle.nv_disk.proofs.RangeLemmas.{ranged-is, ranged-more, ranged-none}
+use Rattle.nv_disk.proofs.StoredLemmas.{blocks-cleared, length-blocks, places-same}
 use Rattle.nv_disk.proofs.blocks.clear_entries.Goals as goal
 
 pub loop-at-preserved : goal.loop-at-preserved
@@ -26,5 +26,8 @@ loop-at-preserved c =
 pub returns-clause-shown : goal.returns-clause-shown
 returns-clause-shown c = λ stored.
     let end = c.loop-at-test.false in
+    let within = c.requires in
+    let same = length-blocks stored c.args.entries.now in
     sym (ranged-none (blocks_of stored c.loop-at.entries) c.loop-at.at (c.args.start + c.args.count - c.loop-at.at) (replicate 512 0) (omega arith))
     ∙ c.loop-at.invariant.shown stored
+    ∙ ranged-is (blocks_of stored c.args.entries.now) c.args.start c.args.count (replicate 512 0) (omega arith)

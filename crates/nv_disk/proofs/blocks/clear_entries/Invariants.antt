@@ -1,5 +1,5 @@
 use Rattle.std.proofs.Common.{◌≡◌, ◌+◌, ◌-◌, ℕ, List, length, replicate}
-use Rattle.nv_disk.specs.Ranged.{ranged}
+use Rattle.nv_disk.proofs.Ranged.{ranged}
 use Rattle.nv_disk.specs.Stored.{blocks_of, places_of}
 use Rattle.nv_disk.proofs.blocks.clear_entries.Given as goal
 

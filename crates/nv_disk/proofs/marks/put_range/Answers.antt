@@ -1,6 +1,6 @@
 use Rattle.std.proofs.Common.{◌≡◌, ◌+◌, ◌-◌, suc, sym, ◌∙◌, arith}
 use Rattle.std.proofs.lemmas.List.{length-set}
-use Rattle.nv_disk.proofs.RangeLemmas.{ranged-more, ranged-none}
+use Rattle.nv_disk.proofs.RangeLemmas.{ranged-is, ranged-more, ranged-none}
 use Rattle.nv_disk.proofs.marks.put_range.Goals as goal
 
 pub loop-at-preserved : goal.loop-at-preserved
@@ -18,3 +18,4 @@ pub returns-clause-put : goal.returns-clause-put
 returns-clause-put c =
     let end = c.loop-at-test.false in
     sym (ranged-none c.loop-at.since c.loop-at.at (c.args.start + c.args.count - c.loop-at.at) c.args.number (omega arith)) ∙ c.loop-at.invariant.put
+    ∙ ranged-is c.args.since.now c.args.start c.args.count c.args.number c.requires

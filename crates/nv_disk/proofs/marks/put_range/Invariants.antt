@@ -1,5 +1,5 @@
 use Rattle.std.proofs.Common.{◌≡◌, ◌+◌, ◌-◌, length}
-use Rattle.nv_disk.specs.Ranged.{ranged}
+use Rattle.nv_disk.proofs.Ranged.{ranged}
 use Rattle.nv_disk.proofs.marks.put_range.Given as goal
 
 abbrev pub invariant-loop-at : goal.invariant-loop-at
