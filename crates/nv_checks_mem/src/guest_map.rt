@@ -472,3 +472,35 @@ fn maps_nothing_without_regions(rt: HostRuntime) -> Result<(), Fail> {
     assert!(rt; map.run(0, 1).is_none());
     Ok(())
 }
+
+/// A map as it was before its regions had an order, when what it shows was derived.
+mod derived {
+    use nv_mem::Region;
+
+    #[derive(Debug, Drop)]
+    pub struct GuestMap {
+        pub host_len: u64,
+        pub regions: Vec<Region>,
+    }
+}
+
+// A map of that many paired pages is shown as one without an order, on one line and on many.
+fn check_shown(rt: &impl Abort, alloc: Global, count: u64) -> Result<(), Fail> {
+    let map = map_of(alloc, 0x80_000, &paired(alloc, count)?)?;
+    let plain = derived::GuestMap {
+        host_len: 0x80_000,
+        regions: paired(alloc, count)?,
+    };
+    let shown = format!(in alloc; "{map:?} {map:#?}")?;
+    let wanted = format!(in alloc; "{plain:?} {plain:#?}")?;
+    assert_eq!(rt; shown, wanted);
+    Ok(())
+}
+
+#[test]
+fn is_shown_without_an_order(rt: HostRuntime) -> Result<(), Fail> {
+    for count in [0, 2, 62, 64, 66, 128] {
+        check_shown(&rt, rt.alloc(), count)?;
+    }
+    Ok(())
+}
