@@ -21,3 +21,5 @@ mod resuming;
 mod running;
 #[cfg(test)]
 mod turns;
+#[cfg(test)]
+mod waiting;

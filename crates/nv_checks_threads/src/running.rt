@@ -167,8 +167,8 @@ pub fn others<R: Threads + Wait + Clock + Sync>(
     )
 }
 
-// All workers.
-fn workers<G: Gate + Sync, R: Threads + Wait + Clock + Sync>(
+/// All workers: two planners, the reaper and the physical controller.
+pub fn workers<G: Gate + Sync, R: Threads + Wait + Clock + Sync>(
     rt: &R,
     alloc: Global,
     shared: &Shared,

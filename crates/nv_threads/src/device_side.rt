@@ -47,24 +47,24 @@ pub fn device_loop<R: Wait + Clock>(rt: &R, alloc: Global, shared: &Shared, lane
 
 // The physical controller on a lane.
 #[derive(Debug, Drop)]
-struct LaneDevice {
-    lane: u8,
+pub(crate) struct LaneDevice {
+    pub(crate) lane: u8,
     // the slot that was looked at last
-    slot: u8,
+    pub(crate) slot: u8,
     // whether some slot may hold a command
     held: bool,
     // whether all slots are looked at next, and not only those whose tags are noted as taken
     thorough: bool,
     // the next unit of each slot's command
-    units: [u64; SLOTS],
+    pub(crate) units: [u64; SLOTS],
     // of commands that were there before the worker came, no unit below this one is left
-    earlier: u64,
+    pub(crate) earlier: u64,
     share: Share,
     ghost in_range: { slot < 64 },
 }
 
 impl LaneDevice {
-    fn new(lane: u8, was_used: bool) -> Self {
+    pub(crate) fn new(lane: u8, was_used: bool) -> Self {
         LaneDevice {
             lane,
             slot: 0,
@@ -78,7 +78,7 @@ impl LaneDevice {
 
     // What is done under the lock, one event at most: whom it concerns, or `None` where nothing was done. The command of the last slot
     // goes on; else the next entry is taken; else another slot's command goes on.
-    fn turn(&mut self, locked: &mut Locked, alloc: Global) -> Option<Concern> {
+    pub(crate) fn turn(&mut self, locked: &mut Locked, alloc: Global) -> Option<Concern> {
         if let Some(event) = self.due(&locked.world, self.slot) {
             return self.carry_out(&mut locked.world, alloc, event);
         }
@@ -100,7 +100,7 @@ impl LaneDevice {
     }
 
     // Nobody rang for a while: all slots are looked at once more.
-    fn look_everywhere(&mut self) {
+    pub(crate) fn look_everywhere(&mut self) {
         self.held = true;
         self.thorough = true;
     }

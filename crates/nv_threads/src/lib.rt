@@ -37,6 +37,10 @@ mod port;
 mod reaping;
 mod share;
 mod shared;
+#[cfg(test)]
+mod simulated;
+#[cfg(test)]
+mod simulated_guest;
 mod sums;
 mod tasks;
 mod telling;

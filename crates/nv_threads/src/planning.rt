@@ -101,20 +101,20 @@ fn planned<G: Gate, R: Wait + Clock>(
 
 // A guest's planner on a lane.
 #[derive(Debug, Drop)]
-struct GuestPlanner {
-    guest: u8,
-    lane: u8,
+pub(crate) struct GuestPlanner {
+    pub(crate) guest: u8,
+    pub(crate) lane: u8,
     // the queue that a command was taken of last, 0 where there was none
-    queue: u16,
+    pub(crate) queue: u16,
     // the tag that a command was found at last
-    tag: u8,
-    task: Task,
+    pub(crate) tag: u8,
+    pub(crate) task: Task,
     share: Share,
 }
 
 impl GuestPlanner {
     // One that has put nothing into the log. Commands that were taken before it came are found first.
-    fn new(guest: u8, lane: u8) -> Self {
+    pub(crate) fn new(guest: u8, lane: u8) -> Self {
         GuestPlanner {
             guest,
             lane,
@@ -126,7 +126,7 @@ impl GuestPlanner {
     }
 
     // What is done under the lock: one event, or a look at one job.
-    fn turn(&mut self, locked: &mut Locked, alloc: Global) -> Turn {
+    pub(crate) fn turn(&mut self, locked: &mut Locked, alloc: Global) -> Turn {
         match self.task {
             Task::Search(looked) => self.search(&locked.world, alloc, looked),
             Task::TakeUp => self.take_up(locked, alloc),
@@ -150,7 +150,7 @@ impl GuestPlanner {
     }
 
     // Hands a plan over: what comes next, and whom it concerns. Where it is stale, or there was no memory, its job is looked at again.
-    fn submit(&mut self, locked: &mut Locked, plan: Plan) -> (Task, Concern) {
+    pub(crate) fn submit(&mut self, locked: &mut Locked, plan: Plan) -> (Task, Concern) {
         let tag = plan.job().tag;
         let is_answer = matches!(plan.kind(), PlanKind::Answer(_));
         match self.share.submit(&mut locked.world, plan) {

@@ -37,17 +37,17 @@ pub fn reaper<R: Wait + Clock>(rt: &R, alloc: Global, shared: &Shared, lane: u8)
 
 // A lane's reaper.
 #[derive(Debug, Drop)]
-struct LaneReaper {
-    lane: u8,
+pub(crate) struct LaneReaper {
+    pub(crate) lane: u8,
     // the tag that was posted last
-    tag: u8,
+    pub(crate) tag: u8,
     // whether all tags are looked at, and not only those that are noted as taken
-    thorough: bool,
+    pub(crate) thorough: bool,
     share: Share,
 }
 
 impl LaneReaper {
-    fn new(lane: u8) -> Self {
+    pub(crate) fn new(lane: u8) -> Self {
         LaneReaper {
             lane,
             tag: 0,
@@ -57,7 +57,7 @@ impl LaneReaper {
     }
 
     // What is done under the lock, one event at most: whom it concerns, or `None` where there was none.
-    fn turn(&mut self, locked: &mut Locked, alloc: Global) -> Option<Concern> {
+    pub(crate) fn turn(&mut self, locked: &mut Locked, alloc: Global) -> Option<Concern> {
         let reap = Event::Reap(self.lane);
         if locked.world.due(&reap) {
             return self.reap(locked, alloc, reap);
