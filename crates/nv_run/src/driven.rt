@@ -21,7 +21,7 @@ const DWORD: u64 = 4;
 
 /// How many looks of a line that waits come only where there is news for the guest, or after a millisecond or so without. A line that
 /// has looked so often in vain mostly waits in vain.
-const PATIENT_LOOKS: u32 = 256;
+const PATIENT_LOOKS: u32 = 32;
 
 /// After how many of the others a thread that waits sleeps; behind the rest it only lets other threads run.
 const LOOKS_A_NAP: u32 = 256;
