@@ -4,6 +4,7 @@ use crate::bits::bit;
 use crate::concern::Concern;
 use nv_model::Reply;
 use nv_world_model::{Event, Logged};
+use std::array;
 
 /// How many lanes there are at most.
 pub(crate) const LANES: usize = 8;
@@ -24,6 +25,9 @@ impl Notes {
             lanes: [LaneNotes::new(); LANES],
         };
         for logged in log {
+            if let Event::DevTake(lane) = &logged.event {
+                notes.serve(*lane);
+            }
             if let Reply::Done = &logged.reply {
                 notes.follow(&logged.event);
             }
@@ -32,6 +36,18 @@ impl Notes {
             lane.ended = u64::from(lane.used.count_ones());
         }
         notes
+    }
+
+    // The physical controller took, or tried to take, a command on a lane.
+    fn serve(&mut self, lane: u8) {
+        if let Some(notes) = self.lanes.get_mut(usize::from(lane)) {
+            notes.served = true;
+        }
+    }
+
+    /// The lanes on which the physical controller took commands in the log that these notes are of.
+    pub(crate) fn served(&self) -> [bool; LANES] {
+        array::from_fn(|lane| self.lanes.get(lane).is_some_and(|notes| notes.served))
     }
 
     // Goes along with an event that was done.
@@ -102,6 +118,8 @@ struct LaneNotes {
     owners: [u8; TAGS],
     // how many commands have ended that are not posted; more, where some were under way before the world was shared
     ended: u64,
+    // whether the physical controller took commands before the world was shared
+    served: bool,
 }
 
 impl LaneNotes {
@@ -111,6 +129,7 @@ impl LaneNotes {
             used: 0,
             owners: [0; TAGS],
             ended: 0,
+            served: false,
         }
     }
 

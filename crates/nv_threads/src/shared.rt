@@ -10,7 +10,6 @@ use crate::bells::Bells;
 use crate::locked::Locked;
 use crate::notes::{LANES, Notes};
 use nv_world::World;
-use nv_world_model::{Event, Logged};
 use std::hint;
 use std::sync::atomic::{AtomicBool, Ordering};
 use std::sync::{Mutex, MutexGuard, Wait};
@@ -32,12 +31,11 @@ pub struct Shared {
 impl Shared {
     /// The world under a lock that nobody holds. Its log is gone through once.
     pub fn new(world: World) -> Self {
-        let used = used_lanes(world.log());
         let notes = Notes::of(world.log());
         Shared {
+            used: notes.served(),
             locked: Mutex::new(Locked { world, notes }),
             bells: Bells::new(),
-            used,
             stopped: AtomicBool::new(false),
         }
     }
@@ -104,17 +102,4 @@ impl Shared {
         let _log = world.log();
         world
     }
-}
-
-// The lanes on which the physical controller took commands.
-fn used_lanes(log: &[Logged]) -> [bool; LANES] {
-    let mut used = [false; LANES];
-    for logged in log {
-        if let Event::DevTake(lane) = &logged.event {
-            if usize::from(*lane) < LANES {
-                used[usize::from(*lane)] = true;
-            }
-        }
-    }
-    used
 }
