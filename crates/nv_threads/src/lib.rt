@@ -41,6 +41,8 @@ mod shared;
 mod simulated;
 #[cfg(test)]
 mod simulated_guest;
+#[cfg(test)]
+mod start;
 mod sums;
 mod tasks;
 mod telling;

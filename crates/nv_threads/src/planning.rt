@@ -108,6 +108,8 @@ pub(crate) struct GuestPlanner {
     pub(crate) queue: u16,
     // the tag that a command was found at last
     pub(crate) tag: u8,
+    // whether commands may be left that were taken before it came: then its own are looked for as among these
+    thorough: bool,
     pub(crate) task: Task,
     share: Share,
 }
@@ -120,6 +122,7 @@ impl GuestPlanner {
             lane,
             queue: 0,
             tag: 0,
+            thorough: true,
             task: Task::Search(0),
             share: Share::new(),
         }
@@ -177,10 +180,22 @@ impl GuestPlanner {
                 Turn::Job(job)
             }
             Ok(None) => {
-                self.task = behind(looked);
+                self.go_behind(looked);
                 Turn::Done(Concern::nobody())
             }
             Err(NoMemory) => Turn::Nothing,
+        }
+    }
+
+    // What is done behind a look at a tag that had nothing, where so many were looked at before it. Where no tag has a command of the guest's that
+    // was taken, only this planner's own will be to be found.
+    fn go_behind(&mut self, looked: u8) {
+        let looked = looked.saturating_add(1);
+        if looked < TAGS {
+            self.task = Task::Search(looked);
+        } else {
+            self.thorough = false;
+            self.task = Task::TakeUp;
         }
     }
 
@@ -215,12 +230,13 @@ impl GuestPlanner {
         }
     }
 
-    // Takes a command, whose tag is to be looked for, first where it should be.
+    // Takes a command, whose tag is to be looked for: first where it should be, where there is no other.
     fn take(&mut self, locked: &mut Locked, alloc: Global, take: Event) -> Turn {
         match self.share.step(&mut locked.world, alloc, take) {
             Reply::Done => {
-                if let Some(tag) = locked.notes.take(self.lane, self.guest) {
-                    self.tag = tag;
+                let noted = locked.notes.take(self.lane, self.guest);
+                if !self.thorough {
+                    self.tag = noted.unwrap_or(self.tag);
                 }
                 self.task = Task::Search(0);
                 Turn::Done(Concern::nobody())
@@ -265,15 +281,5 @@ impl GuestPlanner {
             Reply::Done => Turn::Done(self.ended(locked)),
             _ => Turn::Done(Concern::nobody()),
         }
-    }
-}
-
-// What is done behind a look at a tag that had nothing, where so many were looked at before it.
-fn behind(looked: u8) -> Task {
-    let looked = looked.saturating_add(1);
-    if looked < TAGS {
-        Task::Search(looked)
-    } else {
-        Task::TakeUp
     }
 }

@@ -1,8 +1,11 @@
-//! The workers without threads, one turn at a time in an order of chance, beside what they chose when they looked everywhere and nobody rang.
+//! The workers without threads, one turn at a time in an order of chance, beside those of the start, whose code is in `start` as it was.
 //!
-//! A worker that waits for a bell which was not rung must have nothing to do, and one that looks only at the tags that are noted must make
-//! the very event that it made when it looked at all. A guest to which something was posted has news.
+//! Both have a world of their own, in which the same guests act. Where a worker gets a turn, that of the start gets one, too, and both must
+//! make the same event with the same answer, or none. One that waits for a bell which was not rung makes none: then that of the start must have found none
+//! where it looked at all. A guest to which something was posted has news. From time to time both worlds are shared anew, so that workers come to commands
+//! that are under way.
 
+use crate::alike::{same_act, same_reply};
 use crate::bits::bit;
 use crate::concern::Concern;
 use crate::device_side::LaneDevice;
@@ -11,13 +14,14 @@ use crate::notes::Notes;
 use crate::planning::GuestPlanner;
 use crate::reaping::LaneReaper;
 use crate::simulated_guest::{Chance, Guest};
+use crate::start;
 use crate::tasks::{Task, Turn};
 use crate::telling::tell;
 use nv_mem::{GuestMap, NoMemory, Region};
 use nv_model::Act;
 use nv_plan::{Job, Planned, make_plan};
 use nv_world::{GuestSetup, Setup, World};
-use nv_world_model::Event;
+use nv_world_model::{Event, Logged};
 use std::alloc::Global;
 use std::process::Abort;
 use std::test::Fail;
@@ -35,22 +39,29 @@ const MEMORY: u64 = 0x2_0000;
 /// How many tags a lane has.
 const TAGS: u8 = 64;
 
-/// The highest number of a guest's I/O queue.
-const LAST_QUEUE: u16 = 8;
+/// How many simulations there are, one a seed.
+const SIMULATIONS: u64 = 12;
 
-/// How many turns a simulation has, and how many of them belong to a phase.
+/// How many turns a simulation has, how many of them belong to a phase, and how many phases there are before the worlds are shared anew.
 const TURNS: u32 = 60_000;
 
 const PHASE: u32 = 2_000;
 
-/// How many turns a planner may look at tags without an event.
+const PHASES: u32 = 7;
+
+/// How many turns without an event a planner, and the physical controller on a lane, may have one behind the other.
 const LOOKS: u32 = 200;
 
-/// What a worker does, where it may be another event that it should have made.
-#[derive(Clone, Copy, Debug, PartialEq, Eq)]
+const PASSES: u32 = 140_000;
+
+/// An event other than a guest's.
+#[derive(Clone, Copy, PartialEq, Eq)]
 enum Move {
     Admin(u8),
     Take(u8, u16, u8),
+    List(u8, u8, u64, u64),
+    Submit(u8, u8),
+    GiveUp(u8, u8),
     DevTake(u8),
     DevMove(u8, u8, u64),
     DevPost(u8, u8),
@@ -58,11 +69,14 @@ enum Move {
     Post(u8, u8),
 }
 
-// What a worker did by this event, if it is one of these.
+// What was done by an event that workers make.
 fn moved(event: &Event) -> Option<Move> {
     match event {
         Event::Admin(guest) => Some(Move::Admin(*guest)),
         Event::Take(guest, queue, lane) => Some(Move::Take(*guest, *queue, *lane)),
+        Event::List(lane, tag, addr, len) => Some(Move::List(*lane, *tag, *addr, *len)),
+        Event::Submit(lane, tag) => Some(Move::Submit(*lane, *tag)),
+        Event::GiveUp(lane, tag) => Some(Move::GiveUp(*lane, *tag)),
         Event::DevTake(lane) => Some(Move::DevTake(*lane)),
         Event::DevMove(lane, slot, unit) => Some(Move::DevMove(*lane, *slot, *unit)),
         Event::DevPost(lane, slot) => Some(Move::DevPost(*lane, *slot)),
@@ -72,91 +86,107 @@ fn moved(event: &Event) -> Option<Move> {
     }
 }
 
-// ---- what the workers chose at the start
-
-// The event that the reaper of a lane made next, which posted that tag last.
-fn reaper_chose(world: &World, lane: u8, last: u8) -> Option<Move> {
-    let reap = Event::Reap(lane);
-    if world.due(&reap) {
-        return moved(&reap);
-    }
-    for step in 1..=TAGS {
-        let tag = last.wrapping_add(step) % TAGS;
-        let post = Event::Post(lane, tag);
-        if world.due(&post) {
-            return moved(&post);
+// Whether two events are the same, and were answered the same.
+fn are_alike(one: &Logged, other: &Logged) -> bool {
+    let same = match (&one.event, &other.event) {
+        (Event::Guest(guest, act), Event::Guest(another, again)) => {
+            guest == another && same_act(act, again)
         }
-    }
-    None
+        (event, again) => moved(event).is_some() && moved(event) == moved(again),
+    };
+    same && same_reply(&one.reply, &other.reply)
 }
 
-// The next event of a slot's command, where one was due.
-fn device_found(world: &World, device: &LaneDevice, slot: u8) -> Option<Move> {
-    let unit = device.units.get(usize::from(slot)).copied()?;
-    for unit in [unit, device.earlier] {
-        let unit = Event::DevMove(device.lane, slot, unit);
-        if world.due(&unit) {
-            return moved(&unit);
-        }
-    }
-    let post = Event::DevPost(device.lane, slot);
-    if world.due(&post) {
-        return moved(&post);
-    }
-    None
-}
+// ---- the workers of the start
 
-// The event that the physical controller on a lane made next.
-fn device_chose(world: &World, device: &LaneDevice) -> Option<Move> {
-    let found = device_found(world, device, device.slot);
-    if found.is_some() {
-        return found;
-    }
-    let take = Event::DevTake(device.lane);
-    if world.due(&take) {
-        return moved(&take);
-    }
-    for step in 1..=TAGS {
-        let slot = device.slot.wrapping_add(step) % TAGS;
-        let found = device_found(world, device, slot);
-        if found.is_some() {
-            return found;
-        }
-    }
-    None
-}
-
-// The event that a planner with nothing under way made next.
-fn planner_chose(world: &World, planner: &GuestPlanner) -> Option<Move> {
-    let admin = Event::Admin(planner.guest);
-    if world.due(&admin) {
-        return moved(&admin);
-    }
-    for step in 0..LAST_QUEUE {
-        let queue = planner.queue.wrapping_add(step) % LAST_QUEUE + 1;
-        let take = Event::Take(planner.guest, queue, planner.lane);
-        if world.due(&take) {
-            return moved(&take);
-        }
-    }
-    None
-}
-
-// The tag at which a planner found a command that was taken, behind that tag, itself the first.
-fn planner_found(
-    world: &World,
+/// The workers of the start, in their world.
+#[derive(Drop)]
+struct Start {
     alloc: Global,
-    planner: &GuestPlanner,
-    last: u8,
-) -> Result<Option<u8>, NoMemory> {
-    for looked in 0..TAGS {
-        let tag = last.wrapping_add(looked) % TAGS;
-        let job = world.job(alloc, planner.lane, tag)?;
-        if job.is_some_and(|job| job.guest == planner.guest) {
-            return Ok(Some(tag));
+    world: World,
+    planners: Vec<start::planning::GuestPlanner>,
+    devices: Vec<start::device_side::LaneDevice>,
+    reapers: Vec<start::reaping::LaneReaper>,
+}
+
+impl Start {
+    // A world without workers.
+    fn new(alloc: Global) -> Result<Self, Fail> {
+        Ok(Start {
+            alloc,
+            world: opened(alloc)?,
+            planners: Vec::new(alloc),
+            devices: Vec::new(alloc),
+            reapers: Vec::new(alloc),
+        })
+    }
+
+    // Workers come to the world as it is, in the place of others.
+    fn share(&mut self) -> Result<(), Fail> {
+        let used = start::shared::used_lanes(self.world.log());
+        self.planners = Vec::new(self.alloc);
+        self.devices = Vec::new(self.alloc);
+        self.reapers = Vec::new(self.alloc);
+        for guest in 0..GUESTS {
+            for lane in 0..LANES {
+                self.planners
+                    .push(start::planning::GuestPlanner::new(guest, lane))?;
+            }
+        }
+        for (lane, was_used) in (0..LANES).zip(used) {
+            self.devices
+                .push(start::device_side::LaneDevice::new(lane, was_used))?;
+            self.reapers.push(start::reaping::LaneReaper::new(lane))?;
+        }
+        Ok(())
+    }
+
+    // A planner's turns until it has made an event or has none to make; whether they came to an end.
+    fn planner_turn(&mut self, at: usize, is_starved: bool) -> bool {
+        let before = self.world.log().len();
+        let Some(planner) = self.planners.get_mut(at) else {
+            return false;
+        };
+        for _ in 0..LOOKS {
+            match planner.turn(&mut self.world, self.alloc) {
+                start::Turn::Job(job) => {
+                    let planned = planned(&self.world, self.alloc, job, is_starved);
+                    planner.go_on(&mut self.world, planned);
+                }
+                start::Turn::Done => {}
+                start::Turn::Nothing => return true,
+            }
+            if self.world.log().len() != before {
+                return true;
+            }
+        }
+        false
+    }
+
+    // Turns of the physical controller on a lane until it has made an event or has none to make; whether they came to an end. Behind a turn in
+    // vain it may go on to units further behind, and behind two it doesn't.
+    fn device_turn(&mut self, lane: u8) -> bool {
+        let before = self.world.log().len();
+        let Some(device) = self.devices.get_mut(usize::from(lane)) else {
+            return false;
+        };
+        let mut was_vain = false;
+        for _ in 0..PASSES {
+            let is_vain = !device.turn(&mut self.world, self.alloc);
+            if is_vain && was_vain || self.world.log().len() != before {
+                return true;
+            }
+            was_vain = is_vain;
+        }
+        false
+    }
+
+    // A reaper's turn.
+    fn reaper_turn(&mut self, lane: u8) {
+        if let Some(reaper) = self.reapers.get_mut(usize::from(lane)) {
+            let _done = reaper.turn(&mut self.world, self.alloc);
         }
     }
-    Ok(None)
 }
 
 // ---- the workers now
@@ -184,10 +214,11 @@ impl<T> Seat<T> {
     }
 }
 
-/// A world with its guests and workers.
+/// Both worlds with their guests and workers.
 #[derive(Drop)]
 struct Simulation {
     alloc: Global,
+    start: Start,
     locked: Locked,
     guests: Vec<Guest>,
     planners: Vec<Seat<GuestPlanner>>,
@@ -201,34 +232,71 @@ struct Simulation {
 }
 
 impl Simulation {
+    // Worlds without workers.
     fn new(alloc: Global) -> Result<Self, Fail> {
         let world = opened(alloc)?;
         let notes = Notes::of(world.log());
         let mut guests = Vec::new(alloc);
-        let mut planners = Vec::new(alloc);
-        let mut devices = Vec::new(alloc);
-        let mut reapers = Vec::new(alloc);
-        for guest in 0..GUESTS {
+        for _guest in 0..GUESTS {
             guests.push(Guest::new())?;
-            for lane in 0..LANES {
-                planners.push(Seat::new(GuestPlanner::new(guest, lane)))?;
-            }
-        }
-        for lane in 0..LANES {
-            devices.push(Seat::new(LaneDevice::new(lane, false)))?;
-            reapers.push(Seat::new(LaneReaper::new(lane)))?;
         }
         Ok(Simulation {
             alloc,
+            start: Start::new(alloc)?,
             locked: Locked { world, notes },
             guests,
-            planners,
-            devices,
-            reapers,
+            planners: Vec::new(alloc),
+            devices: Vec::new(alloc),
+            reapers: Vec::new(alloc),
             owners: vec![in alloc; 0; usize::from(LANES) * usize::from(TAGS)]?,
             full: 0,
             woken: 0,
         })
+    }
+
+    // Workers come to both worlds as they are, in the place of others, behind commands that somebody else has taken.
+    fn share(&mut self, chance: &mut Chance) -> Result<(), Fail> {
+        for guest in 0..GUESTS {
+            for lane in 0..LANES {
+                self.take(guest, lane, chance.below(4));
+                self.note_owners(lane)?;
+            }
+        }
+        self.start.share()?;
+        self.locked.notes = Notes::of(self.locked.world.log());
+        self.sit_down()
+    }
+
+    // So many commands of a guest are taken in both worlds, where there are as many.
+    fn take(&mut self, guest: u8, lane: u8, count: u64) {
+        for _ in 0..count {
+            self.start
+                .world
+                .step(self.alloc, Event::Take(guest, 1, lane));
+            self.locked
+                .world
+                .step(self.alloc, Event::Take(guest, 1, lane));
+        }
+    }
+
+    // Workers that have looked at nothing yet.
+    fn sit_down(&mut self) -> Result<(), Fail> {
+        let used = self.locked.notes.served();
+        self.planners = Vec::new(self.alloc);
+        self.devices = Vec::new(self.alloc);
+        self.reapers = Vec::new(self.alloc);
+        for guest in 0..GUESTS {
+            for lane in 0..LANES {
+                self.planners
+                    .push(Seat::new(GuestPlanner::new(guest, lane)))?;
+            }
+        }
+        for (lane, was_used) in (0..LANES).zip(used) {
+            self.devices
+                .push(Seat::new(LaneDevice::new(lane, was_used)))?;
+            self.reapers.push(Seat::new(LaneReaper::new(lane)))?;
+        }
+        Ok(())
     }
 
     // Rings for all whom an event concerns.
@@ -244,20 +312,32 @@ impl Simulation {
         }
     }
 
-    // Whether behind so many events just this one was logged, or none where none was chosen.
-    fn has_made(&self, count: usize, chosen: Option<Move>) -> bool {
-        let log = self.locked.world.log();
-        match log.get(count) {
-            Some(logged) => {
-                log.len() - count == 1 && chosen.is_some() && moved(&logged.event) == chosen
+    // Whether both logs have the same behind so many events.
+    fn went_alike(&self, before: usize) -> bool {
+        let then = self.start.world.log().get(before..);
+        let now = self.locked.world.log().get(before..);
+        match (then, now) {
+            (Some(then), Some(now)) => {
+                then.len() == now.len()
+                    && then
+                        .iter()
+                        .zip(now)
+                        .all(|(one, other)| are_alike(one, other))
             }
-            None => chosen.is_none(),
+            _ => false,
         }
     }
 
-    // A guest's act.
+    // What the last event was, where it was made behind so many.
+    fn made(&self, before: usize) -> Option<Move> {
+        moved(&self.locked.world.log().get(before)?.event)
+    }
+
+    // A guest's act, in both worlds.
     fn act(&mut self, guest: u8, act: Act) -> Result<(), Fail> {
         let errand = Errand::of(&act);
+        let again = act.try_clone(self.alloc)?;
+        tell(&mut self.start.world, self.alloc, guest, again)?;
         tell(&mut self.locked.world, self.alloc, guest, act)?;
         let concern = self.locked.concern(guest, errand);
         self.ring(concern);
@@ -276,15 +356,15 @@ impl Simulation {
         Ok(())
     }
 
-    // A turn of a lane's reaper; whether it did what it should.
+    // A turn of a lane's reaper; whether it told whom it should.
     fn reaper_turn(&mut self, lane: u8, is_late: bool) -> bool {
         let before = self.locked.world.log().len();
+        self.start.reaper_turn(lane);
         let Some(seat) = self.reapers.get_mut(usize::from(lane)) else {
             return false;
         };
-        let chosen = reaper_chose(&self.locked.world, lane, seat.worker.tag);
         if !seat.looks(is_late) {
-            return chosen.is_none();
+            return true;
         }
         if seat.waits {
             self.woken = self.woken.saturating_add(u64::from(seat.is_rung));
@@ -295,11 +375,10 @@ impl Simulation {
         seat.waits = concern.is_none();
         let told = concern.unwrap_or(Concern::nobody());
         self.ring(told);
-        let is_told = match chosen {
+        match self.made(before) {
             Some(Move::Post(lane, tag)) => told.guests == bit(self.owner(lane, tag)),
             _ => told.guests == 0,
-        };
-        is_told && self.has_made(before, chosen)
+        }
     }
 
     // Whose command a tag had last.
@@ -310,29 +389,26 @@ impl Simulation {
             .unwrap_or(GUESTS)
     }
 
-    // Notes whose command has the tag that was just taken.
-    fn note_owner(&mut self, at: usize) -> Result<(), Fail> {
-        let Some(seat) = self.planners.get(at) else {
-            return Ok(());
-        };
-        let (guest, lane) = (seat.worker.guest, seat.worker.lane);
-        if let Some(tag) = planner_found(&self.locked.world, self.alloc, &seat.worker, 0)? {
-            if let Some(owner) = self.owners.get_mut(place_of(lane, tag)) {
-                *owner = guest;
+    // Notes whose commands those of a lane are that were taken and not planned.
+    fn note_owners(&mut self, lane: u8) -> Result<(), Fail> {
+        for tag in 0..TAGS {
+            let job = self.locked.world.job(self.alloc, lane, tag)?;
+            if let (Some(job), Some(owner)) = (job, self.owners.get_mut(place_of(lane, tag))) {
+                *owner = job.guest;
             }
         }
         Ok(())
     }
 
-    // A turn of the physical controller on a lane; whether it did what it should.
+    // Turns of the physical controller on a lane until it has made an event or has none to make; whether they came to an end.
     fn device_turn(&mut self, lane: u8, is_late: bool) -> bool {
         let before = self.locked.world.log().len();
+        let ended = self.start.device_turn(lane);
         let Some(seat) = self.devices.get_mut(usize::from(lane)) else {
             return false;
         };
-        let chosen = device_chose(&self.locked.world, &seat.worker);
         if !seat.looks(is_late) {
-            return chosen.is_none();
+            return ended;
         }
         if seat.waits {
             self.woken = self.woken.saturating_add(u64::from(seat.is_rung));
@@ -341,111 +417,73 @@ impl Simulation {
             }
         }
         seat.is_rung = false;
-        let concern = seat.worker.turn(&mut self.locked, self.alloc);
-        seat.waits = concern.is_none();
-        if let Some(concern) = concern {
-            self.ring(concern);
+        for _ in 0..PASSES {
+            let concern = seat.worker.turn(&mut self.locked, self.alloc);
+            seat.waits = concern.is_none();
+            if seat.waits {
+                return ended;
+            }
+            if self.locked.world.log().len() != before {
+                self.ring(concern.unwrap_or(Concern::nobody()));
+                return ended;
+            }
         }
-        self.has_made(before, chosen)
+        false
     }
 
-    // Turns of a planner until it has made an event or has none to make; whether it did what it should.
+    // Turns of a planner until it has made an event or has none to make; whether they came to an end, and told whom they should.
     fn planner_turn(&mut self, at: usize, is_late: bool, is_starved: bool) -> Result<bool, Fail> {
         let before = self.locked.world.log().len();
-        for _ in 0..LOOKS {
-            if !self.planner_step(at, is_late, is_starved)? {
-                return Ok(false);
-            }
-            let waits = self.planners.get(at).is_none_or(|seat| seat.waits);
-            if waits || self.locked.world.log().len() != before {
-                return Ok(true);
-            }
+        if !self.start.planner_turn(at, is_starved) {
+            return Ok(false);
         }
-        Ok(false)
-    }
-
-    // One turn of a planner; whether it did what it should.
-    fn planner_step(&mut self, at: usize, is_late: bool, is_starved: bool) -> Result<bool, Fail> {
-        let before = self.locked.world.log().len();
         let Some(seat) = self.planners.get_mut(at) else {
             return Ok(false);
         };
-        let chosen = match seat.worker.task {
-            Task::TakeUp => planner_chose(&self.locked.world, &seat.worker),
-            _ => None,
-        };
         if !seat.looks(is_late) {
-            return Ok(chosen.is_none());
+            return Ok(true);
         }
         if seat.waits {
             self.woken = self.woken.saturating_add(u64::from(seat.is_rung));
         }
         seat.is_rung = false;
-        let last = seat.worker.tag;
-        let is_search = matches!(seat.worker.task, Task::Search(_));
-        let takes_up = matches!(seat.worker.task, Task::TakeUp);
+        for _ in 0..LOOKS {
+            let Some(told) = self.planner_step(at, is_starved) else {
+                return Ok(true);
+            };
+            self.ring(told);
+            if self.locked.world.log().len() != before {
+                return self.has_told(before, told);
+            }
+        }
+        Ok(false)
+    }
+
+    // Whether the event behind so many was told to its guest, where it has an admin command's answer. Whose commands were taken is noted.
+    fn has_told(&mut self, before: usize, told: Concern) -> Result<bool, Fail> {
+        match self.made(before) {
+            Some(Move::Admin(guest)) => Ok(told.guests == bit(guest)),
+            Some(Move::Take(_, _, lane)) => {
+                self.note_owners(lane)?;
+                Ok(told.guests == 0)
+            }
+            _ => Ok(told.guests == 0),
+        }
+    }
+
+    // A turn of a planner, which goes on with what comes of a job: whom that concerns, or `None` where there was nothing to do.
+    fn planner_step(&mut self, at: usize, is_starved: bool) -> Option<Concern> {
+        let seat = self.planners.get_mut(at)?;
         let turn = seat.worker.turn(&mut self.locked, self.alloc);
         seat.waits = matches!(turn, Turn::Nothing);
-        if takes_up && !self.has_made(before, chosen) {
-            return Ok(false);
-        }
-        if let Some(Move::Take(_, _, _)) = chosen {
-            self.note_owner(at)?;
-        }
         match turn {
             Turn::Job(job) => {
-                if is_search && !self.is_found(at, last, job.tag)? {
-                    return Ok(false);
-                }
-                self.plan(at, job, is_starved)?;
+                let planned = planned(&self.locked.world, self.alloc, job, is_starved);
+                Some(go_on(&mut seat.worker, &mut self.locked, planned))
             }
-            Turn::Done(concern) => {
-                self.ring(concern);
-                if let Some(Move::Admin(guest)) = chosen {
-                    return Ok(concern.guests == bit(guest));
-                }
-            }
-            Turn::Nothing => {}
+            Turn::Done(concern) => Some(concern),
+            Turn::Nothing => None,
         }
-        Ok(true)
-    }
-
-    // Whether a command is at the tag at which it was found.
-    fn is_found(&self, at: usize, last: u8, tag: u8) -> Result<bool, Fail> {
-        let Some(seat) = self.planners.get(at) else {
-            return Ok(false);
-        };
-        let found = planner_found(&self.locked.world, self.alloc, &seat.worker, last)?;
-        Ok(found == Some(tag))
-    }
-
-    // Makes the plan of a job, and hands it over.
-    fn plan(&mut self, at: usize, job: Job, is_starved: bool) -> Result<(), Fail> {
-        let planned = if is_starved {
-            Planned::NoMemory(job)
-        } else {
-            planned(&self.locked.world, self.alloc, job)
-        };
-        let Some(seat) = self.planners.get_mut(at) else {
-            return Ok(());
-        };
-        let concern = match planned {
-            Planned::Need(job, addr, len) => {
-                seat.worker.task = Task::Read(job.tag, addr, len);
-                Concern::nobody()
-            }
-            Planned::NoMemory(job) => {
-                seat.worker.task = Task::GiveUp(job.tag);
-                Concern::nobody()
-            }
-            Planned::Plan(plan) => {
-                let (task, concern) = seat.worker.submit(&mut self.locked, plan);
-                seat.worker.task = task;
-                concern
-            }
-        };
-        self.ring(concern);
-        Ok(())
     }
 
     // Notes whether some lane has no free tag.
@@ -460,24 +498,37 @@ impl Simulation {
     // One turn of somebody, by chance; whether it was what it should be. In one phase of four the physical controller stands still, in one
     // the reapers, and in one no guest tells that it has looked at completions. One plan in sixteen finds no memory.
     fn turn(&mut self, number: u32, chance: &mut Chance) -> Result<bool, Fail> {
+        let before = self.locked.world.log().len();
         let phase = number / PHASE % 4;
         let is_late = chance.below(8) == 0;
         let guest = chance.below(u64::from(GUESTS)) as u8;
         let lane = chance.below(u64::from(LANES)) as u8;
-        match chance.below(8) {
+        let is_right = match chance.below(8) {
             0 | 1 => {
                 self.guest_turn(guest, chance, phase != 3)?;
-                Ok(true)
+                true
             }
             2 | 3 | 4 => {
                 let at = usize::from(guest) * usize::from(LANES) + usize::from(lane);
                 let is_starved = chance.below(16) == 0;
-                self.planner_turn(at, is_late, is_starved)
+                self.planner_turn(at, is_late, is_starved)?
             }
-            5 | 6 => Ok(phase == 1 || self.device_turn(lane, is_late)),
-            _ => Ok(phase == 2 || self.reaper_turn(lane, is_late)),
-        }
+            5 | 6 => phase == 1 || self.device_turn(lane, is_late),
+            _ => phase == 2 || self.reaper_turn(lane, is_late),
+        };
+        Ok(is_right && self.went_alike(before))
     }
+}
+
+// Goes on with what came of a job, as a planner does that took the lock for it: whom that concerns.
+fn go_on(planner: &mut GuestPlanner, locked: &mut Locked, planned: Planned) -> Concern {
+    let (task, concern) = match planned {
+        Planned::Need(job, addr, len) => (Task::Read(job.tag, addr, len), Concern::nobody()),
+        Planned::NoMemory(job) => (Task::GiveUp(job.tag), Concern::nobody()),
+        Planned::Plan(plan) => planner.submit(locked, plan),
+    };
+    planner.task = task;
+    concern
 }
 
 // Where the owner of a lane's tag stands.
@@ -485,11 +536,13 @@ fn place_of(lane: u8, tag: u8) -> usize {
     usize::from(lane) * usize::from(TAGS) + usize::from(tag)
 }
 
-// What comes of a job; as where there is no memory, where there is no such guest.
-fn planned(world: &World, alloc: Global, job: Job) -> Planned {
+// What comes of a job; as where there is no memory, where it is starved or there is no such guest.
+fn planned(world: &World, alloc: Global, job: Job, is_starved: bool) -> Planned {
     let guest = job.guest;
     match (world.map(guest), world.range(guest), world.limit(guest)) {
-        (Some(map), Some(ns), Some(limit)) => make_plan(alloc, alloc, job, map, &ns, limit),
+        (Some(map), Some(ns), Some(limit)) if !is_starved => {
+            make_plan(alloc, alloc, job, map, &ns, limit)
+        }
         _ => Planned::NoMemory(job),
     }
 }
@@ -527,6 +580,9 @@ fn simulate(rt: &impl Abort, alloc: Global, seed: u64) -> Result<(), Fail> {
     let mut simulation = Simulation::new(alloc)?;
     let mut chance = Chance::new(seed);
     for number in 0..TURNS {
+        if number % (PHASE * PHASES) == 0 {
+            simulation.share(&mut chance)?;
+        }
         let is_right = simulation.turn(number, &mut chance)?;
         let events = simulation.locked.world.log().len();
         assert!(rt; is_right, "turn {number} behind {events} events");
@@ -543,7 +599,7 @@ fn simulate(rt: &impl Abort, alloc: Global, seed: u64) -> Result<(), Fail> {
 
 #[test]
 fn workers_choose_as_at_the_start(rt: HostRuntime) -> Result<(), Fail> {
-    for seed in 1..4 {
+    for seed in 1..=SIMULATIONS {
         simulate(&rt, rt.alloc(), seed)?;
     }
     Ok(())
