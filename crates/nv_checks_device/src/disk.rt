@@ -20,7 +20,7 @@ enum Step {
     Flush,
 }
 
-const STEPS: [Step; 21] = [
+const STEPS: [Step; 27] = [
     Step::Write(599, 1, false),
     Step::Clear(4, true),
     Step::Write(3, 2, true),
@@ -42,6 +42,12 @@ const STEPS: [Step; 21] = [
     Step::ClearRange(100, 0, false),
     Step::ClearRange(0, 4, true),
     Step::Write(99, 11, false),
+    Step::ClearRange(96, 7, true),
+    Step::Write(97, 12, true),
+    Step::Write(103, 13, false),
+    Step::ClearRange(96, 8, false),
+    Step::Write(98, 14, false),
+    Step::ClearRange(97, 2, true),
 ];
 
 // A disk, and beside it the byte and the mark that each block should have.
@@ -196,11 +202,36 @@ fn blocks_that_hold_zeros_lie_in_a_row(rt: HostRuntime) -> Result<(), Fail> {
     assert!(rt; row(&blocks, 0, 100) == 40 && row(&blocks, 40, 8) == 2 && row(&blocks, 42, 8) == 2);
     if blocks.len() == COUNT {
         blocks.clear(41);
-        blocks.clear_range(44, 1);
+        blocks.clear(44);
     }
     assert!(rt;
         row(&blocks, 40, 8) == 1 && row(&blocks, 41, 8) == 8 && row(&blocks, 41, 100) == 64
     );
+    Ok(())
+}
+
+// Makes so many blocks zeros.
+fn clear(blocks: &mut Blocks, start: usize, count: usize) {
+    if count <= blocks.len() && start <= blocks.len() - count {
+        blocks.clear_range(start, count);
+    }
+}
+
+#[test]
+fn few_blocks_that_are_cleared_lie_in_a_row_with_those_around_them(
+    rt: HostRuntime,
+) -> Result<(), Fail> {
+    let mut blocks = Blocks::new(rt.alloc(), COUNT)?;
+    write_all(&mut blocks, [8usize, 16]);
+    write_all(&mut blocks, [9usize, 10, 11, 12, 13, 14, 15, 17, 18, 19]);
+    write_all(&mut blocks, [20usize, 21, 22, 23]);
+    clear(&mut blocks, 10, 1);
+    clear(&mut blocks, 14, 7);
+    assert!(rt; row(&blocks, 8, 16) == 16);
+    clear(&mut blocks, 8, 8);
+    assert!(rt; row(&blocks, 8, 16) == 8 && row(&blocks, 16, 8) == 8);
+    clear(&mut blocks, 9, 1);
+    assert!(rt; row(&blocks, 9, 1) == 1 && row(&blocks, 8, 8) == 1 && row(&blocks, 10, 6) == 6);
     Ok(())
 }
 

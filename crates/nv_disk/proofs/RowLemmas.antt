@@ -1,5 +1,5 @@
 -- Blocks that are moved or compared row by row
-use Rattle.std.proofs.Common.{◌≡◌, ℕ, zero, suc, ◌+◌, ◌-◌, ◌*◌, ◌≤◌, Bool, true, false, ◌||◌, List, [], ◌++◌, length, take, drop, refl, sym, ap, ◌∙◌, arith}
+use Rattle.std.proofs.Common.{◌≡◌, ℕ, zero, suc, ◌+◌, ◌-◌, ◌*◌, ◌≤◌, Bool, false, ◌||◌, List, [], ◌++◌, length, take, drop, refl, sym, ap, ◌∙◌, arith}
 use Rattle.std.proofs.lemmas.List.{drop-drop, length-take-le, take-append-drop}
 use Rattle.std.proofs.Math.Seq.{take-add}
 use Rattle.std.proofs.lemmas.Grind.{flat_map-append}
@@ -8,7 +8,7 @@ use Rattle.nv_model.specs.Memory.{gathered, scattered}
 use Rattle.nv_model.proofs.MemoryLemmas.{gathered-append, length-gathered, scattered-append}
 use Rattle.nv_model.specs.Private.{differs}
 use Rattle.nv_moves.proofs.BufferLemmas.{scattered-no_bytes, scattered-take}
-use Rattle.nv_moves.proofs.CompareLemmas.{differs-append, or-assoc}
+use Rattle.nv_moves.proofs.CompareLemmas.{differs-append}
 use Rattle.nv_moves.proofs.ReadLemmas.{joined}
 
 -- rows that stand one behind the other
@@ -39,12 +39,12 @@ put-row m n places left disk at count k bytes within are enough put rest =
     ∙ ap (scattered m places) (sym (joined-rows disk at count k within))
 
 -- a row is compared with the first places, and what is behind it with those behind
-pub compare-row : (m : ℕ → ℕ) (places left : List Place) (disk : List (List ℕ)) (at count k : ℕ) (bytes : List ℕ) (differed unlike : Bool) → k ≤ count
+pub compare-row : (m : ℕ → ℕ) (places left : List Place) (disk : List (List ℕ)) (at count k : ℕ) (bytes : List ℕ) (unlike : Bool) → k ≤ count
     → bytes ≡ joined (take k (drop at disk)) → length bytes ≡ 512 * k → 512 * count ≤ length places
     → unlike ≡ differs (gathered m (take (length bytes) places)) bytes → left ≡ drop (length bytes) places
-    → ((differed || unlike) || differs (gathered m (take (512 * (count - k)) left)) (joined (take (count - k) (drop (at + k) disk))))
-    ≡ (differed || differs (gathered m (take (512 * count) places)) (joined (take count (drop at disk))))
-compare-row m places left disk at count k bytes differed unlike within are sized enough told rest =
+    → (unlike || differs (gathered m (take (512 * (count - k)) left)) (joined (take (count - k) (drop (at + k) disk))))
+    ≡ differs (gathered m (take (512 * count) places)) (joined (take count (drop at disk)))
+compare-row m places left disk at count k bytes unlike within are sized enough told rest =
     let behind : List ℕ = joined (take (count - k) (drop (at + k) disk)) in
     let first : List ℕ = gathered m (take (length bytes) places) in
     let more : List ℕ = gathered m (take (512 * (count - k)) (drop (length bytes) places)) in
@@ -53,14 +53,12 @@ compare-row m places left disk at count k bytes differed unlike within are sized
     let all : first ++ more ≡ gathered m (take (512 * count) places) =
     sym (gathered-append m (take (length bytes) places) (take (512 * (count - k)) (drop (length bytes) places)))
     ∙ ap (gathered m) (sym (take-add (length bytes) (512 * (count - k)) places) ∙ ap (λ (n : ℕ). take n places) sum) in
-    ap (λ (ps : List Place). (differed || unlike) || differs (gathered m (take (512 * (count - k)) ps)) behind) rest
-    ∙ sym (or-assoc differed unlike (differs more behind))
-    ∙ ap (λ (b : Bool). differed || (b || differs more behind)) told
-    ∙ ap (λ (b : Bool). differed || b)
-    (sym (differs-append first bytes more behind len)
+    ap (λ (ps : List Place). unlike || differs (gathered m (take (512 * (count - k)) ps)) behind) rest
+    ∙ ap (λ (b : Bool). b || differs more behind) told
+    ∙ sym (differs-append first bytes more behind len)
     ∙ ap (λ (l : List ℕ). differs l (bytes ++ behind)) all
     ∙ ap (λ (bs : List ℕ). differs (gathered m (take (512 * count) places)) (bs ++ behind)) are
-    ∙ ap (differs (gathered m (take (512 * count) places))) (sym (joined-rows disk at count k within)))
+    ∙ ap (differs (gathered m (take (512 * count) places))) (sym (joined-rows disk at count k within))
 
 -- as many bytes as blocks in a row
 pub row-bytes : (n k : ℕ) → n ≡ k * 512 → n ≡ 512 * k
@@ -71,12 +69,8 @@ pub put-end : (m done : ℕ → ℕ) (places : List Place) (left : ℕ) (blocks 
 put-end m done places zero blocks none so_far = sym (scattered-no_bytes m places [] refl) ∙ so_far
 put-end m done places (suc left) blocks none so_far = absurd (omega arith)
 
-pub compare-end : (m : ℕ → ℕ) (places : List Place) (left : ℕ) (blocks : List (List ℕ)) (differed done : Bool) → left ≤ 0
-    → (differed || differs (gathered m (take (512 * left) places)) (joined (take left blocks))) ≡ done → differed ≡ done
+pub compare-end : (m : ℕ → ℕ) (places : List Place) (left : ℕ) (blocks : List (List ℕ)) (done : Bool) → left ≤ 0
+    → differs (gathered m (take (512 * left) places)) (joined (take left blocks)) ≡ done → false ≡ done
 unfolding differs gathered
-compare-end m places zero blocks differed done none so_far = or-none differed ∙ so_far
-  where
-    or-none : (b : Bool) → b ≡ (b || false)
-    or-none true = refl
-    or-none false = refl
-compare-end m places (suc left) blocks differed done none so_far = absurd (omega arith)
+compare-end m places zero blocks done none so_far = so_far
+compare-end m places (suc left) blocks done none so_far = absurd (omega arith)

@@ -29,7 +29,8 @@ static ZERO_ROW: [[u8; BLOCK_SIZE]; ZERO_ROW_BLOCKS] = [[0; BLOCK_SIZE]; ZERO_RO
 ///
 /// A contract sees the list of the blocks. There is room for all of them from the start, so no write wants memory, and what is stored are pages of
 /// eight blocks of which one was written, in the order in which they were first: the system gives pages to these alone, and blocks that are next to
-/// each other lie so. A block that is cleared is noted as zeros, and its bytes are left alone until it is written again, in the same place.
+/// each other lie so. A block that is cleared is noted as zeros, and its bytes are left alone until it is written again, in the same place; where a
+/// few are cleared at once, zeros are written, so that a page is no patchwork to whoever reads it whole.
 #[derive(Drop)]
 pub struct Blocks {
     /// Of each block twice its place among those that are stored, from 1 on, and one more where it holds zeros; 0 where nothing of its page was written.
@@ -127,12 +128,49 @@ impl Blocks {
         blank(&mut self.entries, block);
     }
 
-    /// Makes the `count` blocks from `start` on zeros. They are noted, and none of their bytes is written.
+    /// Makes the `count` blocks from `start` on zeros. Those of a page or more are noted, and none of their bytes is written. Fewer are written where
+    /// they have a place, so that they lie in a row with those around them still.
     pub fn clear_range(&mut self, start: usize, count: usize)
         requires { start + count ≤ length self.old }
         ensures { self.new ≡ take start self.old ++ (replicate count (replicate 512 0) ++ drop (start + count) self.old) }
     {
+        if count < PAGE_BLOCKS {
+            self.zero_range(start, count);
+        } else {
+            self.note_range(start, count);
+        }
+    }
+
+    // The same of blocks that are noted.
+    fn note_range(&mut self, start: usize, count: usize)
+        requires { start + count ≤ length self.old }
+        ensures { self.new ≡ take start self.old ++ (replicate count (replicate 512 0) ++ drop (start + count) self.old) }
+    {
         clear_entries(&mut self.entries, start, count);
+    }
+
+    // The same of blocks that are written where they have a place.
+    fn zero_range(&mut self, start: usize, count: usize)
+        requires { start + count ≤ length self.old }
+        ensures { self.new ≡ take start self.old ++ (replicate count (replicate 512 0) ++ drop (start + count) self.old) }
+    {
+        // The number of blocks fits, and so does the end of the range.
+        let _blocks = self.len();
+        for at in start..start + count {
+            self.zero(at);
+        }
+    }
+
+    // Makes a block zeros, and writes them where it has a place.
+    fn zero(&mut self, block: usize)
+        requires { block < length self.old }
+        ensures { self.new ≡ slice_set self.old block (replicate 512 0) }
+    {
+        if self.entries[block] < 2 {
+            self.clear(block);
+        } else {
+            self.set(block, &ZEROS);
+        }
     }
 
     /// Takes the bytes of a block from the first of the places that are left of a buffer, which goes on behind these.

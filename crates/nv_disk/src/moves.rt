@@ -191,7 +191,8 @@ pub fn compare_blocks(
     differs
 }
 
-// Whether the bytes of the `count` blocks from `start` on are others than those of the buffer. Blocks that lie in a row are compared at once.
+// Whether the bytes of the `count` blocks from `start` on are others than those of the buffer. Blocks that lie in a row are compared at once, and
+// none behind a row that differs.
 fn blocks_differ(
     memory: &Host,
     disk: &Blocks,
@@ -208,23 +209,16 @@ fn blocks_differ(
     let _blocks = disk.len();
     let mut at = start;
     let mut left = count;
-    let mut differed = false;
     while left > 0 {
         let row = disk.row(at, left);
         let unlike = buffer.differs(memory, row.as_flattened());
-        differed = either(differed, unlike);
+        if unlike {
+            return true;
+        }
         at += row.len();
         left -= row.len();
     }
-    differed
-}
-
-// Whether one of two is so.
-#[inline(always)]
-fn either(one: bool, other: bool) -> bool
-    ensures { result ≡ (one || other) }
-{
-    one || other
+    false
 }
 
 /// Makes the `count` blocks from `start` on zeros, and gives their marks this value.

@@ -9,6 +9,16 @@ use Rattle.nv_moves.proofs.ReadLemmas.{joined}
 use Rattle.nv_disk.proofs.RowLemmas.{compare-end, compare-row, row-bytes}
 use Rattle.nv_disk.proofs.moves.blocks_differ.Goals as goal
 
+pub returns-then-unlike : goal.returns-then-unlike
+returns-then-unlike c =
+    ap (λ (b : Bool). b || differs (gathered (byte_in c.args.memory.now) (take (512 * (c.loop-left.left - length c.row-row.result.now)) c.differs-unlike.new.self))
+    (joined (take (c.loop-left.left - length c.row-row.result.now) (drop (c.loop-left.at + length c.row-row.result.now) c.args.disk.now)))) (sym c.if-unlike.true)
+    ∙ compare-row (byte_in c.args.memory.now) c.loop-left.buffer c.differs-unlike.new.self c.args.disk.now c.loop-left.at c.loop-left.left (length c.row-row.result.now)
+    c.as_flattened.result.now c.differs-unlike.result c.row-row.ensures.most (c.as_flattened.ensures.value ∙ ap joined c.row-row.ensures.value)
+    (row-bytes (length c.as_flattened.result.now) (length c.row-row.result.now) c.as_flattened.ensures.len)
+    c.loop-left.invariant.enough c.differs-unlike.ensures.value c.differs-unlike.ensures.rest
+    ∙ c.loop-left.invariant.whole
+
 pub loop-left-preserved : goal.loop-left-preserved
 loop-left-preserved c =
     let kept = c.loop-left.invariant in
@@ -23,9 +33,9 @@ loop-left-preserved c =
     record {
       whole =
           ap (λ (b : Bool). b || differs (gathered (byte_in c.args.memory.now) (take (512 * (c.loop-left.left - length c.row-row.result.now)) c.differs-unlike.new.self))
-          (joined (take (c.loop-left.left - length c.row-row.result.now) (drop (c.loop-left.at + length c.row-row.result.now) c.args.disk.now)))) c.either-differed.ensures
+          (joined (take (c.loop-left.left - length c.row-row.result.now) (drop (c.loop-left.at + length c.row-row.result.now) c.args.disk.now)))) (sym c.if-unlike.false)
           ∙ compare-row (byte_in c.args.memory.now) c.loop-left.buffer c.differs-unlike.new.self c.args.disk.now c.loop-left.at c.loop-left.left (length c.row-row.result.now)
-          c.as_flattened.result.now c.loop-left.differed c.differs-unlike.result most bytes len kept.enough c.differs-unlike.ensures.value c.differs-unlike.ensures.rest
+          c.as_flattened.result.now c.differs-unlike.result most bytes len kept.enough c.differs-unlike.ensures.value c.differs-unlike.ensures.rest
           ∙ kept.whole;
       below = subst W (sym c.differs-unlike.ensures.rest) (All-drop (IsBelow (length c.args.memory.now)) (length c.as_flattened.result.now) c.loop-left.buffer kept.below);
       enough = omega arith;
@@ -34,4 +44,4 @@ loop-left-preserved c =
 
 pub returns : goal.returns
 returns c =
-    compare-end (byte_in c.args.memory.now) c.loop-left.buffer c.loop-left.left (drop c.loop-left.at c.args.disk.now) c.loop-left.differed _ c.loop-left-test.false c.loop-left.invariant.whole
+    compare-end (byte_in c.args.memory.now) c.loop-left.buffer c.loop-left.left (drop c.loop-left.at c.args.disk.now) _ c.loop-left-test.false c.loop-left.invariant.whole

@@ -3,7 +3,7 @@ use Rattle.std.specs.Vec.{vec_len, with_items}
 use Rattle.std.proofs.lemmas.List.{with_items_is}
 use Rattle.nv_disk.specs.Stored.{blocks_of}
 use Rattle.nv_disk.proofs.StoredLemmas.{length-blocks}
-use Rattle.nv_disk.proofs.blocks.Blocks.clear_range.Goals as goal
+use Rattle.nv_disk.proofs.blocks.Blocks.note_range.Goals as goal
 
 pub clear_entries-requires : goal.clear_entries-requires
 clear_entries-requires c =
