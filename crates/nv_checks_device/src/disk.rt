@@ -173,22 +173,43 @@ fn write_all<const N: usize>(blocks: &mut Blocks, order: [usize; N]) {
 #[test]
 fn blocks_that_are_written_in_order_lie_in_a_row(rt: HostRuntime) -> Result<(), Fail> {
     let mut blocks = Blocks::new(rt.alloc(), COUNT)?;
-    write_all(&mut blocks, [7usize, 8, 9, 3, 10]);
-    assert!(rt; row(&blocks, 7, 4) == 4 && row(&blocks, 8, 1) == 1 && row(&blocks, 10, 2) == 1);
-    assert!(rt; row(&blocks, 4, 3) == 3 && row(&blocks, 3, 5) == 1);
+    write_all(&mut blocks, [63usize, 64, 65, 3, 66]);
+    assert!(rt; row(&blocks, 63, 4) == 4 && row(&blocks, 64, 1) == 1 && row(&blocks, 66, 2) == 1);
+    assert!(rt; row(&blocks, 60, 3) == 3 && row(&blocks, 3, 5) == 1);
     Ok(())
 }
 
 #[test]
-fn blocks_of_a_page_lie_in_a_row_in_whatever_order_they_are_written(
+fn blocks_of_a_group_lie_in_a_row_in_whatever_order_they_are_written(
     rt: HostRuntime,
 ) -> Result<(), Fail> {
     let mut blocks = Blocks::new(rt.alloc(), COUNT)?;
+    write_all(&mut blocks, [66usize, 64, 63, 65]);
+    assert!(rt; row(&blocks, 64, 3) == 3 && row(&blocks, 63, 2) == 1);
+    // All of the second group, in another order.
+    for number in 0..64usize {
+        write_all(&mut blocks, [64 + number * 37 % 64]);
+    }
+    assert!(rt; row(&blocks, 64, 64) == 64 && row(&blocks, 64, 65) == 64);
+    let mut last = Blocks::new(rt.alloc(), 69)?;
+    write_all(&mut last, [68usize, 67]);
+    assert!(rt; row(&last, 68, 1) == 1 && row(&last, 67, 2) == 2);
+    Ok(())
+}
+
+/// How many blocks the least disk has on which few blocks get their places together.
+const MANY: usize = 0x4_0001;
+
+#[test]
+fn blocks_of_a_page_lie_in_a_row_on_a_large_disk(rt: HostRuntime) -> Result<(), Fail> {
+    let mut blocks = Blocks::new(rt.alloc(), MANY)?;
     write_all(&mut blocks, [10usize, 8, 7, 9]);
     assert!(rt; row(&blocks, 8, 3) == 3 && row(&blocks, 7, 2) == 1);
-    let mut last = Blocks::new(rt.alloc(), 13)?;
-    write_all(&mut last, [12usize, 11]);
-    assert!(rt; row(&last, 12, 1) == 1 && row(&last, 11, 2) == 2);
+    write_all(&mut blocks, [0x4_0000usize, 0x3_ffff]);
+    assert!(rt; row(&blocks, 0x4_0000, 1) == 1 && row(&blocks, 0x3_ffff, 2) == 1);
+    let mut small = Blocks::new(rt.alloc(), MANY - 1)?;
+    write_all(&mut small, [10usize, 8, 7, 9]);
+    assert!(rt; row(&small, 7, 4) == 4);
     Ok(())
 }
 

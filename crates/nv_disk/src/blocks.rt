@@ -13,8 +13,14 @@ use std::alloc::Global;
 use std::fmt::{self, Debug, Formatter};
 use std::marker::Model;
 
-/// How many blocks get their places together: those of a page of 4 KiB.
+/// How many blocks a page of 4 KiB has.
 const PAGE_BLOCKS: usize = 8;
+
+/// How many blocks get their places together on a disk that is small: those of 32 KiB.
+const SMALL_GROUP_BLOCKS: usize = 64;
+
+/// The most blocks of a disk that is small: 128 MiB of them.
+const SMALL_BLOCKS: usize = 1 << 18;
 
 /// How many blocks that hold zeros are given as one row at most.
 const ZERO_ROW_BLOCKS: usize = 64;
@@ -27,13 +33,14 @@ static ZERO_ROW: [[u8; BLOCK_SIZE]; ZERO_ROW_BLOCKS] = [[0; BLOCK_SIZE]; ZERO_RO
 
 /// Blocks that are zero until they are written, from 0 on. Their number stays as it was made.
 ///
-/// A contract sees the list of the blocks. There is room for all of them from the start, so no write wants memory, and what is stored are pages of
-/// eight blocks of which one was written, in the order in which they were first: the system gives pages to these alone, and blocks that are next to
-/// each other lie so. A block that is cleared is noted as zeros, and its bytes are left alone until it is written again, in the same place; where a
-/// few are cleared at once, zeros are written, so that a page is no patchwork to whoever reads it whole.
+/// A contract sees the list of the blocks. There is room for all of them from the start, so no write wants memory, and what is stored are groups of
+/// 64 blocks of which one was written (of eight, on a disk of more than 128 MiB), in the order in which they were first: the system gives pages to
+/// these alone, and blocks that are next to each other lie so, in whatever order they are written. A block that is cleared is noted as zeros, and its
+/// bytes are left alone until it is written again, in the same place; where a few are cleared at once, zeros are written, so that a group is no
+/// patchwork to whoever reads it whole.
 #[derive(Drop)]
 pub struct Blocks {
-    /// Of each block twice its place among those that are stored, from 1 on, and one more where it holds zeros; 0 where nothing of its page was written.
+    /// Of each block twice its place among those that are stored, from 1 on, and one more where it holds zeros; 0 where nothing of its group was written.
     entries: Vec<u32>,
     stored: Vec<[u8; BLOCK_SIZE]>,
 }
@@ -196,7 +203,7 @@ fn is_blank(entry: usize) -> bool
     entry < 2 || entry % 2 == 1
 }
 
-// The place of a block's bytes, from 0 on. A block that has none gets one with all blocks of its page, and zeros there; it holds zeros still.
+// The place of a block's bytes, from 0 on. A block that has none gets one with all blocks of its group, and zeros there; it holds zeros still.
 #[inline(always)]
 fn settle(entries: &mut Vec<u32>, stored: &mut Vec<[u8; BLOCK_SIZE]>, block: usize) -> usize
     requires stored { IsStored (vec_capacity stored.old) (places_of entries.old.items) stored.old.items }
@@ -209,25 +216,39 @@ fn settle(entries: &mut Vec<u32>, stored: &mut Vec<[u8; BLOCK_SIZE]>, block: usi
     ensures few { result + 1 < 2 ^ 31 }
 {
     if entries[block] < 2 {
-        settle_page(entries, stored, block);
+        settle_group(entries, stored, block);
     }
     settle_one(entries, stored, block)
 }
 
-// Gives places, one behind the other, to the blocks of a block's page: those that are written next to each other lie so, whatever is written
-// between, and share a page of the system's.
+// Gives places, one behind the other, to the blocks of a block's group: those that are next to each other lie so, whatever is written between, and
+// share pages of the system's.
 #[inline(never)]
-fn settle_page(entries: &mut Vec<u32>, stored: &mut Vec<[u8; BLOCK_SIZE]>, block: usize)
+fn settle_group(entries: &mut Vec<u32>, stored: &mut Vec<[u8; BLOCK_SIZE]>, block: usize)
     requires stored { IsStored (vec_capacity stored.old) (places_of entries.old.items) stored.old.items }
     requires block { block < length entries.old.items }
     ensures stored { IsStored (vec_capacity stored.new) (places_of entries.new.items) stored.new.items }
     ensures same { blocks_of stored.new.items entries.new.items ≡ blocks_of stored.old.items entries.old.items }
     ensures count { length entries.new.items ≡ length entries.old.items }
 {
-    let first = block - block % PAGE_BLOCKS;
-    let end = entries.len().min(first + PAGE_BLOCKS);
+    let group = group_blocks(entries.len());
+    let first = block - block % group;
+    let end = entries.len().min(first + group);
     for at in first..end {
         let _place = settle_one(entries, stored, at);
+    }
+}
+
+// How many blocks of a disk of so many get their places together. Those of a small one are read in long rows then, and lie on few pages; at worst
+// all of its bytes are zeroed for a few that are written. Of a larger one most is never written, and a block that is written alone wants one page.
+fn group_blocks(count: usize) -> usize
+    ensures some { 0 < result }
+    ensures few { result ≤ SMALL_GROUP_BLOCKS }
+{
+    if count <= SMALL_BLOCKS {
+        SMALL_GROUP_BLOCKS
+    } else {
+        PAGE_BLOCKS
     }
 }
 

@@ -1,7 +1,7 @@
 //! The blocks of a disk, with a mark each, and units of commands that move between them and a buffer.
 //!
-//! - [`Blocks`] are blocks of 512 bytes that are zero until they are written, and cost next to nothing before: their bytes are stored by pages of eight
-//!   blocks, in the order in which pages are written first.
+//! - [`Blocks`] are blocks of 512 bytes that are zero until they are written, and cost next to nothing before: their bytes are stored by groups of
+//!   blocks, in the order in which groups are written first.
 //! - [`Marks`] is a mark for each block, whether it is kept; all of them are set at once, in no time, by a number that is counted up.
 //!
 //! The calls that move units are those of `nv_moves`, with its contracts, over these in the place of slices: a contract sees [`Blocks`] as the list

@@ -1,7 +1,7 @@
 use Rattle.std.proofs.Common.{◌≡◌, length}
 use Rattle.std.specs.Vec.{vec_capacity}
 use Rattle.nv_disk.specs.Stored.{IsStored, blocks_of, places_of}
-use Rattle.nv_disk.proofs.blocks.settle_page.Given as goal
+use Rattle.nv_disk.proofs.blocks.settle_group.Given as goal
 
 abbrev pub invariant-loop-at : goal.invariant-loop-at
 invariant-loop-at l = record {
