@@ -44,6 +44,24 @@ among-plain (x ∷ xs) r bytes plain (inl same) told = plain-not (bytes_told x) 
 among-plain (x ∷ xs) r bytes plain (inr is) told =
     among-plain xs r bytes (plain-rest (is_plain (bytes_told x)) (are_plain xs) plain) is told
 
+plain-none : (o : Option (List ℕ)) (rest : Bool) → (is_plain o && rest) ≡ true → o ≡ None
+plain-none None rest plain = refl
+plain-none (Some b) rest plain = cc
+
+among-none : (xs : List Reply) (r : Reply) → are_plain xs ≡ true → IsAmong xs r → bytes_told r ≡ None
+among-none [] r plain is = absurd is
+among-none (x ∷ xs) r plain (inl same) = ap bytes_told same ∙ plain-none (bytes_told x) (are_plain xs) plain
+among-none (x ∷ xs) r plain (inr is) = among-none xs r (plain-rest (is_plain (bytes_told x)) (are_plain xs) plain) is
+
+-- a unit that moves tells none
+pub move-plain : (geometry : Geometry) (lane slot number : ℕ) (old new : State) (r : Reply)
+    → IsStep geometry (event.DevMove lane slot number) old r new → bytes_told r ≡ None
+move-plain geometry lane slot number old new r is =
+    let e : Event = event.DevMove lane slot number in
+    let w = world_of old in
+    let same : r ≡ (step geometry e w).reply = ap (λ (a : After). a.reply) is.after in
+    ap bytes_told same ∙ among-none (reply.Done ∷ reply.Idle ∷ reply.Ignored ∷ []) (step geometry e w).reply refl (step-answers geometry e w).may
+
 -- an act that tells bytes
 put-back-same : (x : Reply) (p : Private) (o : Owner) (w : World) (bytes : List ℕ) → bytes_told (act_put_back x p o w).reply ≡ Some bytes
     → (act_put_back x p o w).world ≡ w

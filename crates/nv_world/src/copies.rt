@@ -34,6 +34,25 @@ pub(crate) fn twice(
     }
 }
 
+/// A reply that has no bytes, once more.
+#[inline(always)]
+pub(crate) fn word(reply: &Reply) -> Reply
+    requires { bytes_told reply.now ≡ None }
+    ensures { result ≡ reply.now }
+{
+    match reply {
+        Reply::Bytes(_) => unreachable!(),
+        Reply::Done => Reply::Done,
+        Reply::Idle => Reply::Idle,
+        Reply::Busy => Reply::Busy,
+        Reply::Held => Reply::Held,
+        Reply::Stale => Reply::Stale,
+        Reply::Unmapped => Reply::Unmapped,
+        Reply::Ignored => Reply::Ignored,
+        Reply::NoMemory => Reply::NoMemory,
+    }
+}
+
 // Two replies without bytes, where none came once more: nothing has to be given back, and so nothing is looked at.
 #[inline(always)]
 fn words(first: Reply, second: Reply, none: Option<Bytes>) -> (Reply, Reply)

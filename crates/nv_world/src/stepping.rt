@@ -1,10 +1,10 @@
 //! Steps of the world.
 
-ghost use Rattle.std.specs.Prelude.{◌≡◌, ◌<◌, ◌++◌, ◌∷◌, [], OnErr, OnOk, vec_capacity, vec_len};
-ghost use Rattle.nv_world.specs.Mediated.{IsAdvanced, IsContained, IsStepped, KeepsPromise, mediated};
+ghost use Rattle.std.specs.Prelude.{◌≡◌, ◌<◌, ◌++◌, ◌∷◌, [], IfOk, OnErr, OnOk, vec_capacity, vec_len};
+ghost use Rattle.nv_world.specs.Mediated.{IsAdvanced, IsContained, IsLogged, IsStepped, KeepsPromise, mediated};
 
-use crate::performing;
 use crate::world::World;
+use crate::{copies, performing};
 use nv_mem::NoMemory;
 use nv_model::Reply;
 use nv_world_model::{Event, Logged};
@@ -61,6 +61,20 @@ impl World {
     fn step_twice(&mut self, alloc: Global, event: Event) -> Reply
         ensures { IsStepped event (mediated self.old) result (mediated self.new) }
     {
+        match event {
+            Event::DevMove(lane, slot, number) => match self.move_unit(lane, slot, number) {
+                Ok(reply) => reply,
+                Err(_) => Reply::NoMemory,
+            },
+            event => self.step_any(alloc, event),
+        }
+    }
+
+    // A step of any kind, with its reply for the log and for the caller.
+    #[inline(never)]
+    fn step_any(&mut self, alloc: Global, event: Event) -> Reply
+        ensures { IsStepped event (mediated self.old) result (mediated self.new) }
+    {
         performing::known(&event);
         if self.log.reserve(1).is_err() {
             return Reply::NoMemory;
@@ -78,6 +92,35 @@ impl World {
 
     // The step itself, with its reply for the log alone.
     fn step_once(&mut self, alloc: Global, event: Event) -> Result<(), NoMemory>
+        ensures ok { OnOk result (IsAdvanced event (mediated self.old) (mediated self.new)) }
+        ensures err { OnErr result (mediated self.new ≡ mediated self.old) }
+    {
+        match event {
+            Event::DevMove(lane, slot, number) => {
+                let _reply = self.move_unit(lane, slot, number)?;
+                Ok(())
+            }
+            event => self.advance_any(alloc, event),
+        }
+    }
+
+    // The step by which the physical controller moves a unit, as most are. It wants no memory but the log's, and its reply has no bytes, so little
+    // is stored that may have to be given back: what is stored behind the copy of a block waits until that copy is through.
+    #[inline(never)]
+    fn move_unit(&mut self, lane: u8, slot: u8, number: u64) -> Result<Reply, NoMemory>
+        ensures ok { IfOk result (λ reply. IsLogged (Event.DevMove lane slot number) (mediated self.old) reply (mediated self.new)) }
+        ensures err { OnErr result (mediated self.new ≡ mediated self.old) }
+    {
+        self.log.reserve(1)?;
+        let reply = self.core.dev_move(&self.layout, lane, slot, number);
+        let again = copies::word(&reply);
+        push(&mut self.log, Event::DevMove(lane, slot, number), again);
+        Ok(reply)
+    }
+
+    // A step of any kind, with its reply for the log alone.
+    #[inline(never)]
+    fn advance_any(&mut self, alloc: Global, event: Event) -> Result<(), NoMemory>
         ensures ok { OnOk result (IsAdvanced event (mediated self.old) (mediated self.new)) }
         ensures err { OnErr result (mediated self.new ≡ mediated self.old) }
     {

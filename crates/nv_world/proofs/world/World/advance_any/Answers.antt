@@ -3,7 +3,7 @@ use Rattle.nv_world.proofs.Counts.{counts-more}
 use Rattle.nv_world.proofs.Steps.{step-logged, step-running}
 use Rattle.nv_world.specs.Mediated.{IsAdvanced, Kept, mediated}
 use Rattle.nv_world_model.specs.declared.logged.Logged.{Logged}
-use Rattle.nv_world.proofs.world.World.step_once.Goals as goal
+use Rattle.nv_world.proofs.world.World.advance_any.Goals as goal
 
 pub perform-requires-clause-can_count : goal.perform-requires-clause-can_count
 perform-requires-clause-can_count c =

@@ -4,7 +4,7 @@ use Rattle.nv_world.proofs.Counts.{counts-more}
 use Rattle.nv_world.proofs.Steps.{step-logged, step-running}
 use Rattle.nv_world.specs.Mediated.{IsLogged, Kept, mediated}
 use Rattle.nv_world_model.specs.declared.logged.Logged.{Logged}
-use Rattle.nv_world.proofs.world.World.step_twice.Goals as goal
+use Rattle.nv_world.proofs.world.World.step_any.Goals as goal
 
 pub perform_twice-told-requires-clause-can_count : goal.perform_twice-told-requires-clause-can_count
 perform_twice-told-requires-clause-can_count c =
