@@ -19,7 +19,7 @@ EXAMPLES = [("nv_model", ["--only", "rows"]), ("nv_world_model", ["--only", "row
 TRIALS = {
     "LISTS": (definitions.LISTS, [(crate, ["check", *only]) for crate, only in EXAMPLES]),
     "WORLD": (definitions.WORLD, [(crate, ["check", *only]) for crate, only in EXAMPLES[1:]]),
-    "ONCE": (bugs.ONCE, [("nv_once", ["check"]), ("nv_checks_program", ["try", "--test"]), ("nvmed", ["try", "--test"])]),
+    "ONCE": (bugs.ONCE, [("nv_commands", ["check"]), ("nv_checks_program", ["try", "--test"]), ("nvmed", ["try", "--test"])]),
     "WORKERS": (bugs.WORKERS, [("nv_threads", ["check"]), ("nv_checks_threads", ["try", "--test"])]),
 }
 

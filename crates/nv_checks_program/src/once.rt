@@ -1,8 +1,8 @@
 //! Commands over readers and writers. Expected lines are read off the layouts by hand.
 
+use nv_commands::{Command, EntryKind, ExitStatus, Failure, Fault, Refusal, perform, report, run};
 use nv_flat::FlatController;
-use nv_once::{Command, EntryKind, ExitStatus, Failure, Fault, Refusal, perform, report, run};
-use nv_script::FaultKind;
+use nv_once_script::FaultKind;
 use std::alloc::Global;
 use std::fmt::Debug;
 use std::io::{self, ErrorKind, Read, Write};

@@ -3,7 +3,7 @@
 //! A row of a table is a script and what comes of it, the fault or the script's value, with `|` between them and `;` for each
 //! line feed.
 
-use nv_script::{Line, ScriptFault, parse};
+use nv_once_script::{Line, ScriptFault, parse};
 use std::alloc::{AllocError, Global};
 use std::process::Abort;
 use std::test::Fail;

@@ -1,7 +1,7 @@
 //! A process, its words and what it ends with.
 
+use nv_commands::{Command, EntryKind, Grammar, Refusal, Request, program, words};
 use nv_flat::FlatController;
-use nv_once::{Command, EntryKind, Grammar, Refusal, Request, program, words};
 use std::alloc::{Alloc, Global};
 use std::convert::AsStr;
 use std::env::FillError;

@@ -1,7 +1,7 @@
 //! What the tests share: a set-up, a run of the program's part that does what a script asks for, and what it printed.
 
+use nv_commands::{Command, ExitStatus, Request, run, serve};
 use nv_flat::FlatController;
-use nv_once::{Command, ExitStatus, Request, run, serve};
 use std::alloc::Global;
 use std::process::Abort;
 use std::sync::Wait;

@@ -1,7 +1,7 @@
 //! Scripts of `replay` that are written event by event, each beside its reply.
 
 use crate::bench::{replayed, same_text};
-use nv_once::ExitStatus;
+use nv_commands::ExitStatus;
 use std::alloc::{AllocError, Global};
 use std::process::Abort;
 

@@ -1,7 +1,7 @@
 //! Guests of scripts in threads of their own. Expected lines are read off the rules by hand.
 
 use crate::bench::{SET_UP, same_text, served};
-use nv_once::ExitStatus;
+use nv_commands::ExitStatus;
 use std::alloc::Global;
 use std::process::Abort;
 use std::sync::Wait;

@@ -1,7 +1,7 @@
 //! Four guests on two lanes, over and over. Expected lines are read off the rules by hand.
 
 use crate::bench::{same_text, served};
-use nv_once::ExitStatus;
+use nv_commands::ExitStatus;
 use std::alloc::Global;
 use std::process::Abort;
 use std::sync::Wait;

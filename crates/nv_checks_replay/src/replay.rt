@@ -1,7 +1,7 @@
 //! Worlds put through the events of scripts. Expected lines are read off the rules by hand.
 
 use crate::bench::{SET_UP, replayed, same_text};
-use nv_once::ExitStatus;
+use nv_commands::ExitStatus;
 use std::process::Abort;
 use std::test::Fail;
 

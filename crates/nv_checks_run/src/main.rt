@@ -3,8 +3,8 @@
 //! The gate runs each program once. The run of `nvmed` ends with a fault, so that its exit status is seen; this one prints.
 #![tactic(auto)]
 
+use nv_commands::{Command, ExitStatus, run};
 use nv_flat::FlatController;
-use nv_once::{Command, ExitStatus, run};
 use std::io::{Stderr, Stdin, Stdout};
 use std::process::ExitCode;
 

@@ -1,7 +1,7 @@
 //! Words of hexadecimal digits of all kinds and many lengths, as lines `store` of `once` write them. What they spell is worked out here digit by
 //! digit.
 
-use nv_script::{FaultKind, Line, Script, ScriptFault, parse};
+use nv_once_script::{FaultKind, Line, Script, ScriptFault, parse};
 use std::alloc::{AllocError, Global};
 use std::process::Abort;
 use std::test::Fail;

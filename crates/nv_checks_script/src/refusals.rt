@@ -2,9 +2,9 @@
 //! be the same whichever it is, or none. Nothing else here takes memory.
 
 use nv_model::Act;
+use nv_once_script::{Line, ScriptFault};
 use nv_replay_script::GuestSetUp;
 use nv_run_script::Task;
-use nv_script::{Line, ScriptFault};
 use nv_world_model::Event;
 use std::process::Abort;
 
@@ -143,9 +143,9 @@ fn a_script_of_run_is_parsed_again(rt: HostRuntime) {
 #[test]
 fn a_script_of_once_is_parsed_again(rt: HostRuntime) {
     let alloc = rt.alloc();
-    let mut script = nv_script::parse(alloc, ONCE.as_bytes());
+    let mut script = nv_once_script::parse(alloc, ONCE.as_bytes());
     if had_none(&script) {
-        script = nv_script::parse(alloc, ONCE.as_bytes());
+        script = nv_once_script::parse(alloc, ONCE.as_bytes());
     }
     let script = script.expect(&rt, "a script");
     assert!(rt; script.memory == 65_536 && script.blocks == 64 && script.lines.len() == 5);

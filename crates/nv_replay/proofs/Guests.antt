@@ -4,7 +4,7 @@ use Rattle.std.proofs.lemmas.List.{append-nil}
 use Rattle.std.specs.Prelude.{MatchResult}
 use Rattle.std.specs.Result.{IsErrAnd}
 use Rattle.nv_replay_script.specs.ReplaySetUp.{GuestValue}
-use Rattle.nv_script.specs.OnceFault.{◌>>=◌}
+use Rattle.nv_once_script.specs.OnceFault.{◌>>=◌}
 use Rattle.nv_world_model.specs.Geometry.{Guest}
 use Rattle.nv_replay.specs.Opening.{guests_from, mapped_guest}
 use Rattle.nv_replay.specs.declared.refusal.SetUpRefusal.{SetUpRefusal}

@@ -1,8 +1,8 @@
 -- What a script and a text come to, step by step
 use Rattle.std.proofs.Common.{◌≡◌, ◌⊎◌, ℕ, List, Option, Some, None, Ok, Err, refl, ap, ◌∙◌, inl, inr}
 use Rattle.nv_replay_script.specs.ReplayScript.{ScriptValue, script_of}
-use Rattle.nv_script.specs.declared.once.fault.ScriptFault.{ScriptFault}
-use Rattle.nv_script.specs.declared.once.fault.ScriptFault.TheVariants as script
+use Rattle.nv_once_script.specs.declared.once.fault.ScriptFault.{ScriptFault}
+use Rattle.nv_once_script.specs.declared.once.fault.ScriptFault.TheVariants as script
 use Rattle.nv_world.specs.Refused.{refused}
 use Rattle.nv_world.specs.declared.refusal.Refusal.{Refusal}
 use Rattle.nv_world.specs.declared.refusal.Refusal.TheVariants as world

@@ -6,7 +6,7 @@ use Rattle.nv_mem.specs.declared.map_error.MapError.{MapError}
 use Rattle.nv_replay_script.specs.ReplayScript.{ScriptValue, script_of}
 use Rattle.nv_replay_script.specs.ReplaySetUp.{GuestValue}
 use Rattle.nv_replay_script.specs.declared.sizes.Sizes.{Sizes}
-use Rattle.nv_script.specs.OnceFault.{◌>>=◌}
+use Rattle.nv_once_script.specs.OnceFault.{◌>>=◌}
 use Rattle.nv_world_model.specs.Geometry.{Guest}
 use Rattle.nv_world_model.specs.SetUp.{Refusal, SetUp, refusal_of}
 use Rattle.nv_world_model.specs.SetUp as model

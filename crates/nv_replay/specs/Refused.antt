@@ -3,8 +3,8 @@ use Rattle.std.specs.Prelude.{ℕ, List, ◌++◌, codes}
 use Rattle.std.specs.Fmt.{decimal}
 use Rattle.nv_mem.specs.declared.map_error.MapError.{MapError}
 use Rattle.nv_mem.specs.declared.map_error.MapError.TheVariants.{Unaligned, Overlap, OutsideHost}
-use Rattle.nv_script.specs.declared.once.fault.ScriptFault.{ScriptFault}
-use Rattle.nv_script.specs.declared.once.fault.ScriptFault.TheVariants as script
+use Rattle.nv_once_script.specs.declared.once.fault.ScriptFault.{ScriptFault}
+use Rattle.nv_once_script.specs.declared.once.fault.ScriptFault.TheVariants as script
 use Rattle.nv_world.specs.declared.refusal.Refusal.{Refusal}
 use Rattle.nv_world.specs.declared.refusal.Refusal.TheVariants as world
 use Rattle.nv_replay.specs.declared.fault.ReplayFault.{ReplayFault}

@@ -4,7 +4,7 @@ ghost use Rattle.std.specs.Prelude.{◌≡◌};
 ghost use Rattle.nv_replay.specs.Refused.{of_refusal, of_script};
 
 use crate::refusal::SetUpRefusal;
-use nv_script::{FaultKind, ScriptFault};
+use nv_once_script::{FaultKind, ScriptFault};
 use nv_world::Refusal;
 use std::alloc::{AllocError, AllocFailed};
 

@@ -7,8 +7,8 @@ use Rattle.std.specs.Str.{bytes_eq}
 use Rattle.std.proofs.lemmas.Bool.{and_parts, ltb-true}
 use Rattle.std.proofs.lemmas.List.{take-append-drop}
 use Rattle.std.proofs.lemmas.Slice.Eq.{bytes_eq-Decides}
-use Rattle.nv_script.specs.OnceWords.{words_of}
-use Rattle.nv_script.proofs.OnceWordsLemmas.{ends_word, words_of-named}
+use Rattle.nv_once_script.specs.OnceWords.{words_of}
+use Rattle.nv_once_script.proofs.OnceWordsLemmas.{ends_word, words_of-named}
 use Rattle.nv_replay_script.specs.declared.vocabulary.Keyword.{Keyword}
 use Rattle.nv_replay_script.specs.ReplayVocabulary.{keyword_of, vocabulary}
 

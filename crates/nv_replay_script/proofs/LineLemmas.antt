@@ -2,14 +2,14 @@
 use Rattle.std.proofs.Common.{◌≡◌, ℕ, ◌+◌, List, [], ◌∷◌, length, Result, Ok, Err, refl, sym, ap, ◌∙◌, arith, inl, inr, ◌⊎◌}
 use Rattle.std.specs.Option.{ok_or}
 use Rattle.std.specs.Prelude.{MatchResult}
-use Rattle.nv_script.specs.declared.once.fault.FaultKind.{FaultKind}
-use Rattle.nv_script.specs.declared.once.fault.FaultKind.TheVariants.{UnknownWord}
-use Rattle.nv_script.specs.declared.once.fault.LineFault.{LineFault}
-use Rattle.nv_script.specs.declared.once.fault.LineFault.TheVariants.{Faulty, NoMemory}
-use Rattle.nv_script.specs.declared.once.fault.ScriptFault.{ScriptFault}
-use Rattle.nv_script.specs.declared.once.fault.ScriptFault.TheVariants as fault
-use Rattle.nv_script.specs.OnceFault.{Refuses, fault_on}
-use Rattle.nv_script.specs.OnceWords.{lines_of, words_of}
+use Rattle.nv_once_script.specs.declared.once.fault.FaultKind.{FaultKind}
+use Rattle.nv_once_script.specs.declared.once.fault.FaultKind.TheVariants.{UnknownWord}
+use Rattle.nv_once_script.specs.declared.once.fault.LineFault.{LineFault}
+use Rattle.nv_once_script.specs.declared.once.fault.LineFault.TheVariants.{Faulty, NoMemory}
+use Rattle.nv_once_script.specs.declared.once.fault.ScriptFault.{ScriptFault}
+use Rattle.nv_once_script.specs.declared.once.fault.ScriptFault.TheVariants as fault
+use Rattle.nv_once_script.specs.OnceFault.{Refuses, fault_on}
+use Rattle.nv_once_script.specs.OnceWords.{lines_of, words_of}
 use Rattle.nv_replay_script.specs.declared.vocabulary.Keyword.{Keyword}
 use Rattle.nv_replay_script.specs.ReplayLines.{after_lines, after_words, script_by}
 use Rattle.nv_replay_script.specs.ReplayVocabulary.{keyword_of}

@@ -1,12 +1,12 @@
 -- Events one after another
 use Rattle.std.proofs.Common.{◌≡◌, ℕ, List, [], ◌∷◌, ◌++◌, length, Result, Ok, Err, refl}
 use Rattle.std.specs.Prelude.{Some, None, MatchResult}
-use Rattle.nv_script.specs.declared.once.fault.FaultKind.{FaultKind}
-use Rattle.nv_script.specs.declared.once.fault.FaultKind.TheVariants.{OutOfPlace}
-use Rattle.nv_script.specs.declared.once.fault.LineFault.{LineFault}
-use Rattle.nv_script.specs.declared.once.fault.LineFault.TheVariants.{Faulty, NoMemory}
-use Rattle.nv_script.specs.OnceFault.{◌>>=◌, Refuses}
-use Rattle.nv_script.specs.OnceVocabulary.{count_check}
+use Rattle.nv_once_script.specs.declared.once.fault.FaultKind.{FaultKind}
+use Rattle.nv_once_script.specs.declared.once.fault.FaultKind.TheVariants.{OutOfPlace}
+use Rattle.nv_once_script.specs.declared.once.fault.LineFault.{LineFault}
+use Rattle.nv_once_script.specs.declared.once.fault.LineFault.TheVariants.{Faulty, NoMemory}
+use Rattle.nv_once_script.specs.OnceFault.{◌>>=◌, Refuses}
+use Rattle.nv_once_script.specs.OnceVocabulary.{count_check}
 use Rattle.nv_world_model.specs.declared.event.Event.{Event}
 use Rattle.nv_replay_script.specs.declared.sizes.Sizes.{Sizes}
 use Rattle.nv_replay_script.specs.declared.vocabulary.EventKind.{EventKind}

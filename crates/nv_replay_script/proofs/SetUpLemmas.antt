@@ -3,10 +3,10 @@ use Rattle.std.proofs.Common.{◌≡◌, ℕ, ◌<◌, Bool, true, false, ltb, L
 use Rattle.std.specs.Prelude.{map}
 use Rattle.std.proofs.lemmas.List.{get_or-map, length-map, map-set}
 use Rattle.std.proofs.lemmas.Bool.Decides.{nat_tests}
-use Rattle.nv_script.specs.declared.once.fault.FaultKind.{FaultKind}
-use Rattle.nv_script.specs.OnceFault.{◌>>=◌}
+use Rattle.nv_once_script.specs.declared.once.fault.FaultKind.{FaultKind}
+use Rattle.nv_once_script.specs.OnceFault.{◌>>=◌}
 use Rattle.nv_mem.specs.declared.region.Region.{Region}
-use Rattle.nv_script.specs.OnceNumber.{number_up_to}
+use Rattle.nv_once_script.specs.OnceNumber.{number_up_to}
 use Rattle.nv_replay_script.specs.declared.set_up.GuestSetUp.{GuestSetUp}
 use Rattle.nv_replay_script.specs.ReplaySetUp.{GuestValue, SetUpSoFar, add_map, guest_value, in_place, known_guest, region_of, with_region}
 

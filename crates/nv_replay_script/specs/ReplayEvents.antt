@@ -5,12 +5,12 @@ use Rattle.nv_model.specs.declared.act.Act.{Act}
 use Rattle.nv_model.specs.declared.act.Act.TheVariants as act
 use Rattle.nv_world_model.specs.declared.event.Event.{Event}
 use Rattle.nv_world_model.specs.declared.event.Event.TheVariants as event
-use Rattle.nv_script.specs.declared.once.fault.FaultKind.{FaultKind}
-use Rattle.nv_script.specs.declared.once.fault.FaultKind.TheVariants.{OutOfPlace}
-use Rattle.nv_script.specs.OnceFault.{◌>>=◌}
-use Rattle.nv_script.specs.OnceLimits.{longest_fill}
-use Rattle.nv_script.specs.OnceNumber.{bytes_of, number_of, number_up_to}
-use Rattle.nv_script.specs.OnceVocabulary.{count_check}
+use Rattle.nv_once_script.specs.declared.once.fault.FaultKind.{FaultKind}
+use Rattle.nv_once_script.specs.declared.once.fault.FaultKind.TheVariants.{OutOfPlace}
+use Rattle.nv_once_script.specs.OnceFault.{◌>>=◌}
+use Rattle.nv_once_script.specs.OnceLimits.{longest_fill}
+use Rattle.nv_once_script.specs.OnceNumber.{bytes_of, number_of, number_up_to}
+use Rattle.nv_once_script.specs.OnceVocabulary.{count_check}
 use Rattle.nv_replay_script.specs.declared.vocabulary.ActKind.{ActKind}
 use Rattle.nv_replay_script.specs.declared.vocabulary.ActKind.TheVariants as act_kind
 use Rattle.nv_replay_script.specs.declared.vocabulary.EventKind.{EventKind}

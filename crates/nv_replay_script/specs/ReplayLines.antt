@@ -1,13 +1,13 @@
 -- Lines one after another, of a script of any kind: the first faulty line decides (profile)
 use Rattle.std.specs.Prelude.{ℕ, ◌+◌, List, [], ◌∷◌, length, Result, Ok, Err}
 use Rattle.std.specs.Option.{ok_or}
-use Rattle.nv_script.specs.declared.once.fault.FaultKind.{FaultKind}
-use Rattle.nv_script.specs.declared.once.fault.FaultKind.TheVariants.{OutOfPlace, UnknownWord}
-use Rattle.nv_script.specs.declared.once.fault.ScriptFault.{ScriptFault}
-use Rattle.nv_script.specs.OnceFault.{◌>>=◌}
-use Rattle.nv_script.specs.OnceScript.{on_line}
-use Rattle.nv_script.specs.OnceVocabulary.{count_check}
-use Rattle.nv_script.specs.OnceWords.{lines_of, words_of}
+use Rattle.nv_once_script.specs.declared.once.fault.FaultKind.{FaultKind}
+use Rattle.nv_once_script.specs.declared.once.fault.FaultKind.TheVariants.{OutOfPlace, UnknownWord}
+use Rattle.nv_once_script.specs.declared.once.fault.ScriptFault.{ScriptFault}
+use Rattle.nv_once_script.specs.OnceFault.{◌>>=◌}
+use Rattle.nv_once_script.specs.OnceScript.{on_line}
+use Rattle.nv_once_script.specs.OnceVocabulary.{count_check}
+use Rattle.nv_once_script.specs.OnceWords.{lines_of, words_of}
 use Rattle.nv_replay_script.specs.declared.vocabulary.Keyword.{Keyword}
 use Rattle.nv_replay_script.specs.ReplayVocabulary.{keyword_of}
 

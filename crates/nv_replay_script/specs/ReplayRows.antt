@@ -1,7 +1,7 @@
 -- Worked examples: a set-up of two guests, and lines behind it
 use Rattle.std.specs.Prelude.{ℕ, List, [], ◌∷◌, ◌++◌, codes, Result}
 use Rattle.nv_world_model.specs.declared.event.Event.{Event}
-use Rattle.nv_script.specs.declared.once.fault.ScriptFault.{ScriptFault}
+use Rattle.nv_once_script.specs.declared.once.fault.ScriptFault.{ScriptFault}
 use Rattle.nv_replay_script.specs.ReplayScript.{ScriptValue, script_of}
 use Rattle.nv_replay_script.specs.ReplaySetUp.{GuestValue}
 

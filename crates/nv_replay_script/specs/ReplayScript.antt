@@ -2,12 +2,12 @@
 use Rattle.std.specs.Prelude.{ℕ, List, [], ◌∷◌, ◌++◌, map, length, Result, Ok, Bool, true, false}
 use Rattle.std.specs.Option.{ok_or}
 use Rattle.nv_world_model.specs.declared.event.Event.{Event}
-use Rattle.nv_script.specs.declared.once.fault.FaultKind.{FaultKind}
-use Rattle.nv_script.specs.declared.once.fault.FaultKind.TheVariants.{OutOfPlace}
-use Rattle.nv_script.specs.declared.once.fault.ScriptFault.{ScriptFault}
-use Rattle.nv_script.specs.OnceFault.{◌>>=◌}
-use Rattle.nv_script.specs.OnceScript.{on_line}
-use Rattle.nv_script.specs.OnceVocabulary.{count_check}
+use Rattle.nv_once_script.specs.declared.once.fault.FaultKind.{FaultKind}
+use Rattle.nv_once_script.specs.declared.once.fault.FaultKind.TheVariants.{OutOfPlace}
+use Rattle.nv_once_script.specs.declared.once.fault.ScriptFault.{ScriptFault}
+use Rattle.nv_once_script.specs.OnceFault.{◌>>=◌}
+use Rattle.nv_once_script.specs.OnceScript.{on_line}
+use Rattle.nv_once_script.specs.OnceVocabulary.{count_check}
 use Rattle.nv_replay_script.specs.declared.reading.Reading.{Reading}
 use Rattle.nv_replay_script.specs.declared.script.Script.{Script}
 use Rattle.nv_replay_script.specs.declared.sizes.Sizes.{Sizes}

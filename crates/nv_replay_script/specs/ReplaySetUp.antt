@@ -2,12 +2,12 @@
 use Rattle.std.specs.Prelude.{ℕ, ◌==◌, ◌&&◌, nat_le, nat_lt, Bool, List, [], ◌∷◌, ◌++◌, codes, map, length, slice_set, slice_index_or, Option, Some, None, Result, Ok, Err, if◌then◌else◌}
 use Rattle.std.specs.Str.{bytes_eq}
 use Rattle.nv_mem.specs.declared.region.Region.{Region}
-use Rattle.nv_script.specs.declared.once.fault.FaultKind.{FaultKind}
-use Rattle.nv_script.specs.declared.once.fault.FaultKind.TheVariants.{BadNumber, OutOfPlace, UnknownWord}
-use Rattle.nv_script.specs.OnceFault.{◌>>=◌}
-use Rattle.nv_script.specs.OnceNumber.{number_of, number_up_to}
-use Rattle.nv_script.specs.OnceScript.{first_time}
-use Rattle.nv_script.specs.OnceVocabulary.{count_check}
+use Rattle.nv_once_script.specs.declared.once.fault.FaultKind.{FaultKind}
+use Rattle.nv_once_script.specs.declared.once.fault.FaultKind.TheVariants.{BadNumber, OutOfPlace, UnknownWord}
+use Rattle.nv_once_script.specs.OnceFault.{◌>>=◌}
+use Rattle.nv_once_script.specs.OnceNumber.{number_of, number_up_to}
+use Rattle.nv_once_script.specs.OnceScript.{first_time}
+use Rattle.nv_once_script.specs.OnceVocabulary.{count_check}
 use Rattle.nv_replay_script.specs.declared.open_set_up.OpenSetUp.{OpenSetUp}
 use Rattle.nv_replay_script.specs.declared.set_up.GuestSetUp.{GuestSetUp}
 use Rattle.nv_replay_script.specs.declared.sizes.OpenSizes.{OpenSizes}

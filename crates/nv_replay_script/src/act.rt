@@ -1,7 +1,7 @@
 //! The acts of guests, as their lines write them.
 ghost use Rattle.std.specs.Prelude.{◌≡◌, ◌∷◌, [], length, replicate, IfOk, MatchResult};
-ghost use Rattle.nv_script.specs.OnceFault.{Refuses};
-ghost use Rattle.nv_script.specs.declared.once.fault.LineFault.TheVariants.{NoMemory};
+ghost use Rattle.nv_once_script.specs.OnceFault.{Refuses};
+ghost use Rattle.nv_once_script.specs.declared.once.fault.LineFault.TheVariants.{NoMemory};
 ghost use Rattle.nv_replay_script.specs.ReplayEvents.{act_of};
 ghost use Rattle.nv_replay_script.specs.ReplayVocabulary.{act_arguments};
 ghost use Rattle.nv_replay_script.specs.declared.vocabulary.ActKind.TheVariants as kind;
@@ -10,11 +10,11 @@ use crate::numbers::dword;
 use crate::vocabulary::ActKind;
 use nv_mem::BoxedBytes;
 use nv_model::Act;
-use nv_script::FaultKind;
-use nv_script::once::fault::LineFault;
-use nv_script::once::number::{byte, bytes, number, up_to};
-use nv_script::once::word::Word;
-use nv_script::once::words::Words;
+use nv_once_script::FaultKind;
+use nv_once_script::once::fault::LineFault;
+use nv_once_script::once::number::{byte, bytes, number, up_to};
+use nv_once_script::once::word::Word;
+use nv_once_script::once::words::Words;
 use std::alloc::{AllocError, Global};
 
 /// The most bytes that one `fill` line writes.

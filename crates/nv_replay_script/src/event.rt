@@ -1,7 +1,7 @@
 //! The events behind the set-up.
 ghost use Rattle.std.specs.Prelude.{◌≡◌, ◌++◌, ◌∷◌, [], Ok, MatchResult};
-ghost use Rattle.nv_script.specs.OnceFault.{Refuses};
-ghost use Rattle.nv_script.specs.declared.once.fault.LineFault.TheVariants.{NoMemory};
+ghost use Rattle.nv_once_script.specs.OnceFault.{Refuses};
+ghost use Rattle.nv_once_script.specs.declared.once.fault.LineFault.TheVariants.{NoMemory};
 ghost use Rattle.nv_replay_script.specs.ReplayEvents.{counted_event, event_added};
 ghost use Rattle.nv_replay_script.specs.declared.vocabulary.ActKind.TheVariants as act_kind;
 ghost use Rattle.nv_replay_script.specs.declared.vocabulary.EventKind.TheVariants as kind;
@@ -9,9 +9,9 @@ ghost use Rattle.nv_replay_script.specs.declared.vocabulary.EventKind.TheVariant
 use crate::act;
 use crate::numbers::{status, word};
 use crate::vocabulary::{ActKind, EventKind};
-use nv_script::once::fault::LineFault;
-use nv_script::once::number::{byte, number};
-use nv_script::once::words::Words;
+use nv_once_script::once::fault::LineFault;
+use nv_once_script::once::number::{byte, number};
+use nv_once_script::once::words::Words;
 use nv_world_model::Event;
 use std::alloc::Global;
 

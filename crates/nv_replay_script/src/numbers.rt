@@ -3,9 +3,9 @@ ghost use Rattle.std.specs.Prelude.{◌≡◌};
 ghost use Rattle.nv_replay_script.specs.ReplayEvents.{dword_of, status_of, word_of};
 
 use nv_entry::Status;
-use nv_script::FaultKind;
-use nv_script::once::number::{byte, up_to};
-use nv_script::once::word::Word;
+use nv_once_script::FaultKind;
+use nv_once_script::once::number::{byte, up_to};
+use nv_once_script::once::word::Word;
 
 /// The most of a status code type.
 const SCT_MAX: u64 = 7;

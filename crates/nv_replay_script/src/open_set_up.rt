@@ -1,15 +1,15 @@
 //! The set-up of a script while its lines are read.
 ghost use Rattle.std.specs.Prelude.{◌≡◌, length, MatchResult};
-ghost use Rattle.nv_script.specs.OnceFault.{Refuses};
+ghost use Rattle.nv_once_script.specs.OnceFault.{Refuses};
 ghost use Rattle.nv_replay_script.specs.ReplaySetUp.{in_place};
 
 use crate::set_up::{GuestSetUp, known, make_guest, make_region};
 use crate::sizes::OpenSizes;
 use crate::vocabulary::{SetUpKind, Size};
-use nv_script::FaultKind;
-use nv_script::once::fault::LineFault;
-use nv_script::once::word::Word;
-use nv_script::once::words::Words;
+use nv_once_script::FaultKind;
+use nv_once_script::once::fault::LineFault;
+use nv_once_script::once::word::Word;
+use nv_once_script::once::words::Words;
 use std::alloc::Global;
 
 /// How many words stand behind `guest`.

@@ -1,15 +1,15 @@
 //! A script while its lines are read.
 ghost use Rattle.std.specs.Prelude.{◌≡◌, MatchResult};
-ghost use Rattle.nv_script.specs.OnceFault.{Refuses};
-ghost use Rattle.nv_script.specs.OnceWords.{words_of};
+ghost use Rattle.nv_once_script.specs.OnceFault.{Refuses};
+ghost use Rattle.nv_once_script.specs.OnceWords.{words_of};
 
 use crate::event::push_event;
 use crate::open_set_up::OpenSetUp;
 use crate::script::Script;
 use crate::vocabulary::{AWAIT_ARGUMENTS, EventKind, Keyword, leading, look_up};
-use nv_script::once::fault::LineFault;
-use nv_script::once::words::Words;
-use nv_script::{FaultKind, ScriptFault};
+use nv_once_script::once::fault::LineFault;
+use nv_once_script::once::words::Words;
+use nv_once_script::{FaultKind, ScriptFault};
 use nv_world_model::Event;
 use std::alloc::Global;
 

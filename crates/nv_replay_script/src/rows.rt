@@ -4,8 +4,8 @@ ghost use Rattle.std.specs.Prelude.{◌≡◌, [], ◌∷◌, codes, true, Ok, E
 ghost use Rattle.nv_entry.specs.Status.{status};
 ghost use Rattle.nv_model.specs.declared.act.Act.TheVariants as act;
 ghost use Rattle.nv_world_model.specs.declared.event.Event.TheVariants as event;
-ghost use Rattle.nv_script.specs.declared.once.fault.FaultKind.TheVariants.{BadBytes, BadNumber, MissingWord, OutOfPlace, UnknownWord};
-ghost use Rattle.nv_script.specs.declared.once.fault.ScriptFault.TheVariants.{Line};
+ghost use Rattle.nv_once_script.specs.declared.once.fault.FaultKind.TheVariants.{BadBytes, BadNumber, MissingWord, OutOfPlace, UnknownWord};
+ghost use Rattle.nv_once_script.specs.declared.once.fault.ScriptFault.TheVariants.{Line};
 ghost use Rattle.nv_replay_script.specs.ReplayRows.{behind_set_up, behind_sizes, of_events, sized};
 ghost use Rattle.nv_replay_script.specs.ReplayScript.{script_of};
 

@@ -5,8 +5,8 @@ ghost use Rattle.nv_replay_script.specs.ReplayScript.{script_of, script_value};
 use crate::reading::Reading;
 use crate::set_up::GuestSetUp;
 use crate::sizes::Sizes;
-use nv_script::ScriptFault;
-use nv_script::once::lines::Lines;
+use nv_once_script::ScriptFault;
+use nv_once_script::once::lines::Lines;
 use nv_world_model::Event;
 use std::alloc::Global;
 

@@ -3,10 +3,10 @@ ghost use Rattle.std.specs.Prelude.{◌≡◌, length, MatchResult};
 ghost use Rattle.nv_replay_script.specs.ReplaySetUp.{fixed_word, guest_of, guest_value, heap_bytes, known_guest, next_guest, region_of};
 
 use nv_mem::Region;
-use nv_script::FaultKind;
-use nv_script::once::number::{byte, number};
-use nv_script::once::word::Word;
-use nv_script::once::words::Words;
+use nv_once_script::FaultKind;
+use nv_once_script::once::number::{byte, number};
+use nv_once_script::once::word::Word;
+use nv_once_script::once::words::Words;
 use std::alloc::Global;
 
 /// A guest of a set-up, as its lines write it.

@@ -2,9 +2,9 @@
 ghost use Rattle.std.specs.Prelude.{◌≡◌};
 
 use crate::vocabulary::Size;
-use nv_script::FaultKind;
-use nv_script::once::number::number;
-use nv_script::once::word::Word;
+use nv_once_script::FaultKind;
+use nv_once_script::once::number::number;
+use nv_once_script::once::word::Word;
 
 /// The sizes of a set-up, as its lines name them.
 #[derive(Clone, Copy, Debug, PartialEq, Eq)]

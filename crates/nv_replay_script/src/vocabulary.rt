@@ -1,10 +1,10 @@
 //! The words that a line may begin with.
 ghost use Rattle.std.specs.Prelude.{◌≡◌, ◌∷◌, ℕ, List, IfSome, Some};
-ghost use Rattle.nv_script.specs.OnceWords.{words_of};
+ghost use Rattle.nv_once_script.specs.OnceWords.{words_of};
 ghost use Rattle.nv_replay_script.specs.ReplayVocabulary.{keyword_of};
 
-use nv_script::once::vocabulary::keyword_in;
-use nv_script::once::word::Word;
+use nv_once_script::once::vocabulary::keyword_in;
+use nv_once_script::once::word::Word;
 
 /// A size of the set-up.
 #[derive(Clone, Copy, Debug, PartialEq, Eq)]

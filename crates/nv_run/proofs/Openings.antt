@@ -15,9 +15,9 @@ use Rattle.nv_run.specs.Parts.{AreParted}
 use Rattle.nv_run.specs.Played.{ArePartsOf}
 use Rattle.nv_run.specs.declared.opening.Run.{Run}
 use Rattle.nv_run_script.specs.RunScript.{ScriptValue, script_of}
-use Rattle.nv_script.specs.OnceFault.{◌>>=◌}
-use Rattle.nv_script.specs.declared.once.fault.ScriptFault.{ScriptFault}
-use Rattle.nv_script.specs.declared.once.fault.ScriptFault.TheVariants as script
+use Rattle.nv_once_script.specs.OnceFault.{◌>>=◌}
+use Rattle.nv_once_script.specs.declared.once.fault.ScriptFault.{ScriptFault}
+use Rattle.nv_once_script.specs.declared.once.fault.ScriptFault.TheVariants as script
 use Rattle.nv_world.specs.Mediated.{mediated}
 use Rattle.nv_world_model.specs.Geometry.{Guest}
 use Rattle.nv_world_model.specs.SetUp.{Refusal, SetUp, refusal_of}

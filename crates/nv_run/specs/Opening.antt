@@ -5,7 +5,7 @@ use Rattle.nv_replay.specs.Opening.{set_up_of}
 use Rattle.nv_replay.specs.Refused.{of_script}
 use Rattle.nv_replay.specs.declared.fault.ReplayFault.{ReplayFault}
 use Rattle.nv_run_script.specs.RunScript.{script_of}
-use Rattle.nv_script.specs.OnceFault.{◌>>=◌}
+use Rattle.nv_once_script.specs.OnceFault.{◌>>=◌}
 use Rattle.nv_world_model.specs.SetUp.{SetUp}
 
 -- the set-up of the world that a text opens

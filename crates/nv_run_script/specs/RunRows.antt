@@ -1,6 +1,6 @@
 -- Worked examples: lines behind a set-up of two guests
 use Rattle.std.specs.Prelude.{ℕ, List, [], ◌∷◌, ◌++◌, Result}
-use Rattle.nv_script.specs.declared.once.fault.ScriptFault.{ScriptFault}
+use Rattle.nv_once_script.specs.declared.once.fault.ScriptFault.{ScriptFault}
 use Rattle.nv_replay_script.specs.ReplayRows.{guest_at, guest_lines, size_lines, text_of}
 use Rattle.nv_run_script.specs.declared.line.Line.{Line}
 use Rattle.nv_run_script.specs.RunScript.{ScriptValue, script_of}

@@ -1,9 +1,9 @@
 -- The lines of guests (profile): the guest's number is read first, and that it is there is seen before the words behind it are read
 use Rattle.std.specs.Prelude.{ℕ, List, ◌∷◌, Result, Ok, Err}
-use Rattle.nv_script.specs.declared.once.fault.FaultKind.{FaultKind}
-use Rattle.nv_script.specs.declared.once.fault.FaultKind.TheVariants.{OutOfPlace}
-use Rattle.nv_script.specs.OnceFault.{◌>>=◌}
-use Rattle.nv_script.specs.OnceNumber.{number_of}
+use Rattle.nv_once_script.specs.declared.once.fault.FaultKind.{FaultKind}
+use Rattle.nv_once_script.specs.declared.once.fault.FaultKind.TheVariants.{OutOfPlace}
+use Rattle.nv_once_script.specs.OnceFault.{◌>>=◌}
+use Rattle.nv_once_script.specs.OnceNumber.{number_of}
 use Rattle.nv_replay_script.specs.declared.vocabulary.ActKind.{ActKind}
 use Rattle.nv_replay_script.specs.ReplayEvents.{act_of, dword_of}
 use Rattle.nv_replay_script.specs.ReplaySetUp.{known_guest}

@@ -2,18 +2,18 @@
 ghost use Rattle.std.specs.Prelude.{◌≡◌, ◌+◌, length, MatchResult};
 ghost use Rattle.nv_replay_script.specs.ReplayVocabulary.{act_arguments};
 ghost use Rattle.nv_run_script.specs.RunTasks.{act_line, await_line, await_register_line};
-ghost use Rattle.nv_script.specs.OnceFault.{Refuses};
+ghost use Rattle.nv_once_script.specs.OnceFault.{Refuses};
 
 use nv_model::Act;
+use nv_once_script::FaultKind;
+use nv_once_script::once::fault::LineFault;
+use nv_once_script::once::number::number;
+use nv_once_script::once::word::Word;
+use nv_once_script::once::words::Words;
 use nv_replay_script::act::make_act;
 use nv_replay_script::numbers::dword;
 use nv_replay_script::set_up::known;
 use nv_replay_script::vocabulary::ActKind;
-use nv_script::FaultKind;
-use nv_script::once::fault::LineFault;
-use nv_script::once::number::number;
-use nv_script::once::word::Word;
-use nv_script::once::words::Words;
 use std::alloc::Global;
 
 /// What a guest's thread does for one line.

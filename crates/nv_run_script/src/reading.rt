@@ -1,15 +1,15 @@
 //! A script while its lines are read.
 ghost use Rattle.std.specs.Prelude.{◌≡◌, MatchResult};
-ghost use Rattle.nv_script.specs.OnceFault.{Refuses};
-ghost use Rattle.nv_script.specs.OnceWords.{words_of};
+ghost use Rattle.nv_once_script.specs.OnceFault.{Refuses};
+ghost use Rattle.nv_once_script.specs.OnceWords.{words_of};
 
 use crate::line::{Line, make_act_line, make_await_line, make_await_register_line};
 use crate::script::Script;
+use nv_once_script::once::fault::LineFault;
+use nv_once_script::once::words::Words;
+use nv_once_script::{FaultKind, ScriptFault};
 use nv_replay_script::open_set_up::OpenSetUp;
 use nv_replay_script::vocabulary::{ActKind, EventKind, Keyword, look_up};
-use nv_script::once::fault::LineFault;
-use nv_script::once::words::Words;
-use nv_script::{FaultKind, ScriptFault};
 use std::alloc::Global;
 
 /// What the lines so far have said.

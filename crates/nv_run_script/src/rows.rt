@@ -3,8 +3,8 @@
 ghost use Rattle.std.specs.Prelude.{◌≡◌, [], ◌∷◌, codes, Ok, Err};
 ghost use Rattle.nv_model.specs.declared.act.Act.TheVariants as act;
 ghost use Rattle.nv_run_script.specs.declared.line.Task.TheVariants as task;
-ghost use Rattle.nv_script.specs.declared.once.fault.FaultKind.TheVariants.{BadBytes, BadNumber, MissingWord, OutOfPlace, TooManyWords, UnknownWord};
-ghost use Rattle.nv_script.specs.declared.once.fault.ScriptFault.TheVariants.{Line};
+ghost use Rattle.nv_once_script.specs.declared.once.fault.FaultKind.TheVariants.{BadBytes, BadNumber, MissingWord, OutOfPlace, TooManyWords, UnknownWord};
+ghost use Rattle.nv_once_script.specs.declared.once.fault.ScriptFault.TheVariants.{Line};
 ghost use Rattle.nv_run_script.specs.RunRows.{behind_set_up, of_lines};
 ghost use Rattle.nv_run_script.specs.RunScript.{script_of};
 

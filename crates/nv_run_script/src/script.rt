@@ -4,9 +4,9 @@ ghost use Rattle.nv_run_script.specs.RunScript.{script_of, script_value};
 
 use crate::line::Line;
 use crate::reading::Reading;
+use nv_once_script::ScriptFault;
+use nv_once_script::once::lines::Lines;
 use nv_replay_script::{GuestSetUp, Sizes};
-use nv_script::ScriptFault;
-use nv_script::once::lines::Lines;
 use std::alloc::Global;
 
 /// A whole script of `run`.

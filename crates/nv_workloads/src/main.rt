@@ -25,7 +25,7 @@ mod transfer;
 mod workload;
 
 use crate::workload::{Failed, Workload};
-use nv_once::words;
+use nv_commands::words;
 use std::alloc::Global;
 use std::io;
 use std::io::Write;

@@ -2,7 +2,7 @@
 
 use clap::error::ErrorKind;
 use clap::{Arg, ArgMatches};
-use nv_once::{Command, EntryKind, Grammar, Refusal, Request};
+use nv_commands::{Command, EntryKind, Grammar, Refusal, Request};
 use std::alloc::{AllocError, Global};
 use std::convert::AsStr;
 

@@ -7,7 +7,7 @@
 //! exit status tells its kind.
 //!
 //! Here stand the grammar of the command line, which is tested and not proved, and `main`, which hands the process to the crate
-//! `nv_once`: what a command prints, how it ends and with which exit status is proved there.
+//! `nv_commands`: what a command prints, how it ends and with which exit status is proved there.
 #![tactic(auto)]
 
 mod command_line;
@@ -15,8 +15,8 @@ mod command_line;
 mod tests;
 
 use crate::command_line::CommandLine;
+use nv_commands::program;
 use nv_flat::FlatController;
-use nv_once::program;
 use std::io::{Stderr, Stdin, Stdout};
 use std::process::ExitCode;
 

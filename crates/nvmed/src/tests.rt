@@ -1,7 +1,7 @@
 //! Which words are which command.
 
 use crate::command_line::CommandLine;
-use nv_once::{Command, EntryKind, Refusal, Request, request_of};
+use nv_commands::{Command, EntryKind, Refusal, Request, request_of};
 use std::process::Abort;
 
 /// A Read of one block at 5 into 512 bytes at 3000h, identifier 7.

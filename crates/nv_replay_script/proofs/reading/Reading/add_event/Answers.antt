@@ -1,5 +1,5 @@
 use Rattle.std.proofs.Common.{ℕ, length, sym, ap, ◌∙◌}
-use Rattle.nv_script.specs.OnceVocabulary.{count_check}
+use Rattle.nv_once_script.specs.OnceVocabulary.{count_check}
 use Rattle.nv_replay_script.specs.ReplayScript.{progress}
 use Rattle.nv_replay_script.proofs.ReplayScriptLemmas.{add_event-by, add_event-misplaced}
 use Rattle.nv_replay_script.proofs.reading.Reading.add_event.Goals as goal

@@ -1,7 +1,7 @@
 use Rattle.std.proofs.Common.{Option, ap}
 use Rattle.std.specs.Option.{ok_or}
-use Rattle.nv_script.specs.declared.once.fault.FaultKind.TheVariants.{UnknownWord}
-use Rattle.nv_script.specs.OnceWords.{words_of}
+use Rattle.nv_once_script.specs.declared.once.fault.FaultKind.TheVariants.{UnknownWord}
+use Rattle.nv_once_script.specs.OnceWords.{words_of}
 use Rattle.nv_replay_script.specs.declared.vocabulary.Keyword.{Keyword}
 use Rattle.nv_replay_script.specs.ReplayScript.{after_keyword, progress}
 use Rattle.nv_replay_script.proofs.LineLemmas.{after_words-known}

@@ -1,10 +1,10 @@
 use Rattle.std.proofs.Common.{Option, sym, ap, ◌∙◌}
 use Rattle.std.specs.Option.{ok_or}
 use Rattle.std.proofs.lemmas.Result.{err_from_is_err_and}
-use Rattle.nv_script.specs.declared.once.fault.FaultKind.TheVariants.{UnknownWord}
+use Rattle.nv_once_script.specs.declared.once.fault.FaultKind.TheVariants.{UnknownWord}
 use Rattle.nv_replay_script.specs.declared.vocabulary.Keyword.{Keyword}
 use Rattle.nv_replay_script.specs.ReplayScript.{after_keyword, progress}
-use Rattle.nv_script.specs.OnceWords.{words_of}
+use Rattle.nv_once_script.specs.OnceWords.{words_of}
 use Rattle.nv_replay_script.proofs.LineLemmas.{after_words-none, after_words-unknown, after_words-known}
 use Rattle.nv_replay_script.proofs.reading.Reading.read_any.Goals as goal
 

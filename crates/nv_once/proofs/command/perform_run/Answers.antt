@@ -1,6 +1,0 @@
-use Rattle.nv_once.proofs.RunLemmas.{text-printed-ended}
-use Rattle.nv_once.proofs.command.perform_run.Goals as goal
-
-pub returns-clause-ok : goal.returns-clause-ok
-returns-clause-ok g c =
-    text-printed-ended _ c.in-Ok.played _ (λ w. g.W.Write.contents w) _ c.in-Ok.ensures.ok c.finish.ensures.ok

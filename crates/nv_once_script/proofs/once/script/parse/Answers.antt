@@ -1,0 +1,46 @@
+use Rattle.std.proofs.Common.{◌+◌, ap, length, ◌∙◌, sym, arith}
+use Rattle.nv_once_script.specs.OnceScript.{after_lines, progress}
+use Rattle.nv_once_script.proofs.OnceRangeLemmas.{IsInRange-parsed}
+use Rattle.nv_once_script.proofs.OnceScriptLemmas.{after_lines-read, script_of-refused, script_of-finished}
+use Rattle.nv_once_script.proofs.once.script.parse.Goals as goal
+
+pub overflow_add-number : goal.overflow_add-number
+overflow_add-number c =
+    let left = ap length c.in-Some.ensures.steps in
+    let count = c.loop-line.invariant.count in
+    let all = ap length c.of-lines.ensures.lines in
+    let few = c.of-lines.ensures.few in
+    omega arith
+
+pub returns-in-Err-clause-value : goal.returns-in-Err-clause-value
+returns-in-Err-clause-value c =
+    rw c.on.ensures
+    (script_of-refused (c.loop-line.number + 1) (progress c.loop-line.reading) c.args.text.now c.in-Some.line.now c.next.new.self c.in-Err.fault
+    (ap (after_lines (c.loop-line.number + 1) (progress c.loop-line.reading)) (sym c.in-Some.ensures.steps) ∙ c.loop-line.invariant.kept) c.in-Err.ensures)
+
+pub loop-line-preserved : goal.loop-line-preserved
+loop-line-preserved c =
+    let left = ap length c.in-Some.ensures.steps in
+    let count = c.loop-line.invariant.count in
+    record {
+      count = omega arith;
+      kept = sym (ap (after_lines (c.loop-line.number + 1) (progress c.loop-line.reading)) c.in-Some.ensures.steps
+          ∙ after_lines-read (c.loop-line.number + 1) (progress c.loop-line.reading) (progress c.read.new.self) c.in-Some.line.now c.next.new.self c.in_default-read.ensures)
+          ∙ c.loop-line.invariant.kept;
+    }
+
+pub returns-clause-value : goal.returns-clause-value
+returns-clause-value c =
+    let none = c.in_default.ensures.steps.0 in
+    let left = ap length none in
+    let count = c.loop-line.invariant.count in
+    script_of-finished c.loop-line.number (progress c.loop-line.reading) c.args.text.now c.finish.result (omega arith)
+    (ap (after_lines (c.loop-line.number + 1) (progress c.loop-line.reading)) (sym none) ∙ c.loop-line.invariant.kept) c.finish.ensures
+
+pub returns-clause-in_range : goal.returns-clause-in_range
+returns-clause-in_range c =
+    let none = c.in_default.ensures.steps.0 in
+    let left = ap length none in
+    let count = c.loop-line.invariant.count in
+    IsInRange-parsed c.args.text.now c.finish.result (script_of-finished c.loop-line.number (progress c.loop-line.reading) c.args.text.now c.finish.result (omega arith)
+    (ap (after_lines (c.loop-line.number + 1) (progress c.loop-line.reading)) (sym none) ∙ c.loop-line.invariant.kept) c.finish.ensures)

@@ -1,0 +1,14 @@
+use Rattle.std.proofs.Common.{◌≡◌, ◌+◌, length}
+use Rattle.nv_once_script.specs.OnceScript.{after_lines, nothing, progress}
+use Rattle.nv_once_script.specs.OnceWords.{lines_of}
+use Rattle.nv_once_script.proofs.once.script.parse.Given as goal
+
+-- the lines that were read and those that are left make the script
+abbrev pub invariant-loop-line : goal.invariant-loop-line
+invariant-loop-line l = record {
+  count : l.number + length l.lines ≡ length (lines_of l.text);
+  kept : after_lines (l.number + 1) (progress l.reading) l.lines ≡ after_lines 1 nothing (lines_of l.text);
+}
+
+abbrev pub decreases-loop-line : goal.decreases-loop-line
+decreases-loop-line l = length l.lines

@@ -1,7 +1,0 @@
-use Rattle.std.proofs.Common.{◌∙◌, refl}
-use Rattle.nv_script.specs.OnceVocabulary.{keyword_of, vocabulary}
-use Rattle.nv_script.proofs.once.vocabulary.look_up.Goals as goal
-
-pub returns : goal.returns
-unfolding keyword_of vocabulary
-returns c = c.keyword_in.ensures ∙ rw c.text.ensures refl
