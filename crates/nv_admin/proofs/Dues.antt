@@ -1,5 +1,6 @@
 -- Where the admin queue has something to do.
-use Rattle.std.proofs.Common.{◌≡◌, ℕ, ◌+◌, ◌<◌, Bool, true, false, cond, not, ◌||◌, ◌==◌, nat_lt, eq-eqb, inl, inr, List, [], ◌∷◌, ◌++◌, length, set, slice_get, slice_index, Option, Some, None, is_some, is_none, IfSome, IsSome, arith, refl, sym, ap, ◌∙◌, subst}
+use Rattle.std.proofs.Common.{◌≡◌, ℕ, ◌+◌, ◌<◌, Bool, true, false, cond, not, ◌||◌, ◌==◌, nat_lt, eq-eqb, inl, inr, List, [], ◌∷◌, ◌++◌, length, set, slice_get}
+use Rattle.std.proofs.Common.{slice_index, Option, Some, None, is_some, is_none, IfSome, IsSome, arith, refl, sym, ap, ◌∙◌, subst}
 use Rattle.std.specs.List.{list_any}
 use Rattle.std.proofs.lemmas.Bool.{cases_lt}
 use Rattle.nv_admin.proofs.Effects.{queue_of-set_other}

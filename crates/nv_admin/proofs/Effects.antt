@@ -1,5 +1,6 @@
 -- What is known of a command's effect.
-use Rattle.std.proofs.Common.{◌≡◌, ℕ, zero, suc, ◌<◌, Bool, true, false, cond, ◌==◌, eq-eqb, eqb-true, List, [], ◌∷◌, length, set, slice_get, Option, Some, IsSome, Result, Ok, Err, arith, refl, sym, ap, ◌∙◌}
+use Rattle.std.proofs.Common.{◌≡◌, ℕ, zero, suc, ◌<◌, Bool, true, false, cond, ◌==◌, eq-eqb, eqb-true, List, [], ◌∷◌, length, set, slice_get, Option, Some}
+use Rattle.std.proofs.Common.{IsSome, Result, Ok, Err, arith, refl, sym, ap, ◌∙◌}
 use Rattle.std.specs.List.{AllPairs}
 use Rattle.nv_entry.specs.declared.status_code.StatusCode.{StatusCode}
 use Rattle.nv_entry.specs.declared.opcode.AdminOpcode.{AdminOpcode}

@@ -1,5 +1,6 @@
 -- Completions that the physical controller posts, from the device to the world.
-use Rattle.std.proofs.Common.{◌≡◌, ℕ, ◌<◌, Bool, true, false, cond, ◌&&◌, ◌==◌, eq-eqb, eqb-true, nat_lt, List, [], ◌∷◌, get_or, length, set, slice_get, Option, Some, None, is_some, refl, sym, ap, ◌∙◌, subst}
+use Rattle.std.proofs.Common.{◌≡◌, ℕ, ◌<◌, Bool, true, false, cond, ◌&&◌, ◌==◌, eq-eqb, eqb-true, nat_lt, List, [], ◌∷◌, get_or, length, set, slice_get, Option}
+use Rattle.std.proofs.Common.{Some, None, is_some, refl, sym, ap, ◌∙◌, subst}
 use Rattle.std.specs.Prelude.{◌↔◌, IfSome, IsTrue}
 use Rattle.std.proofs.lemmas.Option.{get_or_from_slice_get}
 use Rattle.nv_core.specs.State.{IsOf, IsSameSize, IsStep, State, world_of}

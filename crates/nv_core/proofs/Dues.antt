@@ -25,7 +25,8 @@ use Rattle.nv_world_model.specs.Area.{bounce_page, tag_count}
 use Rattle.nv_world_model.specs.Device.{DeviceLane, Held}
 use Rattle.nv_world_model.specs.Geometry.{Geometry, Guest, regions_of, shape_of}
 use Rattle.nv_world_model.specs.Seat.{Owner, owner_of}
-use Rattle.nv_world_model.specs.Step.{After, administered_by, device_move, device_post, device_take, due, for_device, for_ended, for_lane, for_owner, free_tag, is_done, is_due_kind, is_io_queue, post_at, post_by, reap, replied, step, take_from, take_front}
+use Rattle.nv_world_model.specs.Step.{After, administered_by, device_move, device_post, device_take, due, for_device, for_ended, for_lane, for_owner, free_tag}
+use Rattle.nv_world_model.specs.Step.{is_done, is_due_kind, is_io_queue, post_at, post_by, reap, replied, step, take_from, take_front}
 use Rattle.nv_world_model.specs.World.{Lane, Tag, World, tag_in}
 use Rattle.nv_world_model.specs.declared.event.Event.{Event}
 use Rattle.nv_world_model.specs.declared.event.Event.TheVariants as event

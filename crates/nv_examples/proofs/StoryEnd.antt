@@ -21,7 +21,8 @@ use Rattle.nv_world_model.specs.Plan.{plan_over}
 use Rattle.nv_world_model.specs.Area.{physical_entry, written}
 use Rattle.nv_world_model.specs.Device.{held_of, device_unit, completion_written}
 use Rattle.nv_world_model.specs.Seat.{units_behind, members, seat, put_back}
-use Rattle.nv_world_model.specs.Step.{acted_in, administered_in, taken_to, listed, ended_at_once, submitted, device_took, device_moved, device_posted, kept_block, reaped, scattered_to, posted_to, ran_out_of, step, replay, replies}
+use Rattle.nv_world_model.specs.Step.{acted_in, administered_in, taken_to, listed, ended_at_once, submitted, device_took, device_moved, device_posted}
+use Rattle.nv_world_model.specs.Step.{kept_block, reaped, scattered_to, posted_to, ran_out_of, step, replay, replies}
 use Rattle.nv_world_model.specs.World.{opening_world}
 use Rattle.nv_world_model.specs.SetUp.{refusal_of}
 use Rattle.nv_world_model.specs.Headline.{none_failed}
@@ -41,7 +42,10 @@ use Rattle.nv_examples.specs.Story.{story}
 use Rattle.nv_examples.specs.StoryRun.{story_end, story_private}
 use Rattle.nv_examples.proofs.Changes.{Change, all_spans, laid}
 use Rattle.nv_examples.proofs.Laid.{all-laid-spans, all_laid, all_placed, further, image-laid, own_spans, replay-laid, stored-swap}
-use Rattle.nv_examples.proofs.StoryHosts.{part, behind, changes_1, changes_2, changes_3, changes_4, changes_5, changes_6, changes_7, changes_8, changes_9, changes_10, changes_11, changes_12, host_1, host_2, host_3, host_4, host_5, host_6, host_7, host_8, host_9, host_10, host_11, host_12, world_1, world_2, world_3, world_4, world_5, world_6, world_7, world_8, world_9, world_10, world_11, world_12}
+use Rattle.nv_examples.proofs.StoryHosts.{part, behind, changes_1, changes_2, changes_3, changes_4, changes_5, changes_6, changes_7, changes_8, changes_9}
+use Rattle.nv_examples.proofs.StoryHosts.{changes_10, changes_11, changes_12, host_1, host_2, host_3, host_4, host_5, host_6, host_7, host_8, host_9, host_10}
+use Rattle.nv_examples.proofs.StoryHosts.{host_11, host_12, world_1, world_2, world_3, world_4, world_5, world_6, world_7, world_8, world_9, world_10, world_11}
+use Rattle.nv_examples.proofs.StoryHosts.{world_12}
 
 -- ---- the world
 
@@ -222,7 +226,12 @@ read_first m =
 
 private-memory : story_private.memory
     ≡ laid late (scattered (laid mid (read_first (laid early zeros))) (addresses 0x3401 (length block_bytes)) block_bytes)
-unfolding number_at dword qword bits bytes_of_dwords completion everywhere addresses bytes_from gathered image put_image scattered stored in_memory and_then asked first_read in_transcript read_array read_sgl read_entries read_source ranges_in move_units clear_units range_units judge units_moved opening register reg_write doorbell front took post ran_out differs start private_step run_of footprints completion_slots stores_into loads_from_destination admin_command admin hosts_of fit_behind built plan_over physical_entry written held_of device_unit completion_written units_behind members seat put_back acted_in administered_in taken_to listed ended_at_once submitted device_took device_moved device_posted kept_block reaped scattered_to posted_to ran_out_of step replay replies opening_world refusal_of none_failed is_disciplined taken_entries private_steps seen_by logged laid
+unfolding number_at dword qword bits bytes_of_dwords completion everywhere addresses bytes_from gathered image put_image scattered stored in_memory and_then
+    asked first_read in_transcript read_array read_sgl read_entries read_source ranges_in move_units clear_units range_units judge units_moved opening register
+    reg_write doorbell front took post ran_out differs start private_step run_of footprints completion_slots stores_into loads_from_destination admin_command
+    admin hosts_of fit_behind built plan_over physical_entry written held_of device_unit completion_written units_behind members seat put_back acted_in
+    administered_in taken_to listed ended_at_once submitted device_took device_moved device_posted kept_block reaped scattered_to posted_to ran_out_of step
+    replay replies opening_world refusal_of none_failed is_disciplined taken_entries private_steps seen_by logged laid
 private-memory = refl
 
 -- the same runs, the bounced Read's in the place that they have in the world

@@ -31,7 +31,8 @@ use Rattle.nv_world_model.specs.Plan.{plan_over}
 use Rattle.nv_world_model.specs.Area.{physical_entry, written}
 use Rattle.nv_world_model.specs.Device.{held_of, device_unit, completion_written}
 use Rattle.nv_world_model.specs.Seat.{units_behind, members, seat, put_back}
-use Rattle.nv_world_model.specs.Step.{acted_in, administered_in, taken_to, listed, ended_at_once, submitted, device_took, device_moved, device_posted, kept_block, reaped, scattered_to, posted_to, ran_out_of, step, replay, replies}
+use Rattle.nv_world_model.specs.Step.{acted_in, administered_in, taken_to, listed, ended_at_once, submitted, device_took, device_moved, device_posted}
+use Rattle.nv_world_model.specs.Step.{kept_block, reaped, scattered_to, posted_to, ran_out_of, step, replay, replies}
 use Rattle.nv_world_model.specs.World.{opening_world}
 use Rattle.nv_world_model.specs.SetUp.{refusal_of}
 use Rattle.nv_world_model.specs.Headline.{none_failed}
@@ -74,7 +75,12 @@ unfoldable pub world_1 : World
 world_1 = behind (part 0 6) changes_1 opened
 
 pub host_1 : (replay set_up.geometry (part 0 6) opened).host ≡ all_changed changes_1 (opened).host
-unfolding number_at dword qword bits bytes_of_dwords completion everywhere addresses bytes_from gathered image put_image scattered stored in_memory and_then asked first_read in_transcript read_array read_sgl read_entries read_source ranges_in move_units clear_units range_units judge units_moved opening register reg_write doorbell front took post ran_out differs start private_step run_of footprints completion_slots stores_into loads_from_destination admin_command admin hosts_of fit_behind built plan_over physical_entry written held_of device_unit completion_written units_behind members seat put_back acted_in administered_in taken_to listed ended_at_once submitted device_took device_moved device_posted kept_block reaped scattered_to posted_to ran_out_of step replay replies opening_world refusal_of none_failed is_disciplined taken_entries private_steps seen_by logged all_changed changed laid behind
+unfolding number_at dword qword bits bytes_of_dwords completion everywhere addresses bytes_from gathered image put_image scattered stored in_memory and_then
+    asked first_read in_transcript read_array read_sgl read_entries read_source ranges_in move_units clear_units range_units judge units_moved opening register
+    reg_write doorbell front took post ran_out differs start private_step run_of footprints completion_slots stores_into loads_from_destination admin_command
+    admin hosts_of fit_behind built plan_over physical_entry written held_of device_unit completion_written units_behind members seat put_back acted_in
+    administered_in taken_to listed ended_at_once submitted device_took device_moved device_posted kept_block reaped scattered_to posted_to ran_out_of step
+    replay replies opening_world refusal_of none_failed is_disciplined taken_entries private_steps seen_by logged all_changed changed laid behind
 host_1 = refl
 
 -- ---- piece 2
@@ -91,7 +97,12 @@ unfoldable pub world_2 : World
 world_2 = behind (part 6 6) changes_2 world_1
 
 pub host_2 : (replay set_up.geometry (part 6 6) world_1).host ≡ all_changed changes_2 world_1.host
-unfolding number_at dword qword bits bytes_of_dwords completion everywhere addresses bytes_from gathered image put_image scattered stored in_memory and_then asked first_read in_transcript read_array read_sgl read_entries read_source ranges_in move_units clear_units range_units judge units_moved opening register reg_write doorbell front took post ran_out differs start private_step run_of footprints completion_slots stores_into loads_from_destination admin_command admin hosts_of fit_behind built plan_over physical_entry written held_of device_unit completion_written units_behind members seat put_back acted_in administered_in taken_to listed ended_at_once submitted device_took device_moved device_posted kept_block reaped scattered_to posted_to ran_out_of step replay replies opening_world refusal_of none_failed is_disciplined taken_entries private_steps seen_by logged all_changed changed laid behind world_1
+unfolding number_at dword qword bits bytes_of_dwords completion everywhere addresses bytes_from gathered image put_image scattered stored in_memory and_then
+    asked first_read in_transcript read_array read_sgl read_entries read_source ranges_in move_units clear_units range_units judge units_moved opening register
+    reg_write doorbell front took post ran_out differs start private_step run_of footprints completion_slots stores_into loads_from_destination admin_command
+    admin hosts_of fit_behind built plan_over physical_entry written held_of device_unit completion_written units_behind members seat put_back acted_in
+    administered_in taken_to listed ended_at_once submitted device_took device_moved device_posted kept_block reaped scattered_to posted_to ran_out_of step
+    replay replies opening_world refusal_of none_failed is_disciplined taken_entries private_steps seen_by logged all_changed changed laid behind world_1
 host_2 = refl
 
 -- ---- piece 3
@@ -108,7 +119,13 @@ unfoldable pub world_3 : World
 world_3 = behind (part 12 9) changes_3 world_2
 
 pub host_3 : (replay set_up.geometry (part 12 9) world_2).host ≡ all_changed changes_3 world_2.host
-unfolding number_at dword qword bits bytes_of_dwords completion everywhere addresses bytes_from gathered image put_image scattered stored in_memory and_then asked first_read in_transcript read_array read_sgl read_entries read_source ranges_in move_units clear_units range_units judge units_moved opening register reg_write doorbell front took post ran_out differs start private_step run_of footprints completion_slots stores_into loads_from_destination admin_command admin hosts_of fit_behind built plan_over physical_entry written held_of device_unit completion_written units_behind members seat put_back acted_in administered_in taken_to listed ended_at_once submitted device_took device_moved device_posted kept_block reaped scattered_to posted_to ran_out_of step replay replies opening_world refusal_of none_failed is_disciplined taken_entries private_steps seen_by logged all_changed changed laid behind world_1 world_2
+unfolding number_at dword qword bits bytes_of_dwords completion everywhere addresses bytes_from gathered image put_image scattered stored in_memory and_then
+    asked first_read in_transcript read_array read_sgl read_entries read_source ranges_in move_units clear_units range_units judge units_moved opening register
+    reg_write doorbell front took post ran_out differs start private_step run_of footprints completion_slots stores_into loads_from_destination admin_command
+    admin hosts_of fit_behind built plan_over physical_entry written held_of device_unit completion_written units_behind members seat put_back acted_in
+    administered_in taken_to listed ended_at_once submitted device_took device_moved device_posted kept_block reaped scattered_to posted_to ran_out_of step
+    replay replies opening_world refusal_of none_failed is_disciplined taken_entries private_steps seen_by logged all_changed changed laid behind world_1
+    world_2
 host_3 = refl
 
 -- ---- piece 4
@@ -125,7 +142,13 @@ unfoldable pub world_4 : World
 world_4 = behind (part 21 5) changes_4 world_3
 
 pub host_4 : (replay set_up.geometry (part 21 5) world_3).host ≡ all_changed changes_4 world_3.host
-unfolding number_at dword qword bits bytes_of_dwords completion everywhere addresses bytes_from gathered image put_image scattered stored in_memory and_then asked first_read in_transcript read_array read_sgl read_entries read_source ranges_in move_units clear_units range_units judge units_moved opening register reg_write doorbell front took post ran_out differs start private_step run_of footprints completion_slots stores_into loads_from_destination admin_command admin hosts_of fit_behind built plan_over physical_entry written held_of device_unit completion_written units_behind members seat put_back acted_in administered_in taken_to listed ended_at_once submitted device_took device_moved device_posted kept_block reaped scattered_to posted_to ran_out_of step replay replies opening_world refusal_of none_failed is_disciplined taken_entries private_steps seen_by logged all_changed changed laid behind world_1 world_2 world_3
+unfolding number_at dword qword bits bytes_of_dwords completion everywhere addresses bytes_from gathered image put_image scattered stored in_memory and_then
+    asked first_read in_transcript read_array read_sgl read_entries read_source ranges_in move_units clear_units range_units judge units_moved opening register
+    reg_write doorbell front took post ran_out differs start private_step run_of footprints completion_slots stores_into loads_from_destination admin_command
+    admin hosts_of fit_behind built plan_over physical_entry written held_of device_unit completion_written units_behind members seat put_back acted_in
+    administered_in taken_to listed ended_at_once submitted device_took device_moved device_posted kept_block reaped scattered_to posted_to ran_out_of step
+    replay replies opening_world refusal_of none_failed is_disciplined taken_entries private_steps seen_by logged all_changed changed laid behind world_1
+    world_2 world_3
 host_4 = refl
 
 -- ---- piece 5
@@ -145,7 +168,13 @@ unfoldable pub world_5 : World
 world_5 = behind (part 26 9) changes_5 world_4
 
 pub host_5 : (replay set_up.geometry (part 26 9) world_4).host ≡ all_changed changes_5 world_4.host
-unfolding number_at dword qword bits bytes_of_dwords completion everywhere addresses bytes_from gathered image put_image scattered stored in_memory and_then asked first_read in_transcript read_array read_sgl read_entries read_source ranges_in move_units clear_units range_units judge units_moved opening register reg_write doorbell front took post ran_out differs start private_step run_of footprints completion_slots stores_into loads_from_destination admin_command admin hosts_of fit_behind built plan_over physical_entry written held_of device_unit completion_written units_behind members seat put_back acted_in administered_in taken_to listed ended_at_once submitted device_took device_moved device_posted kept_block reaped scattered_to posted_to ran_out_of step replay replies opening_world refusal_of none_failed is_disciplined taken_entries private_steps seen_by logged all_changed changed laid behind world_1 world_2 world_3 world_4
+unfolding number_at dword qword bits bytes_of_dwords completion everywhere addresses bytes_from gathered image put_image scattered stored in_memory and_then
+    asked first_read in_transcript read_array read_sgl read_entries read_source ranges_in move_units clear_units range_units judge units_moved opening register
+    reg_write doorbell front took post ran_out differs start private_step run_of footprints completion_slots stores_into loads_from_destination admin_command
+    admin hosts_of fit_behind built plan_over physical_entry written held_of device_unit completion_written units_behind members seat put_back acted_in
+    administered_in taken_to listed ended_at_once submitted device_took device_moved device_posted kept_block reaped scattered_to posted_to ran_out_of step
+    replay replies opening_world refusal_of none_failed is_disciplined taken_entries private_steps seen_by logged all_changed changed laid behind world_1
+    world_2 world_3 world_4
 host_5 = refl
 
 -- ---- piece 6
@@ -163,7 +192,13 @@ unfoldable pub world_6 : World
 world_6 = behind (part 35 12) changes_6 world_5
 
 pub host_6 : (replay set_up.geometry (part 35 12) world_5).host ≡ all_changed changes_6 world_5.host
-unfolding number_at dword qword bits bytes_of_dwords completion everywhere addresses bytes_from gathered image put_image scattered stored in_memory and_then asked first_read in_transcript read_array read_sgl read_entries read_source ranges_in move_units clear_units range_units judge units_moved opening register reg_write doorbell front took post ran_out differs start private_step run_of footprints completion_slots stores_into loads_from_destination admin_command admin hosts_of fit_behind built plan_over physical_entry written held_of device_unit completion_written units_behind members seat put_back acted_in administered_in taken_to listed ended_at_once submitted device_took device_moved device_posted kept_block reaped scattered_to posted_to ran_out_of step replay replies opening_world refusal_of none_failed is_disciplined taken_entries private_steps seen_by logged all_changed changed laid behind world_1 world_2 world_3 world_4 world_5
+unfolding number_at dword qword bits bytes_of_dwords completion everywhere addresses bytes_from gathered image put_image scattered stored in_memory and_then
+    asked first_read in_transcript read_array read_sgl read_entries read_source ranges_in move_units clear_units range_units judge units_moved opening register
+    reg_write doorbell front took post ran_out differs start private_step run_of footprints completion_slots stores_into loads_from_destination admin_command
+    admin hosts_of fit_behind built plan_over physical_entry written held_of device_unit completion_written units_behind members seat put_back acted_in
+    administered_in taken_to listed ended_at_once submitted device_took device_moved device_posted kept_block reaped scattered_to posted_to ran_out_of step
+    replay replies opening_world refusal_of none_failed is_disciplined taken_entries private_steps seen_by logged all_changed changed laid behind world_1
+    world_2 world_3 world_4 world_5
 host_6 = refl
 
 -- ---- piece 7
@@ -189,7 +224,13 @@ unfoldable pub world_7 : World
 world_7 = behind (part 47 20) changes_7 world_6
 
 pub host_7 : (replay set_up.geometry (part 47 20) world_6).host ≡ all_changed changes_7 world_6.host
-unfolding number_at dword qword bits bytes_of_dwords completion everywhere addresses bytes_from gathered image put_image scattered stored in_memory and_then asked first_read in_transcript read_array read_sgl read_entries read_source ranges_in move_units clear_units range_units judge units_moved opening register reg_write doorbell front took post ran_out differs start private_step run_of footprints completion_slots stores_into loads_from_destination admin_command admin hosts_of fit_behind built plan_over physical_entry written held_of device_unit completion_written units_behind members seat put_back acted_in administered_in taken_to listed ended_at_once submitted device_took device_moved device_posted kept_block reaped scattered_to posted_to ran_out_of step replay replies opening_world refusal_of none_failed is_disciplined taken_entries private_steps seen_by logged all_changed changed laid behind world_1 world_2 world_3 world_4 world_5 world_6
+unfolding number_at dword qword bits bytes_of_dwords completion everywhere addresses bytes_from gathered image put_image scattered stored in_memory and_then
+    asked first_read in_transcript read_array read_sgl read_entries read_source ranges_in move_units clear_units range_units judge units_moved opening register
+    reg_write doorbell front took post ran_out differs start private_step run_of footprints completion_slots stores_into loads_from_destination admin_command
+    admin hosts_of fit_behind built plan_over physical_entry written held_of device_unit completion_written units_behind members seat put_back acted_in
+    administered_in taken_to listed ended_at_once submitted device_took device_moved device_posted kept_block reaped scattered_to posted_to ran_out_of step
+    replay replies opening_world refusal_of none_failed is_disciplined taken_entries private_steps seen_by logged all_changed changed laid behind world_1
+    world_2 world_3 world_4 world_5 world_6
 host_7 = refl
 
 -- ---- piece 8
@@ -209,7 +250,13 @@ unfoldable pub world_8 : World
 world_8 = behind (part 67 9) changes_8 world_7
 
 pub host_8 : (replay set_up.geometry (part 67 9) world_7).host ≡ all_changed changes_8 world_7.host
-unfolding number_at dword qword bits bytes_of_dwords completion everywhere addresses bytes_from gathered image put_image scattered stored in_memory and_then asked first_read in_transcript read_array read_sgl read_entries read_source ranges_in move_units clear_units range_units judge units_moved opening register reg_write doorbell front took post ran_out differs start private_step run_of footprints completion_slots stores_into loads_from_destination admin_command admin hosts_of fit_behind built plan_over physical_entry written held_of device_unit completion_written units_behind members seat put_back acted_in administered_in taken_to listed ended_at_once submitted device_took device_moved device_posted kept_block reaped scattered_to posted_to ran_out_of step replay replies opening_world refusal_of none_failed is_disciplined taken_entries private_steps seen_by logged all_changed changed laid behind world_1 world_2 world_3 world_4 world_5 world_6 world_7
+unfolding number_at dword qword bits bytes_of_dwords completion everywhere addresses bytes_from gathered image put_image scattered stored in_memory and_then
+    asked first_read in_transcript read_array read_sgl read_entries read_source ranges_in move_units clear_units range_units judge units_moved opening register
+    reg_write doorbell front took post ran_out differs start private_step run_of footprints completion_slots stores_into loads_from_destination admin_command
+    admin hosts_of fit_behind built plan_over physical_entry written held_of device_unit completion_written units_behind members seat put_back acted_in
+    administered_in taken_to listed ended_at_once submitted device_took device_moved device_posted kept_block reaped scattered_to posted_to ran_out_of step
+    replay replies opening_world refusal_of none_failed is_disciplined taken_entries private_steps seen_by logged all_changed changed laid behind world_1
+    world_2 world_3 world_4 world_5 world_6 world_7
 host_8 = refl
 
 -- ---- piece 9
@@ -232,7 +279,13 @@ unfoldable pub world_9 : World
 world_9 = behind (part 76 19) changes_9 world_8
 
 pub host_9 : (replay set_up.geometry (part 76 19) world_8).host ≡ all_changed changes_9 world_8.host
-unfolding number_at dword qword bits bytes_of_dwords completion everywhere addresses bytes_from gathered image put_image scattered stored in_memory and_then asked first_read in_transcript read_array read_sgl read_entries read_source ranges_in move_units clear_units range_units judge units_moved opening register reg_write doorbell front took post ran_out differs start private_step run_of footprints completion_slots stores_into loads_from_destination admin_command admin hosts_of fit_behind built plan_over physical_entry written held_of device_unit completion_written units_behind members seat put_back acted_in administered_in taken_to listed ended_at_once submitted device_took device_moved device_posted kept_block reaped scattered_to posted_to ran_out_of step replay replies opening_world refusal_of none_failed is_disciplined taken_entries private_steps seen_by logged all_changed changed laid behind world_1 world_2 world_3 world_4 world_5 world_6 world_7 world_8
+unfolding number_at dword qword bits bytes_of_dwords completion everywhere addresses bytes_from gathered image put_image scattered stored in_memory and_then
+    asked first_read in_transcript read_array read_sgl read_entries read_source ranges_in move_units clear_units range_units judge units_moved opening register
+    reg_write doorbell front took post ran_out differs start private_step run_of footprints completion_slots stores_into loads_from_destination admin_command
+    admin hosts_of fit_behind built plan_over physical_entry written held_of device_unit completion_written units_behind members seat put_back acted_in
+    administered_in taken_to listed ended_at_once submitted device_took device_moved device_posted kept_block reaped scattered_to posted_to ran_out_of step
+    replay replies opening_world refusal_of none_failed is_disciplined taken_entries private_steps seen_by logged all_changed changed laid behind world_1
+    world_2 world_3 world_4 world_5 world_6 world_7 world_8
 host_9 = refl
 
 -- ---- piece 10
@@ -249,7 +302,13 @@ unfoldable pub world_10 : World
 world_10 = behind (part 95 5) changes_10 world_9
 
 pub host_10 : (replay set_up.geometry (part 95 5) world_9).host ≡ all_changed changes_10 world_9.host
-unfolding number_at dword qword bits bytes_of_dwords completion everywhere addresses bytes_from gathered image put_image scattered stored in_memory and_then asked first_read in_transcript read_array read_sgl read_entries read_source ranges_in move_units clear_units range_units judge units_moved opening register reg_write doorbell front took post ran_out differs start private_step run_of footprints completion_slots stores_into loads_from_destination admin_command admin hosts_of fit_behind built plan_over physical_entry written held_of device_unit completion_written units_behind members seat put_back acted_in administered_in taken_to listed ended_at_once submitted device_took device_moved device_posted kept_block reaped scattered_to posted_to ran_out_of step replay replies opening_world refusal_of none_failed is_disciplined taken_entries private_steps seen_by logged all_changed changed laid behind world_1 world_2 world_3 world_4 world_5 world_6 world_7 world_8 world_9
+unfolding number_at dword qword bits bytes_of_dwords completion everywhere addresses bytes_from gathered image put_image scattered stored in_memory and_then
+    asked first_read in_transcript read_array read_sgl read_entries read_source ranges_in move_units clear_units range_units judge units_moved opening register
+    reg_write doorbell front took post ran_out differs start private_step run_of footprints completion_slots stores_into loads_from_destination admin_command
+    admin hosts_of fit_behind built plan_over physical_entry written held_of device_unit completion_written units_behind members seat put_back acted_in
+    administered_in taken_to listed ended_at_once submitted device_took device_moved device_posted kept_block reaped scattered_to posted_to ran_out_of step
+    replay replies opening_world refusal_of none_failed is_disciplined taken_entries private_steps seen_by logged all_changed changed laid behind world_1
+    world_2 world_3 world_4 world_5 world_6 world_7 world_8 world_9
 host_10 = refl
 
 -- ---- piece 11
@@ -270,7 +329,13 @@ unfoldable pub world_11 : World
 world_11 = behind (part 100 12) changes_11 world_10
 
 pub host_11 : (replay set_up.geometry (part 100 12) world_10).host ≡ all_changed changes_11 world_10.host
-unfolding number_at dword qword bits bytes_of_dwords completion everywhere addresses bytes_from gathered image put_image scattered stored in_memory and_then asked first_read in_transcript read_array read_sgl read_entries read_source ranges_in move_units clear_units range_units judge units_moved opening register reg_write doorbell front took post ran_out differs start private_step run_of footprints completion_slots stores_into loads_from_destination admin_command admin hosts_of fit_behind built plan_over physical_entry written held_of device_unit completion_written units_behind members seat put_back acted_in administered_in taken_to listed ended_at_once submitted device_took device_moved device_posted kept_block reaped scattered_to posted_to ran_out_of step replay replies opening_world refusal_of none_failed is_disciplined taken_entries private_steps seen_by logged all_changed changed laid behind world_1 world_2 world_3 world_4 world_5 world_6 world_7 world_8 world_9 world_10
+unfolding number_at dword qword bits bytes_of_dwords completion everywhere addresses bytes_from gathered image put_image scattered stored in_memory and_then
+    asked first_read in_transcript read_array read_sgl read_entries read_source ranges_in move_units clear_units range_units judge units_moved opening register
+    reg_write doorbell front took post ran_out differs start private_step run_of footprints completion_slots stores_into loads_from_destination admin_command
+    admin hosts_of fit_behind built plan_over physical_entry written held_of device_unit completion_written units_behind members seat put_back acted_in
+    administered_in taken_to listed ended_at_once submitted device_took device_moved device_posted kept_block reaped scattered_to posted_to ran_out_of step
+    replay replies opening_world refusal_of none_failed is_disciplined taken_entries private_steps seen_by logged all_changed changed laid behind world_1
+    world_2 world_3 world_4 world_5 world_6 world_7 world_8 world_9 world_10
 host_11 = refl
 
 -- ---- piece 12
@@ -285,5 +350,11 @@ unfoldable pub world_12 : World
 world_12 = behind (part 112 7) changes_12 world_11
 
 pub host_12 : (replay set_up.geometry (part 112 7) world_11).host ≡ all_changed changes_12 world_11.host
-unfolding number_at dword qword bits bytes_of_dwords completion everywhere addresses bytes_from gathered image put_image scattered stored in_memory and_then asked first_read in_transcript read_array read_sgl read_entries read_source ranges_in move_units clear_units range_units judge units_moved opening register reg_write doorbell front took post ran_out differs start private_step run_of footprints completion_slots stores_into loads_from_destination admin_command admin hosts_of fit_behind built plan_over physical_entry written held_of device_unit completion_written units_behind members seat put_back acted_in administered_in taken_to listed ended_at_once submitted device_took device_moved device_posted kept_block reaped scattered_to posted_to ran_out_of step replay replies opening_world refusal_of none_failed is_disciplined taken_entries private_steps seen_by logged all_changed changed laid behind world_1 world_2 world_3 world_4 world_5 world_6 world_7 world_8 world_9 world_10 world_11
+unfolding number_at dword qword bits bytes_of_dwords completion everywhere addresses bytes_from gathered image put_image scattered stored in_memory and_then
+    asked first_read in_transcript read_array read_sgl read_entries read_source ranges_in move_units clear_units range_units judge units_moved opening register
+    reg_write doorbell front took post ran_out differs start private_step run_of footprints completion_slots stores_into loads_from_destination admin_command
+    admin hosts_of fit_behind built plan_over physical_entry written held_of device_unit completion_written units_behind members seat put_back acted_in
+    administered_in taken_to listed ended_at_once submitted device_took device_moved device_posted kept_block reaped scattered_to posted_to ran_out_of step
+    replay replies opening_world refusal_of none_failed is_disciplined taken_entries private_steps seen_by logged all_changed changed laid behind world_1
+    world_2 world_3 world_4 world_5 world_6 world_7 world_8 world_9 world_10 world_11
 host_12 = refl

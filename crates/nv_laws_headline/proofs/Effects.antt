@@ -1,6 +1,7 @@
 -- What an admin command does is the same in whatever memory: its controller and answer, and the bytes that it writes, which go to the destination of
 -- Identify alone.
-use Rattle.std.proofs.Common.{◌≡◌, ℕ, ◌+◌, ◌<◌, Bool, true, false, cond, not, ◌&&◌, ◌||◌, ◌==◌, nat_lt, List, [], ◌∷◌, ◌++◌, set, slice_get, slice_index, Option, Some, None, IfSome, IsSome, is_some, is_none, arith, refl, sym, ap, ◌∙◌, subst}
+use Rattle.std.proofs.Common.{◌≡◌, ℕ, ◌+◌, ◌<◌, Bool, true, false, cond, not, ◌&&◌, ◌||◌, ◌==◌, nat_lt, List, [], ◌∷◌, ◌++◌, set, slice_get, slice_index}
+use Rattle.std.proofs.Common.{Option, Some, None, IfSome, IsSome, is_some, is_none, arith, refl, sym, ap, ◌∙◌, subst}
 use Rattle.std.specs.List.{list_any}
 use Rattle.std.proofs.lemmas.Bool.{eqb-false}
 use Rattle.nv_entry.specs.Layout.{bits}

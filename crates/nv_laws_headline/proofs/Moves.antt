@@ -1,5 +1,6 @@
 -- The private controller of a guest goes along with a unit of the guest's own command, where its memory behind the unit stands for the world's.
-use Rattle.std.proofs.Common.{◌≡◌, ℕ, ◌+◌, ◌*◌, ◌/◌, ◌%◌, ◌<◌, ◌≤◌, inl, inr, Bool, true, false, cond, not, ◌&&◌, ◌||◌, ◌==◌, List, [], ◌∷◌, All, drop, flat_map, length, set, slice_get, Option, Some, None, arith, refl, sym, ap, ◌∙◌, eq-eqb, subst}
+use Rattle.std.proofs.Common.{◌≡◌, ℕ, ◌+◌, ◌*◌, ◌/◌, ◌%◌, ◌<◌, ◌≤◌, inl, inr, Bool, true, false, cond, not, ◌&&◌, ◌||◌, ◌==◌, List, [], ◌∷◌, All, drop}
+use Rattle.std.proofs.Common.{flat_map, length, set, slice_get, Option, Some, None, arith, refl, sym, ap, ◌∙◌, eq-eqb, subst}
 use Rattle.std.specs.List.{list_any}
 use Rattle.std.proofs.lemmas.Bool.{cases_eq}
 use Rattle.std.proofs.lemmas.List.{length-drop, length-take-le}
@@ -57,7 +58,8 @@ use Rattle.nv_laws_related.specs.Related.{HasBuffer, IsTagRelated, IsUnderWay, N
 use Rattle.nv_laws_related.proofs.Undisturbed.{IsTagUntouched, IsUntouched, entry_names, spans-agree}
 use Rattle.nv_laws_related.proofs.Views.{block-place, device_of, own-there, status_in}
 use Rattle.nv_laws_units.specs.Units.{IsHeld, SameBlocks, addresses_of_block, own_units, whole_of}
-use Rattle.nv_laws_units.proofs.InWorld.{parts, world-blocks, world-bounced, world-direct_read, world-direct_same, world-direct_source, world-others, world-own_elsewhere, world-page_kept, world-page_moved, world-run}
+use Rattle.nv_laws_units.proofs.InWorld.{parts, world-blocks, world-bounced, world-direct_read, world-direct_same, world-direct_source, world-others}
+use Rattle.nv_laws_units.proofs.InWorld.{world-own_elsewhere, world-page_kept, world-page_moved, world-run}
 use Rattle.nv_laws_headline.proofs.Retagged.{hidden-retagged, known-tag, member-known, members-elsewhere, tags-retagged}
 
 module _ (host_bytes : ℕ) (geometry : Geometry) (number : ℕ) (guest : Guest) (given : slice_get geometry.guests number ≡ Some guest)

@@ -1,6 +1,7 @@
 -- An admin step in two memories with the same command at the front: the same is done in both, and what neither the command's destination nor the slot of
 -- its completion has stays as it was.
-use Rattle.std.proofs.Common.{◌≡◌, ℕ, ◌+◌, ◌*◌, ◌≤◌, ◌<◌, ◌⊎◌, inl, inr, Bool, true, false, cond, not, ◌==◌, List, [], ◌∷◌, length, slice_index, Option, Some, None, IfSome, arith, refl, sym, ap, ◌∙◌, subst}
+use Rattle.std.proofs.Common.{◌≡◌, ℕ, ◌+◌, ◌*◌, ◌≤◌, ◌<◌, ◌⊎◌, inl, inr, Bool, true, false, cond, not, ◌==◌, List, [], ◌∷◌, length, slice_index, Option, Some}
+use Rattle.std.proofs.Common.{None, IfSome, arith, refl, sym, ap, ◌∙◌, subst}
 use Rattle.std.specs.List.{list_any}
 use Rattle.std.proofs.lemmas.Bool.{cases_lt, eqb-false, or_parts}
 use Rattle.nv_entry.proofs.CompletionLemmas.{length-completion}

@@ -9,7 +9,8 @@ use Rattle.nv_model.specs.Endings.{MayEndIn}
 use Rattle.nv_model.specs.Judge.{Clear, Form, Go, Keep, Manage, Refuse, Transfer, Verdict, Work, form_of, judge}
 use Rattle.nv_model.specs.Limits.{block}
 use Rattle.nv_model.specs.Memory.{bytes_from, gathered, image}
-use Rattle.nv_model.specs.Private.{AtWork, Ended as EndedWith, JudgeStep, Private, Progress, Taken as Member, judged_at, numbers_of, places_of_block, progress_of, put, step as private_step, unseen, verdict_in, with_taken}
+use Rattle.nv_model.specs.Private.{AtWork, Ended as EndedWith, JudgeStep, Private, Progress, Taken as Member, judged_at, numbers_of, places_of_block}
+use Rattle.nv_model.specs.Private.{progress_of, put, step as private_step, unseen, verdict_in, with_taken}
 use Rattle.nv_model.specs.Transcript.{Outcome, ReadDone, Settled, Wanted}
 use Rattle.nv_model.specs.declared.reply.Reply.TheVariants as reply
 use Rattle.nv_model.proofs.AnyAnswers.{in_memory-may}

@@ -1,5 +1,6 @@
 -- A command as the device takes it: each unit of its own is left, since the device's unit behind it is.
-use Rattle.std.proofs.Common.{◌≡◌, ℕ, zero, suc, ◌+◌, ◌*◌, ◌<◌, ◌≤◌, Bool, true, cond, ◌==◌, List, [], ◌∷◌, All, filter, flat_map, length, map, replicate, slice_get, Some, arith, refl, sym, ap, ◌∙◌, subst}
+use Rattle.std.proofs.Common.{◌≡◌, ℕ, zero, suc, ◌+◌, ◌*◌, ◌<◌, ◌≤◌, Bool, true, cond, ◌==◌, List, [], ◌∷◌, All, filter, flat_map, length, map, replicate}
+use Rattle.std.proofs.Common.{slice_get, Some, arith, refl, sym, ap, ◌∙◌, subst}
 use Rattle.std.specs.List.{enumerate_from, list_any, range_with_len}
 use Rattle.std.proofs.lemmas.List.Elements.{All-append, All-cons, All-head, All-nil, All-tail}
 use Rattle.nv_entry.specs.Range.{blocks_of}

@@ -22,7 +22,8 @@ use Rattle.nv_world_model.specs.declared.event.Event.TheVariants as event
 use Rattle.nv_world_model.specs.Contained.{guest_of_one}
 use Rattle.nv_world_model.specs.Geometry.{Geometry, Guest, regions_of, shape_of}
 use Rattle.nv_world_model.specs.Seat.{Owner, held_by, held_in, owner_of, put_back, seat}
-use Rattle.nv_world_model.specs.Step.{act_put_back, acted_in, administered_by, administered_in, ended_at_once, for_lane, for_owner, for_taken, free_tag, is_free, is_io_queue, list_at, listed, replied, step, take_from, take_front, take_tag, taken_to}
+use Rattle.nv_world_model.specs.Step.{act_put_back, acted_in, administered_by, administered_in, ended_at_once, for_lane, for_owner, for_taken, free_tag}
+use Rattle.nv_world_model.specs.Step.{is_free, is_io_queue, list_at, listed, replied, step, take_from, take_front, take_tag, taken_to}
 use Rattle.nv_world_model.specs.View.{IsAlike, is_tag_of, lane_numbers, own_held}
 use Rattle.nv_world_model.specs.World.{Command, Ended, Free, Lane, Tag, Taken, World, changed_at, tag_changed, tag_in, tag_of, with_controller, with_tag}
 use Rattle.nv_world_model.proofs.Seats.{slice_get-set}

@@ -1,5 +1,6 @@
 -- An event of a guest's is answered by that guest's view and the shared numbers alone.
-use Rattle.std.proofs.Common.{◌≡◌, ℕ, zero, suc, ◌+◌, Bool, true, false, cond, not, ◌&&◌, ◌==◌, nat_le, nat_lt, List, [], ◌∷◌, length, map, slice_get, Option, Some, None, arith, refl, sym, ap, ◌∙◌, eq-eqb}
+use Rattle.std.proofs.Common.{◌≡◌, ℕ, zero, suc, ◌+◌, Bool, true, false, cond, not, ◌&&◌, ◌==◌, nat_le, nat_lt, List, [], ◌∷◌, length, map, slice_get, Option}
+use Rattle.std.proofs.Common.{Some, None, arith, refl, sym, ap, ◌∙◌, eq-eqb}
 use Rattle.std.specs.List.{list_any, position, prefix_len}
 use Rattle.std.specs.Option.{option_map}
 use Rattle.std.proofs.lemmas.Option.{slice_get-map}
@@ -28,7 +29,9 @@ use Rattle.nv_world_model.specs.Device.{DeviceLane, Held}
 use Rattle.nv_world_model.specs.Geometry.{Geometry, Guest, regions_of, shape_of}
 use Rattle.nv_world_model.specs.Plan.{Plan, plan_over}
 use Rattle.nv_world_model.specs.Seat.{Owner, held_by, held_in, owner_by, owner_of, seat}
-use Rattle.nv_world_model.specs.Step.{After, act_put_back, acted_in, administered_by, administered_in, device_fail, device_move, device_post, ended_at_once, for_device, for_ended, for_guest, for_held, for_lane, for_owner, for_taken, free_tag, is_free, is_io_queue, is_success, list_at, listed, post_at, post_by, replied, step, submit_by, take_from, take_front, take_tag}
+use Rattle.nv_world_model.specs.Step.{After, act_put_back, acted_in, administered_by, administered_in, device_fail, device_move, device_post, ended_at_once}
+use Rattle.nv_world_model.specs.Step.{for_device, for_ended, for_guest, for_held, for_lane, for_owner, for_taken, free_tag, is_free, is_io_queue, is_success}
+use Rattle.nv_world_model.specs.Step.{list_at, listed, post_at, post_by, replied, step, submit_by, take_from, take_front, take_tag}
 use Rattle.nv_world_model.specs.View.{IsAlike, is_guest, is_tag_of, lane_numbers, own_held, own_tag, ring_numbers, shared_numbers}
 use Rattle.nv_world_model.specs.World.{Command, Ended, Flying, Free, Lane, Tag, Taken, World, tag_of}
 use Rattle.nv_laws_sound.proofs.Lists.{some-same}

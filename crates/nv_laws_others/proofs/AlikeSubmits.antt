@@ -1,6 +1,7 @@
 -- A guest's commands that are handed on, in worlds that look alike to it: they look alike behind it. What is shown of such a command is its entry, its list, and a
 -- source that is bounced, all of which are written by the event.
-use Rattle.std.proofs.Common.{◌≡◌, ℕ, ◌+◌, ◌-◌, ◌*◌, ◌<◌, ◌≤◌, true, false, cond, List, [], ◌∷◌, flat_map, length, replicate, set, slice_get, Some, arith, refl, sym, ap, ◌∙◌, eq-eqb, length-append, subst}
+use Rattle.std.proofs.Common.{◌≡◌, ℕ, ◌+◌, ◌-◌, ◌*◌, ◌<◌, ◌≤◌, true, false, cond, List, [], ◌∷◌, flat_map, length, replicate, set, slice_get, Some, arith, refl}
+use Rattle.std.proofs.Common.{sym, ap, ◌∙◌, eq-eqb, length-append, subst}
 use Rattle.std.specs.List.{list_any}
 use Rattle.std.proofs.Math.Seq.{take-append_seam}
 use Rattle.nv_entry.specs.Layout.{number_bytes}
@@ -17,7 +18,8 @@ use Rattle.nv_model.proofs.MemoryAlike.{stored-at}
 use Rattle.nv_model.proofs.MemoryLemmas.{length-gathered}
 use Rattle.nv_prp.specs.Built.{built, entries_of, listed}
 use Rattle.nv_world_model.specs.declared.event.Event.TheVariants as event
-use Rattle.nv_world_model.specs.Area.{addresses_of, bounce_page, bounced_bytes, entry_of, form_bounced, list_bytes, list_page, prps_of, ring_size, submission_slot, tag_count, translated_range, written}
+use Rattle.nv_world_model.specs.Area.{addresses_of, bounce_page, bounced_bytes, entry_of, form_bounced, list_bytes, list_page, prps_of, ring_size}
+use Rattle.nv_world_model.specs.Area.{submission_slot, tag_count, translated_range, written}
 use Rattle.nv_world_model.specs.Contained.{guest_of_one, tag_stands}
 use Rattle.nv_world_model.specs.Device.{DeviceLane, rung}
 use Rattle.nv_world_model.specs.Geometry.{Geometry, Guest, regions_of, shape_of}

@@ -20,7 +20,8 @@ use Rattle.nv_world_model.specs.Contained.{guest_of_one}
 use Rattle.nv_world_model.specs.Geometry.{Geometry, regions_of}
 use Rattle.nv_world_model.specs.Plan.{Answer, Bounced, Direct, NoData, Plan}
 use Rattle.nv_world_model.specs.Seat.{Owner, owner_of, put_back}
-use Rattle.nv_world_model.specs.Step.{delivered, ended_at_once, free_tag, is_io_queue, is_success, list_at, listed, post_at, post_by, posted_to, ran_out_of, scattered_to, step, take_from, take_front, take_tag, taken_to}
+use Rattle.nv_world_model.specs.Step.{delivered, ended_at_once, free_tag, is_io_queue, is_success, list_at, listed, post_at, post_by, posted_to, ran_out_of}
+use Rattle.nv_world_model.specs.Step.{scattered_to, step, take_from, take_front, take_tag, taken_to}
 use Rattle.nv_world_model.specs.View.{guest_of_tag, is_tag_of}
 use Rattle.nv_world_model.specs.World.{Command, Ended, Free, Lane, Tag, Taken, World, changed_at, tag_changed, tag_in, tag_of, with_host, with_tag}
 use Rattle.nv_world_model.proofs.Seats.{IsOwner, owner_of-is, owner_of-number, slice_get-set-other}

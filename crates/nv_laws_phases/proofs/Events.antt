@@ -16,7 +16,8 @@ use Rattle.nv_world_model.specs.Device.{DeviceLane, Held, device_unit, entry_tak
 use Rattle.nv_world_model.specs.Geometry.{Geometry, regions_of}
 use Rattle.nv_world_model.specs.Plan.{Answer, Bounced, Direct, NoData, Plan, plan_over}
 use Rattle.nv_world_model.specs.Seat.{Owner, put_back, with_memory}
-use Rattle.nv_world_model.specs.Step.{act_put_back, administered_by, carry_out, device_moved, device_took, ended_at_once, free_tag, kept_block, listed, submit_by, submitted, take_front, take_tag, taken_to}
+use Rattle.nv_world_model.specs.Step.{act_put_back, administered_by, carry_out, device_moved, device_took, ended_at_once, free_tag, kept_block, listed}
+use Rattle.nv_world_model.specs.Step.{submit_by, submitted, take_front, take_tag, taken_to}
 use Rattle.nv_world_model.specs.World.{Command, InDevice, Lane, Taken, World, tag_of, with_controller, with_device, with_host}
 use Rattle.nv_laws_sound.specs.Consistent.{IsConsistent, IsPlanned}
 use Rattle.nv_laws_sound.specs.LaidOut.{IsLaidOut}

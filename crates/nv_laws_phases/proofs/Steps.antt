@@ -22,7 +22,8 @@ use Rattle.nv_world_model.specs.Device.{opening_device_lane}
 use Rattle.nv_world_model.specs.Geometry.{Geometry, regions_of, shape_of}
 use Rattle.nv_world_model.specs.Plan.{plan_over}
 use Rattle.nv_world_model.specs.Seat.{owner_of, seat}
-use Rattle.nv_world_model.specs.Step.{acted_by, acted_in, administered_in, device_fail, device_move, device_post, device_take, is_io_queue, is_success, list_at, post_at, reap, replay, step, submit_by, take_from}
+use Rattle.nv_world_model.specs.Step.{acted_by, acted_in, administered_in, device_fail, device_move, device_post, device_take, is_io_queue, is_success, list_at}
+use Rattle.nv_world_model.specs.Step.{post_at, reap, replay, step, submit_by, take_from}
 use Rattle.nv_world_model.specs.World.{World, opening_lane, opening_world, tag_of}
 use Rattle.nv_world_model.proofs.Seats.{owner_of-is}
 use Rattle.nv_laws_sound.specs.Consistent.{IsConsistent}

@@ -1,5 +1,6 @@
 -- What discipline says of a guest's taken commands: the guest's next act leaves alone what they name.
-use Rattle.std.proofs.Common.{◌≡◌, ℕ, ◌+◌, ◌<◌, ◌≤◌, ◌⊎◌, inl, inr, Bool, true, false, cond, not, ◌&&◌, ◌||◌, nat_le, nat_lt, List, [], ◌∷◌, flat_map, length, map, slice_get, Option, Some, arith, refl, sym, ap, ◌∙◌, leb-true, ltb-true}
+use Rattle.std.proofs.Common.{◌≡◌, ℕ, ◌+◌, ◌<◌, ◌≤◌, ◌⊎◌, inl, inr, Bool, true, false, cond, not, ◌&&◌, ◌||◌, nat_le, nat_lt, List, [], ◌∷◌, flat_map, length}
+use Rattle.std.proofs.Common.{map, slice_get, Option, Some, arith, refl, sym, ap, ◌∙◌, leb-true, ltb-true}
 use Rattle.std.specs.List.{enumerate_from, list_any}
 use Rattle.std.proofs.lemmas.Bool.{cases_lt, lt-ltb}
 use Rattle.nv_model.proofs.Endings.{and-true}

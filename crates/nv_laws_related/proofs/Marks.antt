@@ -21,7 +21,10 @@ use Rattle.nv_world_model.specs.Device.{DeviceLane, Held, held_status}
 use Rattle.nv_world_model.specs.Geometry.{Geometry, regions_of, shape_of}
 use Rattle.nv_world_model.specs.Plan.{Answer, Bounced, Direct, NoData, Plan, plan_over}
 use Rattle.nv_world_model.specs.Seat.{Owner, owner_of, put_back, seat}
-use Rattle.nv_world_model.specs.Step.{act_put_back, acted_in, administered_by, administered_in, carry_out, delivered, device_fail, device_post, device_posted, device_take, device_took, ended_at, ended_at_once, free_tag, is_io_queue, is_success, list_at, listed, passed_on, post_at, post_by, posted_to, ran_out_of, reap, reaped, scattered_to, standing_at, step, submit_by, submitted, take_from, take_front, take_tag, taken_to}
+use Rattle.nv_world_model.specs.Step.{act_put_back, acted_in, administered_by, administered_in, carry_out, delivered, device_fail, device_post, device_posted}
+use Rattle.nv_world_model.specs.Step.{device_take, device_took, ended_at, ended_at_once, free_tag, is_io_queue, is_success, list_at, listed, passed_on, post_at}
+use Rattle.nv_world_model.specs.Step.{post_by, posted_to, ran_out_of, reap, reaped, scattered_to, standing_at, step, submit_by, submitted, take_from}
+use Rattle.nv_world_model.specs.Step.{take_front, take_tag, taken_to}
 use Rattle.nv_world_model.specs.World.{Command, Ended, Flying, Free, Lane, Standing, Tag, Taken, World, tag_of, with_tag}
 use Rattle.nv_laws_sound.proofs.Walks.{device-walk, either, ended-walk, guest-walk, held-walk, lane-walk, owner-walk, taken-walk}
 use Rattle.std.specs.Bool.{⊤}

@@ -1,5 +1,6 @@
 -- Which addresses commands name.
-use Rattle.std.proofs.Common.{◌≡◌, ℕ, zero, suc, ◌+◌, ◌*◌, ◌<◌, ◌≤◌, inl, inr, Bool, true, false, ◌||◌, ◌==◌, List, [], ◌∷◌, drop, flat_map, map, replicate, slice_get, take, Some, None, arith, refl, sym, ap, ◌∙◌, subst, eq-eqb, eqb-true}
+use Rattle.std.proofs.Common.{◌≡◌, ℕ, zero, suc, ◌+◌, ◌*◌, ◌<◌, ◌≤◌, inl, inr, Bool, true, false, ◌||◌, ◌==◌, List, [], ◌∷◌, drop, flat_map, map, replicate}
+use Rattle.std.proofs.Common.{slice_get, take, Some, None, arith, refl, sym, ap, ◌∙◌, subst, eq-eqb, eqb-true}
 use Rattle.std.specs.List.{list_any, range_with_len}
 use Rattle.std.proofs.lemmas.Bool.{le-leb, lt-ltb}
 use Rattle.nv_mem.specs.Places.{At, Bucket, addresses, places_of, places_of_piece}

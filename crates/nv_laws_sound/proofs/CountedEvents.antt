@@ -1,5 +1,6 @@
 -- Each event leaves each guest's controller counting that guest's commands.
-use Rattle.std.proofs.Common.{◌≡◌, ℕ, ◌+◌, ◌/◌, ◌%◌, ◌<◌, ◌⊎◌, inl, inr, Bool, true, false, cond, ◌&&◌, ◌==◌, nat_le, List, [], ◌∷◌, length, set, slice_get, Option, Some, None, IfSome, arith, refl, sym, ap, ◌∙◌, eq-eqb, leb-true, subst}
+use Rattle.std.proofs.Common.{◌≡◌, ℕ, ◌+◌, ◌/◌, ◌%◌, ◌<◌, ◌⊎◌, inl, inr, Bool, true, false, cond, ◌&&◌, ◌==◌, nat_le, List, [], ◌∷◌, length, set, slice_get}
+use Rattle.std.proofs.Common.{Option, Some, None, IfSome, arith, refl, sym, ap, ◌∙◌, eq-eqb, leb-true, subst}
 use Rattle.std.specs.List.{list_any}
 use Rattle.std.proofs.lemmas.Bool.{cases_eq, eqb-false, ne_eqb}
 use Rattle.nv_entry.specs.Status.{StatusField}

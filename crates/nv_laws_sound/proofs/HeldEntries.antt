@@ -1,5 +1,6 @@
 -- What the device makes of a physical entry: it finds the host addresses of the plan's transfer.
-use Rattle.std.proofs.Common.{◌≡◌, ℕ, ◌+◌, ◌-◌, ◌%◌, ◌^◌, ◌<◌, ◌≤◌, true, false, cond, ◌==◌, List, [], ◌∷◌, All, drop, flat_map, length, map, replicate, slice_get, slice_index, take, Some, arith, refl, sym, ap, ◌∙◌, subst}
+use Rattle.std.proofs.Common.{◌≡◌, ℕ, ◌+◌, ◌-◌, ◌%◌, ◌^◌, ◌<◌, ◌≤◌, true, false, cond, ◌==◌, List, [], ◌∷◌, All, drop, flat_map, length, map, replicate}
+use Rattle.std.proofs.Common.{slice_get, slice_index, take, Some, arith, refl, sym, ap, ◌∙◌, subst}
 use Rattle.std.specs.List.{list_all, range_with_len}
 use Rattle.std.proofs.lemmas.Bool.{ne_eqb}
 use Rattle.std.proofs.Math.Seq.{take-append_seam}

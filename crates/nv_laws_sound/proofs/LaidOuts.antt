@@ -1,5 +1,6 @@
 -- What a set-up that is not refused says.
-use Rattle.std.proofs.Common.{◌≡◌, ℕ, zero, suc, ◌+◌, ◌%◌, ◌<◌, ◌≤◌, ◌⊎◌, inl, inr, Bool, true, false, cond, not, ◌&&◌, ◌||◌, ◌==◌, nat_le, nat_lt, max, min, List, [], ◌∷◌, length, slice_get, Option, Some, None, arith, refl, sym, ap, ◌∙◌, eqb-true, leb-true, ltb-false}
+use Rattle.std.proofs.Common.{◌≡◌, ℕ, zero, suc, ◌+◌, ◌%◌, ◌<◌, ◌≤◌, ◌⊎◌, inl, inr, Bool, true, false, cond, not, ◌&&◌, ◌||◌, ◌==◌, nat_le, nat_lt, max, min}
+use Rattle.std.proofs.Common.{List, [], ◌∷◌, length, slice_get, Option, Some, None, arith, refl, sym, ap, ◌∙◌, eqb-true, leb-true, ltb-false}
 use Rattle.std.specs.Prelude.{◌≢◌}
 use Rattle.std.specs.List.{list_all, list_any}
 use Rattle.std.proofs.lemmas.Bool.{cases_lt}
@@ -9,7 +10,8 @@ use Rattle.nv_mem.proofs.Memory.{guest_of-clear, hosts_meet-image}
 use Rattle.nv_model.specs.Limits.{page}
 use Rattle.nv_model.proofs.Endings.{and-true, not-false}
 use Rattle.nv_world_model.specs.Geometry.{Guest, regions_of}
-use Rattle.nv_world_model.specs.SetUp.{Refusal, SetUp, any_two, area_bytes, between, blocks_meet, guest_fits, host_fits, maps_meet, meets_area, most_disk_blocks, most_guests, most_host_bytes, most_lanes, most_limit, most_regions, refusal_of, sizes_fit}
+use Rattle.nv_world_model.specs.SetUp.{Refusal, SetUp, any_two, area_bytes, between, blocks_meet, guest_fits, host_fits, maps_meet, meets_area}
+use Rattle.nv_world_model.specs.SetUp.{most_disk_blocks, most_guests, most_host_bytes, most_lanes, most_limit, most_regions, refusal_of, sizes_fit}
 use Rattle.nv_laws_sound.specs.LaidOut.{AreApart, IsGiven, IsLaidOut}
 
 -- ---- tests of lists

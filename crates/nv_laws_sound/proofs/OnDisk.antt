@@ -1,5 +1,6 @@
 -- The blocks that a physical command names on the disk, itself or in its ranges, are its guest's.
-use Rattle.std.proofs.Common.{◌≡◌, ℕ, zero, suc, ◌+◌, ◌-◌, ◌*◌, ◌^◌, ◌<◌, ◌≤◌, ◌⊎◌, inl, inr, Bool, true, false, ◌||◌, ◌==◌, nat_le, List, [], ◌∷◌, All, drop, flat_map, length, map, slice_get, take, Some, arith, refl, ap, ◌∙◌, eqb-true, leb-true, subst}
+use Rattle.std.proofs.Common.{◌≡◌, ℕ, zero, suc, ◌+◌, ◌-◌, ◌*◌, ◌^◌, ◌<◌, ◌≤◌, ◌⊎◌, inl, inr, Bool, true, false, ◌||◌, ◌==◌, nat_le, List, [], ◌∷◌, All, drop}
+use Rattle.std.proofs.Common.{flat_map, length, map, slice_get, take, Some, arith, refl, ap, ◌∙◌, eqb-true, leb-true, subst}
 use Rattle.std.specs.List.{list_any, range_with_len}
 use Rattle.std.proofs.lemmas.List.{drop-map}
 use Rattle.std.proofs.lemmas.List.Elements.{All-cons, All-head, All-map, All-nil, All-tail}
@@ -11,7 +12,8 @@ use Rattle.nv_entry.specs.Submission.{opcode_of, slba_of}
 use Rattle.nv_mem.specs.GuestMap.{mapped}
 use Rattle.nv_mem.specs.Places.{At, addresses, places_of, total_len}
 use Rattle.nv_model.specs.Laws.{IsElsewhere}
-use Rattle.nv_model.specs.Judge.{ClearBlock, LeaveBlock, clear_units, one_range_units, Clear, Form, Keep, Manage, Transfer, count_of, form_has_blocks, form_of, form_transfer_len, has_blocks, range_count_of, range_fits}
+use Rattle.nv_model.specs.Judge.{ClearBlock, LeaveBlock, clear_units, one_range_units, Clear, Form, Keep, Manage, Transfer, count_of, form_has_blocks, form_of}
+use Rattle.nv_model.specs.Judge.{form_transfer_len, has_blocks, range_count_of, range_fits}
 use Rattle.nv_model.specs.Memory.{bytes_from, gathered}
 use Rattle.nv_model.proofs.AnyAnswers.{end-sound, end-within}
 use Rattle.nv_model.proofs.Endings.{and-true}

@@ -14,7 +14,9 @@ use Rattle.nv_mem.specs.Places.{total_len}
 use Rattle.nv_mem.specs.declared.piece.Piece.{Piece}
 use Rattle.nv_model.specs.Dialogue.{End, and_then}
 use Rattle.nv_model.specs.Endings.{MayEndIn}
-use Rattle.nv_model.specs.Judge.{Clear, Form, Go, Keep, Manage, Refuse, Transfer, Work, field_refusal, form_of, has_buffer, is_read, judge, judge_buffer, judge_by, judge_fields, judge_ranges, judge_reading, range_count_of, range_fits, ranges_in, read_buffer, read_by, read_source, sized, transfer_len, work_of}
+use Rattle.nv_model.specs.Judge.{Clear, Form, Go, Keep, Manage, Refuse, Transfer, Work, field_refusal, form_of, has_buffer, is_read, judge, judge_buffer}
+use Rattle.nv_model.specs.Judge.{judge_by, judge_fields, judge_ranges, judge_reading, range_count_of, range_fits, ranges_in, read_buffer, read_by, read_source}
+use Rattle.nv_model.specs.Judge.{sized, transfer_len, work_of}
 use Rattle.nv_model.specs.Reading.{Faulty, Reading, Spells, TooLong}
 use Rattle.nv_model.proofs.AnyAnswers.{MayEndIn-has}
 use Rattle.nv_model.proofs.Endings.{EndsIn, EndsIn-and_then, EndsIn-any, EndsIn-if, OfPieces}

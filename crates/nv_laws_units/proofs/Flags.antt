@@ -12,7 +12,9 @@ use Rattle.nv_entry.specs.declared.status_code.StatusCode.{StatusCode}
 use Rattle.nv_entry.specs.declared.status_code.StatusCode.TheVariants.{LbaOutOfRange}
 use Rattle.nv_mem.specs.declared.piece.Piece.{Piece}
 use Rattle.nv_model.specs.Endings.{MayEndIn}
-use Rattle.nv_model.specs.Judge.{Clear, Form, Go, Keep, Manage, Refuse, Transfer, Work, deallocates, field_refusal, form_has_blocks, form_of, has_blocks, has_buffer, is_fua, judge, judge_buffer, judge_by, judge_fields, judge_ranges, judge_reading, range_count_of, range_fits, ranges_in, read_buffer, read_source, work_of}
+use Rattle.nv_model.specs.Judge.{Clear, Form, Go, Keep, Manage, Refuse, Transfer, Work, deallocates, field_refusal, form_has_blocks, form_of, has_blocks}
+use Rattle.nv_model.specs.Judge.{has_buffer, is_fua, judge, judge_buffer, judge_by, judge_fields, judge_ranges, judge_reading, range_count_of, range_fits}
+use Rattle.nv_model.specs.Judge.{ranges_in, read_buffer, read_source, work_of}
 use Rattle.nv_model.specs.Reading.{Faulty, Reading, Spells, TooLong}
 use Rattle.nv_model.proofs.AnyAnswers.{MayEndIn-has}
 use Rattle.nv_model.proofs.Endings.{EndsIn, EndsIn-and_then, EndsIn-any, EndsIn-if}

@@ -1,5 +1,6 @@
 -- A device's unit of a guest's command is a unit of its private controller.
-use Rattle.std.proofs.Common.{◌≡◌, ℕ, ◌+◌, ◌-◌, ◌*◌, ◌<◌, ◌≤◌, Bool, true, false, ◌&&◌, ◌==◌, nat_le, List, [], ◌∷◌, drop, flat_map, length, map, slice_get, take, Some, arith, refl, sym, ap, ◌∙◌, leb-true, subst}
+use Rattle.std.proofs.Common.{◌≡◌, ℕ, ◌+◌, ◌-◌, ◌*◌, ◌<◌, ◌≤◌, Bool, true, false, ◌&&◌, ◌==◌, nat_le, List, [], ◌∷◌, drop, flat_map, length, map, slice_get}
+use Rattle.std.proofs.Common.{take, Some, arith, refl, sym, ap, ◌∙◌, leb-true, subst}
 use Rattle.std.specs.List.{list_any, range_with_len}
 use Rattle.std.proofs.lemmas.List.{drop-map, take-map}
 use Rattle.nv_entry.specs.Opcode.{io_opcode}
@@ -10,7 +11,8 @@ use Rattle.nv_entry.specs.declared.opcode.IoOpcode.TheVariants.{Flush, Write, Re
 use Rattle.nv_mem.specs.GuestMap.{mapped}
 use Rattle.nv_mem.specs.Places.{At, places_of, total_len}
 use Rattle.nv_model.specs.Carried.{block_work, units_moved}
-use Rattle.nv_model.specs.Judge.{Clear, ClearBlock, Form, Keep, KeepAll, Manage, MoveBlock, Transfer, Work, WorkUnit, count_of, deallocates, form_has_blocks, form_of, form_transfer_len, form_units, has_blocks, is_fua, is_read, one_range_units, range_count_of, range_fits}
+use Rattle.nv_model.specs.Judge.{Clear, ClearBlock, Form, Keep, KeepAll, Manage, MoveBlock, Transfer, Work, WorkUnit, count_of, deallocates, form_has_blocks}
+use Rattle.nv_model.specs.Judge.{form_of, form_transfer_len, form_units, has_blocks, is_fua, is_read, one_range_units, range_count_of, range_fits}
 use Rattle.nv_model.specs.Limits.{block}
 use Rattle.nv_model.specs.Memory.{gathered, scattered}
 use Rattle.nv_model.specs.Private.{Moved, block_bytes, numbers_of, places_of_block}

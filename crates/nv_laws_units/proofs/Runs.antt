@@ -1,5 +1,6 @@
 -- The steps that a device's unit stands for are a run of the guest's private controller.
-use Rattle.std.proofs.Common.{◌≡◌, ℕ, suc, ◌+◌, ◌<◌, Bool, true, false, not, ◌||◌, ◌==◌, cond, List, [], ◌∷◌, All, filter, flat_map, length, map, slice_get, Some, None, option_to_list, arith, refl, sym, ap, ◌∙◌, eq-eqb, eqb-true, subst}
+use Rattle.std.proofs.Common.{◌≡◌, ℕ, suc, ◌+◌, ◌<◌, Bool, true, false, not, ◌||◌, ◌==◌, cond, List, [], ◌∷◌, All, filter, flat_map, length, map, slice_get}
+use Rattle.std.proofs.Common.{Some, None, option_to_list, arith, refl, sym, ap, ◌∙◌, eq-eqb, eqb-true, subst}
 use Rattle.std.specs.List.{enumerate_from, list_any}
 use Rattle.std.specs.Bool.{⊤}
 use Rattle.std.proofs.lemmas.Bool.{ne_eqb}

@@ -1,5 +1,6 @@
 -- What the admin queue does keeps what its queues have.
-use Rattle.std.proofs.Common.{◌≡◌, ℕ, ◌+◌, ◌*◌, ◌%◌, Bool, true, false, not, ◌||◌, ◌==◌, nat_lt, nat_le, List, [], ◌∷◌, ◌++◌, slice_index, Option, Some, None, is_some, is_none, arith, refl, ltb-false, eq-eqb, le-leb}
+use Rattle.std.proofs.Common.{◌≡◌, ℕ, ◌+◌, ◌*◌, ◌%◌, Bool, true, false, not, ◌||◌, ◌==◌, nat_lt, nat_le, List, [], ◌∷◌, ◌++◌, slice_index, Option, Some, None}
+use Rattle.std.proofs.Common.{is_some, is_none, arith, refl, ltb-false, eq-eqb, le-leb}
 use Rattle.std.specs.Bool.{⊤}
 use Rattle.nv_entry.specs.Submission.{opcode_of, fuse_of, psdt_of, cid_of, prp1_of}
 use Rattle.nv_entry.specs.Opcode.{admin_opcode}

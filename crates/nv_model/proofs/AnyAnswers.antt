@@ -1,5 +1,6 @@
 -- What holds of all ends and questions of a dialogue holds with each memory, with each transcript, and where it is fed.
-use Rattle.std.proofs.Common.{◌≡◌, ℕ, ◌+◌, ◌-◌, ◌/◌, ◌^◌, ◌<◌, ◌≤◌, Bool, true, false, cond, not, ◌&&◌, ◌==◌, nat_lt, ltb-false, mod-lt, List, [], ◌∷◌, All, Option, Some, None, drop, length, take, arith, refl, sym, ap, ◌∙◌, subst, inl, inr}
+use Rattle.std.proofs.Common.{◌≡◌, ℕ, ◌+◌, ◌-◌, ◌/◌, ◌^◌, ◌<◌, ◌≤◌, Bool, true, false, cond, not, ◌&&◌, ◌==◌, nat_lt, ltb-false, mod-lt, List, [], ◌∷◌, All}
+use Rattle.std.proofs.Common.{Option, Some, None, drop, length, take, arith, refl, sym, ap, ◌∙◌, subst, inl, inr}
 use Rattle.std.proofs.lemmas.List.{length-drop, length-take-le}
 use Rattle.std.proofs.lemmas.List.Elements.{All-nil, All-cons, All-weaker}
 use Rattle.nv_model.specs.Memory.{bytes_from}
@@ -12,7 +13,8 @@ use Rattle.nv_ns.specs.BlockRange.{in_namespace}
 use Rattle.nv_entry.specs.declared.opcode.IoOpcode.{IoOpcode}
 use Rattle.nv_entry.specs.declared.status_code.StatusCode.{StatusCode}
 use Rattle.nv_entry.specs.declared.status_code.StatusCode.TheVariants.{InvalidField}
-use Rattle.nv_model.specs.Judge.{Form, Transfer, Clear, Manage, Keep, Work, Go, count_of, field_refusal, form_has_blocks, form_has_buffer, form_of, form_transfer_len, has_blocks, judge, judge_fields, refusal_by_opcode, transfer_len}
+use Rattle.nv_model.specs.Judge.{Form, Transfer, Clear, Manage, Keep, Work, Go, count_of, field_refusal, form_has_blocks, form_has_buffer, form_of}
+use Rattle.nv_model.specs.Judge.{form_transfer_len, has_blocks, judge, judge_fields, refusal_by_opcode, transfer_len}
 use Rattle.nv_model.specs.Limits.{most_blocks, most_bytes}
 use Rattle.nv_model.specs.Laws.{still_wanted}
 use Rattle.nv_model.specs.Parts.{AsksInParts, UsesUp, in_hand}

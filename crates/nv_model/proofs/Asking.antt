@@ -1,5 +1,6 @@
 -- Whatever a dialogue is given, what it asks for is mapped.
-use Rattle.std.proofs.Common.{◌≡◌, ℕ, zero, suc, ◌+◌, ◌-◌, ◌*◌, ◌/◌, ◌%◌, ◌<◌, ◌≤◌, min, Bool, true, false, cond, not, ◌&&◌, ◌||◌, ◌==◌, nat_lt, List, [], ◌∷◌, ◌++◌, All, Option, Some, None, arith, refl, subst, eqb-true, ltb-false}
+use Rattle.std.proofs.Common.{◌≡◌, ℕ, zero, suc, ◌+◌, ◌-◌, ◌*◌, ◌/◌, ◌%◌, ◌<◌, ◌≤◌, min, Bool, true, false, cond, not, ◌&&◌, ◌||◌, ◌==◌, nat_lt, List, [], ◌∷◌}
+use Rattle.std.proofs.Common.{◌++◌, All, Option, Some, None, arith, refl, subst, eqb-true, ltb-false}
 use Rattle.std.specs.Bool.{⊤}
 use Rattle.std.proofs.lemmas.List.Elements.{All-nil, All-cons, All-head, All-tail}
 use Rattle.nv_entry.specs.Layout.{number_at}
@@ -21,7 +22,8 @@ use Rattle.nv_model.specs.Reading.{Reading, Faulty, TooLong, Spells, run, unless
 use Rattle.nv_model.specs.Sgl.{Array, array_by, behind_own, fault_by, pieces_by, read_array, read_descriptor, read_sgl, segment_fault}
 use Rattle.nv_model.specs.Prp.{entry_fault, first_len, pages_of, read_entries, read_page, read_prp, read_prp2, slots_of}
 use Rattle.nv_model.specs.Limits.{page}
-use Rattle.nv_model.specs.Judge.{Form, Transfer, Clear, Manage, Keep, field_refusal, form_of, has_buffer, is_read, judge, judge_buffer, judge_by, judge_fields, judge_reading, read_buffer, read_by, read_source, transfer_len}
+use Rattle.nv_model.specs.Judge.{Form, Transfer, Clear, Manage, Keep, field_refusal, form_of, has_buffer, is_read, judge, judge_buffer, judge_by, judge_fields}
+use Rattle.nv_model.specs.Judge.{judge_reading, read_buffer, read_by, read_source, transfer_len}
 use Rattle.nv_model.specs.Laws.{IsMappedPiece, still_wanted}
 use Rattle.nv_model.proofs.Endings.{EndsIn, EndsIn-any, OfPieces, and-false, first_failing-none, not-false}
 use Rattle.nv_model.proofs.Spelled.{AreOfLen}

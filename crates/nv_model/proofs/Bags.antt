@@ -1,5 +1,6 @@
 -- Bags of commands by name, and the numbers of units that are left.
-use Rattle.std.proofs.Common.{◌≡◌, ℕ, zero, suc, ◌+◌, ◌<◌, Bool, true, false, cond, not, ◌||◌, ◌==◌, List, [], ◌∷◌, length, slice_get, remove, Option, Some, None, arith, refl, sym, ap, ◌∙◌, subst, eq-eqb, eqb-true}
+use Rattle.std.proofs.Common.{◌≡◌, ℕ, zero, suc, ◌+◌, ◌<◌, Bool, true, false, cond, not, ◌||◌, ◌==◌, List, [], ◌∷◌, length, slice_get, remove, Option, Some}
+use Rattle.std.proofs.Common.{None, arith, refl, sym, ap, ◌∙◌, subst, eq-eqb, eqb-true}
 use Rattle.std.proofs.lemmas.Bool.Decides.{nat_tests}
 use mathlib.Core.Path.{fun_ext}
 use Rattle.std.specs.Bool.{⊤}

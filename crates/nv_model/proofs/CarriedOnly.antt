@@ -3,7 +3,9 @@ use Rattle.std.proofs.Common.{◌≡◌, ℕ, true, false, cond, ◌==◌, List,
 use Rattle.std.specs.List.{list_all, list_any}
 use Rattle.nv_entry.specs.Status.{StatusField}
 use Rattle.nv_model.specs.Judge.{WorkUnit, Work, Verdict, Go, Refuse}
-use Rattle.nv_model.specs.Private.{AtWork, Ended, Unjudged, ActStep, AdminQueueStep, GiveUpStep, JudgeStep, KeepStep, MoveStep, PostStep, RunOutStep, TakeStep, Moved, Private, Run, Shape, Step, Taken, ending, further, moved_status, numbers_of, others, progress_of, run_of, step, unit_left, verdict_in}
+use Rattle.nv_model.specs.Private.{AtWork, Ended, Unjudged, ActStep, AdminQueueStep, GiveUpStep, JudgeStep, KeepStep, MoveStep, PostStep, RunOutStep, TakeStep}
+use Rattle.nv_model.specs.Private.{Moved, Private, Run, Shape, Step, Taken, ending, further, moved_status, numbers_of, others, progress_of, run_of, step}
+use Rattle.nv_model.specs.Private.{unit_left, verdict_in}
 use Rattle.nv_model.specs.Carried.{IsCarriedOut, at_work, ending_of, is_own_step, moved_on, this_far, unmoved, units_moved}
 use Rattle.nv_model.specs.Laws.{HasMoved, IsOrderOf}
 use Rattle.nv_model.proofs.Bags.{IsDistinct, IsDistinct-others, IsDistinct-range, StandsAt, numbered, numbered-all, numbered-none, stands_at}

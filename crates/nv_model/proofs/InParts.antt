@@ -1,5 +1,6 @@
 -- Lists are asked for in parts: each is used up where the next question begins.
-use Rattle.std.proofs.Common.{◌≡◌, ℕ, zero, suc, ◌+◌, ◌-◌, ◌*◌, ◌/◌, ◌%◌, ◌<◌, ◌≤◌, min, Bool, true, false, cond, ◌&&◌, ◌==◌, nat_lt, List, [], ◌∷◌, ◌++◌, All, Option, Some, None, length, arith, refl, sym, subst, eqb-true}
+use Rattle.std.proofs.Common.{◌≡◌, ℕ, zero, suc, ◌+◌, ◌-◌, ◌*◌, ◌/◌, ◌%◌, ◌<◌, ◌≤◌, min, Bool, true, false, cond, ◌&&◌, ◌==◌, nat_lt, List, [], ◌∷◌, ◌++◌, All}
+use Rattle.std.proofs.Common.{Option, Some, None, length, arith, refl, sym, subst, eqb-true}
 use Rattle.std.specs.Bool.{⊤}
 use Rattle.std.proofs.lemmas.List.Elements.{All-cons, All-head, All-nil, All-tail}
 use Rattle.std.proofs.lemmas.List.Sums.{sum_by-cons}
@@ -22,7 +23,8 @@ use Rattle.nv_model.specs.Reading.{Reading, Faulty, TooLong, Spells, run, unless
 use Rattle.nv_model.specs.Sgl.{Array, array_by, behind_own, fault_by, pieces_by, read_array, read_descriptor, read_sgl}
 use Rattle.nv_model.specs.Prp.{entry_fault, first_len, pages_of, read_entries, read_page, read_prp, read_prp2, slots_of}
 use Rattle.nv_model.specs.Limits.{page}
-use Rattle.nv_model.specs.Judge.{Form, Transfer, Clear, Manage, Keep, field_refusal, form_of, has_buffer, is_read, judge, judge_buffer, judge_by, judge_fields, judge_reading, range_count_of, read_buffer, read_by, read_source, sized, transfer_len}
+use Rattle.nv_model.specs.Judge.{Form, Transfer, Clear, Manage, Keep, field_refusal, form_of, has_buffer, is_read, judge, judge_buffer, judge_by, judge_fields}
+use Rattle.nv_model.specs.Judge.{judge_reading, range_count_of, read_buffer, read_by, read_source, sized, transfer_len}
 use Rattle.nv_model.specs.Parts.{AsksInParts, UsesUp, in_hand}
 use Rattle.nv_model.proofs.Endings.{EndsIn, EndsIn-any, OfPieces, and-true}
 use Rattle.nv_model.proofs.Asking.{entry_fault-mapped, others-left}

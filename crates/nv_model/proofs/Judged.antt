@@ -1,5 +1,6 @@
 -- What each verdict that goes says.
-use Rattle.std.proofs.Common.{◌-◌, ◌++◌, min, sym, ◌≡◌, ℕ, zero, suc, ◌+◌, ◌<◌, ◌≤◌, Bool, true, false, cond, not, ◌&&◌, ◌==◌, nat_lt, List, [], ◌∷◌, length, All, Option, Some, None, arith, refl, ◌∙◌, subst, eqb-true, eq-or-lt_of_le, inl, inr}
+use Rattle.std.proofs.Common.{◌-◌, ◌++◌, min, sym, ◌≡◌, ℕ, zero, suc, ◌+◌, ◌<◌, ◌≤◌, Bool, true, false, cond, not, ◌&&◌, ◌==◌, nat_lt, List, [], ◌∷◌, length}
+use Rattle.std.proofs.Common.{All, Option, Some, None, arith, refl, ◌∙◌, subst, eqb-true, eq-or-lt_of_le, inl, inr}
 use Rattle.std.specs.Bool.{⊤}
 use Rattle.std.specs.List.{list_all, range_with_len}
 use Rattle.std.proofs.lemmas.List.Elements.{All-nil, All-cons, All-append, All-head, All-tail, All-map, All-replicate}
@@ -21,7 +22,9 @@ use Rattle.nv_model.specs.Dialogue.{Dialogue, End, and_then, asked, in_memory}
 use Rattle.nv_model.specs.Reading.{Reading, Faulty, TooLong, Spells, run, unless_faulty}
 use Rattle.nv_model.specs.Prp.{entry_fault, first_len, pages_of, read_prp, read_prp2}
 use Rattle.nv_model.specs.Limits.{most_blocks, page}
-use Rattle.nv_model.specs.Judge.{Form, Transfer, Clear, Manage, Keep, Work, Verdict, Go, Refuse, count_of, field_refusal, form_of, form_units, has_blocks, has_buffer, is_read, judge, judge_buffer, judge_by, judge_fields, judge_ranges, judge_reading, range_count_of, range_fits, ranges_in, read_buffer, read_by, read_source, refusal_by_opcode, sized, transfer_len, work_of}
+use Rattle.nv_model.specs.Judge.{Form, Transfer, Clear, Manage, Keep, Work, Verdict, Go, Refuse, count_of, field_refusal, form_of, form_units, has_blocks}
+use Rattle.nv_model.specs.Judge.{has_buffer, is_read, judge, judge_buffer, judge_by, judge_fields, judge_ranges, judge_reading, range_count_of, range_fits}
+use Rattle.nv_model.specs.Judge.{ranges_in, read_buffer, read_by, read_source, refusal_by_opcode, sized, transfer_len, work_of}
 use Rattle.nv_model.proofs.Agreeing.{in_memory-agree}
 use Rattle.nv_model.specs.Laws.{AgreeAt, AgreeOn, IsMappedPiece, IsMappedPlace, IsUnitWithin}
 use Rattle.nv_model.proofs.Endings.{EndsIn, EndsIn-and_then, EndsIn-any, EndsIn-if, OfPieces, and-true, first_failing-none, in_memory-ends}

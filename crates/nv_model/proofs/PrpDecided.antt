@@ -1,5 +1,7 @@
 -- The first faulty entry of a transfer by physical region pages decides.
-use Rattle.std.proofs.Common.{◌≡◌, ℕ, zero, suc, ◌+◌, ◌-◌, ◌*◌, ◌/◌, ◌%◌, ◌<◌, ◌≤◌, min, Bool, true, false, cond, not, ◌&&◌, ◌==◌, nat_le, nat_lt, List, [], ◌∷◌, ◌++◌, All, Option, Some, None, slice_get, take, arith, refl, sym, ap, ◌∙◌, subst, eqb-true, ltb-true, eq-or-lt_of_le, inl, inr}
+use Rattle.std.proofs.Common.{◌≡◌, ℕ, zero, suc, ◌+◌, ◌-◌, ◌*◌, ◌/◌, ◌%◌, ◌<◌, ◌≤◌, min, Bool, true, false, cond, not, ◌&&◌, ◌==◌, nat_le, nat_lt, List, []}
+use Rattle.std.proofs.Common.{◌∷◌, ◌++◌, All, Option, Some, None, slice_get, take, arith, refl, sym, ap, ◌∙◌, subst, eqb-true, ltb-true, eq-or-lt_of_le, inl}
+use Rattle.std.proofs.Common.{inr}
 use Rattle.std.proofs.lemmas.Bool.{cases_lt}
 use Rattle.std.proofs.lemmas.Bool.Decides.{nat_tests}
 use Rattle.std.proofs.lemmas.List.Elements.{All-head, All-tail}

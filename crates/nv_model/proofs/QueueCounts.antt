@@ -1,5 +1,6 @@
 -- How many entries wait in a queue, and how many completions are not acknowledged: what raises and lowers it.
-use Rattle.std.proofs.Common.{◌≡◌, ℕ, ◌+◌, ◌-◌, ◌*◌, ◌<◌, ◌≤◌, inl, inr, true, false, cond, ◌&&◌, nat_le, nat_lt, Option, Some, None, arith, refl, sym, ap, ◌∙◌, subst, leb-true, ltb-true, mod-eq_of_lt, mod-lt, eq-eqb, eqb-true}
+use Rattle.std.proofs.Common.{◌≡◌, ℕ, ◌+◌, ◌-◌, ◌*◌, ◌<◌, ◌≤◌, inl, inr, true, false, cond, ◌&&◌, nat_le, nat_lt, Option, Some, None, arith, refl, sym, ap, ◌∙◌}
+use Rattle.std.proofs.Common.{subst, leb-true, ltb-true, mod-eq_of_lt, mod-lt, eq-eqb, eqb-true}
 use Rattle.std.proofs.Math.Nat.{mod_self}
 use Rattle.std.proofs.lemmas.Bool.{cases_lt, cases_eq}
 use Rattle.nv_model.specs.Queue.{SubmissionQueue, CompletionQueue, ahead, front_taken, is_empty, is_full, next_slot, unacknowledged}

@@ -1,5 +1,6 @@
 -- What a controller does keeps what its queues have.
-use Rattle.std.proofs.Common.{◌≡◌, ℕ, zero, suc, ◌-◌, ◌*◌, ◌/◌, ◌%◌, ◌<◌, Bool, true, false, cond, not, ◌&&◌, ◌==◌, nat_lt, nat_le, List, [], ◌∷◌, set, slice_get, All, Option, Some, None, IfSome, refl, sym, ap, ◌∙◌, subst, ltb-true}
+use Rattle.std.proofs.Common.{◌≡◌, ℕ, zero, suc, ◌-◌, ◌*◌, ◌/◌, ◌%◌, ◌<◌, Bool, true, false, cond, not, ◌&&◌, ◌==◌, nat_lt, nat_le, List, [], ◌∷◌, set}
+use Rattle.std.proofs.Common.{slice_get, All, Option, Some, None, IfSome, refl, sym, ap, ◌∙◌, subst, ltb-true}
 use Rattle.std.proofs.lemmas.List.Elements.{All-head, All-tail, All-set, All-replicate}
 use Rattle.nv_entry.specs.Layout.{bits}
 use Rattle.nv_entry.specs.Status.{StatusField}

@@ -1,5 +1,6 @@
 -- Each step of the private controller keeps its counts those of the bag, and its parts together.
-use Rattle.std.proofs.Common.{◌≡◌, ℕ, zero, suc, ◌+◌, ◌<◌, Bool, true, false, ◌==◌, nat_lt, List, [], ◌∷◌, length, replicate, slice_get, slice_index, Option, Some, None, IfSome, IsSome, is_none, arith, refl, sym, ◌∙◌, subst, ltb-true}
+use Rattle.std.proofs.Common.{◌≡◌, ℕ, zero, suc, ◌+◌, ◌<◌, Bool, true, false, ◌==◌, nat_lt, List, [], ◌∷◌, length, replicate, slice_get, slice_index, Option}
+use Rattle.std.proofs.Common.{Some, None, IfSome, IsSome, is_none, arith, refl, sym, ◌∙◌, subst, ltb-true}
 use Rattle.std.proofs.lemmas.Bool.Decides.{nat_tests}
 use Rattle.nv_entry.specs.Status.{StatusField, bit}
 use Rattle.nv_entry.specs.StatusCode.{done_with}

@@ -1,5 +1,6 @@
 -- States that look alike take the same steps, with the same replies, to states that look alike.
-use Rattle.std.proofs.Common.{◌≡◌, ℕ, zero, suc, ◌+◌, ◌*◌, ◌<◌, Bool, true, cond, ◌||◌, ◌==◌, nat_lt, List, [], ◌∷◌, length, drop, replicate, slice_get, All, Option, Some, None, IfSome, refl, ap, ◌∙◌, subst, arith}
+use Rattle.std.proofs.Common.{◌≡◌, ℕ, zero, suc, ◌+◌, ◌*◌, ◌<◌, Bool, true, cond, ◌||◌, ◌==◌, nat_lt, List, [], ◌∷◌, length, drop, replicate, slice_get, All}
+use Rattle.std.proofs.Common.{Option, Some, None, IfSome, refl, ap, ◌∙◌, subst, arith}
 use Rattle.std.specs.List.{list_any}
 use Rattle.std.proofs.lemmas.List.Elements.{All-head, All-tail, All-take, All-drop}
 use Rattle.nv_entry.specs.Submission.{cid_of}

@@ -1,5 +1,6 @@
 -- What each change of a controller's queues and counts keeps.
-use Rattle.std.proofs.Common.{◌≡◌, ℕ, zero, suc, ◌<◌, Bool, true, false, ◌||◌, ◌==◌, List, [], ◌∷◌, length, set, slice_get, slice_index, replicate, Option, Some, None, IfSome, IsSome, arith, refl, ap, ◌∙◌, eq-eqb}
+use Rattle.std.proofs.Common.{◌≡◌, ℕ, zero, suc, ◌<◌, Bool, true, false, ◌||◌, ◌==◌, List, [], ◌∷◌, length, set, slice_get, slice_index, replicate, Option}
+use Rattle.std.proofs.Common.{Some, None, IfSome, IsSome, arith, refl, ap, ◌∙◌, eq-eqb}
 use Rattle.std.specs.List.{list_any}
 use Rattle.std.proofs.lemmas.List.{length-set}
 use Rattle.nv_model.specs.Queue.{SubmissionQueue, CompletionQueue}

@@ -1,5 +1,6 @@
 -- What the admin queue does keeps a controller's parts together.
-use Rattle.std.proofs.Common.{◌≡◌, ℕ, ◌+◌, ◌<◌, inl, inr, Bool, true, false, not, ◌||◌, ◌==◌, nat_lt, List, [], ◌∷◌, ◌++◌, set, slice_index, Option, Some, None, IfSome, IsSome, is_some, is_none, arith, refl, sym, ◌∙◌, subst, eq-eqb, eqb-true}
+use Rattle.std.proofs.Common.{◌≡◌, ℕ, ◌+◌, ◌<◌, inl, inr, Bool, true, false, not, ◌||◌, ◌==◌, nat_lt, List, [], ◌∷◌, ◌++◌, set, slice_index, Option, Some, None}
+use Rattle.std.proofs.Common.{IfSome, IsSome, is_some, is_none, arith, refl, sym, ◌∙◌, subst, eq-eqb, eqb-true}
 use Rattle.std.specs.Bool.{⊤}
 use Rattle.std.specs.List.{list_any}
 use Rattle.std.proofs.lemmas.Bool.{cases_lt}

@@ -1,5 +1,6 @@
 -- What a controller's registers, doorbells and commands do keeps its parts together.
-use Rattle.std.proofs.Common.{◌≡◌, ℕ, ◌+◌, ◌-◌, ◌/◌, ◌%◌, ◌<◌, Bool, true, false, cond, not, ◌&&◌, ◌==◌, nat_lt, nat_le, List, length, set, slice_get, slice_index, sum, Option, Some, None, IfSome, IsSome, arith, refl, sym, ◌∙◌, subst, eqb-true}
+use Rattle.std.proofs.Common.{◌≡◌, ℕ, ◌+◌, ◌-◌, ◌/◌, ◌%◌, ◌<◌, Bool, true, false, cond, not, ◌&&◌, ◌==◌, nat_lt, nat_le, List, length, set, slice_get}
+use Rattle.std.proofs.Common.{slice_index, sum, Option, Some, None, IfSome, IsSome, arith, refl, sym, ◌∙◌, subst, eqb-true}
 use Rattle.std.proofs.lemmas.List.{length-set}
 use Rattle.nv_entry.specs.Layout.{bits}
 use Rattle.nv_entry.specs.Status.{StatusField}

@@ -9,7 +9,8 @@ use Rattle.nv_entry.specs.Range.{blocks_of, start_of}
 use Rattle.nv_entry.specs.Submission.{slba_of}
 use Rattle.nv_ns.specs.BlockRange.{in_namespace}
 use Rattle.nv_ns.proofs.Ranges.{InNamespace-tested}
-use Rattle.nv_model.specs.Judge.{Form, Transfer, Clear, Manage, Keep, WorkUnit, MoveBlock, ClearBlock, LeaveBlock, KeepAll, clear_units, count_of, deallocates, form_has_blocks, form_units, is_fua, lbas_of, move_units, one_range_units, range_fits, range_units, ranges_in}
+use Rattle.nv_model.specs.Judge.{Form, Transfer, Clear, Manage, Keep, WorkUnit, MoveBlock, ClearBlock, LeaveBlock, KeepAll, clear_units, count_of, deallocates}
+use Rattle.nv_model.specs.Judge.{form_has_blocks, form_units, is_fua, lbas_of, move_units, one_range_units, range_fits, range_units, ranges_in}
 use Rattle.nv_model.specs.Laws.{IsUnitWithin}
 use Rattle.nv_model.proofs.Endings.{and-true, not-false}
 

@@ -6,7 +6,8 @@ use Rattle.nv_entry.specs.declared.opcode.IoOpcode.{IoOpcode}
 use Rattle.nv_mem.specs.declared.piece.Piece.{Piece}
 use Rattle.nv_model.specs.Judge.{WorkUnit, MoveBlock, Work}
 use Rattle.nv_model.specs.Limits.{block}
-use Rattle.nv_model.specs.Private.{AtWork, JudgeStep, MoveStep, ActStep, TakeStep, GiveUpStep, PostStep, RunOutStep, AdminQueueStep, KeepStep, Moved, Private, Progress, Shape, Step, Taken, Unjudged, block_written, ending, marked, run_of, unit_moved, with_progress}
+use Rattle.nv_model.specs.Private.{AtWork, JudgeStep, MoveStep, ActStep, TakeStep, GiveUpStep, PostStep, RunOutStep, AdminQueueStep, KeepStep, Moved, Private}
+use Rattle.nv_model.specs.Private.{Progress, Shape, Step, Taken, Unjudged, block_written, ending, marked, run_of, unit_moved, with_progress}
 
 -- ---- units in order
 

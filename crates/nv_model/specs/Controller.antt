@@ -1,7 +1,8 @@
 -- A controller's registers and queues: Base Specification 2.0, "Controller Properties" (CAP, VS, CC, CSTS, AQA, ASQ, ACQ), "Controller
 -- Initialization"; doorbells: NVMe over PCIe Transport Specification 1.0, "Doorbell". Registers are read and written in dwords; what
 -- a write that is not allowed does, and which doorbell values are taken, is the project's own (profile).
-use Rattle.std.specs.Prelude.{ℕ, ◌+◌, ◌-◌, ◌*◌, ◌/◌, ◌%◌, ◌^◌, Bool, true, false, not, ◌&&◌, ◌==◌, nat_le, nat_lt, if◌then◌else◌, List, sum, slice_index, slice_get, slice_set, replicate, Option, Some, None}
+use Rattle.std.specs.Prelude.{ℕ, ◌+◌, ◌-◌, ◌*◌, ◌/◌, ◌%◌, ◌^◌, Bool, true, false, not, ◌&&◌, ◌==◌, nat_le, nat_lt, if◌then◌else◌, List, sum, slice_index}
+use Rattle.std.specs.Prelude.{slice_get, slice_set, replicate, Option, Some, None}
 use Rattle.nv_entry.specs.Layout.{bits}
 use Rattle.nv_entry.specs.Status.{StatusField, bit}
 use Rattle.nv_entry.specs.Completion.{completion}

@@ -1,5 +1,7 @@
 -- Sixteen digits as the lanes of a vector, and what they spell
-use Rattle.std.proofs.Common.{zero, suc, take, drop, ◌≤◌, append_assoc, length-drop, take_all, Option, Some, None, is_some, unwrap_or, Result, Ok, Err, ◌≡◌, ℕ, ◌+◌, ◌-◌, ◌*◌, ◌%◌, ◌^◌, ◌<◌, Bool, true, false, not, cond, eqb, leb, ltb, ◌||◌, List, [], ◌∷◌, ◌++◌, map, length, replicate, Fits, w8, refl, sym, ap, ap₂, ◌∙◌, arith}
+use Rattle.std.proofs.Common.{zero, suc, take, drop, ◌≤◌, append_assoc, length-drop, take_all, Option, Some, None, is_some, unwrap_or, Result, Ok, Err, ◌≡◌, ℕ}
+use Rattle.std.proofs.Common.{◌+◌, ◌-◌, ◌*◌, ◌%◌, ◌^◌, ◌<◌, Bool, true, false, not, cond, eqb, leb, ltb, ◌||◌, List, [], ◌∷◌, ◌++◌, map, length, replicate}
+use Rattle.std.proofs.Common.{Fits, w8, refl, sym, ap, ap₂, ◌∙◌, arith}
 use Rattle.std.proofs.lemmas.Bool.{agree_below, agree_below_at, eqb-true, ltb-true}
 use Rattle.std.proofs.lemmas.List.Elements.{All-cons, All-head, All-nil, All-tail}
 use Rattle.std.specs.List.{AllPass}

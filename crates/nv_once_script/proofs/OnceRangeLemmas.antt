@@ -16,7 +16,8 @@ use Rattle.nv_once_script.specs.OnceFault.{◌>>=◌}
 use Rattle.nv_once_script.specs.OnceLine.{LineValue, if_there, is_there, line_of}
 use Rattle.nv_once_script.specs.OnceLine as value
 use Rattle.nv_once_script.specs.OnceNumber.{bytes_of, entry_of, number_of, number_up_to}
-use Rattle.nv_once_script.specs.OnceScript.{IsInRange, Progress, ScriptValue, after_body, after_keyword, after_line, after_lines, both, finished, first_time, nothing, on_line, script_of, script_value, sizes_in}
+use Rattle.nv_once_script.specs.OnceScript.{IsInRange, Progress, ScriptValue, after_body, after_keyword, after_line, after_lines, both, finished, first_time}
+use Rattle.nv_once_script.specs.OnceScript.{nothing, on_line, script_of, script_value, sizes_in}
 use Rattle.nv_once_script.specs.OnceSizes.{block_count, is_block_count, is_memory_size, memory_size}
 use Rattle.nv_once_script.specs.OnceVocabulary.{arguments_of, count_check, keyword_of}
 use Rattle.nv_once_script.specs.OnceWords.{lines_of, words_of}

@@ -13,7 +13,8 @@ use Rattle.nv_judge.proofs.FieldLemmas.{count-at_most, field_verdict-err, field_
 use Rattle.nv_judge.proofs.RangeLemmas.{ranges-leave}
 use Rattle.nv_mem.specs.declared.piece.Piece.{Piece}
 use Rattle.nv_mem.specs.declared.region.Region.{Region}
-use Rattle.nv_model.specs.Judge.{Go, Refuse, Transfer, Verdict, count_of, field_refusal, form_has_buffer, form_of, has_blocks, has_buffer, judge_ranges, judge_reading, range_count_of, range_fits, ranges_in, transfer_len, work_of}
+use Rattle.nv_model.specs.Judge.{Go, Refuse, Transfer, Verdict, count_of, field_refusal, form_has_buffer, form_of, has_blocks, has_buffer, judge_ranges}
+use Rattle.nv_model.specs.Judge.{judge_reading, range_count_of, range_fits, ranges_in, transfer_len, work_of}
 use Rattle.nv_model.specs.Reading.{Spells}
 use Rattle.nv_model.specs.Transcript.{Outcome as Come, ReadDone, Settled as Ended, Wanted as Asked, in_transcript}
 use Rattle.nv_model.proofs.InParts.{ranges-short}

@@ -1,5 +1,6 @@
 -- The bytes of a source, as a transcript shows them, and its ranges on the disk
-use Rattle.std.proofs.Common.{◌≡◌, ℕ, ◌+◌, ◌/◌, ◌≤◌, ◌<◌, Bool, true, cond, All, List, [], ◌∷◌, ◌++◌, Option, Some, None, append-nil, append_assoc, drop, length, length-append, map, take, arith, sym, ap, subst, ◌∙◌}
+use Rattle.std.proofs.Common.{◌≡◌, ℕ, ◌+◌, ◌/◌, ◌≤◌, ◌<◌, Bool, true, cond, All, List, [], ◌∷◌, ◌++◌, Option, Some, None, append-nil, append_assoc, drop}
+use Rattle.std.proofs.Common.{length, length-append, map, take, arith, sym, ap, subst, ◌∙◌}
 use Rattle.std.specs.List.{list_all}
 use Rattle.std.proofs.lemmas.List.{drop_all}
 use Rattle.std.proofs.lemmas.List.Elements.{All-head, All-tail}

@@ -1,5 +1,6 @@
 -- Commands that are looked at, taken and completed, by the queues that are found.
-use Rattle.std.proofs.Common.{◌≡◌, ℕ, zero, suc, ◌+◌, ◌-◌, ◌*◌, ◌<◌, ◌≤◌, ◌^◌, Bool, true, false, cond, ◌==◌, if◌then◌else◌, List, length, slice_index, slice_set, Option, Some, None, IsSome, arith, refl, sym, ap, ◌∙◌, subst}
+use Rattle.std.proofs.Common.{◌≡◌, ℕ, zero, suc, ◌+◌, ◌-◌, ◌*◌, ◌<◌, ◌≤◌, ◌^◌, Bool, true, false, cond, ◌==◌, if◌then◌else◌, List, length, slice_index}
+use Rattle.std.proofs.Common.{slice_set, Option, Some, None, IsSome, arith, refl, sym, ap, ◌∙◌, subst}
 use Rattle.nv_entry.specs.Completion.{completion}
 use Rattle.nv_entry.specs.Layout.{bytes_of_dwords}
 use Rattle.nv_entry.specs.Status.{StatusField}

@@ -1,5 +1,6 @@
 -- How many entries and completions stand in a lane's rings
-use Rattle.std.proofs.Common.{◌≡◌, ℕ, ◌+◌, ◌-◌, ◌/◌, ◌%◌, ◌<◌, ◌≤◌, ◌==◌, Bool, true, false, cond, not, List, [], ◌∷◌, length, Option, Some, None, set, get_or, refl, sym, ap, ◌∙◌, arith, inl, inr, eqb-true, eq-eqb}
+use Rattle.std.proofs.Common.{◌≡◌, ℕ, ◌+◌, ◌-◌, ◌/◌, ◌%◌, ◌<◌, ◌≤◌, ◌==◌, Bool, true, false, cond, not, List, [], ◌∷◌, length, Option, Some, None, set, get_or}
+use Rattle.std.proofs.Common.{refl, sym, ap, ◌∙◌, arith, inl, inr, eqb-true, eq-eqb}
 use Rattle.std.specs.Prelude.{is_some}
 use Rattle.std.specs.List.{count_by, slice_index_or}
 use Rattle.std.proofs.lemmas.Bool.{cases_lt}
@@ -10,7 +11,8 @@ use Rattle.nv_entry.specs.Submission.{cid_of}
 use Rattle.nv_model.specs.Queue.{ahead, is_empty, next_slot}
 use Rattle.nv_world_model.specs.Area.{ring_size}
 use Rattle.nv_world_model.specs.Device.{Held, completion_posted, entry_taken, held_of, next_phase, unit_gone}
-use Rattle.nv_world_model.specs.LaneRuns.{AreWithinTags, IsNotOverrun, IsWithinTags, LaneEvent, LaneRun, Moves, Posts, Reads, Rings, Takes, held_count, in_flight, lane_behind, newly_rung, opening_run, posted_of, run_behind, unit_moved_of}
+use Rattle.nv_world_model.specs.LaneRuns.{AreWithinTags, IsNotOverrun, IsWithinTags, LaneEvent, LaneRun, Moves, Posts, Reads, Rings, Takes, held_count}
+use Rattle.nv_world_model.specs.LaneRuns.{in_flight, lane_behind, newly_rung, opening_run, posted_of, run_behind, unit_moved_of}
 
 -- ---- positions and counts
 

@@ -17,7 +17,10 @@ use Rattle.nv_world_model.specs.Geometry.{Geometry, regions_of, shape_of}
 use Rattle.nv_world_model.specs.Laws.{IsAmong, IsBytesOr, MayAnswer, MayAnswerAct}
 use Rattle.nv_world_model.specs.Plan.{Plan, plan_over}
 use Rattle.nv_world_model.specs.Seat.{Owner, completion_at, owner_of, put_back, seat}
-use Rattle.nv_world_model.specs.Step.{After, act_put_back, acted_by, acted_in, administered_by, administered_in, carry_out, delivered, device_moved, device_post, device_posted, device_took, ended_at_once, for_device, for_ended, for_guest, for_held, for_lane, for_owner, for_taken, free_tag, is_io_queue, is_success, is_telling, kept_block, list_at, listed, post_at, post_by, posted_to, ran_out_of, reaped, replied, step, submit_by, take_front, take_tag, taken_to}
+use Rattle.nv_world_model.specs.Step.{After, act_put_back, acted_by, acted_in, administered_by, administered_in, carry_out, delivered, device_moved}
+use Rattle.nv_world_model.specs.Step.{device_post, device_posted, device_took, ended_at_once, for_device, for_ended, for_guest, for_held, for_lane, for_owner}
+use Rattle.nv_world_model.specs.Step.{for_taken, free_tag, is_io_queue, is_success, is_telling, kept_block, list_at, listed, post_at, post_by, posted_to}
+use Rattle.nv_world_model.specs.Step.{ran_out_of, reaped, replied, step, submit_by, take_front, take_tag, taken_to}
 use Rattle.nv_world_model.specs.World.{Command, Ended, Flying, Free, Lane, Tag, Taken, World, tag_of}
 use Rattle.nv_world_model.specs.Area.{bounce_page}
 use Rattle.nv_world_model.specs.declared.event.Event.{Event}

@@ -13,7 +13,8 @@ use Rattle.nv_mem.specs.Places.{places_of}
 use Rattle.nv_mem.specs.declared.piece.Piece.{Piece}
 use Rattle.nv_model.specs.Carried.{block_work, units_moved}
 use Rattle.nv_model.specs.Dialogue.{in_memory}
-use Rattle.nv_model.specs.Judge.{Clear, ClearBlock, Form, Keep, KeepAll, Manage, MoveBlock, Transfer, WorkUnit, count_of, deallocates, form_of, has_blocks, is_fua, one_range_units, range_count_of, transfer_len}
+use Rattle.nv_model.specs.Judge.{Clear, ClearBlock, Form, Keep, KeepAll, Manage, MoveBlock, Transfer, WorkUnit, count_of, deallocates, form_of, has_blocks}
+use Rattle.nv_model.specs.Judge.{is_fua, one_range_units, range_count_of, transfer_len}
 use Rattle.nv_model.specs.Limits.{range_size}
 use Rattle.nv_model.specs.Memory.{bytes_from, gathered, stored}
 use Rattle.nv_model.specs.Private.{Moved, moved_status, others}

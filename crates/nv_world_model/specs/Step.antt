@@ -28,7 +28,8 @@ use Rattle.nv_world_model.specs.Device.{DeviceLane, Held, completion_posted, com
 use Rattle.nv_world_model.specs.Geometry.{Geometry, regions_of, shape_of}
 use Rattle.nv_world_model.specs.Plan.{Answer, Bounced, Direct, NoData, Plan, plan_over}
 use Rattle.nv_world_model.specs.Seat.{Owner, completion_at, owner_of, put_back, seat, with_memory}
-use Rattle.nv_world_model.specs.World.{Answered, Command, Ended, Flying, Free, InDevice, Lane, Queued, Standing, Tag, Taken, World, tag_of, with_controller, with_device, with_host, with_lane, with_tag}
+use Rattle.nv_world_model.specs.World.{Answered, Command, Ended, Flying, Free, InDevice, Lane, Queued, Standing, Tag, Taken, World, tag_of, with_controller}
+use Rattle.nv_world_model.specs.World.{with_device, with_host, with_lane, with_tag}
 
 -- the world behind an event, and the reply
 pub record After : Type 0 where

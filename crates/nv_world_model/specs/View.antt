@@ -1,6 +1,7 @@
 -- What of the world is a guest's: its memory and blocks, its controller, its tags with all that the device and the
 -- mediator hold of them; and the numbers that all guests share (profile).
-use Rattle.std.specs.Prelude.{◌≡◌, ℕ, ◌+◌, ◌*◌, ◌<◌, Bool, true, false, not, ◌&&◌, ◌==◌, nat_le, nat_lt, if◌then◌else◌, List, [], ◌∷◌, ◌++◌, filter, flat_map, length, map, slice_get, Option, Some, None, is_some}
+use Rattle.std.specs.Prelude.{◌≡◌, ℕ, ◌+◌, ◌*◌, ◌<◌, Bool, true, false, not, ◌&&◌, ◌==◌, nat_le, nat_lt, if◌then◌else◌, List, [], ◌∷◌, ◌++◌, filter, flat_map}
+use Rattle.std.specs.Prelude.{length, map, slice_get, Option, Some, None, is_some}
 use Rattle.std.specs.List.{enumerate_from, list_any, range_with_len}
 use Rattle.nv_entry.specs.Completion.{status_of}
 use Rattle.nv_entry.specs.Status.{StatusField}

@@ -1,10 +1,14 @@
 -- What a chunk shows, and chunks that lie one behind the other, as lists of bytes.
-use Rattle.std.proofs.Common.{◌≡◌, ◌==◌, Option, Some, None, Bool, true, false, not, true≢false, if◌then◌else◌, ℕ, zero, suc, ◌+◌, ◌-◌, ◌*◌, ◌/◌, ◌%◌, ◌<◌, ◌≤◌, ◌⊎◌, List, [], ◌∷◌, ◌++◌, length, take, drop, replicate, slice_index_or, slice_set, arith, refl, sym, ap, subst, ◌∙◌, inl, inr, append_assoc}
+use Rattle.std.proofs.Common.{◌≡◌, ◌==◌, Option, Some, None, Bool, true, false, not, true≢false, if◌then◌else◌, ℕ, zero, suc, ◌+◌, ◌-◌, ◌*◌, ◌/◌, ◌%◌, ◌<◌, ◌≤◌}
+use Rattle.std.proofs.Common.{◌⊎◌, List, [], ◌∷◌, ◌++◌, length, take, drop, replicate, slice_index_or, slice_set, arith, refl, sym, ap, subst, ◌∙◌, inl, inr}
+use Rattle.std.proofs.Common.{append_assoc}
 use Rattle.std.proofs.Math.Nat.{div-add-mod, mul_comm, mul-suc}
 use Rattle.std.proofs.lemmas.Nat.{div_below}
 use Rattle.std.specs.List.{All}
 use Rattle.std.specs.Prelude.{MatchOption, ⊤}
-use Rattle.std.proofs.lemmas.List.{drop-append-le, drop-drop, drop-replicate, length-append, length-drop, length-replicate, length-set, length-take-le, replicate-append-replicate, set-append_left, set-append_right, take-append-le, take-append-drop, take-replicate, take-take, take_all, take_rest, drop-take, get_or-append_right, get_or_append_left}
+use Rattle.std.proofs.lemmas.List.{drop-append-le, drop-drop, drop-replicate, length-append, length-drop, length-replicate, length-set, length-take-le}
+use Rattle.std.proofs.lemmas.List.{replicate-append-replicate, set-append_left, set-append_right, take-append-le, take-append-drop, take-replicate, take-take}
+use Rattle.std.proofs.lemmas.List.{take_all, take_rest, drop-take, get_or-append_right, get_or_append_left}
 use Rattle.std.proofs.lemmas.Bool.{eqb-false, eqb-true}
 use lib.Pointwise.{bytes_decides, pointwise}
 use Rattle.std.proofs.Math.Dec.{eqb}

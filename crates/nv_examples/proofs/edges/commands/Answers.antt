@@ -18,15 +18,18 @@ use Rattle.nv_world_model.specs.Device.{device_unit}
 use Rattle.nv_examples.proofs.edges.commands.Goals as goal
 
 pub returns-clause-a_completion_queue_of_a_submission_queues_number : goal.returns-clause-a_completion_queue_of_a_submission_queues_number
-unfolding number_at dword qword bits bytes_of_dwords completion everywhere addresses bytes_from stored gathered scattered in_memory and_then read_array read_sgl move_units judge opening register reg_write doorbell front took post ran_out admin_command admin differs start step run_of
+unfolding number_at dword qword bits bytes_of_dwords completion everywhere addresses bytes_from stored gathered scattered in_memory and_then read_array read_sgl
+    move_units judge opening register reg_write doorbell front took post ran_out admin_command admin differs start step run_of
 returns-clause-a_completion_queue_of_a_submission_queues_number c = refl
 
 pub returns-clause-a_verdict_is_given : goal.returns-clause-a_verdict_is_given
-unfolding number_at dword qword bits bytes_of_dwords completion everywhere addresses bytes_from stored gathered scattered in_memory and_then read_array read_sgl move_units judge opening register reg_write doorbell front took post ran_out admin_command admin differs start step run_of
+unfolding number_at dword qword bits bytes_of_dwords completion everywhere addresses bytes_from stored gathered scattered in_memory and_then read_array read_sgl
+    move_units judge opening register reg_write doorbell front took post ran_out admin_command admin differs start step run_of
 returns-clause-a_verdict_is_given c = refl
 
 pub returns-clause-it_is_given_once : goal.returns-clause-it_is_given_once
-unfolding number_at dword qword bits bytes_of_dwords completion everywhere addresses bytes_from stored gathered scattered in_memory and_then read_array read_sgl move_units judge opening register reg_write doorbell front took post ran_out admin_command admin differs start step run_of
+unfolding number_at dword qword bits bytes_of_dwords completion everywhere addresses bytes_from stored gathered scattered in_memory and_then read_array read_sgl
+    move_units judge opening register reg_write doorbell front took post ran_out admin_command admin differs start step run_of
 returns-clause-it_is_given_once c = refl
 
 pub returns-clause-fua_of_a_physical_write_zeroes : goal.returns-clause-fua_of_a_physical_write_zeroes

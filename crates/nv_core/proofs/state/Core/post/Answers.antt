@@ -1,5 +1,6 @@
 use Rattle.std.proofs.Common.{◌≡◌, ◌∙◌, Option, Some, slice_get, ap, subst, arith}
-use Rattle.nv_core.proofs.Posts.{area-fits, ended-below, ended-here, ended-state, ended-there, has-controller, is-ended, may-settle, post-done, post-held, post-nobody, post-no_tag, post-not, queues-there, same-lane, tag-below}
+use Rattle.nv_core.proofs.Posts.{area-fits, ended-below, ended-here, ended-state, ended-there, has-controller, is-ended, may-settle, post-done, post-held}
+use Rattle.nv_core.proofs.Posts.{post-nobody, post-no_tag, post-not, queues-there, same-lane, tag-below}
 use Rattle.nv_core.specs.Ending.{Settled, settled}
 use Rattle.nv_core.specs.State.{State}
 use Rattle.nv_model.specs.Memory.{byte_in}

@@ -11,9 +11,11 @@ use Rattle.nv_model.specs.Private.{differs, step, run_of}
 use Rattle.nv_model.proofs.rows.effects.a_range_of_no_blocks_has_no_unit.Goals as goal
 
 pub returns-clause-ended : goal.returns-clause-ended
-unfolding number_at dword qword bits bytes_of_dwords completion everywhere addresses bytes_from stored gathered scattered in_memory and_then read_array read_sgl read_source ranges_in move_units clear_units range_units judge differs step run_of
+unfolding number_at dword qword bits bytes_of_dwords completion everywhere addresses bytes_from stored gathered scattered in_memory and_then read_array read_sgl
+    read_source ranges_in move_units clear_units range_units judge differs step run_of
 returns-clause-ended c = refl
 
 pub returns-clause-unchanged : goal.returns-clause-unchanged
-unfolding number_at dword qword bits bytes_of_dwords completion everywhere addresses bytes_from stored gathered scattered in_memory and_then read_array read_sgl read_source ranges_in move_units clear_units range_units judge differs step run_of
+unfolding number_at dword qword bits bytes_of_dwords completion everywhere addresses bytes_from stored gathered scattered in_memory and_then read_array read_sgl
+    read_source ranges_in move_units clear_units range_units judge differs step run_of
 returns-clause-unchanged c = refl

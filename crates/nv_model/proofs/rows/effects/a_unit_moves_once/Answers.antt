@@ -11,13 +11,16 @@ use Rattle.nv_model.specs.Private.{differs, step, run_of}
 use Rattle.nv_model.proofs.rows.effects.a_unit_moves_once.Goals as goal
 
 pub returns-clause-again : goal.returns-clause-again
-unfolding number_at dword qword bits bytes_of_dwords completion everywhere addresses bytes_from stored gathered scattered in_memory and_then read_array read_sgl read_source ranges_in move_units clear_units range_units judge differs step run_of
+unfolding number_at dword qword bits bytes_of_dwords completion everywhere addresses bytes_from stored gathered scattered in_memory and_then read_array read_sgl
+    read_source ranges_in move_units clear_units range_units judge differs step run_of
 returns-clause-again c = refl
 
 pub returns-clause-not_there : goal.returns-clause-not_there
-unfolding number_at dword qword bits bytes_of_dwords completion everywhere addresses bytes_from stored gathered scattered in_memory and_then read_array read_sgl read_source ranges_in move_units clear_units range_units judge differs step run_of
+unfolding number_at dword qword bits bytes_of_dwords completion everywhere addresses bytes_from stored gathered scattered in_memory and_then read_array read_sgl
+    read_source ranges_in move_units clear_units range_units judge differs step run_of
 returns-clause-not_there c = refl
 
 pub returns-clause-unjudged : goal.returns-clause-unjudged
-unfolding number_at dword qword bits bytes_of_dwords completion everywhere addresses bytes_from stored gathered scattered in_memory and_then read_array read_sgl read_source ranges_in move_units clear_units range_units judge differs step run_of
+unfolding number_at dword qword bits bytes_of_dwords completion everywhere addresses bytes_from stored gathered scattered in_memory and_then read_array read_sgl
+    read_source ranges_in move_units clear_units range_units judge differs step run_of
 returns-clause-unjudged c = refl

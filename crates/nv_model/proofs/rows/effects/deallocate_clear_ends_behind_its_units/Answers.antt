@@ -11,9 +11,11 @@ use Rattle.nv_model.specs.Private.{differs, step, run_of}
 use Rattle.nv_model.proofs.rows.effects.deallocate_clear_ends_behind_its_units.Goals as goal
 
 pub returns-clause-before : goal.returns-clause-before
-unfolding number_at dword qword bits bytes_of_dwords completion everywhere addresses bytes_from stored gathered scattered in_memory and_then read_array read_sgl read_source ranges_in move_units clear_units range_units judge differs step run_of
+unfolding number_at dword qword bits bytes_of_dwords completion everywhere addresses bytes_from stored gathered scattered in_memory and_then read_array read_sgl
+    read_source ranges_in move_units clear_units range_units judge differs step run_of
 returns-clause-before c = refl
 
 pub returns-clause-behind : goal.returns-clause-behind
-unfolding number_at dword qword bits bytes_of_dwords completion everywhere addresses bytes_from stored gathered scattered in_memory and_then read_array read_sgl read_source ranges_in move_units clear_units range_units judge differs step run_of
+unfolding number_at dword qword bits bytes_of_dwords completion everywhere addresses bytes_from stored gathered scattered in_memory and_then read_array read_sgl
+    read_source ranges_in move_units clear_units range_units judge differs step run_of
 returns-clause-behind c = refl

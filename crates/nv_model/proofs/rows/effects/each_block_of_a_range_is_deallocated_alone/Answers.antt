@@ -11,9 +11,11 @@ use Rattle.nv_model.specs.Private.{differs, step, run_of}
 use Rattle.nv_model.proofs.rows.effects.each_block_of_a_range_is_deallocated_alone.Goals as goal
 
 pub returns-clause-in_order : goal.returns-clause-in_order
-unfolding number_at dword qword bits bytes_of_dwords completion everywhere addresses bytes_from stored gathered scattered in_memory and_then read_array read_sgl read_source ranges_in move_units clear_units range_units judge differs step run_of
+unfolding number_at dword qword bits bytes_of_dwords completion everywhere addresses bytes_from stored gathered scattered in_memory and_then read_array read_sgl
+    read_source ranges_in move_units clear_units range_units judge differs step run_of
 returns-clause-in_order c = refl
 
 pub returns-clause-any_other : goal.returns-clause-any_other
-unfolding number_at dword qword bits bytes_of_dwords completion everywhere addresses bytes_from stored gathered scattered in_memory and_then read_array read_sgl read_source ranges_in move_units clear_units range_units judge differs step run_of
+unfolding number_at dword qword bits bytes_of_dwords completion everywhere addresses bytes_from stored gathered scattered in_memory and_then read_array read_sgl
+    read_source ranges_in move_units clear_units range_units judge differs step run_of
 returns-clause-any_other c = refl

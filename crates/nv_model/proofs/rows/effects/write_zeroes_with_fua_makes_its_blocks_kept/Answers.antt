@@ -11,5 +11,6 @@ use Rattle.nv_model.specs.Private.{differs, step, run_of}
 use Rattle.nv_model.proofs.rows.effects.write_zeroes_with_fua_makes_its_blocks_kept.Goals as goal
 
 pub returns : goal.returns
-unfolding number_at dword qword bits bytes_of_dwords completion everywhere addresses bytes_from stored gathered scattered in_memory and_then read_array read_sgl read_source ranges_in move_units clear_units range_units judge differs step run_of
+unfolding number_at dword qword bits bytes_of_dwords completion everywhere addresses bytes_from stored gathered scattered in_memory and_then read_array read_sgl
+    read_source ranges_in move_units clear_units range_units judge differs step run_of
 returns c = refl

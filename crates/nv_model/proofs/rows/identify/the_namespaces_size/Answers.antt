@@ -12,5 +12,6 @@ use Rattle.nv_model.specs.Private.{start, step, run_of}
 use Rattle.nv_model.proofs.rows.identify.the_namespaces_size.Goals as goal
 
 pub returns : goal.returns
-unfolding number_at dword qword bits bytes_of_dwords completion everywhere addresses bytes_from stored scattered in_memory read_entries opening register reg_write doorbell front took post ran_out structure admin_command admin start step run_of
+unfolding number_at dword qword bits bytes_of_dwords completion everywhere addresses bytes_from stored scattered in_memory read_entries opening register
+    reg_write doorbell front took post ran_out structure admin_command admin start step run_of
 returns c = refl

@@ -1,7 +1,8 @@
 use Rattle.std.proofs.Common.{◌≡◌, ◌<◌, ◌+◌, length, get_or, drop, sym, ap, ◌∙◌, arith}
 use Rattle.std.proofs.lemmas.Bool.Decides.{nat_tests}
 use Rattle.std.proofs.lemmas.List.{drop_more, drop_all}
-use Rattle.nv_once_script.proofs.OnceNumberLemmas.{spelled_after, spelled-none, spelled_after-all, spelled_after-read_other, spelled_after-read, spelled_after-read_large, large-product, large-sum, sum-is, spelled_after-end}
+use Rattle.nv_once_script.proofs.OnceNumberLemmas.{spelled_after, spelled-none, spelled_after-all, spelled_after-read_other, spelled_after-read}
+use Rattle.nv_once_script.proofs.OnceNumberLemmas.{spelled_after-read_large, large-product, large-sum, sum-is, spelled_after-end}
 use Rattle.nv_once_script.proofs.once.number.spelled_number.Goals as goal
 
 pub returns-then-is_empty : goal.returns-then-is_empty
