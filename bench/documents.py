@@ -1,0 +1,196 @@
+#!/usr/bin/env python3
+"""documents.py [--write]: whether the documents keep their limits and say what the crates say. Prints a line for each thing that is off,
+and ends with status 1 where there is one. With --write the tables of docs/CRATES.md and docs/EDITS.md are written anew first.
+
+Looked at are: the README's lines and their width; the width of docs/; the first line of docs/PERF.md; each crate's line of docs/CRATES.md,
+which is the first sentence of its own page; the edits of docs/EDITS.md; a row of docs/GATE.md for each crate; links, and names of files and
+crates that stand in backquotes; and long lines of code, definitions and proofs."""
+import glob
+import os
+import re
+import sys
+
+ROOT = os.path.dirname(os.path.dirname(os.path.abspath(__file__)))
+README_LINES = 120
+README_WIDTH = 120
+WIDTH = 160
+# of a crate's first sentence in its table
+SENTENCE = 130
+LONG = 200
+LONG_LINES = 300
+PERF = "Start: 4466b48d1733cc7975d6a2b277906902cf51a675 is the last commit landed before the work for speed began."
+BEGIN = "<!-- written by bench/documents.py -->"
+END = "<!-- as far as here -->"
+
+
+def read(path):
+    with open(os.path.join(ROOT, path), encoding="utf-8") as file:
+        return file.read()
+
+
+def pages():
+    return ["README.md", *sorted(os.path.relpath(path, ROOT) for path in glob.glob(os.path.join(ROOT, "docs", "*.md")))]
+
+
+def groups():
+    """The groups of crates.txt, each with its comment and the names of its crates, in their order."""
+    found = []
+    for line in read("crates.txt").splitlines():
+        comment = re.match(r"# *([^:]+): *(.+)", line)
+        if comment:
+            found.append((comment[1], comment[2], []))
+        elif line.strip() and not line.startswith("#"):
+            name = re.split(r"[ :]", line)[0]
+            if not found:
+                found.append(("no group", "", []))
+            found[-1][2].append(name)
+    return found
+
+
+def first_sentence(crate):
+    """The first sentence of a crate's page, without what stands in parentheses; of a long one a beginning, as far as a colon or else a comma."""
+    root = next(path for path in (f"crates/{crate}/src/lib.rt", f"crates/{crate}/src/main.rt") if os.path.exists(os.path.join(ROOT, path)))
+    page = []
+    for line in read(root).splitlines():
+        if not line.startswith("//!") or line == "//!":
+            break
+        page.append(line[3:].strip())
+    text = re.sub(r"\[(`[^`]+`)\]", r"\1", " ".join(page))
+    text = re.sub(r" \([^()]*(\([^()]*\)[^()]*)*\)", "", text)
+    sentence = re.match(r".*?[^.\d](?=\.( |$))", text)
+    if not sentence:
+        return text
+    for ends in (":;", ","):
+        fitting = [end for end in (len(sentence[0]), *(found.start() for found in re.finditer(f"[{ends}] ", sentence[0]))) if end <= SENTENCE]
+        if fitting:
+            return sentence[0][: max(fitting)]
+    return sentence[0]
+
+
+def crates_table():
+    lines = []
+    for name, says, crates in groups():
+        lines += [f"## {name[0].upper()}{name[1:]}", "", f"{says[0].upper()}{says[1:]}.", "", "| Crate | Is |", "|---|---|"]
+        lines += [f"| `{crate}` | {first_sentence(crate)} |" for crate in crates]
+        lines.append("")
+    return lines[:-1]
+
+
+def edits_of(crate):
+    return sorted(os.path.basename(path)[: -len(".edit")] for path in glob.glob(os.path.join(ROOT, "crates", crate, "must-fail", "*.edit")))
+
+
+def edits_table():
+    rows = [f"| `{crate}` | `{edit}` |" for _, _, crates in groups() for crate in crates for edit in edits_of(crate)]
+    return ["| Crate | Edit |", "|---|---|", *rows]
+
+
+TABLES = {"docs/CRATES.md": crates_table, "docs/EDITS.md": edits_table}
+
+
+def written(text):
+    """What stands before the part that is written, that part, and what stands behind it."""
+    before, begin, rest = text.partition(BEGIN + "\n")
+    part, end, after = rest.partition(END)
+    return (before + begin, part, end + after) if begin and end else None
+
+
+def write():
+    for path, table in TABLES.items():
+        parts = written(read(path))
+        if parts:
+            with open(os.path.join(ROOT, path), "w", encoding="utf-8") as file:
+                file.write(parts[0] + "\n".join(["", *table(), "", ""]) + parts[2])
+
+
+def check_tables():
+    for path, table in TABLES.items():
+        parts = written(read(path))
+        if not parts:
+            yield f"{path}: the part that is written has no beginning or no end"
+        elif parts[1].strip().splitlines() != table():
+            yield f"{path}: its table is not what the crates say: bench/documents.py --write"
+
+
+def check_widths():
+    lines = read("README.md").splitlines()
+    if len(lines) > README_LINES:
+        yield f"README.md: {len(lines)} lines, and {README_LINES} are the most"
+    for path in pages():
+        most = README_WIDTH if path == "README.md" else WIDTH
+        for number, line in enumerate(read(path).splitlines(), 1):
+            if len(line) > most:
+                yield f"{path}:{number}: {len(line)} characters, and {most} are the most"
+
+
+def check_perf():
+    if read("docs/PERF.md").splitlines()[0] != PERF:
+        yield "docs/PERF.md: its first line is another"
+
+
+def check_gate(crates):
+    rows = re.findall(r"^\| `(\w+)` \|", read("docs/GATE.md"), re.M)
+    for crate in crates:
+        if rows.count(crate) != 1:
+            yield f"docs/GATE.md: {rows.count(crate)} rows of {crate}"
+    for row in rows:
+        if row not in crates:
+            yield f"docs/GATE.md: a row of {row}, which crates.txt has not"
+
+
+def check_crates(crates):
+    listed = sorted(os.path.basename(path) for path in glob.glob(os.path.join(ROOT, "crates", "*")) if os.path.isdir(os.path.join(path, "src")))
+    for crate in sorted(set(listed) ^ set(crates)):
+        yield f"crates.txt: {crate} stands there or in crates/, and not in both"
+
+
+def check_names(crates):
+    """Links between pages, and what stands in backquotes and looks like the path of a file of the repository or the name of a crate."""
+    for path in pages():
+        text = read(path)
+        here = os.path.dirname(os.path.join(ROOT, path))
+        for target in re.findall(r"\]\(([^)#\s]+)[^)]*\)", text):
+            if "://" not in target and not os.path.exists(os.path.join(here, target)):
+                yield f"{path}: a link to {target}, which is not there"
+        for name in re.findall(r"`((?:docs|bench|examples|\.ci)/[\w./-]*)", text):
+            if not os.path.exists(os.path.join(ROOT, name)):
+                yield f"{path}: {name} is not there"
+        for crate, file in re.findall(r"`(nv_\w+|nvmed)/((?:specs|src|proofs)(?:/\w+)*)", text):
+            parts = os.path.join(ROOT, "crates", crate, file)
+            if not any(os.path.exists(parts + end) for end in ("", ".antt", ".rt")) and not glob.glob(parts + "*"):
+                yield f"{path}: {crate}/{file} is not there"
+        for crate in re.findall(r"`(nv_\w+)(?=[`:/])", text):
+            if crate not in crates:
+                yield f"{path}: {crate} is no crate"
+
+
+def check_code():
+    found = 0
+    for path in glob.glob(os.path.join(ROOT, "crates", "*", "**", "*"), recursive=True):
+        if path.endswith((".rt", ".antt")) and "/out/" not in path:
+            with open(path, encoding="utf-8") as file:
+                found += sum(len(line.rstrip("\n")) > LONG for line in file)
+    if found >= LONG_LINES:
+        yield f"crates/: {found} lines of over {LONG} characters, and fewer than {LONG_LINES} are wanted"
+
+
+def main():
+    if sys.argv[1:] not in ([], ["--write"]):
+        sys.exit(__doc__)
+    if sys.argv[1:]:
+        write()
+    crates = [crate for _, _, names in groups() for crate in names]
+    off = [
+        *check_crates(crates),
+        *check_widths(),
+        *check_perf(),
+        *check_tables(),
+        *check_gate(crates),
+        *check_names(crates),
+        *check_code(),
+    ]
+    print("\n".join(off) if off else f"{len(pages())} pages and {len(crates)} crates: nothing is off")
+    sys.exit(bool(off))
+
+
+main()
