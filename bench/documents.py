@@ -19,7 +19,7 @@ SENTENCE = 130
 LONG = 200
 LONG_LINES = 300
 PERF = "Start: 4466b48d1733cc7975d6a2b277906902cf51a675 is the last commit landed before the work for speed began."
-BEGIN = "<!-- written by bench/documents.py -->"
+BEGIN = "<!-- written by bench/%s.py -->"
 END = "<!-- as far as here -->"
 
 
@@ -88,24 +88,29 @@ def edits_table():
 TABLES = {"docs/CRATES.md": crates_table, "docs/EDITS.md": edits_table}
 
 
-def written(text):
-    """What stands before the part that is written, that part, and what stands behind it."""
-    before, begin, rest = text.partition(BEGIN + "\n")
+def parts_of(path, by="documents"):
+    """What stands in a page before the part that a program writes, that part, and what stands behind it; `None` where there is none."""
+    before, begin, rest = read(path).partition(BEGIN % by + "\n")
     part, end, after = rest.partition(END)
     return (before + begin, part, end + after) if begin and end else None
 
 
+def put(path, lines, by="documents"):
+    """Writes that part of a page anew."""
+    before, _, after = parts_of(path, by)
+    with open(os.path.join(ROOT, path), "w", encoding="utf-8") as file:
+        file.write(before + "\n".join(["", *lines, "", ""]) + after)
+
+
 def write():
     for path, table in TABLES.items():
-        parts = written(read(path))
-        if parts:
-            with open(os.path.join(ROOT, path), "w", encoding="utf-8") as file:
-                file.write(parts[0] + "\n".join(["", *table(), "", ""]) + parts[2])
+        if parts_of(path):
+            put(path, table())
 
 
 def check_tables():
     for path, table in TABLES.items():
-        parts = written(read(path))
+        parts = parts_of(path)
         if not parts:
             yield f"{path}: the part that is written has no beginning or no end"
         elif parts[1].strip().splitlines() != table():
@@ -193,4 +198,5 @@ def main():
     sys.exit(bool(off))
 
 
-main()
+if __name__ == "__main__":
+    main()

@@ -1,15 +1,21 @@
 #!/usr/bin/env python3
 """gate.py [WORD..]: runs `rt ci WORD..` at the top of the repository, and prints the processor seconds of each crate's proof, of its
 tests' and of its edits. They are taken by looking at the processes twice a second, so half a second of each process may be missing.
-With `--anew` everything is proved and tried."""
+
+With `--anew` everything is proved and tried. Where that is the only word and the gate passes, the table of docs/GATE.md is written anew;
+the launcher reckons by it how long a build will take."""
 import collections
 import os
 import subprocess
 import sys
+import threading
 import time
 
-ROOT = os.path.dirname(os.path.dirname(os.path.abspath(__file__)))
+import documents
+
+ROOT = documents.ROOT
 TICKS = os.sysconf("SC_CLK_TCK")
+KINDS = ("proof", "tests", "edits")
 
 
 def processes():
@@ -26,7 +32,7 @@ def processes():
 
 
 def own_label(process):
-    """The crate that a process of the prover is at, and whether it tries an edit."""
+    """The crate that a process of the prover is at, and whether it tries an edit, or proves tests."""
     try:
         with open(f"/proc/{process}/cmdline", encoding="utf-8", errors="replace") as line:
             words = line.read().split("\0")
@@ -35,7 +41,8 @@ def own_label(process):
         return None
     if "--crate-name" not in words:
         return None
-    return words[words.index("--crate-name") + 1], "edits" if folder.startswith("rt-edit") else "proof"
+    kind = "edits" if folder.startswith("rt-edit") else "tests" if "--test" in words else "proof"
+    return words[words.index("--crate-name") + 1], kind
 
 
 class Sampler:
@@ -70,20 +77,54 @@ class Sampler:
                 self.seen[key] = ticks
 
 
+def pass_on(output, lines):
+    """Prints what the gate says as it comes, and keeps its lines."""
+    for line in output:
+        print(line, end="", flush=True)
+        lines.append(line.rstrip("\n"))
+
+
+def table(rows):
+    """The rows of the crates, in the order of crates.txt, and the sum of all."""
+    lines = ["| Crate | Proof | Tests | Edits | They cost |", "|---|---|---|---|---|"]
+    sums = collections.Counter()
+    for _, _, crates in documents.groups():
+        for crate in crates:
+            edits = len(documents.edits_of(crate))
+            cells = [f"{rows[crate].get(kind, 0):.0f}" if rows[crate].get(kind) else "" for kind in KINDS]
+            lines.append(f"| `{crate}` | {cells[0]} | {cells[1]} | {edits or ''} | {cells[2]} |")
+            sums.update({**rows[crate], "number": edits})
+    lines.append(f"| all | {sums['proof']:.0f} | {sums['tests']:.0f} | {sums['number']} | {sums['edits']:.0f} |")
+    return lines
+
+
 def main():
     begun = time.time()
-    gate = subprocess.Popen(["rt", "ci", *sys.argv[1:]], cwd=ROOT)
+    gate = subprocess.Popen(["rt", "ci", *sys.argv[1:]], cwd=ROOT, stdout=subprocess.PIPE, text=True, errors="replace")
+    said = []
+    reader = threading.Thread(target=pass_on, args=(gate.stdout, said))
+    reader.start()
     sampler = Sampler(gate.pid)
     while gate.poll() is None:
         sampler.look()
         time.sleep(0.5)
+    reader.join()
     rows = collections.defaultdict(dict)
     for (crate, kind), ticks in sampler.spent.items():
         rows[crate][kind] = ticks / TICKS
     for crate, row in sorted(rows.items(), key=lambda item: -sum(item[1].values())):
         print(f"{crate:20} {sum(row.values()):7.0f}", " ".join(f"{kind} {spent:.0f}" for kind, spent in sorted(row.items())))
-    print(f"{sum(sampler.spent.values()) / TICKS / 60:.0f} processor minutes in {(time.time() - begun) / 60:.0f} minutes")
+    minutes = sum(sampler.spent.values()) / TICKS / 60, (time.time() - begun) / 60
+    print(f"{minutes[0]:.0f} processor minutes in {minutes[1]:.0f} minutes")
+    if sys.argv[1:] == ["--anew"] and gate.returncode == 0:
+        kit = subprocess.run(["rt", "version"], capture_output=True, text=True, check=False).stdout.strip()
+        run = (
+            f"{time.strftime('%Y-%m-%d')}, {os.cpu_count()} cores, `{kit}`: {minutes[0]:.0f} minutes of processor time in {minutes[1]:.0f},"
+            f" {sum(rows['rt ci'].values()):.0f} seconds of them `rt`'s own; {said[-1] if said else ''}."
+        )
+        documents.put("docs/GATE.md", [run, "", *table(rows)], "gate")
     sys.exit(gate.returncode)
 
 
-main()
+if __name__ == "__main__":
+    main()
