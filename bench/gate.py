@@ -8,6 +8,7 @@ import collections
 import os
 import subprocess
 import sys
+import textwrap
 import threading
 import time
 
@@ -122,7 +123,7 @@ def main():
             f"{time.strftime('%Y-%m-%d')}, {os.cpu_count()} cores, `{kit}`: {minutes[0]:.0f} minutes of processor time in {minutes[1]:.0f},"
             f" {sum(rows['rt ci'].values()):.0f} seconds of them `rt`'s own; {said[-1] if said else ''}."
         )
-        documents.put("docs/GATE.md", [run, "", *table(rows)], "gate")
+        documents.put("docs/GATE.md", [*textwrap.wrap(run, documents.WIDTH - 10), "", *table(rows)], "gate")
     sys.exit(gate.returncode)
 
 
