@@ -1,10 +1,10 @@
 #!/usr/bin/env python3
 """documents.py [--write]: whether the documents keep their limits and say what the crates say. Prints a line for each thing that is off,
-and ends with status 1 where there is one. With --write the tables of docs/CRATES.md and docs/EDITS.md are written anew first.
+and ends with status 1 where there is one. With --write the tables of docs/CRATES.md and docs/EDITS.md, and the numbers of lines in docs/DEFINITIONS.md, are written anew first.
 
 Looked at are: the README's lines and their width; the width of docs/; the first line of docs/PERF.md; each crate's line of docs/CRATES.md,
-which is the first sentence of its own page; the edits of docs/EDITS.md; a row of docs/GATE.md for each crate; links, and names of files and
-crates that stand in backquotes; and long lines of code, definitions and proofs."""
+which is the first sentence of its own page; the edits of docs/EDITS.md; the lines of each file in docs/DEFINITIONS.md; a row of docs/GATE.md
+for each crate; links, and names of files, crates and code that stand in backquotes; and long lines of code, definitions and proofs."""
 import glob
 import os
 import re
@@ -21,6 +21,9 @@ LONG_LINES = 300
 PERF = "Start: 4466b48d1733cc7975d6a2b277906902cf51a675 is the last commit landed before the work for speed began."
 BEGIN = "<!-- written by bench/%s.py -->"
 END = "<!-- as far as here -->"
+DEFINITIONS = "docs/DEFINITIONS.md"
+# names of the toolchain's that documents speak of
+FOREIGN = {"as_flattened_mut"}
 
 
 def read(path):
@@ -85,6 +88,23 @@ def edits_table():
     return ["| Crate | Edit |", "|---|---|", *rows]
 
 
+def lines_of(cell):
+    """How many lines the files of definitions have that a cell names; `None` where one is not there. A name behind another is of its crate."""
+    lines, folder = 0, ""
+    for name in re.findall(r"`([^`]+)`", cell):
+        folder = name[: name.index("/specs/") + len("/specs/")] if "/specs/" in name else folder
+        files = glob.glob(os.path.join(ROOT, "crates", folder, os.path.basename(name) + ".antt"))
+        if not files:
+            return None
+        lines += sum(len(read(file).splitlines()) for file in files)
+    return lines
+
+
+def counted(text):
+    """The page of definitions with the number of lines in each row as it is now."""
+    return re.sub(r"^(\| (`\w+/specs/[^|]+) \| )(\d+) \|", lambda row: f"{row[1]}{lines_of(row[2])} |", text, flags=re.M)
+
+
 TABLES = {"docs/CRATES.md": crates_table, "docs/EDITS.md": edits_table}
 
 
@@ -106,6 +126,9 @@ def write():
     for path, table in TABLES.items():
         if parts_of(path):
             put(path, table())
+    text = counted(read(DEFINITIONS))
+    with open(os.path.join(ROOT, DEFINITIONS), "w", encoding="utf-8") as file:
+        file.write(text)
 
 
 def check_tables():
@@ -115,6 +138,8 @@ def check_tables():
             yield f"{path}: the part that is written has no beginning or no end"
         elif parts[1].strip().splitlines() != table():
             yield f"{path}: its table is not what the crates say: bench/documents.py --write"
+    if counted(read(DEFINITIONS)) != read(DEFINITIONS):
+        yield f"{DEFINITIONS}: a file has another number of lines, or is not there: bench/documents.py --write"
 
 
 def check_widths():
@@ -169,14 +194,30 @@ def check_names(crates):
                 yield f"{path}: {crate} is no crate"
 
 
+def sources():
+    """The text of each file of code, definitions, proofs and scripts."""
+    for pattern in ("nvmed", "crates.txt", "crates/**/*", "bench/**/*", "examples/**/*"):
+        for path in glob.glob(os.path.join(ROOT, pattern), recursive=True):
+            if os.path.isfile(path) and not re.search(r"/out/|__pycache__", path):
+                with open(path, encoding="utf-8", errors="replace") as file:
+                    yield path, file.read()
+
+
 def check_code():
-    found = 0
-    for path in glob.glob(os.path.join(ROOT, "crates", "*", "**", "*"), recursive=True):
-        if path.endswith((".rt", ".antt")) and "/out/" not in path:
-            with open(path, encoding="utf-8") as file:
-                found += sum(len(line.rstrip("\n")) > LONG for line in file)
-    if found >= LONG_LINES:
-        yield f"crates/: {found} lines of over {LONG} characters, and fewer than {LONG_LINES} are wanted"
+    """Long lines; and names in backquotes that look like names of code, and stand in no source."""
+    long_lines, words = 0, set(FOREIGN)
+    for path, text in sources():
+        words.update(re.findall(r"\w[\w-]*", text), re.findall(r"\w+", text), [os.path.splitext(os.path.basename(path))[0]])
+        if path.endswith((".rt", ".antt")):
+            long_lines += sum(len(line) > LONG for line in text.split("\n"))
+    if long_lines >= LONG_LINES:
+        yield f"crates/: {long_lines} lines of over {LONG} characters, and fewer than {LONG_LINES} are wanted"
+    for path in pages():
+        prose = re.sub(r"```.*?```", "", read(path), flags=re.S)
+        for code in re.findall(r"`([^`\n]+)`", prose):
+            for name in re.findall(r"[A-Za-z][\w-]*", code):
+                if re.search(r"_|[a-z][A-Z]", name) and not {name, name.rstrip("-")} & words:
+                    yield f"{path}: `{code}` names {name}, which no source has"
 
 
 def main():
