@@ -2,7 +2,7 @@
 """documents.py [--write]: whether the documents keep their limits and say what the crates say. Prints a line for each thing that is off,
 and ends with status 1 where there is one. With --write the tables of docs/CRATES.md and docs/EDITS.md, and the numbers of lines in docs/DEFINITIONS.md, are written anew first.
 
-Looked at are: the README's lines and their width; the width of docs/; the first line of docs/PERF.md; each crate's line of docs/CRATES.md,
+Looked at are: the README's lines and their width; the width of docs/; the lines of each crate in docs/DESIGN.md; the first line of docs/PERF.md; each crate's line of docs/CRATES.md,
 which is the first sentence of its own page; the edits of docs/EDITS.md; the lines of each file in docs/DEFINITIONS.md; a row of docs/GATE.md
 for each crate; links, and names of files, crates and code that stand in backquotes; and long lines of code, definitions and proofs."""
 import glob
@@ -14,6 +14,7 @@ ROOT = os.path.dirname(os.path.dirname(os.path.abspath(__file__)))
 README_LINES = 120
 README_WIDTH = 120
 WIDTH = 160
+CRATE_LINES = 10
 # of a crate's first sentence in its table
 SENTENCE = 130
 LONG = 200
@@ -153,6 +154,13 @@ def check_widths():
                 yield f"{path}:{number}: {len(line)} characters, and {most} are the most"
 
 
+def check_design():
+    for paragraph in read("docs/DESIGN.md").split("\n\n"):
+        lines = paragraph.count("\n") + 1
+        if paragraph.startswith("**nv") and lines > CRATE_LINES:
+            yield f"docs/DESIGN.md: {lines} lines of {paragraph.split()[0].strip('*:,')}, and {CRATE_LINES} are the most"
+
+
 def check_perf():
     if read("docs/PERF.md").splitlines()[0] != PERF:
         yield "docs/PERF.md: its first line is another"
@@ -229,6 +237,7 @@ def main():
     off = [
         *check_crates(crates),
         *check_widths(),
+        *check_design(),
         *check_perf(),
         *check_tables(),
         *check_gate(crates),
