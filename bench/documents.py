@@ -1,10 +1,12 @@
 #!/usr/bin/env python3
 """documents.py [--write]: whether the documents keep their limits and say what the crates say. Prints a line for each thing that is off,
-and ends with status 1 where there is one. With --write the tables of docs/CRATES.md and docs/EDITS.md, and the numbers of lines in docs/DEFINITIONS.md, are written anew first.
+and ends with status 1 where there is one. With --write the tables of docs/CRATES.md and docs/EDITS.md, and the numbers of lines in
+docs/DEFINITIONS.md, are written anew first.
 
-Looked at are: the README's lines and their width; the width of docs/; the lines of each crate in docs/DESIGN.md; the first line of docs/PERF.md; each crate's line of docs/CRATES.md,
-which is the first sentence of its own page; the edits of docs/EDITS.md; the lines of each file in docs/DEFINITIONS.md; a row of docs/GATE.md
-for each crate; links, and names of files, crates and code that stand in backquotes; and long lines of code, definitions and proofs."""
+Looked at are: the README's lines and their width; the width of docs/; the lines of each crate in docs/DESIGN.md; the first line of
+docs/PERF.md; each crate's line of docs/CRATES.md, which is the first sentence of its own page; the edits of docs/EDITS.md; the lines of
+each file in docs/DEFINITIONS.md; a row of docs/GATE.md for each crate; links, and names of files, crates and code that stand in
+backquotes; and long lines of code, definitions and proofs."""
 import glob
 import os
 import re
@@ -52,8 +54,9 @@ def groups():
 
 
 def first_sentence(crate):
-    """The first sentence of a crate's page, without what stands in parentheses; of a long one a beginning, as far as a colon or else a comma."""
-    root = next(path for path in (f"crates/{crate}/src/lib.rt", f"crates/{crate}/src/main.rt") if os.path.exists(os.path.join(ROOT, path)))
+    """The first sentence of a crate's page, without what stands in parentheses; of a long one a beginning, to a colon or else a comma."""
+    roots = (f"crates/{crate}/src/lib.rt", f"crates/{crate}/src/main.rt")
+    root = next(path for path in roots if os.path.exists(os.path.join(ROOT, path)))
     page = []
     for line in read(root).splitlines():
         if not line.startswith("//!") or line == "//!":
@@ -65,7 +68,8 @@ def first_sentence(crate):
     if not sentence:
         return text
     for ends in (":;", ","):
-        fitting = [end for end in (len(sentence[0]), *(found.start() for found in re.finditer(f"[{ends}] ", sentence[0]))) if end <= SENTENCE]
+        places = [len(sentence[0]), *(found.start() for found in re.finditer(f"[{ends}] ", sentence[0]))]
+        fitting = [place for place in places if place <= SENTENCE]
         if fitting:
             return sentence[0][: max(fitting)]
     return sentence[0]
@@ -177,8 +181,8 @@ def check_gate(crates):
 
 
 def check_crates(crates):
-    listed = sorted(os.path.basename(path) for path in glob.glob(os.path.join(ROOT, "crates", "*")) if os.path.isdir(os.path.join(path, "src")))
-    for crate in sorted(set(listed) ^ set(crates)):
+    there = [os.path.basename(os.path.dirname(path)) for path in glob.glob(os.path.join(ROOT, "crates", "*", "src"))]
+    for crate in sorted(set(there) ^ set(crates)):
         yield f"crates.txt: {crate} stands there or in crates/, and not in both"
 
 
@@ -215,7 +219,8 @@ def check_code():
     """Long lines; and names in backquotes that look like names of code, and stand in no source."""
     long_lines, words = 0, set(FOREIGN)
     for path, text in sources():
-        words.update(re.findall(r"\w[\w-]*", text), re.findall(r"\w+", text), [os.path.splitext(os.path.basename(path))[0]])
+        words.update(re.findall(r"\w[\w-]*", text), re.findall(r"\w+", text))
+        words.add(os.path.splitext(os.path.basename(path))[0])
         if path.endswith((".rt", ".antt")):
             long_lines += sum(len(line) > LONG for line in text.split("\n"))
     if long_lines >= LONG_LINES:
