@@ -107,6 +107,8 @@ devmove 0 0 0|out of place
 devpost 0 0|out of place
 devfail 0 0 0 0 0|out of place
 devfail 0 0 0 0|missing word
+descriptors 0 zz|out of place
+descriptors 0|missing word
 keep 0|out of place
 reap 0|out of place
 post 0 0|out of place

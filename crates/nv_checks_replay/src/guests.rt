@@ -89,6 +89,33 @@ fn prints_guest_by_guest(rt: HostRuntime) -> Result<(), Fail> {
     Ok(())
 }
 
+/// A list of two Data Blocks behind a Last Segment, three descriptors in all, with CID 7.
+const LIST: &str = "\
+store 0 0x6000 003e000000000000000200000000000000500000000000000002000000000000
+store 0 0x13000 024007000100000000000000000000000000000000000000006000000000000020000000000000300500\
+00000000000001000000000000000000000000000000
+bell 0 0x1008 1
+";
+
+/// The guest may name two descriptors, and then three: its planner goes by its own limit.
+const LIMITS: [(&str, &str); 2] = [
+    ("descriptors 0 2\n", "await 0 0x1200c 0x000d0007\n"),
+    ("descriptors 0 3\n", "await 0 0x1200c 0x00010007\n"),
+];
+
+#[test]
+fn a_planner_goes_by_its_guests_limit(rt: HostRuntime) -> Result<(), Fail> {
+    for (limit, ended) in &LIMITS {
+        let text = format!(in rt.alloc(); "{SET_UP}{limit}{BRING_UP}{LIST}{ended}")?;
+        let want = format!(in rt.alloc(); "{BROUGHT_UP}0 done\n0 done\n0 done\n0 met\nok\n")?;
+        let outcome = served(&rt, &text);
+        assert!(rt; outcome.status == ExitStatus::Success, "{limit:?}");
+        same_text(&rt, limit, &outcome.output, &want);
+        same_text(&rt, limit, &outcome.faults, "");
+    }
+    Ok(())
+}
+
 /// Behind the set-up: what is refused before any guest acts.
 const REFUSED: [Case; 3] = [
     Case {

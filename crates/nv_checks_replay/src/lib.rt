@@ -13,6 +13,8 @@ mod events;
 #[cfg(test)]
 mod guests;
 #[cfg(test)]
+mod limits;
+#[cfg(test)]
 mod many;
 #[cfg(test)]
 mod replay;

@@ -101,6 +101,13 @@ guest 256 range 0 1 heap 256|bad number
 map 2 0 0 4096|out of place
 map 256 0 0 4096|bad number
 map 0 0 zz 4096|bad number
+descriptors 0|missing word
+descriptors 0 1 2|too many words
+descriptors 2 zz|out of place
+descriptors 256 1|bad number
+descriptors 0 zz|bad number
+descriptors 0 0x10000000000000000|bad number
+Descriptors 0 1|unknown word
 host 0x1000000|out of place
 lanes zz|out of place
 lanes|missing word
@@ -130,14 +137,20 @@ lanes 1;disk 1;mediator 0;host 0;reap 0;map 0 0 0 0|line 6: out of place
 lanes 1;disk 1;mediator 0;host 0;reap 0;guest 0 range 0 1 heap 256|line 6: out of place
 lanes 1;disk 1;mediator 0;host 0;reap 0;lanes 1|line 6: out of place
 lanes 1;disk 1;mediator 0;host 0;map 0 0 0 0|line 5: out of place
+lanes 1;disk 1;mediator 0;host 0;descriptors 0 1|line 5: out of place
+guest 0 range 0 1 heap 256;descriptors 0 1;descriptors 0 zz|line 3: out of place
+lanes 1;disk 1;mediator 0;host 0;guest 0 range 0 1 heap 256;reap 0;descriptors 0 zz|line 7: out of place
+lanes 1;disk 1;mediator 0;host 0;guest 0 range 0 1 heap 256;reap 0;descriptors 0|line 7: missing word
 ";
 
 /// Guests behind sizes alone.
 const GUESTS: &str = "\
 |[]
-guest 0 range 18446744073709551615 0 heap 256|[GuestSetUp { base: 18446744073709551615, blocks: 0, heap: 256, regions: [] }]
-guest 0 range 0 1 heap 0x1000000;map 0 1 2 3;map 0 4 5 6|[GuestSetUp { base: 0, blocks: 1, heap: 16777216, regions: [Region { guest: 1, host: 2, len: 3 }, Region { guest: 4, host: 5, len: 6 }] }]
-guest 0 range 0 1 heap 256;map 0 1 2 3;guest 1 range 2 3 heap 256;map 0 4 5 6|[GuestSetUp { base: 0, blocks: 1, heap: 256, regions: [Region { guest: 1, host: 2, len: 3 }, Region { guest: 4, host: 5, len: 6 }] }, GuestSetUp { base: 2, blocks: 3, heap: 256, regions: [] }]
+guest 0 range 18446744073709551615 0 heap 256|[GuestSetUp { base: 18446744073709551615, blocks: 0, heap: 256, limit: None, regions: [] }]
+guest 0 range 0 1 heap 0x1000000;map 0 1 2 3;map 0 4 5 6|[GuestSetUp { base: 0, blocks: 1, heap: 16777216, limit: None, regions: [Region { guest: 1, host: 2, len: 3 }, Region { guest: 4, host: 5, len: 6 }] }]
+guest 0 range 0 1 heap 256;descriptors 0 0|[GuestSetUp { base: 0, blocks: 1, heap: 256, limit: Some(0), regions: [] }]
+guest 0 range 0 1 heap 256;guest 1 range 2 3 heap 256;descriptors 1 18446744073709551615;descriptors 0 0x1000|[GuestSetUp { base: 0, blocks: 1, heap: 256, limit: Some(4096), regions: [] }, GuestSetUp { base: 2, blocks: 3, heap: 256, limit: Some(18446744073709551615), regions: [] }]
+guest 0 range 0 1 heap 256;map 0 1 2 3;guest 1 range 2 3 heap 256;map 0 4 5 6|[GuestSetUp { base: 0, blocks: 1, heap: 256, limit: None, regions: [Region { guest: 1, host: 2, len: 3 }, Region { guest: 4, host: 5, len: 6 }] }, GuestSetUp { base: 2, blocks: 3, heap: 256, limit: None, regions: [] }]
 ";
 
 /// What of a script a test looks at.
@@ -186,8 +199,8 @@ fn reads_the_set_up(rt: HostRuntime) -> Result<(), Fail> {
     let found = format!(in rt.alloc(); "{script:?}")?;
     let want =
         "Script { sizes: Sizes { host: 16777216, mediator: 4194304, disk: 4096, lanes: 1 }, guests: [\
-        GuestSetUp { base: 1000, blocks: 64, heap: 65536, regions: [Region { guest: 0, host: 1048576, len: 131072 }] }, \
-        GuestSetUp { base: 2000, blocks: 64, heap: 65536, regions: [Region { guest: 0, host: 2097152, len: 131072 }] }\
+        GuestSetUp { base: 1000, blocks: 64, heap: 65536, limit: None, regions: [Region { guest: 0, host: 1048576, len: 131072 }] }, \
+        GuestSetUp { base: 2000, blocks: 64, heap: 65536, limit: None, regions: [Region { guest: 0, host: 2097152, len: 131072 }] }\
         ], events: [] }";
     assert_eq!(rt; found.as_str(), want);
     Ok(())

@@ -60,6 +60,9 @@ dump 0 0|out of place
 block 0|out of place
 block 0 0|too many words
 map 2 0 0 4096|out of place
+descriptors 2 1|out of place
+descriptors 0 zz|bad number
+descriptors 0 1 2|too many words
 guest 1 range 0 1 heap 256|out of place
 guest 2 range 0 1 heap 255|bad number
 ";
@@ -115,8 +118,8 @@ fn wants_the_set_up_first(rt: HostRuntime) -> Result<(), Fail> {
     let found = format!(in rt.alloc(); "{script:?}")?;
     let want =
         "Script { sizes: Sizes { host: 16777216, mediator: 4194304, disk: 4096, lanes: 1 }, guests: [\
-        GuestSetUp { base: 1000, blocks: 64, heap: 65536, regions: [Region { guest: 0, host: 1048576, len: 131072 }] }, \
-        GuestSetUp { base: 2000, blocks: 64, heap: 65536, regions: [Region { guest: 0, host: 2097152, len: 131072 }] }\
+        GuestSetUp { base: 1000, blocks: 64, heap: 65536, limit: None, regions: [Region { guest: 0, host: 1048576, len: 131072 }] }, \
+        GuestSetUp { base: 2000, blocks: 64, heap: 65536, limit: None, regions: [Region { guest: 0, host: 2097152, len: 131072 }] }\
         ], lines: [] }";
     assert_eq!(rt; found.as_str(), want);
     Ok(())

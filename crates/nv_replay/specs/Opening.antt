@@ -1,5 +1,5 @@
 -- The world that a script's text opens: each guest's map in their order, then the set-up (profile)
-use Rattle.std.specs.Prelude.{◌≡◌, ℕ, ◌+◌, ◌⊎◌, List, [], ◌∷◌, Option, Some, None, Result, Ok, Err}
+use Rattle.std.specs.Prelude.{◌≡◌, ℕ, ◌+◌, ◌⊎◌, min, List, [], ◌∷◌, Option, Some, None, Result, Ok, Err}
 use Rattle.std.specs.Result.{result_map_both}
 use Rattle.nv_mem.specs.GuestMap.{refusal_of as map_refusal_of}
 use Rattle.nv_mem.specs.declared.map_error.MapError.{MapError}
@@ -17,9 +17,15 @@ use Rattle.nv_replay.specs.declared.refusal.SetUpRefusal.{SetUpRefusal}
 use Rattle.nv_replay.specs.declared.refusal.SetUpRefusal.TheVariants.{Map, TooManyGuests, RangesMeet, MapsMeet, BadSize}
 use Rattle.nv_replay.specs.Refused.{of_script}
 
--- the most descriptors that a guest's list may have
-abbrev pub descriptor_limit : ℕ
-descriptor_limit = 1024
+-- the most descriptors of a guest's list where no line names them
+abbrev pub usual_limit : ℕ
+usual_limit = 1024
+
+-- the most descriptors of a guest's list: a number that a line names is kept in 32 bits, and a larger one, which is no limit that may be,
+-- as the largest of these
+abbrev pub limit_of : Option ℕ → ℕ
+limit_of None = usual_limit
+limit_of (Some n) = min n 4294967295
 
 -- ---- the guests
 
@@ -29,7 +35,7 @@ given host guest =
     record {
       memory_map = record { host_len = host; regions = guest.regions };
       extent = record { base = guest.base; blocks = guest.blocks };
-      limit = descriptor_limit;
+      limit = limit_of guest.limit;
     }
 
 -- guest number n, unless its map is refused

@@ -4,7 +4,7 @@ ghost use Rattle.nv_replay_script.specs.ReplayScript.{script_value};
 ghost use Rattle.nv_replay_script.specs.ReplaySetUp.{guest_value};
 ghost use Rattle.nv_world.specs.Mediated.{mediated, opened};
 ghost use Rattle.nv_world_model.specs.SetUp.{refusal_of};
-ghost use Rattle.nv_replay.specs.Opening.{IsFaultOf, IsRefusalOf, guests_from, mapped_guest, opened_by, replay_of, set_up_of};
+ghost use Rattle.nv_replay.specs.Opening.{IsFaultOf, IsRefusalOf, guests_from, limit_of, mapped_guest, opened_by, replay_of, set_up_of};
 
 use crate::fault::ReplayFault;
 use crate::refusal::SetUpRefusal;
@@ -14,8 +14,8 @@ use nv_replay_script::{GuestSetUp, Script, Sizes, parse};
 use nv_world::{GuestSetup, Setup, World};
 use std::alloc::Global;
 
-/// The most descriptors that a guest's list may have.
-const DESCRIPTORS: u32 = 1024;
+/// The most descriptors of a guest's list where no line names them.
+const USUAL_LIMIT: u32 = 1024;
 
 /// Reads a script whole, and opens its world.
 ///
@@ -96,11 +96,21 @@ fn map_guest(host: u64, number: usize, guest: GuestSetUp) -> Result<GuestSetup, 
             map,
             base: guest.base,
             blocks: guest.blocks,
-            limit: DESCRIPTORS,
+            limit: limit_in_bits(guest.limit),
         }),
         Err(error) => Err(SetUpRefusal::Map {
             guest: number,
             error,
         }),
+    }
+}
+
+// The most descriptors of a guest's list. What doesn't fit into 32 bits is no limit that may be, and stays none.
+fn limit_in_bits(named: Option<u64>) -> u32
+    ensures { result ≡ limit_of named }
+{
+    match named {
+        None => USUAL_LIMIT,
+        Some(limit) => u32::try_from(limit).unwrap_or(u32::MAX),
     }
 }

@@ -1,14 +1,15 @@
--- A region more of a guest that is there
-use Rattle.std.proofs.Common.{◌≡◌, ℕ, ◌<◌, Bool, true, false, ltb, List, [], ◌∷◌, ◌++◌, length, get_or, set, Result, Ok, Err, refl, sym, ap, ◌∙◌, arith}
+-- A region more of a guest that is there, and its limit on descriptors
+use Rattle.std.proofs.Common.{◌≡◌, ℕ, ◌<◌, Some, Bool, true, false, ltb, List, [], ◌∷◌, ◌++◌, length, get_or, set, Result, Ok, Err, refl, sym, ap, ◌∙◌, arith}
 use Rattle.std.specs.Prelude.{map}
 use Rattle.std.proofs.lemmas.List.{get_or-map, length-map, map-set}
 use Rattle.std.proofs.lemmas.Bool.Decides.{nat_tests}
 use Rattle.nv_once_script.specs.declared.once.fault.FaultKind.{FaultKind}
 use Rattle.nv_once_script.specs.OnceFault.{◌>>=◌}
 use Rattle.nv_mem.specs.declared.region.Region.{Region}
-use Rattle.nv_once_script.specs.OnceNumber.{number_up_to}
+use Rattle.nv_once_script.specs.OnceNumber.{number_of, number_up_to}
+use Rattle.nv_once_script.specs.OnceScript.{first_time}
 use Rattle.nv_replay_script.specs.declared.set_up.GuestSetUp.{GuestSetUp}
-use Rattle.nv_replay_script.specs.ReplaySetUp.{GuestValue, SetUpSoFar, add_map, guest_value, in_place, known_guest, region_of, with_region}
+use Rattle.nv_replay_script.specs.ReplaySetUp.{GuestValue, SetUpSoFar, add_descriptors, add_map, guest_value, in_place, known_guest, no_guest, region_of, with_region}
 
 abbrev ok : ℕ → Result ℕ FaultKind
 ok n = Ok n
@@ -40,7 +41,7 @@ with_region-pushed : (guests : List GuestSetUp) (n : ℕ) (old new : GuestSetUp)
     → with_region (map guest_value guests) n region ≡ map guest_value (set guests n new)
 with_region-pushed guests n old new region h at made =
     rw (
-      get_or-map guest_value guests n old (record { base = 0; blocks = 0; heap = 0; regions = [] }) h,
+      get_or-map guest_value guests n old no_guest h,
       ← at,
       ← made,
     ) (sym (map-set guest_value guests n new))
@@ -59,3 +60,24 @@ add_map-read p number guest host len n region guests old new all known read at m
     ap (λ (gs : List GuestValue). with_region gs n region) all
     ∙ with_region-pushed guests n old new region (known_guest-below (length guests) n number known) at made in
     rw (known', read) (ap (λ (gs : List GuestValue). ok_set_up (record p { guests = gs })) added)
+
+-- the guest that a line `descriptors` speaks of
+limited-guest : (guests : List GuestSetUp) (n : ℕ) (old : GuestSetUp) → n < length guests → old ≡ get_or guests n old
+    → get_or (map guest_value guests) n no_guest ≡ guest_value old
+limited-guest guests n old h at = get_or-map guest_value guests n old no_guest h ∙ ap guest_value (sym at)
+
+-- what a line `descriptors` adds
+pub add_descriptors-read : (p : SetUpSoFar) (number limit : List ℕ) (n most : ℕ) (guests : List GuestSetUp) (old new : GuestSetUp)
+    → p.guests ≡ map guest_value guests → known_guest (length guests) number ≡ Ok n → old ≡ get_or guests n old
+    → first_time old.limit (number_of limit) ≡ Ok most
+    → guest_value new ≡ record (guest_value old) { limit = Some most }
+    → add_descriptors p number limit ≡ Ok (record p { guests = map guest_value (set guests n new) })
+add_descriptors-read p number limit n most guests old new all known at read made =
+    let count : length p.guests ≡ length guests = ap length all ∙ length-map guests guest_value in
+    let known' : known_guest (length p.guests) number ≡ Ok n = ap (λ (c : ℕ). known_guest c number) count ∙ known in
+    let there : get_or p.guests n no_guest ≡ guest_value old =
+    ap (λ (gs : List GuestValue). get_or gs n no_guest) all
+    ∙ limited-guest guests n old (known_guest-below (length guests) n number known) at in
+    let added : set p.guests n (record (guest_value old) { limit = Some most }) ≡ map guest_value (set guests n new) =
+    (λ i. set (all i) n (sym made i)) ∙ sym (map-set guest_value guests n new) in
+    rw (known', there, read) (ap (λ (gs : List GuestValue). ok_set_up (record p { guests = gs })) added)

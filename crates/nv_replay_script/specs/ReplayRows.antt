@@ -1,5 +1,5 @@
 -- Worked examples: a set-up of two guests, and lines behind it
-use Rattle.std.specs.Prelude.{ℕ, List, [], ◌∷◌, ◌++◌, codes, Result}
+use Rattle.std.specs.Prelude.{ℕ, List, [], ◌∷◌, ◌++◌, codes, Some, None, Result}
 use Rattle.nv_world_model.specs.declared.event.Event.{Event}
 use Rattle.nv_once_script.specs.declared.once.fault.ScriptFault.{ScriptFault}
 use Rattle.nv_replay_script.specs.ReplayScript.{ScriptValue, script_of}
@@ -31,7 +31,11 @@ behind_set_up lines = behind_sizes (guest_lines ++ lines)
 -- a guest with 20000h bytes of memory, which lie there in the host, and 64 blocks from this one on
 abbrev pub guest_at : (host base : ℕ) → GuestValue
 guest_at host base =
-    record { base = base; blocks = 64; heap = 65536; regions = record { guest = 0; host = host; len = 0x20000 } ∷ [] }
+    record { base = base; blocks = 64; heap = 65536; limit = None; regions = record { guest = 0; host = host; len = 0x20000 } ∷ [] }
+
+-- the same guest, of whose lists a line named the most descriptors
+abbrev pub limited_to : ℕ → GuestValue → GuestValue
+limited_to limit guest = record guest { limit = Some limit }
 
 -- a script of the sizes with these guests and events
 abbrev pub sized : List GuestValue → List Event → ScriptValue

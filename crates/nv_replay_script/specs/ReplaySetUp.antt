@@ -55,17 +55,19 @@ sizes_in sizes = all_four sizes.host sizes.mediator sizes.disk sizes.lanes
 
 -- ---- guests
 
--- a guest: the range of its blocks, the bytes of its planner's heap, and the regions of its memory in order
+-- a guest: the range of its blocks, the bytes of its planner's heap, the most descriptors of a list where a line named them, and the
+-- regions of its memory in order
 pub record GuestValue : Type 0 where
   pub base : ℕ
   pub blocks : ℕ
   pub heap : ℕ
+  pub limit : Option ℕ
   pub regions : List Region
 
 -- the value of a guest that was read
 abbrev pub guest_value : GuestSetUp → GuestValue
 guest_value guest =
-    record { base = guest.base; blocks = guest.blocks; heap = guest.heap; regions = guest.regions.items }
+    record { base = guest.base; blocks = guest.blocks; heap = guest.heap; limit = guest.limit; regions = guest.regions.items }
 
 -- the fewest and most bytes of a planner's heap
 abbrev pub smallest_heap : ℕ
@@ -110,7 +112,7 @@ guest_of count (number ∷ range ∷ base ∷ blocks ∷ heap ∷ bytes ∷ []) 
   n ← number_of blocks
   second ← fixed_word (codes "heap") heap
   h ← heap_bytes bytes
-  Ok (record { base = b; blocks = n; heap = h; regions = [] })
+  Ok (record { base = b; blocks = n; heap = h; limit = None; regions = [] })
 guest_of count words = Err OutOfPlace
 
 -- the region that these words make
@@ -135,11 +137,21 @@ set_up_so_far set_up = record { sizes = set_up.sizes; guests = map guest_value s
 abbrev pub no_set_up : SetUpSoFar
 no_set_up = record { sizes = no_sizes; guests = [] }
 
+-- a guest of which nothing was said
+abbrev pub no_guest : GuestValue
+no_guest = record { base = 0; blocks = 0; heap = 0; limit = None; regions = [] }
+
 -- the regions of one guest are one more
 abbrev pub with_region : List GuestValue → ℕ → Region → List GuestValue
 with_region guests number region =
-    let guest = slice_index_or guests number (record { base = 0; blocks = 0; heap = 0; regions = [] }) in
+    let guest = slice_index_or guests number no_guest in
     slice_set guests number (record guest { regions = guest.regions ++ region ∷ [] })
+
+-- a guest behind a line that names its limit on descriptors: a second time is out of place
+abbrev pub limited : GuestValue → (limit : List ℕ) → Result GuestValue FaultKind
+limited guest limit = do
+  n ← first_time guest.limit (number_of limit)
+  Ok (record guest { limit = Some n })
 
 -- what a line that names a size adds
 abbrev pub add_size : SetUpSoFar → Size → List ℕ → Result SetUpSoFar FaultKind
@@ -160,11 +172,19 @@ add_map so_far number guest host len = do
   region ← region_of guest host len
   Ok (record so_far { guests = with_region so_far.guests n region })
 
+-- what a line `descriptors` adds
+abbrev pub add_descriptors : SetUpSoFar → (number limit : List ℕ) → Result SetUpSoFar FaultKind
+add_descriptors so_far number limit = do
+  n ← known_guest (length so_far.guests) number
+  guest ← limited (slice_index_or so_far.guests n no_guest) limit
+  Ok (record so_far { guests = slice_set so_far.guests n guest })
+
 -- what a set-up line of this kind and these words behind its first adds
 abbrev pub add_set_up : SetUpSoFar → SetUpKind → List (List ℕ) → Result SetUpSoFar FaultKind
 add_set_up so_far (kind.Size size) (word ∷ []) = add_size so_far size word
 add_set_up so_far kind.Guest words = add_guest so_far words
 add_set_up so_far kind.Map (number ∷ guest ∷ host ∷ len ∷ []) = add_map so_far number guest host len
+add_set_up so_far kind.Descriptors (number ∷ limit ∷ []) = add_descriptors so_far number limit
 add_set_up so_far kind words = Err OutOfPlace
 
 -- the same, of words that are as many as that line wants, where it stands before all lines that are none of the set-up

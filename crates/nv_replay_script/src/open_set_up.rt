@@ -25,7 +25,7 @@ pub struct OpenSetUp {
 }
 
 impl OpenSetUp {
-    ghost use Rattle.nv_replay_script.specs.ReplaySetUp.{add_guest, add_map, add_size, counted_set_up, no_set_up, set_up_so_far};
+    ghost use Rattle.nv_replay_script.specs.ReplaySetUp.{add_descriptors, add_guest, add_map, add_size, counted_set_up, no_set_up, set_up_so_far};
 
     /// Before the first line.
     pub fn new(alloc: Global) -> Self
@@ -65,6 +65,11 @@ impl OpenSetUp {
                 check_early(is_early)?;
                 self.add_map(number, guest, host, len)
             }
+            SetUpKind::Descriptors => {
+                let (number, limit) = words.two()?;
+                check_early(is_early)?;
+                self.add_descriptors(number, limit)
+            }
         }
     }
 
@@ -102,6 +107,18 @@ impl OpenSetUp {
         let number = known(self.guests.len(), number)?;
         let region = make_region(guest, host, len)?;
         self.guests[number].regions.push(region)?;
+        Ok(())
+    }
+
+    // Adds the limit of a line `descriptors`.
+    fn add_descriptors(&mut self, number: Word<'_>, limit: Word<'_>) -> Result<(), LineFault>
+        ensures { let after = add_descriptors (set_up_so_far self.old) number.entry limit.entry
+            in MatchResult result (λ _. after ≡ Ok (set_up_so_far self.new)) (Refuses after) }
+    {
+        let number = known(self.guests.len(), number)?;
+        let guest = &mut self.guests[number];
+        let limit = guest.first_limit(limit)?;
+        guest.limit = Some(limit);
         Ok(())
     }
 }

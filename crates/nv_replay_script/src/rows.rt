@@ -6,7 +6,7 @@ ghost use Rattle.nv_model.specs.declared.act.Act.TheVariants as act;
 ghost use Rattle.nv_world_model.specs.declared.event.Event.TheVariants as event;
 ghost use Rattle.nv_once_script.specs.declared.once.fault.FaultKind.TheVariants.{BadBytes, BadNumber, MissingWord, OutOfPlace, UnknownWord};
 ghost use Rattle.nv_once_script.specs.declared.once.fault.ScriptFault.TheVariants.{Line};
-ghost use Rattle.nv_replay_script.specs.ReplayRows.{behind_set_up, behind_sizes, of_events, sized};
+ghost use Rattle.nv_replay_script.specs.ReplayRows.{behind_set_up, behind_sizes, guest_at, limited_to, of_events, sized};
 ghost use Rattle.nv_replay_script.specs.ReplayScript.{script_of};
 
 /// The examples of this module, a clause each.
@@ -30,6 +30,15 @@ pub fn examples()
     ensures a_guest_too_far { behind_set_up (codes "guest 3 range zz 1 heap 256" ∷ []) ≡ Err (Line 9 OutOfPlace) }
     // A region of a guest that is not there yet.
     ensures a_map_too_early { behind_set_up (codes "map 2 zz 0 4096" ∷ []) ≡ Err (Line 9 OutOfPlace) }
+    // A limit on the descriptors of a list, which is judged with the set-up.
+    ensures a_limit { behind_set_up (codes "descriptors 1 5000" ∷ []) ≡ Ok (sized (guest_at 0x100000 1000 ∷ limited_to 5000 (guest_at 0x200000 2000) ∷ []) []) }
+    // A second one for a guest.
+    ensures a_second_limit { behind_set_up (codes "descriptors 0 1" ∷ codes "descriptors 0 zz" ∷ []) ≡ Err (Line 10 OutOfPlace) }
+    // One of a guest that is not there yet, and one behind an event.
+    ensures a_limit_too_early { behind_set_up (codes "descriptors 2 zz" ∷ []) ≡ Err (Line 9 OutOfPlace) }
+    ensures a_late_limit { behind_set_up (codes "reap 0" ∷ codes "descriptors 0 1" ∷ []) ≡ Err (Line 10 OutOfPlace) }
+    // A word that is no number.
+    ensures a_limit_of_letters { behind_set_up (codes "descriptors 0 zz" ∷ []) ≡ Err (Line 9 BadNumber) }
     // A word that stands where `heap` does.
     ensures no_heap { behind_set_up (codes "guest 2 range 0 1 pile 0" ∷ []) ≡ Err (Line 9 UnknownWord) }
     // A heap that is one byte too small.

@@ -18,6 +18,8 @@ pub struct GuestSetUp {
     pub blocks: u64,
     /// how many bytes its planner's heap has, 256 to 16,777,216
     pub heap: u64,
+    /// the most descriptors of a list, where a line named them: any number, which is judged with the set-up
+    pub limit: Option<u64>,
     /// the regions of its memory, in the order written
     pub regions: Vec<Region>,
 }
@@ -94,8 +96,25 @@ pub fn make_guest(
         base,
         blocks,
         heap,
+        limit: None,
         regions: Vec::new(alloc),
     })
+}
+
+impl GuestSetUp {
+    ghost use Rattle.std.specs.Prelude.{Ok, Some, IfOk};
+    ghost use Rattle.nv_once_script.specs.OnceScript.{first_time};
+    ghost use Rattle.nv_once_script.specs.OnceNumber.{number_of};
+
+    /// The limit on descriptors that a line names by this word: the guest has none yet, or the line is out of place.
+    pub fn first_limit(&self, word: Word<'_>) -> Result<u64, FaultKind>
+        ensures { result ≡ first_time self.now.limit (number_of word.entry) }
+    {
+        if self.limit.is_some() {
+            return Err(FaultKind::OutOfPlace);
+        }
+        number(word)
+    }
 }
 
 /// Makes a region of its three words.

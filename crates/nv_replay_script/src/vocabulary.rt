@@ -83,6 +83,7 @@ pub enum SetUpKind {
     Size(Size),
     Guest,
     Map,
+    Descriptors,
 }
 
 /// What a line is, by its first word.
@@ -102,7 +103,7 @@ pub enum Keyword {
 pub const AWAIT_ARGUMENTS: usize = 3;
 
 /// Every first word of every subcommand.
-const VOCABULARY: [(&[u8], Keyword); 32] = [
+const VOCABULARY: [(&[u8], Keyword); 33] = [
     (b"devmove", Keyword::Event(EventKind::DevMove)),
     (b"devtake", Keyword::Event(EventKind::DevTake)),
     (b"devpost", Keyword::Event(EventKind::DevPost)),
@@ -130,6 +131,7 @@ const VOCABULARY: [(&[u8], Keyword); 32] = [
     (b"lanes", Keyword::SetUp(SetUpKind::Size(Size::Lanes))),
     (b"guest", Keyword::SetUp(SetUpKind::Guest)),
     (b"map", Keyword::SetUp(SetUpKind::Map)),
+    (b"descriptors", Keyword::SetUp(SetUpKind::Descriptors)),
     (b"await", Keyword::Await),
     (b"awaitreg", Keyword::AwaitReg),
     (b"memory", Keyword::Foreign(1)),

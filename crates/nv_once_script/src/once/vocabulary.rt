@@ -38,7 +38,7 @@ impl Keyword {
 }
 
 /// Every first word of every subcommand.
-const VOCABULARY: [(&[u8], Keyword); 32] = [
+const VOCABULARY: [(&[u8], Keyword); 33] = [
     (b"memory", Keyword::Memory),
     (b"blocks", Keyword::Blocks),
     (b"store", Keyword::Store),
@@ -53,6 +53,7 @@ const VOCABULARY: [(&[u8], Keyword); 32] = [
     (b"lanes", Keyword::Foreign(1)),
     (b"guest", Keyword::Foreign(6)),
     (b"map", Keyword::Foreign(4)),
+    (b"descriptors", Keyword::Foreign(2)),
     (b"load", Keyword::Foreign(3)),
     (b"regread", Keyword::Foreign(2)),
     (b"regwrite", Keyword::Foreign(3)),

@@ -86,3 +86,23 @@ returns-clause-a_failure c = refl
 pub returns-clause-a_large_status : goal.returns-clause-a_large_status
 unfolding script_of script_by lines_of without_last_feed words_of words_in after_lines after_words keyword_of vocabulary number_of written spelled decode_pairs
 returns-clause-a_large_status c = refl
+
+pub returns-clause-a_limit : goal.returns-clause-a_limit
+unfolding script_of script_by lines_of without_last_feed words_of words_in after_lines after_words keyword_of vocabulary number_of written spelled decode_pairs
+returns-clause-a_limit c = refl
+
+pub returns-clause-a_second_limit : goal.returns-clause-a_second_limit
+unfolding script_of script_by lines_of without_last_feed words_of words_in after_lines after_words keyword_of vocabulary number_of written spelled decode_pairs
+returns-clause-a_second_limit c = refl
+
+pub returns-clause-a_limit_too_early : goal.returns-clause-a_limit_too_early
+unfolding script_of script_by lines_of without_last_feed words_of words_in after_lines after_words keyword_of vocabulary number_of written spelled decode_pairs
+returns-clause-a_limit_too_early c = refl
+
+pub returns-clause-a_late_limit : goal.returns-clause-a_late_limit
+unfolding script_of script_by lines_of without_last_feed words_of words_in after_lines after_words keyword_of vocabulary number_of written spelled decode_pairs
+returns-clause-a_late_limit c = refl
+
+pub returns-clause-a_limit_of_letters : goal.returns-clause-a_limit_of_letters
+unfolding script_of script_by lines_of without_last_feed words_of words_in after_lines after_words keyword_of vocabulary number_of written spelled decode_pairs
+returns-clause-a_limit_of_letters c = refl
