@@ -5,6 +5,8 @@
 #[cfg(test)]
 mod bytes;
 #[cfg(test)]
+mod extents;
+#[cfg(test)]
 mod fields;
 #[cfg(test)]
 mod guest_map;

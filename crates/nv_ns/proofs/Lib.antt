@@ -1,2 +1,7 @@
+pub mod Apart
+pub mod CutWalk
 pub mod Examples
+pub mod ExtentRows
+pub mod Pushed
 pub mod Ranges
+pub mod Spelled

@@ -1,1 +1,5 @@
 pub mod BlockRange
+pub mod Extents
+pub mod Filled
+pub mod Joined
+pub mod Listed

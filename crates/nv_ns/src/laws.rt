@@ -1,6 +1,8 @@
 //! What the definitions of this crate come to, as functions that do nothing: each contract is a law.
-ghost use Rattle.std.specs.Prelude.{◌≡◌, ℕ, ◌+◌, ◌<◌, ◌≤◌, ◌↔◌, IsTrue};
+ghost use Rattle.std.specs.Prelude.{◌≡◌, ℕ, ◌+◌, ◌<◌, ◌≤◌, ◌↔◌, IsTrue, List, [], ◌∷◌, length, map, take, Some, slice_get};
+ghost use Rattle.std.specs.List.{All, count_by, flat_map, range_with_len};
 ghost use Rattle.nv_ns.specs.BlockRange.{Extent, InNamespace, block_at, block_count, in_namespace};
+ghost use Rattle.nv_ns.specs.Extents.{AreApart, Cut, LiesInOne, Namespace, NamesBlocks, blocks_cut, blocks_in, cuts, has_block, place_in, places_of_cut};
 
 /// A range that has blocks is in the namespace exactly when every block of it is, and a range of
 /// no blocks exactly when it starts no later than behind the last block.
@@ -22,4 +24,46 @@ pub fn blocks_lie_in_a_row()
     ensures inside { (ns : Extent) (lba : ℕ) → lba < block_count ns →
         (block_at ns 0 ≤ block_at ns lba) × (block_at ns lba < block_at ns 0 + block_count ns) }
     ensures apart { (ns : Extent) (lba other : ℕ) → block_at ns lba ≡ block_at ns other → lba ≡ other }
+{}
+
+/// What the cuts of a run of blocks name, one behind the other, is where each of its blocks lies.
+pub fn cuts_spell_the_blocks()
+    ensures { (ns : Namespace) (slba count : ℕ) → InNamespace slba count (blocks_in ns) →
+        flat_map places_of_cut (cuts ns slba count) ≡ map (place_in ns) (range_with_len slba count) }
+{}
+
+/// No cut is empty; each lies in one extent, and names blocks of the run where they lie; there are no more of them than extents.
+pub fn each_cut_is_a_part_of_one_extent()
+    ensures some { (ns : Namespace) (slba count : ℕ) → All (λ (cut : Cut). 0 < cut.count) (cuts ns slba count) }
+    ensures lies { (ns : Namespace) (slba count : ℕ) → All (LiesInOne ns) (cuts ns slba count) }
+    ensures names { (ns : Namespace) (slba count : ℕ) → All (NamesBlocks ns slba count) (cuts ns slba count) }
+    ensures few { (ns : Namespace) (slba count : ℕ) → length (cuts ns slba count) ≤ length ns }
+{}
+
+/// The cuts of a run have all its blocks, each cut begins behind those before it, and a run of no blocks has no cuts.
+pub fn cuts_are_the_run()
+    ensures all { (ns : Namespace) (slba count : ℕ) → InNamespace slba count (blocks_in ns) →
+        blocks_cut (cuts ns slba count) ≡ count }
+    ensures in_order { (ns : Namespace) (slba count i : ℕ) (cut : Cut) → slice_get (cuts ns slba count) i ≡ Some cut →
+        cut.first ≡ blocks_cut (take i (cuts ns slba count)) }
+    ensures none { (ns : Namespace) (slba : ℕ) → cuts ns slba 0 ≡ [] }
+{}
+
+/// A namespace of one extent is that range of the disk, and a run of its blocks is one cut; so is one that lies in the first extent.
+pub fn one_extent_is_one_range()
+    ensures blocks { (extent : Extent) → blocks_in (extent ∷ []) ≡ block_count extent }
+    ensures places { (extent : Extent) (lba : ℕ) → lba < block_count extent → place_in (extent ∷ []) lba ≡ block_at extent lba }
+    ensures cut { (extent : Extent) (slba count : ℕ) → 0 < count → InNamespace slba count (block_count extent) →
+        cuts (extent ∷ []) slba count ≡ record { first = 0; start = block_at extent slba; count = count } ∷ [] }
+    ensures first { (extent : Extent) (rest : List Extent) (slba count : ℕ) → 0 < count → InNamespace slba count (block_count extent) →
+        cuts (extent ∷ rest) slba count ≡ record { first = 0; start = block_at extent slba; count = count } ∷ [] }
+{}
+
+/// A block lies in one of the extents; where no block of the disk is in two of them, in exactly one, and two blocks at one place are one.
+pub fn apart_extents_share_no_block()
+    ensures inside { (ns : Namespace) (lba : ℕ) → lba < blocks_in ns → 1 ≤ count_by (has_block (place_in ns lba)) ns }
+    ensures one { (ns : Namespace) (lba : ℕ) → AreApart ns → lba < blocks_in ns →
+        count_by (has_block (place_in ns lba)) ns ≡ 1 }
+    ensures apart { (ns : Namespace) (lba other : ℕ) → AreApart ns → lba < blocks_in ns → other < blocks_in ns →
+        place_in ns lba ≡ place_in ns other → lba ≡ other }
 {}

@@ -6,7 +6,15 @@
 //! none wraps, whatever the guest names. Nothing here takes memory.
 #![tactic(auto)]
 
+pub use extents::Extents;
+pub use part::Part;
+pub use parts::Parts;
 pub use virtual_ns::VirtualNs;
 
+pub mod extents;
 pub mod laws;
+pub mod part;
+pub mod parts;
+mod several;
 pub mod virtual_ns;
+mod walk;
