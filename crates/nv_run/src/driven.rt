@@ -23,8 +23,9 @@ const DWORD: u64 = 4;
 /// has looked so often in vain mostly waits in vain.
 const PATIENT_LOOKS: u32 = 32;
 
-/// After how many of the others a thread that waits sleeps; behind the rest it only lets other threads run.
-const LOOKS_A_NAP: u32 = 256;
+/// After how many of the others a thread that waits sleeps. Behind the rest it looks again at once: on a machine with other work, each time that
+/// it let others run it would wait for its turn, and so a million times.
+const LOOKS_A_NAP: u32 = 4096;
 
 /// How long it sleeps then, in microseconds.
 const NAP: u64 = 50;
@@ -202,7 +203,5 @@ fn pause<R: Wait + Clock>(rt: &R, shared: &Shared, guest: u8, seen: u64, look: u
         shared.wait_for_news(rt, guest, seen);
     } else if look % LOOKS_A_NAP == LOOKS_A_NAP - 1 {
         thread::sleep(rt, Duration::from_micros(NAP));
-    } else {
-        thread::yield_now();
     }
 }
