@@ -1,6 +1,8 @@
 pub mod Geometry
 pub mod Plan
 pub mod Area
+pub mod Share
+pub mod ShareArea
 pub mod Device
 pub mod World
 pub mod Seat
@@ -23,3 +25,4 @@ pub mod RowsSteps
 pub mod RowsSmall
 pub mod RowsWrong
 pub mod RowsAlone
+pub mod RowsShares

@@ -13,6 +13,7 @@ pub mod private_steps;
 pub mod queues;
 pub mod rings;
 pub mod set_ups;
+pub mod shares;
 pub mod two_guests;
 pub mod views;
 pub mod wrong_alone;
