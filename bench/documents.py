@@ -7,6 +7,7 @@ Looked at are: the README's lines and their width; the width of docs/; the lines
 docs/PERF.md; each crate's line of docs/CRATES.md, which is the first sentence of its own page; the edits of docs/EDITS.md; the lines of
 each file in docs/DEFINITIONS.md; a row of docs/GATE.md for each crate; links, and names of files, crates and code that stand in
 backquotes; and long lines of code, definitions and proofs."""
+import fnmatch
 import glob
 import os
 import re
@@ -25,6 +26,8 @@ PERF = "Start: 4466b48d1733cc7975d6a2b277906902cf51a675 is the last commit lande
 BEGIN = "<!-- written by bench/%s.py -->"
 END = "<!-- as far as here -->"
 DEFINITIONS = "docs/DEFINITIONS.md"
+# crates all of whose definitions are logs
+LOGS = {"nv_examples"}
 # names of the toolchain's that documents speak of
 FOREIGN = {"as_flattened_mut"}
 
@@ -215,6 +218,16 @@ def sources():
                     yield path, file.read()
 
 
+def check_definitions():
+    """Whether each file of definitions stands in their page, by its name or by one with a star."""
+    named = [os.path.basename(name) for name in re.findall(r"`([^`\n]+)`", read(DEFINITIONS))]
+    for path in sorted(glob.glob(os.path.join(ROOT, "crates", "*", "specs", "*.antt"))):
+        crate, _, file = os.path.relpath(path, os.path.join(ROOT, "crates")).split(os.sep)
+        name = file[: -len(".antt")]
+        if name != "Lib" and crate not in LOGS and not any(fnmatch.fnmatch(name, pattern) for pattern in named):
+            yield f"{DEFINITIONS}: {crate}/specs/{name} is not there"
+
+
 def check_code():
     """Long lines; and names in backquotes that look like names of code, and stand in no source."""
     long_lines, words = 0, set(FOREIGN)
@@ -247,6 +260,7 @@ def main():
         *check_tables(),
         *check_gate(crates),
         *check_names(crates),
+        *check_definitions(),
         *check_code(),
     ]
     print("\n".join(off) if off else f"{len(pages())} pages and {len(crates)} crates: nothing is off")
