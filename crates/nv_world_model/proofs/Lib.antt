@@ -7,3 +7,12 @@ pub mod SeatPosts
 pub mod SmallWorld
 pub mod LaneReach
 pub mod LaneCounts
+pub mod Windows
+pub mod CutPieces
+pub mod ShareNumbers
+pub mod ShareUnits
+pub mod OneExtent
+pub mod AllShares
+pub mod CutFits
+pub mod ShareParts
+pub mod ShareWholes

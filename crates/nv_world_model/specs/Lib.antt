@@ -17,6 +17,7 @@ pub mod Disciplined
 pub mod Agrees
 pub mod Headline
 pub mod Laws
+pub mod SharesLaws
 pub mod LaneRuns
 pub mod Rows
 pub mod RowsWorlds

@@ -1,10 +1,10 @@
 -- What each of the physical commands of a guest's command does where the guest's namespace has several extents: its share of the plan
 -- (profile). With one extent the share is the plan.
-use Rattle.std.specs.Prelude.{ℕ, ◌+◌, ◌-◌, ◌*◌, ◌==◌, min, if◌then◌else◌, List, [], ◌∷◌, ◌++◌, map, length, take, slice_get, Option, Some, None}
+use Rattle.std.specs.Prelude.{ℕ, ◌+◌, ◌-◌, ◌*◌, ◌==◌, min, if◌then◌else◌, List, [], ◌∷◌, ◌++◌, map, length, slice_get, Option, Some, None}
 use Rattle.std.specs.List.{enumerate_from, filter_map, range_with_len}
 use Rattle.std.specs.Option.{option_map}
 use Rattle.nv_entry.specs.Layout.{number_bytes}
-use Rattle.nv_entry.specs.Range.{blocks_of, start_of}
+use Rattle.nv_entry.specs.Range.{attributes_of, blocks_of, start_of}
 use Rattle.nv_entry.specs.Submission.{slba_of}
 use Rattle.nv_mem.specs.Places.{piece_len}
 use Rattle.nv_mem.specs.declared.piece.Piece.{Piece}
@@ -52,7 +52,7 @@ units_at first units numbers = filter_map (λ number. option_map (unit_behind fi
 abbrev pub cut_range : (range : List ℕ) → Cut → List ℕ
 cut_range range cut =
     if cut.count == blocks_of range then range
-    else take 4 range ++ number_bytes 4 cut.count ++ number_bytes 8 (start_of range + cut.first)
+    else number_bytes 4 (attributes_of range) ++ number_bytes 4 cut.count ++ number_bytes 8 (start_of range + cut.first)
 
 -- what an extent of this number has of a range: one of no blocks is the first extent's
 abbrev pub range_in : (number : ℕ) → Placed → (range : List ℕ) → Option (List ℕ)

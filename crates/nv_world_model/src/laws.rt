@@ -5,3 +5,4 @@ pub mod plans;
 pub mod replies;
 pub mod rings;
 pub mod seats;
+pub mod shares;

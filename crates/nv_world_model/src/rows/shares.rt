@@ -27,7 +27,8 @@ pub fn examples()
     // Past the last block nothing is handed on.
     ensures past_the_last_block { planned_by (by_sgl 0x02 63 1 (data_block 0x3000 1024)) [] ≡ Some (Answer (refused_with code.LbaOutOfRange)) }
     // A Write Zeroes over three extents, with FUA.
-    ensures a_write_zeroes_over_three { let entry = by_sgl 0x08 29 (with_fua 5) (data_block 0 0) in sent three_joined entry (shares_by_reads three_joined entry [])
+    ensures a_write_zeroes_over_three { let entry = by_sgl 0x08 29 (with_fua 5) (data_block 0 0) in
+        sent three_joined entry (shares_by_reads three_joined entry [])
         ≡ (0 ∷ 0 ∷ 1029 ∷ 0 ∷ 0x40000001 ∷ []) ∷ (0 ∷ 0 ∷ 500 ∷ 0 ∷ 0x40000000 ∷ []) ∷ (0 ∷ 0 ∷ 3000 ∷ 0 ∷ 0x40000002 ∷ []) ∷ [] }
     // A Flush is one command.
     ensures a_flush_is_one { let entry = by_sgl 0x00 0 0 (data_block 0 0) in sent joined entry (shares_by_reads joined entry [])
