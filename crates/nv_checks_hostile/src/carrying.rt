@@ -1,0 +1,80 @@
+//! What the mediator and the physical controller do with a command that has a tag, event by event.
+
+use crate::pair::Pair;
+use crate::tags::Tag;
+use nv_plan::{Planned, make_plan};
+use nv_world_model::Event;
+
+/// The most units of a command.
+const UNITS: u64 = 256;
+
+impl Pair {
+    /// Takes the command of a tag one event on, if it can go on: its list is read as it is wanted, it is submitted, the device takes it, moves
+    /// its units and posts its completion, which is reaped, and the guest is told. Another command that stands before it in the lane goes on in
+    /// its place.
+    pub fn carry(&mut self, tag: Tag, backwards: bool) {
+        if let Some(event) = self.next(tag, backwards) {
+            self.play(event);
+        }
+    }
+
+    // The next event of a command.
+    fn next(&mut self, tag: Tag, backwards: bool) -> Option<Event> {
+        let Tag { lane, number } = tag;
+        if let Some(event) = self.wanted(tag) {
+            return Some(event);
+        }
+        self.if_due(Event::Post(lane, number))
+            .or(self.if_due(Event::DevPost(lane, number)))
+            .or(self.unit(tag, backwards))
+            .or(self.if_due(Event::DevTake(lane)))
+            .or(self.if_due(Event::Reap(lane)))
+    }
+
+    // An event, if it is due.
+    fn if_due(&self, event: Event) -> Option<Event> {
+        if self.both.due(&event) {
+            Some(event)
+        } else {
+            None
+        }
+    }
+
+    /// The event by which a command that was taken goes on: what is wanted of its list is read, or it is submitted; none where it was already.
+    pub fn wanted(&mut self, tag: Tag) -> Option<Event> {
+        let Tag { lane, number } = tag;
+        match self.planned(tag)? {
+            Planned::Need(_job, addr, len) => Some(Event::List(lane, number, addr, len)),
+            Planned::Plan(_plan) => Some(Event::Submit(lane, number)),
+            Planned::NoMemory(_job) => {
+                self.lost = true;
+                None
+            }
+        }
+    }
+
+    // What comes of the job of a tag as it stands; none where it was planned already.
+    fn planned(&self, tag: Tag) -> Option<Planned> {
+        let job = self.both.job(self.alloc, tag.lane, tag.number).ok()??;
+        let map = self.both.map(job.guest)?;
+        let range = self.both.range(job.guest)?;
+        let limit = self.both.limit(job.guest)?;
+        Some(make_plan(self.alloc, self.alloc, job, map, &range, limit))
+    }
+
+    // The first unit of a command that has not moved, or the last.
+    fn unit(&self, tag: Tag, backwards: bool) -> Option<Event> {
+        for number in 0..UNITS {
+            let unit = if backwards {
+                UNITS - 1 - number
+            } else {
+                number
+            };
+            let event = Event::DevMove(tag.lane, tag.number, unit);
+            if self.both.due(&event) {
+                return Some(event);
+            }
+        }
+        None
+    }
+}

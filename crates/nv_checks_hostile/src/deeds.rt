@@ -1,0 +1,205 @@
+//! What a guest that does as it pleases does, step by step, with what comes of it.
+
+use crate::bench::{CC, HOSTILE, LANE_AREA, MEDIATOR, bytes_of, entry_at};
+use crate::honest::Honest;
+use crate::pair::Pair;
+use crate::tags::Tag;
+use nv_entry::Status;
+use nv_model::Reply;
+use nv_world_model::Event;
+use std::process::Abort;
+
+/// A step of the guest, or of the mediator or the device on its one command, or a look at what is there.
+#[derive(Clone, Copy)]
+pub enum Deed {
+    /// It makes its queues.
+    BringUp,
+    /// It stores 16 bytes: the address and the halves.
+    Row(u64, u64, u64),
+    /// It stores 512 bytes that are the same.
+    Fill(u64, u8),
+    /// It puts a command, with these dwords, into the slot of that number.
+    Enter(u16, [u32; 16]),
+    /// It rings a doorbell.
+    Ring(u32, u32),
+    /// It writes CC.
+    Control(u32),
+    /// Its command is taken by the first lane.
+    Take,
+    List(u64, u64),
+    Submit,
+    /// The device takes what stands in the lane, until it has taken the command.
+    DevTake,
+    Move(u64),
+    DevPost,
+    DevFail(u8, u8, bool),
+    /// What the device has posted is reaped, until the command has ended.
+    Reap,
+    Post,
+    /// The command goes on until it has ended and was told.
+    Carry,
+    /// The dword at an address is this.
+    Dword(u64, u32),
+    /// The register has this value.
+    Register(u32, u32),
+    /// 512 bytes are this one.
+    Shows(u64, u8),
+    /// PRP1 and PRP2 of the physical entry in a slot of the first lane's ring, where no other guest uses that lane.
+    Prps(u64, u64, u64),
+    /// The first 512 bytes of the command's bounce pages are this one.
+    Bounce(u8),
+}
+
+/// What an event was answered.
+#[derive(Clone, Copy)]
+pub enum Told {
+    Done,
+    Ignored,
+    Stale,
+    Bytes,
+    /// Nothing is answered, or several events are.
+    Any,
+}
+
+/// A step, and what is answered.
+pub type Row = (Deed, Told);
+
+/// The honest guest beside the other: how many steps it makes behind each of the other's, and whether by the same lane.
+#[derive(Clone, Copy)]
+pub struct Beside {
+    pub name: &'static str,
+    pub pace: u16,
+    pub shares_lane: bool,
+}
+
+/// Plays these steps, with the honest guest's between, and ends the test where something else is answered or found.
+pub fn play(rt: &impl Abort, pair: &mut Pair, honest: &mut Honest, beside: Beside, rows: &[Row]) {
+    for (deed, told) in rows {
+        if matches!(deed, Deed::Carry) {
+            carry(rt, pair, honest, beside);
+        } else if !matches!(deed, Deed::Prps(..)) || !beside.shares_lane {
+            step(rt, pair, beside, *deed, *told);
+        }
+        go_on(rt, pair, honest, beside);
+    }
+}
+
+// The honest guest goes on.
+fn go_on(rt: &impl Abort, pair: &mut Pair, honest: &mut Honest, beside: Beside) {
+    for _ in 0..beside.pace {
+        honest.step(rt, pair);
+    }
+}
+
+// The other guest's command goes on to its end, with the honest guest's steps between.
+fn carry(rt: &impl Abort, pair: &mut Pair, honest: &mut Honest, beside: Beside) {
+    for _ in 0..4000 {
+        if let Some(tag) = pair.tags.nth(HOSTILE, 0) {
+            pair.carry(tag, false);
+            go_on(rt, pair, honest, beside);
+        }
+    }
+    assert!(rt; pair.tags.nth(HOSTILE, 0).is_none(), "{}", beside.name);
+}
+
+// Plays a step, and ends the test where something else is answered or found.
+fn step(rt: &impl Abort, pair: &mut Pair, beside: Beside, deed: Deed, told: Told) {
+    // a tag that there is not, where the guest has none
+    let tag = pair.tags.nth(HOSTILE, 0).unwrap_or(Tag {
+        lane: 255,
+        number: 255,
+    });
+    act(pair, deed);
+    handle(pair, tag, deed);
+    let found = shows(pair, tag, deed);
+    assert!(rt; found && is_told(pair, told), "{}", beside.name);
+}
+
+// Whether the last event was answered so.
+fn is_told(pair: &Pair, told: Told) -> bool {
+    match told {
+        Told::Any => true,
+        Told::Done => matches!(pair.told(), Some(Reply::Done)),
+        Told::Ignored => matches!(pair.told(), Some(Reply::Ignored)),
+        Told::Stale => matches!(pair.told(), Some(Reply::Stale)),
+        Told::Bytes => matches!(pair.told(), Some(Reply::Bytes(_))),
+    }
+}
+
+// Carries out what a guest does.
+fn act(pair: &mut Pair, deed: Deed) {
+    match deed {
+        Deed::BringUp => pair.bring_up(HOSTILE),
+        Deed::Row(addr, low, high) => pair.store_row(HOSTILE, addr, low, high),
+        Deed::Fill(addr, byte) => pair.store(HOSTILE, addr, &[byte; 512]),
+        Deed::Enter(number, dwords) => {
+            pair.store(HOSTILE, entry_at(number), &bytes_of(&dwords));
+        }
+        Deed::Ring(offset, value) => pair.ring(HOSTILE, offset, value),
+        Deed::Control(value) => pair.write(HOSTILE, CC, value),
+        Deed::Dword(addr, _) => pair.load(HOSTILE, addr, 4),
+        Deed::Register(offset, _) => pair.read(HOSTILE, offset),
+        Deed::Shows(addr, _) => pair.load(HOSTILE, addr, 512),
+        _ => {}
+    }
+}
+
+// Carries out what the mediator does with the guest's command, or the device.
+fn handle(pair: &mut Pair, tag: Tag, deed: Deed) {
+    let Tag { lane, number } = tag;
+    match deed {
+        Deed::Take => pair.play(Event::Take(HOSTILE, 1, 0)),
+        Deed::List(addr, len) => pair.play(Event::List(lane, number, addr, len)),
+        Deed::Submit => pair.play(Event::Submit(lane, number)),
+        Deed::DevTake => until_taken(pair, tag),
+        Deed::Move(unit) => pair.play(Event::DevMove(lane, number, unit)),
+        Deed::DevPost => pair.play(Event::DevPost(lane, number)),
+        Deed::DevFail(sct, sc, dnr) => {
+            let status = Status::new(sct % 8, sc, dnr);
+            pair.play(Event::DevFail(lane, number, status));
+        }
+        Deed::Reap => until_ended(pair, tag),
+        Deed::Post => pair.play(Event::Post(lane, number)),
+        _ => {}
+    }
+}
+
+// The device takes what stands in the lane, until it has taken the command.
+fn until_taken(pair: &mut Pair, tag: Tag) {
+    let first = Event::DevMove(tag.lane, tag.number, 0);
+    for _ in 0..65 {
+        if !pair.both.due(&first) {
+            pair.play(Event::DevTake(tag.lane));
+        }
+    }
+}
+
+// What the device has posted is reaped, until the command has ended.
+fn until_ended(pair: &mut Pair, tag: Tag) {
+    let post = Event::Post(tag.lane, tag.number);
+    for _ in 0..65 {
+        if !pair.both.due(&post) {
+            pair.play(Event::Reap(tag.lane));
+        }
+    }
+}
+
+// Whether what is looked at is so.
+fn shows(pair: &Pair, tag: Tag, deed: Deed) -> bool {
+    match deed {
+        Deed::Dword(_, dword) => pair.has_told(&dword.to_le_bytes()),
+        Deed::Register(_, value) => pair.has_told(&value.to_le_bytes()),
+        Deed::Shows(_, byte) => pair.has_told(&[byte; 512]),
+        Deed::Prps(slot, prp1, prp2) => {
+            let prps = u128::from(prp1) | u128::from(prp2) << 64;
+            let addr = MEDIATOR + 64 * (slot % 65) + 24;
+            pair.host_shows(addr, &prps.to_le_bytes())
+        }
+        Deed::Bounce(byte) => {
+            let page = 4 + 33 * u64::from(tag.number);
+            let addr = MEDIATOR + LANE_AREA * u64::from(tag.lane) + 4096 * page;
+            pair.host_shows(addr, &[byte; 512])
+        }
+        _ => true,
+    }
+}

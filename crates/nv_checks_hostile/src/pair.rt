@@ -1,0 +1,237 @@
+//! A run of both guests, and beside it the run of the honest guest alone.
+
+use crate::bench::{
+    self, ADMIN_QUEUES, ADMIN_SUBMISSIONS, ADMIN_TAIL, BLOCKS, CC, CREATE_COMPLETION_QUEUE,
+    CREATE_SUBMISSION_QUEUE, ENABLED, HONEST_BASE, HONEST_IMAGE, MEMORY, bytes_of,
+};
+use crate::tags::Tags;
+use nv_mem::{BoxedBytes, Host, NoMemory};
+use nv_model::{Act, Reply};
+use nv_world::World;
+use nv_world_model::Event;
+use std::alloc::Global;
+use std::process::Abort;
+
+/// How many bytes a page has.
+const PAGE: u64 = 4096;
+
+/// Two worlds: each event is carried out in one, and the honest guest's in the other, too, where no other guest does anything.
+#[derive(Drop)]
+pub struct Pair {
+    pub alloc: Global,
+    pub both: World,
+    pub alone: World,
+    pub tags: Tags,
+    /// how many events the run of both guests had behind the first of the honest guest's that was answered otherwise alone
+    pub differs: Option<usize>,
+    /// whether memory was refused
+    pub lost: bool,
+}
+
+impl Pair {
+    /// Both at their start, with nobody brought up; none where memory was refused.
+    pub fn new(alloc: Global, more: bool) -> Option<Self> {
+        Some(Pair {
+            alloc,
+            both: bench::opened(alloc, more)?,
+            alone: bench::opened(alloc, more)?,
+            tags: Tags::new(),
+            differs: None,
+            lost: false,
+        })
+    }
+
+    /// Carries out an event, in the run alone, too, where it is the honest guest's.
+    pub fn play(&mut self, event: Event) {
+        match self.try_play(event) {
+            Ok(true) => {}
+            Ok(false) => {
+                if self.differs.is_none() {
+                    self.differs = Some(self.both.log().len());
+                }
+            }
+            Err(_) => self.lost = true,
+        }
+    }
+
+    // Whether an event is answered alike in both runs.
+    fn try_play(&mut self, event: Event) -> Result<bool, NoMemory> {
+        self.both.advance(self.alloc, event)?;
+        let Some(logged) = self.both.log().last() else {
+            return Err(NoMemory);
+        };
+        let Some(event) = self.tags.renumber(self.alloc, &self.both, logged)? else {
+            return Ok(true);
+        };
+        self.alone.advance(self.alloc, event)?;
+        let Some(told) = self.alone.log().last() else {
+            return Err(NoMemory);
+        };
+        Ok(is_same(&logged.reply, &told.reply))
+    }
+
+    // Carries out an act of a guest that takes memory.
+    fn act(&mut self, guest: u8, act: Result<Act, NoMemory>) {
+        match act {
+            Ok(act) => self.play(Event::Guest(guest, act)),
+            Err(_) => self.lost = true,
+        }
+    }
+
+    /// A guest stores bytes.
+    pub fn store(&mut self, guest: u8, addr: u64, bytes: &[u8]) {
+        let bytes = BoxedBytes::from_slice(self.alloc, bytes);
+        self.act(guest, bytes.map(|bytes| Act::Store { addr, bytes }));
+    }
+
+    /// A guest stores 16 bytes: two addresses, a descriptor or a range.
+    pub fn store_row(&mut self, guest: u8, addr: u64, low: u64, high: u64) {
+        let row = u128::from(low) | u128::from(high) << 64;
+        self.store(guest, addr, &row.to_le_bytes());
+    }
+
+    /// A guest stores a page of this byte.
+    pub fn fill(&mut self, guest: u8, addr: u64, byte: u8) {
+        self.store(guest, addr, &[byte; PAGE as usize]);
+    }
+
+    /// A guest loads bytes.
+    pub fn load(&mut self, guest: u8, addr: u64, len: u64) {
+        self.play(Event::Guest(guest, Act::Load { addr, len }));
+    }
+
+    /// A guest writes a register.
+    pub fn write(&mut self, guest: u8, offset: u32, value: u32) {
+        self.play(Event::Guest(guest, Act::RegWrite { offset, value }));
+    }
+
+    /// A guest reads a register.
+    pub fn read(&mut self, guest: u8, offset: u32) {
+        self.play(Event::Guest(guest, Act::RegRead { offset }));
+    }
+
+    /// A guest rings a doorbell.
+    pub fn ring(&mut self, guest: u8, offset: u32, value: u32) {
+        self.play(Event::Guest(guest, Act::Doorbell { offset, value }));
+    }
+
+    /// A guest makes its admin queues and queue pair 1.
+    pub fn bring_up(&mut self, guest: u8) {
+        self.store(
+            guest,
+            ADMIN_SUBMISSIONS,
+            &bytes_of(&CREATE_COMPLETION_QUEUE),
+        );
+        self.store(
+            guest,
+            ADMIN_SUBMISSIONS + 64,
+            &bytes_of(&CREATE_SUBMISSION_QUEUE),
+        );
+        for (offset, value) in ADMIN_QUEUES {
+            self.write(guest, offset, value);
+        }
+        self.write(guest, CC, ENABLED);
+        self.ring(guest, ADMIN_TAIL, 2);
+        self.play(Event::Admin(guest));
+        self.play(Event::Admin(guest));
+    }
+
+    /// The last reply in the run of both guests.
+    pub fn told(&self) -> Option<&Reply> {
+        Some(&self.both.log().last()?.reply)
+    }
+
+    /// Whether the last event was done.
+    pub fn is_done(&self) -> bool {
+        matches!(self.told(), Some(Reply::Done))
+    }
+
+    /// Whether these are the bytes of the last reply.
+    pub fn has_told(&self, want: &[u8]) -> bool {
+        match self.told() {
+            Some(Reply::Bytes(bytes)) => bytes.as_slice() == want,
+            _ => false,
+        }
+    }
+
+    /// The bytes of the last reply, where they are a completion's.
+    pub fn told_entry(&self) -> Option<[u8; 16]> {
+        let Some(Reply::Bytes(bytes)) = self.told() else {
+            return None;
+        };
+        let bytes = bytes.as_slice();
+        if bytes.len() != 16 {
+            return None;
+        }
+        let mut entry = [0; 16];
+        entry.copy_from_slice(bytes);
+        Some(entry)
+    }
+
+    /// Whether these bytes stand at an address of the host, in the run of both guests.
+    pub fn host_shows(&self, addr: u64, bytes: &[u8]) -> bool {
+        let host = self.both.host();
+        host.holds(addr, bytes.len() as u64) && host.equals(addr, bytes)
+    }
+
+    /// Whether the honest guest's memory and blocks are the same in both runs.
+    pub fn has_same_state(&self) -> bool {
+        (0..MEMORY / PAGE).all(|page| {
+            let addr = HONEST_IMAGE.wrapping_add(page.wrapping_mul(PAGE));
+            is_same_page(self.both.host(), self.alone.host(), addr)
+        }) && (0..BLOCKS).all(|block| self.has_same_block(HONEST_BASE.wrapping_add(block)))
+    }
+
+    // Whether a block of the disk is the same in both runs.
+    fn has_same_block(&self, block: u64) -> bool {
+        match (self.both.block(block), self.alone.block(block)) {
+            (Some(one), Some(other)) => one == other,
+            _ => false,
+        }
+    }
+
+    /// Whether the honest guest was answered alike in both runs so far, and its memory and blocks are the same.
+    pub fn is_alike(&self) -> bool {
+        self.differs.is_none() && self.has_same_state()
+    }
+
+    /// Ends the test where it was not.
+    pub fn expect_alike(&self, rt: &impl Abort, name: &str) {
+        assert!(rt; !self.lost && !self.tags.astray, "{name}");
+        assert_eq!(rt; self.differs, None, "{name}");
+        assert!(rt; self.has_same_state(), "{name}");
+    }
+}
+
+// Whether a page of the hosts' memory is the same.
+fn is_same_page(one: &Host, other: &Host, addr: u64) -> bool {
+    let mut bytes = [0; PAGE as usize];
+    if !one.holds(addr, PAGE) || !other.holds(addr, PAGE) {
+        return false;
+    }
+    one.load(addr, &mut bytes);
+    other.equals(addr, &bytes)
+}
+
+// Whether two replies are the same.
+fn is_same(one: &Reply, other: &Reply) -> bool {
+    match (one, other) {
+        (Reply::Bytes(one), Reply::Bytes(other)) => one.as_slice() == other.as_slice(),
+        _ => kind(one) == kind(other),
+    }
+}
+
+// The kind of a reply, as a number.
+fn kind(reply: &Reply) -> u8 {
+    match reply {
+        Reply::Done => 1,
+        Reply::Bytes(_) => 2,
+        Reply::Idle => 3,
+        Reply::Busy => 4,
+        Reply::Held => 5,
+        Reply::Stale => 6,
+        Reply::Unmapped => 7,
+        Reply::Ignored => 8,
+        Reply::NoMemory => 9,
+    }
+}

@@ -1,0 +1,105 @@
+//! Random runs of both guests, each beside the run of the honest guest alone.
+
+use crate::bench::{HONEST, HOSTILE};
+use crate::busy::Busy;
+use crate::hostile;
+use crate::pair::Pair;
+use crate::random::Random;
+use std::process::Abort;
+
+/// How many seeds a test has, from its first on.
+const SEEDS: u32 = 50;
+
+/// How many turns a run has; about half of them are the honest guest's.
+const TURNS: u32 = 800;
+
+/// What came of a run, or of several: how many commands of the honest guest ended, how many of them well, and how many had another tag than in the
+/// run alone; and how many commands of the other guest were taken.
+#[derive(Clone, Copy)]
+struct Tally {
+    ended: u32,
+    succeeded: u32,
+    renumbered: u32,
+    others: u32,
+}
+
+// A run, and what came of it. The test ends where the honest guest is served otherwise than alone, or its commands don't end.
+fn run(rt: &(impl Abort + AllocGlobal), seed: u32) -> Tally {
+    let mut pair = Pair::new(rt.alloc(), seed % 2 == 1).expect(rt, "two worlds");
+    run_in(rt, &mut pair, seed)
+}
+
+// The same in two worlds at their start.
+fn run_in(rt: &impl Abort, pair: &mut Pair, seed: u32) -> Tally {
+    let mut random = Random::new(u64::from(seed));
+    let mut busy = Busy::new();
+    pair.bring_up(HONEST);
+    pair.bring_up(HOSTILE);
+    for _ in 0..TURNS {
+        if random.once_in(2) {
+            busy.turn(pair, &mut random);
+        } else {
+            hostile::turn(pair, &mut random);
+        }
+    }
+    busy.drain(pair, &mut random);
+    pair.expect_alike(rt, "a random run");
+    assert!(rt; busy.is_idle(), "{seed}");
+    Tally {
+        ended: u32::from(busy.ended),
+        succeeded: u32::from(busy.succeeded),
+        renumbered: pair.tags.renumbered,
+        others: pair.tags.others,
+    }
+}
+
+// The same of a run more.
+fn sum(one: Tally, other: Tally) -> Tally {
+    Tally {
+        ended: one.ended.wrapping_add(other.ended),
+        succeeded: one.succeeded.wrapping_add(other.succeeded),
+        renumbered: one.renumbered.wrapping_add(other.renumbered),
+        others: one.others.wrapping_add(other.others),
+    }
+}
+
+// Ends the test where a run of these seeds differs from the one alone, or where too little happened in them.
+fn expect(rt: &(impl Abort + AllocGlobal), first: u32) {
+    let mut all = Tally {
+        ended: 0,
+        succeeded: 0,
+        renumbered: 0,
+        others: 0,
+    };
+    for place in 0..SEEDS {
+        all = sum(all, run(rt, first.wrapping_add(place)));
+    }
+    assert!(rt;
+        all.ended >= 500 && all.succeeded >= 400 && all.renumbered >= 150 && all.others >= 400,
+        "{} ended, {} of them well, {} with another tag, beside {}",
+        all.ended,
+        all.succeeded,
+        all.renumbered,
+        all.others
+    );
+}
+
+#[test]
+fn random_runs_of_seeds_1_to_50(rt: HostRuntime) {
+    expect(&rt, 1);
+}
+
+#[test]
+fn random_runs_of_seeds_51_to_100(rt: HostRuntime) {
+    expect(&rt, 51);
+}
+
+#[test]
+fn random_runs_of_seeds_101_to_150(rt: HostRuntime) {
+    expect(&rt, 101);
+}
+
+#[test]
+fn random_runs_of_seeds_151_to_200(rt: HostRuntime) {
+    expect(&rt, 151);
+}

@@ -1,0 +1,312 @@
+//! Whose the tags of the run of both guests are, and which tag each of the honest guest's has in the run alone.
+
+use crate::bench::{HONEST, TAGS};
+use nv_mem::NoMemory;
+use nv_model::Reply;
+use nv_world::World;
+use nv_world_model::{Event, Logged};
+use std::alloc::Global;
+
+/// Where a command is, as far as the events that name no tag ask.
+#[derive(Clone, Copy, PartialEq, Eq)]
+enum Point {
+    /// It is not in the device, nor was it.
+    Before,
+    InDevice,
+    /// Its physical completion was posted, as the one of that number.
+    Posted(u64),
+    /// Its physical completion was reaped.
+    Behind,
+}
+
+/// Who has a tag.
+#[derive(Clone, Copy, PartialEq, Eq)]
+pub struct Holder {
+    /// whose command it is
+    pub guest: u8,
+    /// its tag in the run of the honest guest alone
+    alone: u8,
+    point: Point,
+}
+
+/// A tag, by its lane and number.
+#[derive(Clone, Copy, PartialEq, Eq)]
+pub struct Tag {
+    pub lane: u8,
+    pub number: u8,
+}
+
+/// The holders of a lane's tags.
+type Lane = [Option<Holder>; 64];
+
+/// Who has which tag in the run of both guests.
+#[derive(Drop)]
+pub struct Tags {
+    lanes: [Lane; 2],
+    posted: u64,
+    /// whether something happened that this table did not expect
+    pub astray: bool,
+    /// how many of the honest guest's commands had another tag than in the run alone
+    pub renumbered: u32,
+    /// how many commands of other guests were taken
+    pub others: u32,
+}
+
+impl Tags {
+    /// No tag is taken.
+    pub fn new() -> Self {
+        Tags {
+            lanes: [[None; 64]; 2],
+            posted: 0,
+            astray: false,
+            renumbered: 0,
+            others: 0,
+        }
+    }
+
+    /// The event of the run alone that an event of the run of both guests stands for, which was carried out last in that world: the same with the
+    /// honest guest's tag renumbered, and none where it is not the honest guest's.
+    ///
+    /// A command's tag is the lowest that is free when it is taken, in each run. An event that names no tag is that of the command that the
+    /// device takes, or whose physical completion is reaped.
+    pub fn renumber(
+        &mut self,
+        alloc: Global,
+        world: &World,
+        logged: &Logged,
+    ) -> Result<Option<Event>, NoMemory> {
+        let is_done = matches!(logged.reply, Reply::Done);
+        let event = match &logged.event {
+            Event::Guest(guest, act) => {
+                if *guest != HONEST {
+                    return Ok(None);
+                }
+                Some(Event::Guest(HONEST, act.try_clone(alloc)?))
+            }
+            Event::Admin(guest) => {
+                if *guest == HONEST {
+                    Some(Event::Admin(HONEST))
+                } else {
+                    None
+                }
+            }
+            Event::Take(guest, queue, lane) => {
+                if is_done {
+                    self.take(alloc, world, *guest, *lane)?;
+                }
+                if *guest == HONEST && !matches!(logged.reply, Reply::Busy) {
+                    Some(Event::Take(HONEST, *queue, *lane))
+                } else {
+                    None
+                }
+            }
+            Event::DevTake(lane) => {
+                if is_done && self.enters(world, *lane) {
+                    Some(Event::DevTake(*lane))
+                } else {
+                    None
+                }
+            }
+            Event::Reap(lane) => {
+                if is_done && self.reap(*lane) {
+                    Some(Event::Reap(*lane))
+                } else {
+                    None
+                }
+            }
+            Event::Keep(_) => None,
+            named => self.named(named, is_done),
+        };
+        Ok(event)
+    }
+
+    // The same, of an event that names a tag.
+    fn named(&mut self, event: &Event, is_done: bool) -> Option<Event> {
+        match event {
+            Event::List(lane, tag, addr, len) => {
+                Some(Event::List(*lane, self.alone(*lane, *tag)?, *addr, *len))
+            }
+            Event::Submit(lane, tag) => Some(Event::Submit(*lane, self.alone(*lane, *tag)?)),
+            Event::GiveUp(lane, tag) => Some(Event::GiveUp(*lane, self.alone(*lane, *tag)?)),
+            Event::DevMove(lane, tag, unit) => {
+                Some(Event::DevMove(*lane, self.alone(*lane, *tag)?, *unit))
+            }
+            Event::DevPost(lane, tag) => {
+                if is_done {
+                    self.post(*lane, *tag);
+                }
+                Some(Event::DevPost(*lane, self.alone(*lane, *tag)?))
+            }
+            Event::DevFail(lane, tag, status) => {
+                if is_done {
+                    self.post(*lane, *tag);
+                }
+                Some(Event::DevFail(*lane, self.alone(*lane, *tag)?, *status))
+            }
+            Event::Post(lane, tag) => {
+                let alone = self.alone(*lane, *tag);
+                if is_done {
+                    self.set(*lane, *tag, None);
+                }
+                Some(Event::Post(*lane, alone?))
+            }
+            _ => None,
+        }
+    }
+
+    /// Who has a tag; none where nobody has, or there is no such tag.
+    pub fn holder(&self, lane: u8, tag: u8) -> Option<Holder> {
+        *self.lanes.get(usize::from(lane))?.get(usize::from(tag))?
+    }
+
+    /// One of a guest's tags, by its place among them, which goes round; none where it has none.
+    pub fn nth(&self, guest: u8, place: u32) -> Option<Tag> {
+        let mut mine = [Tag { lane: 0, number: 0 }; 128];
+        let mut count = 0u32;
+        for lane in 0..2 {
+            for number in 0..TAGS {
+                if self.is_of(guest, lane, number)
+                    && let Some(room) = mine.get_mut(count as usize)
+                {
+                    *room = Tag { lane, number };
+                    count = count.wrapping_add(1);
+                }
+            }
+        }
+        if count == 0 {
+            return None;
+        }
+        mine.get((place % count) as usize).copied()
+    }
+
+    /// Whether a tag is that guest's.
+    pub fn is_of(&self, guest: u8, lane: u8, tag: u8) -> bool {
+        match self.holder(lane, tag) {
+            Some(holder) => holder.guest == guest,
+            None => false,
+        }
+    }
+
+    // The tag in the run alone of a tag of the honest guest's.
+    fn alone(&self, lane: u8, tag: u8) -> Option<u8> {
+        let holder = self.holder(lane, tag)?;
+        if holder.guest == HONEST {
+            Some(holder.alone)
+        } else {
+            None
+        }
+    }
+
+    // Says who has a tag.
+    fn set(&mut self, lane: u8, tag: u8, holder: Option<Holder>) {
+        if let Some(tags) = self.lanes.get_mut(usize::from(lane))
+            && let Some(room) = tags.get_mut(usize::from(tag))
+        {
+            *room = holder;
+        } else {
+            self.astray = true;
+        }
+    }
+
+    // Says where the command of a tag is.
+    fn move_to(&mut self, lane: u8, tag: u8, point: Point) {
+        match self.holder(lane, tag) {
+            Some(holder) => self.set(lane, tag, Some(Holder { point, ..holder })),
+            None => self.astray = true,
+        }
+    }
+
+    // A guest's command was taken: it has the lowest tag that was free, and in the run alone the lowest that is free there.
+    fn take(&mut self, alloc: Global, world: &World, guest: u8, lane: u8) -> Result<(), NoMemory> {
+        let tag = self.lowest_free(lane);
+        let alone = self.lowest_alone(lane);
+        let job = world.job(alloc, lane, tag)?;
+        if job.is_none_or(|job| job.guest != guest) {
+            self.astray = true;
+        }
+        if guest != HONEST {
+            self.others = self.others.wrapping_add(1);
+        } else if tag != alone {
+            self.renumbered = self.renumbered.wrapping_add(1);
+        }
+        let point = Point::Before;
+        self.set(
+            lane,
+            tag,
+            Some(Holder {
+                guest,
+                alone,
+                point,
+            }),
+        );
+        Ok(())
+    }
+
+    // The lowest tag of a lane that nobody has; one that there is not where all are taken.
+    fn lowest_free(&self, lane: u8) -> u8 {
+        for tag in 0..TAGS {
+            if self.holder(lane, tag).is_none() {
+                return tag;
+            }
+        }
+        TAGS
+    }
+
+    // The same in the run alone.
+    fn lowest_alone(&self, lane: u8) -> u8 {
+        for alone in 0..TAGS {
+            if !self.has_alone(lane, alone) {
+                return alone;
+            }
+        }
+        TAGS
+    }
+
+    // Whether one of the honest guest's commands has that tag in the run alone.
+    fn has_alone(&self, lane: u8, alone: u8) -> bool {
+        for tag in 0..TAGS {
+            if self.alone(lane, tag) == Some(alone) {
+                return true;
+            }
+        }
+        false
+    }
+
+    // Whether the command that the device has taken now is the honest guest's: it is the one whose first unit can be moved, and was not there.
+    fn enters(&mut self, world: &World, lane: u8) -> bool {
+        for tag in 0..TAGS {
+            if let Some(holder) = self.holder(lane, tag)
+                && holder.point == Point::Before
+                && world.due(&Event::DevMove(lane, tag, 0))
+            {
+                self.move_to(lane, tag, Point::InDevice);
+                return holder.guest == HONEST;
+            }
+        }
+        self.astray = true;
+        false
+    }
+
+    // The device has posted a command's completion.
+    fn post(&mut self, lane: u8, tag: u8) {
+        self.posted = self.posted.wrapping_add(1);
+        self.move_to(lane, tag, Point::Posted(self.posted));
+    }
+
+    // Whether the completion that is reaped now is the honest guest's: it is the lane's first of those that were posted.
+    fn reap(&mut self, lane: u8) -> bool {
+        let mut first = u64::MAX;
+        let mut found = TAGS;
+        for tag in 0..TAGS {
+            if let Some(holder) = self.holder(lane, tag)
+                && let Point::Posted(number) = holder.point
+                && number < first
+            {
+                first = number;
+                found = tag;
+            }
+        }
+        self.move_to(lane, found, Point::Behind);
+        self.is_of(HONEST, lane, found)
+    }
+}
