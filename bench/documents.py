@@ -1,7 +1,7 @@
 #!/usr/bin/env python3
 """documents.py [--write]: whether the documents keep their limits and say what the crates say. Prints a line for each thing that is off,
 and ends with status 1 where there is one. With --write the tables of docs/CRATES.md and docs/EDITS.md, and the numbers of lines in
-docs/DEFINITIONS.md, are written anew first.
+docs/DEFINITIONS.md, are written anew first, and docs/GATE.md gets a row for each new crate.
 
 Looked at are: the README's lines and their width; the width of docs/; the lines of each crate in docs/DESIGN.md; the first line of
 docs/PERF.md; each crate's line of docs/CRATES.md, which is the first sentence of its own page; the edits of docs/EDITS.md; the lines of
@@ -130,10 +130,20 @@ def put(path, lines, by="documents"):
         file.write(before + "\n".join(["", *lines, "", ""]) + after)
 
 
+def gate_rows():
+    """What gate.py wrote, with a row for each crate that there is: one without numbers for a crate that is newer."""
+    lines = parts_of("docs/GATE.md", "gate")[1].strip().splitlines()
+    rows = {name[1]: line for line in lines if (name := re.match(r"\| `(\w+)` \|", line))}
+    first = next(number for number, line in enumerate(lines) if line in rows.values())
+    new = [rows.get(crate, f"| `{crate}` |  |  | {len(edits_of(crate)) or ''} |  |") for _, _, crates in groups() for crate in crates]
+    return [*lines[:first], *new, *(line for line in lines[first:] if line not in rows.values())]
+
+
 def write():
     for path, table in TABLES.items():
         if parts_of(path):
             put(path, table())
+    put("docs/GATE.md", gate_rows(), "gate")
     text = counted(read(DEFINITIONS))
     with open(os.path.join(ROOT, DEFINITIONS), "w", encoding="utf-8") as file:
         file.write(text)
@@ -162,6 +172,10 @@ def check_widths():
 
 
 def check_design():
+    named = set(re.findall(r"\*\*(\w+)\*\*", read("docs/DESIGN.md")))
+    for crate in (crate for name, _, crates in groups() for crate in crates if name != "checks"):
+        if crate not in named:
+            yield f"docs/DESIGN.md: nothing of {crate}"
     for paragraph in read("docs/DESIGN.md").split("\n\n"):
         lines = paragraph.count("\n") + 1
         if paragraph.startswith("**nv") and lines > CRATE_LINES:
