@@ -26,10 +26,10 @@ pub const HONEST_IMAGE: u64 = 0x20_0000;
 
 pub const HONEST_BASE: u64 = 2000;
 
-/// The same of the other guest.
-const HOSTILE_IMAGE: u64 = 0x10_0000;
+/// The same of the other guest, which may have two regions more.
+pub const HOSTILE_IMAGES: [u64; 3] = [0x10_0000, 0x30_0000, 0x34_0000];
 
-const HOSTILE_BASE: u64 = 1000;
+pub const HOSTILE_BASE: u64 = 1000;
 
 /// Where the mediator's area begins, and how long a lane's is.
 pub const MEDIATOR: u64 = 0x40_0000;
@@ -112,7 +112,10 @@ pub const CREATE_SUBMISSION_QUEUE: [u32; 16] = [
 
 /// What the other guest has besides, in some runs: guest addresses that are host addresses of the honest guest and of the mediator. What
 /// went by them untranslated would reach these two.
-const MORE: [(u64, u64); 2] = [(HONEST_IMAGE, 0x30_0000), (MEDIATOR, 0x34_0000)];
+const MORE: [(u64, u64); 2] = [
+    (HONEST_IMAGE, HOSTILE_IMAGES[1]),
+    (MEDIATOR, HOSTILE_IMAGES[2]),
+];
 
 // A region of a guest's memory.
 fn region(guest: u64, host: u64) -> Region {
@@ -145,7 +148,10 @@ fn guest_of(regions: Vec<Region>, base: u64) -> Option<GuestSetup> {
 /// The world at its start, where the other guest may have more memory; none where memory was refused.
 pub fn opened(alloc: Global, more: bool) -> Option<World> {
     let besides: &[(u64, u64)] = if more { &MORE } else { &[] };
-    let hostile = guest_of(regions(alloc, HOSTILE_IMAGE, besides).ok()?, HOSTILE_BASE)?;
+    let hostile = guest_of(
+        regions(alloc, HOSTILE_IMAGES[0], besides).ok()?,
+        HOSTILE_BASE,
+    )?;
     let honest = guest_of(regions(alloc, HONEST_IMAGE, &[]).ok()?, HONEST_BASE)?;
     let setup = Setup {
         host_bytes: HOST,

@@ -1,8 +1,8 @@
 //! An honest guest that has up to four commands of all kinds at once, each with memory of its own.
 
 use crate::bench::{HEAD, HONEST, SLOTS, TAIL, behind, bytes_of, completion_at, entry_at};
-use crate::pair::Pair;
 use crate::random::Random;
+use crate::runs::Runs;
 use nv_entry::Cqe;
 use nv_world_model::Event;
 
@@ -85,23 +85,23 @@ impl Busy {
     }
 
     /// Goes on somewhere: a command is put into the queue, taken, carried on, or looked for in the completion queue.
-    pub fn turn(&mut self, pair: &mut Pair, random: &mut Random) {
+    pub fn turn(&mut self, runs: &mut Runs, random: &mut Random) {
         match random.below(8) {
-            0 | 1 => self.enter(pair, random),
-            2 | 3 => take(pair, random),
-            4..=6 => carry(pair, random),
-            _ => self.look(pair),
+            0 | 1 => self.enter(runs, random),
+            2 | 3 => take(runs, random),
+            4..=6 => carry(runs, random),
+            _ => self.look(runs),
         }
     }
 
     /// Ends what is under way.
-    pub fn drain(&mut self, pair: &mut Pair, random: &mut Random) {
+    pub fn drain(&mut self, runs: &mut Runs, random: &mut Random) {
         for _ in 0..400 {
-            take(pair, random);
-            carry(pair, random);
+            take(runs, random);
+            carry(runs, random);
         }
         for _ in 0..AREAS {
-            self.look(pair);
+            self.look(runs);
         }
     }
 
@@ -111,23 +111,23 @@ impl Busy {
     }
 
     // Puts a command into the queue, if there is memory for it.
-    fn enter(&mut self, pair: &mut Pair, random: &mut Random) {
+    fn enter(&mut self, runs: &mut Runs, random: &mut Random) {
         let number = self.entered;
         if self.is_in_use(number) {
             return;
         }
         self.set_in_use(number, true);
-        let fields = command(pair, random, Area::of(number));
-        pair.store(HONEST, entry_at(number), &bytes_of(&dwords(fields, number)));
-        pair.ring(HONEST, TAIL, behind(number));
+        let fields = command(runs, random, Area::of(number));
+        runs.store(HONEST, entry_at(number), &bytes_of(&dwords(fields, number)));
+        runs.ring(HONEST, TAIL, behind(number));
         self.entered = self.entered.wrapping_add(1);
     }
 
     // Looks for the next completion, and for the command's data where it is there.
-    fn look(&mut self, pair: &mut Pair) {
+    fn look(&mut self, runs: &mut Runs) {
         let number = self.ended;
-        pair.load(HONEST, completion_at(number), 16);
-        let Some(told) = pair.told_entry() else {
+        runs.load(HONEST, completion_at(number), 16);
+        let Some(told) = runs.told_entry() else {
             return;
         };
         let completion = Cqe::of(&told);
@@ -136,14 +136,14 @@ impl Busy {
         }
         let data = u64::from(Area::of(completion.cid()).data);
         for page in 0..PAGES {
-            pair.load(HONEST, data + PAGE * page, PAGE);
+            runs.load(HONEST, data + PAGE * page, PAGE);
         }
         if completion.status().is_success() {
             self.succeeded = self.succeeded.wrapping_add(1);
         }
         self.set_in_use(completion.cid(), false);
         self.ended = self.ended.wrapping_add(1);
-        pair.ring(HONEST, HEAD, behind(number));
+        runs.ring(HONEST, HEAD, behind(number));
     }
 
     // Whether the memory of the command of that number has a command.
@@ -162,17 +162,17 @@ impl Busy {
 }
 
 // Its next command is taken, if it is due.
-fn take(pair: &mut Pair, random: &mut Random) {
+fn take(runs: &mut Runs, random: &mut Random) {
     let event = Event::Take(HONEST, 1, random.byte() % 2);
-    if pair.both.due(&event) {
-        pair.play(event);
+    if runs.both.due(&event) {
+        runs.play(event);
     }
 }
 
 // One of its commands goes on.
-fn carry(pair: &mut Pair, random: &mut Random) {
-    if let Some(tag) = pair.tags.nth(HONEST, random.word()) {
-        pair.carry(tag, random.once_in(2));
+fn carry(runs: &mut Runs, random: &mut Random) {
+    if let Some(tag) = runs.tags.nth(HONEST, random.word()) {
+        runs.carry(tag, random.once_in(2));
     }
 }
 
@@ -187,12 +187,12 @@ fn dwords(fields: Fields, identifier: u16) -> [u32; 16] {
 }
 
 // A command, and what stands in memory for it.
-fn command(pair: &mut Pair, random: &mut Random, area: Area) -> Fields {
+fn command(runs: &mut Runs, random: &mut Random, area: Area) -> Fields {
     match random.below(12) {
         0 => plain(0, [0, 0, 0]),
         1 => plain(8, [random.below(60), 0, flags(random) | random.below(6)]),
-        2 => ranges(pair, random, area),
-        _ => transfer(pair, random, area),
+        2 => ranges(runs, random, area),
+        _ => transfer(runs, random, area),
     }
 }
 
@@ -211,12 +211,12 @@ fn flags(random: &mut Random) -> u32 {
 }
 
 // A Dataset Management of one to three ranges.
-fn ranges(pair: &mut Pair, random: &mut Random, area: Area) -> Fields {
+fn ranges(runs: &mut Runs, random: &mut Random, area: Area) -> Fields {
     let count = 1 + random.below(3) % 3;
     for place in 0..count {
         let addr = u64::from(area.list) + 16 * u64::from(place);
         let blocks = u64::from(random.below(4)) << 32;
-        pair.store_row(HONEST, addr, blocks, u64::from(random.below(62)));
+        runs.store_row(HONEST, addr, blocks, u64::from(random.below(62)));
     }
     let deallocate = if random.once_in(2) { AD } else { 0 };
     Fields {
@@ -227,14 +227,14 @@ fn ranges(pair: &mut Pair, random: &mut Random, area: Area) -> Fields {
 }
 
 // A Write, Read or Compare by one of six kinds of lists. What a Write moves and a Read replaces is stored before.
-fn transfer(pair: &mut Pair, random: &mut Random, area: Area) -> Fields {
+fn transfer(runs: &mut Runs, random: &mut Random, area: Area) -> Fields {
     let opcode = random.among(&TRANSFERS);
     if opcode != COMPARE {
         for page in 0..PAGES {
-            pair.fill(HONEST, u64::from(area.data) + PAGE * page, random.byte());
+            runs.fill(HONEST, u64::from(area.data) + PAGE * page, random.byte());
         }
     }
-    let (list, data, nlb) = listed(pair, random, area);
+    let (list, data, nlb) = listed(runs, random, area);
     Fields {
         opcode: opcode | list,
         data,
@@ -243,57 +243,57 @@ fn transfer(pair: &mut Pair, random: &mut Random, area: Area) -> Fields {
 }
 
 // What names the bytes: PSDT, the data pointer, and NLB.
-fn listed(pair: &mut Pair, random: &mut Random, area: Area) -> (u32, [u32; 4], u32) {
+fn listed(runs: &mut Runs, random: &mut Random, area: Area) -> (u32, [u32; 4], u32) {
     let data = area.data;
     let odd = random.below(256) & 0xff;
     let nlb = random.below(8) & 7;
     match random.below(6) {
         // two pages at most, from an offset on
         0 => (0, [data | 4 * odd & 0x1fc, 0, data | 0x1000, 0], nlb),
-        1 => three_pages(pair, area, nlb),
+        1 => three_pages(runs, area, nlb),
         // one Data Block, which may begin anywhere
         2 => (SGL, [data | odd, 0, 512 * (nlb + 1), 0], nlb),
         // a Data Block of one block, and one of the others
-        3 => two_blocks(pair, area, odd, nlb),
-        4 => past_bucket(pair, area, odd),
-        _ => two_arrays(pair, area),
+        3 => two_blocks(runs, area, odd, nlb),
+        4 => past_bucket(runs, area, odd),
+        _ => two_arrays(runs, area),
     }
 }
 
 // 17 blocks or more, which end in a third page: two page entries stand in a list.
-fn three_pages(pair: &mut Pair, area: Area, more: u32) -> (u32, [u32; 4], u32) {
+fn three_pages(runs: &mut Runs, area: Area, more: u32) -> (u32, [u32; 4], u32) {
     let Area { data, list } = area;
     let third = u64::from(data | 0x2000);
-    pair.store_row(HONEST, u64::from(list), u64::from(data | 0x1000), third);
+    runs.store_row(HONEST, u64::from(list), u64::from(data | 0x1000), third);
     (0, [data, 0, list, 0], 16 | more & 7)
 }
 
 // A Last Segment: a Data Block of one block, and one of the others, which may begin anywhere.
-fn two_blocks(pair: &mut Pair, area: Area, odd: u32, nlb: u32) -> (u32, [u32; 4], u32) {
+fn two_blocks(runs: &mut Runs, area: Area, odd: u32, nlb: u32) -> (u32, [u32; 4], u32) {
     let Area { data, list } = area;
     let at = u64::from(list);
-    pair.store_row(HONEST, at, u64::from(data), 512);
+    runs.store_row(HONEST, at, u64::from(data), 512);
     let second = u64::from(data | 0x1000 | odd);
-    pair.store_row(HONEST, at + 16, second, 512 * u64::from(nlb));
+    runs.store_row(HONEST, at + 16, second, 512 * u64::from(nlb));
     (SGL, [list, 0, 32, LAST], nlb)
 }
 
 // A Last Segment: a Data Block, and a Bit Bucket of one block.
-fn past_bucket(pair: &mut Pair, area: Area, odd: u32) -> (u32, [u32; 4], u32) {
+fn past_bucket(runs: &mut Runs, area: Area, odd: u32) -> (u32, [u32; 4], u32) {
     let Area { data, list } = area;
     let at = u64::from(list);
-    pair.store_row(HONEST, at, u64::from(data | odd), 512);
-    pair.store_row(HONEST, at + 16, 0, BUCKET);
+    runs.store_row(HONEST, at, u64::from(data | odd), 512);
+    runs.store_row(HONEST, at + 16, 0, BUCKET);
     (SGL, [list, 0, 32, LAST], 1)
 }
 
 // A Segment: half a block, and a Last Segment of one block and another half.
-fn two_arrays(pair: &mut Pair, area: Area) -> (u32, [u32; 4], u32) {
+fn two_arrays(runs: &mut Runs, area: Area) -> (u32, [u32; 4], u32) {
     let Area { data, list } = area;
     let at = u64::from(list);
-    pair.store_row(HONEST, at, u64::from(data), 256);
-    pair.store_row(HONEST, at + 16, at + 256, NEXT_ARRAY);
-    pair.store_row(HONEST, at + 256, u64::from(data | 0x400), 512);
-    pair.store_row(HONEST, at + 272, u64::from(data | 0x900), 256);
+    runs.store_row(HONEST, at, u64::from(data), 256);
+    runs.store_row(HONEST, at + 16, at + 256, NEXT_ARRAY);
+    runs.store_row(HONEST, at + 256, u64::from(data | 0x400), 512);
+    runs.store_row(HONEST, at + 272, u64::from(data | 0x900), 256);
     (SGL, [list, 0, 32, SEGMENT], 1)
 }

@@ -1,6 +1,6 @@
 //! What the mediator and the physical controller do with a command that has a tag, event by event.
 
-use crate::pair::Pair;
+use crate::runs::Runs;
 use crate::tags::Tag;
 use nv_plan::{Planned, make_plan};
 use nv_world_model::Event;
@@ -8,7 +8,7 @@ use nv_world_model::Event;
 /// The most units of a command.
 const UNITS: u64 = 256;
 
-impl Pair {
+impl Runs {
     /// Takes the command of a tag one event on, if it can go on: its list is read as it is wanted, it is submitted, the device takes it, moves
     /// its units and posts its completion, which is reaped, and the guest is told. Another command that stands before it in the lane goes on in
     /// its place.

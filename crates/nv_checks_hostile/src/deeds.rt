@@ -2,7 +2,7 @@
 
 use crate::bench::{CC, HOSTILE, LANE_AREA, MEDIATOR, bytes_of, entry_at};
 use crate::honest::Honest;
-use crate::pair::Pair;
+use crate::runs::Runs;
 use crate::tags::Tag;
 use nv_entry::Status;
 use nv_model::Reply;
@@ -73,132 +73,132 @@ pub struct Beside {
 }
 
 /// Plays these steps, with the honest guest's between, and ends the test where something else is answered or found.
-pub fn play(rt: &impl Abort, pair: &mut Pair, honest: &mut Honest, beside: Beside, rows: &[Row]) {
+pub fn play(rt: &impl Abort, runs: &mut Runs, honest: &mut Honest, beside: Beside, rows: &[Row]) {
     for (deed, told) in rows {
         if matches!(deed, Deed::Carry) {
-            carry(rt, pair, honest, beside);
+            carry(rt, runs, honest, beside);
         } else if !matches!(deed, Deed::Prps(..)) || !beside.shares_lane {
-            step(rt, pair, beside, *deed, *told);
+            step(rt, runs, beside, *deed, *told);
         }
-        go_on(rt, pair, honest, beside);
+        go_on(rt, runs, honest, beside);
     }
 }
 
 // The honest guest goes on.
-fn go_on(rt: &impl Abort, pair: &mut Pair, honest: &mut Honest, beside: Beside) {
+fn go_on(rt: &impl Abort, runs: &mut Runs, honest: &mut Honest, beside: Beside) {
     for _ in 0..beside.pace {
-        honest.step(rt, pair);
+        honest.step(rt, runs);
     }
 }
 
 // The other guest's command goes on to its end, with the honest guest's steps between.
-fn carry(rt: &impl Abort, pair: &mut Pair, honest: &mut Honest, beside: Beside) {
+fn carry(rt: &impl Abort, runs: &mut Runs, honest: &mut Honest, beside: Beside) {
     for _ in 0..4000 {
-        if let Some(tag) = pair.tags.nth(HOSTILE, 0) {
-            pair.carry(tag, false);
-            go_on(rt, pair, honest, beside);
+        if let Some(tag) = runs.tags.nth(HOSTILE, 0) {
+            runs.carry(tag, false);
+            go_on(rt, runs, honest, beside);
         }
     }
-    assert!(rt; pair.tags.nth(HOSTILE, 0).is_none(), "{}", beside.name);
+    assert!(rt; runs.tags.nth(HOSTILE, 0).is_none(), "{}", beside.name);
 }
 
 // Plays a step, and ends the test where something else is answered or found.
-fn step(rt: &impl Abort, pair: &mut Pair, beside: Beside, deed: Deed, told: Told) {
+fn step(rt: &impl Abort, runs: &mut Runs, beside: Beside, deed: Deed, told: Told) {
     // a tag that there is not, where the guest has none
-    let tag = pair.tags.nth(HOSTILE, 0).unwrap_or(Tag {
+    let tag = runs.tags.nth(HOSTILE, 0).unwrap_or(Tag {
         lane: 255,
         number: 255,
     });
-    act(pair, deed);
-    handle(pair, tag, deed);
-    let found = shows(pair, tag, deed);
-    assert!(rt; found && is_told(pair, told), "{}", beside.name);
+    act(runs, deed);
+    handle(runs, tag, deed);
+    let found = shows(runs, tag, deed);
+    assert!(rt; found && is_told(runs, told), "{}", beside.name);
 }
 
 // Whether the last event was answered so.
-fn is_told(pair: &Pair, told: Told) -> bool {
+fn is_told(runs: &Runs, told: Told) -> bool {
     match told {
         Told::Any => true,
-        Told::Done => matches!(pair.told(), Some(Reply::Done)),
-        Told::Ignored => matches!(pair.told(), Some(Reply::Ignored)),
-        Told::Stale => matches!(pair.told(), Some(Reply::Stale)),
-        Told::Bytes => matches!(pair.told(), Some(Reply::Bytes(_))),
+        Told::Done => matches!(runs.told(), Some(Reply::Done)),
+        Told::Ignored => matches!(runs.told(), Some(Reply::Ignored)),
+        Told::Stale => matches!(runs.told(), Some(Reply::Stale)),
+        Told::Bytes => matches!(runs.told(), Some(Reply::Bytes(_))),
     }
 }
 
 // Carries out what a guest does.
-fn act(pair: &mut Pair, deed: Deed) {
+fn act(runs: &mut Runs, deed: Deed) {
     match deed {
-        Deed::BringUp => pair.bring_up(HOSTILE),
-        Deed::Row(addr, low, high) => pair.store_row(HOSTILE, addr, low, high),
-        Deed::Fill(addr, byte) => pair.store(HOSTILE, addr, &[byte; 512]),
+        Deed::BringUp => runs.bring_up(HOSTILE),
+        Deed::Row(addr, low, high) => runs.store_row(HOSTILE, addr, low, high),
+        Deed::Fill(addr, byte) => runs.store(HOSTILE, addr, &[byte; 512]),
         Deed::Enter(number, dwords) => {
-            pair.store(HOSTILE, entry_at(number), &bytes_of(&dwords));
+            runs.store(HOSTILE, entry_at(number), &bytes_of(&dwords));
         }
-        Deed::Ring(offset, value) => pair.ring(HOSTILE, offset, value),
-        Deed::Control(value) => pair.write(HOSTILE, CC, value),
-        Deed::Dword(addr, _) => pair.load(HOSTILE, addr, 4),
-        Deed::Register(offset, _) => pair.read(HOSTILE, offset),
-        Deed::Shows(addr, _) => pair.load(HOSTILE, addr, 512),
+        Deed::Ring(offset, value) => runs.ring(HOSTILE, offset, value),
+        Deed::Control(value) => runs.write(HOSTILE, CC, value),
+        Deed::Dword(addr, _) => runs.load(HOSTILE, addr, 4),
+        Deed::Register(offset, _) => runs.read(HOSTILE, offset),
+        Deed::Shows(addr, _) => runs.load(HOSTILE, addr, 512),
         _ => {}
     }
 }
 
 // Carries out what the mediator does with the guest's command, or the device.
-fn handle(pair: &mut Pair, tag: Tag, deed: Deed) {
+fn handle(runs: &mut Runs, tag: Tag, deed: Deed) {
     let Tag { lane, number } = tag;
     match deed {
-        Deed::Take => pair.play(Event::Take(HOSTILE, 1, 0)),
-        Deed::List(addr, len) => pair.play(Event::List(lane, number, addr, len)),
-        Deed::Submit => pair.play(Event::Submit(lane, number)),
-        Deed::DevTake => until_taken(pair, tag),
-        Deed::Move(unit) => pair.play(Event::DevMove(lane, number, unit)),
-        Deed::DevPost => pair.play(Event::DevPost(lane, number)),
+        Deed::Take => runs.play(Event::Take(HOSTILE, 1, 0)),
+        Deed::List(addr, len) => runs.play(Event::List(lane, number, addr, len)),
+        Deed::Submit => runs.play(Event::Submit(lane, number)),
+        Deed::DevTake => until_taken(runs, tag),
+        Deed::Move(unit) => runs.play(Event::DevMove(lane, number, unit)),
+        Deed::DevPost => runs.play(Event::DevPost(lane, number)),
         Deed::DevFail(sct, sc, dnr) => {
             let status = Status::new(sct % 8, sc, dnr);
-            pair.play(Event::DevFail(lane, number, status));
+            runs.play(Event::DevFail(lane, number, status));
         }
-        Deed::Reap => until_ended(pair, tag),
-        Deed::Post => pair.play(Event::Post(lane, number)),
+        Deed::Reap => until_ended(runs, tag),
+        Deed::Post => runs.play(Event::Post(lane, number)),
         _ => {}
     }
 }
 
 // The device takes what stands in the lane, until it has taken the command.
-fn until_taken(pair: &mut Pair, tag: Tag) {
+fn until_taken(runs: &mut Runs, tag: Tag) {
     let first = Event::DevMove(tag.lane, tag.number, 0);
     for _ in 0..65 {
-        if !pair.both.due(&first) {
-            pair.play(Event::DevTake(tag.lane));
+        if !runs.both.due(&first) {
+            runs.play(Event::DevTake(tag.lane));
         }
     }
 }
 
 // What the device has posted is reaped, until the command has ended.
-fn until_ended(pair: &mut Pair, tag: Tag) {
+fn until_ended(runs: &mut Runs, tag: Tag) {
     let post = Event::Post(tag.lane, tag.number);
     for _ in 0..65 {
-        if !pair.both.due(&post) {
-            pair.play(Event::Reap(tag.lane));
+        if !runs.both.due(&post) {
+            runs.play(Event::Reap(tag.lane));
         }
     }
 }
 
 // Whether what is looked at is so.
-fn shows(pair: &Pair, tag: Tag, deed: Deed) -> bool {
+fn shows(runs: &Runs, tag: Tag, deed: Deed) -> bool {
     match deed {
-        Deed::Dword(_, dword) => pair.has_told(&dword.to_le_bytes()),
-        Deed::Register(_, value) => pair.has_told(&value.to_le_bytes()),
-        Deed::Shows(_, byte) => pair.has_told(&[byte; 512]),
+        Deed::Dword(_, dword) => runs.has_told(&dword.to_le_bytes()),
+        Deed::Register(_, value) => runs.has_told(&value.to_le_bytes()),
+        Deed::Shows(_, byte) => runs.has_told(&[byte; 512]),
         Deed::Prps(slot, prp1, prp2) => {
             let prps = u128::from(prp1) | u128::from(prp2) << 64;
             let addr = MEDIATOR + 64 * (slot % 65) + 24;
-            pair.host_shows(addr, &prps.to_le_bytes())
+            runs.host_shows(addr, &prps.to_le_bytes())
         }
         Deed::Bounce(byte) => {
             let page = 4 + 33 * u64::from(tag.number);
             let addr = MEDIATOR + LANE_AREA * u64::from(tag.lane) + 4096 * page;
-            pair.host_shows(addr, &[byte; 512])
+            runs.host_shows(addr, &[byte; 512])
         }
         _ => true,
     }

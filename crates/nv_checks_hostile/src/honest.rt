@@ -2,7 +2,7 @@
 //! bytes, and two Compares.
 
 use crate::bench::{HEAD, HONEST, SLOTS, TAIL, behind, bytes_of, completion_at, entry_at};
-use crate::pair::Pair;
+use crate::runs::Runs;
 use nv_world_model::Event;
 use std::process::Abort;
 
@@ -153,38 +153,38 @@ impl Honest {
     }
 
     /// Goes on by one step, and ends the test where what it finds is not what was to come of the command.
-    pub fn step(&mut self, rt: &impl Abort, pair: &mut Pair) {
+    pub fn step(&mut self, rt: &impl Abort, runs: &mut Runs) {
         let Some(command) = COMMANDS.get(usize::from(self.ended % ROUND)) else {
             return;
         };
         self.stage = match self.stage {
             Stage::Lay => {
-                lay(pair, command);
+                lay(runs, command);
                 Stage::Enter
             }
             Stage::Enter => {
                 let entry = bytes_of(&dwords(command, self.ended));
-                pair.store(HONEST, entry_at(self.ended), &entry);
+                runs.store(HONEST, entry_at(self.ended), &entry);
                 Stage::Ring
             }
             Stage::Ring => {
-                pair.ring(HONEST, TAIL, behind(self.ended));
+                runs.ring(HONEST, TAIL, behind(self.ended));
                 Stage::Take
             }
             Stage::Take => {
-                pair.play(Event::Take(HONEST, 1, self.lane));
-                assert!(rt; pair.is_done(), "{}", command.name);
+                runs.play(Event::Take(HONEST, 1, self.lane));
+                assert!(rt; runs.is_done(), "{}", command.name);
                 Stage::Carry
             }
-            Stage::Carry => match pair.tags.nth(HONEST, 0) {
+            Stage::Carry => match runs.tags.nth(HONEST, 0) {
                 Some(tag) => {
-                    pair.carry(tag, self.ended % 2 == 1);
+                    runs.carry(tag, self.ended % 2 == 1);
                     Stage::Carry
                 }
                 None => Stage::Look,
             },
             Stage::Look => {
-                expect(rt, pair, command, self.ended);
+                expect(rt, runs, command, self.ended);
                 self.ended = self.ended.wrapping_add(1);
                 Stage::Lay
             }
@@ -192,10 +192,10 @@ impl Honest {
     }
 
     /// Goes on until so many commands have ended.
-    pub fn run(&mut self, rt: &impl Abort, pair: &mut Pair, commands: u16) {
+    pub fn run(&mut self, rt: &impl Abort, runs: &mut Runs, commands: u16) {
         for _ in 0..4000 {
             if self.ended < commands {
-                self.step(rt, pair);
+                self.step(rt, runs);
             }
         }
         assert_eq!(rt; self.ended, commands);
@@ -203,12 +203,12 @@ impl Honest {
 }
 
 // Stores what stands in memory for a command.
-fn lay(pair: &mut Pair, command: &Command) {
+fn lay(runs: &mut Runs, command: &Command) {
     for (addr, byte) in command.fills {
-        pair.store(HONEST, *addr, &[*byte; 512]);
+        runs.store(HONEST, *addr, &[*byte; 512]);
     }
     for (addr, low, high) in command.tables {
-        pair.store_row(HONEST, *addr, *low, *high);
+        runs.store_row(HONEST, *addr, *low, *high);
     }
 }
 
@@ -245,16 +245,16 @@ fn completion(command: &Command, number: u16) -> [u8; 16] {
 }
 
 // Ends the test where something else came of a command.
-fn expect(rt: &impl Abort, pair: &mut Pair, command: &Command, number: u16) {
-    pair.load(HONEST, completion_at(number), 16);
+fn expect(rt: &impl Abort, runs: &mut Runs, command: &Command, number: u16) {
+    runs.load(HONEST, completion_at(number), 16);
     assert!(rt;
-        pair.has_told(&completion(command, number)),
+        runs.has_told(&completion(command, number)),
         "{}",
         command.name
     );
     for (addr, byte) in command.shows {
-        pair.load(HONEST, *addr, 512);
-        assert!(rt; pair.has_told(&[*byte; 512]), "{}: {addr}", command.name);
+        runs.load(HONEST, *addr, 512);
+        assert!(rt; runs.has_told(&[*byte; 512]), "{}: {addr}", command.name);
     }
-    pair.ring(HONEST, HEAD, behind(number));
+    runs.ring(HONEST, HEAD, behind(number));
 }

@@ -6,8 +6,8 @@ use crate::bench::{
     ADMIN_QUEUES, ADMIN_SUBMISSIONS, ADMIN_TAIL, CC, DISABLED, ENABLED, HONEST, HOSTILE,
     SUBMISSIONS, TAIL, bytes_of,
 };
-use crate::pair::Pair;
 use crate::random::Random;
+use crate::runs::Runs;
 use crate::tags::Tag;
 use nv_entry::Status;
 use nv_world_model::Event;
@@ -176,31 +176,31 @@ const VALUES: &[u32] = &[
 ];
 
 /// Goes on somewhere.
-pub fn turn(pair: &mut Pair, random: &mut Random) {
+pub fn turn(runs: &mut Runs, random: &mut Random) {
     match random.below(40) {
-        0 | 1 => store(pair, random),
-        2..=8 => enter(pair, random),
-        9..=11 => list(pair, random),
-        12 => load(pair, random),
-        13 => registers(pair, random),
-        14..=16 => ring(pair, random),
-        17 => administer(pair, random),
-        18 => pair.play(Event::Admin(HOSTILE)),
-        19..=24 => take(pair, random),
-        25..=33 => carry(pair, random),
-        34..=36 => disturb(pair, random),
-        37 => misname(pair, random),
-        38 => unnamed(pair, random),
-        _ => reset(pair, random),
+        0 | 1 => store(runs, random),
+        2..=8 => enter(runs, random),
+        9..=11 => list(runs, random),
+        12 => load(runs, random),
+        13 => registers(runs, random),
+        14..=16 => ring(runs, random),
+        17 => administer(runs, random),
+        18 => runs.play(Event::Admin(HOSTILE)),
+        19..=24 => take(runs, random),
+        25..=33 => carry(runs, random),
+        34..=36 => disturb(runs, random),
+        37 => misname(runs, random),
+        38 => unnamed(runs, random),
+        _ => reset(runs, random),
     }
 }
 
 // It stores 16 bytes that mean nothing, anywhere.
-fn store(pair: &mut Pair, random: &mut Random) {
+fn store(runs: &mut Runs, random: &mut Random) {
     let addr = somewhere(random);
     let low = u64::from(random.word()) << 32 | u64::from(random.word());
     let high = u64::from(random.word()) << 32 | u64::from(random.word());
-    pair.store_row(HOSTILE, addr, low, high);
+    runs.store_row(HOSTILE, addr, low, high);
 }
 
 // An address near one of those that mean something.
@@ -214,16 +214,16 @@ fn somewhere(random: &mut Random) -> u64 {
 }
 
 // It puts a command into a slot of its first queue, or of where another may be, and rings.
-fn enter(pair: &mut Pair, random: &mut Random) {
+fn enter(runs: &mut Runs, random: &mut Random) {
     let number = random.below(16);
     let addr = SUBMISSIONS.wrapping_add(64 * u64::from(number));
-    pair.store(HOSTILE, addr, &bytes_of(&command(random)));
+    runs.store(HOSTILE, addr, &bytes_of(&command(random)));
     let value = if random.once_in(8) {
         random.below(40)
     } else {
         number.wrapping_add(1) % 16
     };
-    pair.ring(HOSTILE, TAIL, value);
+    runs.ring(HOSTILE, TAIL, value);
 }
 
 // A command, half of the time one of a transfer from or to its own memory.
@@ -289,7 +289,7 @@ fn attempt(random: &mut Random) -> [u32; 16] {
 }
 
 // It stores a descriptor, a range or two addresses where its lists lie.
-fn list(pair: &mut Pair, random: &mut Random) {
+fn list(runs: &mut Runs, random: &mut Random) {
     let page = if random.once_in(2) { 0x6000 } else { 0x7000 };
     let at = page + 16 * u64::from(random.below(8)) + 8 * u64::from(random.below(2));
     let low = random.address(ADDRESSES);
@@ -298,35 +298,35 @@ fn list(pair: &mut Pair, random: &mut Random) {
         1 => u64::from(random.among(BLOCKS)),
         _ => u64::from(random.among(LENGTHS)) | u64::from(random.among(TYPES)) << 32,
     };
-    pair.store_row(HOSTILE, at, low, high);
+    runs.store_row(HOSTILE, at, low, high);
 }
 
-fn load(pair: &mut Pair, random: &mut Random) {
+fn load(runs: &mut Runs, random: &mut Random) {
     let addr = somewhere(random);
-    pair.load(HOSTILE, addr, u64::from(random.among(LENGTHS) & 0x1fff));
+    runs.load(HOSTILE, addr, u64::from(random.among(LENGTHS) & 0x1fff));
 }
 
-fn registers(pair: &mut Pair, random: &mut Random) {
+fn registers(runs: &mut Runs, random: &mut Random) {
     let offset = random.among(OFFSETS);
     if random.once_in(2) {
-        pair.read(HOSTILE, offset);
+        runs.read(HOSTILE, offset);
     } else {
-        pair.write(HOSTILE, offset, random.among(VALUES));
+        runs.write(HOSTILE, offset, random.among(VALUES));
     }
 }
 
-fn ring(pair: &mut Pair, random: &mut Random) {
+fn ring(runs: &mut Runs, random: &mut Random) {
     let offset = ADMIN_TAIL + 4 * (random.below(22) & 0x1f);
     let value = if random.once_in(4) {
         random.word()
     } else {
         random.below(18)
     };
-    pair.ring(HOSTILE, offset, value);
+    runs.ring(HOSTILE, offset, value);
 }
 
 // It puts an admin command into its queue, most often one of queues, and rings.
-fn administer(pair: &mut Pair, random: &mut Random) {
+fn administer(runs: &mut Runs, random: &mut Random) {
     let number = random.below(32);
     let entry = [
         random.among(ADMIN_OPCODES) | number << 16,
@@ -347,32 +347,32 @@ fn administer(pair: &mut Pair, random: &mut Random) {
         0,
     ];
     let addr = ADMIN_SUBMISSIONS.wrapping_add(64 * u64::from(number));
-    pair.store(HOSTILE, addr, &bytes_of(&entry));
-    pair.ring(HOSTILE, ADMIN_TAIL, number.wrapping_add(1) % 32);
-    pair.play(Event::Admin(HOSTILE));
+    runs.store(HOSTILE, addr, &bytes_of(&entry));
+    runs.ring(HOSTILE, ADMIN_TAIL, number.wrapping_add(1) % 32);
+    runs.play(Event::Admin(HOSTILE));
 }
 
 // One of its commands is taken, if there is one.
-fn take(pair: &mut Pair, random: &mut Random) {
+fn take(runs: &mut Runs, random: &mut Random) {
     let queue = if random.once_in(4) {
         u16::from(random.byte() % 10)
     } else {
         1
     };
-    pair.play(Event::Take(HOSTILE, queue, random.byte() % 2));
+    runs.play(Event::Take(HOSTILE, queue, random.byte() % 2));
 }
 
 // One of its commands goes on.
-fn carry(pair: &mut Pair, random: &mut Random) {
-    if let Some(tag) = pair.tags.nth(HOSTILE, random.word()) {
-        pair.carry(tag, random.once_in(2));
+fn carry(runs: &mut Runs, random: &mut Random) {
+    if let Some(tag) = runs.tags.nth(HOSTILE, random.word()) {
+        runs.carry(tag, random.once_in(2));
     }
 }
 
 // An event of one of its commands that may be out of turn.
-fn disturb(pair: &mut Pair, random: &mut Random) {
-    if let Some(tag) = pair.tags.nth(HOSTILE, random.word()) {
-        pair.play(named(tag, random));
+fn disturb(runs: &mut Runs, random: &mut Random) {
+    if let Some(tag) = runs.tags.nth(HOSTILE, random.word()) {
+        runs.play(named(tag, random));
     }
 }
 
@@ -402,18 +402,18 @@ fn status(random: &mut Random) -> Status {
 }
 
 // The same of a tag that is not the honest guest's, and that there may not be.
-fn misname(pair: &mut Pair, random: &mut Random) {
+fn misname(runs: &mut Runs, random: &mut Random) {
     let tag = Tag {
         lane: random.byte() % 4,
         number: random.byte() % 72,
     };
-    if !pair.tags.is_of(HONEST, tag.lane, tag.number) {
-        pair.play(named(tag, random));
+    if !runs.tags.is_of(HONEST, tag.lane, tag.number) {
+        runs.play(named(tag, random));
     }
 }
 
 // Events that name neither a tag nor the honest guest: of lanes, guests and blocks that there may not be.
-fn unnamed(pair: &mut Pair, random: &mut Random) {
+fn unnamed(runs: &mut Runs, random: &mut Random) {
     let lane = random.byte() % 4;
     let event = match random.below(6) {
         0 => Event::DevTake(lane),
@@ -423,17 +423,17 @@ fn unnamed(pair: &mut Pair, random: &mut Random) {
         4 => Event::Take(HOSTILE, 9, lane),
         _ => Event::Admin(2),
     };
-    pair.play(event);
+    runs.play(event);
 }
 
 // It turns its controller off, on again, or off and on with queues.
-fn reset(pair: &mut Pair, random: &mut Random) {
+fn reset(runs: &mut Runs, random: &mut Random) {
     match random.below(8) {
-        0 => pair.write(HOSTILE, CC, DISABLED),
-        1 => pair.write(HOSTILE, CC, ENABLED),
+        0 => runs.write(HOSTILE, CC, DISABLED),
+        1 => runs.write(HOSTILE, CC, ENABLED),
         _ => {
-            pair.write(HOSTILE, CC, DISABLED);
-            pair.bring_up(HOSTILE);
+            runs.write(HOSTILE, CC, DISABLED);
+            runs.bring_up(HOSTILE);
         }
     }
 }

@@ -1,5 +1,5 @@
-//! Tests of what an honest guest sees beside one that is not, by public calls of the world alone: each run is made twice, once with both guests'
-//! events and once with the honest guest's alone.
+//! Tests of what an honest guest sees beside one that is not, by public calls of the world alone: the run of both guests stands beside a run of each
+//! alone, and neither guest is answered otherwise there, nor has other memory or blocks. So nothing of one reaches the other, whichever way.
 #![tactic(auto)]
 
 #[cfg(test)]
@@ -17,12 +17,12 @@ mod hostile;
 #[cfg(test)]
 mod mistakes;
 #[cfg(test)]
-mod pair;
-#[cfg(test)]
 mod pairs;
 #[cfg(test)]
 mod random;
 #[cfg(test)]
 mod rows;
+#[cfg(test)]
+mod runs;
 #[cfg(test)]
 mod tags;

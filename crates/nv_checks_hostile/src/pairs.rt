@@ -1,20 +1,26 @@
-//! Random runs of both guests, each beside the run of the honest guest alone.
+//! Random runs of both guests, each beside the runs of each guest alone.
 
 use crate::bench::{HONEST, HOSTILE};
 use crate::busy::Busy;
 use crate::hostile;
-use crate::pair::Pair;
 use crate::random::Random;
+use crate::runs::Runs;
 use std::process::Abort;
 
 /// How many seeds a test has, from its first on.
 const SEEDS: u32 = 50;
 
-/// How many turns a run has; about half of them are the honest guest's.
-const TURNS: u32 = 800;
+/// How many stretches a run has, and how many turns each of these; about half of them are the honest guest's. Memory and blocks are compared behind
+/// each stretch, replies behind each event.
+const STRETCHES: u32 = 16;
+
+const TURNS: u32 = 50;
+
+/// The fewest commands of the honest guest that end in a run.
+const FEWEST: u16 = 4;
 
 /// What came of a run, or of several: how many commands of the honest guest ended, how many of them well, and how many had another tag than in the
-/// run alone; and how many commands of the other guest were taken.
+/// run of that guest alone; and how many commands of the other guest were taken.
 #[derive(Clone, Copy)]
 struct Tally {
     ended: u32,
@@ -23,33 +29,41 @@ struct Tally {
     others: u32,
 }
 
-// A run, and what came of it. The test ends where the honest guest is served otherwise than alone, or its commands don't end.
+// A run, and what came of it. The test ends where a guest is served otherwise than alone, or the honest guest's commands don't end.
 fn run(rt: &(impl Abort + AllocGlobal), seed: u32) -> Tally {
-    let mut pair = Pair::new(rt.alloc(), seed % 2 == 1).expect(rt, "two worlds");
-    run_in(rt, &mut pair, seed)
+    let mut runs = Runs::new(rt.alloc(), seed % 2 == 1).expect(rt, "three worlds");
+    run_in(rt, &mut runs, seed)
 }
 
-// The same in two worlds at their start.
-fn run_in(rt: &impl Abort, pair: &mut Pair, seed: u32) -> Tally {
+// The same in worlds at their start.
+fn run_in(rt: &impl Abort, runs: &mut Runs, seed: u32) -> Tally {
     let mut random = Random::new(u64::from(seed));
     let mut busy = Busy::new();
-    pair.bring_up(HONEST);
-    pair.bring_up(HOSTILE);
-    for _ in 0..TURNS {
-        if random.once_in(2) {
-            busy.turn(pair, &mut random);
-        } else {
-            hostile::turn(pair, &mut random);
-        }
+    runs.bring_up(HONEST);
+    runs.bring_up(HOSTILE);
+    for _ in 0..STRETCHES {
+        play(runs, &mut busy, &mut random);
+        runs.expect_alike(rt, "a random run");
     }
-    busy.drain(pair, &mut random);
-    pair.expect_alike(rt, "a random run");
-    assert!(rt; busy.is_idle(), "{seed}");
+    busy.drain(runs, &mut random);
+    runs.expect_alike(rt, "a random run");
+    assert!(rt; busy.is_idle() && busy.ended >= FEWEST, "{seed}");
     Tally {
         ended: u32::from(busy.ended),
         succeeded: u32::from(busy.succeeded),
-        renumbered: pair.tags.renumbered,
-        others: pair.tags.others,
+        renumbered: runs.tags.renumbered,
+        others: runs.tags.others,
+    }
+}
+
+// The turns of a stretch.
+fn play(runs: &mut Runs, busy: &mut Busy, random: &mut Random) {
+    for _ in 0..TURNS {
+        if random.once_in(2) {
+            busy.turn(runs, random);
+        } else {
+            hostile::turn(runs, random);
+        }
     }
 }
 
@@ -63,7 +77,7 @@ fn sum(one: Tally, other: Tally) -> Tally {
     }
 }
 
-// Ends the test where a run of these seeds differs from the one alone, or where too little happened in them.
+// Ends the test where a run of these seeds differs from those alone, or where too little happened in them.
 fn expect(rt: &(impl Abort + AllocGlobal), first: u32) {
     let mut all = Tally {
         ended: 0,

@@ -3,7 +3,7 @@
 use crate::bench::{CSTS, DISABLED, ENABLED, HEAD, HONEST, HOSTILE, TAIL};
 use crate::deeds::{Beside, Deed, Row, Told, play};
 use crate::honest::{Honest, ROUND};
-use crate::pair::Pair;
+use crate::runs::Runs;
 use std::process::Abort;
 
 /// A Read of one block, of identifier 7 and SLBA 5, by one Data Block at this address.
@@ -337,28 +337,28 @@ const FAILED_IN_A_USED_SLOT: &[Row] = &[
 /// How many steps the honest guest makes behind each of the other's.
 const PACES: [u16; 4] = [0, 1, 2, 5];
 
-// Plays these rows, one list behind another, and ends the test where the honest guest is served otherwise than alone.
+// Plays these rows, one list behind another, and ends the test where a guest is served otherwise than alone.
 fn expect(rt: &(impl Abort + AllocGlobal), beside: Beside, parts: &[&[Row]]) {
-    let mut pair = Pair::new(rt.alloc(), false).expect(rt, "two worlds");
-    expect_in(rt, &mut pair, beside, parts);
+    let mut runs = Runs::new(rt.alloc(), false).expect(rt, "three worlds");
+    expect_in(rt, &mut runs, beside, parts);
 }
 
-// The same in two worlds at their start.
-fn expect_in(rt: &impl Abort, pair: &mut Pair, beside: Beside, parts: &[&[Row]]) {
+// The same in worlds at their start.
+fn expect_in(rt: &impl Abort, runs: &mut Runs, beside: Beside, parts: &[&[Row]]) {
     let lane = if beside.shares_lane { 0 } else { 1 };
     let mut honest = Honest::new(lane);
-    pair.bring_up(HONEST);
+    runs.bring_up(HONEST);
     for rows in parts {
-        play(rt, pair, &mut honest, beside, rows);
+        play(rt, runs, &mut honest, beside, rows);
     }
-    finish(rt, pair, &mut honest, beside.name);
+    finish(rt, runs, &mut honest, beside.name);
 }
 
-// Lets the honest guest end its commands, once each at least, and ends the test where it was served otherwise than alone.
-fn finish(rt: &impl Abort, pair: &mut Pair, honest: &mut Honest, name: &str) {
+// Lets the honest guest end its commands, once each at least, and ends the test where a guest was served otherwise than alone.
+fn finish(rt: &impl Abort, runs: &mut Runs, honest: &mut Honest, name: &str) {
     let commands = honest.ended.wrapping_add(1).max(ROUND);
-    honest.run(rt, pair, commands);
-    pair.expect_alike(rt, name);
+    honest.run(rt, runs, commands);
+    runs.expect_alike(rt, name);
 }
 
 // The same at each pace, by a lane of its own and by the other's.
@@ -408,24 +408,24 @@ fn a_list_that_names_itself(rt: HostRuntime) {
 }
 
 // A failure in a slot that the honest guest's commands, which go by the same lane, have used before.
-fn expect_nothing_old(rt: &impl Abort, pair: &mut Pair, pace: u16) {
+fn expect_nothing_old(rt: &impl Abort, runs: &mut Runs, pace: u16) {
     let beside = Beside {
         name: "a used slot",
         pace,
         shares_lane: true,
     };
     let mut honest = Honest::new(0);
-    pair.bring_up(HONEST);
-    pair.bring_up(HOSTILE);
-    honest.run(rt, pair, ROUND);
-    play(rt, pair, &mut honest, beside, FAILED_IN_A_USED_SLOT);
-    finish(rt, pair, &mut honest, beside.name);
+    runs.bring_up(HONEST);
+    runs.bring_up(HOSTILE);
+    honest.run(rt, runs, ROUND);
+    play(rt, runs, &mut honest, beside, FAILED_IN_A_USED_SLOT);
+    finish(rt, runs, &mut honest, beside.name);
 }
 
 #[test]
 fn a_failure_in_a_slot_with_bytes_of_the_honest_guest(rt: HostRuntime) {
     for pace in [0, 1] {
-        let mut pair = Pair::new(rt.alloc(), false).expect(&rt, "two worlds");
-        expect_nothing_old(&rt, &mut pair, pace);
+        let mut runs = Runs::new(rt.alloc(), false).expect(&rt, "three worlds");
+        expect_nothing_old(&rt, &mut runs, pace);
     }
 }

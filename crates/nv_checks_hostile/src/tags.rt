@@ -1,4 +1,4 @@
-//! Whose the tags of the run of both guests are, and which tag each of the honest guest's has in the run alone.
+//! Whose the tags of the run of both guests are, and which tag each has in the run of its guest alone.
 
 use crate::bench::{HONEST, TAGS};
 use nv_mem::NoMemory;
@@ -24,7 +24,7 @@ enum Point {
 pub struct Holder {
     /// whose command it is
     pub guest: u8,
-    /// its tag in the run of the honest guest alone
+    /// its tag in the run of that guest alone
     alone: u8,
     point: Point,
 }
@@ -35,6 +35,22 @@ pub struct Tag {
     pub lane: u8,
     pub number: u8,
 }
+
+/// An event of the run of one guest alone.
+#[derive(Drop)]
+pub struct Own {
+    pub guest: u8,
+    pub event: Event,
+}
+
+impl Own {
+    fn new(guest: u8, event: Event) -> Self {
+        Own { guest, event }
+    }
+}
+
+/// A guest that there is not.
+const NOBODY: u8 = 255;
 
 /// The holders of a lane's tags.
 type Lane = [Option<Holder>; 64];
@@ -64,8 +80,8 @@ impl Tags {
         }
     }
 
-    /// The event of the run alone that an event of the run of both guests stands for, which was carried out last in that world: the same with the
-    /// honest guest's tag renumbered, and none where it is not the honest guest's.
+    /// Whose event it was that was carried out last in the run of both guests, and the event that it is in the run of that guest alone: the same with
+    /// the guest's tag renumbered. None where it is nobody's, or there it could not be that one: nobody else takes the lane's tags.
     ///
     /// A command's tag is the lowest that is free when it is taken, in each run. An event that names no tag is that of the command that the
     /// device takes, or whose physical completion is reaped.
@@ -74,83 +90,60 @@ impl Tags {
         alloc: Global,
         world: &World,
         logged: &Logged,
-    ) -> Result<Option<Event>, NoMemory> {
+    ) -> Result<Option<Own>, NoMemory> {
         let is_done = matches!(logged.reply, Reply::Done);
-        let event = match &logged.event {
+        let own = match &logged.event {
             Event::Guest(guest, act) => {
-                if *guest != HONEST {
-                    return Ok(None);
-                }
-                Some(Event::Guest(HONEST, act.try_clone(alloc)?))
+                let act = act.try_clone(alloc)?;
+                Some(Own::new(*guest, Event::Guest(*guest, act)))
             }
-            Event::Admin(guest) => {
-                if *guest == HONEST {
-                    Some(Event::Admin(HONEST))
-                } else {
-                    None
-                }
-            }
+            Event::Admin(guest) => Some(Own::new(*guest, Event::Admin(*guest))),
             Event::Take(guest, queue, lane) => {
                 if is_done {
                     self.take(alloc, world, *guest, *lane)?;
                 }
-                if *guest == HONEST && !matches!(logged.reply, Reply::Busy) {
-                    Some(Event::Take(HONEST, *queue, *lane))
-                } else {
-                    None
+                if matches!(logged.reply, Reply::Busy) {
+                    return Ok(None);
                 }
+                Some(Own::new(*guest, Event::Take(*guest, *queue, *lane)))
             }
             Event::DevTake(lane) => {
-                if is_done && self.enters(world, *lane) {
-                    Some(Event::DevTake(*lane))
-                } else {
-                    None
+                if !is_done {
+                    return Ok(None);
                 }
+                Some(Own::new(self.enter(world, *lane), Event::DevTake(*lane)))
             }
             Event::Reap(lane) => {
-                if is_done && self.reap(*lane) {
-                    Some(Event::Reap(*lane))
-                } else {
-                    None
+                if !is_done {
+                    return Ok(None);
                 }
+                Some(Own::new(self.reap(*lane), Event::Reap(*lane)))
             }
-            Event::Keep(_) => None,
             named => self.named(named, is_done),
         };
-        Ok(event)
+        Ok(own)
     }
 
     // The same, of an event that names a tag.
-    fn named(&mut self, event: &Event, is_done: bool) -> Option<Event> {
+    fn named(&mut self, event: &Event, is_done: bool) -> Option<Own> {
+        let tag = tag_of(event)?;
+        let Holder { guest, alone, .. } = self.holder(tag.lane, tag.number)?;
+        if is_done {
+            self.note(event, tag);
+        }
+        Some(Own::new(guest, with_tag(event, alone)?))
+    }
+
+    // Notes what an event did to the command of a tag.
+    fn note(&mut self, event: &Event, tag: Tag) {
+        let Tag { lane, number } = tag;
         match event {
-            Event::List(lane, tag, addr, len) => {
-                Some(Event::List(*lane, self.alone(*lane, *tag)?, *addr, *len))
+            Event::DevPost(..) | Event::DevFail(..) => {
+                self.posted = self.posted.wrapping_add(1);
+                self.move_to(lane, number, Point::Posted(self.posted));
             }
-            Event::Submit(lane, tag) => Some(Event::Submit(*lane, self.alone(*lane, *tag)?)),
-            Event::GiveUp(lane, tag) => Some(Event::GiveUp(*lane, self.alone(*lane, *tag)?)),
-            Event::DevMove(lane, tag, unit) => {
-                Some(Event::DevMove(*lane, self.alone(*lane, *tag)?, *unit))
-            }
-            Event::DevPost(lane, tag) => {
-                if is_done {
-                    self.post(*lane, *tag);
-                }
-                Some(Event::DevPost(*lane, self.alone(*lane, *tag)?))
-            }
-            Event::DevFail(lane, tag, status) => {
-                if is_done {
-                    self.post(*lane, *tag);
-                }
-                Some(Event::DevFail(*lane, self.alone(*lane, *tag)?, *status))
-            }
-            Event::Post(lane, tag) => {
-                let alone = self.alone(*lane, *tag);
-                if is_done {
-                    self.set(*lane, *tag, None);
-                }
-                Some(Event::Post(*lane, alone?))
-            }
-            _ => None,
+            Event::Post(..) => self.set(lane, number, None),
+            _ => {}
         }
     }
 
@@ -187,16 +180,6 @@ impl Tags {
         }
     }
 
-    // The tag in the run alone of a tag of the honest guest's.
-    fn alone(&self, lane: u8, tag: u8) -> Option<u8> {
-        let holder = self.holder(lane, tag)?;
-        if holder.guest == HONEST {
-            Some(holder.alone)
-        } else {
-            None
-        }
-    }
-
     // Says who has a tag.
     fn set(&mut self, lane: u8, tag: u8, holder: Option<Holder>) {
         if let Some(tags) = self.lanes.get_mut(usize::from(lane))
@@ -219,7 +202,7 @@ impl Tags {
     // A guest's command was taken: it has the lowest tag that was free, and in the run alone the lowest that is free there.
     fn take(&mut self, alloc: Global, world: &World, guest: u8, lane: u8) -> Result<(), NoMemory> {
         let tag = self.lowest_free(lane);
-        let alone = self.lowest_alone(lane);
+        let alone = self.lowest_alone(guest, lane);
         let job = world.job(alloc, lane, tag)?;
         if job.is_none_or(|job| job.guest != guest) {
             self.astray = true;
@@ -252,49 +235,46 @@ impl Tags {
         TAGS
     }
 
-    // The same in the run alone.
-    fn lowest_alone(&self, lane: u8) -> u8 {
+    // The same in the run of a guest alone.
+    fn lowest_alone(&self, guest: u8, lane: u8) -> u8 {
         for alone in 0..TAGS {
-            if !self.has_alone(lane, alone) {
+            if !self.has_alone(guest, lane, alone) {
                 return alone;
             }
         }
         TAGS
     }
 
-    // Whether one of the honest guest's commands has that tag in the run alone.
-    fn has_alone(&self, lane: u8, alone: u8) -> bool {
+    // Whether one of a guest's commands has that tag in the run of the guest alone.
+    fn has_alone(&self, guest: u8, lane: u8, alone: u8) -> bool {
         for tag in 0..TAGS {
-            if self.alone(lane, tag) == Some(alone) {
+            if let Some(holder) = self.holder(lane, tag)
+                && holder.guest == guest
+                && holder.alone == alone
+            {
                 return true;
             }
         }
         false
     }
 
-    // Whether the command that the device has taken now is the honest guest's: it is the one whose first unit can be moved, and was not there.
-    fn enters(&mut self, world: &World, lane: u8) -> bool {
+    // The device has taken a command; whose. It is the one whose first unit can be moved, and was not there.
+    fn enter(&mut self, world: &World, lane: u8) -> u8 {
         for tag in 0..TAGS {
             if let Some(holder) = self.holder(lane, tag)
                 && holder.point == Point::Before
                 && world.due(&Event::DevMove(lane, tag, 0))
             {
                 self.move_to(lane, tag, Point::InDevice);
-                return holder.guest == HONEST;
+                return holder.guest;
             }
         }
         self.astray = true;
-        false
+        NOBODY
     }
 
-    // The device has posted a command's completion.
-    fn post(&mut self, lane: u8, tag: u8) {
-        self.posted = self.posted.wrapping_add(1);
-        self.move_to(lane, tag, Point::Posted(self.posted));
-    }
-
-    // Whether the completion that is reaped now is the honest guest's: it is the lane's first of those that were posted.
-    fn reap(&mut self, lane: u8) -> bool {
+    // A completion was reaped; whose. It is the lane's first of those that the device had posted.
+    fn reap(&mut self, lane: u8) -> u8 {
         let mut first = u64::MAX;
         let mut found = TAGS;
         for tag in 0..TAGS {
@@ -307,6 +287,38 @@ impl Tags {
             }
         }
         self.move_to(lane, found, Point::Behind);
-        self.is_of(HONEST, lane, found)
+        match self.holder(lane, found) {
+            Some(holder) => holder.guest,
+            None => NOBODY,
+        }
+    }
+}
+
+// The tag that an event names.
+fn tag_of(event: &Event) -> Option<Tag> {
+    let (lane, number) = match event {
+        Event::List(lane, tag, _, _)
+        | Event::Submit(lane, tag)
+        | Event::GiveUp(lane, tag)
+        | Event::DevMove(lane, tag, _)
+        | Event::DevPost(lane, tag)
+        | Event::DevFail(lane, tag, _)
+        | Event::Post(lane, tag) => (*lane, *tag),
+        _ => return None,
+    };
+    Some(Tag { lane, number })
+}
+
+// The same event of another tag of its lane.
+fn with_tag(event: &Event, tag: u8) -> Option<Event> {
+    match event {
+        Event::List(lane, _, addr, len) => Some(Event::List(*lane, tag, *addr, *len)),
+        Event::Submit(lane, _) => Some(Event::Submit(*lane, tag)),
+        Event::GiveUp(lane, _) => Some(Event::GiveUp(*lane, tag)),
+        Event::DevMove(lane, _, unit) => Some(Event::DevMove(*lane, tag, *unit)),
+        Event::DevPost(lane, _) => Some(Event::DevPost(*lane, tag)),
+        Event::DevFail(lane, _, status) => Some(Event::DevFail(*lane, tag, *status)),
+        Event::Post(lane, _) => Some(Event::Post(*lane, tag)),
+        _ => None,
     }
 }

@@ -1,10 +1,11 @@
-//! A run of both guests, and beside it the run of the honest guest alone.
+//! A run of both guests, and beside it a run of each alone.
 
 use crate::bench::{
     self, ADMIN_QUEUES, ADMIN_SUBMISSIONS, ADMIN_TAIL, BLOCKS, CC, CREATE_COMPLETION_QUEUE,
-    CREATE_SUBMISSION_QUEUE, ENABLED, HONEST_BASE, HONEST_IMAGE, MEMORY, bytes_of,
+    CREATE_SUBMISSION_QUEUE, ENABLED, HONEST, HONEST_BASE, HONEST_IMAGE, HOSTILE, HOSTILE_BASE,
+    HOSTILE_IMAGES, MEMORY, bytes_of,
 };
-use crate::tags::Tags;
+use crate::tags::{Own, Tags};
 use nv_mem::{BoxedBytes, Host, NoMemory};
 use nv_model::{Act, Reply};
 use nv_world::World;
@@ -15,33 +16,35 @@ use std::process::Abort;
 /// How many bytes a page has.
 const PAGE: u64 = 4096;
 
-/// Two worlds: each event is carried out in one, and the honest guest's in the other, too, where no other guest does anything.
+/// Three worlds: each event is carried out in one, and in that of its guest, too, where the other guest does nothing.
 #[derive(Drop)]
-pub struct Pair {
+pub struct Runs {
     pub alloc: Global,
     pub both: World,
-    pub alone: World,
+    honest: World,
+    hostile: World,
     pub tags: Tags,
-    /// how many events the run of both guests had behind the first of the honest guest's that was answered otherwise alone
+    /// how many events the run of both guests had behind the first that was answered otherwise in the run of its guest alone
     pub differs: Option<usize>,
     /// whether memory was refused
     pub lost: bool,
 }
 
-impl Pair {
-    /// Both at their start, with nobody brought up; none where memory was refused.
+impl Runs {
+    /// All at their start, with nobody brought up; none where memory was refused.
     pub fn new(alloc: Global, more: bool) -> Option<Self> {
-        Some(Pair {
+        Some(Runs {
             alloc,
             both: bench::opened(alloc, more)?,
-            alone: bench::opened(alloc, more)?,
+            honest: bench::opened(alloc, more)?,
+            hostile: bench::opened(alloc, more)?,
             tags: Tags::new(),
             differs: None,
             lost: false,
         })
     }
 
-    /// Carries out an event, in the run alone, too, where it is the honest guest's.
+    /// Carries out an event, in the run of its guest alone, too.
     pub fn play(&mut self, event: Event) {
         match self.try_play(event) {
             Ok(true) => {}
@@ -54,20 +57,21 @@ impl Pair {
         }
     }
 
-    // Whether an event is answered alike in both runs.
+    // Whether an event is answered alike in both runs that have it.
     fn try_play(&mut self, event: Event) -> Result<bool, NoMemory> {
         self.both.advance(self.alloc, event)?;
         let Some(logged) = self.both.log().last() else {
             return Err(NoMemory);
         };
-        let Some(event) = self.tags.renumber(self.alloc, &self.both, logged)? else {
+        let Some(own) = self.tags.renumber(self.alloc, &self.both, logged)? else {
             return Ok(true);
         };
-        self.alone.advance(self.alloc, event)?;
-        let Some(told) = self.alone.log().last() else {
-            return Err(NoMemory);
-        };
-        Ok(is_same(&logged.reply, &told.reply))
+        let Own { guest, event } = own;
+        match guest {
+            HONEST => is_answered(&mut self.honest, self.alloc, event, &logged.reply),
+            HOSTILE => is_answered(&mut self.hostile, self.alloc, event, &logged.reply),
+            _ => Ok(true),
+        }
     }
 
     // Carries out an act of a guest that takes memory.
@@ -115,7 +119,7 @@ impl Pair {
         self.play(Event::Guest(guest, Act::Doorbell { offset, value }));
     }
 
-    /// A guest makes its admin queues and queue pair 1.
+    /// A guest makes its admin queues and queue runs 1.
     pub fn bring_up(&mut self, guest: u8) {
         self.store(
             guest,
@@ -174,23 +178,13 @@ impl Pair {
         host.holds(addr, bytes.len() as u64) && host.equals(addr, bytes)
     }
 
-    /// Whether the honest guest's memory and blocks are the same in both runs.
+    /// Whether each guest's memory and blocks are as in the run of that guest alone.
     pub fn has_same_state(&self) -> bool {
-        (0..MEMORY / PAGE).all(|page| {
-            let addr = HONEST_IMAGE.wrapping_add(page.wrapping_mul(PAGE));
-            is_same_page(self.both.host(), self.alone.host(), addr)
-        }) && (0..BLOCKS).all(|block| self.has_same_block(HONEST_BASE.wrapping_add(block)))
+        is_same_guest(&self.both, &self.honest, &[HONEST_IMAGE], HONEST_BASE)
+            && is_same_guest(&self.both, &self.hostile, &HOSTILE_IMAGES, HOSTILE_BASE)
     }
 
-    // Whether a block of the disk is the same in both runs.
-    fn has_same_block(&self, block: u64) -> bool {
-        match (self.both.block(block), self.alone.block(block)) {
-            (Some(one), Some(other)) => one == other,
-            _ => false,
-        }
-    }
-
-    /// Whether the honest guest was answered alike in both runs so far, and its memory and blocks are the same.
+    /// Whether each guest was answered as in the run of that guest alone so far, and its memory and blocks are the same.
     pub fn is_alike(&self) -> bool {
         self.differs.is_none() && self.has_same_state()
     }
@@ -200,6 +194,44 @@ impl Pair {
         assert!(rt; !self.lost && !self.tags.astray, "{name}");
         assert_eq!(rt; self.differs, None, "{name}");
         assert!(rt; self.has_same_state(), "{name}");
+    }
+}
+
+// Whether an event is answered so in the run of its guest alone.
+fn is_answered(
+    alone: &mut World,
+    alloc: Global,
+    event: Event,
+    reply: &Reply,
+) -> Result<bool, NoMemory> {
+    alone.advance(alloc, event)?;
+    match alone.log().last() {
+        Some(told) => Ok(is_same(reply, &told.reply)),
+        None => Err(NoMemory),
+    }
+}
+
+// Whether the memory of a guest, whose regions begin at these host addresses, and its blocks are the same in two worlds.
+fn is_same_guest(one: &World, other: &World, images: &[u64], base: u64) -> bool {
+    images
+        .iter()
+        .all(|image| is_same_memory(one.host(), other.host(), *image))
+        && (0..BLOCKS).all(|block| is_same_block(one, other, base.wrapping_add(block)))
+}
+
+// Whether a region of the hosts' memory is the same.
+fn is_same_memory(one: &Host, other: &Host, image: u64) -> bool {
+    (0..MEMORY / PAGE).all(|page| {
+        let addr = image.wrapping_add(page.wrapping_mul(PAGE));
+        is_same_page(one, other, addr)
+    })
+}
+
+// Whether a block of the disks is the same.
+fn is_same_block(one: &World, other: &World, block: u64) -> bool {
+    match (one.block(block), other.block(block)) {
+        (Some(one), Some(other)) => one == other,
+        _ => false,
     }
 }
 
