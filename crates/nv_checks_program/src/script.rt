@@ -57,7 +57,6 @@ block\r|unknown word
 block\x0b1|unknown word
 blocké 1|unknown word
 extent 0 1 2|unknown word
-descriptors 0 1|unknown word
 stor 0 00|unknown word
 stores 0 00|unknown word
 ";
