@@ -2,7 +2,7 @@
 
 use crate::bench::{CC, CSTS, DISABLED, HONEST, TAIL, behind, bytes_of, entry_at};
 use crate::honest::{Honest, ROUND};
-use crate::runs::Runs;
+use crate::runs::{Runs, Trial, attempt};
 use nv_mem::BoxedBytes;
 use nv_model::Act;
 use nv_world_model::Event;
@@ -87,23 +87,28 @@ fn expect_block_found(rt: &impl Abort, runs: &mut Runs) {
     assert!(rt; runs.differs.is_none() && !runs.has_same_state());
 }
 
-#[test]
-fn a_byte_that_differs_is_found(rt: HostRuntime) {
-    let mut runs = Runs::new(rt.alloc(), false).expect(&rt, "three worlds");
-    serve(&rt, &mut runs);
-    expect_byte_found(&rt, &mut runs);
+/// What differs beside another guest, behind a round of the honest guest's commands.
+#[derive(Clone, Copy)]
+enum Mistake {
+    Byte,
+    Register,
+    Block,
+}
+
+impl Trial for Mistake {
+    fn play<R: Abort>(&mut self, rt: &R, runs: &mut Runs) {
+        serve(rt, runs);
+        match self {
+            Mistake::Byte => expect_byte_found(rt, runs),
+            Mistake::Register => expect_register_found(rt, runs),
+            Mistake::Block => expect_block_found(rt, runs),
+        }
+    }
 }
 
 #[test]
-fn a_register_that_differs_is_found(rt: HostRuntime) {
-    let mut runs = Runs::new(rt.alloc(), false).expect(&rt, "three worlds");
-    serve(&rt, &mut runs);
-    expect_register_found(&rt, &mut runs);
-}
-
-#[test]
-fn a_block_that_differs_is_found(rt: HostRuntime) {
-    let mut runs = Runs::new(rt.alloc(), false).expect(&rt, "three worlds");
-    serve(&rt, &mut runs);
-    expect_block_found(&rt, &mut runs);
+fn what_differs_is_found(rt: HostRuntime) {
+    for mut mistake in [Mistake::Byte, Mistake::Register, Mistake::Block] {
+        attempt(&rt, false, &mut mistake);
+    }
 }

@@ -4,7 +4,7 @@ use crate::bench::{HONEST, HOSTILE};
 use crate::busy::Busy;
 use crate::hostile;
 use crate::random::Random;
-use crate::runs::Runs;
+use crate::runs::{Runs, Trial, attempt};
 use std::process::Abort;
 
 /// How many seeds a test has, from its first on.
@@ -29,35 +29,45 @@ struct Tally {
     others: u32,
 }
 
-// A run, and what came of it. The test ends where a guest is served otherwise than alone, or the honest guest's commands don't end.
-fn run(rt: &(impl Abort + AllocGlobal), seed: u32) -> Tally {
-    let mut runs = Runs::new(rt.alloc(), seed % 2 == 1).expect(rt, "three worlds");
-    run_in(rt, &mut runs, seed)
+const NOTHING: Tally = Tally {
+    ended: 0,
+    succeeded: 0,
+    renumbered: 0,
+    others: 0,
+};
+
+/// The run of a seed, and what came of it.
+#[derive(Clone, Copy)]
+struct Seeded {
+    seed: u32,
+    tally: Tally,
 }
 
-// The same in worlds at their start.
-fn run_in(rt: &impl Abort, runs: &mut Runs, seed: u32) -> Tally {
-    let mut random = Random::new(u64::from(seed));
-    let mut busy = Busy::new();
-    runs.bring_up(HONEST);
-    runs.bring_up(HOSTILE);
-    for _ in 0..STRETCHES {
-        play(runs, &mut busy, &mut random);
+impl Trial for Seeded {
+    // The test ends where a guest is served otherwise than alone, or the honest guest's commands don't end.
+    fn play<R: Abort>(&mut self, rt: &R, runs: &mut Runs) {
+        let mut random = Random::new(u64::from(self.seed));
+        let mut busy = Busy::new();
+        runs.bring_up(HONEST);
+        runs.bring_up(HOSTILE);
+        for _ in 0..STRETCHES {
+            stretch(runs, &mut busy, &mut random);
+            runs.expect_alike(rt, "a random run");
+        }
+        busy.drain(runs, &mut random);
         runs.expect_alike(rt, "a random run");
-    }
-    busy.drain(runs, &mut random);
-    runs.expect_alike(rt, "a random run");
-    assert!(rt; busy.is_idle() && busy.ended >= FEWEST, "{seed}");
-    Tally {
-        ended: u32::from(busy.ended),
-        succeeded: u32::from(busy.succeeded),
-        renumbered: runs.tags.renumbered,
-        others: runs.tags.others,
+        assert!(rt; busy.is_idle() && busy.ended >= FEWEST, "{}", self.seed);
+        self.tally = Tally {
+            ended: u32::from(busy.ended),
+            succeeded: u32::from(busy.succeeded),
+            renumbered: runs.tags.renumbered,
+            others: runs.tags.others,
+        };
     }
 }
 
 // The turns of a stretch.
-fn play(runs: &mut Runs, busy: &mut Busy, random: &mut Random) {
+fn stretch(runs: &mut Runs, busy: &mut Busy, random: &mut Random) {
     for _ in 0..TURNS {
         if random.once_in(2) {
             busy.turn(runs, random);
@@ -79,14 +89,13 @@ fn sum(one: Tally, other: Tally) -> Tally {
 
 // Ends the test where a run of these seeds differs from those alone, or where too little happened in them.
 fn expect(rt: &(impl Abort + AllocGlobal), first: u32) {
-    let mut all = Tally {
-        ended: 0,
-        succeeded: 0,
-        renumbered: 0,
-        others: 0,
-    };
+    let mut all = NOTHING;
     for place in 0..SEEDS {
-        all = sum(all, run(rt, first.wrapping_add(place)));
+        let seed = first.wrapping_add(place);
+        let tally = NOTHING;
+        let mut seeded = Seeded { seed, tally };
+        attempt(rt, seed % 2 == 1, &mut seeded);
+        all = sum(all, seeded.tally);
     }
     assert!(rt;
         all.ended >= 500 && all.succeeded >= 400 && all.renumbered >= 150 && all.others >= 400,

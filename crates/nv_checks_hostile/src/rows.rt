@@ -3,7 +3,7 @@
 use crate::bench::{CSTS, DISABLED, ENABLED, HEAD, HONEST, HOSTILE, TAIL};
 use crate::deeds::{Beside, Deed, Row, Told, play};
 use crate::honest::{Honest, ROUND};
-use crate::runs::Runs;
+use crate::runs::{Runs, Trial, attempt};
 use std::process::Abort;
 
 /// A Read of one block, of identifier 7 and SLBA 5, by one Data Block at this address.
@@ -334,24 +334,46 @@ const FAILED_IN_A_USED_SLOT: &[Row] = &[
     (Deed::Shows(0x3002, 0xee), Told::Bytes),
 ];
 
+/// No rows.
+const NONE: &[Row] = &[];
+
 /// How many steps the honest guest makes behind each of the other's.
 const PACES: [u16; 4] = [0, 1, 2, 5];
 
-// Plays these rows, one list behind another, and ends the test where a guest is served otherwise than alone.
-fn expect(rt: &(impl Abort + AllocGlobal), beside: Beside, parts: &[&[Row]]) {
-    let mut runs = Runs::new(rt.alloc(), false).expect(rt, "three worlds");
-    expect_in(rt, &mut runs, beside, parts);
+/// Rows that are played one list behind another, with the honest guest beside.
+#[derive(Clone, Copy)]
+struct Scene {
+    beside: Beside,
+    parts: [&'static [Row]; 3],
 }
 
-// The same in worlds at their start.
-fn expect_in(rt: &impl Abort, runs: &mut Runs, beside: Beside, parts: &[&[Row]]) {
-    let lane = if beside.shares_lane { 0 } else { 1 };
-    let mut honest = Honest::new(lane);
-    runs.bring_up(HONEST);
-    for rows in parts {
-        play(rt, runs, &mut honest, beside, rows);
+impl Trial for Scene {
+    fn play<R: Abort>(&mut self, rt: &R, runs: &mut Runs) {
+        let lane = if self.beside.shares_lane { 0 } else { 1 };
+        let mut honest = Honest::new(lane);
+        runs.bring_up(HONEST);
+        for rows in self.parts {
+            play(rt, runs, &mut honest, self.beside, rows);
+        }
+        finish(rt, runs, &mut honest, self.beside.name);
     }
-    finish(rt, runs, &mut honest, beside.name);
+}
+
+/// The failure in a slot that the honest guest's commands, which go by the same lane, have used before.
+#[derive(Clone, Copy)]
+struct UsedSlot {
+    beside: Beside,
+}
+
+impl Trial for UsedSlot {
+    fn play<R: Abort>(&mut self, rt: &R, runs: &mut Runs) {
+        let mut honest = Honest::new(0);
+        runs.bring_up(HONEST);
+        runs.bring_up(HOSTILE);
+        honest.run(rt, runs, ROUND);
+        play(rt, runs, &mut honest, self.beside, FAILED_IN_A_USED_SLOT);
+        finish(rt, runs, &mut honest, self.beside.name);
+    }
 }
 
 // Lets the honest guest end its commands, once each at least, and ends the test where a guest was served otherwise than alone.
@@ -361,8 +383,8 @@ fn finish(rt: &impl Abort, runs: &mut Runs, honest: &mut Honest, name: &str) {
     runs.expect_alike(rt, name);
 }
 
-// The same at each pace, by a lane of its own and by the other's.
-fn expect_each(rt: &(impl Abort + AllocGlobal), name: &'static str, parts: &[&[Row]]) {
+// Plays these rows with the honest guest at each pace, by a lane of its own and by the other's.
+fn expect_each(rt: &(impl Abort + AllocGlobal), name: &'static str, parts: [&'static [Row]; 3]) {
     for pace in PACES {
         for shares_lane in [false, true] {
             let beside = Beside {
@@ -370,62 +392,51 @@ fn expect_each(rt: &(impl Abort + AllocGlobal), name: &'static str, parts: &[&[R
                 pace,
                 shares_lane,
             };
-            expect(rt, beside, parts);
+            attempt(rt, false, &mut Scene { beside, parts });
         }
     }
 }
 
 #[test]
 fn a_list_that_changes_behind_its_first_reading(rt: HostRuntime) {
-    expect_each(&rt, "read twice", &[LIST_TAKEN, READ_TWICE]);
-    expect_each(&rt, "half read first", &[LIST_TAKEN, HALF_READ_FIRST]);
-    expect_each(&rt, "not read", &[LIST_TAKEN, NOT_READ]);
+    expect_each(&rt, "read twice", [LIST_TAKEN, READ_TWICE, NONE]);
+    expect_each(&rt, "half read first", [LIST_TAKEN, HALF_READ_FIRST, NONE]);
+    expect_each(&rt, "not read", [LIST_TAKEN, NOT_READ, NONE]);
 }
 
 #[test]
 fn one_page_twice_from_the_last_block_on(rt: HostRuntime) {
-    expect_each(&rt, "one page twice", &[ONE_PAGE_TWICE]);
+    expect_each(&rt, "one page twice", [ONE_PAGE_TWICE, NONE, NONE]);
 }
 
 #[test]
 fn one_place_twice(rt: HostRuntime) {
-    expect_each(&rt, "one place twice", &[ONE_PLACE_TWICE]);
+    expect_each(&rt, "one place twice", [ONE_PLACE_TWICE, NONE, NONE]);
 }
 
 #[test]
 fn doorbells_out_of_bounds(rt: HostRuntime) {
-    expect_each(&rt, "doorbells", &[DOORBELLS]);
+    expect_each(&rt, "doorbells", [DOORBELLS, NONE, NONE]);
 }
 
 #[test]
 fn a_reset_and_failures_beside_commands_in_flight(rt: HostRuntime) {
-    expect_each(&rt, "reset and failures", &[RESET, FAILURES, FAILURES]);
+    expect_each(&rt, "reset and failures", [RESET, FAILURES, FAILURES]);
 }
 
 #[test]
 fn a_list_that_names_itself(rt: HostRuntime) {
-    expect_each(&rt, "a list of itself", &[LIST_OF_ITSELF]);
-}
-
-// A failure in a slot that the honest guest's commands, which go by the same lane, have used before.
-fn expect_nothing_old(rt: &impl Abort, runs: &mut Runs, pace: u16) {
-    let beside = Beside {
-        name: "a used slot",
-        pace,
-        shares_lane: true,
-    };
-    let mut honest = Honest::new(0);
-    runs.bring_up(HONEST);
-    runs.bring_up(HOSTILE);
-    honest.run(rt, runs, ROUND);
-    play(rt, runs, &mut honest, beside, FAILED_IN_A_USED_SLOT);
-    finish(rt, runs, &mut honest, beside.name);
+    expect_each(&rt, "a list of itself", [LIST_OF_ITSELF, NONE, NONE]);
 }
 
 #[test]
 fn a_failure_in_a_slot_with_bytes_of_the_honest_guest(rt: HostRuntime) {
     for pace in [0, 1] {
-        let mut runs = Runs::new(rt.alloc(), false).expect(&rt, "three worlds");
-        expect_nothing_old(&rt, &mut runs, pace);
+        let beside = Beside {
+            name: "a used slot",
+            pace,
+            shares_lane: true,
+        };
+        attempt(&rt, false, &mut UsedSlot { beside });
     }
 }

@@ -197,6 +197,18 @@ impl Runs {
     }
 }
 
+/// What is tried in worlds at their start.
+pub trait Trial {
+    /// Plays it, and ends the test where something is other than it has to be.
+    fn play<R: Abort>(&mut self, rt: &R, runs: &mut Runs);
+}
+
+/// Tries something, where the other guest may have more memory. The worlds are made and given back here alone.
+pub fn attempt<T: Trial, R: Abort + AllocGlobal>(rt: &R, more: bool, trial: &mut T) {
+    let mut runs = Runs::new(rt.alloc(), more).expect(rt, "three worlds");
+    trial.play(rt, &mut runs);
+}
+
 // Whether an event is answered so in the run of its guest alone.
 fn is_answered(
     alone: &mut World,
