@@ -119,7 +119,7 @@ def lines(text):
 def whole(words, text):
     """What the program prints where nothing fails."""
     ended = told_by(start(words, stdin=script_file(text)))
-    if ended.status != 0 or ended.told:
+    if ended.status != 0 or ended.told or not ended.output:
         sys.exit(f"{words}: {ended.way()}, {ended.told!r}")
     return ended.output
 
