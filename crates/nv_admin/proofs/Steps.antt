@@ -5,7 +5,8 @@ use Rattle.nv_entry.specs.Submission.{cid_of}
 use Rattle.nv_entry.specs.declared.status_code.StatusCode.{StatusCode}
 use Rattle.nv_mem.specs.GuestMap.{IsApart, mapped}
 use Rattle.nv_mem.specs.declared.region.Region.{Region}
-use Rattle.nv_model.specs.Admin.{AdminEffect, AdminStep, NothingToDo, QueueFull, Stepped, admin, admin_command, admin_ready, finish_deletion, front_command, is_queue_full, stepped, with_completion_posted}
+use Rattle.nv_model.specs.Admin.{AdminEffect, AdminStep, NothingToDo, QueueFull, Stepped, admin, admin_command, admin_ready}
+use Rattle.nv_model.specs.Admin.{finish_deletion, front_command, is_queue_full, stepped, with_completion_posted}
 use Rattle.nv_model.specs.Controller.{Controller, Deletion, Posted, completion_queue, front, is_ready, submission_queue, took, took_of}
 use Rattle.nv_model.specs.Memory.{bytes_from, image, put_image, stored}
 use Rattle.nv_model.specs.Queue.{SubmissionQueue, sqe_size}

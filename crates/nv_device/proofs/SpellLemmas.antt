@@ -1,5 +1,6 @@
 -- Whether a reading spells places, check by check
-use Rattle.std.proofs.Common.{◌≡◌, ◌↔◌, IsTrue, ℕ, zero, suc, ◌+◌, ◌-◌, ◌*◌, ◌%◌, ◌<◌, ◌≤◌, min, Bool, true, false, cond, not, ◌&&◌, ◌==◌, nat_lt, List, []}
+use Rattle.std.proofs.Common.{◌≡◌, ◌↔◌, IsTrue, ℕ, zero, suc, ◌+◌, ◌-◌, ◌*◌, ◌%◌, ◌<◌}
+use Rattle.std.proofs.Common.{◌≤◌, min, Bool, true, false, cond, not, ◌&&◌, ◌==◌, nat_lt, List, []}
 use Rattle.std.proofs.Common.{◌∷◌, ◌++◌, length, replicate, Option, Some, None, refl, sym, ap, ◌∙◌, arith, eqb-true}
 use Rattle.std.specs.Prelude.{is_none}
 use Rattle.std.specs.List.{list_all}

@@ -1,7 +1,8 @@
 -- The physical controller as it stands: where the mediator's area begins in the host's memory, the bytes of the blocks
 -- and their marks, and its lanes. What its calls do is told in the words of the mediated world (profile: the limits and
 -- the layout of the area).
-use Rattle.std.specs.Prelude.{◌≡◌, ℕ, ◌+◌, ◌==◌, ◌%◌, ◌^◌, ◌<◌, ◌≤◌, Bool, true, false, if◌then◌else◌, List, [], ◌∷◌, All, IfSome, length, replicate, slice_set, Option, Some, None}
+use Rattle.std.specs.Prelude.{◌≡◌, ℕ, ◌+◌, ◌==◌, ◌%◌, ◌^◌, ◌<◌, ◌≤◌, Bool, true, false}
+use Rattle.std.specs.Prelude.{if◌then◌else◌, List, [], ◌∷◌, All, IfSome, length, replicate, slice_set, Option, Some, None}
 use Rattle.std.specs.List.{list_any, slice_index_or}
 use Rattle.nv_entry.specs.Opcode.{io_opcode}
 use Rattle.nv_entry.specs.Submission.{opcode_of, slba_of}

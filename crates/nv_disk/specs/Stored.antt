@@ -1,5 +1,6 @@
 -- Blocks that are stored in the order in which they were first written, and what is kept of each: its place among them, and whether it holds zeros.
-use Rattle.std.specs.Prelude.{◌≡◌, ◌≢◌, ℕ, ◌-◌, ◌/◌, ◌%◌, ◌<◌, ◌≤◌, ◌^◌, ◌==◌, ◌||◌, ◌⊎◌, Bool, not, nat_lt, cond, List, [], ◌∷◌, All, length, map, replicate}
+use Rattle.std.specs.Prelude.{◌≡◌, ◌≢◌, ℕ, ◌-◌, ◌/◌, ◌%◌, ◌<◌, ◌≤◌, ◌^◌, ◌==◌}
+use Rattle.std.specs.Prelude.{◌||◌, ◌⊎◌, Bool, not, nat_lt, cond, List, [], ◌∷◌, All, length, map, replicate}
 use Rattle.std.specs.List.{count_by, slice_index_or}
 
 -- the place of a block, from 1 on; 0 where it has none

@@ -1,6 +1,7 @@
 //! Blocks that are zero until they are written.
 
-ghost use Rattle.std.specs.Prelude.{◌≡◌, true, ◌+◌, ◌++◌, ◌*◌, ◌/◌, ◌<◌, ◌≤◌, ◌^◌, ℕ, All, List, [], length, replicate, slice_index, slice_set, take, drop, IfOk, vec_capacity};
+ghost use Rattle.std.specs.Prelude.{◌≡◌, true, ◌+◌, ◌++◌, ◌*◌, ◌/◌, ◌<◌, ◌≤◌, ◌^◌, ℕ};
+ghost use Rattle.std.specs.Prelude.{All, List, [], length, replicate, slice_index, slice_set, take, drop, IfOk, vec_capacity};
 ghost use Rattle.std.specs.List.{slice_index_or};
 ghost use Rattle.nv_model.specs.Memory.{byte_in, gathered};
 ghost use Rattle.nv_moves.specs.Buffer.{AreBelow};

@@ -3,7 +3,11 @@
 use Rattle.std.specs.Prelude.{ℕ, true, false}
 use Rattle.nv_entry.specs.Status.{StatusField, status}
 use Rattle.nv_entry.specs.declared.status_code.StatusCode.{StatusCode}
-use Rattle.nv_entry.specs.declared.status_code.StatusCode.TheVariants.{Success, InvalidOpcode, InvalidField, DataTransferError, InternalError, InvalidNamespace, CommandSequenceError, InvalidSglSegment, InvalidSglCount, SglLengthInvalid, SglTypeInvalid, PrpOffsetInvalid, LbaOutOfRange, CompletionQueueInvalid, InvalidQueueIdentifier, InvalidQueueSize, EventLimitExceeded, InvalidLogPage, InvalidQueueDeletion, UnrecoveredReadError, CompareFailure}
+use Rattle.nv_entry.specs.declared.status_code.StatusCode.TheVariants.{Success, InvalidOpcode, InvalidField, DataTransferError, InternalError}
+use Rattle.nv_entry.specs.declared.status_code.StatusCode.TheVariants.{InvalidNamespace, CommandSequenceError, InvalidSglSegment, InvalidSglCount}
+use Rattle.nv_entry.specs.declared.status_code.StatusCode.TheVariants.{SglLengthInvalid, SglTypeInvalid, PrpOffsetInvalid, LbaOutOfRange}
+use Rattle.nv_entry.specs.declared.status_code.StatusCode.TheVariants.{CompletionQueueInvalid, InvalidQueueIdentifier, InvalidQueueSize, EventLimitExceeded}
+use Rattle.nv_entry.specs.declared.status_code.StatusCode.TheVariants.{InvalidLogPage, InvalidQueueDeletion, UnrecoveredReadError, CompareFailure}
 
 -- the status code type: generic (0h), command specific (1h), media and data integrity errors (2h)
 abbrev pub sct_of : StatusCode → ℕ

@@ -1,5 +1,6 @@
 -- What the units of a command leave is a flat controller again: memory, blocks and marks that are lists
-use Rattle.std.proofs.Common.{◌≡◌, ℕ, ◌<◌, Bool, true, false, ◌||◌, List, [], ◌∷◌, length, set, All, replicate, refl, sym, ap, subst, ◌∙◌, arith, ◌*◌, take, drop, nat_lt, take-append-drop}
+use Rattle.std.proofs.Common.{◌≡◌, ℕ, ◌<◌, Bool, true, false, ◌||◌, List, [], ◌∷◌, length, set, All}
+use Rattle.std.proofs.Common.{replicate, refl, sym, ap, subst, ◌∙◌, arith, ◌*◌, take, drop, nat_lt, take-append-drop}
 use Rattle.std.specs.List.{slice_index_or}
 use Rattle.std.proofs.lemmas.List.{length-replicate, length-set}
 use Rattle.std.proofs.lemmas.List.Elements.{All-head, All-tail}

@@ -1,5 +1,6 @@
 -- What is known of the pieces that a command's list spells
-use Rattle.std.proofs.Common.{◌≡◌, ℕ, zero, suc, ◌+◌, ◌<◌, Bool, true, false, ◌==◌, cond, All, List, [], ◌∷◌, ◌++◌, length, replicate, append-nil, refl, sym, ap, subst, ◌∙◌, arith, eqb-true}
+use Rattle.std.proofs.Common.{◌≡◌, ℕ, zero, suc, ◌+◌, ◌<◌, Bool, true, false, ◌==◌, cond, All, List, []}
+use Rattle.std.proofs.Common.{◌∷◌, ◌++◌, length, replicate, append-nil, refl, sym, ap, subst, ◌∙◌, arith, eqb-true}
 use Rattle.std.proofs.lemmas.Bool.Decides.{nat_tests}
 use Rattle.std.proofs.lemmas.List.Elements.{All-append, All-cons, All-head, All-nil, All-tail}
 use Rattle.nv_entry.specs.Opcode.{data_pointer}

@@ -1,5 +1,6 @@
 -- How many addresses of a range the regions cover, against which of them are mapped.
-use Rattle.std.proofs.Common.{◌≡◌, ℕ, zero, suc, ◌+◌, ◌-◌, ◌<◌, ◌≤◌, ◌↔◌, Bool, IsTrue, true, false, ◌&&◌, List, [], ◌∷◌, Some, is_some, arith, refl, sym, ap, ◌∙◌, cond, sum_by, get_or, eqb, eq-eqb}
+use Rattle.std.proofs.Common.{◌≡◌, ℕ, zero, suc, ◌+◌, ◌-◌, ◌<◌, ◌≤◌, ◌↔◌, Bool, IsTrue, true, false, ◌&&◌}
+use Rattle.std.proofs.Common.{List, [], ◌∷◌, Some, is_some, arith, refl, sym, ap, ◌∙◌, cond, sum_by, get_or, eqb, eq-eqb}
 use Rattle.std.proofs.lemmas.Bool.Decides.{nat_tests, Decides-below_and}
 use Rattle.std.proofs.lemmas.List.Elements.{All-head, All-tail}
 use Rattle.std.proofs.lemmas.List.Sums.{sum_by-cons}

@@ -1,5 +1,6 @@
 -- What a guest's memory map means. Guest memory maps are no part of NVM Express: they are the hypervisor's, so all of this file is profile.
-use Rattle.std.specs.Prelude.{◌≡◌, ◌≢◌, ℕ, zero, suc, ◌+◌, ◌-◌, ◌%◌, ◌^◌, ◌<◌, ◌≤◌, Bool, true, false, not, ◌&&◌, ◌||◌, ◌==◌, nat_le, nat_lt, min, max}
+use Rattle.std.specs.Prelude.{◌≡◌, ◌≢◌, ℕ, zero, suc, ◌+◌, ◌-◌, ◌%◌, ◌^◌, ◌<◌}
+use Rattle.std.specs.Prelude.{◌≤◌, Bool, true, false, not, ◌&&◌, ◌||◌, ◌==◌, nat_le, nat_lt, min, max}
 use Rattle.std.specs.Prelude.{if◌then◌else◌, IsTrue, Option, Some, None, is_some, List, [], ◌∷◌, All, AllPairs, sum_by}
 use Rattle.std.specs.List.{list_all, list_any}
 use Rattle.nv_mem.specs.Page.{page_size}

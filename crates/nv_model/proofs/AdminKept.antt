@@ -6,7 +6,9 @@ use Rattle.nv_entry.specs.Submission.{opcode_of, fuse_of, psdt_of, cid_of, prp1_
 use Rattle.nv_entry.specs.Opcode.{admin_opcode}
 use Rattle.nv_entry.specs.Status.{StatusField}
 use Rattle.nv_entry.specs.declared.opcode.AdminOpcode.{AdminOpcode}
-use Rattle.nv_entry.specs.declared.opcode.AdminOpcode.TheVariants.{DeleteIoSubmissionQueue, CreateIoSubmissionQueue, GetLogPage, DeleteIoCompletionQueue, CreateIoCompletionQueue, Identify, Abort, SetFeatures, GetFeatures, AsynchronousEventRequest}
+use Rattle.nv_entry.specs.declared.opcode.AdminOpcode.TheVariants.{DeleteIoSubmissionQueue, CreateIoSubmissionQueue, GetLogPage}
+use Rattle.nv_entry.specs.declared.opcode.AdminOpcode.TheVariants.{DeleteIoCompletionQueue, CreateIoCompletionQueue, Identify}
+use Rattle.nv_entry.specs.declared.opcode.AdminOpcode.TheVariants.{Abort, SetFeatures, GetFeatures, AsynchronousEventRequest}
 use Rattle.nv_entry.specs.declared.status_code.StatusCode.{StatusCode}
 use Rattle.nv_entry.specs.declared.status_code.StatusCode.TheVariants as code
 use Rattle.nv_mem.specs.GuestMap.{everywhere}
@@ -15,7 +17,11 @@ use Rattle.nv_model.specs.Reading.{Reading, Faulty, TooLong, Spells, first_faili
 use Rattle.nv_model.specs.Queue.{SubmissionQueue, CompletionQueue, cqe_size, new_completion, new_submission, sqe_size}
 use Rattle.nv_model.specs.Controller.{Controller, Deletion, Posted, completion_queue, front, is_ready, post, size_fits, submission_queue, took, with_submission}
 use Rattle.nv_model.specs.Limits.{last_queue, most_requests, most_slots}
-use Rattle.nv_model.specs.Admin.{AdminStep, AdminEffect, Hidden, NothingToDo, QueueFull, Shown, Stepped, Structure, admin, admin_command, admin_ready, checked, completes_to_checks, contiguous, completion_id, create_completion, create_submission, delete_completion, delete_found, delete_submission, done_by, done_with_opcode, finish_deletion, front_command, identified, identify_by, identify_reading, is_queue_full, new_queue_checks, number_of_queues, place_checks, qid, qsize, selector, shown, stepped, with_answer, with_completion_posted, answered}
+use Rattle.nv_model.specs.Admin.{AdminStep, AdminEffect, Hidden, NothingToDo, QueueFull, Shown, Stepped, Structure, admin, admin_command}
+use Rattle.nv_model.specs.Admin.{admin_ready, checked, completes_to_checks, contiguous, completion_id, create_completion, create_submission}
+use Rattle.nv_model.specs.Admin.{delete_completion, delete_found, delete_submission, done_by, done_with_opcode, finish_deletion}
+use Rattle.nv_model.specs.Admin.{front_command, identified, identify_by, identify_reading, is_queue_full, new_queue_checks, number_of_queues}
+use Rattle.nv_model.specs.Admin.{place_checks, qid, qsize, selector, shown, stepped, with_answer, with_completion_posted, answered}
 use Rattle.nv_model.specs.Laws.{QueuesHave}
 use Rattle.nv_model.proofs.Endings.{first_failing-none, not-false}
 use Rattle.nv_model.proofs.QueuesKept.{HaveBehind, IsKept, QueuesHave-same, QueuesHave-with_completion, QueuesHave-with_submission, by_test, post-kept, submission_queue-has, took-kept}

@@ -1,5 +1,6 @@
 -- What holds of all ends and questions of a dialogue holds with each memory, with each transcript, and where it is fed.
-use Rattle.std.proofs.Common.{◌≡◌, ℕ, ◌+◌, ◌-◌, ◌/◌, ◌^◌, ◌<◌, ◌≤◌, Bool, true, false, cond, not, ◌&&◌, ◌==◌, nat_lt, ltb-false, mod-lt, List, [], ◌∷◌, All}
+use Rattle.std.proofs.Common.{◌≡◌, ℕ, ◌+◌, ◌-◌, ◌/◌, ◌^◌, ◌<◌, ◌≤◌, Bool, true, false}
+use Rattle.std.proofs.Common.{cond, not, ◌&&◌, ◌==◌, nat_lt, ltb-false, mod-lt, List, [], ◌∷◌, All}
 use Rattle.std.proofs.Common.{Option, Some, None, drop, length, take, arith, refl, sym, ap, ◌∙◌, subst, inl, inr}
 use Rattle.std.proofs.lemmas.List.{length-drop, length-take-le}
 use Rattle.std.proofs.lemmas.List.Elements.{All-nil, All-cons, All-weaker}

@@ -12,7 +12,10 @@ use Rattle.nv_model.specs.Judge.{Go, Refuse, Verdict, Work, WorkUnit}
 use Rattle.nv_model.specs.Queue.{sqe_size}
 use Rattle.nv_model.specs.Controller.{Controller, Posted, doorbell, front, is_enabled, post, reg_read, reg_write}
 use Rattle.nv_model.specs.Admin.{AdminStep, NothingToDo, QueueFull, Stepped, admin}
-use Rattle.nv_model.specs.Private.{Acted, ActStep, AdminQueueStep, After, AtWork, Bag, Ended, GiveUpStep, JudgeStep, KeepStep, MoveStep, PostStep, Private, Progress, RunOutStep, Shape, Step, TakeStep, Taken, Unjudged, acted, administered, completed_at, controlled, ending, further, given_up_at, judged_at, may_take, moved_at, others, posted_at, progress_of, put, register_replied, run_of, run_out_at, start, step, taken_at, unit_done, unit_left, verdict_in, with_taken}
+use Rattle.nv_model.specs.Private.{Acted, ActStep, AdminQueueStep, After, AtWork, Bag, Ended, GiveUpStep, JudgeStep, KeepStep, MoveStep, PostStep}
+use Rattle.nv_model.specs.Private.{Private, Progress, RunOutStep, Shape, Step, TakeStep, Taken, Unjudged, acted, administered, completed_at}
+use Rattle.nv_model.specs.Private.{controlled, ending, further, given_up_at, judged_at, may_take, moved_at, others, posted_at, progress_of, put}
+use Rattle.nv_model.specs.Private.{register_replied, run_of, run_out_at, start, step, taken_at, unit_done, unit_left, verdict_in, with_taken}
 use Rattle.nv_model.specs.Laws.{IsCompletionInPlace, IsInPlace, IsMappedPiece, IsProgressInPlace, IsSubmissionInPlace, IsTakenInPlace, IsUnitWithin, QueuesInPlace}
 use Rattle.nv_model.proofs.Judged.{verdict-sound}
 use Rattle.nv_model.proofs.QueuesKept.{QueuesHave-opening, by_test}

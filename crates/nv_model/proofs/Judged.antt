@@ -1,5 +1,6 @@
 -- What each verdict that goes says.
-use Rattle.std.proofs.Common.{◌-◌, ◌++◌, min, sym, ◌≡◌, ℕ, zero, suc, ◌+◌, ◌<◌, ◌≤◌, Bool, true, false, cond, not, ◌&&◌, ◌==◌, nat_lt, List, [], ◌∷◌, length}
+use Rattle.std.proofs.Common.{◌-◌, ◌++◌, min, sym, ◌≡◌, ℕ, zero, suc, ◌+◌, ◌<◌, ◌≤◌}
+use Rattle.std.proofs.Common.{Bool, true, false, cond, not, ◌&&◌, ◌==◌, nat_lt, List, [], ◌∷◌, length}
 use Rattle.std.proofs.Common.{All, Option, Some, None, arith, refl, ◌∙◌, subst, eqb-true, eq-or-lt_of_le, inl, inr}
 use Rattle.std.specs.Bool.{⊤}
 use Rattle.std.specs.List.{list_all, range_with_len}

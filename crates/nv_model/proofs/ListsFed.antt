@@ -1,5 +1,6 @@
 -- A list that is fed the parts that a transcript meets, and what is judged of it then.
-use Rattle.std.proofs.Common.{◌≡◌, ℕ, ◌+◌, ◌-◌, ◌<◌, ◌≤◌, Bool, true, false, cond, ◌==◌, List, [], ◌∷◌, All, Option, Some, None, drop, length, take, arith, refl, sym, ap, ◌∙◌, subst}
+use Rattle.std.proofs.Common.{◌≡◌, ℕ, ◌+◌, ◌-◌, ◌<◌, ◌≤◌, Bool, true, false, cond, ◌==◌, List, []}
+use Rattle.std.proofs.Common.{◌∷◌, All, Option, Some, None, drop, length, take, arith, refl, sym, ap, ◌∙◌, subst}
 use Rattle.std.proofs.lemmas.List.{length-drop, length-take-le}
 use Rattle.nv_entry.specs.Status.{StatusField}
 use Rattle.nv_entry.specs.StatusCode.{done_with}

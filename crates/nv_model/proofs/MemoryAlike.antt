@@ -7,7 +7,9 @@ use Rattle.nv_entry.specs.Submission.{opcode_of, fuse_of, psdt_of, cid_of, cdw_o
 use Rattle.nv_entry.specs.Opcode.{admin_opcode}
 use Rattle.nv_entry.specs.Status.{StatusField}
 use Rattle.nv_entry.specs.declared.opcode.AdminOpcode.{AdminOpcode}
-use Rattle.nv_entry.specs.declared.opcode.AdminOpcode.TheVariants.{DeleteIoSubmissionQueue, CreateIoSubmissionQueue, GetLogPage, DeleteIoCompletionQueue, CreateIoCompletionQueue, Identify, Abort, SetFeatures, GetFeatures, AsynchronousEventRequest}
+use Rattle.nv_entry.specs.declared.opcode.AdminOpcode.TheVariants.{DeleteIoSubmissionQueue, CreateIoSubmissionQueue, GetLogPage}
+use Rattle.nv_entry.specs.declared.opcode.AdminOpcode.TheVariants.{DeleteIoCompletionQueue, CreateIoCompletionQueue, Identify}
+use Rattle.nv_entry.specs.declared.opcode.AdminOpcode.TheVariants.{Abort, SetFeatures, GetFeatures, AsynchronousEventRequest}
 use Rattle.nv_entry.specs.declared.status_code.StatusCode.{StatusCode}
 use Rattle.nv_entry.specs.declared.status_code.StatusCode.TheVariants as code
 use Rattle.nv_entry.specs.Layout.{bits}
@@ -19,7 +21,11 @@ use Rattle.nv_model.specs.Reading.{Reading, Faulty, TooLong, Spells, first_faili
 use Rattle.nv_model.specs.Judge.{judge}
 use Rattle.nv_model.specs.Queue.{SubmissionQueue, cqe_size, new_completion, new_submission, sqe_size}
 use Rattle.nv_model.specs.Controller.{Controller, Deletion, Posted, completion_queue, front, front_of, is_ready, post, submission_queue, took, with_completion, with_submission}
-use Rattle.nv_model.specs.Admin.{AdminStep, AdminEffect, Hidden, NothingToDo, QueueFull, Shown, Stepped, Structure, admin, admin_command, admin_ready, answered, checked, completes_to_checks, completion_id, create_completion, create_submission, delete_completion, delete_found, done_by, done_with_opcode, finish_deletion, front_command, has_io_queue, identified, identify_by, identify_reading, is_queue_full, new_queue_checks, number_of_queues, place_checks, qid, qsize, queues_allocated, selector, set_features, shown, stepped, uses, with_answer, with_completion_posted}
+use Rattle.nv_model.specs.Admin.{AdminStep, AdminEffect, Hidden, NothingToDo, QueueFull, Shown, Stepped, Structure, admin, admin_command}
+use Rattle.nv_model.specs.Admin.{admin_ready, answered, checked, completes_to_checks, completion_id, create_completion, create_submission}
+use Rattle.nv_model.specs.Admin.{delete_completion, delete_found, done_by, done_with_opcode, finish_deletion, front_command, has_io_queue}
+use Rattle.nv_model.specs.Admin.{identified, identify_by, identify_reading, is_queue_full, new_queue_checks, number_of_queues, place_checks, qid}
+use Rattle.nv_model.specs.Admin.{qsize, queues_allocated, selector, set_features, shown, stepped, uses, with_answer, with_completion_posted}
 use Rattle.nv_model.specs.Limits.{most_requests}
 use Rattle.nv_model.specs.Laws.{AgreeAt, IsMappedPlace, IsSubmissionInPlace, IsCompletionInPlace, QueuesInPlace}
 use Rattle.nv_model.proofs.Agreeing.{bytes_from-agree, in_memory-agree}

@@ -6,7 +6,10 @@ use Rattle.nv_entry.specs.Layout.{bits}
 use Rattle.nv_entry.specs.Status.{StatusField}
 use Rattle.nv_mem.specs.GuestMap.{everywhere}
 use Rattle.nv_model.specs.Queue.{SubmissionQueue, CompletionQueue, ahead, front_taken, is_full, new_completion, new_submission, after_post, sqe_size, cqe_size}
-use Rattle.nv_model.specs.Controller.{Controller, Posted, admin_completion_base, admin_completion_size, admin_register_written, admin_submission_base, admin_submission_size, base_fits, can_enable, cc_written, completion_queue, doorbell, enabled, head_rung, is_enabled, is_ready, no_queues, opening, post, post_from, post_to, queue_count, queue_of, ran_out, reg_write, reset, rung, running, size_fits, submission_queue, tail_rung, took, took_of, with_completion, with_submission}
+use Rattle.nv_model.specs.Controller.{Controller, Posted, admin_completion_base, admin_completion_size, admin_register_written, admin_submission_base}
+use Rattle.nv_model.specs.Controller.{admin_submission_size, base_fits, can_enable, cc_written, completion_queue, doorbell, enabled, head_rung}
+use Rattle.nv_model.specs.Controller.{is_enabled, is_ready, no_queues, opening, post, post_from, post_to, queue_count, queue_of, ran_out, reg_write}
+use Rattle.nv_model.specs.Controller.{reset, rung, running, size_fits, submission_queue, tail_rung, took, took_of, with_completion, with_submission}
 use Rattle.nv_model.specs.Laws.{QueuesHave}
 use Rattle.nv_model.proofs.Endings.{and-true}
 

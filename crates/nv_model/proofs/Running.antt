@@ -14,7 +14,10 @@ use Rattle.nv_model.specs.Judge.{WorkUnit, Work}
 use Rattle.nv_model.specs.Queue.{sqe_size}
 use Rattle.nv_model.specs.Controller.{Controller, Posted, doorbell, front, is_enabled, opening, post, queue_count, queue_of, ran_out, reg_read, reg_write, taken_less, taken_more, took}
 use Rattle.nv_model.specs.Admin.{AdminStep, NothingToDo, QueueFull, Stepped, admin}
-use Rattle.nv_model.specs.Private.{Acted, ActStep, AdminQueueStep, After, AtWork, Bag, Ended, GiveUpStep, JudgeStep, KeepStep, MoveStep, PostStep, Private, Progress, Run, RunOutStep, Shape, Step, TakeStep, Taken, Unjudged, acted, administered, completed_at, controlled, ending, further, given_up_at, judged_at, may_take, moved_at, others, posted_at, progress_of, put, register_replied, run_of, run_out_at, start, step, taken_at, unit_done, unit_left, verdict_in, with_taken}
+use Rattle.nv_model.specs.Private.{Acted, ActStep, AdminQueueStep, After, AtWork, Bag, Ended, GiveUpStep, JudgeStep, KeepStep, MoveStep, PostStep}
+use Rattle.nv_model.specs.Private.{Private, Progress, Run, RunOutStep, Shape, Step, TakeStep, Taken, Unjudged, acted, administered, completed_at}
+use Rattle.nv_model.specs.Private.{controlled, ending, further, given_up_at, judged_at, may_take, moved_at, others, posted_at, progress_of}
+use Rattle.nv_model.specs.Private.{put, register_replied, run_of, run_out_at, start, step, taken_at, unit_done, unit_left, verdict_in, with_taken}
 use Rattle.nv_model.specs.Running.{AlongEveryRun, AreCounted, IsConsistent, IsOfIoQueue, IsRunning, IsTogether}
 use Rattle.nv_model.proofs.CountedBags.{counted-put, counted-some, index-less, index-more}
 use Rattle.nv_model.proofs.Endings.{and-true}

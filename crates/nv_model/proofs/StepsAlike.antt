@@ -19,7 +19,11 @@ use Rattle.nv_model.specs.Limits.{block}
 use Rattle.nv_model.specs.Queue.{sqe_size}
 use Rattle.nv_model.specs.Controller.{Controller, Posted, doorbell, front, is_enabled, post, reg_read, reg_write}
 use Rattle.nv_model.specs.Admin.{AdminStep, NothingToDo, QueueFull, Stepped, admin}
-use Rattle.nv_model.specs.Private.{Acted, ActStep, AdminQueueStep, After, AtWork, Bag, Ended, GiveUpStep, JudgeStep, KeepStep, MoveStep, Moved, PostStep, Private, Progress, Run, RunOutStep, Seen, Shape, Step, TakeStep, Taken, Unjudged, acted, administered, block_bytes, block_moved, block_written, completed_at, controlled, differs, ending, further, given_up_at, judged_at, marked, may_take, moved_at, others, places_of_block, posted_at, progress_of, put, register_replied, run_of, run_out_at, step, taken_at, unit_done, unit_left, unit_moved, with_progress, with_seen, with_taken}
+use Rattle.nv_model.specs.Private.{Acted, ActStep, AdminQueueStep, After, AtWork, Bag, Ended, GiveUpStep, JudgeStep, KeepStep, MoveStep, Moved}
+use Rattle.nv_model.specs.Private.{PostStep, Private, Progress, Run, RunOutStep, Seen, Shape, Step, TakeStep, Taken, Unjudged, acted, administered}
+use Rattle.nv_model.specs.Private.{block_bytes, block_moved, block_written, completed_at, controlled, differs, ending, further, given_up_at}
+use Rattle.nv_model.specs.Private.{judged_at, marked, may_take, moved_at, others, places_of_block, posted_at, progress_of, put, register_replied}
+use Rattle.nv_model.specs.Private.{run_of, run_out_at, step, taken_at, unit_done, unit_left, unit_moved, with_progress, with_seen, with_taken}
 use Rattle.nv_model.specs.Laws.{IsInPlace, IsMappedPiece, IsMappedPlace, IsProgressInPlace, IsTakenInPlace, IsUnitWithin, LookAlike, RunsAlike, StepsAlike}
 use Rattle.nv_model.proofs.Agreeing.{bytes_from-agree}
 use Rattle.nv_model.proofs.Asking.{IsMappedFrom}

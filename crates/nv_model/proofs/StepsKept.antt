@@ -8,7 +8,10 @@ use Rattle.nv_model.specs.declared.act.Act.TheVariants as act
 use Rattle.nv_model.specs.Judge.{WorkUnit, Work}
 use Rattle.nv_model.specs.Controller.{Controller, Posted, doorbell, front, is_enabled, post, reg_read, reg_write}
 use Rattle.nv_model.specs.Admin.{AdminStep, NothingToDo, QueueFull, Stepped, admin}
-use Rattle.nv_model.specs.Private.{Acted, ActStep, AdminQueueStep, After, AtWork, Ended, GiveUpStep, JudgeStep, KeepStep, MoveStep, PostStep, Private, Progress, Run, RunOutStep, Shape, Step, TakeStep, Taken, Unjudged, acted, administered, completed_at, controlled, ending, further, given_up_at, judged_at, may_take, moved_at, others, posted_at, register_replied, run_of, run_out_at, start, step, taken_at, unit_done, unit_left, with_taken}
+use Rattle.nv_model.specs.Private.{Acted, ActStep, AdminQueueStep, After, AtWork, Ended, GiveUpStep, JudgeStep, KeepStep, MoveStep}
+use Rattle.nv_model.specs.Private.{PostStep, Private, Progress, Run, RunOutStep, Shape, Step, TakeStep, Taken, Unjudged, acted, administered}
+use Rattle.nv_model.specs.Private.{completed_at, controlled, ending, further, given_up_at, judged_at, may_take, moved_at, others}
+use Rattle.nv_model.specs.Private.{posted_at, register_replied, run_of, run_out_at, start, step, taken_at, unit_done, unit_left, with_taken}
 use Rattle.nv_model.specs.Queue.{SubmissionQueue, CompletionQueue}
 use Rattle.nv_model.specs.Laws.{QueuesHave}
 use Rattle.nv_model.proofs.QueuesKept.{HaveBehind, IsKept, QueuesHave-opening, by_test, doorbell-kept, post-kept, ran_out-kept, reg_write-kept, took-kept}

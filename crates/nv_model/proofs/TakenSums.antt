@@ -1,5 +1,6 @@
 -- How many commands are taken, over all queues and of each queue.
-use Rattle.std.proofs.Common.{◌≡◌, ℕ, zero, suc, ◌+◌, ◌-◌, ◌<◌, ◌≤◌, inl, inr, true, false, not, ◌==◌, List, [], ◌∷◌, slice_index, set, sum, arith, refl, subst, eqb-true}
+use Rattle.std.proofs.Common.{◌≡◌, ℕ, zero, suc, ◌+◌, ◌-◌, ◌<◌, ◌≤◌, inl, inr, true, false}
+use Rattle.std.proofs.Common.{not, ◌==◌, List, [], ◌∷◌, slice_index, set, sum, arith, refl, subst, eqb-true}
 use Rattle.std.proofs.lemmas.Bool.{cases_lt}
 use Rattle.std.proofs.lemmas.Bool.Decides.{nat_tests}
 use Rattle.std.proofs.lemmas.List.Sums.{sum_by-cons}

@@ -5,7 +5,10 @@ use Rattle.std.proofs.lemmas.List.{length-set}
 use Rattle.nv_entry.specs.Layout.{bits}
 use Rattle.nv_entry.specs.Status.{StatusField}
 use Rattle.nv_model.specs.Queue.{SubmissionQueue, CompletionQueue, ahead, front_taken, is_full, new_completion, new_submission, after_post}
-use Rattle.nv_model.specs.Controller.{Controller, Deletion, Posted, admin_completion_base, admin_completion_size, admin_register_written, admin_submission_base, admin_submission_size, can_enable, cc_written, completion_queue, doorbell, front, front_of, head_rung, is_enabled, is_ready, opening, post, post_from, post_to, queue_count, queue_of, ran_out, reg_write, reset, rung, running, submission_queue, tail_rung, taken_less, taken_more, took, took_of}
+use Rattle.nv_model.specs.Controller.{Controller, Deletion, Posted, admin_completion_base, admin_completion_size, admin_register_written}
+use Rattle.nv_model.specs.Controller.{admin_submission_base, admin_submission_size, can_enable, cc_written, completion_queue, doorbell, front}
+use Rattle.nv_model.specs.Controller.{front_of, head_rung, is_enabled, is_ready, opening, post, post_from, post_to, queue_count, queue_of, ran_out}
+use Rattle.nv_model.specs.Controller.{reg_write, reset, rung, running, submission_queue, tail_rung, taken_less, taken_more, took, took_of}
 use Rattle.nv_model.specs.Running.{GoTogether, IsTogether}
 use Rattle.nv_model.proofs.Endings.{and-true}
 use Rattle.nv_model.proofs.QueuesKept.{by_test}

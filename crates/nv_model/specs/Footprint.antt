@@ -1,6 +1,7 @@
 -- The bytes of guest memory that a guest's outstanding commands name. Outstanding are the entries from head to tail of each submission
 -- queue that is not being deleted, and the taken I/O commands that are neither completed nor run out.
-use Rattle.std.specs.Prelude.{ℕ, ◌+◌, ◌*◌, ◌%◌, Bool, true, false, ◌&&◌, ◌==◌, nat_le, nat_lt, if◌then◌else◌, List, [], ◌∷◌, ◌++◌, length, map, Option, Some, None}
+use Rattle.std.specs.Prelude.{ℕ, ◌+◌, ◌*◌, ◌%◌, Bool, true, false, ◌&&◌, ◌==◌, nat_le, nat_lt}
+use Rattle.std.specs.Prelude.{if◌then◌else◌, List, [], ◌∷◌, ◌++◌, length, map, Option, Some, None}
 use Rattle.std.specs.List.{flat_map, list_any, range_with_len, enumerate_from}
 use Rattle.nv_entry.specs.Submission.{opcode_of, fuse_of, psdt_of}
 use Rattle.nv_entry.specs.Opcode.{admin_opcode}

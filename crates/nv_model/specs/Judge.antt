@@ -1,6 +1,7 @@
 -- The verdict on an I/O command: the checks in their order, and what a command that passes them does. The order of the checks,
 -- the limit on a transfer (MDTS) and DNR are the project's own (profile).
-use Rattle.std.specs.Prelude.{ℕ, zero, suc, ◌+◌, ◌*◌, Bool, true, false, not, ◌&&◌, ◌==◌, nat_lt, if◌then◌else◌, List, [], ◌∷◌, ◌++◌, map, take, drop, Option, Some, None}
+use Rattle.std.specs.Prelude.{ℕ, zero, suc, ◌+◌, ◌*◌, Bool, true, false, not, ◌&&◌, ◌==◌, nat_lt}
+use Rattle.std.specs.Prelude.{if◌then◌else◌, List, [], ◌∷◌, ◌++◌, map, take, drop, Option, Some, None}
 use Rattle.std.specs.List.{flat_map, list_all, range_with_len, enumerate_from}
 use Rattle.nv_entry.specs.Submission.{opcode_of, fuse_of, psdt_of, nsid_of, prp1_of, prp2_of, sgl_of, slba_of, nlb_of, fua_of, nr_of, deallocate_of}
 use Rattle.nv_entry.specs.Opcode.{io_opcode, data_pointer}

@@ -1,7 +1,8 @@
 -- The private controller: what a guest would have if a controller, its memory and its namespace were its own. It has no tags, lanes,
 -- shared rings, bounce pages, transcripts or translated addresses. Each step is one atomic change; commands go on in any order (Base
 -- Specification 2.0, "Command Ordering Requirements"; NVM Command Set Specification 1.0, "NVM Command Set Commands", for what each does).
-use Rattle.std.specs.Prelude.{ℕ, ◌*◌, Bool, true, false, not, ◌&&◌, ◌||◌, ◌==◌, nat_lt, if◌then◌else◌, List, [], ◌∷◌, length, take, drop, filter, replicate, slice_get, Option, Some, None, is_none}
+use Rattle.std.specs.Prelude.{ℕ, ◌*◌, Bool, true, false, not, ◌&&◌, ◌||◌, ◌==◌, nat_lt, if◌then◌else◌}
+use Rattle.std.specs.Prelude.{List, [], ◌∷◌, length, take, drop, filter, replicate, slice_get, Option, Some, None, is_none}
 use Rattle.std.specs.List.{list_any, range_with_len}
 use Rattle.nv_entry.specs.Layout.{number_bytes}
 use Rattle.nv_entry.specs.Submission.{cid_of}

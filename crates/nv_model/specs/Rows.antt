@@ -1,5 +1,6 @@
 -- Worked examples: the memory, the lists and the commands that they start from
-use Rattle.std.specs.Prelude.{ℕ, zero, suc, ◌+◌, ◌*◌, ◌/◌, ◌%◌, ◌==◌, if◌then◌else◌, Bool, true, false, nat_lt, List, [], ◌∷◌, ◌++◌, replicate, flat_map, Option, Some, None}
+use Rattle.std.specs.Prelude.{ℕ, zero, suc, ◌+◌, ◌*◌, ◌/◌, ◌%◌, ◌==◌, if◌then◌else◌, Bool}
+use Rattle.std.specs.Prelude.{true, false, nat_lt, List, [], ◌∷◌, ◌++◌, replicate, flat_map, Option, Some, None}
 use Rattle.nv_entry.specs.Layout.{number_at, number_bytes, dword}
 use Rattle.nv_entry.specs.Completion.{completion}
 use Rattle.nv_entry.specs.declared.opcode.IoOpcode.{IoOpcode}

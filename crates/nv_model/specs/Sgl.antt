@@ -1,7 +1,8 @@
 -- The reading of a scatter gather list: Base Specification 2.0, "Scatter Gather List (SGL)". Descriptors are read in order; a
 -- Segment or Last Segment stands last in its array and goes on with the array that it names. The order of the checks, the
 -- alignment of 8 and the limit on descriptors are the project's own (profile).
-use Rattle.std.specs.Prelude.{ℕ, zero, suc, ◌+◌, ◌*◌, ◌/◌, ◌%◌, Bool, true, false, not, ◌&&◌, ◌||◌, ◌==◌, if◌then◌else◌, List, [], ◌∷◌, ◌++◌, Option, Some, None}
+use Rattle.std.specs.Prelude.{ℕ, zero, suc, ◌+◌, ◌*◌, ◌/◌, ◌%◌, Bool, true, false, not, ◌&&◌}
+use Rattle.std.specs.Prelude.{◌||◌, ◌==◌, if◌then◌else◌, List, [], ◌∷◌, ◌++◌, Option, Some, None}
 use Rattle.nv_entry.specs.Descriptor.{address_of, length_of, kind_of}
 use Rattle.nv_entry.specs.declared.descriptor_type.DescriptorType.{DescriptorType}
 use Rattle.nv_entry.specs.declared.descriptor_type.DescriptorType.TheVariants.{DataBlock, BitBucket, Segment, LastSegment}

@@ -1,5 +1,6 @@
 -- Bytes that are compared, part by part
-use Rattle.std.proofs.Common.{◌≡◌, ℕ, suc, ◌+◌, ◌≤◌, Bool, true, false, true≢false, not, ◌||◌, ◌&&◌, ◌==◌, ◌↔◌, IsTrue, nat_eq, List, [], ◌∷◌, ◌++◌, length}
+use Rattle.std.proofs.Common.{◌≡◌, ℕ, suc, ◌+◌, ◌≤◌, Bool, true, false, true≢false, not, ◌||◌}
+use Rattle.std.proofs.Common.{◌&&◌, ◌==◌, ◌↔◌, IsTrue, nat_eq, List, [], ◌∷◌, ◌++◌, length}
 use Rattle.std.proofs.Common.{take, drop, replicate, refl, sym, ap, subst, ◌∙◌, arith}
 use Rattle.std.proofs.lemmas.Bool.Decides.{nat_tests}
 use lib.Pointwise.{bytes_decides, pointwise}

@@ -1,5 +1,6 @@
 -- Bytes as the lanes of a vector, and their digits
-use Rattle.std.proofs.Common.{◌≡◌, ℕ, ◌+◌, ◌*◌, ◌/◌, ◌%◌, ◌^◌, ◌-◌, ◌≤◌, true, cond, eqb, ltb, List, [], ◌∷◌, ◌++◌, bit_and, drop, length, map, replicate}
+use Rattle.std.proofs.Common.{◌≡◌, ℕ, ◌+◌, ◌*◌, ◌/◌, ◌%◌, ◌^◌, ◌-◌, ◌≤◌, true}
+use Rattle.std.proofs.Common.{cond, eqb, ltb, List, [], ◌∷◌, ◌++◌, bit_and, drop, length, map, replicate}
 use Rattle.std.proofs.Common.{slice_index, take, Fits, w8, refl, sym, ap, ap₂, ◌∙◌, arith}
 use Rattle.std.proofs.lemmas.Bool.{agree_below_at, eqb-true}
 use Rattle.std.proofs.lemmas.List.{append-nil, drop_all, length-drop, drop-take, take-append-drop, take-take, take_all}

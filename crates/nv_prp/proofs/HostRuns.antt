@@ -1,5 +1,6 @@
 -- Lemmas on host addresses that fit PRP.
-use Rattle.std.proofs.Common.{◌≡◌, ℕ, zero, suc, ◌+◌, ◌-◌, ◌%◌, ◌<◌, ◌≤◌, ◌^◌, Bool, true, false, ◌&&◌, ◌||◌, ◌==◌, List, [], ◌∷◌, ◌++◌, All, length, drop}
+use Rattle.std.proofs.Common.{◌≡◌, ℕ, zero, suc, ◌+◌, ◌-◌, ◌%◌, ◌<◌, ◌≤◌, ◌^◌, Bool}
+use Rattle.std.proofs.Common.{true, false, ◌&&◌, ◌||◌, ◌==◌, List, [], ◌∷◌, ◌++◌, All, length, drop}
 use Rattle.std.proofs.Common.{get_or, replicate, Option, Some, None, is_some, option_to_list, arith, refl, sym, ap, ◌∙◌, append_assoc, length-append, eq-eqb}
 use Rattle.std.proofs.Common.{inl, inr}
 use Rattle.std.specs.List.{range_with_len, list_all}

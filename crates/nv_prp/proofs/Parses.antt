@@ -1,5 +1,6 @@
 -- Lemmas on what a parse wants and how it goes on.
-use Rattle.std.proofs.Common.{◌≡◌, ◌≢◌, ℕ, zero, suc, ◌-◌, ◌*◌, ◌%◌, ◌<◌, ◌≤◌, min, Bool, true, false, cond, ◌&&◌, ◌==◌, nat_lt, is_none, List, Option, Some, None, arith, refl, sym, ap, ◌∙◌}
+use Rattle.std.proofs.Common.{◌≡◌, ◌≢◌, ℕ, zero, suc, ◌-◌, ◌*◌, ◌%◌, ◌<◌, ◌≤◌, min, Bool, true, false}
+use Rattle.std.proofs.Common.{cond, ◌&&◌, ◌==◌, nat_lt, is_none, List, Option, Some, None, arith, refl, sym, ap, ◌∙◌}
 use Rattle.std.proofs.lemmas.Bool.Decides.{nat_tests}
 use Rattle.nv_entry.specs.StatusCode.{refused_with}
 use Rattle.nv_entry.specs.declared.status_code.StatusCode.{StatusCode}

@@ -1,5 +1,6 @@
 -- Lemmas on a parse that is fed what a memory shows where it asks.
-use Rattle.std.proofs.Common.{◌≡◌, ℕ, zero, suc, ◌+◌, ◌-◌, ◌*◌, ◌≤◌, min, Bool, true, false, cond, ◌&&◌, ◌==◌, nat_lt, List, ◌++◌, take, drop, arith, refl, sym, ap, ◌∙◌}
+use Rattle.std.proofs.Common.{◌≡◌, ℕ, zero, suc, ◌+◌, ◌-◌, ◌*◌, ◌≤◌, min, Bool, true, false, cond}
+use Rattle.std.proofs.Common.{◌&&◌, ◌==◌, nat_lt, List, ◌++◌, take, drop, arith, refl, sym, ap, ◌∙◌}
 use Rattle.nv_entry.specs.Layout.{number_at}
 use Rattle.nv_mem.specs.GuestMap.{mapped}
 use Rattle.nv_mem.specs.declared.piece.Piece.{Piece}

@@ -1,5 +1,6 @@
 -- Lemmas on what a parse wants and how it goes on.
-use Rattle.std.proofs.Common.{◌≡◌, ◌≢◌, ℕ, zero, suc, ◌-◌, ◌*◌, ◌%◌, ◌<◌, ◌≤◌, min, Bool, true, false, ◌==◌, List, [], ◌∷◌, Option, Some, None, arith, refl}
+use Rattle.std.proofs.Common.{◌≡◌, ◌≢◌, ℕ, zero, suc, ◌-◌, ◌*◌, ◌%◌, ◌<◌, ◌≤◌}
+use Rattle.std.proofs.Common.{min, Bool, true, false, ◌==◌, List, [], ◌∷◌, Option, Some, None, arith, refl}
 use Rattle.std.proofs.Common.{sym, ◌∙◌, ap, subst, append-nil, if◌then◌else◌, eq-eqb}
 use Rattle.std.proofs.lemmas.Bool.Decides.{nat_tests}
 use Rattle.nv_entry.specs.Descriptor.{kind_of}

@@ -1,6 +1,7 @@
 //! Where a parse of a scatter gather list stands, and how it goes on descriptor by descriptor.
 
-ghost use Rattle.std.specs.Prelude.{◌≡◌, Bool, List, false, None, Some, ◌+◌, ◌-◌, ◌*◌, ◌<◌, ◌≤◌, ◌^◌, ◌%◌, ◌++◌, IsTrue, IfOk, OnErr, OnOk, true, length, option_to_list};
+ghost use Rattle.std.specs.Prelude.{◌≡◌, Bool, List, false, None, Some, ◌+◌, ◌-◌, ◌*◌, ◌<◌, ◌≤◌};
+ghost use Rattle.std.specs.Prelude.{◌^◌, ◌%◌, ◌++◌, IsTrue, IfOk, OnErr, OnOk, true, length, option_to_list};
 ghost use Rattle.nv_entry.specs.Descriptor.{address_of, kind_of, length_of};
 ghost use Rattle.nv_mem.specs.GuestMap.{mapped, all_mapped};
 ghost use Rattle.nv_mem.specs.Places.{total_len};

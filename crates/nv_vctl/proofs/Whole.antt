@@ -1,9 +1,11 @@
 -- Each change of a controller keeps what its type keeps of it.
-use Rattle.std.proofs.Common.{◌≡◌, ℕ, zero, suc, ◌<◌, true, false, List, [], ◌∷◌, length, set, slice_get, slice_index, Option, Some, None, IfSome, IsSome, arith, refl, sym, ap, ◌∙◌, subst}
+use Rattle.std.proofs.Common.{◌≡◌, ℕ, zero, suc, ◌<◌, true, false, List, [], ◌∷◌, length, set, slice_get}
+use Rattle.std.proofs.Common.{slice_index, Option, Some, None, IfSome, IsSome, arith, refl, sym, ap, ◌∙◌, subst}
 use Rattle.std.specs.List.{list_any}
 use Rattle.nv_entry.specs.Status.{StatusField}
 use Rattle.nv_model.specs.Admin.{uses}
-use Rattle.nv_model.specs.Controller.{Controller, Deletion, Posted, completion_queue, front, is_enabled, is_ready, post, post_from, post_to, queue_of, submission_queue, took, took_of, with_completion, with_submission}
+use Rattle.nv_model.specs.Controller.{Controller, Deletion, Posted, completion_queue, front, is_enabled, is_ready, post, post_from}
+use Rattle.nv_model.specs.Controller.{post_to, queue_of, submission_queue, took, took_of, with_completion, with_submission}
 use Rattle.nv_model.specs.Queue.{SubmissionQueue, CompletionQueue, front_taken, is_full}
 use Rattle.nv_model.specs.Running.{GoTogether, IsTogether}
 use Rattle.nv_model.proofs.Endings.{and-true}

@@ -3,7 +3,9 @@
 ghost use Rattle.std.specs.Prelude.{◌≡◌, ◌+◌, ◌*◌, ◌^◌, ◌==◌, ◌≤◌, is_some, true, false};
 ghost use Rattle.nv_entry.specs.Layout.{bits};
 ghost use Rattle.nv_mem.specs.GuestMap.{mapped};
-ghost use Rattle.nv_model.specs.Controller.{admin_completion_base, admin_completion_size, admin_register_written, admin_submission_base, admin_submission_size, base_fits, can_enable, cc_written, enabled, is_enabled, reg_read, reg_write, register, reset, running, size_fits};
+ghost use Rattle.nv_model.specs.Controller.{admin_completion_base, admin_completion_size, admin_register_written};
+ghost use Rattle.nv_model.specs.Controller.{admin_submission_base, admin_submission_size, base_fits, can_enable, cc_written};
+ghost use Rattle.nv_model.specs.Controller.{enabled, is_enabled, reg_read, reg_write, register, reset, running, size_fits};
 ghost use Rattle.nv_model.specs.Laws.{QueuesInPlace};
 ghost use Rattle.nv_ring.specs.Ring.{FitsRing};
 ghost use Rattle.nv_vctl.specs.Vctl.{or_unchanged, with_cc};

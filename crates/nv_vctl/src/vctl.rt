@@ -1,6 +1,7 @@
 //! The controller, and what can be read of it.
 
-ghost use Rattle.std.specs.Prelude.{◌≡◌, ◌+◌, ◌-◌, ◌*◌, ◌<◌, ◌≤◌, ◌==◌, ◌↔◌, ℕ, All, Bool, IfSome, IsTrue, drop, if◌then◌else◌, not, nat_lt, is_some, length, slice_index, slice_set, sum};
+ghost use Rattle.std.specs.Prelude.{◌≡◌, ◌+◌, ◌-◌, ◌*◌, ◌<◌, ◌≤◌, ◌==◌, ◌↔◌, ℕ, All, Bool};
+ghost use Rattle.std.specs.Prelude.{IfSome, IsTrue, drop, if◌then◌else◌, not, nat_lt, is_some, length, slice_index, slice_set, sum};
 ghost use Rattle.std.specs.List.{list_any};
 ghost use Rattle.nv_model.specs.Admin.{has_io_queue, is_queue_full, uses};
 ghost use Rattle.nv_entry.specs.Status.{StatusField};

@@ -1,5 +1,6 @@
 -- What a chunk shows, and chunks that lie one behind the other, as lists of bytes.
-use Rattle.std.proofs.Common.{◌≡◌, ◌==◌, Option, Some, None, Bool, true, false, not, true≢false, if◌then◌else◌, ℕ, zero, suc, ◌+◌, ◌-◌, ◌*◌, ◌/◌, ◌%◌, ◌<◌, ◌≤◌}
+use Rattle.std.proofs.Common.{◌≡◌, ◌==◌, Option, Some, None, Bool, true, false, not, true≢false, if◌then◌else◌}
+use Rattle.std.proofs.Common.{ℕ, zero, suc, ◌+◌, ◌-◌, ◌*◌, ◌/◌, ◌%◌, ◌<◌, ◌≤◌}
 use Rattle.std.proofs.Common.{◌⊎◌, List, [], ◌∷◌, ◌++◌, length, take, drop, replicate, slice_index_or, slice_set, arith, refl, sym, ap, subst, ◌∙◌, inl, inr}
 use Rattle.std.proofs.Common.{append_assoc}
 use Rattle.std.proofs.Math.Nat.{div-add-mod, mul_comm, mul-suc}

@@ -4,7 +4,8 @@ ghost use Rattle.std.specs.List.{list_all};
 ghost use Rattle.nv_entry.specs.Opcode.{io_opcode};
 ghost use Rattle.nv_entry.specs.Submission.{opcode_of, slba_of};
 ghost use Rattle.nv_mem.specs.Places.{places_of, total_len};
-ghost use Rattle.nv_model.specs.Judge.{Work, Transfer, Clear, Manage, Keep, MoveBlock, ClearBlock, KeepAll, Go, count_of, deallocates, form_of, is_fua, range_count_of, range_fits, range_units, transfer_len};
+ghost use Rattle.nv_model.specs.Judge.{Work, Transfer, Clear, Manage, Keep, MoveBlock, ClearBlock, KeepAll, Go, count_of};
+ghost use Rattle.nv_model.specs.Judge.{deallocates, form_of, is_fua, range_count_of, range_fits, range_units, transfer_len};
 ghost use Rattle.nv_model.specs.Private.{Shape, verdict_in};
 ghost use Rattle.nv_model.specs.Laws.{IsMappedPiece, IsMappedPlace, IsUnitWithin};
 

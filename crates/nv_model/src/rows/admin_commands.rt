@@ -3,7 +3,8 @@
 ghost use Rattle.std.specs.Prelude.{◌≡◌, [], ◌∷◌, ◌++◌, Some, map, replicate};
 ghost use Rattle.nv_model.specs.Private.{AdminQueueStep, start};
 ghost use Rattle.nv_model.specs.Rows.{command, prps};
-ghost use Rattle.nv_model.specs.RowsRuns.{admin_entry, after, bring_up, delete_submission_queue, done_first, done_third, dword_in, first_answer, five_event_requests, new_completion_queue, new_submission_queue, ring, store, third_answer};
+ghost use Rattle.nv_model.specs.RowsRuns.{admin_entry, after, bring_up, delete_submission_queue, done_first, done_third, dword_in, first_answer};
+ghost use Rattle.nv_model.specs.RowsRuns.{five_event_requests, new_completion_queue, new_submission_queue, ring, store, third_answer};
 
 /// The examples of this module, a clause each.
 #[tactic(none)]

@@ -4,7 +4,8 @@ ghost use Rattle.std.specs.Prelude.{◌≡◌, [], ◌∷◌, ◌++◌, Some, tr
 ghost use Rattle.nv_model.specs.declared.reply.Reply.TheVariants as reply;
 ghost use Rattle.nv_model.specs.Private.{AdminQueueStep, TakeStep, start};
 ghost use Rattle.nv_model.specs.Rows.{first_example};
-ghost use Rattle.nv_model.specs.RowsRuns.{after, at_start, bring_up, bytes_in, can_run, deletion_begun, deletion_done, deletion_due, delete_submission_queue, done_third, dword_in, load, replied_to, ring, store};
+ghost use Rattle.nv_model.specs.RowsRuns.{after, at_start, bring_up, bytes_in, can_run, deletion_begun, deletion_done, deletion_due};
+ghost use Rattle.nv_model.specs.RowsRuns.{delete_submission_queue, done_third, dword_in, load, replied_to, ring, store};
 
 /// The examples of this module, a clause each.
 #[tactic(none)]

@@ -5,7 +5,8 @@ ghost use Rattle.std.specs.Prelude.{◌≡◌, [], ◌∷◌, Some, None, false}
 ghost use Rattle.nv_entry.specs.declared.opcode.IoOpcode.TheVariants as opcode;
 ghost use Rattle.nv_model.specs.Judge.{ClearBlock, KeepAll};
 ghost use Rattle.nv_model.specs.Private.{verdict_in};
-ghost use Rattle.nv_model.specs.Rows.{by_sgl, command, compare, data_block, dataset_management, dword0, flush, goes_without_buffer, guest, larger_refusal_in, one_block, read, refusal, refusal_in, write, write_zeroes, zeros};
+ghost use Rattle.nv_model.specs.Rows.{by_sgl, command, compare, data_block, dataset_management, dword0, flush, goes_without_buffer};
+ghost use Rattle.nv_model.specs.Rows.{guest, larger_refusal_in, one_block, read, refusal, refusal_in, write, write_zeroes, zeros};
 
 /// The examples of this module, a clause each.
 #[tactic(none)]

@@ -5,7 +5,8 @@ ghost use Rattle.nv_entry.specs.declared.opcode.IoOpcode.TheVariants as opcode;
 ghost use Rattle.nv_mem.specs.declared.piece.Piece.TheVariants.{Run, Bucket};
 ghost use Rattle.nv_model.specs.Judge.{ClearBlock, Go, KeepAll, MoveBlock};
 ghost use Rattle.nv_model.specs.Private.{verdict_in};
-ghost use Rattle.nv_model.specs.Rows.{bit_bucket, by_sgl, compare, data_block, first_example, flush, goes_without_buffer, guest, holding, last_segment, one_block, read, reads, refusal_in, with_fua, write, write_zeroes, zeros};
+ghost use Rattle.nv_model.specs.Rows.{bit_bucket, by_sgl, compare, data_block, first_example, flush, goes_without_buffer, guest};
+ghost use Rattle.nv_model.specs.Rows.{holding, last_segment, one_block, read, reads, refusal_in, with_fua, write, write_zeroes, zeros};
 
 /// The examples of this module, a clause each.
 #[tactic(none)]

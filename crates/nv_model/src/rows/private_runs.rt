@@ -5,7 +5,10 @@ ghost use Rattle.std.specs.List.{list_any};
 ghost use Rattle.nv_model.specs.declared.reply.Reply.TheVariants as reply;
 ghost use Rattle.nv_model.specs.Private.{AdminQueueStep, GiveUpStep, JudgeStep, KeepStep, MoveStep, PostStep, RunOutStep, TakeStep, start};
 ghost use Rattle.nv_model.specs.Rows.{command, first_example};
-ghost use Rattle.nv_model.specs.RowsRuns.{admin_entry, after, at_start, block_byte, bring_up, bytes_in, can_run, create_completion_queue, create_submission_queue, deletion_begun, dword_in, first_ended, first_posted, first_taken, five_event_requests, flush_of, load, read_register, replied_to, ring, shared_completion_queue, store, three_ended, two_admin_slots, write_posted_before_read, write_register};
+ghost use Rattle.nv_model.specs.RowsRuns.{admin_entry, after, at_start, block_byte, bring_up, bytes_in, can_run, create_completion_queue};
+ghost use Rattle.nv_model.specs.RowsRuns.{create_submission_queue, deletion_begun, dword_in, first_ended, first_posted, first_taken};
+ghost use Rattle.nv_model.specs.RowsRuns.{five_event_requests, flush_of, load, read_register, replied_to, ring, shared_completion_queue};
+ghost use Rattle.nv_model.specs.RowsRuns.{store, three_ended, two_admin_slots, write_posted_before_read, write_register};
 
 /// The examples of this module, a clause each.
 #[tactic(none)]
