@@ -76,7 +76,8 @@ IsAtRow-end copied before slot addr len now done order so_far all =
 -- ---- the pieces of a list
 
 -- what a loop over the pieces keeps: `left` are those that are left
-pub record IsAtPiece (copied : List Place → ℕ → (ℕ → ℕ) → ℕ → ℕ) (before : List ℕ) (slot : ℕ) (pieces : List Piece) (now : List ℕ) (at : ℕ) (left : List Piece) : Type 0 where
+pub record IsAtPiece (copied : List Place → ℕ → (ℕ → ℕ) → ℕ → ℕ) (before : List ℕ) (slot : ℕ)
+    (pieces : List Piece) (now : List ℕ) (at : ℕ) (left : List Piece) : Type 0 where
   pub moved : copied (places_of left) at (byte_in now) ≡ copied (places_of pieces) slot (byte_in before)
   pub size : length now ≡ length before
   pub start : slot ≤ at

@@ -147,10 +147,15 @@ lanes 1;disk 1;mediator 0;host 0;guest 0 range 0 1 heap 256;reap 0;descriptors 0
 const GUESTS: &str = "\
 |[]
 guest 0 range 18446744073709551615 0 heap 256|[GuestSetUp { base: 18446744073709551615, blocks: 0, heap: 256, limit: None, regions: [] }]
-guest 0 range 0 1 heap 0x1000000;map 0 1 2 3;map 0 4 5 6|[GuestSetUp { base: 0, blocks: 1, heap: 16777216, limit: None, regions: [Region { guest: 1, host: 2, len: 3 }, Region { guest: 4, host: 5, len: 6 }] }]
+guest 0 range 0 1 heap 0x1000000;map 0 1 2 3;map 0 4 5 6|[\
+    GuestSetUp { base: 0, blocks: 1, heap: 16777216, limit: None, regions: [Region { guest: 1, host: 2, len: 3 }, Region { guest: 4, host: 5, len: 6 }] }]
 guest 0 range 0 1 heap 256;descriptors 0 0|[GuestSetUp { base: 0, blocks: 1, heap: 256, limit: Some(0), regions: [] }]
-guest 0 range 0 1 heap 256;guest 1 range 2 3 heap 256;descriptors 1 18446744073709551615;descriptors 0 0x1000|[GuestSetUp { base: 0, blocks: 1, heap: 256, limit: Some(4096), regions: [] }, GuestSetUp { base: 2, blocks: 3, heap: 256, limit: Some(18446744073709551615), regions: [] }]
-guest 0 range 0 1 heap 256;map 0 1 2 3;guest 1 range 2 3 heap 256;map 0 4 5 6|[GuestSetUp { base: 0, blocks: 1, heap: 256, limit: None, regions: [Region { guest: 1, host: 2, len: 3 }, Region { guest: 4, host: 5, len: 6 }] }, GuestSetUp { base: 2, blocks: 3, heap: 256, limit: None, regions: [] }]
+guest 0 range 0 1 heap 256;guest 1 range 2 3 heap 256;descriptors 1 18446744073709551615;descriptors 0 0x1000|[\
+    GuestSetUp { base: 0, blocks: 1, heap: 256, limit: Some(4096), regions: [] }, \
+    GuestSetUp { base: 2, blocks: 3, heap: 256, limit: Some(18446744073709551615), regions: [] }]
+guest 0 range 0 1 heap 256;map 0 1 2 3;guest 1 range 2 3 heap 256;map 0 4 5 6|[\
+    GuestSetUp { base: 0, blocks: 1, heap: 256, limit: None, regions: [Region { guest: 1, host: 2, len: 3 }, Region { guest: 4, host: 5, len: 6 }] }, \
+    GuestSetUp { base: 2, blocks: 3, heap: 256, limit: None, regions: [] }]
 ";
 
 /// What of a script a test looks at.

@@ -55,13 +55,17 @@ pub numbers-others : (from i : ℕ) (marks : List Bool) → numbers_marked from 
 unfolding numbers_marked
 numbers-others from i [] = refl
 numbers-others from zero (true ∷ marks) =
-    sym (ap (λ (b : Bool). cond (not b) (from ∷ others (from + zero) (numbers_marked (from + 1) marks)) (others (from + zero) (numbers_marked (from + 1) marks))) (eq-eqb from (from + zero) (omega arith))
+    sym (ap (λ (b : Bool). cond (not b) (from ∷ others (from + zero) (numbers_marked (from + 1) marks))
+    (others (from + zero) (numbers_marked (from + 1) marks)))
+    (eq-eqb from (from + zero) (omega arith))
     ∙ others-above (from + 1) (from + zero) marks (omega arith))
 numbers-others from zero (false ∷ marks) = sym (others-above (from + 1) (from + zero) marks (omega arith))
 numbers-others from (suc i) (true ∷ marks) =
     let e : from + 1 + i ≡ from + suc i = omega arith in
     ap (λ (ks : List ℕ). from ∷ ks) (numbers-others (from + 1) i marks ∙ ap (λ (n : ℕ). others n (numbers_marked (from + 1) marks)) e)
-    ∙ sym (ap (λ (b : Bool). cond (not b) (from ∷ others (from + suc i) (numbers_marked (from + 1) marks)) (others (from + suc i) (numbers_marked (from + 1) marks))) (apart from (from + suc i) (λ e. omega arith)))
+    ∙ sym (ap (λ (b : Bool). cond (not b) (from ∷ others (from + suc i) (numbers_marked (from + 1) marks))
+    (others (from + suc i) (numbers_marked (from + 1) marks)))
+    (apart from (from + suc i) (λ e. omega arith)))
 numbers-others from (suc i) (false ∷ marks) =
     let e : from + 1 + i ≡ from + suc i = omega arith in
     numbers-others (from + 1) i marks ∙ ap (λ (n : ℕ). others n (numbers_marked (from + 1) marks)) e

@@ -191,7 +191,9 @@ units-left work (unit ∷ units) f differed within sized each =
     let B : ℕ → Type 0 = λ size. AreBelow size (places_of work.pieces) in
     let rest = units-left work units one.new n.differed (subst W (sym one.disk_size) (All-tail (IsUnitWithin (length f.disk)) unit units within))
     (one.marked ∙ sized ∙ sym one.disk_size) (subst B (sym one.memory_size) each) in
-    let same : moved_of one.new n.differed ≡ n = moved (byte_in one.new.memory) n.memory (byte_of_block one.new.disk) n.disk (marks_of one.new) n.kept n.differed n.differed one.bytes one.blocks one.marks refl in
+    let same : moved_of one.new n.differed ≡ n =
+    moved (byte_in one.new.memory) n.memory (byte_of_block one.new.disk) n.disk (marks_of one.new)
+    n.kept n.differed n.differed one.bytes one.blocks one.marks refl in
     let L : Moved → Type 0 = λ m. IsLeft one.new (units_moved units work m) in
     let done = subst L same rest in
     record {

@@ -118,7 +118,9 @@ spelled-usable f entry need pieces spelled =
     let P : Reading → Type 0 = λ r. OfPieces (λ ps. All (IsMappedPiece map) ps) r in
     let Q : Reading → Type 0 = λ r. OfPieces (λ ps. All IsRunPiece ps) r in
     record {
-      below = pieces-are-below (length f.memory) pieces (subst P both.0 (in_memory-ends (OfPieces (λ ps. All (IsMappedPiece map) ps)) (byte_in f.memory) list (read_by-mapped pointer map 1024 need.dest need.bytes entry)));
+      below = pieces-are-below (length f.memory) pieces
+          (subst P both.0 (in_memory-ends (OfPieces (λ ps. All (IsMappedPiece map) ps)) (byte_in f.memory) list
+          (read_by-mapped pointer map 1024 need.dest need.bytes entry)));
       total = length-places_of pieces ∙ both.1;
       runs = λ source.
           let R : Bool → Type 0 = λ d. EndsIn (OfPieces (λ ps. All IsRunPiece ps)) (read_by pointer map 1024 d need.bytes entry) in

@@ -73,7 +73,8 @@ count_by-covers [] addr apart = refl
 count_by-covers (r ∷ rs) addr apart =
     let rest = count_by-covers rs addr (AllPairs-tail IsApart r rs apart) in
     rw (sum_by-cons (λ s. cond (covers s addr) 1 0) r rs)
-    ((elim (covers r addr) as (λ b. covers r addr ≡ b → cond b 1 0 + sum_by (λ s. cond (covers s addr) 1 0) rs ≡ cond (is_some (cond b (Some (r.host + (addr - r.guest))) (host_of rs addr))) 1 0) [
+    ((elim (covers r addr) as (λ b. covers r addr ≡ b → cond b 1 0 + sum_by (λ s. cond (covers s addr) 1 0) rs
+    ≡ cond (is_some (cond b (Some (r.host + (addr - r.guest))) (host_of rs addr))) 1 0) [
       | true ↦ λ is.
           let none = sum_by-none (λ s. cond (covers s addr) 1 0) rs (λ k d below.
           let clear = (AllPairs-head IsApart r rs apart k d below).guest addr is in ap (λ b. cond b 1 0) clear) in

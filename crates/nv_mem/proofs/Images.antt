@@ -91,7 +91,8 @@ pub host_of-found : (rs : List Region) (addr host : ℕ) → host_of rs addr ≡
     → (r : Region) × (find (λ s. covers s addr) rs ≡ Some r) × (r.host + (addr - r.guest) ≡ host)
 host_of-found [] addr host is = cc
 host_of-found (s ∷ rs) addr host is =
-    (elim (covers s addr) as (λ b. cond b (Some (s.host + (addr - s.guest))) (host_of rs addr) ≡ Some host → (r : Region) × (cond b (Some s) (find (λ q. covers q addr) rs) ≡ Some r) × (r.host + (addr - r.guest) ≡ host))
+    (elim (covers s addr) as (λ b. cond b (Some (s.host + (addr - s.guest))) (host_of rs addr) ≡ Some host
+    → (r : Region) × (cond b (Some s) (find (λ q. covers q addr) rs) ≡ Some r) × (r.host + (addr - r.guest) ≡ host))
     [ true ↦ λ e. (s, refl, cc) | false ↦ λ e. host_of-found rs addr host e ]) is
 
 -- a mapped address lies inside the host

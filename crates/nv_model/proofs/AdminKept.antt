@@ -117,7 +117,8 @@ module _ (mapped : ℕ → Bool) (P : SubmissionQueue → Type 0) (Q : Completio
       by_test (DoneHas P Q) (slice_index c.taken (qid entry) == 0) _ _
       (λ _. QueuesHave-with_submission mapped P Q closed c (qid entry) None order tt)
       (λ _. QueuesHave-same mapped P Q closed (with_submission c (qid entry) (Some (record q { closing = true }))) _
-      (QueuesHave-with_submission mapped P Q closed c (qid entry) (Some (record q { closing = true })) order (closed.closing q (submission_queue-has mapped P Q closed c (qid entry) q order is))) refl refl)
+      (QueuesHave-with_submission mapped P Q closed c (qid entry) (Some (record q { closing = true }))
+      order (closed.closing q (submission_queue-has mapped P Q closed c (qid entry) q order is))) refl refl)
 
   delete_submission-kept : (entry : List ℕ) (c : Controller) (memory : ℕ → ℕ) → QueuesHave P Q c
       → DoneHas P Q (delete_submission entry c memory)

@@ -139,11 +139,13 @@ module _ (shape : Shape) (name : ℕ) (t : Taken) (p : Private) where
       λ st is. (let e : Some told ≡ Some st = sym (ending_of-this_far name t (Ended told) p) ∙ is in cc, refl)
   refused-end told (JudgeStep other ∷ steps) own =
       let named_so = eqb-true other name (and-true _ _ own).0 in
-      subst (λ (n : ℕ). IfSome (further (step shape (JudgeStep n) (this_far name t (Ended told) p)) (λ q. run_of shape steps q)) (AtEnd (λ st q. (st ≡ told) × (q ≡ this_far name t (Ended told) p))))
+      subst (λ (n : ℕ). IfSome (further (step shape (JudgeStep n) (this_far name t (Ended told) p)) (λ q. run_of shape steps q))
+      (AtEnd (λ st q. (st ≡ told) × (q ≡ this_far name t (Ended told) p))))
       (sym named_so) (rw (step-judge_ended told) tt)
   refused-end told (MoveStep other number ∷ steps) own =
       let named_so = eqb-true other name (and-true _ _ own).0 in
-      subst (λ (n : ℕ). IfSome (further (step shape (MoveStep n number) (this_far name t (Ended told) p)) (λ q. run_of shape steps q)) (AtEnd (λ st q. (st ≡ told) × (q ≡ this_far name t (Ended told) p))))
+      subst (λ (n : ℕ). IfSome (further (step shape (MoveStep n number) (this_far name t (Ended told) p)) (λ q. run_of shape steps q))
+      (AtEnd (λ st q. (st ≡ told) × (q ≡ this_far name t (Ended told) p))))
       (sym named_so) (rw (step-move_ended told number) tt)
   refused-end told (ActStep a ∷ steps) own = cc
   refused-end told (TakeStep queue other ∷ steps) own = cc

@@ -200,7 +200,8 @@ judge_fields-sound : (mapped : ℕ → Bool) (limit blocks : ℕ) (entry : List 
 judge_fields-sound mapped limit blocks entry (Some code) is = tt
 judge_fields-sound mapped limit blocks entry None is =
     judge_by-sound mapped limit blocks entry (io_opcode (opcode_of entry)) refl
-    ((elim (fuse_of entry == 0) as (λ b. cond (not b) (Some InvalidField) (refusal_by_opcode blocks entry (io_opcode (opcode_of entry))) ≡ None → refusal_by_opcode blocks entry (io_opcode (opcode_of entry)) ≡ None) [
+    ((elim (fuse_of entry == 0) as (λ b. cond (not b) (Some InvalidField) (refusal_by_opcode blocks entry (io_opcode (opcode_of entry))) ≡ None
+    → refusal_by_opcode blocks entry (io_opcode (opcode_of entry)) ≡ None) [
       | true ↦ λ none. none
       | false ↦ λ none. cc
     ]) is)
@@ -274,7 +275,8 @@ pub asked-page : (mapped : ℕ → Bool) (memory : ℕ → ℕ) (prp1 prp2 : ℕ
 unfolding asked
 asked-page mapped memory prp1 prp2 =
     let few : pages_of (4096 - first_len prp1 4096) ≤ 1 = omega arith in
-    (elim (entry_fault mapped 4 prp1 (first_len prp1 4096)) as (λ o. asked memory (unless_faulty o (read_prp2 mapped (pages_of (4096 - first_len prp1 4096)) prp2 (4096 - first_len prp1 4096) (run prp1 (first_len prp1 4096)))) ≡ []) [
+    (elim (entry_fault mapped 4 prp1 (first_len prp1 4096)) as (λ o. asked memory (unless_faulty o
+    (read_prp2 mapped (pages_of (4096 - first_len prp1 4096)) prp2 (4096 - first_len prp1 4096) (run prp1 (first_len prp1 4096)))) ≡ []) [
       | None ↦ asked-read_prp2 mapped memory (pages_of (4096 - first_len prp1 4096)) prp2 (4096 - first_len prp1 4096) (run prp1 (first_len prp1 4096)) few
       | Some code ↦ refl
     ])

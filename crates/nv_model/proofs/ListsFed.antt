@@ -183,7 +183,8 @@ judged-wanted blocks entry opcode (Ask from unit left next) addr len reads wante
     ∙ ap (λ (found : Option (List ℕ × List ReadDone)). met_by addr len found more) none
 
 -- one that a read meets goes on
-pub judged-met : (mapped : ℕ → Bool) (n : ℕ) (dest : Bool) (size blocks : ℕ) (entry : List ℕ) (opcode : IoOpcode) (d : Dialogue Reading) (addr len : ℕ) (reads : List ReadDone) (bytes : List ℕ) (behind : List ReadDone)
+pub judged-met : (mapped : ℕ → Bool) (n : ℕ) (dest : Bool) (size blocks : ℕ) (entry : List ℕ) (opcode : IoOpcode) (d : Dialogue Reading)
+    (addr len : ℕ) (reads : List ReadDone) (bytes : List ℕ) (behind : List ReadDone)
     → IsListAhead mapped n dest size d → want_of d ≡ want.Read addr len → first_read addr len reads ≡ Some (bytes, behind)
     → in_transcript (and_then d (judge_reading blocks entry opcode)) [] reads
     ≡ in_transcript (and_then (fed d bytes) (judge_reading blocks entry opcode)) [] behind

@@ -71,7 +71,8 @@ front_of-mapped mapped (Some q) addr place at =
     let from : q.base + sqe_size * q.head ≡ addr =
     (elim q.closing as (λ b. cond b None (cond (q.head == q.tail) None (Some (q.base + sqe_size * q.head))) ≡ Some addr → q.base + sqe_size * q.head ≡ addr) [
       | true ↦ λ e. cc
-      | false ↦ λ e. (elim (q.head == q.tail) as (λ b. cond b None (Some (q.base + sqe_size * q.head)) ≡ Some addr → q.base + sqe_size * q.head ≡ addr) [ true ↦ λ f. cc | false ↦ λ f. cc ]) e
+      | false ↦ λ e. (elim (q.head == q.tail) as (λ b. cond b None (Some (q.base + sqe_size * q.head)) ≡ Some addr → q.base + sqe_size * q.head ≡ addr)
+          [ true ↦ λ f. cc | false ↦ λ f. cc ]) e
     ]) at in
     λ i within.
     let same : q.base + (sqe_size * q.head + i) ≡ addr + i = omega arith in
@@ -244,9 +245,11 @@ module _ (mapped : ℕ → Bool) (memory other : ℕ → ℕ) (agree : (addr : �
   front_command-alike (Some addr) blocks c there =
       let entry : List ℕ = bytes_from memory addr sqe_size in
       by_test_both (AdminAlike mapped) (is_queue_full (completion_queue c 0)) _ _ _ _ (λ _. tt)
-      (λ _. subst (λ (e : List ℕ). AdminAlike mapped (stepped (admin_command mapped blocks entry (took c 0) memory) (cid_of entry)) (stepped (admin_command mapped blocks e (took c 0) other) (cid_of e)))
+      (λ _. subst (λ (e : List ℕ). AdminAlike mapped (stepped (admin_command mapped blocks entry (took c 0) memory) (cid_of entry))
+      (stepped (admin_command mapped blocks e (took c 0) other) (cid_of e)))
       (bytes_from-mapped mapped memory other agree addr sqe_size (there addr refl))
-      (stepped-alike mapped (admin_command mapped blocks entry (took c 0) memory) (admin_command mapped blocks entry (took c 0) other) (cid_of entry) (admin_command-alike mapped memory other agree blocks entry (took c 0))))
+      (stepped-alike mapped (admin_command mapped blocks entry (took c 0) memory) (admin_command mapped blocks entry (took c 0) other) (cid_of entry)
+      (admin_command-alike mapped memory other agree blocks entry (took c 0))))
 
   finish_deletion-alike : (d : Deletion) (c : Controller)
       → AdminAlike mapped (finish_deletion d c memory) (finish_deletion d c other)

@@ -105,7 +105,8 @@ module _ (mapped : ℕ → Bool) (P : SubmissionQueue → Type 0) (Q : Completio
       let completion_there = and-true (admin_completion_base c % 4096 == 0) (everywhere mapped (admin_completion_base c) (cqe_size * admin_completion_size c)) all.3 in
       record {
         submission_queues = All-set (λ o. IfSome o P) c.submission 0 _ (closed.new_submission (admin_submission_base c) (admin_submission_size c) 0 all.0 submission_there.1) order.submission_queues;
-        completion_queues = All-set (λ o. IfSome o Q) c.completion_queues 0 _ (closed.new_completion (admin_completion_base c) (admin_completion_size c) all.1 completion_there.1) order.completion_queues;
+        completion_queues = All-set (λ o. IfSome o Q) c.completion_queues 0 _
+            (closed.new_completion (admin_completion_base c) (admin_completion_size c) all.1 completion_there.1) order.completion_queues;
       })
       (λ can_not. QueuesHave-same c _ order refl refl)
 

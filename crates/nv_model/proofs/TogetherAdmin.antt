@@ -138,7 +138,8 @@ module _ (mapped : ℕ → Bool) (entry : List ℕ) (c : Controller) (memory : �
       (λ _. record { together = closes q is io; same = refl; on = on })
     where
       closes : (q : SubmissionQueue) → submission_queue c (qid entry) ≡ Some q → 0 < qid entry
-          → GoTogether (is_enabled c) c.ready (set c.submission (qid entry) (Some (record q { closing = true }))) c.completion_queues c.taken (Some (record { cid = cid_of entry; queue = qid entry }))
+          → GoTogether (is_enabled c) c.ready (set c.submission (qid entry) (Some (record q { closing = true })))
+          c.completion_queues c.taken (Some (record { cid = cid_of entry; queue = qid entry }))
       closes q is io =
           let completes = subst (λ o. IfSome o (λ (s : SubmissionQueue). IsSome (completion_queue c s.completes_to))) is (g.completes (qid entry)) in
           let was : IsSome (submission_queue c (qid entry)) = subst (λ (o : Option SubmissionQueue). IsSome o) (sym is) refl in

@@ -60,7 +60,8 @@ pub differs-zeros : (bytes : List ℕ) → differs (replicate (length bytes) 0) 
 unfolding differs
 differs-zeros [] = refl
 differs-zeros (b ∷ bytes) =
-    let turned : (0 == b) ≡ (b == 0) = grind (arith, nat_tests) in ap (λ (t : Bool). not t || differs (replicate (length bytes) 0) bytes) turned ∙ ap (λ (t : Bool). not (b == 0) || t) (differs-zeros bytes)
+    let turned : (0 == b) ≡ (b == 0) = grind (arith, nat_tests) in
+    ap (λ (t : Bool). not t || differs (replicate (length bytes) 0) bytes) turned ∙ ap (λ (t : Bool). not (b == 0) || t) (differs-zeros bytes)
 
 -- the first places of a piece and of those behind it
 take-piece : (p : Piece) (left : List Place) (k : ℕ)

@@ -189,7 +189,8 @@ pub body-read : (p : Progress) (k : Keyword) (words : List (List ℕ)) (sizes : 
     → new ≡ old ++ line ∷ []
     → after_keyword p k words ≡ Ok (record p { lines = map value_of new })
 body-read p k words sizes old new line m b set made before after =
-    let pushed : p.lines ++ value_of line ∷ [] ≡ map value_of new = sym (ap (map value_of) after ∙ map-append value_of old (line ∷ []) ∙ ap (λ (xs : List LineValue). xs ++ value_of line ∷ []) (sym before)) in
+    let pushed : p.lines ++ value_of line ∷ [] ≡ map value_of new =
+    sym (ap (map value_of) after ∙ map-append value_of old (line ∷ []) ∙ ap (λ (xs : List LineValue). xs ++ value_of line ∷ []) (sym before)) in
     after_keyword-body p k words m b
     ∙ rw (set, made) (ap (λ (xs : List LineValue). Ok (record p { lines = xs })) pushed)
 

@@ -162,7 +162,8 @@ Less-by rest whole next now start within step less same =
     ]
 
 -- one slot further
-pub Progress-step : (mapped : ℕ → Bool) (start : Cursor) (bytes : List ℕ) (those : List Piece) (now : Cursor) (rest : List ℕ) (these : List Piece) (slot : List ℕ) (value : ℕ) (more : List ℕ) (next : Cursor) (new : List Piece)
+pub Progress-step : (mapped : ℕ → Bool) (start : Cursor) (bytes : List ℕ) (those : List Piece) (now : Cursor)
+    (rest : List ℕ) (these : List Piece) (slot : List ℕ) (value : ℕ) (more : List ℕ) (next : Cursor) (new : List Piece)
     → Progress mapped start bytes those now rest these → is_asking now ≡ true → slot ≡ take 8 rest → more ≡ drop 8 rest
     → length more + 8 ≡ length rest
     → value ≡ number_at slot 0 8 → reading_from mapped next new ≡ read_slot mapped now these value → IsInRange next new

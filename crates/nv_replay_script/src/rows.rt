@@ -50,7 +50,8 @@ pub fn examples()
     // A line of `run`.
     ensures a_foreign_line { behind_set_up (codes "await 0 0 0" ∷ []) ≡ Err (Line 9 OutOfPlace) }
     // Bytes, as digits and as a number of equal ones, of a guest that there is and one that there is not.
-    ensures stores { behind_set_up (codes "store 0 0x3000 abCD" ∷ codes "fill 9 1 2 0xff" ∷ []) ≡ Ok (of_events (event.Guest 0 (act.Store 0x3000 (0xab ∷ 0xcd ∷ [])) ∷ event.Guest 9 (act.Store 1 (0xff ∷ 0xff ∷ [])) ∷ [])) }
+    ensures stores { behind_set_up (codes "store 0 0x3000 abCD" ∷ codes "fill 9 1 2 0xff" ∷ [])
+        ≡ Ok (of_events (event.Guest 0 (act.Store 0x3000 (0xab ∷ 0xcd ∷ [])) ∷ event.Guest 9 (act.Store 1 (0xff ∷ 0xff ∷ [])) ∷ [])) }
     // A doorbell's value has 32 bits.
     ensures a_doorbell { behind_set_up (codes "bell 0 0x1000 0xffffffff" ∷ []) ≡ Ok (of_events (event.Guest 0 (act.Doorbell 0x1000 0xffffffff) ∷ [])) }
     // One more has not.

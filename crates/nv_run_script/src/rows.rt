@@ -20,7 +20,11 @@ pub fn examples()
     // A map behind a guest's line.
     ensures a_late_map { behind_set_up (codes "load 0 0 4" ∷ codes "map 0 0x20000 0 4096" ∷ []) ≡ Err (Line 10 OutOfPlace) }
     // Lines of two guests, an empty one and a comment between them: each keeps its number.
-    ensures lines { behind_set_up (codes "store 1 0x3000 abCD" ∷ [] ∷ codes "# later" ∷ codes "await 0 0x1101c 0x00010002" ∷ codes "awaitreg 1 0x1c 0" ∷ []) ≡ Ok (of_lines (record { number = 9; guest = 1; task = task.Act (act.Store 0x3000 (0xab ∷ 0xcd ∷ [])) } ∷ record { number = 12; guest = 0; task = task.Await 0x1101c 0x00010002 } ∷ record { number = 13; guest = 1; task = task.AwaitReg 0x1c 0 } ∷ [])) }
+    ensures lines { behind_set_up (codes "store 1 0x3000 abCD" ∷ [] ∷ codes "# later"
+        ∷ codes "await 0 0x1101c 0x00010002" ∷ codes "awaitreg 1 0x1c 0" ∷ [])
+        ≡ Ok (of_lines (record { number = 9; guest = 1; task = task.Act (act.Store 0x3000 (0xab ∷ 0xcd ∷ [])) }
+        ∷ record { number = 12; guest = 0; task = task.Await 0x1101c 0x00010002 }
+        ∷ record { number = 13; guest = 1; task = task.AwaitReg 0x1c 0 } ∷ [])) }
     // A guest that is not set up: that is seen before the words behind its number are read.
     ensures no_such_guest { behind_set_up (codes "load 2 zz 4" ∷ []) ≡ Err (Line 9 OutOfPlace) }
     // The same of a guest that waits.

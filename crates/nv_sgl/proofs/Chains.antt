@@ -81,7 +81,8 @@ pieces_of-next dest blocks i d start now new below is so_far more =
     ∙ ap (λ (ds : List (List ℕ)). start ++ pieces_of dest ds) (ap (λ (e : List ℕ). take i blocks ++ e ∷ []) is ∙ sym (take_more blocks i d below))
 
 -- the newest array goes on, in the names of the code
-pub ExtendsChain-more_at : (mapped : ℕ → Bool) (dest : Bool) (from : Cursor) (bytes : List ℕ) (array : List (List ℕ)) (older old : List (List (List ℕ))) (to : Cursor) (these : List (List ℕ))
+pub ExtendsChain-more_at : (mapped : ℕ → Bool) (dest : Bool) (from : Cursor) (bytes : List ℕ) (array : List (List ℕ))
+    (older old : List (List (List ℕ))) (to : Cursor) (these : List (List ℕ))
     → array ∷ older ≡ old → begins_array old ≡ false → ReadsPart mapped dest from bytes array to these
     → ExtendsChain mapped dest from bytes old to (these ∷ older)
 ExtendsChain-more_at mapped dest from bytes array older old to these is more reads =

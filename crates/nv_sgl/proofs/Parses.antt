@@ -105,7 +105,8 @@ wanted_by : (mapped : ℕ → Bool) (dest : Bool) (fault : Option StatusCode) (b
 unfolding and_then read_array
 wanted_by mapped dest (Some code) budget left from by_last pieces need addr len wanted = absurd (cc)
 wanted_by mapped dest None budget zero from by_last pieces need addr len wanted =
-    absurd ((elim (total_len pieces == need) as (λ b. want_of (End (if b then Spells pieces else Faulty SglLengthInvalid)) ≡ want.Read addr len → ⊥) [ true ↦ λ e. cc | false ↦ λ e. cc ]) wanted)
+    absurd ((elim (total_len pieces == need) as (λ b. want_of (End (if b then Spells pieces else Faulty SglLengthInvalid)) ≡ want.Read addr len → ⊥)
+    [ true ↦ λ e. cc | false ↦ λ e. cc ]) wanted)
 wanted_by mapped dest None zero (suc left) from by_last pieces need addr len wanted = absurd (cc)
 wanted_by mapped dest None (suc budget) (suc left) from by_last pieces need addr len wanted =
     let is : part (16 * suc left) ≡ len = cc in
@@ -129,7 +130,9 @@ done_by : (mapped : ℕ → Bool) (dest : Bool) (fault : Option StatusCode) (bud
 unfolding and_then read_array
 done_by mapped dest (Some code) budget left from by_last pieces need done = absurd (cc)
 done_by mapped dest None budget zero from by_last pieces need done =
-    (elim (total_len pieces == need) as (λ b. want_of (End (if b then Spells pieces else Faulty SglLengthInvalid)) ≡ want.Done → End (if b then Spells pieces else Faulty SglLengthInvalid) ≡ End (Spells pieces)) [ true ↦ λ e. refl | false ↦ λ e. absurd (cc) ]) done
+    (elim (total_len pieces == need) as (λ b. want_of (End (if b then Spells pieces else Faulty SglLengthInvalid)) ≡ want.Done
+    → End (if b then Spells pieces else Faulty SglLengthInvalid) ≡ End (Spells pieces))
+    [ true ↦ λ e. refl | false ↦ λ e. absurd (cc) ]) done
 done_by mapped dest None zero (suc left) from by_last pieces need done = absurd (cc)
 done_by mapped dest None (suc budget) (suc left) from by_last pieces need done = absurd (cc)
 

@@ -32,7 +32,8 @@ unless_faulty-same None g x y same alike =
 -- what is read behind a descriptor
 pub reading_from-behind : (mapped : ℕ → Bool) (dest : Bool) (rest : Cursor) (d : List ℕ) (to : Cursor) (before : List Piece)
     → StandsBehind mapped dest rest d to
-    → reading_from mapped dest to (before ++ pieces_by (kind_of d) dest d) ≡ read_descriptor mapped dest (array_at rest) before (λ a ps. read_array mapped dest rest.budget a.left a.from a.by_last ps) d
+    → reading_from mapped dest to (before ++ pieces_by (kind_of d) dest d)
+    ≡ read_descriptor mapped dest (array_at rest) before (λ a ps. read_array mapped dest rest.budget a.left a.from a.by_last ps) d
 unfolding reading_from
 reading_from-behind mapped dest rest d to before behind =
     unless_faulty-same to.fault (fault_by (kind_of d) mapped (array_at rest) d) _ _ behind.fault (λ sound.
@@ -41,13 +42,18 @@ reading_from-behind mapped dest rest d to before behind =
 
 -- an array with descriptors left asks for the next one
 read_array-fed : (mapped : ℕ → Bool) (dest : Bool) (budget left from : ℕ) (by_last : Bool) (before : List Piece) (byte : ℕ) (bytes : List ℕ)
-    → fed (read_array mapped dest (suc budget) (suc left) from by_last before) (byte ∷ bytes) ≡ fed (read_descriptor mapped dest (record { from = from + 16; left = left; by_last = by_last }) before (λ a ps. read_array mapped dest budget a.left a.from a.by_last ps) (take 16 (byte ∷ bytes))) (drop 16 (byte ∷ bytes))
+    → fed (read_array mapped dest (suc budget) (suc left) from by_last before) (byte ∷ bytes)
+    ≡ fed (read_descriptor mapped dest (record { from = from + 16; left = left; by_last = by_last }) before
+    (λ a ps. read_array mapped dest budget a.left a.from a.by_last ps) (take 16 (byte ∷ bytes))) (drop 16 (byte ∷ bytes))
 unfolding fed read_array
 read_array-fed mapped dest budget left from by_last before byte bytes = refl
 
 -- and takes it
 read_array-taken : (mapped : ℕ → Bool) (dest : Bool) (budget left from : ℕ) (by_last : Bool) (before : List Piece) (byte : ℕ) (bytes : List ℕ)
-    → units_fed (read_array mapped dest (suc budget) (suc left) from by_last before) (byte ∷ bytes) ≡ take 16 (byte ∷ bytes) ∷ units_fed (read_descriptor mapped dest (record { from = from + 16; left = left; by_last = by_last }) before (λ a ps. read_array mapped dest budget a.left a.from a.by_last ps) (take 16 (byte ∷ bytes))) (drop 16 (byte ∷ bytes))
+    → units_fed (read_array mapped dest (suc budget) (suc left) from by_last before) (byte ∷ bytes)
+    ≡ take 16 (byte ∷ bytes)
+    ∷ units_fed (read_descriptor mapped dest (record { from = from + 16; left = left; by_last = by_last }) before
+    (λ a ps. read_array mapped dest budget a.left a.from a.by_last ps) (take 16 (byte ∷ bytes))) (drop 16 (byte ∷ bytes))
 unfolding units_fed read_array
 read_array-taken mapped dest budget left from by_last before byte bytes = refl
 
@@ -55,7 +61,8 @@ read_array-taken mapped dest budget left from by_last before byte bytes = refl
 reading_from-fed : (mapped : ℕ → Bool) (dest : Bool) (now next : Cursor) (before : List Piece) (byte : ℕ) (bytes : List ℕ)
     → now.fault ≡ None → now.left ≡ suc (now.left - 1) → now.budget ≡ suc (now.budget - 1)
     → StandsBehind mapped dest (past now) (take 16 (byte ∷ bytes)) next
-    → fed (reading_from mapped dest now before) (byte ∷ bytes) ≡ fed (reading_from mapped dest next (before ++ pieces_by (kind_of (take 16 (byte ∷ bytes))) dest (take 16 (byte ∷ bytes)))) (drop 16 (byte ∷ bytes))
+    → fed (reading_from mapped dest now before) (byte ∷ bytes)
+    ≡ fed (reading_from mapped dest next (before ++ pieces_by (kind_of (take 16 (byte ∷ bytes))) dest (take 16 (byte ∷ bytes)))) (drop 16 (byte ∷ bytes))
 unfolding reading_from
 reading_from-fed mapped dest now next before byte bytes sound left budget behind =
     rw (sound, left, budget)
@@ -65,12 +72,16 @@ reading_from-fed mapped dest now next before byte bytes sound left budget behind
 reading_from-taken : (mapped : ℕ → Bool) (dest : Bool) (now next : Cursor) (before : List Piece) (byte : ℕ) (bytes : List ℕ)
     → now.fault ≡ None → now.left ≡ suc (now.left - 1) → now.budget ≡ suc (now.budget - 1)
     → StandsBehind mapped dest (past now) (take 16 (byte ∷ bytes)) next
-    → units_fed (reading_from mapped dest now before) (byte ∷ bytes) ≡ take 16 (byte ∷ bytes) ∷ units_fed (reading_from mapped dest next (before ++ pieces_by (kind_of (take 16 (byte ∷ bytes))) dest (take 16 (byte ∷ bytes)))) (drop 16 (byte ∷ bytes))
+    → units_fed (reading_from mapped dest now before) (byte ∷ bytes)
+    ≡ take 16 (byte ∷ bytes)
+    ∷ units_fed (reading_from mapped dest next (before ++ pieces_by (kind_of (take 16 (byte ∷ bytes))) dest (take 16 (byte ∷ bytes))))
+    (drop 16 (byte ∷ bytes))
 unfolding reading_from
 reading_from-taken mapped dest now next before byte bytes sound left budget behind =
     rw (sound, left, budget)
     (read_array-taken mapped dest (now.budget - 1) (now.left - 1) now.from now.by_last before byte bytes
-    ∙ ap (λ (d : Dialogue Reading). take 16 (byte ∷ bytes) ∷ units_fed d (drop 16 (byte ∷ bytes))) (sym (reading_from-behind mapped dest (past now) (take 16 (byte ∷ bytes)) next before behind)))
+    ∙ ap (λ (d : Dialogue Reading). take 16 (byte ∷ bytes) ∷ units_fed d (drop 16 (byte ∷ bytes)))
+    (sym (reading_from-behind mapped dest (past now) (take 16 (byte ∷ bytes)) next before behind)))
 
 -- nothing is asked: it has ended
 pub record HasEnded (d : Dialogue Reading) (bytes : List ℕ) : Type 0 where
@@ -180,7 +191,8 @@ none_left mapped dest now [] before whole few =
 none_left mapped dest now (byte ∷ rest) before whole few = absurd (omega arith)
 
 -- one descriptor further, in the names of the code
-pub Progress-next : (mapped : ℕ → Bool) (dest : Bool) (start : Cursor) (bytes : List ℕ) (those : List (List ℕ)) (now : Cursor) (rest : List ℕ) (these : List (List ℕ)) (skipped next : Cursor) (d more : List ℕ) (news : List (List ℕ))
+pub Progress-next : (mapped : ℕ → Bool) (dest : Bool) (start : Cursor) (bytes : List ℕ) (those : List (List ℕ)) (now : Cursor)
+    (rest : List ℕ) (these : List (List ℕ)) (skipped next : Cursor) (d more : List ℕ) (news : List (List ℕ))
     → Progress mapped dest start bytes those now rest these → is_asking now ≡ true → 16 ≤ length rest
     → skipped ≡ past now → d ≡ take 16 rest → more ≡ drop 16 rest → news ≡ these ++ d ∷ []
     → StandsBehind mapped dest skipped d next → IsInRange next → Progress mapped dest start bytes those next more news
@@ -225,7 +237,8 @@ NamesSoFar-step mapped dest start bytes those now (byte ∷ rest) these next so_
     }
 
 -- the same in the names of the code
-pub NamesSoFar-next : (mapped : ℕ → Bool) (dest : Bool) (start : Cursor) (bytes : List ℕ) (those : List Piece) (now : Cursor) (rest : List ℕ) (these : List Piece) (skipped next : Cursor) (d more : List ℕ) (news : List Piece)
+pub NamesSoFar-next : (mapped : ℕ → Bool) (dest : Bool) (start : Cursor) (bytes : List ℕ) (those : List Piece) (now : Cursor)
+    (rest : List ℕ) (these : List Piece) (skipped next : Cursor) (d more : List ℕ) (news : List Piece)
     → NamesSoFar mapped dest start bytes those now rest these → is_asking now ≡ true → 16 ≤ length rest
     → skipped ≡ past now → d ≡ take 16 rest → more ≡ drop 16 rest → news ≡ these ++ pieces_by (kind_of d) dest d
     → StandsBehind mapped dest skipped d next → IsInRange next → NamesSoFar mapped dest start bytes those next more news

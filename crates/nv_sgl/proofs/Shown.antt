@@ -40,7 +40,9 @@ segment-last mapped rest d none =
 KeepsEnd-behind : (m : ℕ → ℕ) (mapped : ℕ → Bool) (dest : Bool) (kind : Option DescriptorType) (budget n : ℕ) (rest : Array) (pieces : List Piece) (d : List ℕ)
     → n ≤ rest.left
     → ((ps : List Piece) → KeepsEnd m (read_array mapped dest budget rest.left rest.from rest.by_last ps) (bytes_from m rest.from (16 * n)))
-    → KeepsEnd m (unless_faulty (fault_by kind mapped rest d) (let a : Array = array_by kind rest d in read_array mapped dest budget a.left a.from a.by_last (pieces ++ pieces_by kind dest d))) (bytes_from m rest.from (16 * n))
+    → KeepsEnd m (unless_faulty (fault_by kind mapped rest d)
+    (let a : Array = array_by kind rest d in read_array mapped dest budget a.left a.from a.by_last (pieces ++ pieces_by kind dest d)))
+    (bytes_from m rest.from (16 * n))
 unfolding fed
 KeepsEnd-behind m mapped dest None budget n rest pieces d within keeps = record { same = refl }
 KeepsEnd-behind m mapped dest (Some DataBlock) budget n rest pieces d within keeps =

@@ -28,7 +28,8 @@ pub fn examples()
     ensures number_of_queues_asked_for_early { after (done_first (admin_entry 0x09 3 0 0 0 7 0x00030003)) start (λ p. dword_in 0x11000 p ∷ dword_in 0x1100c p ∷ [])
         ≡ Some (0x00070007 ∷ 0x00010003 ∷ []) }
     // An I/O completion queue alone makes it late, whichever it is.
-    ensures number_of_queues_asked_for_behind_a_completion_queue { after (done_first (new_completion_queue 2 1 1 0x14000) ++ store 0x10040 (admin_entry 0x09 3 0 0 0 7 0x00030003) ∷ ring 0x1000 2 ∷ AdminQueueStep ∷ [])
+    ensures number_of_queues_asked_for_behind_a_completion_queue { after (done_first (new_completion_queue 2 1 1 0x14000)
+        ++ store 0x10040 (admin_entry 0x09 3 0 0 0 7 0x00030003) ∷ ring 0x1000 2 ∷ AdminQueueStep ∷ [])
         start (λ p. dword_in 0x1100c p ∷ dword_in 0x1101c p ∷ [])
         ≡ Some (0x00010003 ∷ 0x80190003 ∷ []) }
     // Queues that were deleted do not count, and a completion queue goes once no submission queue uses it.

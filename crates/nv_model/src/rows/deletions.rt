@@ -29,5 +29,6 @@ pub fn examples()
     ensures nothing_is_taken_from_a_closing_queue { can_run (bring_up ++ store 0x13000 (first_example ++ first_example) ∷ ring 0x1008 2 ∷ TakeStep 1 0
         ∷ store 0x10080 delete_submission_queue ∷ ring 0x1000 3 ∷ AdminQueueStep ∷ TakeStep 1 1 ∷ []) at_start ≡ false }
     // The same entry is taken where no deletion was asked for.
-    ensures the_same_entry_is_taken_from_an_open_queue { can_run (bring_up ++ store 0x13000 (first_example ++ first_example) ∷ ring 0x1008 2 ∷ TakeStep 1 0 ∷ TakeStep 1 1 ∷ []) at_start ≡ true }
+    ensures the_same_entry_is_taken_from_an_open_queue { can_run (bring_up ++ store 0x13000 (first_example ++ first_example)
+        ∷ ring 0x1008 2 ∷ TakeStep 1 0 ∷ TakeStep 1 1 ∷ []) at_start ≡ true }
 {}

@@ -20,9 +20,11 @@ pub fn examples()
     ensures a_load_meets_the_destination { map (λ at. loads_from_destination read_and_write_named (bytes_loaded 1 at)) (0x3000 ∷ 0x31ff ∷ 0x2fff ∷ 0x3200 ∷ 0x13000 ∷ 0x5000 ∷ [])
         ≡ true ∷ true ∷ false ∷ false ∷ false ∷ false ∷ [] }
     // By its bytes, too.
-    ensures a_load_meets_by_its_bytes { loads_from_destination read_and_write_named (bytes_loaded 2 0x2fff) ∷ loads_from_destination read_and_write_named (bytes_loaded 0 0x3100) ∷ [] ≡ true ∷ false ∷ [] }
+    ensures a_load_meets_by_its_bytes { loads_from_destination read_and_write_named (bytes_loaded 2 0x2fff)
+        ∷ loads_from_destination read_and_write_named (bytes_loaded 0 0x3100) ∷ [] ≡ true ∷ false ∷ [] }
     // A load stores nothing, and a store loads nothing.
-    ensures other_acts_meet_none { stores_into read_and_write_named (bytes_loaded 512 0x3000) ∷ loads_from_destination read_and_write_named (zeros_stored 512 0x3000) ∷ [] ≡ false ∷ false ∷ [] }
+    ensures other_acts_meet_none { stores_into read_and_write_named (bytes_loaded 512 0x3000)
+        ∷ loads_from_destination read_and_write_named (zeros_stored 512 0x3000) ∷ [] ≡ false ∷ false ∷ [] }
     // Behind the bring-up, the 32 slots of the admin completion queue and the 16 of completion queue 1.
     ensures the_slots_of_each_completion_queue { after bring_up start (λ p. completion_slots p.controller) ≡ Some ((0x11000, 512) ∷ (0x12000, 256) ∷ []) }
     // Before it there are none.

@@ -28,7 +28,8 @@ pub fn examples()
         ≡ Some (
         reply.Done ∷ reply.Bytes (0xff ∷ 0xff ∷ 0xff ∷ 0xff ∷ []) ∷ reply.Done ∷ reply.Bytes (0x78 ∷ 0x56 ∷ 0x34 ∷ 0x12 ∷ []) ∷ []) }
     // They are not written while EN is 1.
-    ensures the_admin_queue_registers_are_fixed_while_enabled { replied_to (enable ++ write_register 0x24 0 ∷ write_register 0x28 0 ∷ write_register 0x2c 0 ∷ write_register 0x30 0 ∷ write_register 0x34 0
+    ensures the_admin_queue_registers_are_fixed_while_enabled { replied_to (enable ++ write_register 0x24 0 ∷ write_register 0x28 0
+        ∷ write_register 0x2c 0 ∷ write_register 0x30 0 ∷ write_register 0x34 0
         ∷ read_register 0x24 ∷ read_register 0x1c ∷ []) start
         ≡ Some (
         replicate 4 reply.Done ++ replicate 5 reply.Ignored
@@ -58,7 +59,8 @@ pub fn examples()
     ensures doorbells_that_are_not_there { replied_to (bring_up ++ ring 0x1010 0 ∷ ring 0x1014 0 ∷ ring 0x100a 0 ∷ ring 0x0ff8 0 ∷ ring 0x1048 0 ∷ ring 0x104c 0 ∷ []) start
         ≡ Some (replicate 7 reply.Done ++ replicate 6 reply.Ignored) }
     // A completion head is taken up to the tail; the low 16 bits count; what was freed is not freed again.
-    ensures a_completion_head_goes_up_to_the_tail { replied_to (first_posted ++ ring 0x1008 16 ∷ ring 0x1014 0 ∷ ring 0x100c 2 ∷ ring 0x100c 0x10001 ∷ ring 0x100c 0 ∷ ring 0x100c 1 ∷ []) at_start
+    ensures a_completion_head_goes_up_to_the_tail { replied_to (first_posted ++ ring 0x1008 16 ∷ ring 0x1014 0 ∷ ring 0x100c 2
+        ∷ ring 0x100c 0x10001 ∷ ring 0x100c 0 ∷ ring 0x100c 1 ∷ []) at_start
         ≡ Some (replicate 9 reply.Done ++ reply.Ignored ∷ reply.Ignored ∷ reply.Ignored ∷ reply.Done ∷ reply.Ignored ∷ reply.Done ∷ []) }
     // A store or load that leaves the memory changes and gives nothing; no bytes are at any address.
     ensures acts_outside_the_memory { replied_to (store 0x1ffff (7 ∷ 7 ∷ []) ∷ load 0x1ffff 1 ∷ load 0x1ffff 2 ∷ load 0xffffffffffffffff 0 ∷ store 0xffffffffffffffff [] ∷ []) start

@@ -19,7 +19,8 @@ pub fn examples()
     ensures the_read_that_is_wanted_settles_the_verdict { outcome_in (by_sgl read 5 1 (last_segment 0x6000 32)) (read_of 0x6000 (data_block 0x3e00 512 ++ data_block 0x5000 512) ∷ [])
         ≡ Settled (reads (Run 0x3e00 512 ∷ Run 0x5000 512 ∷ []) (MoveBlock 0 5 ∷ MoveBlock 1 6 ∷ [])) }
     // A read before it that is not wanted is skipped.
-    ensures a_read_that_is_not_wanted_is_skipped { outcome_in (by_sgl read 5 1 (last_segment 0x6000 32)) (read_of 0x5000 (replicate 16 0xff) ∷ read_of 0x6000 (data_block 0x3e00 512 ++ data_block 0x5000 512) ∷ [])
+    ensures a_read_that_is_not_wanted_is_skipped { outcome_in (by_sgl read 5 1 (last_segment 0x6000 32))
+        (read_of 0x5000 (replicate 16 0xff) ∷ read_of 0x6000 (data_block 0x3e00 512 ++ data_block 0x5000 512) ∷ [])
         ≡ Settled (reads (Run 0x3e00 512 ∷ Run 0x5000 512 ∷ []) (MoveBlock 0 5 ∷ MoveBlock 1 6 ∷ [])) }
     // The first read of an array counts, and a later one of the same bytes is not looked at.
     ensures the_first_read_of_an_array_counts { outcome_in (by_sgl read 5 1 (last_segment 0x6000 32))
@@ -56,7 +57,8 @@ pub fn examples()
     // Where some slots to the end of the page are entries and the last points on, they are one want.
     ensures the_entries_and_the_pointer_of_a_page_are_one_want { outcome_in (by_prp read 0 31 0x3000 0x6ff0) [] ≡ Wanted 0x6ff0 16 }
     // And behind them the next page's slots.
-    ensures the_next_page_is_wanted_behind_the_entries_and_the_pointer { outcome_in (by_prp read 0 31 0x3000 0x6ff0) (read_of 0x6ff0 (prp_entries (0x8000 ∷ 0x7000 ∷ [])) ∷ []) ≡ Wanted 0x7000 16 }
+    ensures the_next_page_is_wanted_behind_the_entries_and_the_pointer { outcome_in (by_prp read 0 31 0x3000 0x6ff0)
+        (read_of 0x6ff0 (prp_entries (0x8000 ∷ 0x7000 ∷ [])) ∷ []) ≡ Wanted 0x7000 16 }
     // The ranges of Dataset Management are wanted run by run.
     ensures the_ranges_are_wanted { outcome_in (manage true 1 (data_block 0x3000 32)) [] ≡ Wanted 0x3000 32 }
     // And settle the verdict.

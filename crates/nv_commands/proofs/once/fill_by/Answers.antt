@@ -19,7 +19,8 @@ loop-done-preserved g c =
     ∙ ap (λ bytes. flat (after_store before.memory (c.args.addr + done) bytes) before.disk before.kept) part
     in
     let behind : c.args.addr + length (replicate done byte) ≡ c.args.addr + done = ap (λ n. c.args.addr + n) (length-replicate done byte) in
-    let whole : after_store (after_store old.memory c.args.addr (replicate done byte)) (c.args.addr + done) (replicate count byte) ≡ after_store old.memory c.args.addr (replicate (done + count) byte) =
+    let whole : after_store (after_store old.memory c.args.addr (replicate done byte)) (c.args.addr + done) (replicate count byte)
+    ≡ after_store old.memory c.args.addr (replicate (done + count) byte) =
     ap (λ at. after_store (after_store old.memory c.args.addr (replicate done byte)) at (replicate count byte)) (sym behind)
     ∙ after_store-append old.memory (replicate done byte) (replicate count byte) c.args.addr (simp length-replicate (omega arith))
     ∙ ap (after_store old.memory c.args.addr) (replicate-append-replicate done count byte)

@@ -27,7 +27,9 @@ read_list-requires-clause-there c =
     rw n there
 
 pub returns-in-0-clause-read : goal.returns-in-0-clause-read
-returns-in-0-clause-read c = behind-none c.args.host.now (pages_of c.args.bytes) c.args.prp2 c.args.bytes c.args.places.now (let n = c.pages_of-pages.ensures.value in let is = c.in-0.is in omega arith)
+returns-in-0-clause-read c =
+    behind-none c.args.host.now (pages_of c.args.bytes) c.args.prp2 c.args.bytes c.args.places.now
+    (let n = c.pages_of-pages.ensures.value in let is = c.in-0.is in omega arith)
 
 pub returns-in-1-clause-read : goal.returns-in-1-clause-read
 returns-in-1-clause-read c =

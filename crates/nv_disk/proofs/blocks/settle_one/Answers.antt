@@ -53,7 +53,8 @@ returns-clause-stored c =
     let next : c.len-next.result ≡ length c.args.stored.now.items = c.len-next.ensures ∙ size in
     let W : ℕ → Type 0 = λ n. IsStored n (set (places_of c.args.entries.now.items) c.args.block (length c.args.stored.now.items + 1)) (c.args.stored.now.items ++ replicate 512 0 ∷ []) in
     let X : List ℕ → Type 0 = λ ps. IsStored (vec_capacity c.push_reserved.new.self) ps (c.args.stored.now.items ++ replicate 512 0 ∷ []) in
-    let Y : ℕ → Type 0 = λ n. IsStored (vec_capacity c.push_reserved.new.self) (places_of (set c.args.entries.now.items c.args.block (2 * (n + 1) + 1))) (c.args.stored.now.items ++ replicate 512 0 ∷ []) in
+    let Y : ℕ → Type 0 = λ n. IsStored (vec_capacity c.push_reserved.new.self)
+    (places_of (set c.args.entries.now.items c.args.block (2 * (n + 1) + 1))) (c.args.stored.now.items ++ replicate 512 0 ∷ []) in
     let Z : List (List ℕ) → Type 0 = λ xs. IsStored (vec_capacity c.push_reserved.new.self) (places_of (set c.args.entries.now.items c.args.block (2 * (c.len-next.result + 1) + 1))) xs in
     subst Z (sym c.push_reserved.ensures.items)
     (subst Y (sym next)

@@ -8,7 +8,8 @@ pub loop-lba-preserved : goal.loop-lba-preserved
 loop-lba-preserved c =
     let size = c.loop-lba.invariant.size in
     record {
-      marks = raised-set c.args.start c.args.count c.loop-lba.lba c.loop-lba.kept _ c.loop-lba-test.true (let within = c.requires in let below = c.loop-lba-test.true in omega arith) c.loop-lba.invariant.marks;
+      marks = raised-set c.args.start c.args.count c.loop-lba.lba c.loop-lba.kept _ c.loop-lba-test.true
+          (let within = c.requires in let below = c.loop-lba-test.true in omega arith) c.loop-lba.invariant.marks;
       size = length-set c.loop-lba.kept c.loop-lba.lba true ∙ size;
     }
 

@@ -20,7 +20,9 @@ invariant_of-self c =
     lane-seen c.args.self.now _ c.args.lane c.from-2.result c.index_mut.result.now c.self.view_is c.from-2.ensures c.requires.lane c.index_mut.ensures.value in
     let there : slice_index_or c.index_mut.result.now.held c.args.slot None ≡ Some c.in-Some.command.now =
     ap (λ (d : DeviceLane). slice_index_or d.held c.args.slot None) (lane ∙ sym ring) ∙ c.in-Some.ensures in
-    let M : Option Held → Type 0 = λ o. MatchOption o ⊥ (λ h. c.unit_done.new.self ≡ with_held c.args.slot (Some (unit_gone c.args.number c.move_one-differed.result h)) c.index_mut.result.now) in
+    let M : Option Held → Type 0 =
+    λ o. MatchOption o ⊥ (λ h. c.unit_done.new.self
+    ≡ with_held c.args.slot (Some (unit_gone c.args.number c.move_one-differed.result h)) c.index_mut.result.now) in
     moved-whole c.self.inside.mediator c.self.inside.disk _ c.self.inside.kept _ c.self.inside.lanes.items c.from-2.result c.args.slot c.args.number
     c.index_mut.result.now c.unit_done.new.self c.in-Some.command.now c.move_one-differed.result c.self.invariant
     c.move_one-differed.ensures.disk_size c.move_one-differed.ensures.marks_size
@@ -41,7 +43,9 @@ returns-clause-done c = λ done.
     c.move_one-differed.ensures.moved in
     let L : Physical → Type 0 = λ p. c.args.lane < length p.lanes in
     let within : c.args.lane < length c.self.inside.lanes.items = subst L (sym c.self.view_is) c.requires.lane in
-    let M : Option Held → Type 0 = λ o. MatchOption o ⊥ (λ h. c.unit_done.new.self ≡ with_held c.args.slot (Some (unit_gone c.args.number c.move_one-differed.result h)) c.index_mut.result.now) in
+    let M : Option Held → Type 0 =
+    λ o. MatchOption o ⊥ (λ h. c.unit_done.new.self
+    ≡ with_held c.args.slot (Some (unit_gone c.args.number c.move_one-differed.result h)) c.index_mut.result.now) in
     let before : Physical = record { mediator = c.self.inside.mediator; disk = c.self.inside.disk; kept = c.self.inside.kept; lanes = c.self.inside.lanes.items } in
     let behind : Physical = record {
       mediator = c.self.inside.mediator;

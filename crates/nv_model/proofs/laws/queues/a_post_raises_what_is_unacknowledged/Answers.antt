@@ -15,7 +15,9 @@ returns-clause-behind c was y dw0 cid st q cq r from to posts =
 
 pub returns-clause-one_more : goal.returns-clause-one_more
 returns-clause-one_more c was y dw0 cid st q cq r order from to posts =
-    ahead-next cq.size cq.head cq.tail (completion_queue-has (λ _. true) IsSubmissionInOrder IsCompletionInOrder (IsKept-in_order (λ _. true)) was q.completes_to cq order to) (post-posts was y dw0 cid st q cq r from to posts).had_room
+    ahead-next cq.size cq.head cq.tail
+    (completion_queue-has (λ _. true) IsSubmissionInOrder IsCompletionInOrder (IsKept-in_order (λ _. true)) was q.completes_to cq order to)
+    (post-posts was y dw0 cid st q cq r from to posts).had_room
 
 pub returns-clause-still_room : goal.returns-clause-still_room
 returns-clause-still_room c was y dw0 cid st q cq r order from to posts =

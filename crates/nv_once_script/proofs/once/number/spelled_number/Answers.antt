@@ -30,7 +30,8 @@ returns-in_err-checked_mul c =
     let i = c.loop-digit.digit-index in
     let large = large-product c.loop-digit.value c.args.base c.from-in-loop-digit.result c.in_ok-digit.digit c.from-in-loop-digit.ensures c.in_err-checked_mul.ensures in
     c.from_residual-in_err-checked_mul.ensures
-    ∙ sym (spelled_after-read_large c.args.base c.loop-digit.value c.from.result (get_or digits i 0) c.in_ok-digit.digit (drop (i + 1) digits) (omega arith) c.from.ensures c.in_ok-digit.ensures.value large)
+    ∙ sym (spelled_after-read_large c.args.base c.loop-digit.value c.from.result (get_or digits i 0) c.in_ok-digit.digit
+    (drop (i + 1) digits) (omega arith) c.from.ensures c.in_ok-digit.ensures.value large)
     ∙ ap (spelled_after c.args.base c.loop-digit.value) (sym (drop_more digits i 0 c.loop-digit-test.true))
     ∙ c.loop-digit.invariant.1
 
@@ -41,7 +42,8 @@ returns-in_err-value c =
     let large = large-sum c.loop-digit.value c.args.base c.from-in-loop-digit.result c.in_ok-checked_mul.field-0 c.in_ok-digit.digit c.from-in-loop-digit-2.result
     c.from-in-loop-digit.ensures c.in_ok-checked_mul.ensures.1 c.from-in-loop-digit-2.ensures c.in_err-value.ensures in
     c.from_residual-in_err-value.ensures
-    ∙ sym (spelled_after-read_large c.args.base c.loop-digit.value c.from.result (get_or digits i 0) c.in_ok-digit.digit (drop (i + 1) digits) (omega arith) c.from.ensures c.in_ok-digit.ensures.value large)
+    ∙ sym (spelled_after-read_large c.args.base c.loop-digit.value c.from.result (get_or digits i 0) c.in_ok-digit.digit
+    (drop (i + 1) digits) (omega arith) c.from.ensures c.in_ok-digit.ensures.value large)
     ∙ ap (spelled_after c.args.base c.loop-digit.value) (sym (drop_more digits i 0 c.loop-digit-test.true))
     ∙ c.loop-digit.invariant.1
 
@@ -52,7 +54,8 @@ loop-digit-preserved c =
     let made = sum-is c.loop-digit.value c.args.base c.from-in-loop-digit.result c.in_ok-checked_mul.field-0 c.in_ok-digit.digit c.from-in-loop-digit-2.result c.in_ok-value.value
     c.from-in-loop-digit.ensures c.in_ok-checked_mul.ensures.1 c.from-in-loop-digit-2.ensures c.in_ok-value.ensures.1 in (
       omega (arith, c.in_ok-value.ensures),
-      sym (spelled_after-read c.args.base c.loop-digit.value c.from.result (get_or digits i 0) c.in_ok-digit.digit c.in_ok-value.value (drop (i + 1) digits) c.from.ensures c.in_ok-digit.ensures.value made)
+      sym (spelled_after-read c.args.base c.loop-digit.value c.from.result (get_or digits i 0) c.in_ok-digit.digit c.in_ok-value.value
+          (drop (i + 1) digits) c.from.ensures c.in_ok-digit.ensures.value made)
           ∙ ap (spelled_after c.args.base c.loop-digit.value) (sym (drop_more digits i 0 c.loop-digit-test.true))
           ∙ c.loop-digit.invariant.1,
     )

@@ -6,7 +6,9 @@ use Rattle.nv_sgl.proofs.parse.SglParse.with_limit.Goals as goal
 pub invariant_of-result : goal.invariant_of-result
 invariant_of-result g c = record {
   in_range = c.look_at.ensures.in_range;
-  total = let none = ap (λ (s : Cursor). s.total) c.at_own-cursor.ensures in let more = c.look_at.ensures.behind.total in let own = total_len-own c.args.dest c.args.first c.in_ok-own.field-0 c.in_ok-own.ensures in omega arith;
+  total = let none = ap (λ (s : Cursor). s.total) c.at_own-cursor.ensures in
+      let more = c.look_at.ensures.behind.total in
+      let own = total_len-own c.args.dest c.args.first c.in_ok-own.field-0 c.in_ok-own.ensures in omega arith;
 }
 
 pub returns-clause-dialogue : goal.returns-clause-dialogue

@@ -28,13 +28,15 @@ returns-then-is_some-2 c =
 
 pub returns-in_err-blocks-in-Blocks : goal.returns-in_err-blocks-in-Blocks
 returns-in_err-blocks-in-Blocks c =
-    let after = blocks-new (progress c.args.self.now) c.args.keyword c.args.words _ _ _ c.in-Blocks.is c.requires c.next_word-in-Blocks.ensures (sym c.is_some-in-Blocks.ensures ∙ c.if-is_some-2.false) c.blocks-in-Blocks.ensures in
+    let after = blocks-new (progress c.args.self.now) c.args.keyword c.args.words _ _ _ c.in-Blocks.is c.requires
+    c.next_word-in-Blocks.ensures (sym c.is_some-in-Blocks.ensures ∙ c.if-is_some-2.false) c.blocks-in-Blocks.ensures in
     let p = err_from_is_err_and c.from_residual-in_err-blocks-in-Blocks.result c.from_residual-in_err-blocks-in-Blocks.ensures.1 in
     rw (p.1, p.2) (after ∙ rw c.in_err-blocks-in-Blocks.was refl)
 
 pub returns-in_ok-blocks-in-Blocks : goal.returns-in_ok-blocks-in-Blocks
 returns-in_ok-blocks-in-Blocks c =
-    let after = blocks-new (progress c.args.self.now) c.args.keyword c.args.words _ _ _ c.in-Blocks.is c.requires c.next_word-in-Blocks.ensures (sym c.is_some-in-Blocks.ensures ∙ c.if-is_some-2.false) c.blocks-in-Blocks.ensures in
+    let after = blocks-new (progress c.args.self.now) c.args.keyword c.args.words _ _ _ c.in-Blocks.is c.requires
+    c.next_word-in-Blocks.ensures (sym c.is_some-in-Blocks.ensures ∙ c.if-is_some-2.false) c.blocks-in-Blocks.ensures in
     after ∙ rw c.in_ok-blocks-in-Blocks.was refl
 
 pub returns-in_err-sizes-in_default : goal.returns-in_err-sizes-in_default
