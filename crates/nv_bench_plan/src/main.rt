@@ -4,6 +4,8 @@
 //! Last Segment of 1,023 Data Blocks, `ranges` a Dataset Management of 256 ranges, `pages` a Read of 24 blocks whose list of region
 //! pages chains. For each line it prints how many of them were planned. With `jobs` before the kind no plan is made: so the job alone,
 //! which is made anew each time, is measured.
+//!
+//! It is proved to be safe and to end. What it prints is not proved.
 #![tactic(auto)]
 
 mod commands;

@@ -5,6 +5,9 @@
 //! list names their places, without gaps. A Bit Bucket (Base Specification 2.0, "SGL Bit Bucket descriptor") discards its bytes of
 //! the slot, and an address that is named twice keeps the last byte meant for it.
 //!
+//! [`load`] and [`store`] read and write a guest's memory at its own addresses, by the runs in which it lies in the host. A store changes no
+//! byte of the host but those that it names.
+//!
 //! [`laws`] states what the copies come to: a gather changes nothing for the guest, a scatter nothing for anyone else, and what was
 //! gathered can be scattered back.
 //!

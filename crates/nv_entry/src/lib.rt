@@ -4,6 +4,9 @@
 //! An entry is its bytes: a contract sees a `Sqe` as a list of 64 numbers below 256. A field is a run of these bytes read as a
 //! little-endian number, or some bits of such a number (`specs/Layout`), and each reader gives exactly its field. Reading is
 //! total, takes no memory and refuses nothing: what a field's value means to a controller is decided above this crate.
+//!
+//! [`Sqe::of`], [`Cqe::of`], [`Descriptor::of`] and [`Range::of`] keep every byte that they read, and `bytes` of each gives all back. A
+//! completion that [`Cqe::new`] makes has each of its ten fields as it was asked for, with CRD and M 0, and zeros elsewhere.
 #![tactic(auto)]
 
 mod cqe;

@@ -13,6 +13,12 @@
 //! NVM Express says nothing of memory maps: they are the hypervisor's, and so is every rule on them
 //! here. Sums are taken in whole numbers, so a region may end exactly at 2 to the 64.
 //!
+//! [`GuestMap::new`] refuses a list of regions with the lowest number of [`MapError`] that
+//! applies, and makes the map where none does. Two calls are exact over a map, of any number of
+//! regions: [`GuestMap::holds`] says whether each of the addresses is mapped, and
+//! [`GuestMap::run`] where the first one lies in the host and how many lie there in a row, across
+//! regions that touch.
+//!
 //! [`Host::new`], [`Places::reserve`], [`Places::push`], the two `try_clone`, [`BoxedBytes::new`] and [`BoxedBytes::from_slice`],
 //! and [`Bytes::new`] and [`Bytes::from_slice`] where there are more than [`FEW`] bytes, take memory, and nothing else does. Each
 //! is called with ample memory in a test of `nv_checks_mem` that compares its answer. There `rt try --test --fail-alloc N`

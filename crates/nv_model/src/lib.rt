@@ -1,4 +1,18 @@
 //! What everything means: the definitions that the other crates' contracts cite, and the data types that they speak of.
+//!
+//! - [`rows`] are worked examples that the checker computes: lists, and why they are refused; the fields of commands, and what commands do;
+//!   registers, doorbells and admin commands; runs from the bring-up to a completion; transcripts, footprints, and acts beside them.
+//! - [`laws`] are what holds in every case, as functions that do nothing: each contract is a law.
+//!
+//! Of lists: what is read and wanted of them lies in mapped memory ([`laws::lists`], [`laws::endings`]), of descriptors and of entries the
+//! first with a fault decides ([`laws::sequences`], [`laws::addresses`]), and each byte lies where the entry of its page says. Of verdicts:
+//! one depends on no byte but those that it asks for ([`laws::agreeing`]), and a transcript that shows a memory gives the verdict of that
+//! memory ([`laws::transcripts`]). A command is carried out by its verdict and its units, each of them once, and in no other way
+//! ([`laws::carrying`]).
+//!
+//! Along every run of the private controller its queues stay in order ([`laws::queues`]), and its counts, its queues and RDY go with the
+//! commands that are taken ([`laws::running`]). What lies at unmapped addresses or in blocks past the namespace has no bearing on what a
+//! guest sees ([`laws::unseen`]).
 #![tactic(auto)]
 
 mod act;

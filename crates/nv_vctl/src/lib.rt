@@ -7,6 +7,9 @@
 //! reset the controller meanwhile, lets it run out ([`Vctl::ran_out`]). What admin commands do to queues are calls of their
 //! own. Each call is the definition of `nv_model/specs/Controller` or `Admin`, word for word; entries lie in the guest's
 //! memory, which is a map's part of the host. Nothing here takes memory.
+//!
+//! Queues stay where they were mapped: [`Vctl::lies_in`] tests that all of them lie in the guest's map, at the start there are none, and
+//! every call keeps it. Whoever makes an I/O queue ([`Vctl::create_submission_queue`], [`Vctl::create_completion_queue`]) sees to its slots.
 #![tactic(auto)]
 
 mod changes;

@@ -10,6 +10,8 @@
 //!
 //! With the word `script` behind these it prints the script instead, for other programs of the same language; of `host` and `awkward` it is the
 //! script of `nvmed replay` with the same events, but for plans that are stale.
+//!
+//! It is proved to be safe, and to end but for the threads that `guests` waits for. What it prints is not proved.
 #![tactic(auto)]
 
 mod digest;
