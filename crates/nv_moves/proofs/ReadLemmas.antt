@@ -113,8 +113,12 @@ pub compare-all : (n i lba : ℕ) (m : ℕ → ℕ) (disk : List (List ℕ)) (ke
     → lba + n ≤ length disk → ((k : ℕ) → k < length disk → length (slice_index_or disk k []) ≡ 512)
     → 512 * (i + n) ≤ length (places_of pieces)
     → units_moved (units_from i lba n) (block_work Compare pieces fua) (record { memory = m; disk = byte_of_block disk; kept = kept; differed = differed })
-    ≡ record { memory = m; disk = byte_of_block disk; kept = raised fua lba n kept;
-      differed = differed || differs (gathered m (take (512 * n) (drop (512 * i) (places_of pieces)))) (joined (take n (drop lba disk))) }
+    ≡ record {
+      memory = m;
+      disk = byte_of_block disk;
+      kept = raised fua lba n kept;
+      differed = differed || differs (gathered m (take (512 * n) (drop (512 * i) (places_of pieces)))) (joined (take n (drop lba disk)));
+    }
 unfolding units_from units_moved raised differs gathered
 compare-all zero i lba m disk kept pieces fua differed within sized enough =
     moved m m (byte_of_block disk) _ kept _ differed _ refl refl refl (sym (or-false differed))
