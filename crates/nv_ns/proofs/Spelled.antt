@@ -58,6 +58,16 @@ pub place_in-beyond : (extent : Extent) (rest : Namespace) (lba : ℕ) → exten
     → place_in (extent ∷ rest) lba ≡ place_in rest (lba - extent.blocks)
 place_in-beyond extent rest lba past = grind (arith, common_steps)
 
+-- the blocks of an extent lie in a row behind those of the extents before it
+pub place_in-row : (front : Namespace) (extent : Extent) (rest : Namespace) (i : ℕ) → i < extent.blocks
+    → place_in (front ++ extent ∷ rest) (blocks_in front + i) ≡ extent.base + i
+place_in-row [] extent rest i below =
+    let same : 0 + i ≡ i = omega arith in ap (place_in (extent ∷ rest)) same ∙ place_in-here extent rest i below
+place_in-row (first ∷ front) extent rest i below =
+    let on : first.blocks + blocks_in front + i - first.blocks ≡ blocks_in front + i = omega arith in
+    place_in-beyond first (front ++ extent ∷ rest) (first.blocks + blocks_in front + i) (omega arith)
+    ∙ ap (place_in (front ++ extent ∷ rest)) on ∙ place_in-row front extent rest i below
+
 -- ---- cuts
 
 places_one_cut : (cut : Cut) → flat_map places_of_cut (one_cut cut) ≡ places_of_cut cut

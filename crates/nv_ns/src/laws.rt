@@ -1,8 +1,9 @@
 //! What the definitions of this crate come to, as functions that do nothing: each contract is a law.
-ghost use Rattle.std.specs.Prelude.{◌≡◌, ℕ, ◌+◌, ◌<◌, ◌≤◌, ◌↔◌, IsTrue, List, [], ◌∷◌, length, map, take, Some, slice_get};
+ghost use Rattle.std.specs.Prelude.{◌≡◌, ℕ, ◌+◌, ◌<◌, ◌≤◌, ◌↔◌, IsTrue, List, [], ◌∷◌, ◌++◌, length, map, take, Some, slice_get};
 ghost use Rattle.std.specs.List.{All, count_by, flat_map, range_with_len};
-ghost use Rattle.nv_ns.specs.BlockRange.{Extent, InNamespace, block_at, block_count, in_namespace};
-ghost use Rattle.nv_ns.specs.Extents.{AreApart, Cut, LiesInOne, Namespace, NamesBlocks, blocks_cut, blocks_in, cuts, has_block, place_in, places_of_cut};
+ghost use Rattle.nv_ns.specs.BlockRange.{Extent, InNamespace, in_namespace};
+ghost use Rattle.nv_ns.specs.Extents.{AreApart, Cut, LiesInOne, Namespace, NamesBlocks};
+ghost use Rattle.nv_ns.specs.Extents.{blocks_cut, blocks_in, cuts, has_block, place_in, places_of_cut};
 
 /// A range that has blocks is in the namespace exactly when every block of it is, and a range of
 /// no blocks exactly when it starts no later than behind the last block.
@@ -18,12 +19,15 @@ pub fn in_namespace_is_tested()
         IsTrue (in_namespace slba count blocks) ↔ InNamespace slba count blocks }
 {}
 
-/// The blocks of a range lie in a row from where its first lies, each in the disk's range that the namespace is, and no two in one place.
+/// The blocks of an extent lie in a row from its base, behind the blocks of the extents before it; in a namespace of one extent each block
+/// lies in the disk's range that the extent is, and no two in one place.
 pub fn blocks_lie_in_a_row()
-    ensures row { (ns : Extent) (slba i : ℕ) → block_at ns (slba + i) ≡ block_at ns slba + i }
-    ensures inside { (ns : Extent) (lba : ℕ) → lba < block_count ns →
-        (block_at ns 0 ≤ block_at ns lba) × (block_at ns lba < block_at ns 0 + block_count ns) }
-    ensures apart { (ns : Extent) (lba other : ℕ) → block_at ns lba ≡ block_at ns other → lba ≡ other }
+    ensures row { (front rest : Namespace) (extent : Extent) (i : ℕ) → i < extent.blocks →
+        place_in (front ++ extent ∷ rest) (blocks_in front + i) ≡ extent.base + i }
+    ensures inside { (extent : Extent) (lba : ℕ) → lba < extent.blocks →
+        (extent.base ≤ place_in (extent ∷ []) lba) × (place_in (extent ∷ []) lba < extent.base + extent.blocks) }
+    ensures apart { (extent : Extent) (lba other : ℕ) → lba < extent.blocks → other < extent.blocks →
+        place_in (extent ∷ []) lba ≡ place_in (extent ∷ []) other → lba ≡ other }
 {}
 
 /// What the cuts of a run of blocks name, one behind the other, is where each of its blocks lies.
@@ -51,12 +55,12 @@ pub fn cuts_are_the_run()
 
 /// A namespace of one extent is that range of the disk, and a run of its blocks is one cut; so is one that lies in the first extent.
 pub fn one_extent_is_one_range()
-    ensures blocks { (extent : Extent) → blocks_in (extent ∷ []) ≡ block_count extent }
-    ensures places { (extent : Extent) (lba : ℕ) → lba < block_count extent → place_in (extent ∷ []) lba ≡ block_at extent lba }
-    ensures cut { (extent : Extent) (slba count : ℕ) → 0 < count → InNamespace slba count (block_count extent) →
-        cuts (extent ∷ []) slba count ≡ record { first = 0; start = block_at extent slba; count = count } ∷ [] }
-    ensures first { (extent : Extent) (rest : List Extent) (slba count : ℕ) → 0 < count → InNamespace slba count (block_count extent) →
-        cuts (extent ∷ rest) slba count ≡ record { first = 0; start = block_at extent slba; count = count } ∷ [] }
+    ensures blocks { (extent : Extent) → blocks_in (extent ∷ []) ≡ extent.blocks }
+    ensures places { (extent : Extent) (lba : ℕ) → lba < extent.blocks → place_in (extent ∷ []) lba ≡ extent.base + lba }
+    ensures cut { (extent : Extent) (slba count : ℕ) → 0 < count → InNamespace slba count extent.blocks →
+        cuts (extent ∷ []) slba count ≡ record { first = 0; start = extent.base + slba; count = count } ∷ [] }
+    ensures first { (extent : Extent) (rest : List Extent) (slba count : ℕ) → 0 < count → InNamespace slba count extent.blocks →
+        cuts (extent ∷ rest) slba count ≡ record { first = 0; start = extent.base + slba; count = count } ∷ [] }
 {}
 
 /// A block lies in one of the extents; where no block of the disk is in two of them, in exactly one, and two blocks at one place are one.

@@ -1,17 +1,18 @@
-//! The range of blocks that a guest's namespace is, and its translation to blocks of the disk.
+//! A guest's namespace of one to eight extents, and where on the disk its blocks lie.
 //!
-//! A guest names blocks of its namespace from 0; the disk holds the namespace in one range of its
-//! own blocks. [`VirtualNs::translate`] goes from the first to the second, and answers `None`
-//! exactly where the guest's range leaves the namespace. All sums are taken in whole numbers:
-//! none wraps, whatever the guest names. Nothing here takes memory.
+//! A guest names blocks of its namespace from 0; the disk holds them in ranges of its own blocks, the extents, which are joined in their
+//! order. An [`Extent`] is one of them, and a [`VirtualNs`] is one to eight. [`VirtualNs::translate`] gives the [`Parts`] of a run of
+//! blocks, one [`Part`] for each extent that it meets, and answers `None` exactly where the run leaves the namespace, which
+//! [`VirtualNs::holds`] tells by itself. All sums are taken in whole numbers: none wraps, whatever the guest names. Nothing here takes
+//! memory.
 #![tactic(auto)]
 
-pub use extents::Extents;
+pub use extent::Extent;
 pub use part::Part;
 pub use parts::Parts;
 pub use virtual_ns::VirtualNs;
 
-pub mod extents;
+pub mod extent;
 pub mod laws;
 pub mod part;
 pub mod parts;

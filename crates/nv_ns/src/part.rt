@@ -3,7 +3,7 @@
 ghost use Rattle.std.specs.Prelude.{◌≡◌, ℕ, ◌+◌, ◌^◌, ◌<◌};
 ghost use Rattle.nv_ns.specs.Extents.{Cut, common, if_any};
 
-use crate::virtual_ns::VirtualNs;
+use crate::extent::Extent;
 use std::marker::Model;
 
 /// Blocks in a row that lie in one extent of a namespace: how far behind the first block of the run they begin, where on the disk, and
@@ -44,7 +44,7 @@ impl Part {
 
     /// What the run of `count` blocks from the namespace's block `slba` has in common with an extent before whose blocks `before` others
     /// of the namespace come, or `None` where that is no block.
-    pub fn of(extent: VirtualNs, before: u64, slba: u64, count: u64) -> Option<Self>
+    pub fn of(extent: Extent, before: u64, slba: u64, count: u64) -> Option<Self>
         ensures { result ≡ if_any (common (record { before = before; extent = extent }) slba count) }
     {
         let skip = slba.saturating_sub(before);

@@ -1,75 +1,140 @@
-//! A guest's namespace: which blocks of the disk are its own, in numbers that never wrap.
+//! A guest's namespace of one to eight extents: which blocks of the disk are its own, in numbers that never wrap.
 
-ghost use Rattle.std.specs.Prelude.{◌≡◌, ℕ, ◌+◌, ◌^◌, ◌<◌, ◌↔◌, IsTrue, SomeIff};
-ghost use Rattle.nv_ns.specs.BlockRange.{Extent, InNamespace, block_at, block_count, translated};
+ghost use Rattle.std.specs.Prelude.{◌≡◌, ◌<◌, ◌≤◌, ◌↔◌, IsTrue, SomeIff, [], ◌∷◌, ◌++◌, length, slice_get};
+ghost use Rattle.nv_ns.specs.BlockRange.{InNamespace, in_namespace};
+ghost use Rattle.nv_ns.specs.Extents.{blocks_in, cut_out, cuts, is_namespace};
 
+use crate::extent::Extent;
+use crate::part::Part;
+use crate::parts::Parts;
+use crate::walk;
 use std::marker::Model;
 
-/// A guest's namespace: `blocks` blocks that lie on the disk from block `base` on.
+/// A guest's namespace: its blocks are those of its extents, joined in their order.
 ///
-/// The type keeps that `base + blocks` is below 2 to the 64, so that every block of the namespace,
-/// and the place behind the last one, has a number on the disk.
+/// The type keeps that there are one to eight of them, and that the base of each and the blocks of all come to less than 2 to the 64.
 #[derive(Clone, Copy, Debug, PartialEq, Eq)]
 pub struct VirtualNs {
-    base: u64,
+    extents: [Extent; 8],
+    len: usize,
     blocks: u64,
 }
 
 impl Model for VirtualNs {
-    ghost Value = { Extent };
+    ghost use Rattle.std.specs.Prelude.{length, take};
+    ghost use Rattle.nv_ns.specs.Extents.{Namespace, blocks_in};
+    ghost use Rattle.nv_ns.specs.Filled.{filled, filled_back, filled_len, nowhere};
+    ghost use Rattle.nv_ns.specs.Joined.{AreJoined};
 
-    ghost view = { λ n. record { base = n.base; blocks = n.blocks } };
+    ghost Value = { Namespace };
 
-    ghost invariant = { λ n. n.base + n.blocks < 2 ^ 64 };
+    ghost view = { λ n. take n.len n.extents };
 
-    ghost inverse = { λ e. record { base = e.base; blocks = e.blocks } };
+    ghost invariant = { λ n. AreJoined n.extents n.len n.blocks };
+
+    ghost inverse = { λ ns. record { extents = filled nowhere ns; len = length ns; blocks = blocks_in ns } };
+
+    ghost inverse_ok = { λ n h i. record {
+      extents = filled_back nowhere n.extents n.len h.filled i;
+      len = filled_len nowhere n.extents n.len h.filled i;
+      blocks = h.blocks i;
+    } };
 }
 
 impl VirtualNs {
-    /// Whether a namespace of `blocks` blocks may lie on the disk from block `base` on: whether
-    /// their sum, in whole numbers, is below 2 to the 64. It is what [`VirtualNs::new`] requires.
-    pub fn fits(base: u64, blocks: u64) -> bool
-        ensures { IsTrue result ↔ (base + blocks < 2 ^ 64) }
+    /// The namespace of one extent.
+    pub fn of(first: Extent) -> Self
+        ensures { result ≡ first ∷ [] }
     {
-        blocks <= u64::MAX - base
+        let mut extents = [Extent::new(0, 0); 8];
+        extents[0] = first;
+        VirtualNs {
+            extents,
+            len: 1,
+            blocks: first.blocks(),
+        }
     }
 
-    /// The namespace of `blocks` blocks that lies on the disk from block `base` on.
+    /// Whether a namespace may have one extent more behind the others: whether there are at most eight then, and no sum of a base and of
+    /// all blocks, in whole numbers, reaches 2 to the 64. It is what [`VirtualNs::push`] requires.
+    pub fn fits_behind(&self, next: Extent) -> bool
+        ensures { result ≡ is_namespace (self.now ++ next ∷ []) }
+    {
+        if self.len == 8 || next.blocks() > u64::MAX - self.blocks {
+            return false;
+        }
+        let blocks = self.blocks + next.blocks();
+        walk::all_within(self.as_slice(), blocks) && next.base() <= u64::MAX - blocks
+    }
+
+    /// Adds an extent behind the others.
     ///
-    /// The caller knows that the sum of both is below 2 to the 64 ([`VirtualNs::fits`] tests it).
-    pub fn new(base: u64, blocks: u64) -> Self
-        requires { base + blocks < 2 ^ 64 }
-        ensures { result ≡ record { base = base; blocks = blocks } }
+    /// The caller knows that it may be there ([`VirtualNs::fits_behind`] tests it).
+    pub fn push(&mut self, next: Extent)
+        requires { IsTrue (is_namespace (self.old ++ next ∷ [])) }
+        ensures { self.new ≡ self.old ++ next ∷ [] }
     {
-        VirtualNs { base, blocks }
+        self.extents[self.len] = next;
+        self.len += 1;
+        self.blocks += next.blocks();
     }
 
-    /// The disk block that is block 0 of the namespace.
-    pub fn base(self) -> u64
-        ensures value { result ≡ self.base }
-        ensures fits { self.base + self.blocks < 2 ^ 64 }
+    /// The extents in their order.
+    pub fn as_slice(&self) -> &[Extent]
+        ensures items { result.now ≡ self.now }
+        ensures kept { IsTrue (is_namespace self.now) }
     {
-        self.base
+        &self.extents[..self.len]
+    }
+
+    /// How many extents there are.
+    pub fn len(&self) -> usize
+        ensures value { result ≡ length self.now }
+        ensures some { 0 < length self.now }
+        ensures few { length self.now ≤ 8 }
+    {
+        self.len
+    }
+
+    /// The extent of this number, from 0.
+    pub fn extent(&self, i: usize) -> Option<Extent>
+        ensures { result ≡ slice_get self.now i }
+    {
+        self.as_slice().get(i).copied()
     }
 
     /// How many blocks the namespace has.
-    pub fn blocks(self) -> u64
-        ensures value { result ≡ self.blocks }
-        ensures fits { self.base + self.blocks < 2 ^ 64 }
+    pub fn blocks(&self) -> u64
+        ensures value { result ≡ blocks_in self.now }
+        ensures kept { IsTrue (is_namespace self.now) }
     {
         self.blocks
     }
 
-    /// The disk block at which the range of `count` blocks from the namespace's block `slba`
-    /// starts, or `None` exactly where that range is not in the namespace (LBA Out of Range).
+    /// Whether the run of `count` blocks from the namespace's block `slba` is in it; where it is not, a command that names it is refused
+    /// (LBA Out of Range).
     ///
-    /// A range of no blocks is in the namespace up to and with the place behind its last block.
-    pub fn translate(self, slba: u64, count: u64) -> Option<u64>
-        ensures value { result ≡ translated self slba count }
-        ensures none_exactly_outside { SomeIff result (InNamespace slba count (block_count self)) (block_at self slba) }
+    /// A run of no blocks is in the namespace up to and with the place behind its last block.
+    pub fn holds(&self, slba: u64, count: u64) -> bool
+        ensures { result ≡ in_namespace slba count (blocks_in self.now) }
     {
-        if count <= self.blocks && slba <= self.blocks - count {
-            Some(self.base + slba)
+        count <= self.blocks && slba <= self.blocks - count
+    }
+
+    /// The parts of the run of `count` blocks from the namespace's block `slba`, one for each extent that they meet, or `None` exactly
+    /// where that run is not in the namespace (LBA Out of Range; [`VirtualNs::holds`] tells it, too).
+    ///
+    /// A run of no blocks has no parts.
+    pub fn translate(&self, slba: u64, count: u64) -> Option<Parts>
+        ensures value { result ≡ cut_out self.now slba count }
+        ensures none_exactly_outside { SomeIff result (InNamespace slba count (blocks_in self.now)) (cuts self.now slba count) }
+    {
+        let first = self.extents[0];
+        if count > 0 && count <= first.blocks() && slba <= first.blocks() - count {
+            return Some(Parts::one(Part::new(0, first.base() + slba, count)));
+        }
+        if self.holds(slba, count) {
+            Some(walk::parts_of(self.as_slice(), slba, count))
         } else {
             None
         }

@@ -4,12 +4,12 @@ ghost use Rattle.std.specs.Prelude.{◌≡◌, ◌^◌, ◌<◌, ◌≤◌, leng
 ghost use Rattle.std.specs.List.{list_all};
 ghost use Rattle.nv_ns.specs.Extents.{blocks_in, cuts, is_within};
 
+use crate::extent::Extent;
 use crate::part::Part;
 use crate::parts::Parts;
-use crate::virtual_ns::VirtualNs;
 
 /// Whether `blocks` blocks from the base of each of these extents on end below 2 to the 64.
-pub fn all_within(extents: &[VirtualNs], blocks: u64) -> bool
+pub fn all_within(extents: &[Extent], blocks: u64) -> bool
     ensures { result ≡ list_all (is_within blocks) extents.now }
 {
     extents
@@ -19,7 +19,7 @@ pub fn all_within(extents: &[VirtualNs], blocks: u64) -> bool
 
 /// The parts of a run of `count` blocks from block `slba` of the namespace of these extents.
 #[inline(never)]
-pub fn parts_of(extents: &[VirtualNs], slba: u64, count: u64) -> Parts
+pub fn parts_of(extents: &[Extent], slba: u64, count: u64) -> Parts
     requires few { length extents.now ≤ 8 }
     requires fit { blocks_in extents.now < 2 ^ 64 }
     ensures { result ≡ cuts extents.now slba count }

@@ -3,7 +3,7 @@ use Rattle.nv_ns.specs.BlockRange.{Extent}
 use Rattle.nv_ns.specs.Extents.{Cut, blocks_in}
 use Rattle.nv_ns.proofs.Pushed.{first-joined}
 use Rattle.nv_ns.proofs.Spelled.{cut_out-first, cuts-first}
-use Rattle.nv_ns.proofs.extents.Extents.translate.Goals as goal
+use Rattle.nv_ns.proofs.virtual_ns.VirtualNs.translate.Goals as goal
 
 -- the part that is made, by the first extent's base
 made : (parts : List Cut) (cut : Cut) (base place slba count : ℕ) → parts ≡ cut ∷ []

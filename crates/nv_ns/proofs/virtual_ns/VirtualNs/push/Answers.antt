@@ -2,7 +2,7 @@ use Rattle.std.proofs.Common.{◌≡◌, ℕ, ◌+◌, ◌++◌, [], ◌∷◌, 
 use Rattle.nv_ns.specs.Extents.{Namespace, blocks_in, is_namespace}
 use Rattle.nv_ns.specs.Joined.{AreJoined}
 use Rattle.nv_ns.proofs.Pushed.{AreJoined-push, may_push}
-use Rattle.nv_ns.proofs.extents.Extents.push.Goals as goal
+use Rattle.nv_ns.proofs.virtual_ns.VirtualNs.push.Goals as goal
 
 pub overflow_add-self-2 : goal.overflow_add-self-2
 overflow_add-self-2 c =

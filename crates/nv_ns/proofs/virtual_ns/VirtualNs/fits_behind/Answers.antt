@@ -3,8 +3,8 @@ use Rattle.std.specs.List.{list_all}
 use Rattle.nv_ns.specs.Extents.{Namespace, blocks_in, is_within}
 use Rattle.nv_ns.specs.Filled.{filled_len, nowhere}
 use Rattle.nv_ns.proofs.Pushed.{is_namespace-many, is_namespace-ninth, is_namespace-push, leb-within}
-use Rattle.nv_ns.proofs.extents.Extents.fits_behind.Goals as goal
-use Rattle.nv_ns.proofs.extents.Extents.fits_behind.Goals.{then-self-eq8-via-then-self-eq8, then-self-eq8-via-else-self-eq8+then-blocks-self}
+use Rattle.nv_ns.proofs.virtual_ns.VirtualNs.fits_behind.Goals as goal
+use Rattle.nv_ns.proofs.virtual_ns.VirtualNs.fits_behind.Goals.{then-self-eq8-via-then-self-eq8, then-self-eq8-via-else-self-eq8+then-blocks-self}
 
 pub returns-then-self-eq8 : goal.returns-then-self-eq8
 returns-then-self-eq8 c =
