@@ -16,7 +16,6 @@ use crate::lists::Listed;
 use nv_entry::{Cqe, IoOpcode, Sqe, Status, StatusCode};
 use nv_judge::{Need, judge_fields};
 use nv_mem::NoMemory;
-use nv_ns::VirtualNs;
 use std::alloc::Global;
 
 impl FlatController {
@@ -41,8 +40,7 @@ impl FlatController {
         ensures disk_size { length self.new.disk ≡ length self.old.disk }
         ensures err { OnErr result (self.new ≡ self.old) }
     {
-        let ns = VirtualNs::new(0, self.blocks());
-        let need = match judge_fields(sqe, &ns) {
+        let need = match judge_fields(sqe, &self.namespace()) {
             Ok(need) => need,
             Err(status) => return Ok(status),
         };

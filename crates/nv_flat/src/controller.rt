@@ -1,6 +1,6 @@
 //! The state of the flat controller: how it is made, shown and changed outside of commands.
 
-ghost use Rattle.std.specs.Prelude.{◌≡◌, ◌+◌, ◌%◌, ◌<◌, ◌≤◌, ◌↔◌, length, replicate, false, IfOk, IsTrue, slice_set};
+ghost use Rattle.std.specs.Prelude.{◌≡◌, ◌+◌, ◌%◌, ◌<◌, ◌≤◌, ◌↔◌, [], ◌∷◌, length, replicate, false, IfOk, IsTrue, slice_set};
 ghost use Rattle.std.specs.List.{slice_index_or};
 ghost use Rattle.nv_mem.specs.Bytes.{InMemory, after_store, bytes_at};
 ghost use Rattle.nv_model.specs.Limits.{block as block_size, page};
@@ -10,6 +10,7 @@ ghost use Rattle.nv_moves.specs.Flat.{flat};
 use nv_disk::{Blocks, Marks};
 use nv_mem::{GuestMap, Host, NoMemory, PAGE_SIZE, Region};
 use nv_model::limits::{BLOCK_SIZE, LARGEST_MEMORY, LARGEST_NAMESPACE};
+use nv_ns::{Extent, VirtualNs};
 use std::alloc::Global;
 use std::marker::Model;
 
@@ -127,6 +128,13 @@ impl FlatController {
     {
         let _marks = &self.kept;
         self.disk.len() as u64
+    }
+
+    /// The namespace of the guest: all blocks, as one extent.
+    pub(crate) fn namespace(&self) -> VirtualNs
+        ensures { result ≡ record { base = 0; blocks = length self.now.disk } ∷ [] }
+    {
+        VirtualNs::of(Extent::new(0, self.blocks()))
     }
 }
 

@@ -19,7 +19,6 @@ use nv_judge::{Need, judge_ranges};
 use nv_mem::{NoMemory, Places};
 use nv_model::limits::RANGE_SIZE;
 use nv_moves::Buffer;
-use nv_ns::VirtualNs;
 use std::alloc::Global;
 
 /// The most bytes of the ranges: there are at most 256.
@@ -59,8 +58,7 @@ impl FlatController {
         ensures disk_size { length self.new.disk ≡ length self.old.disk }
     {
         Buffer::new(places).fetch(&self.memory, ranges);
-        let ns = VirtualNs::new(0, self.blocks());
-        if let Err(status) = judge_ranges(ranges, &ns) {
+        if let Err(status) = judge_ranges(ranges, &self.namespace()) {
             return status;
         }
         if sqe.deallocate() {

@@ -2,11 +2,9 @@
 use Rattle.std.proofs.Common.{◌≡◌, ℕ, zero, suc, ◌+◌, ◌/◌, ◌<◌, Bool, true, false, ◌&&◌, cond, List}
 use Rattle.std.proofs.Common.{[], ◌∷◌, length, take, drop, Some, None, Result, Ok, Err, refl, sym, ap, ◌∙◌, arith}
 use Rattle.std.specs.List.{list_all}
-use Rattle.std.specs.Option.{is_some}
 use Rattle.nv_entry.specs.Status.{StatusField}
 use Rattle.nv_entry.specs.StatusCode.{refused_with}
 use Rattle.nv_entry.specs.declared.status_code.StatusCode.TheVariants.{LbaOutOfRange}
-use Rattle.nv_ns.specs.BlockRange.{Extent, in_namespace, translated}
 use Rattle.nv_model.specs.Judge.{range_fits, ranges_in}
 use Rattle.nv_judge.specs.Ranges.{ranges_verdict}
 
@@ -86,12 +84,3 @@ ranges-leave blocks bytes st e = by_test (list_all (range_fits blocks) (ranges_i
         → (all ≡ false) × (st ≡ refused_with LbaOutOfRange)
     by_test true e = (cc)
     by_test false e = (refl, (cc))
-
--- a range is in the namespace exactly where it has a disk block
-pub translated-is_some : (ns : Extent) (slba count : ℕ) (some : Bool) → is_some (translated ns slba count) ≡ some
-    → in_namespace slba count ns.blocks ≡ some
-translated-is_some ns slba count some e = is_some-if (in_namespace slba count ns.blocks) some e
-  where
-    is_some-if : (inside some : Bool) → is_some (cond inside (Some (ns.base + slba)) None) ≡ some → inside ≡ some
-    is_some-if true some e = e
-    is_some-if false some e = e

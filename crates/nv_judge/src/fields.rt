@@ -4,6 +4,7 @@ ghost use Rattle.std.specs.Prelude.{◌≡◌, ◌^◌, ◌≤◌};
 ghost use Rattle.nv_judge.specs.Need.{field_verdict, need_of};
 ghost use Rattle.nv_model.specs.Judge.{command_checks, count_of, has_blocks, has_buffer, is_read, transfer_len};
 ghost use Rattle.nv_model.specs.Reading.{first_failing};
+ghost use Rattle.nv_ns.specs.Extents.{blocks_in};
 
 use crate::need::Need;
 use nv_entry::{IoOpcode, Sqe, Status, StatusCode};
@@ -13,7 +14,7 @@ use nv_ns::VirtualNs;
 /// The checks of a command's fields in their order: fused operation, opcode, namespace, data pointer, size of the transfer and
 /// block range. `Ok` says what the command needs; `Err` is the refusal by the first check that fails, with DNR set.
 pub fn judge_fields(sqe: &Sqe, ns: &VirtualNs) -> Result<Need, Status>
-    ensures { result ≡ field_verdict ns.now.blocks sqe.now }
+    ensures { result ≡ field_verdict (blocks_in ns.now) sqe.now }
 {
     if sqe.fuse() != 0 {
         return Err(StatusCode::InvalidField.refused());
@@ -29,7 +30,7 @@ pub fn judge_fields(sqe: &Sqe, ns: &VirtualNs) -> Result<Need, Status>
 
 // The first check that a command fails once its opcode is known.
 fn refusal(opcode: IoOpcode, sqe: &Sqe, ns: &VirtualNs) -> Option<StatusCode>
-    ensures { result ≡ first_failing (command_checks ns.now.blocks sqe.now opcode) }
+    ensures { result ≡ first_failing (command_checks (blocks_in ns.now) sqe.now opcode) }
 {
     let count = block_count(sqe);
     if sqe.nsid() != 1 {
@@ -38,7 +39,7 @@ fn refusal(opcode: IoOpcode, sqe: &Sqe, ns: &VirtualNs) -> Option<StatusCode>
         Some(StatusCode::InvalidField)
     } else if has_buffer(opcode) && has_blocks(opcode) && count > MOST_BLOCKS {
         Some(StatusCode::InvalidField)
-    } else if has_blocks(opcode) && ns.translate(sqe.slba(), u64::from(count)).is_none() {
+    } else if has_blocks(opcode) && !ns.holds(sqe.slba(), u64::from(count)) {
         Some(StatusCode::LbaOutOfRange)
     } else {
         None

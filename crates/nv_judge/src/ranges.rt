@@ -3,6 +3,7 @@
 ghost use Rattle.std.specs.Prelude.{◌≡◌, ◌%◌, length};
 ghost use Rattle.nv_judge.specs.Ranges.{ranges_verdict};
 ghost use Rattle.nv_model.specs.Limits.{range_size};
+ghost use Rattle.nv_ns.specs.Extents.{blocks_in};
 
 use nv_entry::{Range, Status, StatusCode};
 use nv_model::limits::RANGE_SIZE;
@@ -12,15 +13,12 @@ use nv_ns::VirtualNs;
 /// refusal, with DNR set.
 pub fn judge_ranges(ranges: &[u8], ns: &VirtualNs) -> Result<(), Status>
     requires { length ranges.now % range_size ≡ 0 }
-    ensures { result ≡ ranges_verdict ns.now.blocks ranges.now }
+    ensures { result ≡ ranges_verdict (blocks_in ns.now) ranges.now }
 {
     let mut rest = ranges;
     while let Some((range, more)) = rest.split_first_chunk::<RANGE_SIZE>() {
         let range = Range::of(range);
-        if ns
-            .translate(range.start(), u64::from(range.blocks()))
-            .is_none()
-        {
+        if !ns.holds(range.start(), u64::from(range.blocks())) {
             return Err(StatusCode::LbaOutOfRange.refused());
         }
         rest = more;
