@@ -1,8 +1,9 @@
 //! The checks of a command's fields, in their order.
 
+use crate::virtual_ns::namespace;
 use nv_entry::{Sqe, Status, StatusCode};
 use nv_judge::judge_fields;
-use nv_ns::VirtualNs;
+use std::test::Fail;
 
 /// The dwords of a Read of one block from LBA 5 by one Data Block of 512 bytes at 3000h, CID 7.
 const READ: [u32; 16] = [
@@ -33,7 +34,7 @@ fn entry(dwords: [u32; 16]) -> Sqe {
 }
 
 #[test]
-fn judges_fields_in_their_order(rt: HostRuntime) {
+fn judges_fields_in_their_order(rt: HostRuntime) -> Result<(), Fail> {
     let refused = |code: StatusCode| -> Result<u32, Status> { Err(code.refused()) };
     let table = [
         // dword, its value, the bytes of the transfer or the refusal
@@ -52,7 +53,7 @@ fn judges_fields_in_their_order(rt: HostRuntime) {
         (10, 1024, refused(StatusCode::LbaOutOfRange)),
         (11, 0xffff_ffff, refused(StatusCode::LbaOutOfRange)),
     ];
-    let ns = VirtualNs::new(7, 1024);
+    let ns = namespace(&[(7, 1000), (5000, 24)]).ok_or("a namespace")?;
     for (dword, value, want) in table {
         let mut dwords = READ;
         assert!(rt; dword < 16);
@@ -64,4 +65,5 @@ fn judges_fields_in_their_order(rt: HostRuntime) {
             "dword {dword} is {value:#x}"
         );
     }
+    Ok(())
 }

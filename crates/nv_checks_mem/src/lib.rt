@@ -5,7 +5,7 @@
 #[cfg(test)]
 mod bytes;
 #[cfg(test)]
-mod extents;
+mod extent;
 #[cfg(test)]
 mod fields;
 #[cfg(test)]

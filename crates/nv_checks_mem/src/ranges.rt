@@ -1,9 +1,10 @@
 //! The check of the ranges of a Dataset Management.
 
+use crate::virtual_ns::namespace;
 use nv_entry::StatusCode;
 use nv_judge::judge_ranges;
 use nv_model::limits::RANGE_SIZE;
-use nv_ns::VirtualNs;
+use std::test::Fail;
 
 // The bytes of two ranges of Dataset Management.
 fn ranges(dwords: [u32; 8]) -> [u8; 32] {
@@ -15,8 +16,8 @@ fn ranges(dwords: [u32; 8]) -> [u8; 32] {
 }
 
 #[test]
-fn judges_each_range(rt: HostRuntime) {
-    let ns = VirtualNs::new(1000, 64);
+fn judges_each_range(rt: HostRuntime) -> Result<(), Fail> {
+    let ns = namespace(&[(1000, 40), (9000, 24)]).ok_or("a namespace")?;
     // attributes, blocks and start of two ranges, and whether both fit
     let table = [
         ([0, 1, 0, 0, 0, 1, 63, 0], true),
@@ -38,4 +39,5 @@ fn judges_each_range(rt: HostRuntime) {
         assert!(rt; bytes.len() % RANGE_SIZE == 0);
         assert_eq!(rt; judge_ranges(&bytes, &ns), want, "{dwords:?}");
     }
+    Ok(())
 }

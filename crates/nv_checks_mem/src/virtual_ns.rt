@@ -1,14 +1,14 @@
 //! A namespace of several extents: what lies in it, and where its parts are.
 
-use nv_ns::{Extents, Part, VirtualNs};
+use nv_ns::{Extent, Part, VirtualNs};
 use std::test::Fail;
 
 const MAX: u64 = u64::MAX;
 
 /// A namespace of these extents, each with its base and its number of blocks; none where they are no namespace.
-fn namespace(extents: &[(u64, u64)]) -> Option<Extents> {
+pub(crate) fn namespace(extents: &[(u64, u64)]) -> Option<VirtualNs> {
     let (&(base, blocks), rest) = extents.split_first()?;
-    let mut ns = Extents::of(extent(base, blocks)?);
+    let mut ns = VirtualNs::of(extent(base, blocks)?);
     for &(base, blocks) in rest {
         let next = extent(base, blocks)?;
         if !ns.fits_behind(next) {
@@ -19,8 +19,8 @@ fn namespace(extents: &[(u64, u64)]) -> Option<Extents> {
     Some(ns)
 }
 
-fn extent(base: u64, blocks: u64) -> Option<VirtualNs> {
-    VirtualNs::fits(base, blocks).then(|| VirtualNs::new(base, blocks))
+fn extent(base: u64, blocks: u64) -> Option<Extent> {
+    Extent::fits(base, blocks).then(|| Extent::new(base, blocks))
 }
 
 /// A part's three numbers.
@@ -45,8 +45,8 @@ fn has_its_extents_in_order(rt: HostRuntime) -> Result<(), Fail> {
 
 #[test]
 fn has_at_most_eight_extents(rt: HostRuntime) -> Result<(), Fail> {
-    let one = VirtualNs::new(5, 1);
-    let mut ns = Extents::of(one);
+    let one = Extent::new(5, 1);
+    let mut ns = VirtualNs::of(one);
     for len in 2..9 {
         assert!(rt; ns.fits_behind(one));
         ns.push(one);
@@ -93,6 +93,7 @@ fn translates_to_parts(rt: HostRuntime) -> Result<(), Fail> {
         (64, 0, [None, None]),
     ];
     for (slba, count, want) in table {
+        assert!(rt; ns.holds(slba, count));
         let parts = ns.translate(slba, count).ok_or("in the namespace")?;
         for (i, part) in want.iter().enumerate() {
             assert_eq!(rt;
@@ -121,6 +122,7 @@ fn refuses_what_leaves_the_namespace(rt: HostRuntime) -> Result<(), Fail> {
         (2, MAX),
         (MAX, MAX),
     ] {
+        assert!(rt; !ns.holds(slba, count));
         assert!(rt;
             ns.translate(slba, count).is_none(),
             "{count} blocks from {slba}"
@@ -164,7 +166,7 @@ fn crosses_eight_extents(rt: HostRuntime) -> Result<(), Fail> {
 
 #[test]
 fn an_extent_has_its_part_of_a_run(rt: HostRuntime) {
-    let extent = VirtualNs::new(3000, 32);
+    let extent = Extent::new(3000, 32);
     for (slba, count, want) in [
         (30, 4, Some((2, 3000, 2))),
         (40, 4, Some((0, 3008, 4))),
