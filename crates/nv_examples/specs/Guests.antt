@@ -16,7 +16,7 @@ abbrev pub guest_with : (host base : ℕ) → Guest
 guest_with host base =
     record {
       memory_map = record { host_len = 0x873000; regions = record { guest = 0; host = host; len = 0x4000 } ∷ [] };
-      extent = record { base = base; blocks = 2 };
+      namespace = record { base = base; blocks = 2 } ∷ [];
       limit = 8;
     }
 

@@ -79,11 +79,11 @@ pub fn commands()
 #[tactic(none)]
 pub fn private_steps()
     // A command is handed on and given up by its own guest, whichever that is,
-    ensures judged_by_its_guest { steps_done 1 neighbour (with_tag 0 3 (Taken (record { guest = 1; queue = 1; entry = [] }) []) opened) (event.Submit 0 3)
+    ensures judged_by_its_guest { steps_done 1 neighbour (with_tag 0 3 (Taken (record { guest = 1; queue = 1; entry = []; leader = 3 }) []) opened) (event.Submit 0 3)
         ≡ JudgeStep 3 ∷ [] }
-    ensures given_up_by_its_guest { steps_done 1 neighbour (with_tag 0 3 (Taken (record { guest = 1; queue = 1; entry = [] }) []) opened) (event.GiveUp 0 3)
+    ensures given_up_by_its_guest { steps_done 1 neighbour (with_tag 0 3 (Taken (record { guest = 1; queue = 1; entry = []; leader = 3 }) []) opened) (event.GiveUp 0 3)
         ≡ GiveUpStep 3 ∷ [] }
     // and by no other.
-    ensures judged_by_no_other { steps_done 0 first (with_tag 0 3 (Taken (record { guest = 1; queue = 1; entry = [] }) []) opened) (event.Submit 0 3) ≡ [] }
-    ensures given_up_by_no_other { steps_done 0 first (with_tag 0 3 (Taken (record { guest = 1; queue = 1; entry = [] }) []) opened) (event.GiveUp 0 3) ≡ [] }
+    ensures judged_by_no_other { steps_done 0 first (with_tag 0 3 (Taken (record { guest = 1; queue = 1; entry = []; leader = 3 }) []) opened) (event.Submit 0 3) ≡ [] }
+    ensures given_up_by_no_other { steps_done 0 first (with_tag 0 3 (Taken (record { guest = 1; queue = 1; entry = []; leader = 3 }) []) opened) (event.GiveUp 0 3) ≡ [] }
 {}

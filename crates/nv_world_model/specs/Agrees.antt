@@ -5,7 +5,7 @@ use Rattle.nv_mem.specs.GuestMap.{mapped}
 use Rattle.nv_model.specs.Footprint.{io_named, is_destination, names}
 use Rattle.nv_model.specs.Memory.{image}
 use Rattle.nv_model.specs.Private.{Private}
-use Rattle.nv_ns.specs.BlockRange.{block_at, block_count}
+use Rattle.nv_ns.specs.Extents.{blocks_in, place_in}
 use Rattle.nv_world_model.specs.Disciplined.{taken_entries}
 use Rattle.nv_world_model.specs.Geometry.{Guest, regions_of, shape_of}
 use Rattle.nv_world_model.specs.World.{World}
@@ -23,6 +23,6 @@ pub record Agrees (number : ℕ) (guest : Guest) (w : World) (p : Private) : Typ
   pub controller : slice_get w.controllers number ≡ Some p.controller
   pub memory : (addr : ℕ) → mapped (regions_of guest) addr ≡ true → is_awaited number guest w addr ≡ false
       → p.memory addr ≡ image (regions_of guest) w.host addr
-  pub blocks : (lba offset : ℕ) → lba < block_count guest.extent
-      → p.disk lba offset ≡ w.disk (block_at guest.extent lba) offset
-  pub marks : (lba : ℕ) → lba < block_count guest.extent → p.kept lba ≡ w.kept (block_at guest.extent lba)
+  pub blocks : (lba offset : ℕ) → lba < blocks_in guest.namespace
+      → p.disk lba offset ≡ w.disk (place_in guest.namespace lba) offset
+  pub marks : (lba : ℕ) → lba < blocks_in guest.namespace → p.kept lba ≡ w.kept (place_in guest.namespace lba)

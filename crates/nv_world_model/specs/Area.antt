@@ -2,14 +2,14 @@
 -- pages; and what it writes there for the physical controller. The layout is the project's own (profile); the
 -- physical entries are Base Specification 2.0, "Submission Queue Entry", and NVM Command Set Specification 1.0, "NVM
 -- Command Set Commands".
-use Rattle.std.specs.Prelude.{ℕ, ◌+◌, ◌*◌, ◌/◌, ◌%◌, ◌^◌, if◌then◌else◌, List, [], ◌∷◌, ◌++◌, flat_map, take}
+use Rattle.std.specs.Prelude.{ℕ, ◌+◌, ◌*◌, ◌/◌, ◌%◌, ◌^◌, if◌then◌else◌, ◌==◌, List, [], ◌∷◌, ◌++◌, flat_map, take}
 use Rattle.std.specs.List.{range_with_len}
 use Rattle.nv_entry.specs.Layout.{bytes_of_dwords, number_bytes}
 use Rattle.nv_entry.specs.Range.{blocks_of, start_of}
 use Rattle.nv_entry.specs.Status.{bit}
 use Rattle.nv_entry.specs.Submission.{deallocate_of, nlb_of, nr_of, opcode_of, slba_of}
 use Rattle.nv_mem.specs.Places.{places_of, total_len}
-use Rattle.nv_ns.specs.BlockRange.{Extent, block_at}
+use Rattle.nv_ns.specs.Extents.{Namespace, place_in}
 use Rattle.nv_model.specs.Judge.{Clear, Form, Keep, Manage, Transfer, Work, form_of, is_fua}
 use Rattle.nv_model.specs.Limits.{page}
 use Rattle.nv_model.specs.Memory.{gathered, image, stored}
@@ -75,10 +75,19 @@ prps_of plan guest list bounce = built list (addresses_of plan guest bounce)
 abbrev pub list_bytes : Prps → List ℕ
 list_bytes prps = flat_map (number_bytes 8) (take prps.used prps.list)
 
+-- the first extent's base, to which ranges of no blocks go
+abbrev pub first_base : Namespace → ℕ
+first_base [] = 0
+first_base (extent ∷ rest) = extent.base
+
+-- where the disk has a range: one of no blocks as far behind the first extent's base as it starts in the namespace
+abbrev pub range_place : Namespace → (range : List ℕ) → ℕ
+range_place ns range = if blocks_of range == 0 then first_base ns + start_of range else place_in ns (start_of range)
+
 -- a range of Dataset Management as the disk has it: attributes 0, the length, and the disk's block
-abbrev pub translated_range : Extent → List ℕ → List ℕ
-translated_range extent range =
-    number_bytes 4 0 ++ number_bytes 4 (blocks_of range) ++ number_bytes 8 (block_at extent (start_of range))
+abbrev pub translated_range : Namespace → (range : List ℕ) → List ℕ
+translated_range ns range =
+    number_bytes 4 0 ++ number_bytes 4 (blocks_of range) ++ number_bytes 8 (range_place ns range)
 
 -- the bytes of a source
 abbrev pub source_bytes : Guest → (host : ℕ → ℕ) → Work → List ℕ
@@ -88,7 +97,7 @@ source_bytes guest host work = gathered (image (regions_of guest) host) (places_
 abbrev pub form_bounced : Form → Guest → (host : ℕ → ℕ) → Work → List ℕ
 form_bounced (Transfer dest) guest host work = if dest then [] else source_bytes guest host work
 form_bounced Clear guest host work = []
-form_bounced Manage guest host work = flat_map (translated_range guest.extent) work.ranges
+form_bounced Manage guest host work = flat_map (translated_range guest.namespace) work.ranges
 form_bounced Keep guest host work = []
 
 abbrev pub bounced_bytes : Plan → Guest → (host : ℕ → ℕ) → List ℕ
@@ -104,13 +113,13 @@ abbrev pub two_dwords : ℕ → List ℕ
 two_dwords number = (number % 2 ^ 32) ∷ (number / 2 ^ 32) ∷ []
 
 -- CDW10 to CDW12 of a command of that form: the block on the disk with NLB and FUA; or NR and deallocate
-abbrev pub form_dwords : Form → Extent → (entry : List ℕ) → List ℕ
-form_dwords (Transfer dest) extent entry =
-    two_dwords (block_at extent (slba_of entry)) ++ (nlb_of entry + 2 ^ 30 * bit (is_fua entry)) ∷ []
-form_dwords Clear extent entry =
-    two_dwords (block_at extent (slba_of entry)) ++ (nlb_of entry + 2 ^ 30 * bit (is_fua entry)) ∷ []
-form_dwords Manage extent entry = nr_of entry ∷ (4 * deallocate_of entry) ∷ 0 ∷ []
-form_dwords Keep extent entry = 0 ∷ 0 ∷ 0 ∷ []
+abbrev pub form_dwords : Form → Namespace → (entry : List ℕ) → List ℕ
+form_dwords (Transfer dest) ns entry =
+    two_dwords (place_in ns (slba_of entry)) ++ (nlb_of entry + 2 ^ 30 * bit (is_fua entry)) ∷ []
+form_dwords Clear ns entry =
+    two_dwords (place_in ns (slba_of entry)) ++ (nlb_of entry + 2 ^ 30 * bit (is_fua entry)) ∷ []
+form_dwords Manage ns entry = nr_of entry ∷ (4 * deallocate_of entry) ∷ 0 ∷ []
+form_dwords Keep ns entry = 0 ∷ 0 ∷ 0 ∷ []
 
 -- the 64 bytes: the guest's opcode, FUSE and PSDT 0, the tag as command identifier, namespace 1, the PRPs, and CDW10
 -- to CDW12
@@ -121,17 +130,17 @@ physical_entry opcode tag prps dwords =
     )
 
 -- the form of the work of a plan
-abbrev pub plan_dwords : Plan → Extent → (entry : List ℕ) → List ℕ
-plan_dwords (Answer st) extent entry = form_dwords Keep extent entry
-plan_dwords (NoData work) extent entry = form_dwords (form_of work.opcode) extent entry
-plan_dwords (Direct work) extent entry = form_dwords (form_of work.opcode) extent entry
-plan_dwords (Bounced work) extent entry = form_dwords (form_of work.opcode) extent entry
+abbrev pub plan_dwords : Plan → Namespace → (entry : List ℕ) → List ℕ
+plan_dwords (Answer st) ns entry = form_dwords Keep ns entry
+plan_dwords (NoData work) ns entry = form_dwords (form_of work.opcode) ns entry
+plan_dwords (Direct work) ns entry = form_dwords (form_of work.opcode) ns entry
+plan_dwords (Bounced work) ns entry = form_dwords (form_of work.opcode) ns entry
 
 -- the physical entry of a plan for a guest's command in that tag
 abbrev pub entry_of : Plan → Guest → (entry : List ℕ) → (mediator lane tag : ℕ) → List ℕ
 entry_of plan guest entry mediator lane tag =
     physical_entry (opcode_of entry) tag
-    (prps_of plan guest (list_page mediator lane tag) (bounce_page mediator lane tag)) (plan_dwords plan guest.extent entry)
+    (prps_of plan guest (list_page mediator lane tag) (bounce_page mediator lane tag)) (plan_dwords plan guest.namespace entry)
 
 -- ---- a submission
 

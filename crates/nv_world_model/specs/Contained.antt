@@ -8,7 +8,7 @@ use Rattle.nv_world_model.specs.Device.{DeviceLane}
 use Rattle.nv_world_model.specs.Geometry.{Geometry, Guest}
 use Rattle.nv_world_model.specs.Step.{After, is_telling, step}
 use Rattle.nv_world_model.specs.CutDown.{cut}
-use Rattle.nv_world_model.specs.View.{IsAlike, IsSameView, guest_of_tag, in_extent, in_image}
+use Rattle.nv_world_model.specs.View.{IsAlike, IsSameView, guest_of_tag, in_extents, in_image}
 use Rattle.nv_world_model.specs.World.{Answered, Ended, Flying, Free, InDevice, Lane, Queued, Standing, Tag, Taken, World, tag_of}
 
 -- ---- the owner
@@ -78,9 +78,9 @@ abbrev pub in_image_of : Option Guest → (at : ℕ) → Bool
 in_image_of None at = false
 in_image_of (Some guest) at = in_image guest at
 
-abbrev pub in_extent_of : Option Guest → (at : ℕ) → Bool
-in_extent_of None at = false
-in_extent_of (Some guest) at = in_extent guest.extent at
+abbrev pub in_extents_of : Option Guest → (at : ℕ) → Bool
+in_extents_of None at = false
+in_extents_of (Some guest) at = in_extents guest.namespace at
 
 -- what the owner was given
 abbrev pub given_to : Option ℕ → Geometry → Option Guest
@@ -94,8 +94,8 @@ pub record LeavesOthers (geometry : Geometry) (whose : Option ℕ) (w z : World)
       → IsSameView number guest geometry w z
   pub bytes : (at : ℕ) → in_image_of (given_to whose geometry) at ≡ false → in_area geometry w at ≡ false
       → w.host at ≡ z.host at
-  pub blocks : (at offset : ℕ) → in_extent_of (given_to whose geometry) at ≡ false → w.disk at offset ≡ z.disk at offset
-  pub marks : (at : ℕ) → in_extent_of (given_to whose geometry) at ≡ false → w.kept at ≡ true → z.kept at ≡ true
+  pub blocks : (at offset : ℕ) → in_extents_of (given_to whose geometry) at ≡ false → w.disk at offset ≡ z.disk at offset
+  pub marks : (at : ℕ) → in_extents_of (given_to whose geometry) at ≡ false → w.kept at ≡ true → z.kept at ≡ true
 
 -- what is seen of it depends on the owner's view and the shared numbers alone: done in the world cut down to them it
 -- has the same reply, and leads to a world that looks alike

@@ -4,15 +4,16 @@ use Rattle.std.specs.Prelude.{ℕ, ◌&&◌, ◌||◌, ◌==◌, if◌then◌els
 use Rattle.std.specs.List.{enumerate_from}
 use Rattle.nv_model.specs.Controller.{Controller, opening}
 use Rattle.nv_model.specs.Queue.{sqe_size}
+use Rattle.nv_world_model.specs.Area.{tag_count}
 use Rattle.nv_world_model.specs.Device.{DeviceLane}
 use Rattle.nv_world_model.specs.Geometry.{Geometry, Guest}
 use Rattle.nv_world_model.specs.Step.{is_free}
-use Rattle.nv_world_model.specs.View.{in_extent, in_image, is_tag_of, lies_in, own_held, shown}
+use Rattle.nv_world_model.specs.View.{in_extents, in_image, is_tag_of, lies_in, own_held, shown}
 use Rattle.nv_world_model.specs.World.{Command, Lane, Tag, Taken, World, tag_of}
 
--- a command of nobody's
+-- a command of nobody's, which goes by no tag
 abbrev pub nobodys : (nobody : ℕ) → Command
-nobodys nobody = record { guest = nobody; queue = 0; entry = replicate sqe_size 0 }
+nobodys nobody = record { guest = nobody; queue = 0; entry = replicate sqe_size 0; leader = tag_count }
 
 -- a tag that is neither free nor that guest's is Taken by nobody
 abbrev pub cut_tag : (number nobody : ℕ) → Tag → Tag
@@ -36,8 +37,8 @@ unfoldable pub cut : (number : ℕ) → Guest → Geometry → World → World
 cut number guest geometry w =
     record {
       host = (λ at. if in_image guest at || lies_in (shown number guest geometry w) at then w.host at else 0);
-      disk = (λ at offset. if in_extent guest.extent at then w.disk at offset else 0);
-      kept = (λ at. in_extent guest.extent at && w.kept at);
+      disk = (λ at offset. if in_extents guest.namespace at then w.disk at offset else 0);
+      kept = (λ at. in_extents guest.namespace at && w.kept at);
       device = map (cut_device number w) (enumerate_from 0 w.device);
       lanes = map (cut_lane number (length geometry.guests)) w.lanes;
       controllers = map (cut_controller number) (enumerate_from 0 w.controllers);

@@ -3,13 +3,13 @@
 use Rattle.std.specs.Prelude.{ℕ, List}
 use Rattle.nv_mem.specs.GuestMap.{Mapping, mapped}
 use Rattle.nv_mem.specs.declared.region.Region.{Region}
-use Rattle.nv_ns.specs.BlockRange.{Extent, block_count}
+use Rattle.nv_ns.specs.Extents.{Namespace, blocks_in}
 use Rattle.nv_model.specs.Private.{Shape}
 
 -- what a guest was given: its memory, its namespace, and the most descriptors of a list
 pub record Guest : Type 0 where
   pub memory_map : Mapping
-  pub extent : Extent
+  pub namespace : Namespace
   pub limit : ℕ
 
 -- a set-up without its sizes that nothing depends on
@@ -25,4 +25,4 @@ regions_of guest = guest.memory_map.regions
 -- what of it the guest's private controller knows
 abbrev pub shape_of : Guest → Shape
 shape_of guest =
-    record { mapped = mapped (regions_of guest); blocks = block_count guest.extent; limit = guest.limit }
+    record { mapped = mapped (regions_of guest); blocks = blocks_in guest.namespace; limit = guest.limit }

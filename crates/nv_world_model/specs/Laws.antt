@@ -7,7 +7,7 @@ use Rattle.nv_model.specs.declared.act.Act.{Act}
 use Rattle.nv_model.specs.declared.act.Act.TheVariants as act
 use Rattle.nv_model.specs.declared.reply.Reply.{Reply}
 use Rattle.nv_model.specs.declared.reply.Reply.TheVariants as reply
-use Rattle.nv_ns.specs.BlockRange.{block_at}
+use Rattle.nv_ns.specs.Extents.{place_in}
 use Rattle.nv_world_model.specs.declared.event.Event.{Event}
 use Rattle.nv_world_model.specs.declared.event.Event.TheVariants as event
 use Rattle.nv_world_model.specs.Geometry.{Geometry, Guest, regions_of, shape_of}
@@ -56,8 +56,8 @@ MayAnswer (event.Post lane tag) r = IsAmong (reply.Done ∷ reply.Stale ∷ repl
 pub record IsSeatOf (number : ℕ) (guest : Guest) (w : World) (p : Private) : Type 0 where
   pub controller : slice_get w.controllers number ≡ Some p.controller
   pub memory : (addr : ℕ) → mapped (regions_of guest) addr ≡ true → image (regions_of guest) w.host addr ≡ p.memory addr
-  pub blocks : (lba offset : ℕ) → w.disk (block_at guest.extent lba) offset ≡ p.disk lba offset
-  pub marks : (lba : ℕ) → w.kept (block_at guest.extent lba) ≡ p.kept lba
+  pub blocks : (lba offset : ℕ) → w.disk (place_in guest.namespace lba) offset ≡ p.disk lba offset
+  pub marks : (lba : ℕ) → w.kept (place_in guest.namespace lba) ≡ p.kept lba
 
 -- nothing of the world but the controller of that guest and bytes of its memory is other than it was
 pub record OnlyInSeat (o : Owner) (w z : World) : Type 0 where

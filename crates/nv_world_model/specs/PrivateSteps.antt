@@ -3,7 +3,7 @@
 -- where the device's do; and marks rise where any event raises them (profile).
 use Rattle.std.specs.Prelude.{ℕ, Bool, true, false, ◌||◌, ◌==◌, if◌then◌else◌, List, [], ◌∷◌, ◌++◌, filter, map, slice_get, Option, Some, None}
 use Rattle.std.specs.List.{range_with_len}
-use Rattle.nv_ns.specs.BlockRange.{Extent, block_at, block_count}
+use Rattle.nv_ns.specs.Extents.{Namespace, blocks_in, place_in}
 use Rattle.nv_model.specs.Controller.{Controller, is_enabled}
 use Rattle.nv_model.specs.Judge.{Clear, Form, Keep, Manage, Transfer, Work, form_of}
 use Rattle.nv_model.specs.Private.{ActStep, AdminQueueStep, GiveUpStep, JudgeStep, KeepStep, MoveStep, PostStep, RunOutStep, Seen, Step, TakeStep}
@@ -84,14 +84,14 @@ keeps_all Manage = false
 keeps_all Keep = true
 
 -- a unit of another's command: a Flush makes each block of the guest's namespace kept
-abbrev pub others_moves : Option Work → Extent → List Step
-others_moves None extent = []
-others_moves (Some work) extent =
-    if keeps_all (form_of work.opcode) then map KeepStep (range_with_len 0 (block_count extent)) else []
+abbrev pub others_moves : Option Work → Namespace → List Step
+others_moves None ns = []
+others_moves (Some work) ns =
+    if keeps_all (form_of work.opcode) then map KeepStep (range_with_len 0 (blocks_in ns)) else []
 
 -- the block of the guest's namespace that is that block of the disk, if one is
-abbrev pub keeps : Extent → (at : ℕ) → List Step
-keeps extent at = map KeepStep (filter (λ lba. block_at extent lba == at) (range_with_len 0 (block_count extent)))
+abbrev pub keeps : Namespace → (at : ℕ) → List Step
+keeps ns at = map KeepStep (filter (λ lba. place_in ns lba == at) (range_with_len 0 (blocks_in ns)))
 
 -- ---- the table
 
@@ -109,10 +109,10 @@ steps_done number guest w (event.GiveUp lane tag) =
 steps_done number guest w (event.DevTake lane) = []
 steps_done number guest w (event.DevMove lane slot unit) =
     if is_tag_of number (tag_of w lane slot) then own_moves (work_in (tag_of w lane slot)) (name_of lane slot) unit
-    else others_moves (work_in (tag_of w lane slot)) guest.extent
+    else others_moves (work_in (tag_of w lane slot)) guest.namespace
 steps_done number guest w (event.DevPost lane slot) = []
 steps_done number guest w (event.DevFail lane slot st) = []
-steps_done number guest w (event.Keep at) = keeps guest.extent at
+steps_done number guest w (event.Keep at) = keeps guest.namespace at
 steps_done number guest w (event.Reap lane) = []
 steps_done number guest w (event.Post lane tag) =
     if is_tag_of number (tag_of w lane tag) then leaves (slice_get w.controllers number) (name_of lane tag) else []

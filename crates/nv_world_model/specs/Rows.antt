@@ -21,7 +21,7 @@ abbrev pub guest_at : (host base : ℕ) → Guest
 guest_at host base =
     record {
       memory_map = record { host_len = 0x1000000; regions = record { guest = 0; host = host; len = 0x20000 } ∷ [] };
-      extent = record { base = base; blocks = 64 };
+      namespace = record { base = base; blocks = 64 } ∷ [];
       limit = 1024;
     }
 

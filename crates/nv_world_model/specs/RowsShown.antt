@@ -4,6 +4,8 @@ use Rattle.std.specs.List.{range_with_len}
 use Rattle.nv_entry.specs.declared.opcode.IoOpcode.TheVariants as opcode
 use Rattle.nv_mem.specs.declared.piece.Piece.{Piece}
 use Rattle.nv_mem.specs.declared.piece.Piece.TheVariants as piece
+use Rattle.nv_ns.specs.BlockRange.{Extent}
+use Rattle.nv_ns.specs.Extents.{Namespace}
 use Rattle.nv_model.specs.Controller.{Controller, no_queues}
 use Rattle.nv_model.specs.Judge.{MoveBlock}
 use Rattle.nv_model.specs.Queue.{new_submission}
@@ -60,7 +62,7 @@ cut_to_first = cut 0 first_guest set_up both_in_device
 -- the tag of the first guest's command there
 abbrev pub first_flying : Tag
 first_flying =
-    Flying (record { guest = 0; queue = 1; entry = first_example })
+    Flying (record { guest = 0; queue = 1; entry = first_example; leader = 0 })
     (Direct (record {
       opcode = opcode.Read;
       pieces = piece.Run 0x3000 512 ∷ [];
@@ -118,7 +120,7 @@ abbrev pub small_guests : (count : ℕ) → List Guest
 small_guests count =
     map (λ n. record (guest_at (0x100000 + 0x1000 * n) n) {
       memory_map = record { host_len = 0x1000000; regions = record { guest = 0; host = 0x100000 + 0x1000 * n; len = 0x1000 } ∷ [] };
-      extent = record { base = n; blocks = 1 };
+      namespace = extent_at n 1 ∷ [];
     }) (range_with_len 0 count)
 
 -- a guest of so many regions of one page each
@@ -132,6 +134,14 @@ guest_of_regions count =
           };
     }
 
+-- so many blocks of the disk from this one on
+abbrev pub extent_at : (base blocks : ℕ) → Extent
+extent_at base blocks = record { base = base; blocks = blocks }
+
+-- a guest of that namespace
+abbrev pub guest_of : (host : ℕ) → Namespace → Guest
+guest_of host ns = record (guest_at host 0) { namespace = ns }
+
 -- a set-up whose disk has so many blocks, and one guest with these blocks
 abbrev pub disk_refused : (disk_blocks base blocks : ℕ) → Option Refusal
 disk_refused disk_blocks base blocks =
@@ -142,7 +152,7 @@ disk_refused disk_blocks base blocks =
           record {
             mediator = 0x400000;
             disk_blocks = disk_blocks;
-            guests = record (guest_at 0x100000 base) { extent = record { base = base; blocks = blocks } } ∷ [];
+            guests = guest_of 0x100000 (extent_at base blocks ∷ []) ∷ [];
           };
     })
 

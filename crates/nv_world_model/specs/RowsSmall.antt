@@ -26,7 +26,7 @@ abbrev pub small_guest : (host base : ℕ) → Guest
 small_guest host base =
     record {
       memory_map = record { host_len = 0x1000000; regions = record { guest = 0; host = host; len = 0x200 } ∷ [] };
-      extent = record { base = base; blocks = 2 };
+      namespace = record { base = base; blocks = 2 } ∷ [];
       limit = 1;
     }
 
@@ -102,8 +102,8 @@ posted_second = moved_second ++ event.DevPost 0 1 ∷ []
 -- ---- written out
 
 -- each guest's Write Zeroes
-abbrev pub clear_of : (guest : ℕ) → Command
-clear_of guest = record { guest = guest; queue = 1; entry = clear_one }
+abbrev pub clear_of : (guest tag : ℕ) → Command
+clear_of guest tag = record { guest = guest; queue = 1; entry = clear_one; leader = tag }
 
 -- what the first guest's is: its first block becomes zeros
 abbrev pub clear_work : Work
@@ -135,7 +135,7 @@ small_device standing held posted host =
       kept = marked (λ _. false) 2 false;
       device = record { head = 1; tail = 1; posted = posted; phase = true; held = None ∷ held ∷ [] } ∷ [];
       lanes =
-          record { head = 0; phase = true; tags = Taken (clear_of 1) [] ∷ Flying (clear_of 0) (NoData clear_work) standing ∷ [] } ∷ [];
+          record { head = 0; phase = true; tags = Taken (clear_of 1 0) [] ∷ Flying (clear_of 0 1) (NoData clear_work) standing ∷ [] } ∷ [];
       controllers = small_took ∷ small_took ∷ [];
     }
 

@@ -1,9 +1,10 @@
 -- Worked examples: steps that are wrong, each of which would let a guest be seen or changed by another
-use Rattle.std.specs.Prelude.{ℕ, ◌==◌, List, [], ◌∷◌, ◌++◌, true, not, ◌&&◌, if◌then◌else◌, slice_get}
+use Rattle.std.specs.Prelude.{ℕ, ◌==◌, List, [], ◌∷◌, ◌++◌, map, true, not, ◌&&◌, if◌then◌else◌, slice_get}
 use Rattle.nv_entry.specs.Status.{StatusField}
 use Rattle.nv_entry.specs.StatusCode.{done_with}
 use Rattle.nv_entry.specs.Submission.{cid_of}
 use Rattle.nv_entry.specs.declared.status_code.StatusCode.TheVariants.{Success}
+use Rattle.nv_ns.specs.BlockRange.{Extent}
 use Rattle.nv_model.specs.declared.act.Act.TheVariants as act
 use Rattle.nv_model.specs.declared.reply.Reply.TheVariants as reply
 use Rattle.nv_model.specs.Controller.{post}
@@ -73,7 +74,7 @@ low_set_up = record set_up { guests = guest_at 0x100000 1000 ∷ guest_at 0x2000
 
 -- a guest whose own numbers of blocks are taken for the disk's
 abbrev pub as_if_at_zero : Owner → Owner
-as_if_at_zero o = record o { given = record o.given { extent = record o.given.extent { base = 0 } } }
+as_if_at_zero o = record o { given = record o.given { namespace = map (λ (e : Extent). record e { base = 0 }) o.given.namespace } }
 
 -- a Submit that adds no base to the guest's blocks: neither to those of the entry, nor to those of its ranges
 abbrev pub submitted_untranslated : (geometry : Geometry) (lane tag : ℕ) → World → After

@@ -5,7 +5,7 @@ use Rattle.std.specs.List.{enumerate_from, list_any}
 use Rattle.nv_entry.specs.Completion.{status_of}
 use Rattle.nv_entry.specs.Range.{blocks_of}
 use Rattle.nv_entry.specs.Status.{StatusField}
-use Rattle.nv_ns.specs.BlockRange.{block_at}
+use Rattle.nv_ns.specs.Extents.{place_in}
 use Rattle.nv_model.specs.Controller.{Controller}
 use Rattle.nv_model.specs.Judge.{Clear, Form, Keep, Manage, Transfer, Work, form_of}
 use Rattle.nv_model.specs.Memory.{bytes_from, image, put_image}
@@ -132,8 +132,8 @@ unfoldable pub seat : Geometry → Owner → World → Private
 seat geometry o w =
     record {
       memory = image (regions_of o.given) w.host;
-      disk = (λ lba. w.disk (block_at o.given.extent lba));
-      kept = (λ lba. w.kept (block_at o.given.extent lba));
+      disk = (λ lba. w.disk (place_in o.given.namespace lba));
+      kept = (λ lba. w.kept (place_in o.given.namespace lba));
       controller = o.controller;
       bag = members geometry w o.number;
     }

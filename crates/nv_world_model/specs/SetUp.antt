@@ -1,7 +1,8 @@
 -- Which set-ups make a world (profile): guests whose blocks and memory are apart, within the project's limits.
-use Rattle.std.specs.Prelude.{ℕ, ◌+◌, ◌*◌, ◌%◌, Bool, false, not, ◌&&◌, ◌||◌, ◌==◌, nat_le, nat_lt, if◌then◌else◌, List, [], ◌∷◌, length, Option, Some, None}
+use Rattle.std.specs.Prelude.{ℕ, ◌+◌, ◌*◌, ◌%◌, Bool, false, not, ◌&&◌, ◌||◌, ◌==◌, nat_le, nat_lt, if◌then◌else◌, List, [], ◌∷◌, flat_map, length, Option, Some, None}
 use Rattle.std.specs.List.{list_all, list_any}
 use Rattle.nv_mem.specs.GuestMap.{hosts_meet, span_met, spans_meet}
+use Rattle.nv_ns.specs.BlockRange.{Extent}
 use Rattle.nv_model.specs.Limits.{page}
 use Rattle.nv_world_model.specs.Area.{lane_pages}
 use Rattle.nv_world_model.specs.Geometry.{Geometry, Guest, regions_of}
@@ -37,6 +38,10 @@ most_host_bytes = 1073741824
 abbrev pub most_disk_blocks : ℕ
 most_disk_blocks = 2097152
 
+-- the most extents that a guest may be given: each of its commands is one physical command, which names blocks in a row
+abbrev pub most_given : ℕ
+most_given = 1
+
 -- the most descriptors of a list that a guest may be given
 abbrev pub most_limit : ℕ
 most_limit = 4096
@@ -48,9 +53,13 @@ abbrev pub any_two : {A : Type 0} → (A → A → Bool) → List A → Bool
 any_two meet [] = false
 any_two meet (x ∷ xs) = list_any (meet x) xs || any_two meet xs
 
--- whether two guests have a block in common
-abbrev pub blocks_meet : Guest → Guest → Bool
-blocks_meet g h = spans_meet g.extent.base g.extent.blocks h.extent.base h.extent.blocks
+-- the extents of all guests
+abbrev pub all_extents : List Guest → List Extent
+all_extents guests = flat_map (λ g. g.namespace) guests
+
+-- whether two extents have a block in common
+abbrev pub blocks_meet : Extent → Extent → Bool
+blocks_meet e f = spans_meet e.base e.blocks f.base f.blocks
 
 -- whether two guests have a byte of the host in common
 abbrev pub maps_meet : Guest → Guest → Bool
@@ -74,12 +83,16 @@ host_fits s =
     s.host_bytes % page == 0 && between page most_host_bytes s.host_bytes && between 1 most_lanes s.lanes
     && s.geometry.mediator % page == 0 && nat_le (s.geometry.mediator + area_bytes s) s.host_bytes
 
--- whether a guest has a map that was made for this host, of not too many regions, at least one block, all on the
--- disk, and a limit that may be
+-- whether an extent has at least one block, all on the disk
+abbrev pub extent_fits : SetUp → Extent → Bool
+extent_fits s e = nat_le 1 e.blocks && nat_le (e.base + e.blocks) s.geometry.disk_blocks
+
+-- whether a guest has a map that was made for this host, of not too many regions, extents that fit, as many as may be,
+-- and a limit that may be
 abbrev pub guest_fits : SetUp → Guest → Bool
 guest_fits s g =
     g.memory_map.host_len == s.host_bytes && nat_le (length (regions_of g)) most_regions
-    && nat_le 1 g.extent.blocks && nat_le (g.extent.base + g.extent.blocks) s.geometry.disk_blocks
+    && between 1 most_given (length g.namespace) && list_all (extent_fits s) g.namespace
     && between 1 most_limit g.limit
 
 -- whether all sizes may be
@@ -91,7 +104,7 @@ sizes_fit s =
 unfoldable pub refusal_of : SetUp → Option Refusal
 refusal_of s =
     if nat_lt most_guests (length s.geometry.guests) then Some TooManyGuests else
-    if any_two blocks_meet s.geometry.guests then Some RangesMeet else
+    if any_two blocks_meet (all_extents s.geometry.guests) then Some RangesMeet else
     if any_two maps_meet s.geometry.guests || list_any (meets_area s) s.geometry.guests then Some MapsMeet else
     if not (sizes_fit s) then Some BadSize else None
 

@@ -1,13 +1,11 @@
 -- What the mediator writes for the physical controller of a share: CDW10 to CDW12 by its own units and ranges, and its ranges as the disk has
 -- them. With one extent they are those of `Area`, by the entry (NVM Command Set Specification 1.0, "NVM Command Set Commands"; profile).
-use Rattle.std.specs.Prelude.{ℕ, ◌+◌, ◌-◌, ◌*◌, ◌^◌, ◌==◌, if◌then◌else◌, List, [], ◌∷◌, ◌++◌, flat_map, length}
-use Rattle.nv_entry.specs.Layout.{number_bytes}
-use Rattle.nv_entry.specs.Range.{blocks_of, start_of}
+use Rattle.std.specs.Prelude.{ℕ, ◌+◌, ◌-◌, ◌*◌, ◌^◌, if◌then◌else◌, List, [], ◌∷◌, ◌++◌, flat_map, length}
 use Rattle.nv_entry.specs.Status.{bit}
 use Rattle.nv_entry.specs.Submission.{deallocate_of, opcode_of}
 use Rattle.nv_ns.specs.Extents.{Namespace, place_in}
 use Rattle.nv_model.specs.Judge.{ClearBlock, Clear, Form, KeepAll, Keep, LeaveBlock, Manage, MoveBlock, Transfer, Work, WorkUnit, form_of, is_fua}
-use Rattle.nv_world_model.specs.Area.{bounce_page, list_page, physical_entry, prps_of, source_bytes, two_dwords}
+use Rattle.nv_world_model.specs.Area.{bounce_page, list_page, physical_entry, prps_of, source_bytes, translated_range, two_dwords}
 use Rattle.nv_world_model.specs.Geometry.{Guest}
 use Rattle.nv_world_model.specs.Plan.{Answer, Bounced, Direct, NoData, Plan}
 use Rattle.nv_world_model.specs.Share.{Share}
@@ -22,19 +20,6 @@ unit_lba (KeepAll blocks) = 0
 abbrev pub first_lba : List WorkUnit → ℕ
 first_lba [] = 0
 first_lba (unit ∷ rest) = unit_lba unit
-
--- the first extent's base, to which ranges of no blocks go
-abbrev pub first_base : Namespace → ℕ
-first_base [] = 0
-first_base (extent ∷ rest) = extent.base
-
--- where the disk has a range: one of no blocks as far behind the first extent's base as it starts in the namespace
-abbrev pub range_place : Namespace → (range : List ℕ) → ℕ
-range_place ns range = if blocks_of range == 0 then first_base ns + start_of range else place_in ns (start_of range)
-
--- a range as the disk has it: attributes 0, the length, and the disk's block
-abbrev pub range_on_disk : Namespace → (range : List ℕ) → List ℕ
-range_on_disk ns range = number_bytes 4 0 ++ number_bytes 4 (blocks_of range) ++ number_bytes 8 (range_place ns range)
 
 -- CDW10 to CDW12 of a work of that form: the block on the disk, with NLB and FUA; or NR and deallocate
 abbrev pub work_dwords : Form → Namespace → (entry : List ℕ) → Work → List ℕ
@@ -55,7 +40,7 @@ own_dwords (Bounced work) ns entry = work_dwords (form_of work.opcode) ns entry 
 abbrev pub form_own_bytes : Form → Namespace → Guest → (host : ℕ → ℕ) → Work → List ℕ
 form_own_bytes (Transfer dest) ns guest host work = if dest then [] else source_bytes guest host work
 form_own_bytes Clear ns guest host work = []
-form_own_bytes Manage ns guest host work = flat_map (range_on_disk ns) work.ranges
+form_own_bytes Manage ns guest host work = flat_map (translated_range ns) work.ranges
 form_own_bytes Keep ns guest host work = []
 
 abbrev pub own_bytes : Plan → Namespace → Guest → (host : ℕ → ℕ) → List ℕ

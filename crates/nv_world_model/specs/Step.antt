@@ -131,7 +131,7 @@ free_tag tags = position is_free tags
 unfoldable pub taken_to : (addr queue lane tag : ℕ) → Owner → World → World
 taken_to addr queue lane tag o w =
     (let entry = bytes_from (image (regions_of o.given) w.host) addr sqe_size in
-    with_tag lane tag (Taken (record { guest = o.number; queue = queue; entry = entry }) [])
+    with_tag lane tag (Taken (record { guest = o.number; queue = queue; entry = entry; leader = tag }) [])
     (with_controller o.number (took o.controller queue) w))
 
 abbrev pub take_tag : Option ℕ → (addr queue lane : ℕ) → Owner → World → After

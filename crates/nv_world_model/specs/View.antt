@@ -6,7 +6,7 @@ use Rattle.std.specs.List.{enumerate_from, list_any, range_with_len}
 use Rattle.nv_entry.specs.Completion.{status_of}
 use Rattle.nv_entry.specs.Status.{StatusField}
 use Rattle.nv_mem.specs.Places.{total_len}
-use Rattle.nv_ns.specs.BlockRange.{Extent, block_at, block_count}
+use Rattle.nv_ns.specs.Extents.{Namespace, blocks_in, has_block, place_in}
 use Rattle.nv_model.specs.Judge.{is_read}
 use Rattle.nv_model.specs.Limits.{block}
 use Rattle.nv_model.specs.Memory.{image}
@@ -134,16 +134,16 @@ abbrev pub in_image : Guest → (host : ℕ) → Bool
 in_image guest host = is_some (guest_of (regions_of guest) host)
 
 -- whether a block of the disk is a guest's
-abbrev pub in_extent : Extent → (at : ℕ) → Bool
-in_extent extent at = list_any (λ lba. block_at extent lba == at) (range_with_len 0 (block_count extent))
+abbrev pub in_extents : Namespace → (at : ℕ) → Bool
+in_extents ns at = list_any (has_block at) ns
 
 -- ---- two worlds that look alike to a guest
 
 -- one view, but for the marks
 pub record IsSameView (number : ℕ) (guest : Guest) (geometry : Geometry) (w z : World) : Type 0 where
   pub memory : (addr : ℕ) → image (regions_of guest) w.host addr ≡ image (regions_of guest) z.host addr
-  pub blocks : (lba offset : ℕ) → lba < block_count guest.extent
-      → w.disk (block_at guest.extent lba) offset ≡ z.disk (block_at guest.extent lba) offset
+  pub blocks : (lba offset : ℕ) → lba < blocks_in guest.namespace
+      → w.disk (place_in guest.namespace lba) offset ≡ z.disk (place_in guest.namespace lba) offset
   pub controller : slice_get w.controllers number ≡ slice_get z.controllers number
   pub tags : (lane tag : ℕ) → own_tag number (tag_of w lane tag) ≡ own_tag number (tag_of z lane tag)
   pub held : (lane tag : ℕ) → own_held number (tag_of w lane tag) (held_in (slice_get w.device lane) tag)
@@ -153,8 +153,8 @@ pub record IsSameView (number : ℕ) (guest : Guest) (geometry : Geometry) (w z 
 -- the marks of a guest's blocks are the same
 abbrev pub SameMarks : Guest → (w z : World) → Type 0
 SameMarks guest w z =
-    (lba : ℕ) → lba < block_count guest.extent
-    → w.kept (block_at guest.extent lba) ≡ z.kept (block_at guest.extent lba)
+    (lba : ℕ) → lba < blocks_in guest.namespace
+    → w.kept (place_in guest.namespace lba) ≡ z.kept (place_in guest.namespace lba)
 
 -- ---- the shared numbers
 

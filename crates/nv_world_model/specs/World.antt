@@ -11,11 +11,12 @@ use Rattle.nv_world_model.specs.Plan.{Plan}
 
 -- ---- the state
 
--- a command that was taken: whose it is, the queue that it was taken from, and its 64 bytes
+-- a command that was taken: whose it is, the queue that it was taken from, its 64 bytes, and the tag that it goes by
 pub record Command : Type 0 where
   pub guest : ℕ
   pub queue : ℕ
   pub entry : List ℕ
+  pub leader : ℕ
 
 -- where a command that was handed on stands: in a slot of the submission ring, in the device, or in a slot of the
 -- completion ring

@@ -2,7 +2,8 @@
 
 ghost use Rattle.std.specs.Prelude.{◌≡◌, [], ◌∷◌, ◌++◌, Some, None};
 ghost use Rattle.nv_world_model.specs.Rows.{guest_at};
-ghost use Rattle.nv_world_model.specs.RowsShown.{disk_refused, first_guest, guest_of_regions, guest_with_limit, guests_refused, refused, refused_of_another_host, second_guest, small_guests};
+ghost use Rattle.nv_world_model.specs.RowsShown.{disk_refused, extent_at, first_guest, guest_of, guest_of_regions, guest_with_limit, guests_refused};
+ghost use Rattle.nv_world_model.specs.RowsShown.{refused, refused_of_another_host, second_guest, small_guests};
 ghost use Rattle.nv_world_model.specs.SetUp.{BadSize, MapsMeet, RangesMeet, TooManyGuests};
 
 /// The examples of this module, a clause each.
@@ -62,6 +63,15 @@ pub fn examples()
     ensures blocks_that_end_with_the_disk { disk_refused 4096 4032 64 ≡ None }
     // A guest without blocks.
     ensures a_guest_without_blocks { disk_refused 4096 1000 0 ≡ Some BadSize }
+    // A guest without an extent.
+    ensures a_guest_without_extents { guests_refused (guest_of 0x100000 [] ∷ []) ≡ Some BadSize }
+    // A guest's second extent begins with the last block of its first.
+    ensures extents_of_a_guest_that_meet { guests_refused (guest_of 0x100000 (extent_at 1000 32 ∷ extent_at 1031 8 ∷ []) ∷ []) ≡ Some RangesMeet }
+    // A guest's third extent lies in another guest's first.
+    ensures extents_of_guests_that_meet {
+        guests_refused (first_guest ∷ guest_of 0x200000 (extent_at 2000 1 ∷ extent_at 2100 1 ∷ extent_at 1063 1 ∷ []) ∷ []) ≡ Some RangesMeet }
+    // Two extents that are apart.
+    ensures more_extents_than_one { guests_refused (guest_of 0x100000 (extent_at 1000 32 ∷ extent_at 3000 32 ∷ []) ∷ []) ≡ Some BadSize }
     // A guest with the most regions.
     ensures the_most_regions { guests_refused (guest_of_regions 64 ∷ []) ≡ None }
     // One more.

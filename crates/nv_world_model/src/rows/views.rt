@@ -53,7 +53,7 @@ pub fn examples()
     // The world cut down to a guest has the guest's own tag.
     ensures a_cut_keeps_the_own_tag { tag_of cut_to_first 0 0 ≡ Some first_flying }
     // Another's is taken by nobody, whose number is that of no guest.
-    ensures a_cut_gives_anothers_tag_to_nobody { tag_of cut_to_first 0 1 ≡ Some (Taken (record { guest = 2; queue = 0; entry = replicate 64 0 }) []) }
+    ensures a_cut_gives_anothers_tag_to_nobody { tag_of cut_to_first 0 1 ≡ Some (Taken (record { guest = 2; queue = 0; entry = replicate 64 0; leader = 64 }) []) }
     // A free one is free.
     ensures a_cut_leaves_a_free_tag { tag_of cut_to_first 0 2 ≡ Some Free }
     // The device holds the guest's own command.
