@@ -22,7 +22,7 @@ SameInLane memory other mediator lane = SameBetween memory other (lane_start med
 abbrev pub form_ranges : Form → Guest → Work → List ℕ
 form_ranges (Transfer dest) guest work = []
 form_ranges Clear guest work = []
-form_ranges Manage guest work = flat_map (translated_range guest.extent) work.ranges
+form_ranges Manage guest work = flat_map (translated_range guest.namespace) work.ranges
 form_ranges Keep guest work = []
 
 abbrev pub ranges_of : Plan → Guest → List ℕ
