@@ -99,7 +99,7 @@ module _ (host_bytes : ℕ) (geometry : Geometry) (number : ℕ) (guest : Guest)
   abbrev pub it : IsHeld geometry w number guest lane tag plan work h
   it = record { command = command; own = whose; given = given; flies = is_there; held = is_under; goes = goes }
 
-  pub same_before : SameBlocks guest.extent own (whole_of w h.differed)
+  pub same_before : SameBlocks guest.namespace own (whole_of w h.differed)
   same_before = record { bytes = related.blocks; marks = related.marks; compared = refl }
 
   tag_below : tag < tag_count
@@ -211,14 +211,14 @@ module _ (host_bytes : ℕ) (geometry : Geometry) (number : ℕ) (guest : Guest)
 
   -- ---- the event
 
-  steps-are : cond (is_tag_of number (tag_of w lane tag)) (own_moves (work_in (tag_of w lane tag)) name unit) (others_moves (work_in (tag_of w lane tag)) guest.extent)
+  steps-are : cond (is_tag_of number (tag_of w lane tag)) (own_moves (work_in (tag_of w lane tag)) name unit) (others_moves (work_in (tag_of w lane tag)) guest.namespace)
       ≡ own_moves (Some work) name unit
   steps-are =
-      ap (λ o. cond (is_tag_of number o) (own_moves (work_in o) name unit) (others_moves (work_in o) guest.extent)) is_there
-      ∙ ap (λ b. cond b (own_moves (work_of plan) name unit) (others_moves (work_of plan) guest.extent)) mine
+      ap (λ o. cond (is_tag_of number o) (own_moves (work_in o) name unit) (others_moves (work_in o) guest.namespace)) is_there
+      ∙ ap (λ b. cond b (own_moves (work_of plan) name unit) (others_moves (work_of plan) guest.namespace)) mine
       ∙ ap (λ o. own_moves o name unit) goes
 
-  pub moved-goes : SameBlocks guest.extent own_behind moved
+  pub moved-goes : SameBlocks guest.namespace own_behind moved
       → ((addr : ℕ) → mapped (regions_of guest) addr ≡ true → NoneHides number z addr → own_behind.memory addr ≡ image (regions_of guest) moved.memory addr)
       → ((a b : ℕ) (t : Tag) → ((a ≡ lane) → (b ≡ tag) → ⊥) → own_tag number (tag_of w a b) ≡ Some t → IsTagUntouched t guest w.host moved.memory p.memory own_behind.memory)
       → (IsTagRelated (Some was) guest (Some h) (status_in geometry w lane) (bounce_page geometry.mediator lane tag) w.host p.memory
@@ -338,7 +338,7 @@ module _ (host_bytes : ℕ) (geometry : Geometry) (number : ℕ) (guest : Guest)
         world-own_elsewhere host_bytes geometry w reached.laid reached.consistent number guest lane tag plan work h it unit left own reads same_before addr
         (not-among addr (places_of_block work unit) out)
 
-    same-behind : SameBlocks guest.extent own_behind moved
+    same-behind : SameBlocks guest.namespace own_behind moved
     same-behind =
         world-blocks host_bytes geometry w reached.laid reached.consistent number guest lane tag plan work h it unit left own same_before
         (λ form. (let bad : true ≡ false = sym reads ∙ ap form_is_read form in cc))

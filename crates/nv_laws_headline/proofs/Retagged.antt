@@ -7,7 +7,7 @@ use Rattle.nv_model.specs.Limits.{most_bytes}
 use Rattle.nv_model.specs.Memory.{image}
 use Rattle.nv_model.specs.Private.{Private}
 use Rattle.nv_model.specs.Queue.{cqe_size}
-use Rattle.nv_ns.specs.BlockRange.{block_at}
+use Rattle.nv_ns.specs.Extents.{place_in}
 use Rattle.nv_world_model.specs.Area.{bounce_page, completion_slot, tag_count}
 use Rattle.nv_world_model.specs.Contained.{is_answered_at, tag_stands}
 use Rattle.nv_world_model.specs.Device.{DeviceLane, Held}
@@ -205,8 +205,8 @@ module _ (geometry : Geometry) (number : ℕ) (guest : Guest) (w : World) (fine 
   retagged p related controllers disk kept same member hidden one =
       record {
         controller = ap (λ cs. slice_get cs number) controllers ∙ related.controller;
-        blocks = (λ lba offset below. related.blocks lba offset below ∙ sym (ap (λ k. k (block_at guest.extent lba) offset) disk));
-        marks = (λ lba below. related.marks lba below ∙ sym (ap (λ k. k (block_at guest.extent lba)) kept));
+        blocks = (λ lba offset below. related.blocks lba offset below ∙ sym (ap (λ k. k (place_in guest.namespace lba) offset) disk));
+        marks = (λ lba below. related.marks lba below ∙ sym (ap (λ k. k (place_in guest.namespace lba)) kept));
         memory = (λ addr mapped_there none. related.memory addr mapped_there (hidden-retagged addr (hidden addr) none) ∙ ap (λ m. m addr) same);
         bag = (λ name. related.bag name ∙ members-same member name);
         tags = tags-retagged p.memory p.memory

@@ -17,7 +17,7 @@ use Rattle.nv_model.specs.declared.act.Act.{Act}
 use Rattle.nv_model.specs.declared.act.Act.TheVariants as act
 use Rattle.nv_model.specs.declared.reply.Reply.{Reply}
 use Rattle.nv_model.specs.declared.reply.Reply.TheVariants as reply
-use Rattle.nv_ns.specs.BlockRange.{block_at}
+use Rattle.nv_ns.specs.Extents.{place_in}
 use Rattle.nv_world_model.specs.declared.event.Event.TheVariants as event
 use Rattle.nv_world_model.specs.Contained.{guest_of_one}
 use Rattle.nv_world_model.specs.Geometry.{Geometry, Guest, regions_of, shape_of}
@@ -188,8 +188,8 @@ module _ (host_bytes : ℕ) (geometry : Geometry) (w z : World) (laid : IsLaidOu
       (device ∙ sym (set-same w.device lane x.d x.device_one)) (device_too ∙ sym (set-same z.device lane x.e x.device_two)) x.rings (λ b apart. refl) (λ b apart. refl)
       bytes (λ a b y addr apart there lies. left a b y addr there lies)
       (λ lba offset below.
-      ap (λ f. f (block_at guest.extent lba) offset) disk ∙ alike.view.blocks lba offset below ∙ sym (ap (λ f. f (block_at guest.extent lba) offset) disk_too))
-      (λ lba below. ap (λ f. f (block_at guest.extent lba)) kept ∙ alike.marks lba below ∙ sym (ap (λ f. f (block_at guest.extent lba)) kept_too))
+      ap (λ f. f (place_in guest.namespace lba) offset) disk ∙ alike.view.blocks lba offset below ∙ sym (ap (λ f. f (place_in guest.namespace lba) offset) disk_too))
+      (λ lba below. ap (λ f. f (place_in guest.namespace lba)) kept ∙ alike.marks lba below ∙ sym (ap (λ f. f (place_in guest.namespace lba)) kept_too))
       controller many many_too written
       (sym (ap (λ o. own_held number (Some new) (held_in o tag)) x.device_one) ∙ held ∙ ap (λ o. own_held number (Some new) (held_in o tag)) x.device_two)
 

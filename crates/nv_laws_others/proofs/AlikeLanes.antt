@@ -6,7 +6,7 @@ use Rattle.nv_entry.specs.Completion.{status_of}
 use Rattle.nv_model.specs.Memory.{bytes_from, stored}
 use Rattle.nv_model.specs.Queue.{cqe_size, sqe_size}
 use Rattle.nv_model.proofs.MemoryLemmas.{stored-inside}
-use Rattle.nv_ns.specs.BlockRange.{block_at, block_count}
+use Rattle.nv_ns.specs.Extents.{blocks_in, place_in}
 use Rattle.nv_world_model.specs.Area.{bounce_page, completion_slot, list_page, submission_slot}
 use Rattle.nv_world_model.specs.Device.{DeviceLane}
 use Rattle.nv_world_model.specs.Geometry.{Geometry, Guest}
@@ -116,7 +116,7 @@ module _ (geometry : Geometry) (number : ℕ) (guest : Guest) (w z : World) (ali
       → ((b : ℕ) → (b ≡ tag → ⊥) → slice_get behind.held b ≡ slice_get x.d.held b) → ((b : ℕ) → (b ≡ tag → ⊥) → slice_get after.held b ≡ slice_get x.e.held b)
       → ((addr : ℕ) → w.host addr ≡ z.host addr → v.host addr ≡ u.host addr)
       → ((a b : ℕ) (t : Tag) (addr : ℕ) → ((a ≡ lane) → (b ≡ tag) → ⊥) → tag_of w a b ≡ Some t → IsBytes geometry.mediator a b t addr → w.host addr ≡ v.host addr)
-      → ((lba offset : ℕ) → lba < block_count guest.extent → v.disk (block_at guest.extent lba) offset ≡ u.disk (block_at guest.extent lba) offset)
+      → ((lba offset : ℕ) → lba < blocks_in guest.namespace → v.disk (place_in guest.namespace lba) offset ≡ u.disk (place_in guest.namespace lba) offset)
       → SameMarks guest v u → slice_get v.controllers number ≡ slice_get u.controllers number
       → length v.controllers ≡ length w.controllers → length u.controllers ≡ length z.controllers
       → ((addr : ℕ) → is_tag_of number (Some new) ≡ true → list_any (in_span addr) (tag_spans guest geometry v lane tag new) ≡ true → v.host addr ≡ u.host addr)

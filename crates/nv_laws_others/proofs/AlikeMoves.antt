@@ -21,7 +21,7 @@ use Rattle.nv_model.specs.Private.{Moved, block_bytes, others}
 use Rattle.nv_model.proofs.AnyAnswers.{end-sound}
 use Rattle.nv_model.proofs.MemoryLemmas.{scattered-addresses}
 use Rattle.nv_model.proofs.Shown.{length-bytes_from}
-use Rattle.nv_ns.specs.BlockRange.{block_at, block_count}
+use Rattle.nv_ns.specs.Extents.{blocks_in, place_in}
 use Rattle.nv_world_model.specs.declared.event.Event.TheVariants as event
 use Rattle.nv_world_model.specs.Area.{addresses_of, bounce_page, tag_count}
 use Rattle.nv_world_model.specs.Contained.{guest_of_one}
@@ -97,7 +97,7 @@ module _ (host_bytes : ℕ) (geometry : Geometry) (w z : World) (laid : IsLaidOu
       sym (ap (byte_at_host w.host) is) ∙ alike.view.memory addr ∙ ap (byte_at_host z.host) is
 
   -- a block of its
-  block-same : (lba : ℕ) → lba < block_count guest.extent → block_bytes w.disk (block_at guest.extent lba) ≡ block_bytes z.disk (block_at guest.extent lba)
+  block-same : (lba : ℕ) → lba < blocks_in guest.namespace → block_bytes w.disk (place_in guest.namespace lba) ≡ block_bytes z.disk (place_in guest.namespace lba)
   block-same lba below = ap (λ f. bytes_from f 0 block) (fun_ext (λ offset. alike.view.blocks lba offset below))
 
   module _ (lane tag : ℕ) (lane_below : lane < length w.lanes) (tag_below : tag < tag_count) (command : Command) (plan : Plan) (h : Held)
@@ -121,12 +121,12 @@ module _ (host_bytes : ℕ) (geometry : Geometry) (w z : World) (laid : IsLaidOu
         let fit = blocks-fit host_bytes (length w.lanes) geometry laid command.guest guest whose command.entry plan is lane tag has in
         let some = fit.0 in
         let most = fit.1 in
-        let first : slba_of h.entry ≡ block_at guest.extent (slba_of command.entry) =
+        let first : slba_of h.entry ≡ place_in guest.namespace (slba_of command.entry) =
         ap slba_of in_device.entry_is ∙ entry-starts host_bytes (length w.lanes) geometry laid command.guest guest whose command.entry plan is lane tag has in
         let few : k < count_of command.entry =
         subst (λ n. k < n) (blocks-counted (form_of is.work.opcode) command.entry has)
         (unit-below host_bytes (length w.lanes) geometry laid command.guest guest whose command.entry plan is lane tag h w.host in_device k left) in
-        let named : slba_of h.entry + k ≡ block_at guest.extent (slba_of command.entry + k) = omega (arith, first) in
+        let named : slba_of h.entry + k ≡ place_in guest.namespace (slba_of command.entry + k) = omega (arith, first) in
         subst (λ x. block_bytes w.disk x ≡ block_bytes z.disk x) (sym named) (block-same (slba_of command.entry + k) (omega (arith, some, most, few)))
 
     -- the bytes of its places, where it is no Read
@@ -163,11 +163,11 @@ module _ (host_bytes : ℕ) (geometry : Geometry) (w z : World) (laid : IsLaidOu
     abbrev u_moved : Moved
     u_moved = device_unit k geometry.disk_blocks h z.host z.disk z.kept
 
-    effect-alike : AreAlike guest.extent v_moved u_moved
+    effect-alike : AreAlike guest.namespace v_moved u_moved
     unfolding device_unit
     effect-alike =
-        subst (λ o. AreAlike guest.extent (moved_by o k geometry.disk_blocks h m) (moved_by o k geometry.disk_blocks h n)) (sym opcode-is)
-        (unit-alike guest.extent is.work.opcode k geometry.disk_blocks h m n
+        subst (λ o. AreAlike guest.namespace (moved_by o k geometry.disk_blocks h m) (moved_by o k geometry.disk_blocks h n)) (sym opcode-is)
+        (unit-alike guest.namespace is.work.opcode k geometry.disk_blocks h m n
         (record { disk = alike.view.blocks; kept = alike.marks; differed = refl }) (form-gathered (form_of is.work.opcode)) bytes-same)
 
     memory-alike : (addr : ℕ) → w.host addr ≡ z.host addr → v_moved.memory addr ≡ u_moved.memory addr

@@ -60,12 +60,12 @@ list-length list addresses =
     let numbers = listed (entries_of addresses) in
     ap (λ ns. length (flat_map (number_bytes 8) ns)) (take-append_seam numbers (replicate (32 - length numbers) 0)) ∙ length-eights numbers
 
-length-ranges : (guest : Guest) (ranges : List (List ℕ)) → length (flat_map (translated_range guest.extent) ranges) ≡ 16 * length ranges
+length-ranges : (guest : Guest) (ranges : List (List ℕ)) → length (flat_map (translated_range guest.namespace) ranges) ≡ 16 * length ranges
 length-ranges guest [] = omega arith
 length-ranges guest (range ∷ ranges) =
     let rest = length-ranges guest ranges in
-    let one : length (translated_range guest.extent range) ≡ 16 = refl in
-    length-append (translated_range guest.extent range) (flat_map (translated_range guest.extent) ranges) ∙ omega (arith, one, rest)
+    let one : length (translated_range guest.namespace range) ≡ 16 = refl in
+    length-append (translated_range guest.namespace range) (flat_map (translated_range guest.namespace) ranges) ∙ omega (arith, one, rest)
 
 -- what is bounced of a command that is no Read is as long as its transfer
 form-length : (form : Form) (guest : Guest) (host : ℕ → ℕ) (work : Work) (entry : List ℕ) → form_has_buffer form ≡ true → form_is_read form ≡ false

@@ -17,7 +17,7 @@ use Rattle.nv_model.specs.Private.{Moved, block_bytes, block_moved, differs, pla
 use Rattle.nv_model.proofs.MemoryAlike.{scattered-at}
 use Rattle.nv_model.proofs.UnitsElsewhere.{units-memory}
 use Rattle.nv_model.proofs.UnitWords.{units_moved-cleared, units_moved-left}
-use Rattle.nv_ns.specs.BlockRange.{Extent, block_at, block_count}
+use Rattle.nv_ns.specs.Extents.{Namespace, blocks_in, place_in}
 use Rattle.nv_world_model.specs.Device.{Held, moved_by, range_at}
 use Rattle.nv_world_model.specs.LaneRuns.{unit_places}
 use Rattle.nv_world_model.specs.View.{Span}
@@ -27,9 +27,9 @@ use Rattle.nv_laws_others.proofs.ShownTags.{any-behind, any-front}
 -- ---- blocks
 
 -- a guest's blocks and marks are the same behind both, and so is whether a Compare has differed
-pub record AreAlike (extent : Extent) (m n : Moved) : Type 0 where
-  pub disk : (lba offset : ℕ) → lba < block_count extent → m.disk (block_at extent lba) offset ≡ n.disk (block_at extent lba) offset
-  pub kept : (lba : ℕ) → lba < block_count extent → m.kept (block_at extent lba) ≡ n.kept (block_at extent lba)
+pub record AreAlike (ns : Namespace) (m n : Moved) : Type 0 where
+  pub disk : (lba offset : ℕ) → lba < blocks_in ns → m.disk (place_in ns lba) offset ≡ n.disk (place_in ns lba) offset
+  pub kept : (lba : ℕ) → lba < blocks_in ns → m.kept (place_in ns lba) ≡ n.kept (place_in ns lba)
   pub differed : m.differed ≡ n.differed
 
 -- a mark that may rise
@@ -40,18 +40,18 @@ raised kept also x at fua same =
       | false ↦ λ is. same
     ]) refl
 
-module _ (extent : Extent) where
+module _ (ns : Namespace) where
   -- a block of a transfer
-  block-alike : (opcode : IoOpcode) (work : Work) (index at : ℕ) (m n : Moved) → AreAlike extent m n
+  block-alike : (opcode : IoOpcode) (work : Work) (index at : ℕ) (m n : Moved) → AreAlike ns m n
       → (is_read opcode ≡ false → gathered m.memory (places_of_block work index) ≡ gathered n.memory (places_of_block work index))
       → block_bytes m.disk at ≡ block_bytes n.disk at → (r s : Moved) → r ≡ block_moved opcode work index at m.memory m.disk m.kept
       → s ≡ block_moved opcode work index at n.memory n.disk n.kept
-      → AreAlike extent (record { memory = r.memory; disk = r.disk; kept = r.kept; differed = m.differed || r.differed })
+      → AreAlike ns (record { memory = r.memory; disk = r.disk; kept = r.kept; differed = m.differed || r.differed })
       (record { memory = s.memory; disk = s.disk; kept = s.kept; differed = n.differed || s.differed })
   block-alike opcode work index at m n alike gather bytes r s is also =
-      subst (λ (x : Moved). AreAlike extent (record { memory = x.memory; disk = x.disk; kept = x.kept; differed = m.differed || x.differed })
+      subst (λ (x : Moved). AreAlike ns (record { memory = x.memory; disk = x.disk; kept = x.kept; differed = m.differed || x.differed })
       (record { memory = s.memory; disk = s.disk; kept = s.kept; differed = n.differed || s.differed })) (sym is)
-      (subst (λ (y : Moved). AreAlike extent
+      (subst (λ (y : Moved). AreAlike ns
       (record {
         memory = (block_moved opcode work index at m.memory m.disk m.kept).memory;
         disk = (block_moved opcode work index at m.memory m.disk m.kept).disk;
@@ -62,7 +62,7 @@ module _ (extent : Extent) where
       (by_opcode opcode gather))
     where
       by_opcode : (o : IoOpcode) → (is_read o ≡ false → gathered m.memory (places_of_block work index) ≡ gathered n.memory (places_of_block work index))
-          → AreAlike extent
+          → AreAlike ns
           (record {
             memory = (block_moved o work index at m.memory m.disk m.kept).memory;
             disk = (block_moved o work index at m.memory m.disk m.kept).disk;
@@ -78,21 +78,21 @@ module _ (extent : Extent) where
       by_opcode Read same =
           record {
             disk = alike.disk;
-            kept = (λ lba below. raised m.kept n.kept (block_at extent lba) at work.fua (alike.kept lba below));
+            kept = (λ lba below. raised m.kept n.kept (place_in ns lba) at work.fua (alike.kept lba below));
             differed = ap (λ b. b || false) alike.differed;
           }
       by_opcode Write same =
           record {
             disk = (λ lba offset below.
-                ap (λ bs. cond (block_at extent lba == at) (stored (λ _. 0) 0 bs offset) (m.disk (block_at extent lba) offset)) (same refl)
-                ∙ ap (λ v. cond (block_at extent lba == at) (stored (λ _. 0) 0 (gathered n.memory (places_of_block work index)) offset) v) (alike.disk lba offset below));
-            kept = (λ lba below. ap (λ k. cond (block_at extent lba == at) work.fua k) (alike.kept lba below));
+                ap (λ bs. cond (place_in ns lba == at) (stored (λ _. 0) 0 bs offset) (m.disk (place_in ns lba) offset)) (same refl)
+                ∙ ap (λ v. cond (place_in ns lba == at) (stored (λ _. 0) 0 (gathered n.memory (places_of_block work index)) offset) v) (alike.disk lba offset below));
+            kept = (λ lba below. ap (λ k. cond (place_in ns lba == at) work.fua k) (alike.kept lba below));
             differed = ap (λ b. b || false) alike.differed;
           }
       by_opcode Compare same =
           record {
             disk = alike.disk;
-            kept = (λ lba below. raised m.kept n.kept (block_at extent lba) at work.fua (alike.kept lba below));
+            kept = (λ lba below. raised m.kept n.kept (place_in ns lba) at work.fua (alike.kept lba below));
             differed =
                 ap (λ b. b || differs (gathered m.memory (places_of_block work index)) (block_bytes m.disk at)) alike.differed
                 ∙ ap (λ bs. n.differed || differs bs (block_bytes m.disk at)) (same refl)
@@ -103,35 +103,35 @@ module _ (extent : Extent) where
       by_opcode Flush same = record { disk = alike.disk; kept = alike.kept; differed = ap (λ b. b || false) alike.differed }
 
   -- blocks that are cleared
-  one-alike : (at : ℕ) (mark : Bool) (m n : Moved) → AreAlike extent m n → AreAlike extent (cleared_one at mark m) (cleared_one at mark n)
+  one-alike : (at : ℕ) (mark : Bool) (m n : Moved) → AreAlike ns m n → AreAlike ns (cleared_one at mark m) (cleared_one at mark n)
   one-alike at mark m n alike =
       record {
-        disk = (λ lba offset below. ap (λ v. cond (block_at extent lba == at) (stored (λ _. 0) 0 (replicate block 0) offset) v) (alike.disk lba offset below));
-        kept = (λ lba below. ap (λ k. cond (block_at extent lba == at) mark k) (alike.kept lba below));
+        disk = (λ lba offset below. ap (λ v. cond (place_in ns lba == at) (stored (λ _. 0) 0 (replicate block 0) offset) v) (alike.disk lba offset below));
+        kept = (λ lba below. ap (λ k. cond (place_in ns lba == at) mark k) (alike.kept lba below));
         differed = alike.differed;
       }
 
-  cleared-alike : (lbas : List ℕ) (mark : Bool) (m n : Moved) → AreAlike extent m n → AreAlike extent (cleared lbas mark m) (cleared lbas mark n)
+  cleared-alike : (lbas : List ℕ) (mark : Bool) (m n : Moved) → AreAlike ns m n → AreAlike ns (cleared lbas mark m) (cleared lbas mark n)
   unfolding cleared
   cleared-alike [] mark m n alike = alike
   cleared-alike (lba ∷ lbas) mark m n alike = cleared-alike lbas mark (cleared_one lba mark m) (cleared_one lba mark n) (one-alike lba mark m n alike)
 
-  range-alike : (deallocate : Bool) (range : List ℕ) (work : Work) (m n : Moved) → AreAlike extent m n
-      → AreAlike extent (units_moved (one_range_units deallocate range) work m) (units_moved (one_range_units deallocate range) work n)
+  range-alike : (deallocate : Bool) (range : List ℕ) (work : Work) (m n : Moved) → AreAlike ns m n
+      → AreAlike ns (units_moved (one_range_units deallocate range) work m) (units_moved (one_range_units deallocate range) work n)
   range-alike true range work m n alike =
       let lbas = range_with_len (start_of range) (blocks_of range) in
-      subst (λ r. AreAlike extent r (units_moved (one_range_units true range) work n)) (sym (units_moved-cleared false lbas work m))
-      (subst (λ s. AreAlike extent (cleared lbas false m) s) (sym (units_moved-cleared false lbas work n)) (cleared-alike lbas false m n alike))
+      subst (λ r. AreAlike ns r (units_moved (one_range_units true range) work n)) (sym (units_moved-cleared false lbas work m))
+      (subst (λ s. AreAlike ns (cleared lbas false m) s) (sym (units_moved-cleared false lbas work n)) (cleared-alike lbas false m n alike))
   range-alike false range work m n alike =
       let lbas = range_with_len (start_of range) (blocks_of range) in
-      subst (λ r. AreAlike extent r (units_moved (one_range_units false range) work n)) (sym (units_moved-left lbas work m))
-      (subst (λ s. AreAlike extent m s) (sym (units_moved-left lbas work n)) alike)
+      subst (λ r. AreAlike ns r (units_moved (one_range_units false range) work n)) (sym (units_moved-left lbas work m))
+      (subst (λ s. AreAlike ns m s) (sym (units_moved-left lbas work n)) alike)
 
   -- a unit of a command
-  pub unit-alike : (opcode : IoOpcode) (number disk_blocks : ℕ) (h : Held) (m n : Moved) → AreAlike extent m n
+  pub unit-alike : (opcode : IoOpcode) (number disk_blocks : ℕ) (h : Held) (m n : Moved) → AreAlike ns m n
       → (is_read opcode ≡ false → gathered m.memory (unit_places (Some opcode) number h.pieces) ≡ gathered n.memory (unit_places (Some opcode) number h.pieces))
       → (has_blocks opcode ≡ true → block_bytes m.disk (slba_of h.entry + number) ≡ block_bytes n.disk (slba_of h.entry + number))
-      → AreAlike extent (moved_by (Some opcode) number disk_blocks h m) (moved_by (Some opcode) number disk_blocks h n)
+      → AreAlike ns (moved_by (Some opcode) number disk_blocks h m) (moved_by (Some opcode) number disk_blocks h n)
   unfolding units_moved
   unit-alike Read number disk_blocks h m n alike gather bytes =
       block-alike Read (block_work Read h.pieces (has_blocks Read && is_fua h.entry)) number (slba_of h.entry + number) m n alike gather (bytes refl) _ _ refl refl
@@ -145,12 +145,12 @@ module _ (extent : Extent) where
   unit-alike DatasetManagement number disk_blocks h m n alike gather bytes =
       let work = block_work DatasetManagement h.pieces (has_blocks DatasetManagement && is_fua h.entry) in
       let moved = λ (range : List ℕ) (x : Moved). units_moved (one_range_units (deallocates h.entry) range) work x in
-      subst (λ range. AreAlike extent (moved (range_at number h.pieces m.memory) m) (moved range n))
+      subst (λ range. AreAlike ns (moved (range_at number h.pieces m.memory) m) (moved range n))
       (gather refl) (range-alike (deallocates h.entry) (range_at number h.pieces m.memory) work m n alike)
   unit-alike Flush number disk_blocks h m n alike gather bytes =
       record {
         disk = alike.disk;
-        kept = (λ lba below. ap (λ k. nat_lt (block_at extent lba) disk_blocks || k) (alike.kept lba below));
+        kept = (λ lba below. ap (λ k. nat_lt (place_in ns lba) disk_blocks || k) (alike.kept lba below));
         differed = ap (λ b. b || false) alike.differed;
       }
 

@@ -8,7 +8,7 @@ use Rattle.nv_entry.specs.Completion.{status_of}
 use Rattle.nv_mem.specs.GuestMap.{host_of}
 use Rattle.nv_model.specs.Memory.{byte_at_host, image}
 use Rattle.nv_model.specs.Queue.{cqe_size, next_slot}
-use Rattle.nv_ns.specs.BlockRange.{block_at, block_count}
+use Rattle.nv_ns.specs.Extents.{blocks_in, place_in}
 use Rattle.nv_world_model.specs.Area.{completion_slot, ring_size}
 use Rattle.nv_world_model.specs.Contained.{is_answered_at, tag_stands}
 use Rattle.nv_world_model.specs.Device.{DeviceLane, next_phase}
@@ -87,7 +87,7 @@ put-same f xs ys i x y same one =
 -- all but tags, and what the device holds
 pub record IsRestAlike (number : ℕ) (guest : Guest) (w z v u : World) : Type 0 where
   pub bytes : (addr : ℕ) → w.host addr ≡ z.host addr → v.host addr ≡ u.host addr
-  pub blocks : (lba offset : ℕ) → lba < block_count guest.extent → v.disk (block_at guest.extent lba) offset ≡ u.disk (block_at guest.extent lba) offset
+  pub blocks : (lba offset : ℕ) → lba < blocks_in guest.namespace → v.disk (place_in guest.namespace lba) offset ≡ u.disk (place_in guest.namespace lba) offset
   pub marks : SameMarks guest v u
   pub controller : slice_get v.controllers number ≡ slice_get u.controllers number
   pub shared : shared_numbers v ≡ shared_numbers u

@@ -11,13 +11,13 @@ use Rattle.nv_mem.specs.GuestMap.{host_of}
 use Rattle.nv_mem.proofs.Images.{guest_of-host}
 use Rattle.nv_model.specs.Controller.{Controller, opening}
 use Rattle.nv_model.specs.Memory.{byte_at_host, image}
-use Rattle.nv_ns.specs.BlockRange.{Extent, block_at, block_count}
+use Rattle.nv_ns.specs.Extents.{Namespace, blocks_in, place_in}
 use Rattle.nv_world_model.specs.CutDown.{cut, cut_controller, cut_device, cut_lane, cut_tag, nobodys}
 use Rattle.nv_world_model.specs.Device.{DeviceLane, Held}
 use Rattle.nv_world_model.specs.Geometry.{Geometry, Guest, regions_of}
 use Rattle.nv_world_model.specs.Seat.{held_by, held_in}
 use Rattle.nv_world_model.specs.Step.{is_free}
-use Rattle.nv_world_model.specs.View.{IsAlike, in_extent, in_image, is_tag_of, lane_numbers, lies_in, own_held, own_tag, ring_numbers, shared_numbers, shown}
+use Rattle.nv_world_model.specs.View.{IsAlike, in_extents, in_image, is_tag_of, lane_numbers, lies_in, own_held, own_tag, ring_numbers, shared_numbers, shown}
 use Rattle.nv_world_model.specs.World.{Ended, Flying, Free, Lane, Tag, Taken, World, tag_in, tag_of}
 use Rattle.nv_laws_sound.specs.LaidOut.{IsLaidOut}
 use Rattle.nv_laws_sound.proofs.Lists.{slice_get-below}
@@ -150,14 +150,14 @@ controller-kept number b w is on =
 
 -- ---- blocks
 
-in-own-extent : (extent : Extent) (lba : ℕ) → lba < block_count extent → in_extent extent (block_at extent lba) ≡ true
-in-own-extent extent lba below =
-    (elim (in_extent extent (block_at extent lba)) as (λ b. in_extent extent (block_at extent lba) ≡ b → b ≡ true) [
+in-own-extent : (ns : Namespace) (lba : ℕ) → lba < blocks_in ns → in_extents ns (place_in ns lba) ≡ true
+in-own-extent ns lba below =
+    (elim (in_extents ns (place_in ns lba)) as (λ b. in_extents ns (place_in ns lba) ≡ b → b ≡ true) [
       | true ↦ λ is. refl
-      | false ↦ λ is. absurd (apart (outside-extent extent (block_at extent lba) is))
+      | false ↦ λ is. absurd (apart (outside-extent ns (place_in ns lba) is))
     ]) refl
   where
-    apart : (block_at extent lba < extent.base) ⊎ (extent.base + extent.blocks ≤ block_at extent lba) → ⊥
+    apart : (place_in ns lba < extent.base) ⊎ (extent.base + extent.blocks ≤ place_in ns lba) → ⊥
     apart (inl before) = absurd (omega (arith, before))
     apart (inr behind) = absurd (omega (arith, behind, below))
 
@@ -230,12 +230,12 @@ module _ (host_bytes lanes : ℕ) (geometry : Geometry) (laid : IsLaidOut host_b
       record {
         view = record {
           memory = (λ addr. memory-kept addr (host_of (regions_of guest) addr) refl);
-          blocks = (λ lba offset below. sym (ap (λ b. cond b (w.disk (block_at guest.extent lba) offset) 0) (in-own-extent guest.extent lba below)));
+          blocks = (λ lba offset below. sym (ap (λ b. cond b (w.disk (place_in guest.namespace lba) offset) 0) (in-own-extent guest.namespace lba below)));
           controller = controller-kept number (number == number) w refl (eq-eqb number number refl);
           tags = tags-same;
           held = held-same;
           area = (λ addr lies. sym (ap (λ b. cond b (w.host addr) 0) (or-behind (in_image guest addr) _ lies)));
         };
-        marks = (λ lba below. sym (ap (λ b. b && w.kept (block_at guest.extent lba)) (in-own-extent guest.extent lba below)));
+        marks = (λ lba below. sym (ap (λ b. b && w.kept (place_in guest.namespace lba)) (in-own-extent guest.namespace lba below)));
         shared = numbers-same;
       }

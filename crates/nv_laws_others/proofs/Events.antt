@@ -10,7 +10,7 @@ use Rattle.nv_model.specs.Private.{Acted, acted}
 use Rattle.nv_model.specs.declared.act.Act.{Act}
 use Rattle.nv_model.proofs.PutImages.{put_image-elsewhere}
 use Rattle.nv_world_model.specs.declared.event.Event.TheVariants as event
-use Rattle.nv_world_model.specs.Contained.{given_to, in_area, in_extent_of, in_image_of}
+use Rattle.nv_world_model.specs.Contained.{given_to, in_area, in_extents_of, in_image_of}
 use Rattle.nv_world_model.specs.Device.{DeviceLane}
 use Rattle.nv_world_model.specs.Geometry.{Geometry, Guest, regions_of, shape_of}
 use Rattle.nv_world_model.specs.Seat.{Owner, held_in, owner_of, put_back, seat}
@@ -32,8 +32,8 @@ pub record LeavesRest (geometry : Geometry) (whose : Option ℕ) (w z : World) :
   pub bytes : (at : ℕ) → in_image_of (given_to whose geometry) at ≡ false → in_area geometry w at ≡ false → w.host at ≡ z.host at
   pub area : (number : ℕ) (guest : Guest) (addr : ℕ) → slice_get geometry.guests number ≡ Some guest → whose ≢ Some number
       → IsShownAt number geometry w addr → w.host addr ≡ z.host addr
-  pub blocks : (at offset : ℕ) → in_extent_of (given_to whose geometry) at ≡ false → w.disk at offset ≡ z.disk at offset
-  pub marks : (at : ℕ) → in_extent_of (given_to whose geometry) at ≡ false → w.kept at ≡ true → z.kept at ≡ true
+  pub blocks : (at offset : ℕ) → in_extents_of (given_to whose geometry) at ≡ false → w.disk at offset ≡ z.disk at offset
+  pub marks : (at : ℕ) → in_extents_of (given_to whose geometry) at ≡ false → w.kept at ≡ true → z.kept at ≡ true
   pub controllers : (number : ℕ) → whose ≢ Some number → slice_get w.controllers number ≡ slice_get z.controllers number
 
 module _ (geometry : Geometry) (whose : Option ℕ) (w : World) where

@@ -9,9 +9,9 @@ use Rattle.nv_mem.specs.GuestMap.{guest_of, host_of}
 use Rattle.nv_mem.proofs.Images.{guest_of-host}
 use Rattle.nv_model.specs.Memory.{byte_at_host, image}
 use Rattle.nv_model.proofs.Endings.{and-true}
-use Rattle.nv_ns.specs.BlockRange.{block_at, block_count}
+use Rattle.nv_ns.specs.Extents.{blocks_in, place_in}
 use Rattle.nv_world_model.specs.Area.{lane_start, ring_size, tag_count}
-use Rattle.nv_world_model.specs.Contained.{LeavesOthers, given_to, in_area, in_extent_of, in_image_of, is_answered_at, is_queued_at, tag_stands}
+use Rattle.nv_world_model.specs.Contained.{LeavesOthers, given_to, in_area, in_extents_of, in_image_of, is_answered_at, is_queued_at, tag_stands}
 use Rattle.nv_world_model.specs.Device.{DeviceLane, Held}
 use Rattle.nv_world_model.specs.Geometry.{Geometry, Guest, regions_of}
 use Rattle.nv_world_model.specs.View.{is_tag_of}
@@ -59,20 +59,20 @@ module _ (host_bytes : ℕ) (geometry : Geometry) (lanes : ℕ) (laid : IsLaidOu
 
   -- a guest's blocks are none of another's
   extent-of : (found : Option Guest) (number other : ℕ) (guest : Guest) (lba : ℕ) → slice_get geometry.guests other ≡ found
-      → slice_get geometry.guests number ≡ Some guest → number ≢ other → lba < block_count guest.extent → in_extent_of found (block_at guest.extent lba) ≡ false
+      → slice_get geometry.guests number ≡ Some guest → number ≢ other → lba < blocks_in guest.namespace → in_extents_of found (place_in guest.namespace lba) ≡ false
   extent-of None number other guest lba is given differ below = refl
   extent-of (Some g) number other guest lba is given differ below =
-      list_any_none (λ n. block_at g.extent n == block_at guest.extent lba) (range_with_len 0 (block_count g.extent))
-      (row-all (λ n. (block_at g.extent n == block_at guest.extent lba) ≡ false) 0 (block_count g.extent)
-      (λ n low high. ne_eqb (block_at g.extent n) (block_at guest.extent lba) (λ same. meets n high same (laid.apart number other guest g given is differ).blocks)))
+      list_any_none (λ n. place_in g.namespace n == place_in guest.namespace lba) (range_with_len 0 (blocks_in g.namespace))
+      (row-all (λ n. (place_in g.namespace n == place_in guest.namespace lba) ≡ false) 0 (blocks_in g.namespace)
+      (λ n low high. ne_eqb (place_in g.namespace n) (place_in guest.namespace lba) (λ same. meets n high same (laid.apart number other guest g given is differ).blocks)))
     where
-      meets : (n : ℕ) → n < 0 + block_count g.extent → block_at g.extent n ≡ block_at guest.extent lba
+      meets : (n : ℕ) → n < 0 + blocks_in g.namespace → place_in g.namespace n ≡ place_in guest.namespace lba
           → (guest.extent.base + guest.extent.blocks ≤ g.extent.base) ⊎ (g.extent.base + g.extent.blocks ≤ guest.extent.base) → ⊥
       meets n high same (inl before) = absurd (omega (arith, high, same, before, below))
       meets n high same (inr behind) = absurd (omega (arith, high, same, behind, below))
 
   pub extent-apart : (whose : Option ℕ) (number : ℕ) (guest : Guest) (lba : ℕ) → slice_get geometry.guests number ≡ Some guest → whose ≢ Some number
-      → lba < block_count guest.extent → in_extent_of (given_to whose geometry) (block_at guest.extent lba) ≡ false
+      → lba < blocks_in guest.namespace → in_extents_of (given_to whose geometry) (place_in guest.namespace lba) ≡ false
   extent-apart None number guest lba given differ below = refl
   extent-apart (Some other) number guest lba given differ below =
       extent-of (slice_get geometry.guests other) number other guest lba refl given (λ same. differ (ap (λ n. Some n) (sym same))) below
@@ -96,7 +96,7 @@ module _ (host_bytes : ℕ) (geometry : Geometry) (lanes : ℕ) (laid : IsLaidOu
         views = (λ number guest given differ.
             record {
               memory = (λ addr. memory-left whose w z number guest addr sized given differ leaves (host_of (regions_of guest) addr) refl);
-              blocks = (λ lba offset below. leaves.blocks (block_at guest.extent lba) offset (extent-apart whose number guest lba given differ below));
+              blocks = (λ lba offset below. leaves.blocks (place_in guest.namespace lba) offset (extent-apart whose number guest lba given differ below));
               controller = leaves.controllers number differ;
               tags = (λ lane tag. leaves.tags number lane tag differ);
               held = (λ lane tag. leaves.held number lane tag differ);

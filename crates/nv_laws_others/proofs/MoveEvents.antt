@@ -19,11 +19,11 @@ use Rattle.nv_laws_sound.proofs.EntryFields.{entry-opcode}
 use Rattle.nv_model.specs.Private.{Moved}
 use Rattle.nv_model.proofs.AnyAnswers.{end-sound}
 use Rattle.nv_model.proofs.UnitsElsewhere.{IsSame, units-elsewhere}
-use Rattle.nv_ns.specs.BlockRange.{Extent, block_at}
+use Rattle.nv_ns.specs.Extents.{Namespace, place_in}
 use Rattle.nv_world_model.specs.Device.{Held, device_unit, form_moves, moved_by}
 use Rattle.nv_world_model.specs.Geometry.{Geometry, Guest, regions_of, shape_of}
 use Rattle.nv_world_model.specs.Plan.{Plan}
-use Rattle.nv_world_model.specs.View.{in_extent}
+use Rattle.nv_world_model.specs.View.{in_extents}
 use Rattle.nv_laws_sound.specs.Consistent.{IsInDevice, IsPlanned}
 use Rattle.nv_laws_sound.specs.LaidOut.{IsLaidOut}
 use Rattle.nv_laws_sound.proofs.OnDisk.{AreOwn, entry-own, range-elsewhere, range-own, unit-below}
@@ -38,30 +38,30 @@ any-rest : {X : Type 0} (p : X → Bool) (x : X) (xs : List X) → list_any p xs
 any-rest p x xs is = (elim (p x) as (λ b. (b || list_any p xs) ≡ true) [ true ↦ refl | false ↦ is ])
 
 -- a number of a row is one of the row
-any-of : (extent : Extent) (at from len : ℕ) → extent.base + from ≤ at → at < extent.base + (from + len)
-    → list_any (λ lba. block_at extent lba == at) (range_with_len from len) ≡ true
-any-of extent at from zero low high = absurd (omega (arith, low, high))
-any-of extent at from (suc len) low high =
+any-of : (ns : Namespace) (at from len : ℕ) → extent.base + from ≤ at → at < extent.base + (from + len)
+    → list_any (λ lba. place_in ns lba == at) (range_with_len from len) ≡ true
+any-of ns at from zero low high = absurd (omega (arith, low, high))
+any-of ns at from (suc len) low high =
     elim (cases_eq (extent.base + from) at) [
-      | inl same ↦ any-first (λ lba. block_at extent lba == at) from (range_with_len (from + 1) len) (eq-eqb (extent.base + from) at same)
-      | inr other ↦ any-rest (λ lba. block_at extent lba == at) from (range_with_len (from + 1) len)
-          (any-of extent at (from + 1) len (omega (arith, low, other)) (omega (arith, high)))
+      | inl same ↦ any-first (λ lba. place_in ns lba == at) from (range_with_len (from + 1) len) (eq-eqb (extent.base + from) at same)
+      | inr other ↦ any-rest (λ lba. place_in ns lba == at) from (range_with_len (from + 1) len)
+          (any-of ns at (from + 1) len (omega (arith, low, other)) (omega (arith, high)))
     ]
 
 -- a block that isn't a guest's lies before or behind its range
-pub outside-extent : (extent : Extent) (at : ℕ) → in_extent extent at ≡ false → (at < extent.base) ⊎ (extent.base + extent.blocks ≤ at)
-outside-extent extent at out =
+pub outside-extent : (ns : Namespace) (at : ℕ) → in_extents ns at ≡ false → (at < extent.base) ⊎ (extent.base + extent.blocks ≤ at)
+outside-extent ns at out =
     elim (cases_lt at extent.base) [
       | inl before ↦ inl before
       | inr from ↦ elim (cases_lt at (extent.base + extent.blocks)) [
-        | inl inside ↦ (let bad : true ≡ false = sym (any-of extent at 0 extent.blocks (omega (arith, from)) (omega (arith, inside))) ∙ out in cc)
+        | inl inside ↦ (let bad : true ≡ false = sym (any-of ns at 0 extent.blocks (omega (arith, from)) (omega (arith, inside))) ∙ out in cc)
         | inr behind ↦ inr behind
       ]
     ]
 
 -- ---- blocks of the guest's
 
-module _ (extent : Extent) (at : ℕ) (away : (at < extent.base) ⊎ (extent.base + extent.blocks ≤ at)) (start count : ℕ) (own : AreOwn extent start count) where
+module _ (ns : Namespace) (at : ℕ) (away : (at < extent.base) ⊎ (extent.base + extent.blocks ≤ at)) (start count : ℕ) (own : AreOwn ns start count) where
   -- a block outside of its range lies outside of them
   own-apart : (at < start) ⊎ (start + count ≤ at)
   own-apart = by away
@@ -110,15 +110,15 @@ module _ (host_bytes lanes : ℕ) (geometry : Geometry) (laid : IsLaidOut host_b
     -- the unit's block is the guest's, so it is no block elsewhere
     pub block-apart : has_blocks is.work.opcode ≡ true → number < count_of entry → slba_of h.entry + number ≢ at
     block-apart has few =
-        one-apart guest.extent at away (slba_of h.entry) (count_of entry)
-        (subst (λ e. AreOwn guest.extent (slba_of e) (count_of entry)) (sym in_device.entry_is)
+        one-apart guest.namespace at away (slba_of h.entry) (count_of entry)
+        (subst (λ e. AreOwn guest.namespace (slba_of e) (count_of entry)) (sym in_device.entry_is)
         (entry-own host_bytes lanes geometry laid owner guest given entry plan is lane tag has)) number few
 
     -- and so is a range of a Dataset Management, as the disk has it
     pub range-apart : form_of is.work.opcode ≡ Manage
         → (at < start_of (range_at number h.pieces host)) ⊎ (start_of (range_at number h.pieces host) + blocks_of (range_at number h.pieces host) ≤ at)
     range-apart form =
-        own-apart guest.extent at away (start_of (range_at number h.pieces host)) (blocks_of (range_at number h.pieces host))
+        own-apart guest.namespace at away (start_of (range_at number h.pieces host)) (blocks_of (range_at number h.pieces host))
         (range-own host_bytes lanes geometry laid owner guest given entry plan is lane tag h host in_device number left form)
 
     -- a unit of a command of that form leaves the block

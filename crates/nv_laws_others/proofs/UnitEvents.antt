@@ -6,7 +6,7 @@ use Rattle.nv_mem.specs.Places.{At}
 use Rattle.nv_model.specs.Laws.{IsAnother}
 use Rattle.nv_world_model.specs.declared.event.Event.TheVariants as event
 use Rattle.nv_world_model.specs.Area.{bounce_page, tag_count}
-use Rattle.nv_world_model.specs.Contained.{given_to, guest_of_one, in_extent_of, in_image_of}
+use Rattle.nv_world_model.specs.Contained.{given_to, guest_of_one, in_extents_of, in_image_of}
 use Rattle.nv_world_model.specs.Device.{DeviceLane, Held, device_unit, unit_gone, with_held}
 use Rattle.nv_world_model.specs.Geometry.{Geometry, regions_of}
 use Rattle.nv_world_model.specs.Step.{device_move, device_moved, step}
@@ -45,9 +45,9 @@ module _ (host_bytes : ℕ) (geometry : Geometry) (w : World) (laid : IsLaidOut 
       let now = with_held tag (Some (unit_gone number m.differed h)) d in
       let image_out : (x : ℕ) → in_image_of (given_to (Some whose) geometry) x ≡ false → guest_of (regions_of holds.guest) x ≡ None =
       λ x out. not-some (guest_of (regions_of holds.guest) x) (sym (ap (λ o. in_image_of o x) given) ∙ out) in
-      let stays : (x : ℕ) → in_extent_of (given_to (Some whose) geometry) x ≡ false → _ =
+      let stays : (x : ℕ) → in_extents_of (given_to (Some whose) geometry) x ≡ false → _ =
       λ x out. unit-stays host_bytes (length w.lanes) geometry laid whose holds.guest given holds.command.entry holds.plan holds.planned lane tag h w.host holds.in_device number left x
-      (outside-extent holds.guest.extent x (sym (ap (λ o. in_extent_of o x) given) ∙ out)) tag_below w.disk w.kept in
+      (outside-extent holds.guest.namespace x (sym (ap (λ o. in_extents_of o x) given) ∙ out)) tag_below w.disk w.kept in
       of-tag host_bytes geometry w laid fine lane tag was whose _ (ap (λ x. tag_in x tag) at ∙ flies) refl
       (leaves-tag geometry (Some whose) w _ lane tag l l d now was was at there flies (sym (set-same l.tags tag was flies)) (sym (set-same w.lanes lane l at))
       (ap (λ o. changed_at o lane (with_held tag (Some (unit_gone number m.differed h))) w.device) there)

@@ -1,7 +1,7 @@
 -- Words of the laws about what an event leaves: where bytes that are shown to a guest lie, and what of a world stays as it is.
 use Rattle.std.specs.Prelude.{◌≡◌, ◌≢◌, ℕ, ◌+◌, ◌<◌, ◌≤◌, true, false, slice_get, Option, Some}
 use Rattle.nv_world_model.specs.Area.{completion_slot, list_page, submission_slot}
-use Rattle.nv_world_model.specs.Contained.{given_to, in_area, in_extent_of, in_image_of, is_answered_at, is_queued_at, tag_stands}
+use Rattle.nv_world_model.specs.Contained.{given_to, in_area, in_extents_of, in_image_of, is_answered_at, is_queued_at, tag_stands}
 use Rattle.nv_world_model.specs.Geometry.{Geometry, Guest}
 use Rattle.nv_world_model.specs.Seat.{held_in}
 use Rattle.nv_world_model.specs.View.{is_tag_of, own_held, own_tag}
@@ -30,8 +30,8 @@ pub record Leaves (geometry : Geometry) (whose : Option ℕ) (w z : World) : Typ
   pub bytes : (at : ℕ) → in_image_of (given_to whose geometry) at ≡ false → in_area geometry w at ≡ false → w.host at ≡ z.host at
   pub area : (number : ℕ) (guest : Guest) (addr : ℕ) → slice_get geometry.guests number ≡ Some guest → whose ≢ Some number
       → IsShownAt number geometry w addr → w.host addr ≡ z.host addr
-  pub blocks : (at offset : ℕ) → in_extent_of (given_to whose geometry) at ≡ false → w.disk at offset ≡ z.disk at offset
-  pub marks : (at : ℕ) → in_extent_of (given_to whose geometry) at ≡ false → w.kept at ≡ true → z.kept at ≡ true
+  pub blocks : (at offset : ℕ) → in_extents_of (given_to whose geometry) at ≡ false → w.disk at offset ≡ z.disk at offset
+  pub marks : (at : ℕ) → in_extents_of (given_to whose geometry) at ≡ false → w.kept at ≡ true → z.kept at ≡ true
   pub controllers : (number : ℕ) → whose ≢ Some number → slice_get w.controllers number ≡ slice_get z.controllers number
   pub tags : (number lane tag : ℕ) → whose ≢ Some number → own_tag number (tag_of w lane tag) ≡ own_tag number (tag_of z lane tag)
   pub held : (number lane tag : ℕ) → whose ≢ Some number

@@ -8,11 +8,11 @@ use Rattle.nv_model.specs.Judge.{form_of}
 use Rattle.nv_model.specs.Private.{KeepStep, Private, Step, run_of}
 use Rattle.nv_model.specs.declared.reply.Reply.{Reply}
 use Rattle.nv_model.specs.declared.reply.Reply.TheVariants as reply
-use Rattle.nv_ns.specs.BlockRange.{block_at, block_count}
+use Rattle.nv_ns.specs.Extents.{blocks_in, place_in}
 use Rattle.nv_world_model.specs.declared.event.Event.{Event}
 use Rattle.nv_world_model.specs.declared.event.Event.TheVariants as event
 use Rattle.nv_world_model.specs.Area.{tag_count}
-use Rattle.nv_world_model.specs.Contained.{guest_of_one, in_extent_of, owner}
+use Rattle.nv_world_model.specs.Contained.{guest_of_one, in_extents_of, owner}
 use Rattle.nv_world_model.specs.Device.{DeviceLane, Held}
 use Rattle.nv_world_model.specs.Geometry.{Geometry, Guest, shape_of}
 use Rattle.nv_world_model.specs.Plan.{Plan}
@@ -140,7 +140,7 @@ module _ (geometry : Geometry) (number : ℕ) (guest : Guest) (e : Event) (w : W
       related
 
   -- blocks become kept
-  pub keep-goes : (lbas : List ℕ) (z : World) → All (λ lba. lba < block_count guest.extent) lbas → steps_done number guest w e ≡ map KeepStep lbas
+  pub keep-goes : (lbas : List ℕ) (z : World) → All (λ lba. lba < blocks_in guest.namespace) lbas → steps_done number guest w e ≡ map KeepStep lbas
       → Related geometry number guest z (record p { kept = keep_all lbas p.kept }) → GoesAlong geometry number guest e w p (replied reply.Done z)
   keep-goes lbas z each steps related =
       record {
@@ -166,13 +166,13 @@ module _ (host_bytes : ℕ) (geometry : Geometry) (number : ℕ) (guest : Guest)
   plain-goes e none apart =
       none-goes geometry number guest e w p (others-act number e w apart) (step geometry e w) (others-none number guest e w none apart)
       (view-related geometry number guest w (step geometry e w).world reached.consistent (others-left e apart) p p.kept related
-      (λ lba below. related.marks lba below ∙ sym (ap (λ kept. kept (block_at guest.extent lba)) (marks-kept geometry w e none))))
+      (λ lba below. related.marks lba below ∙ sym (ap (λ kept. kept (place_in guest.namespace lba)) (marks-kept geometry w e none))))
 
   -- ---- a block that is kept
 
-  kept-there : (lbas : List ℕ) (z : World) (lba : ℕ) (b : Bool) → lba < block_count guest.extent → list_any (λ n. n == lba) lbas ≡ b
-      → z.kept (block_at guest.extent lba) ≡ (b || w.kept (block_at guest.extent lba))
-      → keep_all lbas p.kept lba ≡ z.kept (block_at guest.extent lba)
+  kept-there : (lbas : List ℕ) (z : World) (lba : ℕ) (b : Bool) → lba < blocks_in guest.namespace → list_any (λ n. n == lba) lbas ≡ b
+      → z.kept (place_in guest.namespace lba) ≡ (b || w.kept (place_in guest.namespace lba))
+      → keep_all lbas p.kept lba ≡ z.kept (place_in guest.namespace lba)
   kept-there lbas z lba b below any marks =
       keep_all-is lbas p.kept lba ∙ ap (λ c. c || p.kept lba) any ∙ ap (λ c. b || c) (related.marks lba below) ∙ sym marks
 
@@ -185,45 +185,45 @@ module _ (host_bytes : ℕ) (geometry : Geometry) (number : ℕ) (guest : Guest)
   keeps-goes block =
       either-way P w (λ r dull left. dull-goes geometry number guest (event.Keep block) w p refl related r dull) (nat_le (block + 1) geometry.disk_blocks) _ _
       (λ there left.
-      keep-goes geometry number guest (event.Keep block) w p refl lbas (kept_block block w) (filter-all (λ lba. lba < block_count guest.extent) (λ lba. block_at guest.extent lba == block) (range_with_len 0 (block_count guest.extent)) all_below) refl
+      keep-goes geometry number guest (event.Keep block) w p refl lbas (kept_block block w) (filter-all (λ lba. lba < blocks_in guest.namespace) (λ lba. place_in guest.namespace lba == block) (range_with_len 0 (blocks_in guest.namespace)) all_below) refl
       (view-related geometry number guest w (kept_block block w) reached.consistent left p (keep_all lbas p.kept) related
       (λ lba below.
-      kept-there lbas (kept_block block w) lba (block_at guest.extent lba == block) below
-      (any-filter (λ n. block_at guest.extent n == block) (range_with_len 0 (block_count guest.extent)) lba
-      ∙ ap (λ b. (block_at guest.extent lba == block) && b) (row-any lba 0 (block_count guest.extent) (omega arith) (omega (arith, below)))
-      ∙ and-yes (block_at guest.extent lba == block))
-      (or-cond (block_at guest.extent lba == block) (w.kept (block_at guest.extent lba))))))
+      kept-there lbas (kept_block block w) lba (place_in guest.namespace lba == block) below
+      (any-filter (λ n. place_in guest.namespace n == block) (range_with_len 0 (blocks_in guest.namespace)) lba
+      ∙ ap (λ b. (place_in guest.namespace lba == block) && b) (row-any lba 0 (blocks_in guest.namespace) (omega arith) (omega (arith, below)))
+      ∙ and-yes (place_in guest.namespace lba == block))
+      (or-cond (place_in guest.namespace lba == block) (w.kept (place_in guest.namespace lba))))))
       (λ out left. dull-goes geometry number guest (event.Keep block) w p refl related reply.Idle refl)
       (others-left (event.Keep block) (λ e. cc))
     where
       P : After → Type 0
       P done = IsLeft number guest geometry w done.world → GoesAlong geometry number guest (event.Keep block) w p done
 
-      all_below : All (λ lba. lba < block_count guest.extent) (range_with_len 0 (block_count guest.extent))
-      all_below = row-all (λ lba. lba < block_count guest.extent) 0 (block_count guest.extent) (λ at low high. omega (arith, high))
+      all_below : All (λ lba. lba < blocks_in guest.namespace) (range_with_len 0 (blocks_in guest.namespace))
+      all_below = row-all (λ lba. lba < blocks_in guest.namespace) 0 (blocks_in guest.namespace) (λ at low high. omega (arith, high))
 
       lbas : List ℕ
-      lbas = filter (λ lba. block_at guest.extent lba == block) (range_with_len 0 (block_count guest.extent))
+      lbas = filter (λ lba. place_in guest.namespace lba == block) (range_with_len 0 (blocks_in guest.namespace))
 
   -- ---- a unit that moves
 
   -- which blocks a command of another keeps
   kept_by : (all : Bool) → List ℕ
-  kept_by all = cond all (range_with_len 0 (block_count guest.extent)) []
+  kept_by all = cond all (range_with_len 0 (blocks_in guest.namespace)) []
 
-  kept_by-below : (all : Bool) → All (λ lba. lba < block_count guest.extent) (kept_by all)
+  kept_by-below : (all : Bool) → All (λ lba. lba < blocks_in guest.namespace) (kept_by all)
   unfolding kept_by
-  kept_by-below true = row-all (λ lba. lba < block_count guest.extent) 0 (block_count guest.extent) (λ at low high. omega (arith, high))
-  kept_by-below false = All-nil (λ lba. lba < block_count guest.extent)
+  kept_by-below true = row-all (λ lba. lba < blocks_in guest.namespace) 0 (blocks_in guest.namespace) (λ at low high. omega (arith, high))
+  kept_by-below false = All-nil (λ lba. lba < blocks_in guest.namespace)
 
-  kept_by-steps : (all : Bool) → cond all (map KeepStep (range_with_len 0 (block_count guest.extent))) [] ≡ map KeepStep (kept_by all)
+  kept_by-steps : (all : Bool) → cond all (map KeepStep (range_with_len 0 (blocks_in guest.namespace))) [] ≡ map KeepStep (kept_by all)
   unfolding kept_by
   kept_by-steps true = refl
   kept_by-steps false = refl
 
-  kept_by-any : (all : Bool) (lba : ℕ) → lba < block_count guest.extent → list_any (λ n. n == lba) (kept_by all) ≡ all
+  kept_by-any : (all : Bool) (lba : ℕ) → lba < blocks_in guest.namespace → list_any (λ n. n == lba) (kept_by all) ≡ all
   unfolding kept_by
-  kept_by-any true lba below = row-any lba 0 (block_count guest.extent) (omega arith) (omega (arith, below))
+  kept_by-any true lba below = row-any lba 0 (blocks_in guest.namespace) (omega arith) (omega (arith, below))
   kept_by-any false lba below = refl
 
   work-in : (plan : Plan) (owner : Guest) (entry : List ℕ) (is : IsPlanned owner entry plan) → work_of plan ≡ Some is.work
@@ -253,17 +253,17 @@ module _ (host_bytes : ℕ) (geometry : Geometry) (number : ℕ) (guest : Guest)
       let z = device_moved geometry.disk_blocks lane tag unit h w in
       let on_disk = (reached.laid.given number guest given).on_disk in
       keep-goes geometry number guest (event.DevMove lane tag unit) w p refl (kept_by all) z (kept_by-below all)
-      (ap (λ b. cond b (own_moves (work_in (tag_of w lane tag)) (name_of lane tag) unit) (others_moves (work_in (tag_of w lane tag)) guest.extent)) (not-own number (tag_of w lane tag) apart)
-      ∙ ap (λ o. others_moves (work_in o) guest.extent) is
-      ∙ ap (λ o. others_moves o guest.extent) (work-in holds.plan holds.guest holds.command.entry holds.planned) ∙ kept_by-steps all)
+      (ap (λ b. cond b (own_moves (work_in (tag_of w lane tag)) (name_of lane tag) unit) (others_moves (work_in (tag_of w lane tag)) guest.namespace)) (not-own number (tag_of w lane tag) apart)
+      ∙ ap (λ o. others_moves (work_in o) guest.namespace) is
+      ∙ ap (λ o. others_moves o guest.namespace) (work-in holds.plan holds.guest holds.command.entry holds.planned) ∙ kept_by-steps all)
       (view-related geometry number guest w z reached.consistent left p (keep_all (kept_by all) p.kept) related
       (λ lba below.
       let out = extent-apart host_bytes geometry (length w.lanes) reached.laid (Some whose) number guest lba given differ below in
       kept-there (kept_by all) z lba all below (kept_by-any all lba below)
       (unit-marks host_bytes (length w.lanes) geometry reached.laid whose holds.guest holds.is.given holds.command.entry holds.plan holds.planned lane tag h w.host holds.in_device unit left_one
-      (block_at guest.extent lba) (outside-extent holds.guest.extent (block_at guest.extent lba) (sym (ap (λ o. in_extent_of o (block_at guest.extent lba)) holds.is.given) ∙ out))
+      (place_in guest.namespace lba) (outside-extent holds.guest.namespace (place_in guest.namespace lba) (sym (ap (λ o. in_extents_of o (place_in guest.namespace lba)) holds.is.given) ∙ out))
       tag_below w.disk w.kept
-      ∙ moved-mark all (w.kept (block_at guest.extent lba)) (block_at guest.extent lba) (omega (arith, on_disk, below)))))
+      ∙ moved-mark all (w.kept (place_in guest.namespace lba)) (place_in guest.namespace lba) (omega (arith, on_disk, below)))))
 
   moves-goes : (lane slot unit : ℕ) → (guest_of_one (tag_of w lane slot) ≡ Some number → ⊥)
       → GoesAlong geometry number guest (event.DevMove lane slot unit) w p (step geometry (event.DevMove lane slot unit) w)

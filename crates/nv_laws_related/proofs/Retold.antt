@@ -4,7 +4,7 @@ use Rattle.std.proofs.lemmas.Bool.{cases_eq, ne_eqb}
 use Rattle.nv_model.specs.Controller.{Controller}
 use Rattle.nv_model.specs.Memory.{image}
 use Rattle.nv_model.specs.Private.{Private, put, Taken as Member}
-use Rattle.nv_ns.specs.BlockRange.{block_at}
+use Rattle.nv_ns.specs.Extents.{place_in}
 use Rattle.nv_world_model.specs.Area.{bounce_page, tag_count}
 use Rattle.nv_world_model.specs.Device.{Held}
 use Rattle.nv_world_model.specs.Geometry.{Geometry, Guest, regions_of}
@@ -110,8 +110,8 @@ module _ (geometry : Geometry) (number : ℕ) (guest : Guest) (w z : World) (fin
     retag-related there hidden is one =
         record {
           controller = there;
-          blocks = (λ lba offset inside. related.blocks lba offset inside ∙ sym (ap (λ d. d (block_at guest.extent lba) offset) told.disk));
-          marks = (λ lba inside. related.marks lba inside ∙ sym (ap (λ k. k (block_at guest.extent lba)) told.kept));
+          blocks = (λ lba offset inside. related.blocks lba offset inside ∙ sym (ap (λ d. d (place_in guest.namespace lba) offset) told.disk));
+          marks = (λ lba inside. related.marks lba inside ∙ sym (ap (λ k. k (place_in guest.namespace lba)) told.kept));
           memory = (λ addr mapped none.
               related.memory addr mapped
               (by-tag (λ a b. Hides w a b addr ≡ false) (hidden addr (none lane tag)) (λ a b away. other-hides a b addr away ∙ none a b))

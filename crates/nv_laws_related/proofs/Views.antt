@@ -16,7 +16,7 @@ use Rattle.nv_model.specs.Limits.{block, most_bytes}
 use Rattle.nv_model.specs.Memory.{image}
 use Rattle.nv_model.specs.Private.{Private, Progress, Unjudged, Taken as Member, places_of_block, verdict_in}
 use Rattle.nv_model.specs.Queue.{cqe_size}
-use Rattle.nv_ns.specs.BlockRange.{block_at, block_count}
+use Rattle.nv_ns.specs.Extents.{blocks_in, place_in}
 use Rattle.nv_world_model.specs.Area.{bounce_page, completion_slot, tag_count}
 use Rattle.nv_world_model.specs.Contained.{is_answered_at, tag_stands}
 use Rattle.nv_world_model.specs.Device.{DeviceLane, Held}
@@ -263,7 +263,7 @@ module _ (geometry : Geometry) (number : ℕ) (guest : Guest) (w z : World) (fin
 
   -- it stands for the world behind, with the marks that the blocks have there
   pub view-related : (p : Private) (kept : ℕ → Bool) → Related geometry number guest w p
-      → ((lba : ℕ) → lba < block_count guest.extent → kept lba ≡ z.kept (block_at guest.extent lba))
+      → ((lba : ℕ) → lba < blocks_in guest.namespace → kept lba ≡ z.kept (place_in guest.namespace lba))
       → Related geometry number guest z (record p { kept = kept })
   view-related p kept was marks =
       record {

@@ -8,7 +8,7 @@ use Rattle.nv_entry.specs.Completion.{status_of}
 use Rattle.nv_entry.specs.Status.{StatusField}
 use Rattle.nv_mem.specs.GuestMap.{mapped}
 use Rattle.nv_mem.specs.Places.{At, Bucket, Place}
-use Rattle.nv_ns.specs.BlockRange.{block_at, block_count}
+use Rattle.nv_ns.specs.Extents.{blocks_in, place_in}
 use Rattle.nv_model.specs.Dialogue.{asked}
 use Rattle.nv_model.specs.Judge.{Clear, Form, Go, Keep, Manage, Transfer, Work, form_of, is_read, judge}
 use Rattle.nv_model.specs.Limits.{block}
@@ -141,8 +141,8 @@ NoneHides number w addr =
 
 pub record Related (geometry : Geometry) (number : ℕ) (guest : Guest) (w : World) (p : Private) : Type 0 where
   pub controller : slice_get w.controllers number ≡ Some p.controller
-  pub blocks : (lba offset : ℕ) → lba < block_count guest.extent → p.disk lba offset ≡ w.disk (block_at guest.extent lba) offset
-  pub marks : (lba : ℕ) → lba < block_count guest.extent → p.kept lba ≡ w.kept (block_at guest.extent lba)
+  pub blocks : (lba offset : ℕ) → lba < blocks_in guest.namespace → p.disk lba offset ≡ w.disk (place_in guest.namespace lba) offset
+  pub marks : (lba : ℕ) → lba < blocks_in guest.namespace → p.kept lba ≡ w.kept (place_in guest.namespace lba)
   pub memory : (addr : ℕ) → mapped (regions_of guest) addr ≡ true → NoneHides number w addr
       → p.memory addr ≡ image (regions_of guest) w.host addr
   pub bag : (name : ℕ) → p.bag name ≡ members geometry w number name

@@ -5,7 +5,7 @@ use Rattle.nv_entry.specs.Layout.{bits, bytes_of_dwords, dword, number_at, qword
 use Rattle.nv_entry.specs.Status.{bit}
 use Rattle.nv_entry.specs.Submission.{cid_of, deallocate_of, nlb_of, nr_of, opcode_of, prp1_of, prp2_of, slba_of}
 use Rattle.nv_model.specs.Judge.{Clear, Form, Keep, Manage, Transfer, form_has_blocks, form_transfer_len, is_fua}
-use Rattle.nv_ns.specs.BlockRange.{Extent, block_at}
+use Rattle.nv_ns.specs.Extents.{Namespace, place_in}
 use Rattle.nv_prp.specs.declared.prps.Prps.{Prps}
 use Rattle.nv_world_model.specs.Area.{bounce_page, entry_of, form_dwords, list_page, physical_entry, prps_of, tag_count, two_dwords}
 use Rattle.nv_world_model.specs.Device.{form_unit_count}
@@ -120,19 +120,19 @@ ranges-back opcode tag prps entry b c =
     ∙ nr-part (nr_of entry) below
 
 -- a command of that form transfers as much, and has as many units, as the guest's
-pub form-back : (form : Form) (opcode tag : ℕ) (prps : Prps) (extent : Extent) (entry : List ℕ)
-    → (form_transfer_len form (physical_entry opcode tag prps (form_dwords form extent entry)) ≡ form_transfer_len form entry)
-    × (form_unit_count form (physical_entry opcode tag prps (form_dwords form extent entry)) ≡ form_unit_count form entry)
-form-back (Transfer dest) opcode tag prps extent entry =
-    let same = blocks-back opcode tag prps entry (block_at extent (slba_of entry)) in
+pub form-back : (form : Form) (opcode tag : ℕ) (prps : Prps) (ns : Namespace) (entry : List ℕ)
+    → (form_transfer_len form (physical_entry opcode tag prps (form_dwords form ns entry)) ≡ form_transfer_len form entry)
+    × (form_unit_count form (physical_entry opcode tag prps (form_dwords form ns entry)) ≡ form_unit_count form entry)
+form-back (Transfer dest) opcode tag prps ns entry =
+    let same = blocks-back opcode tag prps entry (place_in ns (slba_of entry)) in
     (ap (λ n. 512 * (n + 1)) same, ap (λ n. n + 1) same)
-form-back Clear opcode tag prps extent entry =
-    let same = blocks-back opcode tag prps entry (block_at extent (slba_of entry)) in
+form-back Clear opcode tag prps ns entry =
+    let same = blocks-back opcode tag prps entry (place_in ns (slba_of entry)) in
     (refl, ap (λ n. n + 1) same)
-form-back Manage opcode tag prps extent entry =
+form-back Manage opcode tag prps ns entry =
     let same = ranges-back opcode tag prps entry (4 * deallocate_of entry) 0 in
     (ap (λ n. 16 * (n + 1)) same, ap (λ n. n + 1) same)
-form-back Keep opcode tag prps extent entry = (refl, refl)
+form-back Keep opcode tag prps ns entry = (refl, refl)
 
 -- ---- the blocks that it names
 
@@ -142,10 +142,10 @@ unfolding physical_entry
 entry-blocks opcode tag prps at c fits = qword-there _ 10 at refl refl fits
 
 -- a command of that form that has blocks names them where they are on the disk
-pub form-start : (form : Form) (opcode tag : ℕ) (prps : Prps) (extent : Extent) (entry : List ℕ) → form_has_blocks form ≡ true
-    → block_at extent (slba_of entry) < 2 ^ 64
-    → slba_of (physical_entry opcode tag prps (form_dwords form extent entry)) ≡ block_at extent (slba_of entry)
-form-start (Transfer dest) opcode tag prps extent entry has fits = entry-blocks opcode tag prps (block_at extent (slba_of entry)) _ fits
-form-start Clear opcode tag prps extent entry has fits = entry-blocks opcode tag prps (block_at extent (slba_of entry)) _ fits
-form-start Manage opcode tag prps extent entry has fits = cc
-form-start Keep opcode tag prps extent entry has fits = cc
+pub form-start : (form : Form) (opcode tag : ℕ) (prps : Prps) (ns : Namespace) (entry : List ℕ) → form_has_blocks form ≡ true
+    → place_in ns (slba_of entry) < 2 ^ 64
+    → slba_of (physical_entry opcode tag prps (form_dwords form ns entry)) ≡ place_in ns (slba_of entry)
+form-start (Transfer dest) opcode tag prps ns entry has fits = entry-blocks opcode tag prps (place_in ns (slba_of entry)) _ fits
+form-start Clear opcode tag prps ns entry has fits = entry-blocks opcode tag prps (place_in ns (slba_of entry)) _ fits
+form-start Manage opcode tag prps ns entry has fits = cc
+form-start Keep opcode tag prps ns entry has fits = cc

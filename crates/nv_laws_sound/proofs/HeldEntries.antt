@@ -226,13 +226,13 @@ module _ (host_bytes lanes : ℕ) (geometry : Geometry) (laid : IsLaidOut host_b
       (holds-list host list (addresses_of p guest bounce) each shown) fields.0 fields.1
 
   -- the entry of a command's form has its lengths
-  form-lengths : (p : Plan) → plan_dwords p guest.extent entry ≡ form_dwords (form_of is.work.opcode) guest.extent entry
+  form-lengths : (p : Plan) → plan_dwords p guest.namespace entry ≡ form_dwords (form_of is.work.opcode) guest.namespace entry
       → (transfer_len is.work.opcode (physical p) ≡ transfer_len is.work.opcode entry)
       × (form_unit_count (form_of is.work.opcode) (physical p) ≡ form_unit_count (form_of is.work.opcode) entry)
   form-lengths p same =
-      let as_built : physical p ≡ physical_entry (opcode_of entry) tag (prps_of p guest list bounce) (form_dwords (form_of is.work.opcode) guest.extent entry) =
+      let as_built : physical p ≡ physical_entry (opcode_of entry) tag (prps_of p guest list bounce) (form_dwords (form_of is.work.opcode) guest.namespace entry) =
       ap (physical_entry (opcode_of entry) tag (prps_of p guest list bounce)) same in
-      let back = form-back (form_of is.work.opcode) (opcode_of entry) tag (prps_of p guest list bounce) guest.extent entry in
+      let back = form-back (form_of is.work.opcode) (opcode_of entry) tag (prps_of p guest list bounce) guest.namespace entry in
       (ap (λ e. form_transfer_len (form_of is.work.opcode) e) as_built ∙ back.0, ap (λ e. form_unit_count (form_of is.work.opcode) e) as_built ∙ back.1)
 
   pub plan-lengths : (transfer_len is.work.opcode (physical plan) ≡ transfer_len is.work.opcode entry)

@@ -19,7 +19,7 @@ use Rattle.nv_model.proofs.AnyAnswers.{end-sound, end-within}
 use Rattle.nv_model.proofs.Endings.{and-true}
 use Rattle.nv_model.proofs.Judged.{IsSoundWork}
 use Rattle.nv_model.proofs.MemoryLemmas.{gathered-addresses}
-use Rattle.nv_ns.specs.BlockRange.{Extent, block_at, block_count}
+use Rattle.nv_ns.specs.Extents.{Namespace, blocks_in, place_in}
 use Rattle.nv_prp.specs.declared.prps.Prps.{Prps}
 use Rattle.nv_world_model.specs.Area.{addresses_of, bounce_page, entry_of, list_page, prps_of, translated_range}
 use Rattle.nv_world_model.specs.Device.{Held, form_unit_count, range_at, unit_count}
@@ -38,27 +38,27 @@ use Rattle.nv_laws_sound.proofs.Shows.{shows-append}
 -- ---- a translated range
 
 -- what is read back of it
-pub translated-blocks : (extent : Extent) (range : List ℕ) → blocks_of range < 2 ^ 32 → blocks_of (translated_range extent range) ≡ blocks_of range
+pub translated-blocks : (ns : Namespace) (range : List ℕ) → blocks_of range < 2 ^ 32 → blocks_of (translated_range ns range) ≡ blocks_of range
 unfolding dword number_at
-translated-blocks extent range fits = little_number-reads_back 4 (blocks_of range) (number_bytes 8 (block_at extent (start_of range))) fits
+translated-blocks ns range fits = little_number-reads_back 4 (blocks_of range) (number_bytes 8 (place_in ns (start_of range))) fits
 
-pub translated-start : (extent : Extent) (range : List ℕ) → block_at extent (start_of range) < 2 ^ 64
-    → start_of (translated_range extent range) ≡ block_at extent (start_of range)
+pub translated-start : (ns : Namespace) (range : List ℕ) → place_in ns (start_of range) < 2 ^ 64
+    → start_of (translated_range ns range) ≡ place_in ns (start_of range)
 unfolding qword number_at
-translated-start extent range fits = little_number-reads_back 8 (block_at extent (start_of range)) [] fits
+translated-start ns range fits = little_number-reads_back 8 (place_in ns (start_of range)) [] fits
 
 -- a range that was written stands in its place
-pub shown-range : (extent : Extent) (memory : ℕ → ℕ) (ranges : List (List ℕ)) (n : ℕ) (at : ℕ) (range : List ℕ) → slice_get ranges n ≡ Some range
-    → Shows memory at (flat_map (translated_range extent) ranges) → bytes_from memory (at + 16 * n) 16 ≡ translated_range extent range
-shown-range extent memory [] n at range found shown = cc
-shown-range extent memory (r ∷ ranges) zero at range found shown =
+pub shown-range : (ns : Namespace) (memory : ℕ → ℕ) (ranges : List (List ℕ)) (n : ℕ) (at : ℕ) (range : List ℕ) → slice_get ranges n ≡ Some range
+    → Shows memory at (flat_map (translated_range ns) ranges) → bytes_from memory (at + 16 * n) 16 ≡ translated_range ns range
+shown-range ns memory [] n at range found shown = cc
+shown-range ns memory (r ∷ ranges) zero at range found shown =
     let same : r ≡ range = cc in
-    let parts = shows-append memory at (translated_range extent r) (flat_map (translated_range extent) ranges) shown in
+    let parts = shows-append memory at (translated_range ns r) (flat_map (translated_range ns) ranges) shown in
     let here : at + 16 * 0 ≡ at = omega arith in
-    rw here (parts.0 ∙ ap (translated_range extent) same)
-shown-range extent memory (r ∷ ranges) (suc n) at range found shown =
-    let parts = shows-append memory at (translated_range extent r) (flat_map (translated_range extent) ranges) shown in
-    let rest = shown-range extent memory ranges n (at + 16) range found parts.1 in
+    rw here (parts.0 ∙ ap (translated_range ns) same)
+shown-range ns memory (r ∷ ranges) (suc n) at range found shown =
+    let parts = shows-append memory at (translated_range ns r) (flat_map (translated_range ns) ranges) shown in
+    let rest = shown-range ns memory ranges n (at + 16) range found parts.1 in
     let here : at + 16 * suc n ≡ at + 16 + 16 * n = omega arith in
     rw here rest
 
@@ -127,7 +127,7 @@ blocks-counted Keep entry has = cc
 -- ---- on the disk
 
 -- these blocks are the guest's
-pub record AreOwn (extent : Extent) (start count : ℕ) : Type 0 where
+pub record AreOwn (ns : Namespace) (start count : ℕ) : Type 0 where
   pub from : extent.base ≤ start
   pub to : start + count ≤ extent.base + extent.blocks
 
@@ -138,29 +138,29 @@ module _ (host_bytes lanes : ℕ) (geometry : Geometry) (laid : IsLaidOut host_b
 
   -- the blocks that a command names are some of the namespace's
   pub blocks-fit : has_blocks is.work.opcode ≡ true
-      → (count_of entry ≤ block_count guest.extent) × (slba_of entry ≤ block_count guest.extent - count_of entry)
+      → (count_of entry ≤ blocks_in guest.namespace) × (slba_of entry ≤ blocks_in guest.namespace - count_of entry)
   blocks-fit has =
       let within = end-within (mapped (regions_of guest)) guest.limit (shape_of guest).blocks entry is.work is.verdict has in
-      let both = and-true (nat_le (count_of entry) (block_count guest.extent)) (nat_le (slba_of entry) (block_count guest.extent - count_of entry)) within in
-      (leb-true (count_of entry) (block_count guest.extent) both.0, leb-true (slba_of entry) (block_count guest.extent - count_of entry) both.1)
+      let both = and-true (nat_le (count_of entry) (blocks_in guest.namespace)) (nat_le (slba_of entry) (blocks_in guest.namespace - count_of entry)) within in
+      (leb-true (count_of entry) (blocks_in guest.namespace) both.0, leb-true (slba_of entry) (blocks_in guest.namespace - count_of entry) both.1)
 
   -- its physical entry names them as the disk has them
   pub entry-starts : has_blocks is.work.opcode ≡ true
-      → slba_of (entry_of plan guest entry geometry.mediator lane tag) ≡ block_at guest.extent (slba_of entry)
+      → slba_of (entry_of plan guest entry geometry.mediator lane tag) ≡ place_in guest.namespace (slba_of entry)
   entry-starts has =
       let most = (blocks-fit has).1 in
       let disk = (laid.given owner guest given).on_disk in
       let few = laid.few_blocks in
       let list = list_page geometry.mediator lane tag in
       let bounce = bounce_page geometry.mediator lane tag in
-      let fits : block_at guest.extent (slba_of entry) < 2 ^ 64 = omega (arith, most, disk, few) in
-      let started = λ (prps : Prps). form-start (form_of is.work.opcode) (opcode_of entry) tag prps guest.extent entry has fits in
-      planned-kinds (λ p. slba_of (entry_of p guest entry geometry.mediator lane tag) ≡ block_at guest.extent (slba_of entry)) guest entry plan is
+      let fits : place_in guest.namespace (slba_of entry) < 2 ^ 64 = omega (arith, most, disk, few) in
+      let started = λ (prps : Prps). form-start (form_of is.work.opcode) (opcode_of entry) tag prps guest.namespace entry has fits in
+      planned-kinds (λ p. slba_of (entry_of p guest entry geometry.mediator lane tag) ≡ place_in guest.namespace (slba_of entry)) guest entry plan is
       (started (prps_of (NoData is.work) guest list bounce)) (λ direct. started (prps_of (Direct is.work) guest list bounce))
       (started (prps_of (Bounced is.work) guest list bounce))
 
   -- so they are the guest's
-  pub entry-own : has_blocks is.work.opcode ≡ true → AreOwn guest.extent (slba_of (entry_of plan guest entry geometry.mediator lane tag)) (count_of entry)
+  pub entry-own : has_blocks is.work.opcode ≡ true → AreOwn guest.namespace (slba_of (entry_of plan guest entry geometry.mediator lane tag)) (count_of entry)
   entry-own has =
       let fit = blocks-fit has in
       let some = fit.0 in
@@ -178,31 +178,31 @@ module _ (host_bytes lanes : ℕ) (geometry : Geometry) (laid : IsLaidOut host_b
 
     -- the blocks of its range, where it has one
     pub range-own : form_of is.work.opcode ≡ Manage
-        → AreOwn guest.extent (start_of (range_at number h.pieces host)) (blocks_of (range_at number h.pieces host))
+        → AreOwn guest.namespace (start_of (range_at number h.pieces host)) (blocks_of (range_at number h.pieces host))
     range-own form =
         let few : number < range_count_of entry = subst (λ f. number < form_unit_count f entry) form unit-below in
         let many : length is.work.ranges ≡ range_count_of entry = sound.counted form in
         let range = slice_get-there is.work.ranges number (omega (arith, few, many)) in
         let fits = all-one (range_fits (shape_of guest).blocks) is.work.ranges number range.0 sound.fit range.1 in
-        let both = and-true (nat_le (blocks_of range.0) (block_count guest.extent)) (nat_le (start_of range.0) (block_count guest.extent - blocks_of range.0)) fits in
-        let some = leb-true (blocks_of range.0) (block_count guest.extent) both.0 in
-        let most = leb-true (start_of range.0) (block_count guest.extent - blocks_of range.0) both.1 in
+        let both = and-true (nat_le (blocks_of range.0) (blocks_in guest.namespace)) (nat_le (start_of range.0) (blocks_in guest.namespace - blocks_of range.0)) fits in
+        let some = leb-true (blocks_of range.0) (blocks_in guest.namespace) both.0 in
+        let most = leb-true (start_of range.0) (blocks_in guest.namespace - blocks_of range.0) both.1 in
         let disk = (laid.given owner guest given).on_disk in
         let few_blocks = laid.few_blocks in
         let bounced : plan ≡ Bounced is.work = is.plan_is ∙ ap (λ f. go_plan f (regions_of guest) is.work) form in
         let bounce = bounce_page geometry.mediator lane tag in
-        let ranges_shown : Shows host bounce (flat_map (translated_range guest.extent) is.work.ranges) =
+        let ranges_shown : Shows host bounce (flat_map (translated_range guest.namespace) is.work.ranges) =
         subst (λ f. Shows host bounce (form_ranges f guest is.work)) form (subst (λ p. Shows host bounce (ranges_of p guest)) bounced in_device.pages.ranges) in
         let places : places_of h.pieces ≡ map At (range_with_len bounce (total_len is.work.pieces)) =
         in_device.places ∙ ap (λ p. map At (addresses_of p guest bounce)) bounced in
         let total : total_len is.work.pieces ≡ 16 * range_count_of entry = sound.total ∙ ap (λ f. form_transfer_len f entry) form in
         let split : total_len is.work.pieces ≡ 16 * number + (16 + (16 * range_count_of entry - (16 * number + 16))) = omega (arith, total, few) in
-        let read : range_at number h.pieces host ≡ translated_range guest.extent range.0 =
+        let read : range_at number h.pieces host ≡ translated_range guest.namespace range.0 =
         ap (λ ps. gathered host (take 16 (drop (16 * number) ps))) (places ∙ ap (λ n. map At (range_with_len bounce n)) split)
         ∙ row-bytes host bounce (16 * number) (16 * range_count_of entry - (16 * number + 16))
-        ∙ shown-range guest.extent host is.work.ranges number bounce range.0 range.1 ranges_shown in
-        let start : start_of (range_at number h.pieces host) ≡ block_at guest.extent (start_of range.0) =
-        ap start_of read ∙ translated-start guest.extent range.0 (omega (arith, most, disk, few_blocks)) in
+        ∙ shown-range guest.namespace host is.work.ranges number bounce range.0 range.1 ranges_shown in
+        let start : start_of (range_at number h.pieces host) ≡ place_in guest.namespace (start_of range.0) =
+        ap start_of read ∙ translated-start guest.namespace range.0 (omega (arith, most, disk, few_blocks)) in
         let blocks : blocks_of (range_at number h.pieces host) ≡ blocks_of range.0 =
-        ap blocks_of read ∙ translated-blocks guest.extent range.0 (omega (arith, some, disk, few_blocks)) in
+        ap blocks_of read ∙ translated-blocks guest.namespace range.0 (omega (arith, some, disk, few_blocks)) in
         record { from = omega (arith, start); to = omega (arith, start, blocks, some, most) }

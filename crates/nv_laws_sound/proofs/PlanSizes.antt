@@ -6,7 +6,7 @@ use Rattle.std.proofs.lemmas.List.FromFn.{length-range_with_len}
 use Rattle.byteorder.specs.Numbers.{length-bytes_low_first}
 use Rattle.nv_entry.specs.Layout.{bits, bytes_of_dwords, number_bytes}
 use Rattle.nv_entry.specs.Submission.{cdw_of, nr_of}
-use Rattle.nv_ns.specs.BlockRange.{Extent}
+use Rattle.nv_ns.specs.Extents.{Namespace}
 use Rattle.nv_mem.specs.GuestMap.{mapped}
 use Rattle.nv_mem.specs.Places.{total_len}
 use Rattle.nv_mem.specs.declared.region.Region.{Region}
@@ -128,14 +128,14 @@ list-short guest entry plan list bounce aligned is =
 
 -- ---- the ranges
 
-length-translated : (guest : Guest) (range : List ℕ) → length (translated_range guest.extent range) ≡ 16
+length-translated : (guest : Guest) (range : List ℕ) → length (translated_range guest.namespace range) ≡ 16
 length-translated guest range = refl
 
-length-ranges : (guest : Guest) (ranges : List (List ℕ)) → length (flat_map (translated_range guest.extent) ranges) ≡ 16 * length ranges
+length-ranges : (guest : Guest) (ranges : List (List ℕ)) → length (flat_map (translated_range guest.namespace) ranges) ≡ 16 * length ranges
 length-ranges guest [] = omega arith
 length-ranges guest (range ∷ ranges) =
     let rest = length-ranges guest ranges in
-    length-append (translated_range guest.extent range) (flat_map (translated_range guest.extent) ranges) ∙ rw rest (omega arith)
+    length-append (translated_range guest.namespace range) (flat_map (translated_range guest.namespace) ranges) ∙ rw rest (omega arith)
 
 nr_of-few : (entry : List ℕ) → range_count_of entry ≤ 256
 unfolding bits
@@ -162,17 +162,17 @@ ranges-short guest entry plan is =
 
 -- ---- the entry
 
-form_dwords-three : (form : Form) (extent : Extent) (entry : List ℕ) → length (form_dwords form extent entry) ≡ 3
-form_dwords-three (Transfer dest) extent entry = refl
-form_dwords-three Clear extent entry = refl
-form_dwords-three Manage extent entry = refl
-form_dwords-three Keep extent entry = refl
+form_dwords-three : (form : Form) (ns : Namespace) (entry : List ℕ) → length (form_dwords form ns entry) ≡ 3
+form_dwords-three (Transfer dest) ns entry = refl
+form_dwords-three Clear ns entry = refl
+form_dwords-three Manage ns entry = refl
+form_dwords-three Keep ns entry = refl
 
-plan_dwords-three : (plan : Plan) (extent : Extent) (entry : List ℕ) → length (plan_dwords plan extent entry) ≡ 3
-plan_dwords-three (Answer st) extent entry = refl
-plan_dwords-three (NoData work) extent entry = form_dwords-three (form_of work.opcode) extent entry
-plan_dwords-three (Direct work) extent entry = form_dwords-three (form_of work.opcode) extent entry
-plan_dwords-three (Bounced work) extent entry = form_dwords-three (form_of work.opcode) extent entry
+plan_dwords-three : (plan : Plan) (ns : Namespace) (entry : List ℕ) → length (plan_dwords plan ns entry) ≡ 3
+plan_dwords-three (Answer st) ns entry = refl
+plan_dwords-three (NoData work) ns entry = form_dwords-three (form_of work.opcode) ns entry
+plan_dwords-three (Direct work) ns entry = form_dwords-three (form_of work.opcode) ns entry
+plan_dwords-three (Bounced work) ns entry = form_dwords-three (form_of work.opcode) ns entry
 
 length-bytes_of_dwords : (dwords : List ℕ) → length (bytes_of_dwords dwords) ≡ 4 * length dwords
 unfolding bytes_of_dwords
@@ -183,8 +183,8 @@ pub entry-length : (plan : Plan) (guest : Guest) (entry : List ℕ) (mediator la
     → length (entry_of plan guest entry mediator lane tag) ≡ sqe_size
 unfolding physical_entry
 entry-length plan guest entry mediator lane tag =
-    let three = plan_dwords-three plan guest.extent entry in
+    let three = plan_dwords-three plan guest.namespace entry in
     let prps = prps_of plan guest (list_page mediator lane tag) (bounce_page mediator lane tag) in
     let last : List ℕ = 0 ∷ 0 ∷ 0 ∷ [] in
-    let behind : length (plan_dwords plan guest.extent entry ++ last) ≡ 6 = length-append (plan_dwords plan guest.extent entry) last ∙ rw three refl in
+    let behind : length (plan_dwords plan guest.namespace entry ++ last) ≡ 6 = length-append (plan_dwords plan guest.namespace entry) last ∙ rw three refl in
     length-bytes_of_dwords _ ∙ omega (arith, behind)

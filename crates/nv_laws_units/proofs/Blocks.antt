@@ -13,46 +13,46 @@ use Rattle.nv_model.specs.Memory.{gathered, stored}
 use Rattle.nv_model.specs.Private.{Moved, block_bytes, block_moved, block_written, differs, marked, places_of_block, unit_moved}
 use Rattle.nv_model.proofs.MemoryLemmas.{bytes_from-same}
 use Rattle.nv_model.proofs.UnitWords.{units_moved-cleared, units_moved-left}
-use Rattle.nv_ns.specs.BlockRange.{Extent, block_at, block_count}
+use Rattle.nv_ns.specs.Extents.{Namespace, blocks_in, place_in}
 use Rattle.nv_laws_units.specs.Units.{SameBlocks}
 
 -- what stood before, and what a unit did to it
 abbrev pub behind : Moved → Moved → Moved
 behind m r = record { memory = r.memory; disk = r.disk; kept = r.kept; differed = m.differed || r.differed }
 
-module _ (extent : Extent) where
+module _ (ns : Namespace) where
   -- a block is that of the unit in both or in neither
-  same-test : (lba at there : ℕ) → there ≡ block_at extent at → (block_at extent lba == there) ≡ (lba == at)
+  same-test : (lba at there : ℕ) → there ≡ place_in ns at → (place_in ns lba == there) ≡ (lba == at)
   same-test lba at there is =
       elim (cases_eq lba at) [
-        | inl same ↦ eq-eqb (block_at extent lba) there (omega (arith, same, is)) ∙ sym (eq-eqb lba at same)
-        | inr apart ↦ ne_eqb (block_at extent lba) there (λ same. absurd (omega (arith, same, apart, is))) ∙ sym (ne_eqb lba at apart)
+        | inl same ↦ eq-eqb (place_in ns lba) there (omega (arith, same, is)) ∙ sym (eq-eqb lba at same)
+        | inr apart ↦ ne_eqb (place_in ns lba) there (λ same. absurd (omega (arith, same, apart, is))) ∙ sym (ne_eqb lba at apart)
       ]
 
   -- a mark, and a byte, behind it
-  marked-same : (own whole : ℕ → Bool) (at there lba : ℕ) (mark : Bool) → there ≡ block_at extent at → own lba ≡ whole (block_at extent lba)
-      → marked own at mark lba ≡ marked whole there mark (block_at extent lba)
+  marked-same : (own whole : ℕ → Bool) (at there lba : ℕ) (mark : Bool) → there ≡ place_in ns at → own lba ≡ whole (place_in ns lba)
+      → marked own at mark lba ≡ marked whole there mark (place_in ns lba)
   marked-same own whole at there lba mark is same =
-      ap (λ v. cond (lba == at) mark v) same ∙ ap (λ b. cond b mark (whole (block_at extent lba))) (sym (same-test lba at there is))
+      ap (λ v. cond (lba == at) mark v) same ∙ ap (λ b. cond b mark (whole (place_in ns lba))) (sym (same-test lba at there is))
 
-  written-same : (own whole : ℕ → ℕ → ℕ) (at there lba offset : ℕ) (bytes : List ℕ) → there ≡ block_at extent at
-      → own lba offset ≡ whole (block_at extent lba) offset
-      → block_written own at bytes lba offset ≡ block_written whole there bytes (block_at extent lba) offset
+  written-same : (own whole : ℕ → ℕ → ℕ) (at there lba offset : ℕ) (bytes : List ℕ) → there ≡ place_in ns at
+      → own lba offset ≡ whole (place_in ns lba) offset
+      → block_written own at bytes lba offset ≡ block_written whole there bytes (place_in ns lba) offset
   written-same own whole at there lba offset bytes is same =
       ap (λ v. cond (lba == at) (stored (λ _. 0) 0 bytes offset) v) same
-      ∙ ap (λ b. cond b (stored (λ _. 0) 0 bytes offset) (whole (block_at extent lba) offset)) (sym (same-test lba at there is))
+      ∙ ap (λ b. cond b (stored (λ _. 0) 0 bytes offset) (whole (place_in ns lba) offset)) (sym (same-test lba at there is))
 
   -- the bytes of a block
-  pub block-bytes : (own whole : ℕ → ℕ → ℕ) (at there : ℕ) → there ≡ block_at extent at
-      → ((offset : ℕ) → own at offset ≡ whole (block_at extent at) offset) → block_bytes own at ≡ block_bytes whole there
+  pub block-bytes : (own whole : ℕ → ℕ → ℕ) (at there : ℕ) → there ≡ place_in ns at
+      → ((offset : ℕ) → own at offset ≡ whole (place_in ns at) offset) → block_bytes own at ≡ block_bytes whole there
   block-bytes own whole at there is same =
       bytes_from-same (own at) (whole there) 0 0 block (λ i below. same (0 + i) ∙ ap (λ x. whole x (0 + i)) (sym is))
 
   -- a block that moves
-  pub block-same : (opcode : IoOpcode) (work other : Work) (index at there : ℕ) (m n : Moved) → SameBlocks extent m n → at < block_count extent
-      → there ≡ block_at extent at → work.fua ≡ other.fua
+  pub block-same : (opcode : IoOpcode) (work other : Work) (index at there : ℕ) (m n : Moved) → SameBlocks ns m n → at < blocks_in ns
+      → there ≡ place_in ns at → work.fua ≡ other.fua
       → (form_of opcode ≡ Transfer false → gathered m.memory (places_of_block work index) ≡ gathered n.memory (places_of_block other index))
-      → SameBlocks extent (behind m (block_moved opcode work index at m.memory m.disk m.kept)) (behind n (block_moved opcode other index there n.memory n.disk n.kept))
+      → SameBlocks ns (behind m (block_moved opcode work index at m.memory m.disk m.kept)) (behind n (block_moved opcode other index there n.memory n.disk n.kept))
   block-same Read work other index at there m n same below is fua source =
       record {
         bytes = same.bytes;
@@ -92,8 +92,8 @@ module _ (extent : Extent) where
       record { bytes = same.bytes; marks = same.marks; compared = ap (λ b. b || false) same.compared }
 
   -- blocks that are cleared
-  one-same : (at there : ℕ) (mark : Bool) (m n : Moved) → SameBlocks extent m n → there ≡ block_at extent at
-      → SameBlocks extent (cleared_one at mark m) (cleared_one there mark n)
+  one-same : (at there : ℕ) (mark : Bool) (m n : Moved) → SameBlocks ns m n → there ≡ place_in ns at
+      → SameBlocks ns (cleared_one at mark m) (cleared_one there mark n)
   one-same at there mark m n same is =
       record {
         bytes = (λ lba offset within. written-same m.disk n.disk at there lba offset (replicate block 0) is (same.bytes lba offset within));
@@ -101,46 +101,46 @@ module _ (extent : Extent) where
         compared = same.compared;
       }
 
-  pub clear-same : (at there : ℕ) (mark also : Bool) (work other : Work) (m n : Moved) → SameBlocks extent m n → there ≡ block_at extent at → mark ≡ also
-      → SameBlocks extent (behind m (unit_moved (ClearBlock at mark) work m.memory m.disk m.kept))
+  pub clear-same : (at there : ℕ) (mark also : Bool) (work other : Work) (m n : Moved) → SameBlocks ns m n → there ≡ place_in ns at → mark ≡ also
+      → SameBlocks ns (behind m (unit_moved (ClearBlock at mark) work m.memory m.disk m.kept))
       (behind n (unit_moved (ClearBlock there also) other n.memory n.disk n.kept))
   clear-same at there mark also work other m n same is marks =
-      subst (λ b. SameBlocks extent (behind m (unit_moved (ClearBlock at mark) work m.memory m.disk m.kept))
+      subst (λ b. SameBlocks ns (behind m (unit_moved (ClearBlock at mark) work m.memory m.disk m.kept))
       (behind n (unit_moved (ClearBlock there b) other n.memory n.disk n.kept))) marks
       (let one = one-same at there mark m n same is in
       record { bytes = one.bytes; marks = one.marks; compared = ap (λ b. b || false) one.compared })
 
-  cleared-same : (len at there : ℕ) (mark : Bool) (m n : Moved) → SameBlocks extent m n → there ≡ block_at extent at
-      → SameBlocks extent (cleared (range_with_len at len) mark m) (cleared (range_with_len there len) mark n)
+  cleared-same : (len at there : ℕ) (mark : Bool) (m n : Moved) → SameBlocks ns m n → there ≡ place_in ns at
+      → SameBlocks ns (cleared (range_with_len at len) mark m) (cleared (range_with_len there len) mark n)
   unfolding cleared
   cleared-same zero at there mark m n same is = same
   cleared-same (suc len) at there mark m n same is =
       cleared-same len (at + 1) (there + 1) mark (cleared_one at mark m) (cleared_one there mark n) (one-same at there mark m n same is) (omega (arith, is))
 
   -- those of a range
-  pub range-same : (deallocate : Bool) (range whole : List ℕ) (work other : Work) (m n : Moved) → SameBlocks extent m n
-      → start_of whole ≡ block_at extent (start_of range) → blocks_of whole ≡ blocks_of range
-      → SameBlocks extent (units_moved (one_range_units deallocate range) work m) (units_moved (one_range_units deallocate whole) other n)
+  pub range-same : (deallocate : Bool) (range whole : List ℕ) (work other : Work) (m n : Moved) → SameBlocks ns m n
+      → start_of whole ≡ place_in ns (start_of range) → blocks_of whole ≡ blocks_of range
+      → SameBlocks ns (units_moved (one_range_units deallocate range) work m) (units_moved (one_range_units deallocate whole) other n)
   range-same true range whole work other m n same start blocks =
-      subst (λ r. SameBlocks extent r (units_moved (one_range_units true whole) other n)) (sym (units_moved-cleared false (range_with_len (start_of range) (blocks_of range)) work m))
-      (subst (λ s. SameBlocks extent (cleared (range_with_len (start_of range) (blocks_of range)) false m) s)
+      subst (λ r. SameBlocks ns r (units_moved (one_range_units true whole) other n)) (sym (units_moved-cleared false (range_with_len (start_of range) (blocks_of range)) work m))
+      (subst (λ s. SameBlocks ns (cleared (range_with_len (start_of range) (blocks_of range)) false m) s)
       (sym (units_moved-cleared false (range_with_len (start_of whole) (blocks_of whole)) other n
       ∙ ap (λ len. cleared (range_with_len (start_of whole) len) false n) blocks))
       (cleared-same (blocks_of range) (start_of range) (start_of whole) false m n same start))
   range-same false range whole work other m n same start blocks =
-      subst (λ r. SameBlocks extent r (units_moved (one_range_units false whole) other n)) (sym (units_moved-left (range_with_len (start_of range) (blocks_of range)) work m))
-      (subst (λ s. SameBlocks extent m s) (sym (units_moved-left (range_with_len (start_of whole) (blocks_of whole)) other n)) same)
+      subst (λ r. SameBlocks ns r (units_moved (one_range_units false whole) other n)) (sym (units_moved-left (range_with_len (start_of range) (blocks_of range)) work m))
+      (subst (λ s. SameBlocks ns m s) (sym (units_moved-left (range_with_len (start_of whole) (blocks_of whole)) other n)) same)
 
   -- all blocks of a namespace become kept, and all of the disk
-  pub keep-same : (blocks disk_blocks : ℕ) (work other : Work) (m n : Moved) → SameBlocks extent m n → blocks ≡ block_count extent
-      → block_at extent (block_count extent) ≤ disk_blocks
-      → SameBlocks extent (behind m (unit_moved (KeepAll blocks) work m.memory m.disk m.kept)) (behind n (unit_moved (KeepAll disk_blocks) other n.memory n.disk n.kept))
+  pub keep-same : (blocks disk_blocks : ℕ) (work other : Work) (m n : Moved) → SameBlocks ns m n → blocks ≡ blocks_in ns
+      → place_in ns (blocks_in ns) ≤ disk_blocks
+      → SameBlocks ns (behind m (unit_moved (KeepAll blocks) work m.memory m.disk m.kept)) (behind n (unit_moved (KeepAll disk_blocks) other n.memory n.disk n.kept))
   keep-same blocks disk_blocks work other m n same all fits =
       record {
         bytes = same.bytes;
         marks = (λ lba within.
             ap (λ b. b || m.kept lba) (is-below lba blocks (omega (arith, within, all)))
-            ∙ sym (ap (λ b. b || n.kept (block_at extent lba)) (is-below (block_at extent lba) disk_blocks (omega (arith, within, fits)))));
+            ∙ sym (ap (λ b. b || n.kept (place_in ns lba)) (is-below (place_in ns lba) disk_blocks (omega (arith, within, fits)))));
         compared = ap (λ b. b || false) same.compared;
       }
     where

@@ -73,19 +73,19 @@ pub own-steps : (geometry : Geometry) (w : World) (number : ℕ) (guest : Guest)
     → IsHeld geometry w number guest lane tag plan work h
     → steps_of number guest w (event.DevMove lane tag unit) reply.Done ≡ own_moves (Some work) (name_of lane tag) unit
 own-steps geometry w number guest lane tag plan work h unit it =
-    ap (λ o. cond (is_tag_of number o) (own_moves (work_in o) (name_of lane tag) unit) (others_moves (work_in o) guest.extent)) it.flies
-    ∙ ap (λ b. cond b (own_moves (work_of plan) (name_of lane tag) unit) (others_moves (work_of plan) guest.extent)) (eq-eqb it.command.guest number it.own)
+    ap (λ o. cond (is_tag_of number o) (own_moves (work_in o) (name_of lane tag) unit) (others_moves (work_in o) guest.namespace)) it.flies
+    ∙ ap (λ b. cond b (own_moves (work_of plan) (name_of lane tag) unit) (others_moves (work_of plan) guest.namespace)) (eq-eqb it.command.guest number it.own)
     ∙ ap (λ o. own_moves o (name_of lane tag) unit) it.goes
 
 -- and on another's those of a Flush, if it is one
 pub others-steps : (geometry : Geometry) (w : World) (number : ℕ) (guest : Guest) (lane tag : ℕ) (plan : Plan) (work : Work) (h : Held) (unit other : ℕ) (guest_too : Guest)
     → IsHeld geometry w number guest lane tag plan work h → other ≢ number
-    → steps_of other guest_too w (event.DevMove lane tag unit) reply.Done ≡ others_moves (Some work) guest_too.extent
+    → steps_of other guest_too w (event.DevMove lane tag unit) reply.Done ≡ others_moves (Some work) guest_too.namespace
 others-steps geometry w number guest lane tag plan work h unit other guest_too it differ =
-    ap (λ o. cond (is_tag_of other o) (own_moves (work_in o) (name_of lane tag) unit) (others_moves (work_in o) guest_too.extent)) it.flies
-    ∙ ap (λ b. cond b (own_moves (work_of plan) (name_of lane tag) unit) (others_moves (work_of plan) guest_too.extent))
+    ap (λ o. cond (is_tag_of other o) (own_moves (work_in o) (name_of lane tag) unit) (others_moves (work_in o) guest_too.namespace)) it.flies
+    ∙ ap (λ b. cond b (own_moves (work_of plan) (name_of lane tag) unit) (others_moves (work_of plan) guest_too.namespace))
     (ne_eqb it.command.guest other (λ same. differ (sym same ∙ it.own)))
-    ∙ ap (λ o. others_moves o guest_too.extent) it.goes
+    ∙ ap (λ o. others_moves o guest_too.namespace) it.goes
 
 -- a state in which the command of a name is at work
 at_work-is : (name : ℕ) (t : Taken) (work : Work) (left : List ℕ) (differed : Bool) (p : Private) → p.bag name ≡ Some t → t.progress ≡ AtWork work left differed

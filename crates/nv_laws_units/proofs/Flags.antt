@@ -19,7 +19,7 @@ use Rattle.nv_model.specs.Reading.{Faulty, Reading, Spells, TooLong}
 use Rattle.nv_model.proofs.AnyAnswers.{MayEndIn-has}
 use Rattle.nv_model.proofs.Endings.{EndsIn, EndsIn-and_then, EndsIn-any, EndsIn-if}
 use Rattle.nv_model.proofs.Judged.{IfGo}
-use Rattle.nv_ns.specs.BlockRange.{Extent}
+use Rattle.nv_ns.specs.Extents.{Namespace}
 use Rattle.nv_prp.specs.declared.prps.Prps.{Prps}
 use Rattle.nv_world_model.specs.Area.{form_dwords, physical_entry, two_dwords}
 use Rattle.nv_laws_sound.proofs.EntryFields.{dword-there}
@@ -67,17 +67,17 @@ fua-back opcode tag prps entry at =
     ∙ ap (λ n. n == 1) (flag-part (nlb_of entry) (is_fua entry) below) ∙ bit-set (is_fua entry)
 
 -- a command of that form that has blocks keeps them as the guest's does
-pub form-fua : (form : Form) (opcode tag : ℕ) (prps : Prps) (extent : Extent) (entry : List ℕ) → form_has_blocks form ≡ true
-    → is_fua (physical_entry opcode tag prps (form_dwords form extent entry)) ≡ is_fua entry
-form-fua (Transfer dest) opcode tag prps extent entry has = fua-back opcode tag prps entry _
-form-fua Clear opcode tag prps extent entry has = fua-back opcode tag prps entry _
-form-fua Manage opcode tag prps extent entry has = cc
-form-fua Keep opcode tag prps extent entry has = cc
+pub form-fua : (form : Form) (opcode tag : ℕ) (prps : Prps) (ns : Namespace) (entry : List ℕ) → form_has_blocks form ≡ true
+    → is_fua (physical_entry opcode tag prps (form_dwords form ns entry)) ≡ is_fua entry
+form-fua (Transfer dest) opcode tag prps ns entry has = fua-back opcode tag prps entry _
+form-fua Clear opcode tag prps ns entry has = fua-back opcode tag prps entry _
+form-fua Manage opcode tag prps ns entry has = cc
+form-fua Keep opcode tag prps ns entry has = cc
 
 -- and one that names ranges deallocates them where the guest's does
-pub manage-deallocates : (opcode tag : ℕ) (prps : Prps) (extent : Extent) (entry : List ℕ)
-    → deallocates (physical_entry opcode tag prps (form_dwords Manage extent entry)) ≡ deallocates entry
-manage-deallocates opcode tag prps extent entry =
+pub manage-deallocates : (opcode tag : ℕ) (prps : Prps) (ns : Namespace) (entry : List ℕ)
+    → deallocates (physical_entry opcode tag prps (form_dwords Manage ns entry)) ≡ deallocates entry
+manage-deallocates opcode tag prps ns entry =
     let below = deallocate_of-below entry in
     ap {B = Bool} (λ d. bits d 2 2 == 1)
     ((last-dwords opcode tag prps (nr_of entry) (4 * deallocate_of entry) 0).0

@@ -17,7 +17,7 @@ use Rattle.nv_laws_units.proofs.Delivery.{page-kept, page-moved}
 use Rattle.nv_mem.specs.GuestMap.{mapped}
 use Rattle.nv_world_model.specs.PrivateSteps.{others_moves, own_moves}
 use Rattle.std.specs.Prelude.{◌≢◌}
-use Rattle.nv_ns.specs.BlockRange.{block_at, block_count}
+use Rattle.nv_ns.specs.Extents.{blocks_in, place_in}
 use Rattle.nv_laws_units.specs.Marks.{RunsToMarks, SameMarks}
 use Rattle.nv_laws_units.proofs.Marks.{other-bytes, other-marks}
 use Rattle.nv_entry.specs.Submission.{slba_of}
@@ -94,22 +94,22 @@ module _ (host_bytes : ℕ) (geometry : Geometry) (w : World) (laid : IsLaidOut 
 
   module _ (unit : ℕ) (left : list_any (λ k. k == unit) h.left ≡ true) (own : Moved) where
     -- blocks and marks
-    pub world-blocks : SameBlocks guest.extent own (whole_of w h.differed)
+    pub world-blocks : SameBlocks guest.namespace own (whole_of w h.differed)
         → (form_of work.opcode ≡ Transfer false → gathered own.memory (places_of_block work unit) ≡ gathered w.host (addresses_of_block plan guest bounce unit))
-        → SameBlocks guest.extent (units_moved (own_units work unit) work own) (moved unit)
+        → SameBlocks guest.namespace (units_moved (own_units work unit) work own) (moved unit)
     world-blocks =
-        subst (λ x. SameBlocks guest.extent own (whole_of w h.differed)
+        subst (λ x. SameBlocks guest.namespace own (whole_of w h.differed)
         → (form_of x.opcode ≡ Transfer false → gathered own.memory (places_of_block x unit) ≡ gathered w.host (addresses_of_block plan guest bounce unit))
-        → SameBlocks guest.extent (units_moved (own_units x unit) x own) (moved unit)) parts.work_is
+        → SameBlocks guest.namespace (units_moved (own_units x unit) x own) (moved unit)) parts.work_is
         (λ same source. unit-same host_bytes (length w.lanes) geometry laid number guest it.given it.command.entry plan parts.planned lane tag parts.tag_below h w.host
         parts.in_device unit left own w.disk w.kept same source)
 
     -- bytes
-    pub world-read : is_read work.opcode ≡ true → SameBlocks guest.extent own (whole_of w h.differed)
+    pub world-read : is_read work.opcode ≡ true → SameBlocks guest.namespace own (whole_of w h.differed)
         → GivesBlock (places_of_block work unit) (addresses_of_block plan guest bounce unit) own.memory (units_moved (own_units work unit) work own).memory
         w.host (moved unit).memory
     world-read =
-        subst (λ x. is_read x.opcode ≡ true → SameBlocks guest.extent own (whole_of w h.differed)
+        subst (λ x. is_read x.opcode ≡ true → SameBlocks guest.namespace own (whole_of w h.differed)
         → GivesBlock (places_of_block x unit) (addresses_of_block plan guest bounce unit) own.memory (units_moved (own_units x unit) x own).memory
         w.host (moved unit).memory) parts.work_is
         (λ reads same.
@@ -140,7 +140,7 @@ module _ (host_bytes : ℕ) (geometry : Geometry) (w : World) (laid : IsLaidOut 
         ))
 
     -- a direct Read's block reaches the same places of the guest's memory and of its own
-    pub world-direct_read : plan ≡ Direct work → is_read work.opcode ≡ true → SameBlocks guest.extent own (whole_of w h.differed)
+    pub world-direct_read : plan ≡ Direct work → is_read work.opcode ≡ true → SameBlocks guest.namespace own (whole_of w h.differed)
         → GivesBlock (places_of_block work unit) (places_of_block work unit) own.memory (units_moved (own_units work unit) work own).memory
         (image (regions_of guest) w.host) (image (regions_of guest) (moved unit).memory)
     world-direct_read direct reads same =
@@ -158,7 +158,7 @@ module _ (host_bytes : ℕ) (geometry : Geometry) (w : World) (laid : IsLaidOut 
         }
 
     -- so a byte that is the same in both stays so
-    pub world-direct_same : plan ≡ Direct work → is_read work.opcode ≡ true → SameBlocks guest.extent own (whole_of w h.differed)
+    pub world-direct_same : plan ≡ Direct work → is_read work.opcode ≡ true → SameBlocks guest.namespace own (whole_of w h.differed)
         → (addr : ℕ) → own.memory addr ≡ image (regions_of guest) w.host addr
         → (units_moved (own_units work unit) work own).memory addr ≡ image (regions_of guest) (moved unit).memory addr
     world-direct_same direct reads same addr agree =
@@ -175,14 +175,14 @@ module _ (host_bytes : ℕ) (geometry : Geometry) (w : World) (laid : IsLaidOut 
         parts.in_device unit left dest)
 
     -- a bounced Read's block stands in its part of the bounce pages
-    bounced-gives : plan ≡ Bounced work → is_read work.opcode ≡ true → SameBlocks guest.extent own (whole_of w h.differed)
+    bounced-gives : plan ≡ Bounced work → is_read work.opcode ≡ true → SameBlocks guest.namespace own (whole_of w h.differed)
         → GivesBlock (places_of_block work unit) (addresses (bounce + block * unit) block) own.memory (units_moved (own_units work unit) work own).memory
         w.host (moved unit).memory
     bounced-gives bounced reads same =
         subst (λ ps. GivesBlock (places_of_block work unit) ps own.memory (units_moved (own_units work unit) work own).memory w.host (moved unit).memory)
         (bounced-addresses guest work plan bounce unit bounced (world-within true (read-form work.opcode reads))) (world-read reads same)
 
-    pub world-page_moved : plan ≡ Bounced work → is_read work.opcode ≡ true → SameBlocks guest.extent own (whole_of w h.differed)
+    pub world-page_moved : plan ≡ Bounced work → is_read work.opcode ≡ true → SameBlocks guest.namespace own (whole_of w h.differed)
         → NameNoneTwice (places_of_block work unit)
         → HasAt (units_moved (own_units work unit) work own).memory (places_of_block work unit) (bytes_from (moved unit).memory (bounce + block * unit) block)
     world-page_moved bounced reads same once =
@@ -194,7 +194,7 @@ module _ (host_bytes : ℕ) (geometry : Geometry) (w : World) (laid : IsLaidOut 
         (page-moved own.memory w.host (places_of work.pieces) gives.bytes bounce unit once gives.count (omega (arith, within, sized))))
 
     -- and those of other units stay
-    pub world-page_kept : (other : ℕ) → plan ≡ Bounced work → is_read work.opcode ≡ true → SameBlocks guest.extent own (whole_of w h.differed)
+    pub world-page_kept : (other : ℕ) → plan ≡ Bounced work → is_read work.opcode ≡ true → SameBlocks guest.namespace own (whole_of w h.differed)
         → NameNoneTwice (places_of work.pieces) → (other ≡ unit → ⊥)
         → HasAt own.memory (places_of_block work other) (bytes_from w.host (bounce + block * other) block)
         → HasAt (units_moved (own_units work unit) work own).memory (places_of_block work other) (bytes_from (moved unit).memory (bounce + block * other) block)
@@ -205,7 +205,7 @@ module _ (host_bytes : ℕ) (geometry : Geometry) (w : World) (laid : IsLaidOut 
         (page-kept own.memory w.host (places_of work.pieces) gives.bytes bounce unit other once gives.count apart has))
 
     -- bytes at other places stay in the guest's own memory
-    pub world-own_elsewhere : is_read work.opcode ≡ true → SameBlocks guest.extent own (whole_of w h.differed) → (addr : ℕ)
+    pub world-own_elsewhere : is_read work.opcode ≡ true → SameBlocks guest.namespace own (whole_of w h.differed) → (addr : ℕ)
         → All (IsAnother (At addr)) (places_of_block work unit) → (units_moved (own_units work unit) work own).memory addr ≡ own.memory addr
     world-own_elsewhere reads same addr apart =
         let gives = world-read reads same in
@@ -239,15 +239,15 @@ module _ (host_bytes : ℕ) (geometry : Geometry) (w : World) (laid : IsLaidOut 
 
   module _ (unit : ℕ) (left : list_any (λ k. k == unit) h.left ≡ true) (other : ℕ) (guest_too : Guest) (given_too : slice_get geometry.guests other ≡ Some guest_too)
       (differ : other ≢ number) where
-    pub world-other_marks : (p : Private) → SameMarks guest_too.extent p.kept w.kept
-        → RunsToMarks guest_too (others_moves (Some work) guest_too.extent) p (moved unit).kept
+    pub world-other_marks : (p : Private) → SameMarks guest_too.namespace p.kept w.kept
+        → RunsToMarks guest_too (others_moves (Some work) guest_too.namespace) p (moved unit).kept
     world-other_marks p same =
-        subst (λ x. RunsToMarks guest_too (others_moves (Some x) guest_too.extent) p (moved unit).kept) parts.work_is
+        subst (λ x. RunsToMarks guest_too (others_moves (Some x) guest_too.namespace) p (moved unit).kept) parts.work_is
         (other-marks host_bytes (length w.lanes) geometry laid number guest it.given it.command.entry plan parts.planned lane tag parts.tag_below h w.host
         parts.in_device unit left other guest_too given_too differ w.disk w.kept p same)
 
-    pub world-other_bytes : (lba offset : ℕ) → lba < block_count guest_too.extent
-        → (moved unit).disk (block_at guest_too.extent lba) offset ≡ w.disk (block_at guest_too.extent lba) offset
+    pub world-other_bytes : (lba offset : ℕ) → lba < blocks_in guest_too.namespace
+        → (moved unit).disk (place_in guest_too.namespace lba) offset ≡ w.disk (place_in guest_too.namespace lba) offset
     world-other_bytes lba offset within =
         ap (λ f. f offset)
         (other-bytes host_bytes (length w.lanes) geometry laid number guest it.given it.command.entry plan parts.planned lane tag parts.tag_below h w.host

@@ -16,7 +16,7 @@ use Rattle.nv_model.specs.Laws.{IsElsewhere}
 use Rattle.nv_model.specs.Private.{KeepStep, Moved, Private, Shape, marked, run_of, step}
 use Rattle.nv_model.proofs.AnyAnswers.{end-sound}
 use Rattle.nv_model.proofs.UnitsElsewhere.{IsSame, units-elsewhere}
-use Rattle.nv_ns.specs.BlockRange.{block_at, block_count}
+use Rattle.nv_ns.specs.Extents.{blocks_in, place_in}
 use Rattle.nv_world_model.specs.Area.{tag_count}
 use Rattle.nv_world_model.specs.Device.{Held, device_unit, form_moves, form_unit_count, moved_by, range_at}
 use Rattle.nv_world_model.specs.Geometry.{Geometry, Guest, regions_of, shape_of}
@@ -104,19 +104,19 @@ namespace-row blocks = row-all (λ lba. lba < blocks) 0 blocks (λ at low high. 
 -- ---- a Keep
 
 -- the blocks of the namespace that a block of the disk is, if one is, become kept
-pub keep-marks : (guest : Guest) (p : Private) (whole : ℕ → Bool) (block : ℕ) → SameMarks guest.extent p.kept whole
-    → RunsToMarks guest (keeps guest.extent block) p (marked whole block true)
+pub keep-marks : (guest : Guest) (p : Private) (whole : ℕ → Bool) (block : ℕ) → SameMarks guest.namespace p.kept whole
+    → RunsToMarks guest (keeps guest.namespace block) p (marked whole block true)
 keep-marks guest p whole block same =
-    let blocks = block_count guest.extent in
-    let lbas = filter (λ lba. block_at guest.extent lba == block) (range_with_len 0 blocks) in
+    let blocks = blocks_in guest.namespace in
+    let lbas = filter (λ lba. place_in guest.namespace lba == block) (range_with_len 0 blocks) in
     record {
       marks = raised lbas p.kept;
-      runs = keep-run (shape_of guest) lbas p (All-filter (λ lba. block_at guest.extent lba == block) (λ lba. lba < blocks) (range_with_len 0 blocks) (namespace-row blocks));
+      runs = keep-run (shape_of guest) lbas p (All-filter (λ lba. place_in guest.namespace lba == block) (λ lba. lba < blocks) (range_with_len 0 blocks) (namespace-row blocks));
       same = (λ lba below.
           raised-at lbas p.kept lba
-          ∙ ap (λ b. b || p.kept lba) (row-any lba 0 blocks (λ x. block_at guest.extent x == block) (omega arith) (omega (arith, below)))
-          ∙ ap (λ k. (block_at guest.extent lba == block) || k) (same lba below)
-          ∙ as_cond (block_at guest.extent lba == block) (whole (block_at guest.extent lba)));
+          ∙ ap (λ b. b || p.kept lba) (row-any lba 0 blocks (λ x. place_in guest.namespace x == block) (omega arith) (omega (arith, below)))
+          ∙ ap (λ k. (place_in guest.namespace lba == block) || k) (same lba below)
+          ∙ as_cond (place_in guest.namespace lba == block) (whole (place_in guest.namespace lba)));
     }
   where
     as_cond : (b k : Bool) → (b || k) ≡ cond b true k
@@ -138,14 +138,14 @@ module _ (host_bytes lanes : ℕ) (geometry : Geometry) (laid : IsLaidOut host_b
   below = unit-below host_bytes lanes geometry laid owner guest given entry plan is lane tag h host in_device number left
 
   -- a block that lies outside of what is the owner's is none of the unit's
-  outside : (at start count : ℕ) → (at < guest.extent.base) ⊎ (guest.extent.base + guest.extent.blocks ≤ at) → AreOwn guest.extent start count
+  outside : (at start count : ℕ) → (at < guest.extent.base) ⊎ (guest.extent.base + guest.extent.blocks ≤ at) → AreOwn guest.namespace start count
       → (at < start) ⊎ (start + count ≤ at)
   outside at start count (inl before) own = (let from = own.from in inl (omega (arith, before, from)))
   outside at start count (inr behind) own = (let to = own.to in inr (omega (arith, behind, to)))
 
-  first-own : has_blocks is.work.opcode ≡ true → AreOwn guest.extent (slba_of h.entry) (count_of entry)
+  first-own : has_blocks is.work.opcode ≡ true → AreOwn guest.namespace (slba_of h.entry) (count_of entry)
   first-own has =
-      subst (λ e. AreOwn guest.extent (slba_of e) (count_of entry)) (sym in_device.entry_is)
+      subst (λ e. AreOwn guest.namespace (slba_of e) (count_of entry)) (sym in_device.entry_is)
       (entry-own host_bytes lanes geometry laid owner guest given entry plan is lane tag has)
 
   one-elsewhere : (at : ℕ) → (at < guest.extent.base) ⊎ (guest.extent.base + guest.extent.blocks ≤ at) → has_blocks is.work.opcode ≡ true → number < count_of entry
@@ -224,22 +224,22 @@ module _ (host_bytes lanes : ℕ) (geometry : Geometry) (laid : IsLaidOut host_b
 
   module _ (other : ℕ) (guest_too : Guest) (given_too : slice_get geometry.guests other ≡ Some guest_too) (differ : other ≢ owner)
       (disk : ℕ → ℕ → ℕ) (kept : ℕ → Bool) where
-    away-from : (lba : ℕ) → lba < block_count guest_too.extent
-        → (block_at guest_too.extent lba < guest.extent.base) ⊎ (guest.extent.base + guest.extent.blocks ≤ block_at guest_too.extent lba)
+    away-from : (lba : ℕ) → lba < blocks_in guest_too.namespace
+        → (place_in guest_too.namespace lba < guest.extent.base) ⊎ (guest.extent.base + guest.extent.blocks ≤ place_in guest_too.namespace lba)
     away-from lba within =
         elim (laid.apart other owner guest_too guest given_too given differ).blocks [
           | inl before ↦ inl (omega (arith, within, before))
           | inr behind ↦ inr (omega (arith, within, behind))
         ]
 
-    pub other-marks : (p : Private) → SameMarks guest_too.extent p.kept kept
-        → RunsToMarks guest_too (others_moves (Some is.work) guest_too.extent) p (device_unit number geometry.disk_blocks h host disk kept).kept
+    pub other-marks : (p : Private) → SameMarks guest_too.namespace p.kept kept
+        → RunsToMarks guest_too (others_moves (Some is.work) guest_too.namespace) p (device_unit number geometry.disk_blocks h host disk kept).kept
     other-marks p same = by_form (keeps_all (form_of is.work.opcode)) refl
       where
         by_form : (b : Bool) → keeps_all (form_of is.work.opcode) ≡ b
-            → RunsToMarks guest_too (cond b (map KeepStep (range_with_len 0 (block_count guest_too.extent))) []) p (device_unit number geometry.disk_blocks h host disk kept).kept
+            → RunsToMarks guest_too (cond b (map KeepStep (range_with_len 0 (blocks_in guest_too.namespace))) []) p (device_unit number geometry.disk_blocks h host disk kept).kept
         by_form true all =
-            (let blocks = block_count guest_too.extent in
+            (let blocks = blocks_in guest_too.namespace in
             let on_disk = (laid.given other guest_too given_too).on_disk in
             record {
               marks = raised (range_with_len 0 blocks) p.kept;
@@ -247,21 +247,21 @@ module _ (host_bytes lanes : ℕ) (geometry : Geometry) (laid : IsLaidOut host_b
               same = (λ lba within.
                   raised-at (range_with_len 0 blocks) p.kept lba
                   ∙ ap (λ b. b || p.kept lba) (ap (list_any (λ x. lba == x)) (sym (filter-row 0 blocks)) ∙ row-any lba 0 blocks (λ _. true) (omega arith) (omega (arith, within)))
-                  ∙ sym (unit-keeps all (block_at guest_too.extent lba) (omega (arith, within, on_disk)) disk kept));
+                  ∙ sym (unit-keeps all (place_in guest_too.namespace lba) (omega (arith, within, on_disk)) disk kept));
             })
         by_form false some =
             record {
               marks = p.kept;
               runs = no-steps (shape_of guest_too) p;
-              same = (λ lba within. same lba within ∙ sym (unit-leaves some (block_at guest_too.extent lba) (away-from lba within) disk kept).mark);
+              same = (λ lba within. same lba within ∙ sym (unit-leaves some (place_in guest_too.namespace lba) (away-from lba within) disk kept).mark);
             }
 
     -- and its blocks' bytes stay
-    pub other-bytes : (lba : ℕ) → lba < block_count guest_too.extent
-        → (device_unit number geometry.disk_blocks h host disk kept).disk (block_at guest_too.extent lba) ≡ disk (block_at guest_too.extent lba)
+    pub other-bytes : (lba : ℕ) → lba < blocks_in guest_too.namespace
+        → (device_unit number geometry.disk_blocks h host disk kept).disk (place_in guest_too.namespace lba) ≡ disk (place_in guest_too.namespace lba)
     other-bytes lba within =
         (elim (keeps_all (form_of is.work.opcode)) as (λ b. keeps_all (form_of is.work.opcode) ≡ b
-        → (device_unit number geometry.disk_blocks h host disk kept).disk (block_at guest_too.extent lba) ≡ disk (block_at guest_too.extent lba)) [
-          | true ↦ λ all. unit-writes_nothing all (block_at guest_too.extent lba) disk kept
-          | false ↦ λ some. (unit-leaves some (block_at guest_too.extent lba) (away-from lba within) disk kept).bytes
+        → (device_unit number geometry.disk_blocks h host disk kept).disk (place_in guest_too.namespace lba) ≡ disk (place_in guest_too.namespace lba)) [
+          | true ↦ λ all. unit-writes_nothing all (place_in guest_too.namespace lba) disk kept
+          | false ↦ λ some. (unit-leaves some (place_in guest_too.namespace lba) (away-from lba within) disk kept).bytes
         ]) refl

@@ -21,7 +21,7 @@ use Rattle.nv_model.proofs.Endings.{and-true}
 use Rattle.nv_model.proofs.Judged.{IsSoundWork}
 use Rattle.nv_model.proofs.Units.{clear_units-at, move_units-at}
 use Rattle.nv_model.proofs.UnitsElsewhere.{units-memory}
-use Rattle.nv_ns.specs.BlockRange.{block_at, block_count}
+use Rattle.nv_ns.specs.Extents.{blocks_in, place_in}
 use Rattle.nv_world_model.specs.Area.{addresses_of, bounce_page, entry_of, form_dwords, list_page, physical_entry, prps_of, tag_count, translated_range}
 use Rattle.nv_world_model.specs.Device.{Held, device_unit, form_moves, form_unit_count, moved_by, range_at}
 use Rattle.nv_world_model.specs.Geometry.{Geometry, Guest, regions_of, shape_of}
@@ -98,39 +98,39 @@ module _ (host_bytes lanes : ℕ) (geometry : Geometry) (laid : IsLaidOut host_b
       ap (λ e. io_opcode (opcode_of e)) in_device.entry_is ∙ ap io_opcode (entry-opcode plan guest entry geometry.mediator lane tag tag_below) ∙ sound.opcode
 
   abbrev built_of : Plan → List ℕ
-  built_of p = physical_entry (opcode_of entry) tag (prps_of p guest (list_page geometry.mediator lane tag) bounce) (form_dwords (form_of is.work.opcode) guest.extent entry)
+  built_of p = physical_entry (opcode_of entry) tag (prps_of p guest (list_page geometry.mediator lane tag) bounce) (form_dwords (form_of is.work.opcode) guest.namespace entry)
 
   entry-built : (P : List ℕ → Type 0) → ((p : Plan) → P (built_of p)) → P h.entry
   entry-built P each =
       subst P (sym in_device.entry_is)
       (planned-kinds (λ p. P (entry_of p guest entry geometry.mediator lane tag)) guest entry plan is (each (NoData is.work)) (λ fits. each (Direct is.work)) (each (Bounced is.work)))
 
-  count-within : has_blocks is.work.opcode ≡ true → (count_of entry ≤ block_count guest.extent) × (slba_of entry ≤ block_count guest.extent - count_of entry)
+  count-within : has_blocks is.work.opcode ≡ true → (count_of entry ≤ blocks_in guest.namespace) × (slba_of entry ≤ blocks_in guest.namespace - count_of entry)
   count-within has =
       let within = end-within (mapped (regions_of guest)) guest.limit (shape_of guest).blocks entry is.work is.verdict has in
-      let both = and-true (nat_le (count_of entry) (block_count guest.extent)) (nat_le (slba_of entry) (block_count guest.extent - count_of entry)) within in
-      (leb-true (count_of entry) (block_count guest.extent) both.0, leb-true (slba_of entry) (block_count guest.extent - count_of entry) both.1)
+      let both = and-true (nat_le (count_of entry) (blocks_in guest.namespace)) (nat_le (slba_of entry) (blocks_in guest.namespace - count_of entry)) within in
+      (leb-true (count_of entry) (blocks_in guest.namespace) both.0, leb-true (slba_of entry) (blocks_in guest.namespace - count_of entry) both.1)
 
-  starts : has_blocks is.work.opcode ≡ true → slba_of h.entry ≡ block_at guest.extent (slba_of entry)
+  starts : has_blocks is.work.opcode ≡ true → slba_of h.entry ≡ place_in guest.namespace (slba_of entry)
   starts has =
       let within = count-within has in
       let some = within.0 in
       let most = within.1 in
       let disk = (laid.given owner guest given).on_disk in
       let few = laid.few_blocks in
-      entry-built (λ e. slba_of e ≡ block_at guest.extent (slba_of entry))
-      (λ p. form-start (form_of is.work.opcode) (opcode_of entry) tag (prps_of p guest (list_page geometry.mediator lane tag) bounce) guest.extent entry has (omega (arith, most, disk, few)))
+      entry-built (λ e. slba_of e ≡ place_in guest.namespace (slba_of entry))
+      (λ p. form-start (form_of is.work.opcode) (opcode_of entry) tag (prps_of p guest (list_page geometry.mediator lane tag) bounce) guest.namespace entry has (omega (arith, most, disk, few)))
 
   fua-is : has_blocks is.work.opcode ≡ true → is_fua h.entry ≡ is_fua entry
   fua-is has =
       entry-built (λ e. is_fua e ≡ is_fua entry)
-      (λ p. form-fua (form_of is.work.opcode) (opcode_of entry) tag (prps_of p guest (list_page geometry.mediator lane tag) bounce) guest.extent entry has)
+      (λ p. form-fua (form_of is.work.opcode) (opcode_of entry) tag (prps_of p guest (list_page geometry.mediator lane tag) bounce) guest.namespace entry has)
 
   deallocates-is : form_of is.work.opcode ≡ Manage → deallocates h.entry ≡ deallocates entry
   deallocates-is form =
       entry-built (λ e. deallocates e ≡ deallocates entry)
-      (λ p. ap (λ f. deallocates (physical_entry (opcode_of entry) tag (prps_of p guest (list_page geometry.mediator lane tag) bounce) (form_dwords f guest.extent entry))) form
-      ∙ manage-deallocates (opcode_of entry) tag (prps_of p guest (list_page geometry.mediator lane tag) bounce) guest.extent entry)
+      (λ p. ap (λ f. deallocates (physical_entry (opcode_of entry) tag (prps_of p guest (list_page geometry.mediator lane tag) bounce) (form_dwords f guest.namespace entry))) form
+      ∙ manage-deallocates (opcode_of entry) tag (prps_of p guest (list_page geometry.mediator lane tag) bounce) guest.namespace entry)
 
   below : number < form_unit_count (form_of is.work.opcode) entry
   below = unit-below host_bytes lanes geometry laid owner guest given entry plan is lane tag h host in_device number left
@@ -169,11 +169,11 @@ module _ (host_bytes lanes : ℕ) (geometry : Geometry) (laid : IsLaidOut host_b
       slice_get-there is.work.ranges number (omega (arith, few, many))
 
   range-read : form_of is.work.opcode ≡ Manage → (range : List ℕ) → slice_get is.work.ranges number ≡ Some range
-      → range_at number h.pieces host ≡ translated_range guest.extent range
+      → range_at number h.pieces host ≡ translated_range guest.namespace range
   range-read form range found =
       let few : number < range_count_of entry = subst (λ f. number < form_unit_count f entry) form below in
       let bounced : plan ≡ Bounced is.work = is.plan_is ∙ ap (λ f. go_plan f (regions_of guest) is.work) form in
-      let ranges_shown : Shows host bounce (flat_map (translated_range guest.extent) is.work.ranges) =
+      let ranges_shown : Shows host bounce (flat_map (translated_range guest.namespace) is.work.ranges) =
       subst (λ f. Shows host bounce (form_ranges f guest is.work)) form (subst (λ p. Shows host bounce (ranges_of p guest)) bounced in_device.pages.ranges) in
       let places : places_of h.pieces ≡ map At (range_with_len bounce (total_len is.work.pieces)) =
       in_device.places ∙ ap (λ p. map At (addresses_of p guest bounce)) bounced in
@@ -181,33 +181,33 @@ module _ (host_bytes lanes : ℕ) (geometry : Geometry) (laid : IsLaidOut host_b
       let split : total_len is.work.pieces ≡ 16 * number + (16 + (16 * range_count_of entry - (16 * number + 16))) = omega (arith, total, few) in
       ap (λ ps. gathered host (take 16 (drop (16 * number) ps))) (places ∙ ap (λ n. map At (range_with_len bounce n)) split)
       ∙ row-bytes host bounce (16 * number) (16 * range_count_of entry - (16 * number + 16))
-      ∙ shown-range guest.extent host is.work.ranges number bounce range found ranges_shown
+      ∙ shown-range guest.namespace host is.work.ranges number bounce range found ranges_shown
 
   range-fields : form_of is.work.opcode ≡ Manage → (range : List ℕ) → slice_get is.work.ranges number ≡ Some range
-      → (start_of (range_at number h.pieces host) ≡ block_at guest.extent (start_of range)) × (blocks_of (range_at number h.pieces host) ≡ blocks_of range)
+      → (start_of (range_at number h.pieces host) ≡ place_in guest.namespace (start_of range)) × (blocks_of (range_at number h.pieces host) ≡ blocks_of range)
   range-fields form range found =
       let fits = all-one (range_fits (shape_of guest).blocks) is.work.ranges number range sound.fit found in
-      let both = and-true (nat_le (blocks_of range) (block_count guest.extent)) (nat_le (start_of range) (block_count guest.extent - blocks_of range)) fits in
-      let some = leb-true (blocks_of range) (block_count guest.extent) both.0 in
-      let most = leb-true (start_of range) (block_count guest.extent - blocks_of range) both.1 in
+      let both = and-true (nat_le (blocks_of range) (blocks_in guest.namespace)) (nat_le (start_of range) (blocks_in guest.namespace - blocks_of range)) fits in
+      let some = leb-true (blocks_of range) (blocks_in guest.namespace) both.0 in
+      let most = leb-true (start_of range) (blocks_in guest.namespace - blocks_of range) both.1 in
       let disk = (laid.given owner guest given).on_disk in
       let few_blocks = laid.few_blocks in
       let read = range-read form range found in (
-        ap start_of read ∙ translated-start guest.extent range (omega (arith, most, disk, few_blocks)),
-        ap blocks_of read ∙ translated-blocks guest.extent range (omega (arith, some, disk, few_blocks)),
+        ap start_of read ∙ translated-start guest.namespace range (omega (arith, most, disk, few_blocks)),
+        ap blocks_of read ∙ translated-blocks guest.namespace range (omega (arith, some, disk, few_blocks)),
       )
 
-  module _ (own whole : Moved) (same : SameBlocks guest.extent own whole) (memory_is : whole.memory ≡ host)
+  module _ (own whole : Moved) (same : SameBlocks guest.namespace own whole) (memory_is : whole.memory ≡ host)
       (source : form_of is.work.opcode ≡ Transfer false → gathered own.memory (places_of_block is.work number) ≡ gathered host (addresses_of_block plan guest bounce number)) where
     -- a block is one of the guest's, and the device's is where the disk has it
-    at-below : has_blocks is.work.opcode ≡ true → number < count_of entry → slba_of entry + number < block_count guest.extent
+    at-below : has_blocks is.work.opcode ≡ true → number < count_of entry → slba_of entry + number < blocks_in guest.namespace
     at-below has few =
         let within = count-within has in
         let some = within.0 in
         let most = within.1 in
         omega (arith, some, most, few)
 
-    there-is : has_blocks is.work.opcode ≡ true → slba_of h.entry + number ≡ block_at guest.extent (slba_of entry + number)
+    there-is : has_blocks is.work.opcode ≡ true → slba_of h.entry + number ≡ place_in guest.namespace (slba_of entry + number)
     there-is has = let start = starts has in omega (arith, start)
 
     fua-same : has_blocks is.work.opcode ≡ true → is.work.fua ≡ flag
@@ -220,55 +220,55 @@ module _ (host_bytes lanes : ℕ) (geometry : Geometry) (laid : IsLaidOut host_b
     source-same form = source form ∙ sym (ap (λ ps. gathered host ps) places-are) ∙ sym (ap (λ m. gathered m (take block (drop (block * number) (places_of h.pieces)))) memory_is)
 
     form-same : (form : Form) → form_of is.work.opcode ≡ form
-        → SameBlocks guest.extent (units_moved (own_units is.work number) is.work own)
+        → SameBlocks guest.namespace (units_moved (own_units is.work number) is.work own)
         (units_moved (form_moves form number geometry.disk_blocks h whole.memory) (block_work is.work.opcode h.pieces flag) whole)
     unfolding units_moved
     form-same (Transfer dest) form =
         let few : number < count_of entry = subst (λ f. number < form_unit_count f entry) form below in
         let has : has_blocks is.work.opcode ≡ true = ap form_has_blocks form in
-        subst (λ us. SameBlocks guest.extent (units_moved us is.work own)
+        subst (λ us. SameBlocks guest.namespace (units_moved us is.work own)
         (units_moved (MoveBlock number (slba_of h.entry + number) ∷ []) (block_work is.work.opcode h.pieces flag) whole))
         (sym (own-block (Transfer dest) form (λ e. cc) (MoveBlock number (slba_of entry + number)) (move_units-at (slba_of entry) (count_of entry) number few)))
-        (block-same guest.extent is.work.opcode is.work (block_work is.work.opcode h.pieces flag) number (slba_of entry + number) (slba_of h.entry + number) own whole same
+        (block-same guest.namespace is.work.opcode is.work (block_work is.work.opcode h.pieces flag) number (slba_of entry + number) (slba_of h.entry + number) own whole same
         (at-below has few) (there-is has) (fua-same has) source-same)
     form-same Clear form =
         let few : number < count_of entry = subst (λ f. number < form_unit_count f entry) form below in
         let has : has_blocks is.work.opcode ≡ true = ap form_has_blocks form in
-        subst (λ us. SameBlocks guest.extent (units_moved us is.work own)
+        subst (λ us. SameBlocks guest.namespace (units_moved us is.work own)
         (units_moved (ClearBlock (slba_of h.entry + number) (is_fua h.entry) ∷ []) (block_work is.work.opcode h.pieces flag) whole))
         (sym (own-block Clear form (λ e. cc) (ClearBlock (slba_of entry + number) (is_fua entry)) (clear_units-at (is_fua entry) (slba_of entry) (count_of entry) number few)))
-        (clear-same guest.extent (slba_of entry + number) (slba_of h.entry + number) (is_fua entry) (is_fua h.entry) is.work (block_work is.work.opcode h.pieces flag) own whole same
+        (clear-same guest.namespace (slba_of entry + number) (slba_of h.entry + number) (is_fua entry) (is_fua h.entry) is.work (block_work is.work.opcode h.pieces flag) own whole same
         (there-is has) (sym (fua-is has)))
     form-same Manage form =
         let range = range-there form in
         let fields = range-fields form range.0 range.1 in
-        subst (λ us. SameBlocks guest.extent (units_moved us is.work own)
+        subst (λ us. SameBlocks guest.namespace (units_moved us is.work own)
         (units_moved (one_range_units (deallocates h.entry) (range_at number h.pieces whole.memory)) (block_work is.work.opcode h.pieces flag) whole))
         (sym (own-range is.work number (deallocates entry) range.0 (ap (λ f. form_numbers f is.work) form)
         (sound.units ∙ ap (λ f. form_units f (shape_of guest).blocks entry is.work.ranges) form) range.1))
-        (subst (λ d. SameBlocks guest.extent (units_moved (one_range_units d range.0) is.work own)
+        (subst (λ d. SameBlocks guest.namespace (units_moved (one_range_units d range.0) is.work own)
         (units_moved (one_range_units (deallocates h.entry) (range_at number h.pieces whole.memory)) (block_work is.work.opcode h.pieces flag) whole)) (deallocates-is form)
-        (subst (λ m. SameBlocks guest.extent (units_moved (one_range_units (deallocates h.entry) range.0) is.work own)
+        (subst (λ m. SameBlocks guest.namespace (units_moved (one_range_units (deallocates h.entry) range.0) is.work own)
         (units_moved (one_range_units (deallocates h.entry) (range_at number h.pieces m)) (block_work is.work.opcode h.pieces flag) whole)) (sym memory_is)
-        (range-same guest.extent (deallocates h.entry) range.0 (range_at number h.pieces host) is.work (block_work is.work.opcode h.pieces flag) own whole same fields.0 fields.1)))
+        (range-same guest.namespace (deallocates h.entry) range.0 (range_at number h.pieces host) is.work (block_work is.work.opcode h.pieces flag) own whole same fields.0 fields.1)))
     form-same Keep form =
         let disk = (laid.given owner guest given).on_disk in
         let few : number < 1 = subst (λ f. number < form_unit_count f entry) form below in
         let first : 0 ≡ number = omega (arith, few) in
-        subst (λ us. SameBlocks guest.extent (units_moved us is.work own)
+        subst (λ us. SameBlocks guest.namespace (units_moved us is.work own)
         (units_moved (KeepAll geometry.disk_blocks ∷ []) (block_work is.work.opcode h.pieces flag) whole))
         (sym (own-block Keep form (λ e. cc) (KeepAll (shape_of guest).blocks) (subst (λ n. slice_get (form_units Keep (shape_of guest).blocks entry is.work.ranges) n ≡ Some (KeepAll (shape_of guest).blocks)) first refl)))
-        (keep-same guest.extent (shape_of guest).blocks geometry.disk_blocks is.work (block_work is.work.opcode h.pieces flag) own whole same refl disk)
+        (keep-same guest.namespace (shape_of guest).blocks geometry.disk_blocks is.work (block_work is.work.opcode h.pieces flag) own whole same refl disk)
 
   -- the guest's blocks are the same behind it, and whether a Compare has differed
   pub unit-same : (own : Moved) (disk : ℕ → ℕ → ℕ) (kept : ℕ → Bool)
-      → SameBlocks guest.extent own (record { memory = host; disk = disk; kept = kept; differed = h.differed })
+      → SameBlocks guest.namespace own (record { memory = host; disk = disk; kept = kept; differed = h.differed })
       → (form_of is.work.opcode ≡ Transfer false → gathered own.memory (places_of_block is.work number) ≡ gathered host (addresses_of_block plan guest bounce number))
-      → SameBlocks guest.extent (units_moved (own_units is.work number) is.work own) (device_unit number geometry.disk_blocks h host disk kept)
+      → SameBlocks guest.namespace (units_moved (own_units is.work number) is.work own) (device_unit number geometry.disk_blocks h host disk kept)
   unfolding device_unit
   unit-same own disk kept same source =
       let m : Moved = record { memory = host; disk = disk; kept = kept; differed = h.differed } in
-      subst (λ o. SameBlocks guest.extent (units_moved (own_units is.work number) is.work own) (moved_by o number geometry.disk_blocks h m)) (sym opcode-is)
+      subst (λ o. SameBlocks guest.namespace (units_moved (own_units is.work number) is.work own) (moved_by o number geometry.disk_blocks h m)) (sym opcode-is)
       (form-same own m same refl source (form_of is.work.opcode) refl)
 
   -- ---- its bytes
@@ -285,13 +285,13 @@ module _ (host_bytes lanes : ℕ) (geometry : Geometry) (laid : IsLaidOut host_b
 
   pub read-host : (disk : ℕ → ℕ → ℕ) (kept : ℕ → Bool) → is_read is.work.opcode ≡ true
       → (device_unit number geometry.disk_blocks h host disk kept).memory
-      ≡ scattered host (addresses_of_block plan guest bounce number) (block_bytes disk (block_at guest.extent (slba_of entry + number)))
+      ≡ scattered host (addresses_of_block plan guest bounce number) (block_bytes disk (place_in guest.namespace (slba_of entry + number)))
   unfolding device_unit
   read-host disk kept reads =
       let m : Moved = record { memory = host; disk = disk; kept = kept; differed = h.differed } in
       let has : has_blocks is.work.opcode ≡ true = ap form_has_blocks (read-form is.work.opcode reads) in
       let start = starts has in
-      let there : slba_of h.entry + number ≡ block_at guest.extent (slba_of entry + number) = omega (arith, start) in
+      let there : slba_of h.entry + number ≡ place_in guest.namespace (slba_of entry + number) = omega (arith, start) in
       ap (λ o. (moved_by o number geometry.disk_blocks h m).memory) opcode-is
       ∙ read-moves is.work.opcode number geometry.disk_blocks h flag m reads
       ∙ ap (λ ps. scattered host ps (block_bytes disk (slba_of h.entry + number))) places-are
@@ -299,15 +299,15 @@ module _ (host_bytes lanes : ℕ) (geometry : Geometry) (laid : IsLaidOut host_b
 
   -- the bytes are the same in both
   pub read-bytes : (own : Moved) (disk : ℕ → ℕ → ℕ) (kept : ℕ → Bool) → is_read is.work.opcode ≡ true
-      → SameBlocks guest.extent own (record { memory = host; disk = disk; kept = kept; differed = h.differed })
-      → block_bytes own.disk (slba_of entry + number) ≡ block_bytes disk (block_at guest.extent (slba_of entry + number))
+      → SameBlocks guest.namespace own (record { memory = host; disk = disk; kept = kept; differed = h.differed })
+      → block_bytes own.disk (slba_of entry + number) ≡ block_bytes disk (place_in guest.namespace (slba_of entry + number))
   read-bytes own disk kept reads same =
       let form = read-form is.work.opcode reads in
       let few : number < count_of entry = subst (λ f. number < form_unit_count f entry) form below in
       let within = count-within (ap form_has_blocks form) in
       let some = within.0 in
       let most = within.1 in
-      block-bytes guest.extent own.disk disk (slba_of entry + number) (block_at guest.extent (slba_of entry + number)) refl
+      block-bytes guest.namespace own.disk disk (slba_of entry + number) (place_in guest.namespace (slba_of entry + number)) refl
       (λ offset. same.bytes (slba_of entry + number) offset (omega (arith, some, most, few)))
 
   -- other units change no byte

@@ -1,7 +1,7 @@
 -- Marks of a guest's blocks that others raise (profile).
 use Rattle.std.specs.Prelude.{◌≡◌, ℕ, ◌<◌, Bool, true, false, List, [], Some}
 use Rattle.nv_model.specs.Private.{Private, Step, run_of}
-use Rattle.nv_ns.specs.BlockRange.{Extent, block_at, block_count}
+use Rattle.nv_ns.specs.Extents.{Namespace, blocks_in, place_in}
 use Rattle.nv_world_model.specs.Geometry.{Guest, shape_of}
 use Rattle.nv_world_model.specs.World.{World}
 use Rattle.nv_world_model.specs.declared.event.Event.{Event}
@@ -9,14 +9,14 @@ use Rattle.nv_world_model.specs.declared.event.Event.TheVariants as event
 
 -- a guest's own marks are those of its blocks on the disk
 abbrev pub SameMarks : Extent → (own whole : ℕ → Bool) → Type 0
-SameMarks extent own whole = (lba : ℕ) → lba < block_count extent → own lba ≡ whole (block_at extent lba)
+SameMarks ns own whole = (lba : ℕ) → lba < blocks_in ns → own lba ≡ whole (place_in ns lba)
 
 -- these steps are a run of a guest's private controller that changes marks alone, and behind it its marks are those
 -- of the disk
 pub record RunsToMarks (guest : Guest) (steps : List Step) (p : Private) (whole : ℕ → Bool) : Type 0 where
   pub marks : ℕ → Bool
   pub runs : run_of (shape_of guest) steps p ≡ Some (record { state = record p { kept = marks }; seen = [] })
-  pub same : SameMarks guest.extent marks whole
+  pub same : SameMarks guest.namespace marks whole
 
 -- ---- events that change no block
 

@@ -7,7 +7,7 @@ use Rattle.nv_model.specs.Judge.{Work, WorkUnit}
 use Rattle.nv_model.specs.Limits.{block}
 use Rattle.nv_model.specs.Memory.{scattered}
 use Rattle.nv_model.specs.Private.{Moved, Private}
-use Rattle.nv_ns.specs.BlockRange.{Extent, block_at, block_count}
+use Rattle.nv_ns.specs.Extents.{Namespace, blocks_in, place_in}
 use Rattle.nv_world_model.specs.Area.{addresses_of}
 use Rattle.nv_world_model.specs.Device.{Held}
 use Rattle.nv_world_model.specs.Geometry.{Geometry, Guest}
@@ -30,9 +30,9 @@ addresses_of_block plan guest bounce index =
 
 -- a guest's own blocks and marks are those that the disk has where its namespace lies, and a Compare has differed in
 -- both or in neither
-pub record SameBlocks (extent : Extent) (own whole : Moved) : Type 0 where
-  pub bytes : (lba offset : ℕ) → lba < block_count extent → own.disk lba offset ≡ whole.disk (block_at extent lba) offset
-  pub marks : (lba : ℕ) → lba < block_count extent → own.kept lba ≡ whole.kept (block_at extent lba)
+pub record SameBlocks (ns : Namespace) (own whole : Moved) : Type 0 where
+  pub bytes : (lba offset : ℕ) → lba < blocks_in ns → own.disk lba offset ≡ whole.disk (place_in ns lba) offset
+  pub marks : (lba : ℕ) → lba < blocks_in ns → own.kept lba ≡ whole.kept (place_in ns lba)
   pub compared : own.differed ≡ whole.differed
 
 -- ---- a command in the device

@@ -46,7 +46,7 @@ pub fn a_bounced_block_stands_in_its_page()
         IsLaidOut host_bytes (length w.lanes) geometry → IsConsistent geometry w →
         IsHeld geometry w number guest lane tag plan work h →
         list_any (λ k. k == unit) h.left ≡ true → plan ≡ Bounced work → is_read work.opcode ≡ true →
-        SameBlocks guest.extent own (whole_of w h.differed) → NameNoneTwice (places_of_block work unit) →
+        SameBlocks guest.namespace own (whole_of w h.differed) → NameNoneTwice (places_of_block work unit) →
         HasAt (units_moved (own_units work unit) work own).memory (places_of_block work unit)
         (bytes_from (device_unit unit geometry.disk_blocks h w.host w.disk w.kept).memory
         (bounce_page geometry.mediator lane tag + block * unit) block) }
@@ -56,7 +56,7 @@ pub fn a_bounced_block_stands_in_its_page()
         IsLaidOut host_bytes (length w.lanes) geometry → IsConsistent geometry w →
         IsHeld geometry w number guest lane tag plan work h →
         list_any (λ k. k == unit) h.left ≡ true → plan ≡ Bounced work → is_read work.opcode ≡ true →
-        SameBlocks guest.extent own (whole_of w h.differed) → NameNoneTwice (places_of work.pieces) → other ≢ unit →
+        SameBlocks guest.namespace own (whole_of w h.differed) → NameNoneTwice (places_of work.pieces) → other ≢ unit →
         HasAt own.memory (places_of_block work other) (bytes_from w.host
         (bounce_page geometry.mediator lane tag + block * other) block) →
         HasAt (units_moved (own_units work unit) work own).memory (places_of_block work other)

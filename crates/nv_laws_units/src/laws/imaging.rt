@@ -33,7 +33,7 @@ pub fn a_direct_unit_moves_in_the_guests_memory()
         IsLaidOut host_bytes (length w.lanes) geometry → IsConsistent geometry w →
         IsHeld geometry w number guest lane tag plan work h →
         list_any (λ k. k == unit) h.left ≡ true → plan ≡ Direct work → is_read work.opcode ≡ true →
-        SameBlocks guest.extent own (whole_of w h.differed) →
+        SameBlocks guest.namespace own (whole_of w h.differed) →
         GivesBlock (places_of_block work unit) (places_of_block work unit) own.memory (units_moved
         (own_units work unit) work own).memory
         (image (regions_of guest) w.host)
@@ -44,7 +44,7 @@ pub fn a_direct_unit_moves_in_the_guests_memory()
         IsLaidOut host_bytes (length w.lanes) geometry → IsConsistent geometry w →
         IsHeld geometry w number guest lane tag plan work h →
         list_any (λ k. k == unit) h.left ≡ true → plan ≡ Direct work → is_read work.opcode ≡ true →
-        SameBlocks guest.extent own (whole_of w h.differed) →
+        SameBlocks guest.namespace own (whole_of w h.differed) →
         (addr : ℕ) → own.memory addr ≡ image (regions_of guest) w.host addr →
         (units_moved (own_units work unit) work own).memory addr
         ≡ image (regions_of guest) (device_unit unit geometry.disk_blocks h w.host w.disk w.kept).memory addr }

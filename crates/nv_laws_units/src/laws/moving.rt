@@ -31,10 +31,10 @@ pub fn a_moved_unit_is_the_private_unit()
         (h : Held) (unit : ℕ) (own : Moved) →
         IsLaidOut host_bytes (length w.lanes) geometry → IsConsistent geometry w →
         IsHeld geometry w number guest lane tag plan work h →
-        list_any (λ k. k == unit) h.left ≡ true → SameBlocks guest.extent own (whole_of w h.differed) →
+        list_any (λ k. k == unit) h.left ≡ true → SameBlocks guest.namespace own (whole_of w h.differed) →
         (form_of work.opcode ≡ Transfer false → gathered own.memory (places_of_block work unit)
         ≡ gathered w.host (addresses_of_block plan guest (bounce_page geometry.mediator lane tag) unit)) →
-        SameBlocks guest.extent (units_moved (own_units work unit) work own)
+        SameBlocks guest.namespace (units_moved (own_units work unit) work own)
         (device_unit unit geometry.disk_blocks h w.host w.disk w.kept) }
     ensures read { (host_bytes : ℕ) (geometry : Geometry) (w : World) (number : ℕ) (guest : Guest) (lane tag : ℕ)
         (plan : Plan) (work : Work)
@@ -42,7 +42,7 @@ pub fn a_moved_unit_is_the_private_unit()
         IsLaidOut host_bytes (length w.lanes) geometry → IsConsistent geometry w →
         IsHeld geometry w number guest lane tag plan work h →
         list_any (λ k. k == unit) h.left ≡ true → is_read work.opcode ≡ true →
-        SameBlocks guest.extent own (whole_of w h.differed) →
+        SameBlocks guest.namespace own (whole_of w h.differed) →
         GivesBlock (places_of_block work unit) (addresses_of_block plan guest
         (bounce_page geometry.mediator lane tag) unit)
         own.memory (units_moved (own_units work unit) work own).memory

@@ -4,7 +4,7 @@ ghost use Rattle.std.specs.Prelude.{◌≡◌, ◌≢◌, ℕ, ◌<◌, Some, tr
 ghost use Rattle.std.specs.List.{list_any};
 ghost use Rattle.nv_model.specs.Judge.{Work};
 ghost use Rattle.nv_model.specs.Private.{Private};
-ghost use Rattle.nv_ns.specs.BlockRange.{block_at, block_count};
+ghost use Rattle.nv_ns.specs.Extents.{blocks_in, place_in};
 ghost use Rattle.nv_world_model.specs.Device.{Held, device_unit};
 ghost use Rattle.nv_world_model.specs.Geometry.{Geometry, Guest};
 ghost use Rattle.nv_world_model.specs.Plan.{Plan};
@@ -25,15 +25,15 @@ pub fn anothers_unit_raises_marks_at_most()
     ensures steps { (geometry : Geometry) (w : World) (owner : ℕ) (held : Guest) (lane tag : ℕ) (plan : Plan)
         (work : Work) (h : Held)
         (unit number : ℕ) (guest : Guest) → IsHeld geometry w owner held lane tag plan work h → number ≢ owner →
-        steps_of number guest w (event.DevMove lane tag unit) reply.Done ≡ others_moves (Some work) guest.extent }
+        steps_of number guest w (event.DevMove lane tag unit) reply.Done ≡ others_moves (Some work) guest.namespace }
     ensures marks { (host_bytes : ℕ) (geometry : Geometry) (w : World) (owner : ℕ) (held : Guest) (lane tag : ℕ)
         (plan : Plan) (work : Work)
         (h : Held) (unit number : ℕ) (guest : Guest) (p : Private) →
         IsLaidOut host_bytes (length w.lanes) geometry → IsConsistent geometry w →
         IsHeld geometry w owner held lane tag plan work h →
         list_any (λ k. k == unit) h.left ≡ true → slice_get geometry.guests number ≡ Some guest → number ≢ owner →
-        SameMarks guest.extent p.kept w.kept →
-        RunsToMarks guest (others_moves (Some work) guest.extent) p
+        SameMarks guest.namespace p.kept w.kept →
+        RunsToMarks guest (others_moves (Some work) guest.namespace) p
         (device_unit unit geometry.disk_blocks h w.host w.disk w.kept).kept }
     ensures bytes { (host_bytes : ℕ) (geometry : Geometry) (w : World) (owner : ℕ) (held : Guest) (lane tag : ℕ)
         (plan : Plan) (work : Work)
@@ -41,18 +41,18 @@ pub fn anothers_unit_raises_marks_at_most()
         IsLaidOut host_bytes (length w.lanes) geometry → IsConsistent geometry w →
         IsHeld geometry w owner held lane tag plan work h →
         list_any (λ k. k == unit) h.left ≡ true → slice_get geometry.guests number ≡ Some guest → number ≢ owner →
-        lba < block_count guest.extent →
+        lba < blocks_in guest.namespace →
         (device_unit unit geometry.disk_blocks h w.host w.disk w.kept).disk
-        (block_at guest.extent lba) offset ≡ w.disk (block_at guest.extent lba) offset }
+        (place_in guest.namespace lba) offset ≡ w.disk (place_in guest.namespace lba) offset }
 {}
 
 /// Where a block of the disk becomes kept, the steps that this stands for give a guest's marks exactly: its own block
 /// is kept, if the disk's is one of its blocks, and else nothing happens.
 pub fn a_kept_block_raises_its_own_mark()
     ensures steps { (w : World) (number : ℕ) (guest : Guest) (block : ℕ) →
-        steps_of number guest w (event.Keep block) reply.Done ≡ keeps guest.extent block }
-    ensures marks { (guest : Guest) (p : Private) (w : World) (block : ℕ) → SameMarks guest.extent p.kept w.kept →
-        RunsToMarks guest (keeps guest.extent block) p (kept_block block w).kept }
+        steps_of number guest w (event.Keep block) reply.Done ≡ keeps guest.namespace block }
+    ensures marks { (guest : Guest) (p : Private) (w : World) (block : ℕ) → SameMarks guest.namespace p.kept w.kept →
+        RunsToMarks guest (keeps guest.namespace block) p (kept_block block w).kept }
 {}
 
 /// No event but a unit that moves and a block that becomes kept changes any block or mark.
