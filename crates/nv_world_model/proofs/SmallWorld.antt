@@ -5,6 +5,7 @@ use Rattle.std.proofs.lemmas.Bool.Decides.{nat_tests}
 use mathlib.Core.Path.{fun_ext}
 use Rattle.nv_mem.specs.GuestMap.{covers, covers_host, guest_of}
 use Rattle.nv_mem.specs.declared.region.Region.{Region}
+use Rattle.nv_ns.specs.Extents.{place_in}
 use Rattle.nv_model.specs.Memory.{byte_at_host, byte_or, image, put_image, stored}
 use Rattle.nv_model.specs.Private.{marked}
 use Rattle.nv_world_model.specs.Contained.{LeavesOthers, ReadsOwn, in_area}
@@ -12,7 +13,7 @@ use Rattle.nv_world_model.specs.CutDown.{cut}
 use Rattle.nv_world_model.specs.Geometry.{Guest, regions_of}
 use Rattle.nv_world_model.specs.RowsSmall.{small, small_first, small_guest, small_second}
 use Rattle.nv_world_model.specs.Step.{After}
-use Rattle.nv_world_model.specs.View.{IsSameView, in_extent, in_image, lies_in, shown}
+use Rattle.nv_world_model.specs.View.{IsSameView, in_extents, in_image, lies_in, shown}
 use Rattle.nv_world_model.specs.World.{World}
 
 -- what holds of both guests holds of each guest that is there
@@ -35,6 +36,13 @@ pub each_block : (P : ℕ → Type 0) → P 0 → P 1 → (lba : ℕ) → lba < 
 each_block P p q zero h = p
 each_block P p q (suc zero) h = q
 each_block P p q (suc (suc lba)) h = absurd (omega arith)
+
+-- where the disk has the blocks of the first guest, and of the second
+abbrev pub first_at : (lba : ℕ) → ℕ
+first_at lba = place_in small_first.namespace lba
+
+abbrev pub second_at : (lba : ℕ) → ℕ
+second_at lba = place_in small_second.namespace lba
 
 -- ---- images
 
@@ -213,7 +221,7 @@ answer-area at away = grind (arith, nat_tests, away)
 -- ---- blocks
 
 -- a block that isn't the first guest's is not its first one
-pub block-outside : (at : ℕ) → in_extent small_first.extent at ≡ false → (at == 2) ≡ false
+pub block-outside : (at : ℕ) → in_extents small_first.namespace at ≡ false → (at == 2) ≡ false
 block-outside at e = grind (arith, nat_tests, e)
 
 -- a mark that was set is still set behind one that is set
@@ -229,8 +237,8 @@ mark-rises block kept at is = by (at == block)
 -- an event of the first guest leaves others, where it leaves the second's view, and what is neither's
 pub leaves-first : (w z : World) → IsSameView 1 small_second small w z
     → ((at : ℕ) → in_image small_first at ≡ false → in_area small w at ≡ false → w.host at ≡ z.host at)
-    → ((at offset : ℕ) → in_extent small_first.extent at ≡ false → w.disk at offset ≡ z.disk at offset)
-    → ((at : ℕ) → in_extent small_first.extent at ≡ false → w.kept at ≡ true → z.kept at ≡ true)
+    → ((at offset : ℕ) → in_extents small_first.namespace at ≡ false → w.disk at offset ≡ z.disk at offset)
+    → ((at : ℕ) → in_extents small_first.namespace at ≡ false → w.kept at ≡ true → z.kept at ≡ true)
     → LeavesOthers small (Some 0) w z
 leaves-first w z view bytes blocks marks =
     record {

@@ -115,6 +115,10 @@ refused host_bytes lanes mediator guests = refusal_of (sized host_bytes lanes me
 abbrev pub guests_refused : List Guest → Option Refusal
 guests_refused guests = refused 0x1000000 1 0x400000 guests
 
+-- so many blocks of the disk from this one on
+abbrev pub extent_at : (base blocks : ℕ) → Extent
+extent_at base blocks = record { base = base; blocks = blocks }
+
 -- so many guests of one page and one block each, one behind the other
 abbrev pub small_guests : (count : ℕ) → List Guest
 small_guests count =
@@ -133,10 +137,6 @@ guest_of_regions count =
             regions = map (λ n. record { guest = 0x1000 * n; host = 0x100000 + 0x1000 * n; len = 0x1000 }) (range_with_len 0 count);
           };
     }
-
--- so many blocks of the disk from this one on
-abbrev pub extent_at : (base blocks : ℕ) → Extent
-extent_at base blocks = record { base = base; blocks = blocks }
 
 -- a guest of that namespace
 abbrev pub guest_of : (host : ℕ) → Namespace → Guest

@@ -68,8 +68,7 @@ pub fn examples()
     // A guest's second extent begins with the last block of its first.
     ensures extents_of_a_guest_that_meet { guests_refused (guest_of 0x100000 (extent_at 1000 32 ∷ extent_at 1031 8 ∷ []) ∷ []) ≡ Some RangesMeet }
     // A guest's third extent lies in another guest's first.
-    ensures extents_of_guests_that_meet {
-        guests_refused (first_guest ∷ guest_of 0x200000 (extent_at 2000 1 ∷ extent_at 2100 1 ∷ extent_at 1063 1 ∷ []) ∷ []) ≡ Some RangesMeet }
+    ensures extents_of_guests_that_meet { guests_refused (first_guest ∷ guest_of 0x200000 (extent_at 2000 1 ∷ extent_at 2100 1 ∷ extent_at 1063 1 ∷ []) ∷ []) ≡ Some RangesMeet }
     // Two extents that are apart.
     ensures more_extents_than_one { guests_refused (guest_of 0x100000 (extent_at 1000 32 ∷ extent_at 3000 32 ∷ []) ∷ []) ≡ Some BadSize }
     // A guest with the most regions.

@@ -28,7 +28,7 @@ use Rattle.nv_world_model.specs.declared.event.Event.TheVariants as event
 use Rattle.nv_world_model.specs.World.{World}
 use Rattle.nv_world_model.specs.RowsSmall.{small, small_behind, small_first, small_second, taken_second}
 use Rattle.nv_world_model.specs.Step.{After}
-use Rattle.nv_world_model.proofs.SmallWorld.{each_tag, each_block, image-cut, leaves-first, own-first}
+use Rattle.nv_world_model.proofs.SmallWorld.{each_tag, each_block, image-cut, leaves-first, own-first, first_at}
 use Rattle.nv_world_model.proofs.rows.contained.a_command_given_up.Goals as goal
 
 -- the world before the event and behind it, and the same of the world cut down to the first guest
@@ -76,13 +76,13 @@ own_alike =
       view =
           record {
             memory = (λ addr. ap (λ (m : ℕ → ℕ). m addr) (image-cut 0 0x1000 2 before));
-            blocks = (λ lba offset. each_block (λ at. behind.disk (2 + at) offset ≡ cut_behind.disk (2 + at) offset) refl refl lba);
+            blocks = (λ lba offset. each_block (λ at. behind.disk (first_at at) offset ≡ cut_behind.disk (first_at at) offset) refl refl lba);
             controller = refl;
             tags = each_tag _ refl refl (λ t. refl) (λ l t. refl);
             held = each_tag _ refl refl (λ t. refl) (λ l t. refl);
             area = (λ addr h. absurd (cc));
           };
-      marks = (λ lba. each_block (λ at. behind.kept (2 + at) ≡ cut_behind.kept (2 + at)) refl refl lba);
+      marks = (λ lba. each_block (λ at. behind.kept (first_at at) ≡ cut_behind.kept (first_at at)) refl refl lba);
       shared = refl;
     }
 

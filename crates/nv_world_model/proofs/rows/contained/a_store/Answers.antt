@@ -30,7 +30,7 @@ use Rattle.nv_model.specs.declared.act.Act.TheVariants as act
 use Rattle.nv_world_model.specs.Geometry.{regions_of}
 use Rattle.nv_world_model.specs.RowsSmall.{small, small_behind, small_first, small_second}
 use Rattle.nv_world_model.specs.Step.{After}
-use Rattle.nv_world_model.proofs.SmallWorld.{each_tag, each_block, image-cut, leaves-first, own-first, put-apart, put-outside, area-outside, image-put, first-slot}
+use Rattle.nv_world_model.proofs.SmallWorld.{each_tag, each_block, image-cut, leaves-first, own-first, put-apart, put-outside, area-outside, image-put, first-slot, first_at}
 use Rattle.nv_world_model.proofs.rows.contained.a_store.Goals as goal
 
 -- the world before the event and behind it, and the same of the world cut down to the first guest
@@ -88,13 +88,13 @@ own_alike =
       view =
           record {
             memory = (image-put (record { guest = 0; host = 0x1000; len = 0x200 }) memory_behind cut_memory_behind before.host cut_before.host same_memory);
-            blocks = (λ lba offset. each_block (λ at. behind.disk (2 + at) offset ≡ cut_behind.disk (2 + at) offset) refl refl lba);
+            blocks = (λ lba offset. each_block (λ at. behind.disk (first_at at) offset ≡ cut_behind.disk (first_at at) offset) refl refl lba);
             controller = refl;
             tags = each_tag _ refl refl (λ t. refl) (λ l t. refl);
             held = each_tag _ refl refl (λ t. refl) (λ l t. refl);
             area = (λ addr h. absurd (cc));
           };
-      marks = (λ lba. each_block (λ at. behind.kept (2 + at) ≡ cut_behind.kept (2 + at)) refl refl lba);
+      marks = (λ lba. each_block (λ at. behind.kept (first_at at) ≡ cut_behind.kept (first_at at)) refl refl lba);
       shared = refl;
     }
 

@@ -334,3 +334,35 @@ unfolding number_at dword qword bits bytes_of_dwords completion everywhere addre
     units_behind members seat put_back acted_in administered_in taken_to listed ended_at_once submitted device_took device_moved device_posted kept_block reaped
     scattered_to posted_to ran_out_of step replay replies refusal_of
 returns-clause-a_map_of_this_host c = refl
+
+pub returns-clause-a_guest_without_extents : goal.returns-clause-a_guest_without_extents
+unfolding number_at dword qword bits bytes_of_dwords completion everywhere addresses bytes_from stored gathered scattered image in_memory and_then first_read
+    in_transcript read_array read_sgl read_entries read_source ranges_in move_units clear_units range_units judge units_moved opening register reg_write
+    doorbell front took post ran_out differs hosts_of fit_behind built plan_over physical_entry written held_of device_unit completion_written put_image
+    units_behind members seat put_back acted_in administered_in taken_to listed ended_at_once submitted device_took device_moved device_posted kept_block reaped
+    scattered_to posted_to ran_out_of step replay replies refusal_of
+returns-clause-a_guest_without_extents c = refl
+
+pub returns-clause-extents_of_a_guest_that_meet : goal.returns-clause-extents_of_a_guest_that_meet
+unfolding number_at dword qword bits bytes_of_dwords completion everywhere addresses bytes_from stored gathered scattered image in_memory and_then first_read
+    in_transcript read_array read_sgl read_entries read_source ranges_in move_units clear_units range_units judge units_moved opening register reg_write
+    doorbell front took post ran_out differs hosts_of fit_behind built plan_over physical_entry written held_of device_unit completion_written put_image
+    units_behind members seat put_back acted_in administered_in taken_to listed ended_at_once submitted device_took device_moved device_posted kept_block reaped
+    scattered_to posted_to ran_out_of step replay replies refusal_of
+returns-clause-extents_of_a_guest_that_meet c = refl
+
+pub returns-clause-extents_of_guests_that_meet : goal.returns-clause-extents_of_guests_that_meet
+unfolding number_at dword qword bits bytes_of_dwords completion everywhere addresses bytes_from stored gathered scattered image in_memory and_then first_read
+    in_transcript read_array read_sgl read_entries read_source ranges_in move_units clear_units range_units judge units_moved opening register reg_write
+    doorbell front took post ran_out differs hosts_of fit_behind built plan_over physical_entry written held_of device_unit completion_written put_image
+    units_behind members seat put_back acted_in administered_in taken_to listed ended_at_once submitted device_took device_moved device_posted kept_block reaped
+    scattered_to posted_to ran_out_of step replay replies refusal_of
+returns-clause-extents_of_guests_that_meet c = refl
+
+pub returns-clause-more_extents_than_one : goal.returns-clause-more_extents_than_one
+unfolding number_at dword qword bits bytes_of_dwords completion everywhere addresses bytes_from stored gathered scattered image in_memory and_then first_read
+    in_transcript read_array read_sgl read_entries read_source ranges_in move_units clear_units range_units judge units_moved opening register reg_write
+    doorbell front took post ran_out differs hosts_of fit_behind built plan_over physical_entry written held_of device_unit completion_written put_image
+    units_behind members seat put_back acted_in administered_in taken_to listed ended_at_once submitted device_took device_moved device_posted kept_block reaped
+    scattered_to posted_to ran_out_of step replay replies refusal_of
+returns-clause-more_extents_than_one c = refl
