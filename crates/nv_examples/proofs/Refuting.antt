@@ -3,7 +3,7 @@ use Rattle.std.proofs.Common.{◌≡◌, ℕ, ◌<◌, arith, Bool, true, false,
 use Rattle.nv_mem.specs.GuestMap.{mapped}
 use Rattle.nv_model.specs.Memory.{image}
 use Rattle.nv_model.specs.Private.{Run, Seen}
-use Rattle.nv_ns.specs.BlockRange.{block_at, block_count}
+use Rattle.nv_ns.specs.Extents.{blocks_in, place_in}
 use Rattle.nv_world_model.specs.Agrees.{Agrees, is_awaited}
 use Rattle.nv_world_model.specs.Geometry.{regions_of}
 use Rattle.nv_world_model.specs.World.{World}
@@ -30,15 +30,15 @@ other-byte addr o run z mine theirs there free a b differ is agrees =
     differ (sym a ∙ ap (λ (x : Option Run). (behind_run x).memory addr) is ∙ agrees.memory addr there free ∙ b)
 
 -- a byte of a block is another
-pub other-block : (lba offset : ℕ) (o : Option Run) (run : Run) (z : World) (mine theirs : ℕ) → lba < block_count first.extent
-    → (behind_run o).disk lba offset ≡ mine → z.disk (block_at first.extent lba) offset ≡ theirs → (mine ≡ theirs → ⊥)
+pub other-block : (lba offset : ℕ) (o : Option Run) (run : Run) (z : World) (mine theirs : ℕ) → lba < blocks_in first.namespace
+    → (behind_run o).disk lba offset ≡ mine → z.disk (place_in first.namespace lba) offset ≡ theirs → (mine ≡ theirs → ⊥)
     → o ≡ Some run → Agrees 0 first z run.state → ⊥
 other-block lba offset o run z mine theirs within a b differ is agrees =
     differ (sym a ∙ ap (λ (x : Option Run). (behind_run x).disk lba offset) is ∙ agrees.blocks lba offset within ∙ b)
 
 -- a block's mark is another
-pub other-mark : (lba : ℕ) (o : Option Run) (run : Run) (z : World) (mine theirs : Bool) → lba < block_count first.extent
-    → (behind_run o).kept lba ≡ mine → z.kept (block_at first.extent lba) ≡ theirs → (mine ≡ theirs → ⊥)
+pub other-mark : (lba : ℕ) (o : Option Run) (run : Run) (z : World) (mine theirs : Bool) → lba < blocks_in first.namespace
+    → (behind_run o).kept lba ≡ mine → z.kept (place_in first.namespace lba) ≡ theirs → (mine ≡ theirs → ⊥)
     → o ≡ Some run → Agrees 0 first z run.state → ⊥
 other-mark lba o run z mine theirs within a b differ is agrees =
     differ (sym a ∙ ap (λ (x : Option Run). (behind_run x).kept lba) is ∙ agrees.marks lba within ∙ b)

@@ -1,6 +1,7 @@
-use Rattle.std.proofs.Common.{◌≡◌, ℕ, zero, suc, ◌+◌, ◌<◌, true, List, Option, Some, None, is_some, refl, ap, sym, ◌∙◌, arith}
+use Rattle.std.proofs.Common.{◌≡◌, ℕ, zero, suc, ◌<◌, true, List, Option, Some, None, is_some, refl, ap, sym, ◌∙◌, arith}
 use Rattle.std.proofs.lemmas.Bool.Decides.{nat_tests}
 use Rattle.nv_mem.specs.GuestMap.{mapped}
+use Rattle.nv_ns.specs.Extents.{place_in}
 use Rattle.nv_model.specs.Controller.{Controller}
 use Rattle.nv_model.specs.Private.{Run, Step, run_of, start}
 use Rattle.nv_world_model.specs.Geometry.{regions_of, shape_of}
@@ -20,10 +21,16 @@ inside : (addr : ℕ) → mapped (regions_of first) addr ≡ true → addr < 0x4
 inside addr there = grind (arith, nat_tests, there)
 
 -- each byte of both blocks
-blocks : (lba offset : ℕ) → lba < 2 → story_private.disk lba offset ≡ story_end.disk (2 + lba) offset
+blocks : (lba offset : ℕ) → lba < 2 → story_private.disk lba offset ≡ story_end.disk (place_in first.namespace lba) offset
 blocks zero offset h = block-0 offset ∙ sym (disk-2 offset)
 blocks (suc zero) offset h = block-1 offset ∙ sym (disk-3 offset)
 blocks (suc (suc lba)) offset h = absurd (omega arith)
+
+-- and the mark of each
+kept : (lba : ℕ) → lba < 2 → story_private.kept lba ≡ story_end.kept (place_in first.namespace lba)
+kept zero h = marks 0 h ∙ sym (disk_marks 0 h)
+kept (suc zero) h = marks 1 h ∙ sym (disk_marks 1 h)
+kept (suc (suc lba)) h = absurd (omega arith)
 
 pub returns : goal.returns
 returns c =
@@ -36,6 +43,6 @@ returns c =
             controller = controller-world ∙ sym (ap (λ (x : Controller). Some x) controller-private);
             memory = (λ addr there open_until. same-memory addr (inside addr there));
             blocks = blocks;
-            marks = (λ lba h. marks lba h ∙ sym (disk_marks lba h));
+            marks = kept;
           };
     }
