@@ -1,0 +1,12 @@
+pub mod Parts
+pub mod World
+pub mod Seat
+pub mod Step
+pub mod Log
+pub mod View
+pub mod CutDown
+pub mod Contained
+pub mod PrivateSteps
+pub mod Disciplined
+pub mod Agrees
+pub mod Headline

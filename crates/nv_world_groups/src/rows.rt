@@ -1,0 +1,1 @@
+//! Worked examples, computed from the definitions.
