@@ -10,3 +10,4 @@ pub mod PrivateSteps
 pub mod Disciplined
 pub mod Agrees
 pub mod Headline
+pub mod Rows
