@@ -16,3 +16,4 @@ pub mod AllShares
 pub mod CutFits
 pub mod ShareParts
 pub mod ShareWholes
+pub mod TagCounts

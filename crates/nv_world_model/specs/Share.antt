@@ -5,12 +5,16 @@ use Rattle.std.specs.List.{enumerate_from, filter_map, range_with_len}
 use Rattle.std.specs.Option.{option_map}
 use Rattle.nv_entry.specs.Layout.{number_bytes}
 use Rattle.nv_entry.specs.Range.{attributes_of, blocks_of, start_of}
-use Rattle.nv_entry.specs.Submission.{slba_of}
+use Rattle.nv_entry.specs.Opcode.{io_opcode}
+use Rattle.nv_entry.specs.Submission.{opcode_of, slba_of}
+use Rattle.nv_entry.specs.declared.opcode.IoOpcode.{IoOpcode}
+use Rattle.nv_entry.specs.declared.status_code.StatusCode.{StatusCode}
 use Rattle.nv_mem.specs.Places.{piece_len}
 use Rattle.nv_mem.specs.declared.piece.Piece.{Piece}
 use Rattle.nv_mem.specs.declared.piece.Piece.TheVariants as piece
-use Rattle.nv_ns.specs.Extents.{Cut, Namespace, Placed, common, cuts, if_any, placed}
-use Rattle.nv_model.specs.Judge.{ClearBlock, Clear, Form, KeepAll, Keep, LeaveBlock, Manage, MoveBlock, Transfer, Work, WorkUnit, count_of, form_of}
+use Rattle.nv_ns.specs.Extents.{Cut, Namespace, Placed, blocks_in, common, cuts, if_any, placed}
+use Rattle.nv_model.specs.Judge.{ClearBlock, Clear, Form, KeepAll, Keep, LeaveBlock, Manage, MoveBlock, Transfer, Work, WorkUnit, count_of}
+use Rattle.nv_model.specs.Judge.{field_refusal, form_of}
 use Rattle.nv_model.specs.Limits.{block, range_size}
 use Rattle.nv_model.specs.Private.{numbers_of}
 use Rattle.nv_world_model.specs.Plan.{Answer, Bounced, Direct, NoData, Plan}
@@ -130,3 +134,22 @@ shares_of ns entry (Answer st) = []
 shares_of ns entry (NoData work) = shares_by (form_of work.opcode) ns entry (NoData work) work
 shares_of ns entry (Direct work) = shares_by (form_of work.opcode) ns entry (Direct work) work
 shares_of ns entry (Bounced work) = shares_by (form_of work.opcode) ns entry (Bounced work) work
+
+-- ---- tags
+
+-- how many physical commands a command of that form is, which has as many shares
+abbrev pub form_tags : Form → Namespace → (entry : List ℕ) → ℕ
+form_tags (Transfer dest) ns entry = length (cuts ns (slba_of entry) (count_of entry))
+form_tags Clear ns entry = length (cuts ns (slba_of entry) (count_of entry))
+form_tags Manage ns entry = length ns
+form_tags Keep ns entry = 1
+
+-- the same by what the fields say: one where they refuse the command, or its opcode is none of the six
+abbrev pub tags_by : Option StatusCode → Option IoOpcode → Namespace → (entry : List ℕ) → ℕ
+tags_by (Some code) opcode ns entry = 1
+tags_by None None ns entry = 1
+tags_by None (Some opcode) ns entry = form_tags (form_of opcode) ns entry
+
+-- how many tags a command takes, before any list of it is read
+abbrev pub tags_of_entry : Namespace → (entry : List ℕ) → ℕ
+tags_of_entry ns entry = tags_by (field_refusal (blocks_in ns) entry) (io_opcode (opcode_of entry)) ns entry

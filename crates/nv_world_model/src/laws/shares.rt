@@ -1,6 +1,6 @@
 //! What the shares of a plan are of the plan.
 
-ghost use Rattle.std.specs.Prelude.{◌≡◌, ℕ, ◌+◌, ◌*◌, ◌<◌, ◌≤◌, ◌==◌, Bool, true, List, [], ◌∷◌, drop, flat_map, take};
+ghost use Rattle.std.specs.Prelude.{◌≡◌, ℕ, ◌+◌, ◌*◌, ◌<◌, ◌≤◌, ◌==◌, Bool, true, List, [], ◌∷◌, drop, flat_map, length, take};
 ghost use Rattle.std.specs.List.{All, count_by};
 ghost use Rattle.nv_mem.specs.GuestMap.{mapped};
 ghost use Rattle.nv_mem.specs.Places.{places_of, total_len};
@@ -15,7 +15,7 @@ ghost use Rattle.nv_model.specs.Limits.{block};
 ghost use Rattle.nv_model.specs.Private.{numbers_of};
 ghost use Rattle.nv_prp.specs.Fits.{places_fit};
 ghost use Rattle.nv_world_model.specs.Plan.{plan_of};
-ghost use Rattle.nv_world_model.specs.Share.{Share, cut_pieces, shares_of};
+ghost use Rattle.nv_world_model.specs.Share.{Share, cut_pieces, shares_of, tags_of_entry};
 ghost use Rattle.nv_world_model.specs.SharesLaws.{IsShareOf};
 
 /// With one extent a command that goes has one share, which is its plan.
@@ -49,4 +49,17 @@ pub fn what_fits_prp_fits_cut_at_a_block()
 pub fn a_share_is_a_part_of_the_whole()
     ensures { (regions : List Region) (mapped : ℕ → Bool) (limit : ℕ) (ns : Namespace) (entry : List ℕ) (work : Work) →
         MayEndIn (judge mapped limit (blocks_in ns) entry) (Go work) → All (IsShareOf work) (shares_of ns entry (plan_of regions (Go work))) }
+{}
+
+/// A command that goes has as many shares as its fields take tags.
+pub fn each_share_has_a_tag()
+    ensures { (regions : List Region) (mapped : ℕ → Bool) (limit : ℕ) (ns : Namespace) (entry : List ℕ) (work : Work) →
+        MayEndIn (judge mapped limit (blocks_in ns) entry) (Go work) →
+        length (shares_of ns entry (plan_of regions (Go work))) ≡ tags_of_entry ns entry }
+{}
+
+/// Of a namespace that has an extent, each command takes at least one tag, and no more than there are extents.
+pub fn a_command_takes_no_more_tags_than_extents()
+    ensures at_least_one { (ns : Namespace) (entry : List ℕ) → 0 < length ns → 1 ≤ tags_of_entry ns entry }
+    ensures no_more { (ns : Namespace) (entry : List ℕ) → 0 < length ns → tags_of_entry ns entry ≤ length ns }
 {}

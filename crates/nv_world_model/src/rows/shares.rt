@@ -3,8 +3,9 @@
 ghost use Rattle.std.specs.Prelude.{◌≡◌, [], ◌∷◌, ◌++◌, true, false, Some};
 ghost use Rattle.nv_entry.specs.StatusCode.{refused_with};
 ghost use Rattle.nv_entry.specs.declared.status_code.StatusCode.TheVariants as code;
-ghost use Rattle.nv_model.specs.Rows.{block_range, by_sgl, data_block, manage, read_of, with_fua};
+ghost use Rattle.nv_model.specs.Rows.{block_range, by_sgl, command, data_block, dataset_management, dword0, manage, read_of, with_fua};
 ghost use Rattle.nv_world_model.specs.Plan.{Answer};
+ghost use Rattle.nv_world_model.specs.Share.{tags_of_entry};
 ghost use Rattle.nv_world_model.specs.RowsShares.{joined, numbers_sent, planned_by, ranges_sent, sent, shares_by_reads, three_joined};
 
 /// The examples of this module, a clause each: of each physical command PRP1, PRP2 and CDW10 to CDW12, or its ranges, or the numbers of its
@@ -61,4 +62,17 @@ pub fn examples()
     ensures a_share_without_ranges { let entry = manage true 0 (data_block 0x3000 16) in
         ranges_sent joined (shares_by_reads joined entry (read_of 0x3000 (block_range 0 1) ∷ []))
         ≡ block_range 1000 1 ∷ [] ∷ [] }
+    // Tags by the fields: two over the join, and one up to it.
+    ensures tags_over_the_join { tags_of_entry joined (by_sgl 0x02 31 1 (data_block 0x3e00 1024)) ≡ 2 }
+    ensures tags_up_to_the_join { tags_of_entry joined (by_sgl 0x02 30 1 (data_block 0x3000 1024)) ≡ 1 }
+    // Three over three extents.
+    ensures tags_over_three { tags_of_entry three_joined (by_sgl 0x08 29 5 (data_block 0 0)) ≡ 3 }
+    // As many as extents for Dataset Management, whatever its ranges are.
+    ensures tags_of_ranges { tags_of_entry joined (manage true 0 (data_block 0x3000 16)) ≡ 2 }
+    // One for a Flush.
+    ensures tags_of_a_flush { tags_of_entry joined (by_sgl 0x00 0 0 (data_block 0 0)) ≡ 1 }
+    // One for what the fields refuse: a block past the last, a namespace that is not there, and an unknown opcode.
+    ensures tags_past_the_last_block { tags_of_entry joined (by_sgl 0x02 63 1 (data_block 0x3000 1024)) ≡ 1 }
+    ensures tags_in_another_namespace { tags_of_entry joined (command (dword0 dataset_management 0 1) 2 (data_block 0x3000 16) 0 4 0) ≡ 1 }
+    ensures tags_of_an_unknown_opcode { tags_of_entry joined (by_sgl 0x7f 31 1 (data_block 0x3e00 1024)) ≡ 1 }
 {}

@@ -92,3 +92,43 @@ pub returns-clause-a_share_without_ranges : goal.returns-clause-a_share_without_
 unfolding number_at dword qword bits bytes_of_dwords everywhere addresses gathered in_memory and_then first_read in_transcript read_array read_sgl read_entries
     read_source ranges_in move_units clear_units range_units judge hosts_of fit_behind built plan_over
 returns-clause-a_share_without_ranges c = refl
+
+pub returns-clause-tags_over_the_join : goal.returns-clause-tags_over_the_join
+unfolding number_at dword qword bits bytes_of_dwords everywhere addresses gathered in_memory and_then first_read in_transcript read_array read_sgl read_entries
+    read_source ranges_in move_units clear_units range_units judge hosts_of fit_behind built plan_over
+returns-clause-tags_over_the_join c = refl
+
+pub returns-clause-tags_up_to_the_join : goal.returns-clause-tags_up_to_the_join
+unfolding number_at dword qword bits bytes_of_dwords everywhere addresses gathered in_memory and_then first_read in_transcript read_array read_sgl read_entries
+    read_source ranges_in move_units clear_units range_units judge hosts_of fit_behind built plan_over
+returns-clause-tags_up_to_the_join c = refl
+
+pub returns-clause-tags_over_three : goal.returns-clause-tags_over_three
+unfolding number_at dword qword bits bytes_of_dwords everywhere addresses gathered in_memory and_then first_read in_transcript read_array read_sgl read_entries
+    read_source ranges_in move_units clear_units range_units judge hosts_of fit_behind built plan_over
+returns-clause-tags_over_three c = refl
+
+pub returns-clause-tags_of_ranges : goal.returns-clause-tags_of_ranges
+unfolding number_at dword qword bits bytes_of_dwords everywhere addresses gathered in_memory and_then first_read in_transcript read_array read_sgl read_entries
+    read_source ranges_in move_units clear_units range_units judge hosts_of fit_behind built plan_over
+returns-clause-tags_of_ranges c = refl
+
+pub returns-clause-tags_of_a_flush : goal.returns-clause-tags_of_a_flush
+unfolding number_at dword qword bits bytes_of_dwords everywhere addresses gathered in_memory and_then first_read in_transcript read_array read_sgl read_entries
+    read_source ranges_in move_units clear_units range_units judge hosts_of fit_behind built plan_over
+returns-clause-tags_of_a_flush c = refl
+
+pub returns-clause-tags_past_the_last_block : goal.returns-clause-tags_past_the_last_block
+unfolding number_at dword qword bits bytes_of_dwords everywhere addresses gathered in_memory and_then first_read in_transcript read_array read_sgl read_entries
+    read_source ranges_in move_units clear_units range_units judge hosts_of fit_behind built plan_over
+returns-clause-tags_past_the_last_block c = refl
+
+pub returns-clause-tags_in_another_namespace : goal.returns-clause-tags_in_another_namespace
+unfolding number_at dword qword bits bytes_of_dwords everywhere addresses gathered in_memory and_then first_read in_transcript read_array read_sgl read_entries
+    read_source ranges_in move_units clear_units range_units judge hosts_of fit_behind built plan_over
+returns-clause-tags_in_another_namespace c = refl
+
+pub returns-clause-tags_of_an_unknown_opcode : goal.returns-clause-tags_of_an_unknown_opcode
+unfolding number_at dword qword bits bytes_of_dwords everywhere addresses gathered in_memory and_then first_read in_transcript read_array read_sgl read_entries
+    read_source ranges_in move_units clear_units range_units judge hosts_of fit_behind built plan_over
+returns-clause-tags_of_an_unknown_opcode c = refl
