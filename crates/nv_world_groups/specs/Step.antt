@@ -28,8 +28,8 @@ use Rattle.nv_world_model.specs.Device.{DeviceLane, Held, completion_posted, com
 use Rattle.nv_world_model.specs.Geometry.{Geometry, regions_of, shape_of}
 use Rattle.nv_world_model.specs.Plan.{Answer, Bounced, Direct, NoData, Plan, plan_over}
 use Rattle.nv_world_groups.specs.Seat.{Owner, completion_at, owner_of, put_back, seat, with_memory}
-use Rattle.nv_world_model.specs.Share.{Share, shares_of}
-use Rattle.nv_world_groups.specs.Parts.{is_no_command, share_written, tags_taken}
+use Rattle.nv_world_model.specs.Share.{Share, shares_of, tags_of_entry}
+use Rattle.nv_world_groups.specs.Parts.{is_no_command, share_written}
 use Rattle.nv_world_groups.specs.World.{Answered, Command, Ended, Flying, Free, InDevice, Lane, Queued, Standing, Tag, Taken, World}
 use Rattle.nv_world_groups.specs.World.{claimed, group, lowest, tag_of, with_controller, with_device, with_host, with_lane, with_tag, with_tags}
 
@@ -141,7 +141,7 @@ take_tags (Some tags) addr queue lane o w = replied reply.Done (taken_to addr qu
 abbrev pub take_front : Option ℕ → (queue number : ℕ) → Lane → Owner → World → After
 take_front None queue number lane o w = replied reply.Idle w
 take_front (Some addr) queue number lane o w =
-    take_tags (claimed (tags_taken o.given.namespace (entry_at addr o w)) lane.tags) addr queue number o w
+    take_tags (claimed (tags_of_entry o.given.namespace (entry_at addr o w)) lane.tags) addr queue number o w
 
 -- I/O queues are numbered from 1
 abbrev pub is_io_queue : (queue : ℕ) → Bool
