@@ -216,7 +216,7 @@ module _ (geometry : Geometry) where
       let below : tag < tag_count = omega (arith, among, sized) in
       let free : slice_get l.tags tag ≡ Some Free = free-found l.tags tag found in
       let entry = bytes_from (image (regions_of o.given) w.host) addr sqe_size in
-      let command : Command = record { guest = o.number; queue = queue; entry = entry } in
+      let command : Command = record { guest = o.number; queue = queue; entry = entry; leader = tag } in
       let none : commands w o.number (name_of lane tag) ≡ None = commands-at w o.number lane tag Free below (ap (λ x. tag_in x tag) at ∙ free) in
       let was = is.running o.number o.given o.controller owns.given owns.controller in
       one-counted w (taken_to addr queue lane tag o w) o.number o.given (took o.controller queue) lane tag Free (Taken command []) l below at free

@@ -131,7 +131,8 @@ module _ (host_bytes : ℕ) (geometry : Geometry) where
       let now = controller-consistent geometry w o.number o.given (took o.controller queue) owns.given taken_place is in
       let there : tag_of z lane tag ≡ Some Free = ap (λ x. tag_in x tag) at ∙ free-found l.tags tag found in
       let a = is-at geometry z lane tag Free now there in
-      retagged geometry lane tag z Free (Taken (record { guest = o.number; queue = queue; entry = bytes_from (image (regions_of o.given) w.host) addr sqe_size }) []) aligned now a
+      let entry = bytes_from (image (regions_of o.given) w.host) addr sqe_size in
+      retagged geometry lane tag z Free (Taken (record { guest = o.number; queue = queue; entry = entry; leader = tag }) []) aligned now a
       (λ test. refl) (λ test. refl)
       (record {
         guest = o.given;

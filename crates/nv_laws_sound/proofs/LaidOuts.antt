@@ -1,24 +1,26 @@
 -- What a set-up that is not refused says.
-use Rattle.std.proofs.Common.{◌≡◌, ℕ, zero, suc, ◌+◌, ◌%◌, ◌<◌, ◌≤◌, ◌⊎◌, inl, inr, Bool, true, false, cond, not, ◌&&◌, ◌||◌, ◌==◌, nat_le, nat_lt, max, min}
-use Rattle.std.proofs.Common.{List, [], ◌∷◌, length, slice_get, Option, Some, None, arith, refl, sym, ap, ◌∙◌, eqb-true, leb-true, ltb-false}
+use Rattle.std.proofs.Common.{◌≡◌, ℕ, zero, suc, ◌+◌, ◌%◌, ◌<◌, ◌≤◌, ◌⊎◌, inl, inr, Bool, true, false, cond, not, ◌&&◌, ◌||◌, ◌==◌}
+use Rattle.std.proofs.Common.{nat_le, nat_lt, List, [], ◌∷◌, All, length, slice_get, Option, Some, None}
+use Rattle.std.proofs.Common.{arith, refl, sym, ap, ◌∙◌, eqb-true, leb-true}
 use Rattle.std.specs.Prelude.{◌≢◌}
-use Rattle.std.specs.List.{list_all, list_any}
+use Rattle.std.specs.List.{Contains, list_all, list_any}
 use Rattle.std.proofs.lemmas.Bool.{cases_lt}
-use Rattle.nv_mem.specs.GuestMap.{IsSound, guest_of, spans_meet}
+use Rattle.std.proofs.lemmas.List.Elements.{All-cons, All-contains, All-nil}
+use Rattle.nv_mem.specs.GuestMap.{IsSound, guest_of}
 use Rattle.nv_mem.proofs.Images.{host_of-guest}
 use Rattle.nv_mem.proofs.Memory.{guest_of-clear, hosts_meet-image}
 use Rattle.nv_model.specs.Limits.{page}
 use Rattle.nv_model.proofs.Endings.{and-true, not-false}
+use Rattle.nv_ns.specs.BlockRange.{Extent}
 use Rattle.nv_world_model.specs.Geometry.{Guest, regions_of}
-use Rattle.nv_world_model.specs.SetUp.{Refusal, SetUp, any_two, area_bytes, between, blocks_meet, guest_fits, host_fits, maps_meet, meets_area}
-use Rattle.nv_world_model.specs.SetUp.{most_disk_blocks, most_guests, most_host_bytes, most_lanes, most_limit, most_regions, refusal_of, sizes_fit}
+use Rattle.nv_world_model.specs.SetUp.{Refusal, SetUp, all_extents, any_two, area_bytes, between, blocks_meet, extent_fits, guest_fits}
+use Rattle.nv_world_model.specs.SetUp.{host_fits, maps_meet, meets_area, most_disk_blocks, most_given, most_guests, most_host_bytes}
+use Rattle.nv_world_model.specs.SetUp.{most_lanes, most_limit, most_regions, refusal_of, sizes_fit}
+use Rattle.nv_world_model.specs.View.{in_extents}
 use Rattle.nv_laws_sound.specs.LaidOut.{AreApart, IsGiven, IsLaidOut}
+use Rattle.nv_laws_sound.proofs.ExtentsApart.{AreClear, clear-none, clear-none_back, extents-apart, or-none, two-one, two-others}
 
 -- ---- tests of lists
-
-or-none : (a b : Bool) → (a || b) ≡ false → (a ≡ false) × (b ≡ false)
-or-none true b e = cc
-or-none false b e = (refl, e)
 
 -- what no member passes, one that is looked up does not
 any-none : {X : Type 0} (p : X → Bool) (xs : List X) (i : ℕ) (x : X) → list_any p xs ≡ false → slice_get xs i ≡ Some x → p x ≡ false
@@ -36,6 +38,11 @@ all-one p (y ∷ ys) zero x e at =
     ap p (sym same) ∙ (and-true (p y) (list_all p ys) e).0
 all-one p (y ∷ ys) (suc i) x e at = all-one p ys i x (and-true (p y) (list_all p ys) e).1 at
 
+all-every : {X : Type 0} (p : X → Bool) (xs : List X) → list_all p xs ≡ true → All (λ x. p x ≡ true) xs
+all-every p [] e = All-nil (λ x. p x ≡ true)
+all-every p (x ∷ xs) e =
+    let both = and-true (p x) (list_all p xs) e in All-cons (λ y. p y ≡ true) x xs both.0 (all-every p xs both.1)
+
 -- where no two meet, an earlier one does not meet a later one
 two-none : {X : Type 0} (meet : X → X → Bool) (xs : List X) (i j : ℕ) (x y : X) → any_two meet xs ≡ false → i < j
     → slice_get xs i ≡ Some x → slice_get xs j ≡ Some y → meet x y ≡ false
@@ -50,7 +57,7 @@ two-none meet (z ∷ zs) (suc i) (suc j) x y e less at there =
 -- ---- a set-up that is not refused
 
 pub record IsAccepted (s : SetUp) : Type 0 where
-  pub ranges : any_two blocks_meet s.geometry.guests ≡ false
+  pub ranges : any_two blocks_meet (all_extents s.geometry.guests) ≡ false
   pub maps : any_two maps_meet s.geometry.guests ≡ false
   pub area : list_any (meets_area s) s.geometry.guests ≡ false
   pub sizes : sizes_fit s ≡ true
@@ -63,7 +70,7 @@ pub accepted : (s : SetUp) → refusal_of s ≡ None → IsAccepted s
 unfolding refusal_of
 accepted s none =
     let first = if-none (nat_lt most_guests (length s.geometry.guests)) _ _ none in
-    let second = if-none (any_two blocks_meet s.geometry.guests) _ _ first.1 in
+    let second = if-none (any_two blocks_meet (all_extents s.geometry.guests)) _ _ first.1 in
     let third = if-none (any_two maps_meet s.geometry.guests || list_any (meets_area s) s.geometry.guests) _ _ second.1 in
     let fourth = if-none (not (sizes_fit s)) _ _ third.1 in
     let both = or-none (any_two maps_meet s.geometry.guests) (list_any (meets_area s) s.geometry.guests) third.0 in
@@ -92,14 +99,11 @@ bytes-of g h sound also (inr clear) at addr is =
       | inr none ↦ let bad : Some addr ≡ None = sym is ∙ none in cc
     ]
 
--- spans that don't meet lie one before the other, where both are there
-spans-apart : (a m b n : ℕ) → spans_meet a m b n ≡ false → 0 < m → 0 < n → (a + m ≤ b) ⊎ (b + n ≤ a)
-spans-apart a m b n clear some others =
-    let most = ltb-false (max a b) (min (a + m) (b + n)) clear in
-    elim (cases_lt b (a + m)) [
-      | inl less ↦ inr (omega (arith, most, less, some, others))
-      | inr behind ↦ inl behind
-    ]
+-- two guests' extents that don't meet have no block in common
+blocks-of : (g h : Guest) → AreClear blocks_meet g.namespace h.namespace ⊎ AreClear blocks_meet h.namespace g.namespace → (at : ℕ)
+    → in_extents g.namespace at ≡ true → in_extents h.namespace at ≡ false
+blocks-of g h (inl clear) at own = clear-none g.namespace h.namespace at clear own
+blocks-of g h (inr clear) at own = clear-none_back h.namespace g.namespace at clear own
 
 -- ---- the lay-out
 
@@ -113,41 +117,63 @@ all_five true true c d e all = (refl, (refl, all_three c d e all))
 all_five true false c d e all = cc
 all_five false b c d e all = cc
 
-guest-given : (s : SetUp) (g : Guest) → guest_fits s g ≡ true → IsSound g.memory_map → IsGiven s.host_bytes s.geometry.disk_blocks g
-guest-given s g fits sound =
+-- what is tested of a guest
+record IsFitting (s : SetUp) (g : Guest) : Type 0 where
+  pub host : g.memory_map.host_len ≡ s.host_bytes
+  pub count : (1 ≤ length g.namespace) × (length g.namespace ≤ most_given)
+  pub extents : list_all (extent_fits s) g.namespace ≡ true
+  pub limit : (1 ≤ g.limit) × (g.limit ≤ most_limit)
+
+between-both : (low high number : ℕ) → between low high number ≡ true → (low ≤ number) × (number ≤ high)
+between-both low high number e =
+    let both = and-true (nat_le low number) (nat_le number high) e in (leb-true low number both.0, leb-true number high both.1)
+
+fitting : (s : SetUp) (g : Guest) → guest_fits s g ≡ true → IsFitting s g
+fitting s g fits =
     let host = g.memory_map.host_len == s.host_bytes in
     let regions = nat_le (length (regions_of g)) most_regions in
-    let some = nat_le 1 g.extent.blocks in
-    let disk = nat_le (g.extent.base + g.extent.blocks) s.geometry.disk_blocks in
+    let count = between 1 most_given (length g.namespace) in
+    let disk = list_all (extent_fits s) g.namespace in
     let limit = between 1 most_limit g.limit in
-    let each = all_five host regions some disk limit fits in
+    let each = all_five host regions count disk limit fits in
+    record {
+      host = eqb-true g.memory_map.host_len s.host_bytes each.0;
+      count = between-both 1 most_given (length g.namespace) each.1.1.0;
+      extents = each.1.1.1.0;
+      limit = between-both 1 most_limit g.limit each.1.1.1.1;
+    }
+
+extent-fits : (s : SetUp) (g : Guest) (e : Extent) → guest_fits s g ≡ true → Contains g.namespace e
+    → (1 ≤ e.blocks) × (e.base + e.blocks ≤ s.geometry.disk_blocks)
+extent-fits s g e fits among =
+    let tested = All-contains (λ x. extent_fits s x ≡ true) g.namespace e
+    (all-every (extent_fits s) g.namespace (fitting s g fits).extents) among in
+    let both = and-true (nat_le 1 e.blocks) (nat_le (e.base + e.blocks) s.geometry.disk_blocks) tested in
+    (leb-true 1 e.blocks both.0, leb-true (e.base + e.blocks) s.geometry.disk_blocks both.1)
+
+guest-given : (s : SetUp) (number : ℕ) (g : Guest) → IsAccepted s → slice_get s.geometry.guests number ≡ Some g → guest_fits s g ≡ true
+    → IsSound g.memory_map → IsGiven s.host_bytes s.geometry.disk_blocks g
+guest-given s number g is at fits sound =
+    let tested = fitting s g fits in
+    let least = tested.count.0 in
+    let most = tested.count.1 in
     record {
       sound = sound;
-      host = eqb-true g.memory_map.host_len s.host_bytes each.0;
-      some_blocks = leb-true 1 g.extent.blocks each.1.1.0;
-      on_disk = leb-true (g.extent.base + g.extent.blocks) s.geometry.disk_blocks each.1.1.1.0;
+      host = tested.host;
+      one = omega (arith, least, most);
+      some_blocks = λ e among. (extent-fits s g e fits among).0;
+      on_disk = λ e among. (extent-fits s g e fits among).1;
+      apart = extents-apart g.namespace (two-one (λ (h : Guest). h.namespace) blocks_meet s.geometry.guests number g is.ranges at);
     }
 
 -- such a guest's blocks are on the disk
-pub on-disk : (s : SetUp) (g : Guest) → guest_fits s g ≡ true → g.extent.base + g.extent.blocks ≤ s.geometry.disk_blocks
-on-disk s g fits =
-    let host = g.memory_map.host_len == s.host_bytes in
-    let regions = nat_le (length (regions_of g)) most_regions in
-    let some = nat_le 1 g.extent.blocks in
-    let disk = nat_le (g.extent.base + g.extent.blocks) s.geometry.disk_blocks in
-    let limit = between 1 most_limit g.limit in
-    leb-true (g.extent.base + g.extent.blocks) s.geometry.disk_blocks (all_five host regions some disk limit fits).1.1.1.0
+pub on-disk : (s : SetUp) (g : Guest) (e : Extent) → guest_fits s g ≡ true → Contains g.namespace e
+    → e.base + e.blocks ≤ s.geometry.disk_blocks
+on-disk s g e fits among = (extent-fits s g e fits among).1
 
 -- and its limit on descriptors may be
 pub limit-fits : (s : SetUp) (g : Guest) → guest_fits s g ≡ true → (1 ≤ g.limit) × (g.limit ≤ most_limit)
-limit-fits s g fits =
-    let host = g.memory_map.host_len == s.host_bytes in
-    let regions = nat_le (length (regions_of g)) most_regions in
-    let some = nat_le 1 g.extent.blocks in
-    let disk = nat_le (g.extent.base + g.extent.blocks) s.geometry.disk_blocks in
-    let limit = between 1 most_limit g.limit in
-    let both = and-true (nat_le 1 g.limit) (nat_le g.limit most_limit) (all_five host regions some disk limit fits).1.1.1.1 in
-    (leb-true 1 g.limit both.0, leb-true g.limit most_limit both.1)
+limit-fits s g fits = (fitting s g fits).limit
 
 -- sizes that fit
 pub record AreSizes (s : SetUp) : Type 0 where
@@ -181,26 +207,23 @@ sizes-of s fit =
 
 -- guests of two numbers are apart
 guests-apart : (s : SetUp) (number other : ℕ) (g h : Guest) → IsAccepted s → IsSound g.memory_map → IsSound h.memory_map
-    → 0 < g.extent.blocks → 0 < h.extent.blocks
     → slice_get s.geometry.guests number ≡ Some g → slice_get s.geometry.guests other ≡ Some h → number ≢ other → AreApart g h
-guests-apart s number other g h is sound also some others at there differ =
+guests-apart s number other g h is sound also at there differ =
+    let guests = s.geometry.guests in
+    let given = λ (x : Guest). x.namespace in
     elim (cases_lt number other) [
       | inl less ↦
           record {
-            bytes = bytes-of g h sound also (inl (two-none maps_meet s.geometry.guests number other g h is.maps less at there));
-            blocks = spans-apart g.extent.base g.extent.blocks h.extent.base h.extent.blocks (two-none blocks_meet s.geometry.guests number other g h is.ranges less at there) some others;
+            bytes = bytes-of g h sound also (inl (two-none maps_meet guests number other g h is.maps less at there));
+            blocks = blocks-of g h (inl (two-others given blocks_meet guests number other g h is.ranges less at there));
           }
       | inr most ↦
           (let less : other < number = omega (arith, most, differ) in
           record {
-            bytes = bytes-of g h sound also (inr (two-none maps_meet s.geometry.guests other number h g is.maps less there at));
-            blocks = swapped (spans-apart h.extent.base h.extent.blocks g.extent.base g.extent.blocks (two-none blocks_meet s.geometry.guests other number h g is.ranges less there at) others some);
+            bytes = bytes-of g h sound also (inr (two-none maps_meet guests other number h g is.maps less there at));
+            blocks = blocks-of g h (inr (two-others given blocks_meet guests other number h g is.ranges less there at));
           })
     ]
-  where
-    swapped : {A B : Type 0} → A ⊎ B → B ⊎ A
-    swapped (inl a) = inr a
-    swapped (inr b) = inl b
 
 pub laid-out : (s : SetUp) → refusal_of s ≡ None
     → ((number : ℕ) (guest : Guest) → slice_get s.geometry.guests number ≡ Some guest → IsSound guest.memory_map)
@@ -210,16 +233,17 @@ laid-out s none sound =
     let sizes = sizes-of s is.sizes in
     let few = sizes.few in
     let area = sizes.area in
-    let given : (number : ℕ) (guest : Guest) → slice_get s.geometry.guests number ≡ Some guest → IsGiven s.host_bytes s.geometry.disk_blocks guest =
-    λ number guest at. guest-given s guest (all-one (guest_fits s) s.geometry.guests number guest sizes.guests at) (sound number guest at) in
+    let fits : (number : ℕ) (guest : Guest) → slice_get s.geometry.guests number ≡ Some guest → guest_fits s guest ≡ true =
+    λ number guest at. all-one (guest_fits s) s.geometry.guests number guest sizes.guests at in
     record {
       few = omega (arith, few);
       few_blocks = sizes.few_blocks;
       pages = sizes.pages;
       area = area;
-      given = given;
+      given = (λ number guest at. guest-given s number guest is at (fits number guest at) (sound number guest at));
       apart = (λ number other g h at there differ.
-          guests-apart s number other g h is (sound number g at) (sound other h there) (given number g at).some_blocks (given other h there).some_blocks at there differ);
+          guests-apart s number other g h is (sound number g at) (sound other h there) at there differ);
       outside = (λ number guest addr at low high.
-          guest_of-clear (regions_of guest) s.geometry.mediator (area_bytes s) addr (any-none (meets_area s) s.geometry.guests number guest is.area at) low high);
+          guest_of-clear (regions_of guest) s.geometry.mediator (area_bytes s) addr
+          (any-none (meets_area s) s.geometry.guests number guest is.area at) low high);
     }

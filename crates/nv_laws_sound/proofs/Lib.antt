@@ -19,7 +19,9 @@ pub mod TakenEvents
 pub mod OnDisk
 pub mod Planned
 pub mod SubmitEvents
+pub mod ExtentsApart
 pub mod LaidOuts
+pub mod Namespaces
 pub mod Steps
 pub mod Slots
 pub mod Commands

@@ -1,6 +1,6 @@
 -- The blocks that a physical command names on the disk, itself or in its ranges, are its guest's.
 use Rattle.std.proofs.Common.{◌≡◌, ℕ, zero, suc, ◌+◌, ◌-◌, ◌*◌, ◌^◌, ◌<◌, ◌≤◌, ◌⊎◌, inl, inr, Bool, true, false, ◌||◌, ◌==◌, nat_le, List, [], ◌∷◌, All, drop}
-use Rattle.std.proofs.Common.{flat_map, length, map, slice_get, take, Some, arith, refl, ap, ◌∙◌, eqb-true, leb-true, subst}
+use Rattle.std.proofs.Common.{flat_map, length, map, slice_get, take, Some, arith, refl, sym, ap, ◌∙◌, eqb-true, leb-true, subst}
 use Rattle.std.specs.List.{list_any, range_with_len}
 use Rattle.std.proofs.lemmas.List.{drop-map}
 use Rattle.std.proofs.lemmas.List.Elements.{All-cons, All-head, All-map, All-nil, All-tail}
@@ -21,7 +21,7 @@ use Rattle.nv_model.proofs.Judged.{IsSoundWork}
 use Rattle.nv_model.proofs.MemoryLemmas.{gathered-addresses}
 use Rattle.nv_ns.specs.Extents.{Namespace, blocks_in, place_in}
 use Rattle.nv_prp.specs.declared.prps.Prps.{Prps}
-use Rattle.nv_world_model.specs.Area.{addresses_of, bounce_page, entry_of, list_page, prps_of, translated_range}
+use Rattle.nv_world_model.specs.Area.{addresses_of, bounce_page, entry_of, list_page, prps_of, range_place, translated_range}
 use Rattle.nv_world_model.specs.Device.{Held, form_unit_count, range_at, unit_count}
 use Rattle.nv_world_model.specs.Geometry.{Geometry, Guest, regions_of, shape_of}
 use Rattle.nv_world_model.specs.Plan.{Bounced, Direct, NoData, Plan, go_plan}
@@ -32,20 +32,22 @@ use Rattle.nv_laws_sound.proofs.EntryFields.{form-start}
 use Rattle.nv_laws_sound.proofs.LaidOuts.{all-one}
 use Rattle.nv_laws_sound.proofs.Lists.{slice_get-there}
 use Rattle.nv_laws_sound.proofs.Named.{row-all}
+use Rattle.nv_laws_sound.proofs.Namespaces.{AreOwn, own-range, own-row, place-fits, range-short, range_place-fits}
 use Rattle.nv_laws_sound.proofs.PlanSizes.{planned-kinds}
 use Rattle.nv_laws_sound.proofs.Shows.{shows-append}
 
 -- ---- a translated range
 
 -- what is read back of it
-pub translated-blocks : (ns : Namespace) (range : List ℕ) → blocks_of range < 2 ^ 32 → blocks_of (translated_range ns range) ≡ blocks_of range
+pub translated-blocks : (ns : Namespace) (range : List ℕ) → blocks_of range < 2 ^ 32
+    → blocks_of (translated_range ns range) ≡ blocks_of range
 unfolding dword number_at
-translated-blocks ns range fits = little_number-reads_back 4 (blocks_of range) (number_bytes 8 (place_in ns (start_of range))) fits
+translated-blocks ns range fits = little_number-reads_back 4 (blocks_of range) (number_bytes 8 (range_place ns range)) fits
 
-pub translated-start : (ns : Namespace) (range : List ℕ) → place_in ns (start_of range) < 2 ^ 64
-    → start_of (translated_range ns range) ≡ place_in ns (start_of range)
+pub translated-start : (ns : Namespace) (range : List ℕ) → range_place ns range < 2 ^ 64
+    → start_of (translated_range ns range) ≡ range_place ns range
 unfolding qword number_at
-translated-start ns range fits = little_number-reads_back 8 (place_in ns (start_of range)) [] fits
+translated-start ns range fits = little_number-reads_back 8 (range_place ns range) [] fits
 
 -- a range that was written stands in its place
 pub shown-range : (ns : Namespace) (memory : ℕ → ℕ) (ranges : List (List ℕ)) (n : ℕ) (at : ℕ) (range : List ℕ) → slice_get ranges n ≡ Some range
@@ -126,11 +128,6 @@ blocks-counted Keep entry has = cc
 
 -- ---- on the disk
 
--- these blocks are the guest's
-pub record AreOwn (ns : Namespace) (start count : ℕ) : Type 0 where
-  pub from : extent.base ≤ start
-  pub to : start + count ≤ extent.base + extent.blocks
-
 module _ (host_bytes lanes : ℕ) (geometry : Geometry) (laid : IsLaidOut host_bytes lanes geometry) (owner : ℕ) (guest : Guest)
     (given : slice_get geometry.guests owner ≡ Some guest) (entry : List ℕ) (plan : Plan) (is : IsPlanned guest entry plan) (lane tag : ℕ) where
   sound : IsSoundWork (mapped (regions_of guest)) (shape_of guest).blocks entry is.work
@@ -148,25 +145,25 @@ module _ (host_bytes lanes : ℕ) (geometry : Geometry) (laid : IsLaidOut host_b
   pub entry-starts : has_blocks is.work.opcode ≡ true
       → slba_of (entry_of plan guest entry geometry.mediator lane tag) ≡ place_in guest.namespace (slba_of entry)
   entry-starts has =
-      let most = (blocks-fit has).1 in
-      let disk = (laid.given owner guest given).on_disk in
+      let within = place-fits host_bytes geometry.disk_blocks (slba_of entry) guest (laid.given owner guest given) in
       let few = laid.few_blocks in
       let list = list_page geometry.mediator lane tag in
       let bounce = bounce_page geometry.mediator lane tag in
-      let fits : place_in guest.namespace (slba_of entry) < 2 ^ 64 = omega (arith, most, disk, few) in
+      let fits : place_in guest.namespace (slba_of entry) < 2 ^ 64 = omega (arith, within, few) in
       let started = λ (prps : Prps). form-start (form_of is.work.opcode) (opcode_of entry) tag prps guest.namespace entry has fits in
       planned-kinds (λ p. slba_of (entry_of p guest entry geometry.mediator lane tag) ≡ place_in guest.namespace (slba_of entry)) guest entry plan is
       (started (prps_of (NoData is.work) guest list bounce)) (λ direct. started (prps_of (Direct is.work) guest list bounce))
       (started (prps_of (Bounced is.work) guest list bounce))
 
   -- so they are the guest's
-  pub entry-own : has_blocks is.work.opcode ≡ true → AreOwn guest.namespace (slba_of (entry_of plan guest entry geometry.mediator lane tag)) (count_of entry)
+  pub entry-own : has_blocks is.work.opcode ≡ true
+      → AreOwn guest.namespace (slba_of (entry_of plan guest entry geometry.mediator lane tag)) (count_of entry)
   entry-own has =
       let fit = blocks-fit has in
       let some = fit.0 in
       let most = fit.1 in
-      let start = entry-starts has in
-      record { from = omega (arith, start); to = omega (arith, start, some, most) }
+      subst (λ at. AreOwn guest.namespace at (count_of entry)) (sym (entry-starts has))
+      (own-row guest.namespace (slba_of entry) (count_of entry) (laid.given owner guest given).one (omega (arith, some, most)))
 
   module _ (h : Held) (host : ℕ → ℕ) (in_device : IsInDevice geometry guest entry plan lane tag host h) (number : ℕ)
       (left : list_any (λ k. k == number) h.left ≡ true) where
@@ -176,33 +173,58 @@ module _ (host_bytes lanes : ℕ) (geometry : Geometry) (laid : IsLaidOut host_b
         among (λ k. k < form_unit_count (form_of is.work.opcode) entry) number h.left
         (subst (λ o. All (λ k. k < unit_count o entry) h.left) sound.opcode in_device.left) left
 
-    -- the blocks of its range, where it has one
-    pub range-own : form_of is.work.opcode ≡ Manage
-        → AreOwn guest.namespace (start_of (range_at number h.pieces host)) (blocks_of (range_at number h.pieces host))
-    range-own form =
+    -- the guest's range behind it, where it has one
+    pub range-there : form_of is.work.opcode ≡ Manage → (range : List ℕ) × (slice_get is.work.ranges number ≡ Some range)
+    range-there form =
         let few : number < range_count_of entry = subst (λ f. number < form_unit_count f entry) form unit-below in
         let many : length is.work.ranges ≡ range_count_of entry = sound.counted form in
-        let range = slice_get-there is.work.ranges number (omega (arith, few, many)) in
-        let fits = all-one (range_fits (shape_of guest).blocks) is.work.ranges number range.0 sound.fit range.1 in
-        let both = and-true (nat_le (blocks_of range.0) (blocks_in guest.namespace)) (nat_le (start_of range.0) (blocks_in guest.namespace - blocks_of range.0)) fits in
-        let some = leb-true (blocks_of range.0) (blocks_in guest.namespace) both.0 in
-        let most = leb-true (start_of range.0) (blocks_in guest.namespace - blocks_of range.0) both.1 in
-        let disk = (laid.given owner guest given).on_disk in
-        let few_blocks = laid.few_blocks in
+        slice_get-there is.work.ranges number (omega (arith, few, many))
+
+    -- which is one of the namespace
+    pub range-tested : (range : List ℕ) → slice_get is.work.ranges number ≡ Some range → range_fits (blocks_in guest.namespace) range ≡ true
+    range-tested range found = all-one (range_fits (shape_of guest).blocks) is.work.ranges number range sound.fit found
+
+    -- the device reads it as the disk has it
+    pub range-read : form_of is.work.opcode ≡ Manage → (range : List ℕ) → slice_get is.work.ranges number ≡ Some range
+        → range_at number h.pieces host ≡ translated_range guest.namespace range
+    range-read form range found =
+        let few : number < range_count_of entry = subst (λ f. number < form_unit_count f entry) form unit-below in
         let bounced : plan ≡ Bounced is.work = is.plan_is ∙ ap (λ f. go_plan f (regions_of guest) is.work) form in
         let bounce = bounce_page geometry.mediator lane tag in
         let ranges_shown : Shows host bounce (flat_map (translated_range guest.namespace) is.work.ranges) =
-        subst (λ f. Shows host bounce (form_ranges f guest is.work)) form (subst (λ p. Shows host bounce (ranges_of p guest)) bounced in_device.pages.ranges) in
+        subst (λ f. Shows host bounce (form_ranges f guest is.work)) form
+        (subst (λ p. Shows host bounce (ranges_of p guest)) bounced in_device.pages.ranges) in
         let places : places_of h.pieces ≡ map At (range_with_len bounce (total_len is.work.pieces)) =
         in_device.places ∙ ap (λ p. map At (addresses_of p guest bounce)) bounced in
         let total : total_len is.work.pieces ≡ 16 * range_count_of entry = sound.total ∙ ap (λ f. form_transfer_len f entry) form in
-        let split : total_len is.work.pieces ≡ 16 * number + (16 + (16 * range_count_of entry - (16 * number + 16))) = omega (arith, total, few) in
-        let read : range_at number h.pieces host ≡ translated_range guest.namespace range.0 =
+        let rest : ℕ = 16 * range_count_of entry - (16 * number + 16) in
+        let split : total_len is.work.pieces ≡ 16 * number + (16 + rest) = omega (arith, total, few) in
         ap (λ ps. gathered host (take 16 (drop (16 * number) ps))) (places ∙ ap (λ n. map At (range_with_len bounce n)) split)
-        ∙ row-bytes host bounce (16 * number) (16 * range_count_of entry - (16 * number + 16))
-        ∙ shown-range guest.namespace host is.work.ranges number bounce range.0 range.1 ranges_shown in
-        let start : start_of (range_at number h.pieces host) ≡ place_in guest.namespace (start_of range.0) =
-        ap start_of read ∙ translated-start guest.namespace range.0 (omega (arith, most, disk, few_blocks)) in
-        let blocks : blocks_of (range_at number h.pieces host) ≡ blocks_of range.0 =
-        ap blocks_of read ∙ translated-blocks guest.namespace range.0 (omega (arith, some, disk, few_blocks)) in
-        record { from = omega (arith, start); to = omega (arith, start, blocks, some, most) }
+        ∙ row-bytes host bounce (16 * number) rest
+        ∙ shown-range guest.namespace host is.work.ranges number bounce range found ranges_shown
+
+    -- so what it has of it is the range's place on the disk, and its length
+    pub range-fields : form_of is.work.opcode ≡ Manage → (range : List ℕ) → slice_get is.work.ranges number ≡ Some range
+        → (start_of (range_at number h.pieces host) ≡ range_place guest.namespace range)
+        × (blocks_of (range_at number h.pieces host) ≡ blocks_of range)
+    range-fields form range found =
+        let fits = range-tested range found in
+        let is_given = laid.given owner guest given in
+        let read = range-read form range found in (
+          ap start_of read
+              ∙ translated-start guest.namespace range
+              (range_place-fits host_bytes geometry.disk_blocks guest range is_given laid.few_blocks fits),
+          ap blocks_of read
+              ∙ translated-blocks guest.namespace range
+              (range-short host_bytes geometry.disk_blocks guest range is_given laid.few_blocks fits),
+        )
+
+    -- and its blocks are the guest's
+    pub range-own : form_of is.work.opcode ≡ Manage
+        → AreOwn guest.namespace (start_of (range_at number h.pieces host)) (blocks_of (range_at number h.pieces host))
+    range-own form =
+        let range = range-there form in
+        let fields = range-fields form range.0 range.1 in
+        let own = own-range guest.namespace range.0 (laid.given owner guest given).one (range-tested range.0 range.1) in
+        subst (λ at. AreOwn guest.namespace at (blocks_of (range_at number h.pieces host))) (sym fields.0)
+        (subst (AreOwn guest.namespace (range_place guest.namespace range.0)) (sym fields.1) own)
