@@ -189,6 +189,12 @@ blocks-most disk_blocks (extent ∷ rest) each =
     let first = All-head (IsOnDisk disk_blocks) extent rest each in
     let more = blocks-most disk_blocks rest (All-tail (IsOnDisk disk_blocks) extent rest each) in omega (arith, first, more)
 
+-- a guest's blocks are few
+blocks-few : (host_bytes disk_blocks : ℕ) (guest : Guest) → IsGiven host_bytes disk_blocks guest
+    → blocks_in guest.namespace ≤ 1 * disk_blocks
+blocks-few host_bytes disk_blocks guest given =
+    rw given.one at (blocks-most disk_blocks guest.namespace (all-on_disk host_bytes disk_blocks guest given))
+
 first_base-most : (disk_blocks : ℕ) (ns : Namespace) → All (IsOnDisk disk_blocks) ns → first_base ns ≤ disk_blocks
 first_base-most disk_blocks [] each = omega arith
 first_base-most disk_blocks (extent ∷ rest) each =
@@ -203,12 +209,16 @@ range_place-fits host_bytes disk_blocks guest range given few fits = at (blocks_
         → (if none then first_base guest.namespace + start_of range else place_in guest.namespace (start_of range)) < 2 ^ 64
     at true =
         let within = range-within (blocks_in guest.namespace) range fits in
-        let each = all-on_disk host_bytes disk_blocks guest given in
-        let first = first_base-most disk_blocks guest.namespace each in
-        let most : blocks_in guest.namespace ≤ 1 * disk_blocks =
-        rw given.one at (blocks-most disk_blocks guest.namespace each) in
-        omega (arith, within, first, most, few)
+        let first = first_base-most disk_blocks guest.namespace (all-on_disk host_bytes disk_blocks guest given) in
+        let most = blocks-few host_bytes disk_blocks guest given in omega (arith, within, first, most, few)
     at false = (let within = place-fits host_bytes disk_blocks (start_of range) guest given in omega (arith, within, few))
+
+-- and so few are its blocks that 32 bits hold their number
+pub range-short : (host_bytes disk_blocks : ℕ) (guest : Guest) (range : List ℕ) → IsGiven host_bytes disk_blocks guest
+    → disk_blocks ≤ most_disk_blocks → range_fits (blocks_in guest.namespace) range ≡ true → blocks_of range < 2 ^ 32
+range-short host_bytes disk_blocks guest range given few fits =
+    let within = range-within (blocks_in guest.namespace) range fits in
+    let most = blocks-few host_bytes disk_blocks guest given in omega (arith, within, most, few)
 
 -- some of its blocks end on the disk
 pub range-disk : (host_bytes disk_blocks : ℕ) (guest : Guest) (range : List ℕ) → IsGiven host_bytes disk_blocks guest
@@ -217,12 +227,3 @@ pub range-disk : (host_bytes disk_blocks : ℕ) (guest : Guest) (range : List �
 range-disk host_bytes disk_blocks guest range given fits some =
     own-ends host_bytes disk_blocks (range_place guest.namespace range) (blocks_of range) guest given
     (own-range guest.namespace range given.one fits) some
-
--- they are few
-pub range-short : (host_bytes disk_blocks : ℕ) (guest : Guest) (range : List ℕ) → IsGiven host_bytes disk_blocks guest
-    → disk_blocks ≤ most_disk_blocks → range_fits (blocks_in guest.namespace) range ≡ true → blocks_of range < 2 ^ 32
-range-short host_bytes disk_blocks guest range given few fits =
-    elim (cases_lt 0 (blocks_of range)) [
-      | inl some ↦ (let ends = range-disk host_bytes disk_blocks guest range given fits some in omega (arith, ends, few))
-      | inr none ↦ omega (arith, none)
-    ]

@@ -25,6 +25,7 @@ use Rattle.nv_world_model.specs.Area.{addresses_of, bounce_page, entry_of, list_
 use Rattle.nv_world_model.specs.Device.{Held, form_unit_count, range_at, unit_count}
 use Rattle.nv_world_model.specs.Geometry.{Geometry, Guest, regions_of, shape_of}
 use Rattle.nv_world_model.specs.Plan.{Bounced, Direct, NoData, Plan, go_plan}
+use Rattle.nv_world_model.specs.View.{in_extents}
 use Rattle.nv_laws_sound.specs.Area.{Shows, form_ranges, ranges_of}
 use Rattle.nv_laws_sound.specs.Consistent.{IsInDevice, IsPlanned}
 use Rattle.nv_laws_sound.specs.LaidOut.{IsLaidOut}
@@ -32,7 +33,7 @@ use Rattle.nv_laws_sound.proofs.EntryFields.{form-start}
 use Rattle.nv_laws_sound.proofs.LaidOuts.{all-one}
 use Rattle.nv_laws_sound.proofs.Lists.{slice_get-there}
 use Rattle.nv_laws_sound.proofs.Named.{row-all}
-use Rattle.nv_laws_sound.proofs.Namespaces.{AreOwn, own-range, own-row, place-fits, range-short, range_place-fits}
+use Rattle.nv_laws_sound.proofs.Namespaces.{AreOwn, place-fits, place-own, range-row, range-short, range-within, range_place-fits, row}
 use Rattle.nv_laws_sound.proofs.PlanSizes.{planned-kinds}
 use Rattle.nv_laws_sound.proofs.Shows.{shows-append}
 
@@ -155,6 +156,16 @@ module _ (host_bytes lanes : ℕ) (geometry : Geometry) (laid : IsLaidOut host_b
       (started (prps_of (NoData is.work) guest list bounce)) (λ direct. started (prps_of (Direct is.work) guest list bounce))
       (started (prps_of (Bounced is.work) guest list bounce))
 
+  -- each of them is where the guest's lies
+  pub entry-block : has_blocks is.work.opcode ≡ true → (i : ℕ) → i < count_of entry
+      → slba_of (entry_of plan guest entry geometry.mediator lane tag) + i ≡ place_in guest.namespace (slba_of entry + i)
+  entry-block has i below =
+      let fit = blocks-fit has in
+      let some = fit.0 in
+      let most = fit.1 in
+      ap (λ at. at + i) (entry-starts has)
+      ∙ sym (row guest.namespace (slba_of entry) (count_of entry) i (laid.given owner guest given).one (omega (arith, some, most)) below)
+
   -- so they are the guest's
   pub entry-own : has_blocks is.work.opcode ≡ true
       → AreOwn guest.namespace (slba_of (entry_of plan guest entry geometry.mediator lane tag)) (count_of entry)
@@ -162,8 +173,8 @@ module _ (host_bytes lanes : ℕ) (geometry : Geometry) (laid : IsLaidOut host_b
       let fit = blocks-fit has in
       let some = fit.0 in
       let most = fit.1 in
-      subst (λ at. AreOwn guest.namespace at (count_of entry)) (sym (entry-starts has))
-      (own-row guest.namespace (slba_of entry) (count_of entry) (laid.given owner guest given).one (omega (arith, some, most)))
+      λ i below. ap (in_extents guest.namespace) (entry-block has i below)
+      ∙ place-own guest.namespace (slba_of entry + i) (omega (arith, some, most, below))
 
   module _ (h : Held) (host : ℕ → ℕ) (in_device : IsInDevice geometry guest entry plan lane tag host h) (number : ℕ)
       (left : list_any (λ k. k == number) h.left ≡ true) where
@@ -219,12 +230,20 @@ module _ (host_bytes lanes : ℕ) (geometry : Geometry) (laid : IsLaidOut host_b
               (range-short host_bytes geometry.disk_blocks guest range is_given laid.few_blocks fits),
         )
 
-    -- and its blocks are the guest's
+    -- each of its blocks is where the guest's lies
+    pub range-block : form_of is.work.opcode ≡ Manage → (range : List ℕ) → slice_get is.work.ranges number ≡ Some range
+        → (i : ℕ) → i < blocks_of range
+        → start_of (range_at number h.pieces host) + i ≡ place_in guest.namespace (start_of range + i)
+    range-block form range found i below =
+        ap (λ at. at + i) (range-fields form range found).0
+        ∙ sym (range-row guest.namespace range i (laid.given owner guest given).one (range-tested range found) below)
+
+    -- so they are the guest's
     pub range-own : form_of is.work.opcode ≡ Manage
         → AreOwn guest.namespace (start_of (range_at number h.pieces host)) (blocks_of (range_at number h.pieces host))
     range-own form =
         let range = range-there form in
-        let fields = range-fields form range.0 range.1 in
-        let own = own-range guest.namespace range.0 (laid.given owner guest given).one (range-tested range.0 range.1) in
-        subst (λ at. AreOwn guest.namespace at (blocks_of (range_at number h.pieces host))) (sym fields.0)
-        (subst (AreOwn guest.namespace (range_place guest.namespace range.0)) (sym fields.1) own)
+        let within = range-within (blocks_in guest.namespace) range.0 (range-tested range.0 range.1) in
+        subst (AreOwn guest.namespace (start_of (range_at number h.pieces host))) (sym (range-fields form range.0 range.1).1)
+        (λ i below. ap (in_extents guest.namespace) (range-block form range.0 range.1 i below)
+        ∙ place-own guest.namespace (start_of range.0 + i) (omega (arith, within, below)))
