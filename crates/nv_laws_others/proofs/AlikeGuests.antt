@@ -257,7 +257,7 @@ module _ (host_bytes : ℕ) (geometry : Geometry) (w z : World) (laid : IsLaidOu
         let there_too : tag_of z lane tag ≡ Some Free = ap (λ o. tag_in o tag) too ∙ free-found m.tags tag found_too in
         let a = is-at geometry w lane tag Free fine there in
         let e = device-too geometry w z number guest given alike lane a.d a.at_device in
-        let new : (ℕ → ℕ) → Tag = λ mem. Taken (record { guest = number; queue = queue; entry = bytes_from mem addr sqe_size }) [] in
+        let new : (ℕ → ℕ) → Tag = λ mem. Taken (record { guest = number; queue = queue; entry = bytes_from mem addr sqe_size; leader = tag }) [] in
         let x : IsInBoth w z lane tag Free Free = record {
           l = l;
           m = m;

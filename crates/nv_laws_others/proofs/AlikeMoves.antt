@@ -38,7 +38,7 @@ use Rattle.nv_laws_sound.specs.Consistent.{IsConsistent, IsInDevice, IsPlanned}
 use Rattle.nv_laws_sound.specs.LaidOut.{IsLaidOut}
 use Rattle.nv_laws_sound.proofs.Lists.{length-set, set-same, slice_get-below, slice_get-there, some-same}
 use Rattle.nv_laws_sound.proofs.MoveEvents.{held-flies, held-opcode, moved-elsewhere, moved-undisturbed}
-use Rattle.nv_laws_sound.proofs.OnDisk.{blocks-counted, blocks-fit, drop-row, entry-starts, unit-below}
+use Rattle.nv_laws_sound.proofs.OnDisk.{blocks-counted, blocks-fit, drop-row, entry-block, unit-below}
 use Rattle.nv_laws_sound.proofs.Named.{hosts-all, row-all}
 use Rattle.nv_laws_sound.proofs.PlanSizes.{planned-kinds}
 use Rattle.nv_laws_others.proofs.AlikeLanes.{flying-shows, lane-alike, list-is, one-in, own-same, read-is, source-is, stored-both}
@@ -121,12 +121,12 @@ module _ (host_bytes : ℕ) (geometry : Geometry) (w z : World) (laid : IsLaidOu
         let fit = blocks-fit host_bytes (length w.lanes) geometry laid command.guest guest whose command.entry plan is lane tag has in
         let some = fit.0 in
         let most = fit.1 in
-        let first : slba_of h.entry ≡ place_in guest.namespace (slba_of command.entry) =
-        ap slba_of in_device.entry_is ∙ entry-starts host_bytes (length w.lanes) geometry laid command.guest guest whose command.entry plan is lane tag has in
         let few : k < count_of command.entry =
         subst (λ n. k < n) (blocks-counted (form_of is.work.opcode) command.entry has)
         (unit-below host_bytes (length w.lanes) geometry laid command.guest guest whose command.entry plan is lane tag h w.host in_device k left) in
-        let named : slba_of h.entry + k ≡ place_in guest.namespace (slba_of command.entry + k) = omega (arith, first) in
+        let named : slba_of h.entry + k ≡ place_in guest.namespace (slba_of command.entry + k) =
+        ap (λ e. slba_of e + k) in_device.entry_is
+        ∙ entry-block host_bytes (length w.lanes) geometry laid command.guest guest whose command.entry plan is lane tag has k few in
         subst (λ x. block_bytes w.disk x ≡ block_bytes z.disk x) (sym named) (block-same (slba_of command.entry + k) (omega (arith, some, most, few)))
 
     -- the bytes of its places, where it is no Read

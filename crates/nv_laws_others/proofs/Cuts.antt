@@ -1,5 +1,5 @@
 -- The world cut down to a guest looks to that guest as it does whole.
-use Rattle.std.proofs.Common.{◌≡◌, ℕ, zero, suc, ◌+◌, ◌<◌, ◌≤◌, ◌⊎◌, inl, inr, Bool, true, false, cond, ◌&&◌, ◌||◌, ◌==◌, List, [], ◌∷◌, length, map, slice_get}
+use Rattle.std.proofs.Common.{◌≡◌, ℕ, zero, suc, ◌+◌, Bool, true, false, cond, ◌&&◌, ◌||◌, ◌==◌, List, [], ◌∷◌, length, map, slice_get}
 use Rattle.std.proofs.Common.{Option, Some, None, is_some, arith, refl, sym, ap, ◌∙◌, eq-eqb}
 use Rattle.std.specs.List.{enumerate_from}
 use Rattle.std.specs.Option.{option_map}
@@ -11,17 +11,17 @@ use Rattle.nv_mem.specs.GuestMap.{host_of}
 use Rattle.nv_mem.proofs.Images.{guest_of-host}
 use Rattle.nv_model.specs.Controller.{Controller, opening}
 use Rattle.nv_model.specs.Memory.{byte_at_host, image}
-use Rattle.nv_ns.specs.Extents.{Namespace, blocks_in, place_in}
+use Rattle.nv_ns.specs.Extents.{place_in}
 use Rattle.nv_world_model.specs.CutDown.{cut, cut_controller, cut_device, cut_lane, cut_tag, nobodys}
 use Rattle.nv_world_model.specs.Device.{DeviceLane, Held}
 use Rattle.nv_world_model.specs.Geometry.{Geometry, Guest, regions_of}
 use Rattle.nv_world_model.specs.Seat.{held_by, held_in}
 use Rattle.nv_world_model.specs.Step.{is_free}
-use Rattle.nv_world_model.specs.View.{IsAlike, in_extents, in_image, is_tag_of, lane_numbers, lies_in, own_held, own_tag, ring_numbers, shared_numbers, shown}
+use Rattle.nv_world_model.specs.View.{IsAlike, in_image, is_tag_of, lane_numbers, lies_in, own_held, own_tag, ring_numbers, shared_numbers, shown}
 use Rattle.nv_world_model.specs.World.{Ended, Flying, Free, Lane, Tag, Taken, World, tag_in, tag_of}
 use Rattle.nv_laws_sound.specs.LaidOut.{IsLaidOut}
 use Rattle.nv_laws_sound.proofs.Lists.{slice_get-below}
-use Rattle.nv_laws_others.proofs.MoveEvents.{outside-extent}
+use Rattle.nv_laws_sound.proofs.Namespaces.{place-own}
 
 -- ---- lists of numbered members
 
@@ -148,19 +148,6 @@ controller-kept number b w is on =
     by_there None = refl
     by_there (Some c) = sym (ap (λ t. Some (cond t c opening)) (is ∙ on))
 
--- ---- blocks
-
-in-own-extent : (ns : Namespace) (lba : ℕ) → lba < blocks_in ns → in_extents ns (place_in ns lba) ≡ true
-in-own-extent ns lba below =
-    (elim (in_extents ns (place_in ns lba)) as (λ b. in_extents ns (place_in ns lba) ≡ b → b ≡ true) [
-      | true ↦ λ is. refl
-      | false ↦ λ is. absurd (apart (outside-extent ns (place_in ns lba) is))
-    ]) refl
-  where
-    apart : (place_in ns lba < extent.base) ⊎ (extent.base + extent.blocks ≤ place_in ns lba) → ⊥
-    apart (inl before) = absurd (omega (arith, before))
-    apart (inr behind) = absurd (omega (arith, behind, below))
-
 or-behind : (a b : Bool) → b ≡ true → (a || b) ≡ true
 or-behind true b is = refl
 or-behind false b is = is
@@ -230,12 +217,12 @@ module _ (host_bytes lanes : ℕ) (geometry : Geometry) (laid : IsLaidOut host_b
       record {
         view = record {
           memory = (λ addr. memory-kept addr (host_of (regions_of guest) addr) refl);
-          blocks = (λ lba offset below. sym (ap (λ b. cond b (w.disk (place_in guest.namespace lba) offset) 0) (in-own-extent guest.namespace lba below)));
+          blocks = (λ lba offset below. sym (ap (λ b. cond b (w.disk (place_in guest.namespace lba) offset) 0) (place-own guest.namespace lba below)));
           controller = controller-kept number (number == number) w refl (eq-eqb number number refl);
           tags = tags-same;
           held = held-same;
           area = (λ addr lies. sym (ap (λ b. cond b (w.host addr) 0) (or-behind (in_image guest addr) _ lies)));
         };
-        marks = (λ lba below. sym (ap (λ b. b && w.kept (place_in guest.namespace lba)) (in-own-extent guest.namespace lba below)));
+        marks = (λ lba below. sym (ap (λ b. b && w.kept (place_in guest.namespace lba)) (place-own guest.namespace lba below)));
         shared = numbers-same;
       }

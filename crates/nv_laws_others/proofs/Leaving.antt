@@ -2,9 +2,7 @@
 use Rattle.std.proofs.Common.{◌≡◌, ℕ, ◌+◌, ◌<◌, ◌≤◌, ◌⊎◌, inl, inr, true, false, ◌==◌, nat_le, nat_lt, length, slice_get, Option, Some, None, is_some, arith}
 use Rattle.std.proofs.Common.{refl, sym, ap, ◌∙◌, eqb-true, leb-true, ltb-true, subst}
 use Rattle.std.specs.Prelude.{◌≢◌}
-use Rattle.std.specs.List.{range_with_len}
 use Rattle.std.proofs.lemmas.Bool.{cases_eq, cases_lt, le-leb, lt-ltb, ne_eqb}
-use Rattle.std.proofs.lemmas.List.Folds.{list_any_none}
 use Rattle.nv_mem.specs.GuestMap.{guest_of, host_of}
 use Rattle.nv_mem.proofs.Images.{guest_of-host}
 use Rattle.nv_model.specs.Memory.{byte_at_host, image}
@@ -19,7 +17,7 @@ use Rattle.nv_world_model.specs.World.{Answered, Ended, Flying, Free, InDevice, 
 use Rattle.nv_laws_sound.specs.Consistent.{IsBetween, IsConsistent, IsTag}
 use Rattle.nv_laws_sound.specs.LaidOut.{IsLaidOut}
 use Rattle.nv_laws_sound.proofs.Lists.{slice_get-below}
-use Rattle.nv_laws_sound.proofs.Named.{row-all}
+use Rattle.nv_laws_sound.proofs.Namespaces.{place-own}
 use Rattle.nv_laws_sound.proofs.Retags.{is-at, tag-is}
 use Rattle.nv_laws_sound.specs.Area.{SameInLane}
 use Rattle.nv_laws_sound.proofs.Slots.{held-under}
@@ -59,17 +57,11 @@ module _ (host_bytes : ℕ) (geometry : Geometry) (lanes : ℕ) (laid : IsLaidOu
 
   -- a guest's blocks are none of another's
   extent-of : (found : Option Guest) (number other : ℕ) (guest : Guest) (lba : ℕ) → slice_get geometry.guests other ≡ found
-      → slice_get geometry.guests number ≡ Some guest → number ≢ other → lba < blocks_in guest.namespace → in_extents_of found (place_in guest.namespace lba) ≡ false
+      → slice_get geometry.guests number ≡ Some guest → number ≢ other → lba < blocks_in guest.namespace
+      → in_extents_of found (place_in guest.namespace lba) ≡ false
   extent-of None number other guest lba is given differ below = refl
   extent-of (Some g) number other guest lba is given differ below =
-      list_any_none (λ n. place_in g.namespace n == place_in guest.namespace lba) (range_with_len 0 (blocks_in g.namespace))
-      (row-all (λ n. (place_in g.namespace n == place_in guest.namespace lba) ≡ false) 0 (blocks_in g.namespace)
-      (λ n low high. ne_eqb (place_in g.namespace n) (place_in guest.namespace lba) (λ same. meets n high same (laid.apart number other guest g given is differ).blocks)))
-    where
-      meets : (n : ℕ) → n < 0 + blocks_in g.namespace → place_in g.namespace n ≡ place_in guest.namespace lba
-          → (guest.extent.base + guest.extent.blocks ≤ g.extent.base) ⊎ (g.extent.base + g.extent.blocks ≤ guest.extent.base) → ⊥
-      meets n high same (inl before) = absurd (omega (arith, high, same, before, below))
-      meets n high same (inr behind) = absurd (omega (arith, high, same, behind, below))
+      (laid.apart number other guest g given is differ).blocks (place_in guest.namespace lba) (place-own guest.namespace lba below)
 
   pub extent-apart : (whose : Option ℕ) (number : ℕ) (guest : Guest) (lba : ℕ) → slice_get geometry.guests number ≡ Some guest → whose ≢ Some number
       → lba < blocks_in guest.namespace → in_extents_of (given_to whose geometry) (place_in guest.namespace lba) ≡ false

@@ -1,16 +1,16 @@
 -- What a unit of a command leaves: blocks of other guests, and bytes that are neither its guest's nor in its tag's bounce pages.
-use Rattle.std.proofs.Common.{◌≡◌, ℕ, zero, suc, ◌+◌, ◌<◌, ◌≤◌, ◌⊎◌, inl, inr, Bool, true, false, ◌&&◌, ◌||◌, ◌==◌, nat_lt, List, [], ◌∷◌, All, map, slice_get}
-use Rattle.std.proofs.Common.{Some, arith, refl, sym, ap, ◌∙◌, eq-eqb, subst}
+use Rattle.std.proofs.Common.{◌≡◌, ℕ, ◌+◌, ◌<◌, ◌≤◌, ◌⊎◌, Bool, true, false, ◌&&◌, ◌||◌, ◌==◌, nat_lt, List, [], ◌∷◌, All, slice_get}
+use Rattle.std.proofs.Common.{Some, refl, sym, ap, ◌∙◌, subst}
 use Rattle.std.specs.Prelude.{◌≢◌}
-use Rattle.std.specs.List.{list_any, range_with_len}
-use Rattle.std.proofs.lemmas.Bool.{cases_eq, cases_lt}
+use Rattle.std.specs.List.{list_any}
 use Rattle.std.proofs.lemmas.List.Elements.{All-cons, All-nil}
 use Rattle.nv_entry.specs.Opcode.{io_opcode}
 use Rattle.nv_entry.specs.Submission.{opcode_of, slba_of}
 use Rattle.nv_mem.specs.GuestMap.{mapped}
 use Rattle.nv_model.specs.Carried.{block_work, units_moved}
 use Rattle.nv_entry.specs.Range.{blocks_of, start_of}
-use Rattle.nv_model.specs.Judge.{deallocates, is_fua, Clear, ClearBlock, Form, Keep, KeepAll, Manage, MoveBlock, Transfer, Work, count_of, one_range_units, form_has_blocks, form_of, has_blocks}
+use Rattle.nv_model.specs.Judge.{Clear, ClearBlock, Form, Keep, KeepAll, Manage, MoveBlock, Transfer, Work, count_of, deallocates}
+use Rattle.nv_model.specs.Judge.{form_has_blocks, form_of, has_blocks, is_fua, one_range_units}
 use Rattle.nv_model.specs.Laws.{IsElsewhere}
 use Rattle.nv_model.proofs.Judged.{IsSoundWork}
 use Rattle.nv_world_model.specs.Device.{form_unit_count, range_at}
@@ -19,64 +19,14 @@ use Rattle.nv_laws_sound.proofs.EntryFields.{entry-opcode}
 use Rattle.nv_model.specs.Private.{Moved}
 use Rattle.nv_model.proofs.AnyAnswers.{end-sound}
 use Rattle.nv_model.proofs.UnitsElsewhere.{IsSame, units-elsewhere}
-use Rattle.nv_ns.specs.Extents.{Namespace, place_in}
 use Rattle.nv_world_model.specs.Device.{Held, device_unit, form_moves, moved_by}
 use Rattle.nv_world_model.specs.Geometry.{Geometry, Guest, regions_of, shape_of}
 use Rattle.nv_world_model.specs.Plan.{Plan}
 use Rattle.nv_world_model.specs.View.{in_extents}
 use Rattle.nv_laws_sound.specs.Consistent.{IsInDevice, IsPlanned}
 use Rattle.nv_laws_sound.specs.LaidOut.{IsLaidOut}
-use Rattle.nv_laws_sound.proofs.OnDisk.{AreOwn, entry-own, range-elsewhere, range-own, unit-below}
-
--- ---- blocks
-
--- what the first passes, some member does, and what a later one does
-any-first : {X : Type 0} (p : X → Bool) (x : X) (xs : List X) → p x ≡ true → list_any p (x ∷ xs) ≡ true
-any-first p x xs is = ap (λ b. b || list_any p xs) is
-
-any-rest : {X : Type 0} (p : X → Bool) (x : X) (xs : List X) → list_any p xs ≡ true → list_any p (x ∷ xs) ≡ true
-any-rest p x xs is = (elim (p x) as (λ b. (b || list_any p xs) ≡ true) [ true ↦ refl | false ↦ is ])
-
--- a number of a row is one of the row
-any-of : (ns : Namespace) (at from len : ℕ) → extent.base + from ≤ at → at < extent.base + (from + len)
-    → list_any (λ lba. place_in ns lba == at) (range_with_len from len) ≡ true
-any-of ns at from zero low high = absurd (omega (arith, low, high))
-any-of ns at from (suc len) low high =
-    elim (cases_eq (extent.base + from) at) [
-      | inl same ↦ any-first (λ lba. place_in ns lba == at) from (range_with_len (from + 1) len) (eq-eqb (extent.base + from) at same)
-      | inr other ↦ any-rest (λ lba. place_in ns lba == at) from (range_with_len (from + 1) len)
-          (any-of ns at (from + 1) len (omega (arith, low, other)) (omega (arith, high)))
-    ]
-
--- a block that isn't a guest's lies before or behind its range
-pub outside-extent : (ns : Namespace) (at : ℕ) → in_extents ns at ≡ false → (at < extent.base) ⊎ (extent.base + extent.blocks ≤ at)
-outside-extent ns at out =
-    elim (cases_lt at extent.base) [
-      | inl before ↦ inl before
-      | inr from ↦ elim (cases_lt at (extent.base + extent.blocks)) [
-        | inl inside ↦ (let bad : true ≡ false = sym (any-of ns at 0 extent.blocks (omega (arith, from)) (omega (arith, inside))) ∙ out in cc)
-        | inr behind ↦ inr behind
-      ]
-    ]
-
--- ---- blocks of the guest's
-
-module _ (ns : Namespace) (at : ℕ) (away : (at < extent.base) ⊎ (extent.base + extent.blocks ≤ at)) (start count : ℕ) (own : AreOwn ns start count) where
-  -- a block outside of its range lies outside of them
-  own-apart : (at < start) ⊎ (start + count ≤ at)
-  own-apart = by away
-    where
-      by : (at < extent.base) ⊎ (extent.base + extent.blocks ≤ at) → (at < start) ⊎ (start + count ≤ at)
-      by (inl before) = (let from = own.from in inl (omega (arith, from, before)))
-      by (inr behind) = (let to = own.to in inr (omega (arith, to, behind)))
-
-  -- and is none of them
-  one-apart : (n : ℕ) → n < count → start + n ≢ at
-  one-apart n few same = by own-apart
-    where
-      by : (at < start) ⊎ (start + count ≤ at) → ⊥
-      by (inl before) = absurd (omega (arith, same, before))
-      by (inr behind) = absurd (omega (arith, same, few, behind))
+use Rattle.nv_laws_sound.proofs.Namespaces.{AreOwn, own-away}
+use Rattle.nv_laws_sound.proofs.OnDisk.{entry-own, range-elsewhere, range-own, unit-below}
 
 -- ---- a unit of a command in the device
 
@@ -106,20 +56,21 @@ module _ (host_bytes lanes : ℕ) (geometry : Geometry) (laid : IsLaidOut host_b
   pub below : number < form_unit_count (form_of is.work.opcode) entry
   below = unit-below host_bytes lanes geometry laid owner guest given entry plan is lane tag h host in_device number left
 
-  module _ (at : ℕ) (away : (at < guest.extent.base) ⊎ (guest.extent.base + guest.extent.blocks ≤ at)) where
+  module _ (at : ℕ) (away : in_extents guest.namespace at ≡ false) where
     -- the unit's block is the guest's, so it is no block elsewhere
     pub block-apart : has_blocks is.work.opcode ≡ true → number < count_of entry → slba_of h.entry + number ≢ at
-    block-apart has few =
-        one-apart guest.namespace at away (slba_of h.entry) (count_of entry)
-        (subst (λ e. AreOwn guest.namespace (slba_of e) (count_of entry)) (sym in_device.entry_is)
-        (entry-own host_bytes lanes geometry laid owner guest given entry plan is lane tag has)) number few
+    block-apart has few same =
+        let own = subst (λ e. AreOwn guest.namespace (slba_of e) (count_of entry)) (sym in_device.entry_is)
+        (entry-own host_bytes lanes geometry laid owner guest given entry plan is lane tag has) in
+        let bad : true ≡ false = sym (own number few) ∙ ap (in_extents guest.namespace) same ∙ away in cc
 
     -- and so is a range of a Dataset Management, as the disk has it
     pub range-apart : form_of is.work.opcode ≡ Manage
-        → (at < start_of (range_at number h.pieces host)) ⊎ (start_of (range_at number h.pieces host) + blocks_of (range_at number h.pieces host) ≤ at)
+        → (at < start_of (range_at number h.pieces host))
+        ⊎ (start_of (range_at number h.pieces host) + blocks_of (range_at number h.pieces host) ≤ at)
     range-apart form =
-        own-apart guest.namespace at away (start_of (range_at number h.pieces host)) (blocks_of (range_at number h.pieces host))
-        (range-own host_bytes lanes geometry laid owner guest given entry plan is lane tag h host in_device number left form)
+        own-away guest.namespace (start_of (range_at number h.pieces host)) (blocks_of (range_at number h.pieces host)) at
+        (range-own host_bytes lanes geometry laid owner guest given entry plan is lane tag h host in_device number left form) away
 
     -- a unit of a command of that form leaves the block
     form-stays : (form : Form) → form_of is.work.opcode ≡ form → (work : Work) (m : Moved) → m.memory ≡ host

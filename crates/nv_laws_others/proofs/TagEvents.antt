@@ -100,7 +100,8 @@ module _ (host_bytes : ℕ) (geometry : Geometry) (w : World) (laid : IsLaidOut 
   unfolding taken_to
   taken_to-leaves o addr queue lane tag l owns at found =
       let there : tag_of w lane tag ≡ Some Free = ap (λ x. tag_in x tag) at ∙ free-found l.tags tag found in
-      let new = Taken (record { guest = o.number; queue = queue; entry = bytes_from (image (regions_of o.given) w.host) addr sqe_size }) [] in
+      let entry = bytes_from (image (regions_of o.given) w.host) addr sqe_size in
+      let new = Taken (record { guest = o.number; queue = queue; entry = entry; leader = tag }) [] in
       retag-leaves (Some o.number) (taken_to addr queue lane tag o w) lane tag Free new there (λ l2 at2. ap (λ x. changed_at x lane (tag_changed tag new) w.lanes) at2) refl
       (λ number differ. refl) (λ number differ. ne_eqb o.number number (λ same. differ (ap (λ n. Some n) same)))
       (record {

@@ -21,7 +21,7 @@ use Rattle.nv_laws_sound.proofs.Walks.{device-walk, either, held-walk}
 use Rattle.nv_laws_others.specs.Leaving.{Leaves}
 use Rattle.nv_laws_others.proofs.Events.{leaves-nothing, leaves-tag, not-some}
 use Rattle.nv_laws_others.proofs.Leaving.{area-left, outside-area}
-use Rattle.nv_laws_others.proofs.MoveEvents.{outside-extent, unit-stays}
+use Rattle.nv_laws_others.proofs.MoveEvents.{unit-stays}
 use Rattle.nv_laws_others.proofs.Parts.{held-put, tag-apart}
 use Rattle.nv_laws_others.proofs.TagEvents.{of-tag}
 
@@ -46,8 +46,8 @@ module _ (host_bytes : ℕ) (geometry : Geometry) (w : World) (laid : IsLaidOut 
       let image_out : (x : ℕ) → in_image_of (given_to (Some whose) geometry) x ≡ false → guest_of (regions_of holds.guest) x ≡ None =
       λ x out. not-some (guest_of (regions_of holds.guest) x) (sym (ap (λ o. in_image_of o x) given) ∙ out) in
       let stays : (x : ℕ) → in_extents_of (given_to (Some whose) geometry) x ≡ false → _ =
-      λ x out. unit-stays host_bytes (length w.lanes) geometry laid whose holds.guest given holds.command.entry holds.plan holds.planned lane tag h w.host holds.in_device number left x
-      (outside-extent holds.guest.namespace x (sym (ap (λ o. in_extents_of o x) given) ∙ out)) tag_below w.disk w.kept in
+      λ x out. unit-stays host_bytes (length w.lanes) geometry laid whose holds.guest given holds.command.entry holds.plan holds.planned
+      lane tag h w.host holds.in_device number left x (sym (ap (λ o. in_extents_of o x) given) ∙ out) tag_below w.disk w.kept in
       of-tag host_bytes geometry w laid fine lane tag was whose _ (ap (λ x. tag_in x tag) at ∙ flies) refl
       (leaves-tag geometry (Some whose) w _ lane tag l l d now was was at there flies (sym (set-same l.tags tag was flies)) (sym (set-same w.lanes lane l at))
       (ap (λ o. changed_at o lane (with_held tag (Some (unit_gone number m.differed h))) w.device) there)
