@@ -38,7 +38,7 @@ impl Keyword {
 }
 
 /// Every first word of every subcommand.
-const VOCABULARY: [(&[u8], Keyword); 33] = [
+const VOCABULARY: [(&[u8], Keyword); 34] = [
     (b"memory", Keyword::Memory),
     (b"blocks", Keyword::Blocks),
     (b"store", Keyword::Store),
@@ -52,6 +52,7 @@ const VOCABULARY: [(&[u8], Keyword); 33] = [
     (b"disk", Keyword::Foreign(1)),
     (b"lanes", Keyword::Foreign(1)),
     (b"guest", Keyword::Foreign(6)),
+    (b"extent", Keyword::Foreign(3)),
     (b"map", Keyword::Foreign(4)),
     (b"descriptors", Keyword::Foreign(2)),
     (b"load", Keyword::Foreign(3)),
