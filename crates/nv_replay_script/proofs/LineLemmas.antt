@@ -89,5 +89,7 @@ pub script_by-finished : {P S T : Type 0} → (add : ByLine P) (finish : ℕ →
     → MatchResult r (λ script. finish n p ≡ Ok (value script)) (λ e. finish n p ≡ Err e)
     → MatchResult r (λ script. script_by add finish nothing text ≡ Ok (value script))
     (λ e. (e ≡ fault.NoMemory) ⊎ (script_by add finish nothing text ≡ Err e))
-script_by-finished add finish nothing value n p text left (Ok script) none count kept made = script_by-read add finish nothing n p text left none count kept ∙ made
-script_by-finished add finish nothing value n p text left (Err e) none count kept made = inr (script_by-read add finish nothing n p text left none count kept ∙ made)
+script_by-finished add finish nothing value n p text left (Ok script) none count kept made =
+    script_by-read add finish nothing n p text left none count kept ∙ made
+script_by-finished add finish nothing value n p text left (Err e) none count kept made =
+    inr (script_by-read add finish nothing n p text left none count kept ∙ made)

@@ -33,7 +33,8 @@ add_event-added p kind words sizes there = rw there (added-at (count_check (leng
 
 with_events-by : (x : Result (List Event) FaultKind) (p : Progress) (r : Result (Unit {0}) LineFault) (events : List Event)
     → MatchResult r (λ _. x ≡ Ok events) (Refuses x)
-    → MatchResult r (λ _. (x >>= λ es. Ok (record p { events = es })) ≡ Ok (record p { events = events })) (Refuses (x >>= λ es. Ok (record p { events = es })))
+    → MatchResult r (λ _. (x >>= λ es. Ok (record p { events = es })) ≡ Ok (record p { events = events }))
+    (Refuses (x >>= λ es. Ok (record p { events = es })))
 with_events-by x p (Ok u) events h = rw h refl
 with_events-by x p (Err (Faulty kind)) events h = rw h refl
 with_events-by x p (Err NoMemory) events h = h

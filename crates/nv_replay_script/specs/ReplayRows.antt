@@ -2,6 +2,7 @@
 use Rattle.std.specs.Prelude.{ℕ, List, [], ◌∷◌, ◌++◌, codes, Some, None, Result}
 use Rattle.nv_world_model.specs.declared.event.Event.{Event}
 use Rattle.nv_once_script.specs.declared.once.fault.ScriptFault.{ScriptFault}
+use Rattle.nv_replay_script.specs.declared.set_up.Extent.{Extent}
 use Rattle.nv_replay_script.specs.ReplayScript.{ScriptValue, script_of}
 use Rattle.nv_replay_script.specs.ReplaySetUp.{GuestValue}
 
@@ -31,7 +32,16 @@ behind_set_up lines = behind_sizes (guest_lines ++ lines)
 -- a guest with 20000h bytes of memory, which lie there in the host, and 64 blocks from this one on
 abbrev pub guest_at : (host base : ℕ) → GuestValue
 guest_at host base =
-    record { base = base; blocks = 64; heap = 65536; limit = None; regions = record { guest = 0; host = host; len = 0x20000 } ∷ [] }
+    record {
+      extents = record { base = base; blocks = 64 } ∷ [];
+      heap = 65536;
+      limit = None;
+      regions = record { guest = 0; host = host; len = 0x20000 } ∷ [];
+    }
+
+-- the same guest, with these extents behind its first
+abbrev pub extended_by : List Extent → GuestValue → GuestValue
+extended_by extents guest = record guest { extents = guest.extents ++ extents }
 
 -- the same guest, of whose lists a line named the most descriptors
 abbrev pub limited_to : ℕ → GuestValue → GuestValue

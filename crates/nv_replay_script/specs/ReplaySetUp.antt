@@ -1,5 +1,6 @@
--- The set-up of a script: four sizes, the guests in order, and the regions of each (profile)
-use Rattle.std.specs.Prelude.{ℕ, ◌==◌, ◌&&◌, nat_le, nat_lt, Bool, List, [], ◌∷◌, ◌++◌, codes, map, length, slice_set, slice_index_or, Option, Some, None, Result, Ok, Err, if◌then◌else◌}
+-- The set-up of a script: four sizes, the guests in order, and the extents and regions of each (profile)
+use Rattle.std.specs.Prelude.{ℕ, ◌==◌, ◌&&◌, nat_le, nat_lt, Bool, if◌then◌else◌, Option, Some, None, Result, Ok, Err}
+use Rattle.std.specs.Prelude.{List, [], ◌∷◌, ◌++◌, codes, map, length, slice_set, slice_index_or}
 use Rattle.std.specs.Str.{bytes_eq}
 use Rattle.nv_mem.specs.declared.region.Region.{Region}
 use Rattle.nv_once_script.specs.declared.once.fault.FaultKind.{FaultKind}
@@ -9,6 +10,7 @@ use Rattle.nv_once_script.specs.OnceNumber.{number_of, number_up_to}
 use Rattle.nv_once_script.specs.OnceScript.{first_time}
 use Rattle.nv_once_script.specs.OnceVocabulary.{count_check}
 use Rattle.nv_replay_script.specs.declared.open_set_up.OpenSetUp.{OpenSetUp}
+use Rattle.nv_replay_script.specs.declared.set_up.Extent.{Extent}
 use Rattle.nv_replay_script.specs.declared.set_up.GuestSetUp.{GuestSetUp}
 use Rattle.nv_replay_script.specs.declared.sizes.OpenSizes.{OpenSizes}
 use Rattle.nv_replay_script.specs.declared.sizes.Sizes.{Sizes}
@@ -55,11 +57,10 @@ sizes_in sizes = all_four sizes.host sizes.mediator sizes.disk sizes.lanes
 
 -- ---- guests
 
--- a guest: the range of its blocks, the bytes of its planner's heap, the most descriptors of a list where a line named them, and the
--- regions of its memory in order
+-- a guest: the extents of its namespace in order, the bytes of its planner's heap, the most descriptors of a list where a line named them,
+-- and the regions of its memory in order
 pub record GuestValue : Type 0 where
-  pub base : ℕ
-  pub blocks : ℕ
+  pub extents : List Extent
   pub heap : ℕ
   pub limit : Option ℕ
   pub regions : List Region
@@ -67,7 +68,7 @@ pub record GuestValue : Type 0 where
 -- the value of a guest that was read
 abbrev pub guest_value : GuestSetUp → GuestValue
 guest_value guest =
-    record { base = guest.base; blocks = guest.blocks; heap = guest.heap; limit = guest.limit; regions = guest.regions.items }
+    record { extents = guest.extents.items; heap = guest.heap; limit = guest.limit; regions = guest.regions.items }
 
 -- the fewest and most bytes of a planner's heap
 abbrev pub smallest_heap : ℕ
@@ -103,16 +104,22 @@ known_guest count word = do
   there ← in_place (nat_lt number count)
   Ok number
 
--- the guest that the words behind `guest` make, where there are so many guests
+-- the extent that these words make: any two numbers, which are judged with the set-up
+abbrev pub extent_of : (base blocks : List ℕ) → Result Extent FaultKind
+extent_of base blocks = do
+  b ← number_of base
+  n ← number_of blocks
+  Ok (record { base = b; blocks = n })
+
+-- the guest that the words behind `guest` make, where there are so many guests: they give its first extent
 abbrev pub guest_of : (count : ℕ) → List (List ℕ) → Result GuestValue FaultKind
 guest_of count (number ∷ range ∷ base ∷ blocks ∷ heap ∷ bytes ∷ []) = do
   next ← next_guest count number
   first ← fixed_word (codes "range") range
-  b ← number_of base
-  n ← number_of blocks
+  extent ← extent_of base blocks
   second ← fixed_word (codes "heap") heap
   h ← heap_bytes bytes
-  Ok (record { base = b; blocks = n; heap = h; limit = None; regions = [] })
+  Ok (record { extents = extent ∷ []; heap = h; limit = None; regions = [] })
 guest_of count words = Err OutOfPlace
 
 -- the region that these words make
@@ -139,7 +146,13 @@ no_set_up = record { sizes = no_sizes; guests = [] }
 
 -- a guest of which nothing was said
 abbrev pub no_guest : GuestValue
-no_guest = record { base = 0; blocks = 0; heap = 0; limit = None; regions = [] }
+no_guest = record { extents = []; heap = 0; limit = None; regions = [] }
+
+-- a guest behind a line that gives it an extent: that joins the others behind them
+abbrev pub extended : GuestValue → (base blocks : List ℕ) → Result GuestValue FaultKind
+extended guest base blocks = do
+  extent ← extent_of base blocks
+  Ok (record guest { extents = guest.extents ++ extent ∷ [] })
 
 -- the regions of one guest are one more
 abbrev pub with_region : List GuestValue → ℕ → Region → List GuestValue
@@ -165,6 +178,13 @@ add_guest so_far words = do
   guest ← guest_of (length so_far.guests) words
   Ok (record so_far { guests = so_far.guests ++ guest ∷ [] })
 
+-- what a line `extent` adds
+abbrev pub add_extent : SetUpSoFar → (number base blocks : List ℕ) → Result SetUpSoFar FaultKind
+add_extent so_far number base blocks = do
+  n ← known_guest (length so_far.guests) number
+  guest ← extended (slice_index_or so_far.guests n no_guest) base blocks
+  Ok (record so_far { guests = slice_set so_far.guests n guest })
+
 -- what a line `map` adds
 abbrev pub add_map : SetUpSoFar → (number guest host len : List ℕ) → Result SetUpSoFar FaultKind
 add_map so_far number guest host len = do
@@ -183,6 +203,7 @@ add_descriptors so_far number limit = do
 abbrev pub add_set_up : SetUpSoFar → SetUpKind → List (List ℕ) → Result SetUpSoFar FaultKind
 add_set_up so_far (kind.Size size) (word ∷ []) = add_size so_far size word
 add_set_up so_far kind.Guest words = add_guest so_far words
+add_set_up so_far kind.Extent (number ∷ base ∷ blocks ∷ []) = add_extent so_far number base blocks
 add_set_up so_far kind.Map (number ∷ guest ∷ host ∷ len ∷ []) = add_map so_far number guest host len
 add_set_up so_far kind.Descriptors (number ∷ limit ∷ []) = add_descriptors so_far number limit
 add_set_up so_far kind words = Err OutOfPlace

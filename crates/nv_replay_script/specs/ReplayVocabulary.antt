@@ -9,7 +9,7 @@ use Rattle.nv_replay_script.specs.declared.vocabulary.EventKind.TheVariants as k
 use Rattle.nv_replay_script.specs.declared.vocabulary.Size.TheVariants.{Host, Mediator, Disk, Lanes}
 use Rattle.nv_replay_script.specs.declared.vocabulary.Keyword.{Keyword}
 use Rattle.nv_replay_script.specs.declared.vocabulary.SetUpKind.{SetUpKind}
-use Rattle.nv_replay_script.specs.declared.vocabulary.SetUpKind.TheVariants.{Size, Guest, Map, Descriptors}
+use Rattle.nv_replay_script.specs.declared.vocabulary.SetUpKind.TheVariants.{Size, Guest, Extent, Map, Descriptors}
 use Rattle.nv_replay_script.specs.declared.vocabulary.Keyword.TheVariants.{SetUp, Event, Await, AwaitReg, Foreign}
 
 -- the first words, and the lines that they begin. A line of `once` keeps
@@ -24,7 +24,8 @@ vocabulary =
     ∷ (codes "admin", Event kind.Admin) ∷ (codes "fill", Event (kind.Act act.Fill)) ∷ (codes "giveup", Event kind.GiveUp)
     ∷ (codes "devfail", Event kind.DevFail) ∷ (codes "keep", Event kind.Keep) ∷ (codes "host", SetUp (Size Host))
     ∷ (codes "mediator", SetUp (Size Mediator)) ∷ (codes "disk", SetUp (Size Disk)) ∷ (codes "lanes", SetUp (Size Lanes))
-    ∷ (codes "guest", SetUp Guest) ∷ (codes "map", SetUp Map) ∷ (codes "descriptors", SetUp Descriptors)
+    ∷ (codes "guest", SetUp Guest) ∷ (codes "extent", SetUp Extent) ∷ (codes "map", SetUp Map)
+    ∷ (codes "descriptors", SetUp Descriptors)
     ∷ (codes "await", Await) ∷ (codes "awaitreg", AwaitReg)
     ∷ (codes "memory", Foreign 1) ∷ (codes "blocks", Foreign 1) ∷ (codes "paint", Foreign 2)
     ∷ (codes "cmd", Foreign 1) ∷ (codes "dump", Foreign 2) ∷ (codes "block", Foreign 1)
@@ -63,6 +64,7 @@ event_arguments kind.Post = 2
 abbrev pub set_up_arguments : SetUpKind → ℕ
 set_up_arguments (Size size) = 1
 set_up_arguments Guest = 6
+set_up_arguments Extent = 3
 set_up_arguments Map = 4
 set_up_arguments Descriptors = 2
 

@@ -3,7 +3,8 @@
 //!
 //! A text is read whole, before anything of it runs. What it says is `specs/ReplayScript`, by `specs/ReplayVocabulary`,
 //! `specs/ReplaySetUp`, `specs/ReplayEvents` and `specs/ReplayLines`, over the words, numbers and faults of `nv_once_script`; [`parse`] gives
-//! exactly that, or that memory was refused. Neither the sizes nor the maps are judged here, and an event may name a guest that there is not.
+//! exactly that, or that memory was refused. Neither the sizes nor the extents and maps are judged here, and an event may name a guest that there
+//! is not.
 #![tactic(auto)]
 
 pub mod act;
@@ -18,5 +19,5 @@ pub mod sizes;
 pub mod vocabulary;
 
 pub use script::{Script, parse};
-pub use set_up::GuestSetUp;
+pub use set_up::{Extent, GuestSetUp};
 pub use sizes::Sizes;

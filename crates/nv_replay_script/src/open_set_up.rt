@@ -25,7 +25,8 @@ pub struct OpenSetUp {
 }
 
 impl OpenSetUp {
-    ghost use Rattle.nv_replay_script.specs.ReplaySetUp.{add_descriptors, add_guest, add_map, add_size, counted_set_up, no_set_up, set_up_so_far};
+    ghost use Rattle.nv_replay_script.specs.ReplaySetUp.{add_descriptors, add_extent, add_guest, add_map, add_size};
+    ghost use Rattle.nv_replay_script.specs.ReplaySetUp.{counted_set_up, no_set_up, set_up_so_far};
 
     /// Before the first line.
     pub fn new(alloc: Global) -> Self
@@ -60,6 +61,11 @@ impl OpenSetUp {
                 check_early(is_early)?;
                 self.add_guest(alloc, words)
             }
+            SetUpKind::Extent => {
+                let (number, base, blocks) = words.three()?;
+                check_early(is_early)?;
+                self.add_extent(number, base, blocks)
+            }
             SetUpKind::Map => {
                 let (number, guest, host, len) = words.four()?;
                 check_early(is_early)?;
@@ -91,6 +97,20 @@ impl OpenSetUp {
         let guest = make_guest(alloc, self.guests.len(), words)?;
         self.guests.push(guest)?;
         Ok(())
+    }
+
+    // Adds the extent of a line `extent`.
+    fn add_extent(
+        &mut self,
+        number: Word<'_>,
+        base: Word<'_>,
+        blocks: Word<'_>,
+    ) -> Result<(), LineFault>
+        ensures { let after = add_extent (set_up_so_far self.old) number.entry base.entry blocks.entry
+            in MatchResult result (λ _. after ≡ Ok (set_up_so_far self.new)) (Refuses after) }
+    {
+        let number = known(self.guests.len(), number)?;
+        self.guests[number].add_extent(base, blocks)
     }
 
     // Adds the region of a line `map`.

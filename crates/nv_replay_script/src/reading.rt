@@ -101,7 +101,8 @@ impl Reading {
 
     /// The script whose last line is this one.
     pub fn finish(self, last: u64) -> Result<Script, ScriptFault>
-        ensures { MatchResult result (λ script. finished last (progress self) ≡ Ok (script_value script)) (λ fault. finished last (progress self) ≡ Err fault) }
+        ensures { MatchResult result (λ script. finished last (progress self) ≡ Ok (script_value script))
+            (λ fault. finished last (progress self) ≡ Err fault) }
     {
         match self.set_up.sizes.whole() {
             Some(sizes) => Ok(Script {

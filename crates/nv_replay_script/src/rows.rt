@@ -6,7 +6,7 @@ ghost use Rattle.nv_model.specs.declared.act.Act.TheVariants as act;
 ghost use Rattle.nv_world_model.specs.declared.event.Event.TheVariants as event;
 ghost use Rattle.nv_once_script.specs.declared.once.fault.FaultKind.TheVariants.{BadBytes, BadNumber, MissingWord, OutOfPlace, UnknownWord};
 ghost use Rattle.nv_once_script.specs.declared.once.fault.ScriptFault.TheVariants.{Line};
-ghost use Rattle.nv_replay_script.specs.ReplayRows.{behind_set_up, behind_sizes, guest_at, limited_to, of_events, sized};
+ghost use Rattle.nv_replay_script.specs.ReplayRows.{behind_set_up, behind_sizes, extended_by, guest_at, limited_to, of_events, sized};
 ghost use Rattle.nv_replay_script.specs.ReplayScript.{script_of};
 
 /// The examples of this module, a clause each.
@@ -30,8 +30,19 @@ pub fn examples()
     ensures a_guest_too_far { behind_set_up (codes "guest 3 range zz 1 heap 256" ∷ []) ≡ Err (Line 9 OutOfPlace) }
     // A region of a guest that is not there yet.
     ensures a_map_too_early { behind_set_up (codes "map 2 zz 0 4096" ∷ []) ≡ Err (Line 9 OutOfPlace) }
+    // Two extents behind a guest's first, in the order written: they are judged with the set-up.
+    ensures extents { behind_set_up (codes "extent 1 0xffffffffffffffff 1" ∷ codes "extent 1 2000 0" ∷ []) ≡ Ok (sized
+        (guest_at 0x100000 1000
+        ∷ extended_by (record { base = 0xffffffffffffffff; blocks = 1 } ∷ record { base = 2000; blocks = 0 } ∷ []) (guest_at 0x200000 2000) ∷ []) []) }
+    // One of a guest that is not there yet, and one behind an event.
+    ensures an_extent_too_early { behind_set_up (codes "extent 2 zz 8" ∷ []) ≡ Err (Line 9 OutOfPlace) }
+    ensures a_late_extent { behind_set_up (codes "reap 0" ∷ codes "extent 0 zz 8" ∷ []) ≡ Err (Line 10 OutOfPlace) }
+    // A word that is no number, and one that is missing.
+    ensures an_extent_of_letters { behind_set_up (codes "extent 0 3000 zz" ∷ []) ≡ Err (Line 9 BadNumber) }
+    ensures an_extent_cut_short { behind_set_up (codes "extent 2 zz" ∷ []) ≡ Err (Line 9 MissingWord) }
     // A limit on the descriptors of a list, which is judged with the set-up.
-    ensures a_limit { behind_set_up (codes "descriptors 1 5000" ∷ []) ≡ Ok (sized (guest_at 0x100000 1000 ∷ limited_to 5000 (guest_at 0x200000 2000) ∷ []) []) }
+    ensures a_limit { behind_set_up (codes "descriptors 1 5000" ∷ [])
+        ≡ Ok (sized (guest_at 0x100000 1000 ∷ limited_to 5000 (guest_at 0x200000 2000) ∷ []) []) }
     // A second one for a guest.
     ensures a_second_limit { behind_set_up (codes "descriptors 0 1" ∷ codes "descriptors 0 zz" ∷ []) ≡ Err (Line 10 OutOfPlace) }
     // One of a guest that is not there yet, and one behind an event.
@@ -50,8 +61,8 @@ pub fn examples()
     // A line of `run`.
     ensures a_foreign_line { behind_set_up (codes "await 0 0 0" ∷ []) ≡ Err (Line 9 OutOfPlace) }
     // Bytes, as digits and as a number of equal ones, of a guest that there is and one that there is not.
-    ensures stores { behind_set_up (codes "store 0 0x3000 abCD" ∷ codes "fill 9 1 2 0xff" ∷ [])
-        ≡ Ok (of_events (event.Guest 0 (act.Store 0x3000 (0xab ∷ 0xcd ∷ [])) ∷ event.Guest 9 (act.Store 1 (0xff ∷ 0xff ∷ [])) ∷ [])) }
+    ensures stores { behind_set_up (codes "store 0 0x3000 abCD" ∷ codes "fill 9 1 2 0xff" ∷ []) ≡ Ok (of_events
+        (event.Guest 0 (act.Store 0x3000 (0xab ∷ 0xcd ∷ [])) ∷ event.Guest 9 (act.Store 1 (0xff ∷ 0xff ∷ [])) ∷ [])) }
     // A doorbell's value has 32 bits.
     ensures a_doorbell { behind_set_up (codes "bell 0 0x1000 0xffffffff" ∷ []) ≡ Ok (of_events (event.Guest 0 (act.Doorbell 0x1000 0xffffffff) ∷ [])) }
     // One more has not.

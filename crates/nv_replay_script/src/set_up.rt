@@ -1,21 +1,30 @@
 //! The guests of the set-up.
 ghost use Rattle.std.specs.Prelude.{◌≡◌, length, MatchResult};
-ghost use Rattle.nv_replay_script.specs.ReplaySetUp.{fixed_word, guest_of, guest_value, heap_bytes, known_guest, next_guest, region_of};
+ghost use Rattle.nv_once_script.specs.OnceFault.{Refuses};
+ghost use Rattle.nv_replay_script.specs.ReplaySetUp.{extent_of, fixed_word, guest_of, guest_value, heap_bytes, known_guest, next_guest, region_of};
 
 use nv_mem::Region;
 use nv_once_script::FaultKind;
+use nv_once_script::once::fault::LineFault;
 use nv_once_script::once::number::{byte, number};
 use nv_once_script::once::word::Word;
 use nv_once_script::once::words::Words;
 use std::alloc::Global;
 
+/// A range of the disk's blocks, as a line writes it: any two numbers, which are judged with the set-up.
+#[derive(Clone, Copy, Debug, PartialEq, Eq)]
+pub struct Extent {
+    /// the block of the disk at which it begins
+    pub base: u64,
+    /// how many blocks it has
+    pub blocks: u64,
+}
+
 /// A guest of a set-up, as its lines write it.
 #[derive(Debug, PartialEq, Eq, Drop)]
 pub struct GuestSetUp {
-    /// the block of the disk at which its range begins
-    pub base: u64,
-    /// how many blocks its range has
-    pub blocks: u64,
+    /// the extents of its namespace, in the order written, of which its own line gives the first
+    pub extents: Vec<Extent>,
     /// how many bytes its planner's heap has, 256 to 16,777,216
     pub heap: u64,
     /// the most descriptors of a list, where a line named them: any number, which is judged with the set-up
@@ -76,25 +85,25 @@ pub fn known(count: usize, word: Word<'_>) -> Result<usize, FaultKind>
     }
 }
 
-/// Makes the guest of the words behind `guest`, where there are `count` guests. It has no regions.
+/// Makes the guest of the words behind `guest`, where there are `count` guests. It has one extent and no regions.
 pub fn make_guest(
     alloc: Global,
     count: usize,
     mut words: Words<'_>,
-) -> Result<GuestSetUp, FaultKind>
+) -> Result<GuestSetUp, LineFault>
     requires { length words ≡ 6 }
     ensures { let guest = guest_of count words.entry
-        in MatchResult result (λ made. guest ≡ Ok (guest_value made)) (λ kind. guest ≡ Err kind) }
+        in MatchResult result (λ made. guest ≡ Ok (guest_value made)) (Refuses guest) }
 {
     next(count, words.next_word())?;
     fixed(words.next_word(), b"range")?;
-    let base = number(words.next_word())?;
-    let blocks = number(words.next_word())?;
+    let extent = make_extent(words.next_word(), words.next_word())?;
     fixed(words.next_word(), b"heap")?;
     let heap = heap(words.next_word())?;
+    let mut extents = Vec::new(alloc);
+    extents.push(extent)?;
     Ok(GuestSetUp {
-        base,
-        blocks,
+        extents,
         heap,
         limit: None,
         regions: Vec::new(alloc),
@@ -102,9 +111,19 @@ pub fn make_guest(
 }
 
 impl GuestSetUp {
-    ghost use Rattle.std.specs.Prelude.{Ok, Some, IfOk};
     ghost use Rattle.nv_once_script.specs.OnceScript.{first_time};
     ghost use Rattle.nv_once_script.specs.OnceNumber.{number_of};
+    ghost use Rattle.nv_replay_script.specs.ReplaySetUp.{extended};
+
+    /// Adds the extent that a line names by these words, behind the others.
+    pub fn add_extent(&mut self, base: Word<'_>, blocks: Word<'_>) -> Result<(), LineFault>
+        ensures { let after = extended (guest_value self.old) base.entry blocks.entry
+            in MatchResult result (λ _. after ≡ Ok (guest_value self.new)) (Refuses after) }
+    {
+        let extent = make_extent(base, blocks)?;
+        self.extents.push(extent)?;
+        Ok(())
+    }
 
     /// The limit on descriptors that a line names by this word: the guest has none yet, or the line is out of place.
     pub fn first_limit(&self, word: Word<'_>) -> Result<u64, FaultKind>
@@ -115,6 +134,15 @@ impl GuestSetUp {
         }
         number(word)
     }
+}
+
+// Makes an extent of its two words.
+fn make_extent(base: Word<'_>, blocks: Word<'_>) -> Result<Extent, FaultKind>
+    ensures { result ≡ extent_of base.entry blocks.entry }
+{
+    let base = number(base)?;
+    let blocks = number(blocks)?;
+    Ok(Extent { base, blocks })
 }
 
 /// Makes a region of its three words.

@@ -82,6 +82,7 @@ impl EventKind {
 pub enum SetUpKind {
     Size(Size),
     Guest,
+    Extent,
     Map,
     Descriptors,
 }
@@ -103,7 +104,7 @@ pub enum Keyword {
 pub const AWAIT_ARGUMENTS: usize = 3;
 
 /// Every first word of every subcommand.
-const VOCABULARY: [(&[u8], Keyword); 33] = [
+const VOCABULARY: [(&[u8], Keyword); 34] = [
     (b"devmove", Keyword::Event(EventKind::DevMove)),
     (b"devtake", Keyword::Event(EventKind::DevTake)),
     (b"devpost", Keyword::Event(EventKind::DevPost)),
@@ -130,6 +131,7 @@ const VOCABULARY: [(&[u8], Keyword); 33] = [
     (b"disk", Keyword::SetUp(SetUpKind::Size(Size::Disk))),
     (b"lanes", Keyword::SetUp(SetUpKind::Size(Size::Lanes))),
     (b"guest", Keyword::SetUp(SetUpKind::Guest)),
+    (b"extent", Keyword::SetUp(SetUpKind::Extent)),
     (b"map", Keyword::SetUp(SetUpKind::Map)),
     (b"descriptors", Keyword::SetUp(SetUpKind::Descriptors)),
     (b"await", Keyword::Await),

@@ -106,3 +106,23 @@ returns-clause-a_late_limit c = refl
 pub returns-clause-a_limit_of_letters : goal.returns-clause-a_limit_of_letters
 unfolding script_of script_by lines_of without_last_feed words_of words_in after_lines after_words keyword_of vocabulary number_of written spelled decode_pairs
 returns-clause-a_limit_of_letters c = refl
+
+pub returns-clause-extents : goal.returns-clause-extents
+unfolding script_of script_by lines_of without_last_feed words_of words_in after_lines after_words keyword_of vocabulary number_of written spelled decode_pairs
+returns-clause-extents c = refl
+
+pub returns-clause-an_extent_too_early : goal.returns-clause-an_extent_too_early
+unfolding script_of script_by lines_of without_last_feed words_of words_in after_lines after_words keyword_of vocabulary number_of written spelled decode_pairs
+returns-clause-an_extent_too_early c = refl
+
+pub returns-clause-a_late_extent : goal.returns-clause-a_late_extent
+unfolding script_of script_by lines_of without_last_feed words_of words_in after_lines after_words keyword_of vocabulary number_of written spelled decode_pairs
+returns-clause-a_late_extent c = refl
+
+pub returns-clause-an_extent_of_letters : goal.returns-clause-an_extent_of_letters
+unfolding script_of script_by lines_of without_last_feed words_of words_in after_lines after_words keyword_of vocabulary number_of written spelled decode_pairs
+returns-clause-an_extent_of_letters c = refl
+
+pub returns-clause-an_extent_cut_short : goal.returns-clause-an_extent_cut_short
+unfolding script_of script_by lines_of without_last_feed words_of words_in after_lines after_words keyword_of vocabulary number_of written spelled decode_pairs
+returns-clause-an_extent_cut_short c = refl

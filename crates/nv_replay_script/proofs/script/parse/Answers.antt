@@ -26,12 +26,13 @@ loop-line-preserved c =
     record {
       count = omega arith;
       kept = sym (ap (after_lines after_line (c.loop-line.number + 1) (progress c.loop-line.reading)) c.in-Some.ensures.steps
-          ∙ after_lines-read after_line (c.loop-line.number + 1) (progress c.loop-line.reading) (progress c.read.new.self) c.in-Some.line.now c.next.new.self c.in_default-read.ensures)
+          ∙ after_lines-read after_line (c.loop-line.number + 1) (progress c.loop-line.reading) (progress c.read.new.self)
+          c.in-Some.line.now c.next.new.self c.in_default-read.ensures)
           ∙ c.loop-line.invariant.kept;
     }
 
 pub returns : goal.returns
 unfolding script_of
 returns c =
-    script_by-finished after_line finished nothing script_value c.loop-line.number (progress c.loop-line.reading) c.args.text.now c.loop-line.lines c.finish.result
-    c.in_default.ensures.steps.0 c.loop-line.invariant.count c.loop-line.invariant.kept c.finish.ensures
+    script_by-finished after_line finished nothing script_value c.loop-line.number (progress c.loop-line.reading) c.args.text.now
+    c.loop-line.lines c.finish.result c.in_default.ensures.steps.0 c.loop-line.invariant.count c.loop-line.invariant.kept c.finish.ensures

@@ -8,7 +8,7 @@ pub returns : goal.returns
 returns c =
     let guest = c.index_mut.result.now in
     let count : vec_len c.args.self.now.guests ≡ length c.args.self.now.guests.items = search rules in
-    let value : List Region → GuestValue = λ regions. record { base = guest.base; blocks = guest.blocks; heap = guest.heap; limit = guest.limit; regions = regions } in
+    let value : List Region → GuestValue = λ regions. record { extents = guest.extents.items; heap = guest.heap; limit = guest.limit; regions = regions } in
     add_map-read (set_up_so_far c.args.self.now) c.args.number c.args.guest c.args.host c.args.len c.in_ok-number.number c.in_ok-region.region
     c.args.self.now.guests.items guest _ refl
     (ap (λ (n : ℕ). known_guest n c.args.number) (sym (c.len.ensures ∙ count)) ∙ sym c.known.ensures ∙ c.in_ok-number.was)

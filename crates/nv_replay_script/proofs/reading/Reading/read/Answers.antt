@@ -11,4 +11,5 @@ pub returns-in-Some : goal.returns-in-Some
 returns-in-Some c =
     let (first, words, keyword) = c.in-Some.ensures in
     let known = ap (λ (o : Option Keyword). ok_or o UnknownWord) keyword in
-    rw (after_words-known (after_keyword (progress c.args.self.now)) (progress c.args.self.now) (words_of c.args.line.now) first _ _ words known) (rw c.of.ensures at c.add.ensures)
+    rw (after_words-known (after_keyword (progress c.args.self.now)) (progress c.args.self.now) (words_of c.args.line.now) first _ _ words known)
+    (rw c.of.ensures at c.add.ensures)
