@@ -1,6 +1,7 @@
 -- Units of a guest's commands that move, in worlds that look alike to it: they look alike behind them. What a unit reads is the guest's memory or a source that is
 -- shown, or blocks of the guest's; a unit of a bounced Read is shown once it has moved.
-use Rattle.std.proofs.Common.{◌≡◌, ℕ, ◌+◌, ◌-◌, ◌*◌, ◌<◌, ◌≤◌, ◌⊎◌, inl, inr, true, false, cond, ◌==◌, [], ◌∷◌, All, drop, length, map, set, slice_get, take}
+use Rattle.std.proofs.Common.{◌≡◌, ℕ, ◌+◌, ◌-◌, ◌*◌, ◌<◌, ◌≤◌, ◌⊎◌, inl, inr, true, false, cond, ◌==◌, []}
+use Rattle.std.proofs.Common.{◌∷◌, All, drop, length, map, set, slice_get, take}
 use Rattle.std.proofs.Common.{Some, arith, refl, sym, ap, ◌∙◌, eq-eqb, subst}
 use mathlib.Core.Path.{fun_ext}
 use Rattle.std.specs.List.{list_any, range_with_len}

@@ -33,7 +33,10 @@ use Rattle.nv_world_model.specs.Device.{DeviceLane, Held, held_status}
 use Rattle.nv_world_model.specs.Geometry.{Geometry, Guest, regions_of, shape_of}
 use Rattle.nv_world_model.specs.Plan.{Answer, Bounced, Direct, NoData, Plan, plan_over}
 use Rattle.nv_world_model.specs.Seat.{Owner, member_of, name_of, owner_of, put_back, seat}
-use Rattle.nv_world_model.specs.Step.{acted_by, acted_in, administered_by, administered_in, carry_out, completion_read, delivered, device_fail, device_move, device_moved, device_post, device_posted, device_take, device_took, ended_at, ended_at_once, free_tag, is_io_queue, is_success, kept_block, list_at, listed, post_at, post_by, posted_to, ran_out_of, reap, reaped, scattered_to, standing_at, step, submit_by, submitted, take_from, take_front, take_tag, taken_to}
+use Rattle.nv_world_model.specs.Step.{acted_by, acted_in, administered_by, administered_in, carry_out, completion_read, delivered, device_fail}
+use Rattle.nv_world_model.specs.Step.{device_move, device_moved, device_post, device_posted, device_take, device_took, ended_at, ended_at_once}
+use Rattle.nv_world_model.specs.Step.{free_tag, is_io_queue, is_success, kept_block, list_at, listed, post_at, post_by, posted_to, ran_out_of, reap}
+use Rattle.nv_world_model.specs.Step.{reaped, scattered_to, standing_at, step, submit_by, submitted, take_from, take_front, take_tag, taken_to}
 use Rattle.nv_world_model.specs.World.{Command, Ended, Flying, Free, Lane, Standing, Tag, Taken, World, changed_at, tag_changed, tag_in, tag_of, with_lane, with_tag}
 use Rattle.nv_world_model.proofs.FreeTags.{free_tag-lowest}
 use Rattle.nv_world_model.proofs.Seats.{IsOwner, owner_of-is, owner_of-number, slice_get-set, slice_get-set-other}

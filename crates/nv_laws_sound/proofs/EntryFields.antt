@@ -1,5 +1,6 @@
 -- What is read back of a physical entry.
-use Rattle.std.proofs.Common.{◌≡◌, ℕ, zero, suc, ◌+◌, ◌*◌, ◌/◌, ◌%◌, ◌^◌, ◌<◌, Bool, true, false, List, [], ◌∷◌, ◌++◌, slice_get, Some, arith, refl, ap, ◌∙◌, mod-lt}
+use Rattle.std.proofs.Common.{◌≡◌, ℕ, zero, suc, ◌+◌, ◌*◌, ◌/◌, ◌%◌, ◌^◌, ◌<◌, Bool, true, false, List, [], ◌∷◌}
+use Rattle.std.proofs.Common.{◌++◌, slice_get, Some, arith, refl, ap, ◌∙◌, mod-lt}
 use Rattle.nv_entry.specs.Dwords.{dword-bytes_of_dwords_suc, dword-bytes_of_dwords_zero, halves}
 use Rattle.nv_entry.specs.Layout.{bits, bytes_of_dwords, dword, number_at, qword}
 use Rattle.nv_entry.specs.Status.{bit}

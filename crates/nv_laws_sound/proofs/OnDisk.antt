@@ -1,5 +1,6 @@
 -- The blocks that a physical command names on the disk, itself or in its ranges, are its guest's.
-use Rattle.std.proofs.Common.{◌≡◌, ℕ, zero, suc, ◌+◌, ◌-◌, ◌*◌, ◌^◌, ◌<◌, ◌≤◌, ◌⊎◌, inl, inr, Bool, true, false, ◌||◌, ◌==◌, nat_le, List, [], ◌∷◌, All, drop}
+use Rattle.std.proofs.Common.{◌≡◌, ℕ, zero, suc, ◌+◌, ◌-◌, ◌*◌, ◌^◌, ◌<◌, ◌≤◌, ◌⊎◌, inl, inr, Bool, true}
+use Rattle.std.proofs.Common.{false, ◌||◌, ◌==◌, nat_le, List, [], ◌∷◌, All, drop}
 use Rattle.std.proofs.Common.{flat_map, length, map, slice_get, take, Some, arith, refl, sym, ap, ◌∙◌, eqb-true, leb-true, subst}
 use Rattle.std.specs.List.{list_any, range_with_len}
 use Rattle.std.proofs.lemmas.List.{drop-map}
