@@ -25,10 +25,10 @@ use Rattle.nv_laws_sound.specs.Consistent.{IsPlanned}
 use Rattle.nv_laws_sound.proofs.Lists.{slice_get-below, slice_get-there}
 use Rattle.nv_laws_sound.proofs.MoveEvents.{held-flies}
 use Rattle.nv_laws_sound.proofs.Named.{row-all}
+use Rattle.nv_laws_sound.proofs.Namespaces.{place-disk}
 use Rattle.nv_laws_sound.proofs.PlanSizes.{planned-kinds}
 use Rattle.nv_laws_others.proofs.Every.{each-leaves, each-leaves-others}
 use Rattle.nv_laws_others.proofs.Leaving.{extent-apart}
-use Rattle.nv_laws_others.proofs.MoveEvents.{outside-extent}
 use Rattle.nv_laws_related.specs.Following.{GoesAlong, IsReached}
 use Rattle.nv_laws_related.specs.Related.{Related}
 use Rattle.nv_laws_related.proofs.Keeping.{any-filter, keep-run, keep_all, keep_all-is, row-any}
@@ -185,7 +185,8 @@ module _ (host_bytes : ℕ) (geometry : Geometry) (number : ℕ) (guest : Guest)
   keeps-goes block =
       either-way P w (λ r dull left. dull-goes geometry number guest (event.Keep block) w p refl related r dull) (nat_le (block + 1) geometry.disk_blocks) _ _
       (λ there left.
-      keep-goes geometry number guest (event.Keep block) w p refl lbas (kept_block block w) (filter-all (λ lba. lba < blocks_in guest.namespace) (λ lba. place_in guest.namespace lba == block) (range_with_len 0 (blocks_in guest.namespace)) all_below) refl
+      keep-goes geometry number guest (event.Keep block) w p refl lbas (kept_block block w)
+      (filter-all (λ lba. lba < blocks_in guest.namespace) (λ lba. place_in guest.namespace lba == block) (range_with_len 0 (blocks_in guest.namespace)) all_below) refl
       (view-related geometry number guest w (kept_block block w) reached.consistent left p (keep_all lbas p.kept) related
       (λ lba below.
       kept-there lbas (kept_block block w) lba (place_in guest.namespace lba == block) below
@@ -251,7 +252,6 @@ module _ (host_bytes : ℕ) (geometry : Geometry) (number : ℕ) (guest : Guest)
       let differ : (Some whose ≡ Some number → ⊥) = λ same. apart (ap guest_of_one is ∙ same) in
       let all = keeps_all (form_of holds.planned.work.opcode) in
       let z = device_moved geometry.disk_blocks lane tag unit h w in
-      let on_disk = (reached.laid.given number guest given).on_disk in
       keep-goes geometry number guest (event.DevMove lane tag unit) w p refl (kept_by all) z (kept_by-below all)
       (ap (λ b. cond b (own_moves (work_in (tag_of w lane tag)) (name_of lane tag) unit) (others_moves (work_in (tag_of w lane tag)) guest.namespace)) (not-own number (tag_of w lane tag) apart)
       ∙ ap (λ o. others_moves (work_in o) guest.namespace) is
@@ -260,10 +260,12 @@ module _ (host_bytes : ℕ) (geometry : Geometry) (number : ℕ) (guest : Guest)
       (λ lba below.
       let out = extent-apart host_bytes geometry (length w.lanes) reached.laid (Some whose) number guest lba given differ below in
       kept-there (kept_by all) z lba all below (kept_by-any all lba below)
-      (unit-marks host_bytes (length w.lanes) geometry reached.laid whose holds.guest holds.is.given holds.command.entry holds.plan holds.planned lane tag h w.host holds.in_device unit left_one
-      (place_in guest.namespace lba) (outside-extent holds.guest.namespace (place_in guest.namespace lba) (sym (ap (λ o. in_extents_of o (place_in guest.namespace lba)) holds.is.given) ∙ out))
+      (unit-marks host_bytes (length w.lanes) geometry reached.laid whose holds.guest holds.is.given holds.command.entry holds.plan holds.planned lane tag h w.host
+      holds.in_device unit left_one
+      (place_in guest.namespace lba) (sym (ap (λ o. in_extents_of o (place_in guest.namespace lba)) holds.is.given) ∙ out)
       tag_below w.disk w.kept
-      ∙ moved-mark all (w.kept (place_in guest.namespace lba)) (place_in guest.namespace lba) (omega (arith, on_disk, below)))))
+      ∙ moved-mark all (w.kept (place_in guest.namespace lba)) (place_in guest.namespace lba)
+      (place-disk host_bytes geometry.disk_blocks guest (reached.laid.given number guest given) lba below))))
 
   moves-goes : (lane slot unit : ℕ) → (guest_of_one (tag_of w lane slot) ≡ Some number → ⊥)
       → GoesAlong geometry number guest (event.DevMove lane slot unit) w p (step geometry (event.DevMove lane slot unit) w)

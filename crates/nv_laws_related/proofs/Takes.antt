@@ -1,5 +1,6 @@
 -- The private controller of a guest goes along where a command of it is taken.
-use Rattle.std.proofs.Common.{◌≡◌, ℕ, ◌+◌, true, cond, ◌&&◌, ◌==◌, nat_le, List, [], slice_get, Option, Some, None, is_none, arith, refl, sym, ap, ◌∙◌, eq-eqb, leb-true, subst}
+use Rattle.std.proofs.Common.{◌≡◌, ℕ, ◌+◌, true, cond, ◌&&◌, ◌==◌, nat_le, List, []}
+use Rattle.std.proofs.Common.{slice_get, Option, Some, None, is_none, arith, refl, sym, ap, ◌∙◌, eq-eqb, leb-true, subst}
 use Rattle.std.proofs.lemmas.Bool.{lt-ltb}
 use Rattle.std.proofs.lemmas.List.Elements.{All-nil}
 use Rattle.nv_mem.specs.GuestMap.{mapped}
@@ -77,7 +78,7 @@ module _ (host_bytes : ℕ) (geometry : Geometry) (number : ℕ) (guest : Guest)
       member entry = record { queue = queue; entry = entry; progress = Unjudged }
 
       abbrev new : Tag
-      new = Taken (record { guest = number; queue = queue; entry = bytes_from mine addr sqe_size }) []
+      new = Taken (record { guest = number; queue = queue; entry = bytes_from mine addr sqe_size; leader = tag }) []
 
       there : tag_of w lane tag ≡ Some Free
       there = ap (λ x. tag_in x tag) at ∙ free-found l.tags tag lowest

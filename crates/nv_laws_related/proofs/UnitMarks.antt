@@ -1,11 +1,13 @@
 -- What a unit of a command does to the marks of other guests' blocks: nothing, but that a Flush makes them all kept.
-use Rattle.std.proofs.Common.{◌≡◌, ℕ, ◌+◌, ◌<◌, ◌≤◌, ◌⊎◌, Bool, true, cond, ◌&&◌, ◌||◌, ◌==◌, nat_lt, List, [], ◌∷◌, All, slice_get, Some, refl, sym, ap, ◌∙◌, subst}
+use Rattle.std.proofs.Common.{◌≡◌, ℕ, ◌+◌, ◌<◌, Bool, true, false, cond, ◌&&◌, ◌||◌, ◌==◌, nat_lt, List, [], ◌∷◌, All}
+use Rattle.std.proofs.Common.{slice_get, Some, refl, sym, ap, ◌∙◌, subst}
 use Rattle.std.specs.List.{list_any}
 use Rattle.std.proofs.lemmas.List.Elements.{All-cons, All-nil}
 use Rattle.nv_entry.specs.Submission.{slba_of}
 use Rattle.nv_model.proofs.UnitsElsewhere.{units-elsewhere}
 use Rattle.nv_model.specs.Carried.{block_work, units_moved}
-use Rattle.nv_model.specs.Judge.{Clear, ClearBlock, Form, Keep, Manage, MoveBlock, Transfer, Work, count_of, deallocates, form_has_blocks, form_of, has_blocks, is_fua, one_range_units, range_count_of}
+use Rattle.nv_model.specs.Judge.{Clear, ClearBlock, Form, Keep, Manage, MoveBlock, Transfer, Work}
+use Rattle.nv_model.specs.Judge.{count_of, deallocates, form_has_blocks, form_of, has_blocks, is_fua, one_range_units, range_count_of}
 use Rattle.nv_model.specs.Laws.{IsElsewhere}
 use Rattle.nv_model.specs.Private.{Moved}
 use Rattle.nv_world_model.specs.Area.{tag_count}
@@ -13,6 +15,7 @@ use Rattle.nv_world_model.specs.Device.{Held, device_unit, form_moves, form_unit
 use Rattle.nv_world_model.specs.Geometry.{Geometry, Guest}
 use Rattle.nv_world_model.specs.Plan.{Plan}
 use Rattle.nv_world_model.specs.PrivateSteps.{keeps_all}
+use Rattle.nv_world_model.specs.View.{in_extents}
 use Rattle.nv_laws_sound.specs.Consistent.{IsInDevice, IsPlanned}
 use Rattle.nv_laws_sound.specs.LaidOut.{IsLaidOut}
 use Rattle.nv_laws_sound.proofs.OnDisk.{range-elsewhere}
@@ -21,7 +24,7 @@ use Rattle.nv_laws_others.proofs.MoveEvents.{below, block-apart, held-opcode, ra
 module _ (host_bytes lanes : ℕ) (geometry : Geometry) (laid : IsLaidOut host_bytes lanes geometry) (owner : ℕ) (guest : Guest)
     (given : slice_get geometry.guests owner ≡ Some guest) (entry : List ℕ) (plan : Plan) (is : IsPlanned guest entry plan) (lane tag : ℕ)
     (h : Held) (host : ℕ → ℕ) (in_device : IsInDevice geometry guest entry plan lane tag host h) (number : ℕ)
-    (left : list_any (λ k. k == number) h.left ≡ true) (at : ℕ) (away : (at < guest.extent.base) ⊎ (guest.extent.base + guest.extent.blocks ≤ at)) where
+    (left : list_any (λ k. k == number) h.left ≡ true) (at : ℕ) (away : in_extents guest.namespace at ≡ false) where
   apart : has_blocks is.work.opcode ≡ true → number < count_of entry → (slba_of h.entry + number ≡ at) → ⊥
   apart = block-apart host_bytes lanes geometry laid owner guest given entry plan is lane tag h host in_device number left at away
 

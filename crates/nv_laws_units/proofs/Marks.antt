@@ -1,9 +1,9 @@
 -- What others' units, and blocks that become kept, do to a guest's marks.
-use Rattle.std.proofs.Common.{◌≡◌, ℕ, zero, suc, ◌+◌, ◌<◌, ◌≤◌, ◌⊎◌, inl, inr, Bool, true, false, ◌||◌, ◌&&◌, ◌==◌, cond, nat_lt, List, [], ◌∷◌, All, filter}
-use Rattle.std.proofs.Common.{map, slice_get, Some, arith, refl, sym, ap, ◌∙◌, eq-eqb, subst}
+use Rattle.std.proofs.Common.{◌≡◌, ℕ, zero, suc, ◌+◌, ◌-◌, ◌<◌, ◌≤◌, ◌⊎◌, inl, inr, Bool, true, false, ◌||◌, ◌&&◌, ◌==◌, cond, nat_lt}
+use Rattle.std.proofs.Common.{List, [], ◌∷◌, All, filter, map, slice_get, Some, arith, refl, sym, ap, ◌∙◌, eq-eqb, subst}
 use Rattle.std.specs.Prelude.{◌≢◌}
 use Rattle.std.specs.List.{list_any, range_with_len}
-use Rattle.std.proofs.lemmas.Bool.{cases_eq, ne_eqb}
+use Rattle.std.proofs.lemmas.Bool.{cases_eq, cases_lt, ne_eqb}
 use Rattle.std.proofs.lemmas.Bool.Decides.{nat_tests}
 use Rattle.std.proofs.lemmas.List.Elements.{All-cons, All-filter, All-head, All-nil, All-tail}
 use Rattle.nv_entry.specs.Opcode.{io_opcode}
@@ -11,7 +11,8 @@ use Rattle.nv_entry.specs.Range.{blocks_of, start_of}
 use Rattle.nv_entry.specs.Submission.{opcode_of, slba_of}
 use Rattle.nv_mem.specs.GuestMap.{mapped}
 use Rattle.nv_model.specs.Carried.{block_work, units_moved}
-use Rattle.nv_model.specs.Judge.{Clear, ClearBlock, Form, Keep, Manage, MoveBlock, Transfer, Work, count_of, deallocates, form_has_blocks, form_of, has_blocks, is_fua, one_range_units}
+use Rattle.nv_model.specs.Judge.{Clear, ClearBlock, Form, Keep, Manage, MoveBlock, Transfer, Work}
+use Rattle.nv_model.specs.Judge.{count_of, deallocates, form_has_blocks, form_of, has_blocks, is_fua, one_range_units}
 use Rattle.nv_model.specs.Laws.{IsElsewhere}
 use Rattle.nv_model.specs.Private.{KeepStep, Moved, Private, Shape, marked, run_of, step}
 use Rattle.nv_model.proofs.AnyAnswers.{end-sound}
@@ -22,10 +23,12 @@ use Rattle.nv_world_model.specs.Device.{Held, device_unit, form_moves, form_unit
 use Rattle.nv_world_model.specs.Geometry.{Geometry, Guest, regions_of, shape_of}
 use Rattle.nv_world_model.specs.Plan.{Plan}
 use Rattle.nv_world_model.specs.PrivateSteps.{keeps, keeps_all, others_moves}
+use Rattle.nv_world_model.specs.View.{in_extents}
 use Rattle.nv_laws_sound.specs.Consistent.{IsInDevice, IsPlanned}
 use Rattle.nv_laws_sound.specs.LaidOut.{IsLaidOut}
 use Rattle.nv_laws_sound.proofs.EntryFields.{entry-opcode}
 use Rattle.nv_laws_sound.proofs.Named.{row-all}
+use Rattle.nv_laws_sound.proofs.Namespaces.{place-disk, place-own}
 use Rattle.nv_laws_sound.proofs.OnDisk.{AreOwn, entry-own, range-elsewhere, range-own, unit-below}
 use Rattle.nv_laws_units.specs.Marks.{RunsToMarks, SameMarks}
 
@@ -137,18 +140,27 @@ module _ (host_bytes lanes : ℕ) (geometry : Geometry) (laid : IsLaidOut host_b
   below : number < form_unit_count (form_of is.work.opcode) entry
   below = unit-below host_bytes lanes geometry laid owner guest given entry plan is lane tag h host in_device number left
 
-  -- a block that lies outside of what is the owner's is none of the unit's
-  outside : (at start count : ℕ) → (at < guest.extent.base) ⊎ (guest.extent.base + guest.extent.blocks ≤ at) → AreOwn guest.namespace start count
+  -- a block that isn't the owner's is none of the unit's
+  outside : (at start count : ℕ) → in_extents guest.namespace at ≡ false → AreOwn guest.namespace start count
       → (at < start) ⊎ (start + count ≤ at)
-  outside at start count (inl before) own = (let from = own.from in inl (omega (arith, before, from)))
-  outside at start count (inr behind) own = (let to = own.to in inr (omega (arith, behind, to)))
+  outside at start count away own =
+      elim (cases_lt at start) [
+        | inl before ↦ inl before
+        | inr from ↦ elim (cases_lt at (start + count)) [
+          | inl inside ↦
+              (let here : at ≡ start + (at - start) = omega (arith, from) in
+              let bad : false ≡ true = sym away ∙ ap (in_extents guest.namespace) here ∙ own (at - start) (omega (arith, from, inside)) in
+              cc)
+          | inr behind ↦ inr behind
+        ]
+      ]
 
   first-own : has_blocks is.work.opcode ≡ true → AreOwn guest.namespace (slba_of h.entry) (count_of entry)
   first-own has =
       subst (λ e. AreOwn guest.namespace (slba_of e) (count_of entry)) (sym in_device.entry_is)
       (entry-own host_bytes lanes geometry laid owner guest given entry plan is lane tag has)
 
-  one-elsewhere : (at : ℕ) → (at < guest.extent.base) ⊎ (guest.extent.base + guest.extent.blocks ≤ at) → has_blocks is.work.opcode ≡ true → number < count_of entry
+  one-elsewhere : (at : ℕ) → in_extents guest.namespace at ≡ false → has_blocks is.work.opcode ≡ true → number < count_of entry
       → slba_of h.entry + number ≢ at
   one-elsewhere at away has few same = off (outside at (slba_of h.entry) (count_of entry) away (first-own has))
     where
@@ -157,7 +169,7 @@ module _ (host_bytes lanes : ℕ) (geometry : Geometry) (laid : IsLaidOut host_b
       off (inr behind) = absurd (omega (arith, behind, same, few))
 
   form-same : (form : Form) → form_of is.work.opcode ≡ form → keeps_all form ≡ false → (at : ℕ)
-      → (at < guest.extent.base) ⊎ (guest.extent.base + guest.extent.blocks ≤ at) → (work : Work) (m : Moved) → m.memory ≡ host
+      → in_extents guest.namespace at ≡ false → (work : Work) (m : Moved) → m.memory ≡ host
       → IsSame at m (units_moved (form_moves form number geometry.disk_blocks h m.memory) work m)
   form-same (Transfer dest) form some at away work m same =
       let few : number < count_of entry = subst (λ f. number < form_unit_count f entry) form below in
@@ -176,7 +188,7 @@ module _ (host_bytes lanes : ℕ) (geometry : Geometry) (laid : IsLaidOut host_b
   form-same Keep form some at away work m same = cc
 
   -- a unit that is no Flush's leaves a block that isn't its guest's, and its mark
-  pub unit-leaves : keeps_all (form_of is.work.opcode) ≡ false → (at : ℕ) → (at < guest.extent.base) ⊎ (guest.extent.base + guest.extent.blocks ≤ at)
+  pub unit-leaves : keeps_all (form_of is.work.opcode) ≡ false → (at : ℕ) → in_extents guest.namespace at ≡ false
       → (disk : ℕ → ℕ → ℕ) (kept : ℕ → Bool)
       → IsSame at (record { memory = host; disk = disk; kept = kept; differed = h.differed }) (device_unit number geometry.disk_blocks h host disk kept)
   unfolding device_unit
@@ -224,13 +236,10 @@ module _ (host_bytes lanes : ℕ) (geometry : Geometry) (laid : IsLaidOut host_b
 
   module _ (other : ℕ) (guest_too : Guest) (given_too : slice_get geometry.guests other ≡ Some guest_too) (differ : other ≢ owner)
       (disk : ℕ → ℕ → ℕ) (kept : ℕ → Bool) where
-    away-from : (lba : ℕ) → lba < blocks_in guest_too.namespace
-        → (place_in guest_too.namespace lba < guest.extent.base) ⊎ (guest.extent.base + guest.extent.blocks ≤ place_in guest_too.namespace lba)
+    away-from : (lba : ℕ) → lba < blocks_in guest_too.namespace → in_extents guest.namespace (place_in guest_too.namespace lba) ≡ false
     away-from lba within =
-        elim (laid.apart other owner guest_too guest given_too given differ).blocks [
-          | inl before ↦ inl (omega (arith, within, before))
-          | inr behind ↦ inr (omega (arith, within, behind))
-        ]
+        (laid.apart other owner guest_too guest given_too given differ).blocks (place_in guest_too.namespace lba)
+        (place-own guest_too.namespace lba within)
 
     pub other-marks : (p : Private) → SameMarks guest_too.namespace p.kept kept
         → RunsToMarks guest_too (others_moves (Some is.work) guest_too.namespace) p (device_unit number geometry.disk_blocks h host disk kept).kept
@@ -240,14 +249,14 @@ module _ (host_bytes lanes : ℕ) (geometry : Geometry) (laid : IsLaidOut host_b
             → RunsToMarks guest_too (cond b (map KeepStep (range_with_len 0 (blocks_in guest_too.namespace))) []) p (device_unit number geometry.disk_blocks h host disk kept).kept
         by_form true all =
             (let blocks = blocks_in guest_too.namespace in
-            let on_disk = (laid.given other guest_too given_too).on_disk in
             record {
               marks = raised (range_with_len 0 blocks) p.kept;
               runs = keep-run (shape_of guest_too) (range_with_len 0 blocks) p (namespace-row blocks);
               same = (λ lba within.
                   raised-at (range_with_len 0 blocks) p.kept lba
                   ∙ ap (λ b. b || p.kept lba) (ap (list_any (λ x. lba == x)) (sym (filter-row 0 blocks)) ∙ row-any lba 0 blocks (λ _. true) (omega arith) (omega (arith, within)))
-                  ∙ sym (unit-keeps all (place_in guest_too.namespace lba) (omega (arith, within, on_disk)) disk kept));
+                  ∙ sym (unit-keeps all (place_in guest_too.namespace lba)
+                  (place-disk host_bytes geometry.disk_blocks guest_too (laid.given other guest_too given_too) lba within) disk kept));
             })
         by_form false some =
             record {

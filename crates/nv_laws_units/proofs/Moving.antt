@@ -16,13 +16,13 @@ use Rattle.nv_model.specs.Judge.{form_of, form_transfer_len, form_units, has_blo
 use Rattle.nv_model.specs.Limits.{block}
 use Rattle.nv_model.specs.Memory.{gathered, scattered}
 use Rattle.nv_model.specs.Private.{Moved, block_bytes, numbers_of, places_of_block}
-use Rattle.nv_model.proofs.AnyAnswers.{end-sound, end-within}
+use Rattle.nv_model.proofs.AnyAnswers.{end-sound}
 use Rattle.nv_model.proofs.Endings.{and-true}
 use Rattle.nv_model.proofs.Judged.{IsSoundWork}
 use Rattle.nv_model.proofs.Units.{clear_units-at, move_units-at}
 use Rattle.nv_model.proofs.UnitsElsewhere.{units-memory}
-use Rattle.nv_ns.specs.Extents.{blocks_in, place_in}
-use Rattle.nv_world_model.specs.Area.{addresses_of, bounce_page, entry_of, form_dwords, list_page, physical_entry, prps_of, tag_count, translated_range}
+use Rattle.nv_ns.specs.Extents.{AreApart, blocks_in, place_in}
+use Rattle.nv_world_model.specs.Area.{addresses_of, bounce_page, entry_of, form_dwords, list_page, physical_entry, prps_of, range_place, tag_count, translated_range}
 use Rattle.nv_world_model.specs.Device.{Held, device_unit, form_moves, form_unit_count, moved_by, range_at}
 use Rattle.nv_world_model.specs.Geometry.{Geometry, Guest, regions_of, shape_of}
 use Rattle.nv_world_model.specs.Plan.{Bounced, Direct, NoData, Plan, go_plan}
@@ -30,10 +30,11 @@ use Rattle.nv_world_model.specs.Seat.{form_numbers}
 use Rattle.nv_laws_sound.specs.Area.{Shows, form_ranges, ranges_of}
 use Rattle.nv_laws_sound.specs.Consistent.{IsInDevice, IsPlanned}
 use Rattle.nv_laws_sound.specs.LaidOut.{IsLaidOut}
-use Rattle.nv_laws_sound.proofs.EntryFields.{entry-opcode, form-start}
+use Rattle.nv_laws_sound.proofs.EntryFields.{entry-opcode}
 use Rattle.nv_laws_sound.proofs.LaidOuts.{all-one}
 use Rattle.nv_laws_sound.proofs.Lists.{slice_get-there}
-use Rattle.nv_laws_sound.proofs.OnDisk.{row-bytes, shown-range, translated-blocks, translated-start, unit-below}
+use Rattle.nv_laws_sound.proofs.Namespaces.{place-disk, range-disk, range-row, row}
+use Rattle.nv_laws_sound.proofs.OnDisk.{blocks-fit, entry-starts, row-bytes, shown-range, translated-blocks, translated-start, unit-below}
 use Rattle.nv_laws_sound.proofs.PlanSizes.{planned-kinds}
 use Rattle.nv_laws_units.specs.Units.{SameBlocks, addresses_of_block, own_units}
 use Rattle.nv_laws_units.proofs.Blocks.{block-bytes, block-same, clear-same, keep-same, range-same}
@@ -106,20 +107,11 @@ module _ (host_bytes lanes : ℕ) (geometry : Geometry) (laid : IsLaidOut host_b
       (planned-kinds (λ p. P (entry_of p guest entry geometry.mediator lane tag)) guest entry plan is (each (NoData is.work)) (λ fits. each (Direct is.work)) (each (Bounced is.work)))
 
   count-within : has_blocks is.work.opcode ≡ true → (count_of entry ≤ blocks_in guest.namespace) × (slba_of entry ≤ blocks_in guest.namespace - count_of entry)
-  count-within has =
-      let within = end-within (mapped (regions_of guest)) guest.limit (shape_of guest).blocks entry is.work is.verdict has in
-      let both = and-true (nat_le (count_of entry) (blocks_in guest.namespace)) (nat_le (slba_of entry) (blocks_in guest.namespace - count_of entry)) within in
-      (leb-true (count_of entry) (blocks_in guest.namespace) both.0, leb-true (slba_of entry) (blocks_in guest.namespace - count_of entry) both.1)
+  count-within has = blocks-fit host_bytes lanes geometry laid owner guest given entry plan is lane tag has
 
   starts : has_blocks is.work.opcode ≡ true → slba_of h.entry ≡ place_in guest.namespace (slba_of entry)
   starts has =
-      let within = count-within has in
-      let some = within.0 in
-      let most = within.1 in
-      let disk = (laid.given owner guest given).on_disk in
-      let few = laid.few_blocks in
-      entry-built (λ e. slba_of e ≡ place_in guest.namespace (slba_of entry))
-      (λ p. form-start (form_of is.work.opcode) (opcode_of entry) tag (prps_of p guest (list_page geometry.mediator lane tag) bounce) guest.namespace entry has (omega (arith, most, disk, few)))
+      ap slba_of in_device.entry_is ∙ entry-starts host_bytes lanes geometry laid owner guest given entry plan is lane tag has
 
   fua-is : has_blocks is.work.opcode ≡ true → is_fua h.entry ≡ is_fua entry
   fua-is has =
@@ -183,33 +175,55 @@ module _ (host_bytes lanes : ℕ) (geometry : Geometry) (laid : IsLaidOut host_b
       ∙ row-bytes host bounce (16 * number) (16 * range_count_of entry - (16 * number + 16))
       ∙ shown-range guest.namespace host is.work.ranges number bounce range found ranges_shown
 
-  range-fields : form_of is.work.opcode ≡ Manage → (range : List ℕ) → slice_get is.work.ranges number ≡ Some range
-      → (start_of (range_at number h.pieces host) ≡ place_in guest.namespace (start_of range)) × (blocks_of (range_at number h.pieces host) ≡ blocks_of range)
-  range-fields form range found =
+  range-within : (range : List ℕ) → slice_get is.work.ranges number ≡ Some range
+      → (blocks_of range ≤ blocks_in guest.namespace) × (start_of range ≤ blocks_in guest.namespace - blocks_of range)
+  range-within range found =
       let fits = all-one (range_fits (shape_of guest).blocks) is.work.ranges number range sound.fit found in
       let both = and-true (nat_le (blocks_of range) (blocks_in guest.namespace)) (nat_le (start_of range) (blocks_in guest.namespace - blocks_of range)) fits in
-      let some = leb-true (blocks_of range) (blocks_in guest.namespace) both.0 in
-      let most = leb-true (start_of range) (blocks_in guest.namespace - blocks_of range) both.1 in
-      let disk = (laid.given owner guest given).on_disk in
+      (leb-true (blocks_of range) (blocks_in guest.namespace) both.0, leb-true (start_of range) (blocks_in guest.namespace - blocks_of range) both.1)
+
+  range-fields : form_of is.work.opcode ≡ Manage → (range : List ℕ) → slice_get is.work.ranges number ≡ Some range
+      → (start_of (range_at number h.pieces host) ≡ range_place guest.namespace range) × (blocks_of (range_at number h.pieces host) ≡ blocks_of range)
+  range-fields form range found =
+      let fits = all-one (range_fits (shape_of guest).blocks) is.work.ranges number range sound.fit found in
+      let disk = range-disk host_bytes geometry.disk_blocks guest (laid.given owner guest given) range fits in
       let few_blocks = laid.few_blocks in
       let read = range-read form range found in (
-        ap start_of read ∙ translated-start guest.namespace range (omega (arith, most, disk, few_blocks)),
-        ap blocks_of read ∙ translated-blocks guest.namespace range (omega (arith, some, disk, few_blocks)),
+        ap start_of read ∙ translated-start guest.namespace range (omega (arith, disk, few_blocks)),
+        ap blocks_of read ∙ translated-blocks guest.namespace range (omega (arith, disk, few_blocks)),
       )
+
+  -- its blocks are a row on the disk, too
+  range-runs : form_of is.work.opcode ≡ Manage → (range : List ℕ) → slice_get is.work.ranges number ≡ Some range → (i : ℕ) → i < blocks_of range
+      → place_in guest.namespace (start_of range + i) ≡ start_of (range_at number h.pieces host) + i
+  range-runs form range found i below =
+      let fits = all-one (range_fits (shape_of guest).blocks) is.work.ranges number range sound.fit found in
+      let runs = range-row guest.namespace range i (laid.given owner guest given).one fits below in
+      let begins = (range-fields form range found).0 in
+      omega (arith, runs, begins)
+
+  -- a block is one of the guest's, and the device's is where the disk has it
+  at-below : has_blocks is.work.opcode ≡ true → number < count_of entry → slba_of entry + number < blocks_in guest.namespace
+  at-below has few =
+      let within = count-within has in
+      let some = within.0 in
+      let most = within.1 in
+      omega (arith, some, most, few)
+
+  there-is : has_blocks is.work.opcode ≡ true → number < count_of entry → slba_of h.entry + number ≡ place_in guest.namespace (slba_of entry + number)
+  there-is has few =
+      let within = count-within has in
+      let some = within.0 in
+      let most = within.1 in
+      let start = starts has in
+      let runs = row guest.namespace (slba_of entry) (count_of entry) number (laid.given owner guest given).one (omega (arith, some, most)) few in
+      omega (arith, start, runs)
+
+  apart : AreApart guest.namespace
+  apart = (laid.given owner guest given).apart
 
   module _ (own whole : Moved) (same : SameBlocks guest.namespace own whole) (memory_is : whole.memory ≡ host)
       (source : form_of is.work.opcode ≡ Transfer false → gathered own.memory (places_of_block is.work number) ≡ gathered host (addresses_of_block plan guest bounce number)) where
-    -- a block is one of the guest's, and the device's is where the disk has it
-    at-below : has_blocks is.work.opcode ≡ true → number < count_of entry → slba_of entry + number < blocks_in guest.namespace
-    at-below has few =
-        let within = count-within has in
-        let some = within.0 in
-        let most = within.1 in
-        omega (arith, some, most, few)
-
-    there-is : has_blocks is.work.opcode ≡ true → slba_of h.entry + number ≡ place_in guest.namespace (slba_of entry + number)
-    there-is has = let start = starts has in omega (arith, start)
-
     fua-same : has_blocks is.work.opcode ≡ true → is.work.fua ≡ flag
     fua-same has =
         end-fua (mapped (regions_of guest)) guest.limit (shape_of guest).blocks entry is.work is.verdict
@@ -229,19 +243,22 @@ module _ (host_bytes lanes : ℕ) (geometry : Geometry) (laid : IsLaidOut host_b
         subst (λ us. SameBlocks guest.namespace (units_moved us is.work own)
         (units_moved (MoveBlock number (slba_of h.entry + number) ∷ []) (block_work is.work.opcode h.pieces flag) whole))
         (sym (own-block (Transfer dest) form (λ e. cc) (MoveBlock number (slba_of entry + number)) (move_units-at (slba_of entry) (count_of entry) number few)))
-        (block-same guest.namespace is.work.opcode is.work (block_work is.work.opcode h.pieces flag) number (slba_of entry + number) (slba_of h.entry + number) own whole same
-        (at-below has few) (there-is has) (fua-same has) source-same)
+        (block-same guest.namespace apart is.work.opcode is.work (block_work is.work.opcode h.pieces flag) number (slba_of entry + number) (slba_of h.entry + number) own whole same
+        (at-below has few) (there-is has few) (fua-same has) source-same)
     form-same Clear form =
         let few : number < count_of entry = subst (λ f. number < form_unit_count f entry) form below in
         let has : has_blocks is.work.opcode ≡ true = ap form_has_blocks form in
         subst (λ us. SameBlocks guest.namespace (units_moved us is.work own)
         (units_moved (ClearBlock (slba_of h.entry + number) (is_fua h.entry) ∷ []) (block_work is.work.opcode h.pieces flag) whole))
         (sym (own-block Clear form (λ e. cc) (ClearBlock (slba_of entry + number) (is_fua entry)) (clear_units-at (is_fua entry) (slba_of entry) (count_of entry) number few)))
-        (clear-same guest.namespace (slba_of entry + number) (slba_of h.entry + number) (is_fua entry) (is_fua h.entry) is.work (block_work is.work.opcode h.pieces flag) own whole same
-        (there-is has) (sym (fua-is has)))
+        (clear-same guest.namespace apart (slba_of entry + number) (slba_of h.entry + number) (is_fua entry) (is_fua h.entry)
+        is.work (block_work is.work.opcode h.pieces flag) own whole same (at-below has few) (there-is has few) (sym (fua-is has)))
     form-same Manage form =
         let range = range-there form in
         let fields = range-fields form range.0 range.1 in
+        let within = range-within range.0 range.1 in
+        let some = within.0 in
+        let most = within.1 in
         subst (λ us. SameBlocks guest.namespace (units_moved us is.work own)
         (units_moved (one_range_units (deallocates h.entry) (range_at number h.pieces whole.memory)) (block_work is.work.opcode h.pieces flag) whole))
         (sym (own-range is.work number (deallocates entry) range.0 (ap (λ f. form_numbers f is.work) form)
@@ -250,15 +267,17 @@ module _ (host_bytes lanes : ℕ) (geometry : Geometry) (laid : IsLaidOut host_b
         (units_moved (one_range_units (deallocates h.entry) (range_at number h.pieces whole.memory)) (block_work is.work.opcode h.pieces flag) whole)) (deallocates-is form)
         (subst (λ m. SameBlocks guest.namespace (units_moved (one_range_units (deallocates h.entry) range.0) is.work own)
         (units_moved (one_range_units (deallocates h.entry) (range_at number h.pieces m)) (block_work is.work.opcode h.pieces flag) whole)) (sym memory_is)
-        (range-same guest.namespace (deallocates h.entry) range.0 (range_at number h.pieces host) is.work (block_work is.work.opcode h.pieces flag) own whole same fields.0 fields.1)))
+        (range-same guest.namespace apart (deallocates h.entry) range.0 (range_at number h.pieces host) is.work (block_work is.work.opcode h.pieces flag) own whole same
+        (omega (arith, some, most)) (range-runs form range.0 range.1) fields.1)))
     form-same Keep form =
-        let disk = (laid.given owner guest given).on_disk in
         let few : number < 1 = subst (λ f. number < form_unit_count f entry) form below in
         let first : 0 ≡ number = omega (arith, few) in
         subst (λ us. SameBlocks guest.namespace (units_moved us is.work own)
         (units_moved (KeepAll geometry.disk_blocks ∷ []) (block_work is.work.opcode h.pieces flag) whole))
-        (sym (own-block Keep form (λ e. cc) (KeepAll (shape_of guest).blocks) (subst (λ n. slice_get (form_units Keep (shape_of guest).blocks entry is.work.ranges) n ≡ Some (KeepAll (shape_of guest).blocks)) first refl)))
-        (keep-same guest.namespace (shape_of guest).blocks geometry.disk_blocks is.work (block_work is.work.opcode h.pieces flag) own whole same refl disk)
+        (sym (own-block Keep form (λ e. cc) (KeepAll (shape_of guest).blocks)
+        (subst (λ n. slice_get (form_units Keep (shape_of guest).blocks entry is.work.ranges) n ≡ Some (KeepAll (shape_of guest).blocks)) first refl)))
+        (keep-same guest.namespace apart (shape_of guest).blocks geometry.disk_blocks is.work (block_work is.work.opcode h.pieces flag) own whole same refl
+        (place-disk host_bytes geometry.disk_blocks guest (laid.given owner guest given)))
 
   -- the guest's blocks are the same behind it, and whether a Compare has differed
   pub unit-same : (own : Moved) (disk : ℕ → ℕ → ℕ) (kept : ℕ → Bool)
@@ -289,9 +308,9 @@ module _ (host_bytes lanes : ℕ) (geometry : Geometry) (laid : IsLaidOut host_b
   unfolding device_unit
   read-host disk kept reads =
       let m : Moved = record { memory = host; disk = disk; kept = kept; differed = h.differed } in
-      let has : has_blocks is.work.opcode ≡ true = ap form_has_blocks (read-form is.work.opcode reads) in
-      let start = starts has in
-      let there : slba_of h.entry + number ≡ place_in guest.namespace (slba_of entry + number) = omega (arith, start) in
+      let form = read-form is.work.opcode reads in
+      let few : number < count_of entry = subst (λ f. number < form_unit_count f entry) form below in
+      let there : slba_of h.entry + number ≡ place_in guest.namespace (slba_of entry + number) = there-is (ap form_has_blocks form) few in
       ap (λ o. (moved_by o number geometry.disk_blocks h m).memory) opcode-is
       ∙ read-moves is.work.opcode number geometry.disk_blocks h flag m reads
       ∙ ap (λ ps. scattered host ps (block_bytes disk (slba_of h.entry + number))) places-are
@@ -304,11 +323,8 @@ module _ (host_bytes lanes : ℕ) (geometry : Geometry) (laid : IsLaidOut host_b
   read-bytes own disk kept reads same =
       let form = read-form is.work.opcode reads in
       let few : number < count_of entry = subst (λ f. number < form_unit_count f entry) form below in
-      let within = count-within (ap form_has_blocks form) in
-      let some = within.0 in
-      let most = within.1 in
-      block-bytes guest.namespace own.disk disk (slba_of entry + number) (place_in guest.namespace (slba_of entry + number)) refl
-      (λ offset. same.bytes (slba_of entry + number) offset (omega (arith, some, most, few)))
+      block-bytes guest.namespace apart own.disk disk (slba_of entry + number) (place_in guest.namespace (slba_of entry + number)) refl
+      (λ offset. same.bytes (slba_of entry + number) offset (at-below (ap form_has_blocks form) few))
 
   -- other units change no byte
   pub others-own : (own : Moved) → is_read is.work.opcode ≡ false → (units_moved (own_units is.work number) is.work own).memory ≡ own.memory

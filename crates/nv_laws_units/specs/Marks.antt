@@ -8,7 +8,7 @@ use Rattle.nv_world_model.specs.declared.event.Event.{Event}
 use Rattle.nv_world_model.specs.declared.event.Event.TheVariants as event
 
 -- a guest's own marks are those of its blocks on the disk
-abbrev pub SameMarks : Extent → (own whole : ℕ → Bool) → Type 0
+abbrev pub SameMarks : Namespace → (own whole : ℕ → Bool) → Type 0
 SameMarks ns own whole = (lba : ℕ) → lba < blocks_in ns → own lba ≡ whole (place_in ns lba)
 
 -- these steps are a run of a guest's private controller that changes marks alone, and behind it its marks are those
