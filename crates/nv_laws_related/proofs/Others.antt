@@ -265,7 +265,7 @@ module _ (host_bytes : ℕ) (geometry : Geometry) (number : ℕ) (guest : Guest)
       (place_in guest.namespace lba) (sym (ap (λ o. in_extents_of o (place_in guest.namespace lba)) holds.is.given) ∙ out)
       tag_below w.disk w.kept
       ∙ moved-mark all (w.kept (place_in guest.namespace lba)) (place_in guest.namespace lba)
-      (place-disk host_bytes geometry.disk_blocks guest (reached.laid.given number guest given) lba below))))
+      (place-disk host_bytes geometry.disk_blocks lba guest (reached.laid.given number guest given) below))))
 
   moves-goes : (lane slot unit : ℕ) → (guest_of_one (tag_of w lane slot) ≡ Some number → ⊥)
       → GoesAlong geometry number guest (event.DevMove lane slot unit) w p (step geometry (event.DevMove lane slot unit) w)

@@ -15,7 +15,7 @@ use Rattle.nv_model.specs.Private.{Moved, block_bytes, block_moved, block_writte
 use Rattle.nv_model.proofs.MemoryLemmas.{bytes_from-same}
 use Rattle.nv_model.proofs.UnitWords.{units_moved-cleared, units_moved-left}
 use Rattle.nv_ns.specs.Extents.{AreApart, Namespace, blocks_in, place_in}
-use Rattle.nv_laws_sound.proofs.Namespaces.{place-apart}
+use Rattle.nv_ns.proofs.Apart.{place_in-apart}
 use Rattle.nv_laws_units.specs.Units.{SameBlocks}
 
 -- what stood before, and what a unit did to it
@@ -29,7 +29,7 @@ module _ (ns : Namespace) (apart : AreApart ns) where
       elim (cases_eq lba at) [
         | inl same ↦ eq-eqb (place_in ns lba) there (ap (place_in ns) same ∙ sym is) ∙ sym (eq-eqb lba at same)
         | inr differ ↦
-            ne_eqb (place_in ns lba) there (λ same. differ (place-apart ns lba at apart within below (same ∙ is)))
+            ne_eqb (place_in ns lba) there (λ same. differ (place_in-apart ns lba at apart within below (same ∙ is)))
             ∙ sym (ne_eqb lba at differ)
       ]
 

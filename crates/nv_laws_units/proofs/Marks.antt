@@ -1,9 +1,9 @@
 -- What others' units, and blocks that become kept, do to a guest's marks.
-use Rattle.std.proofs.Common.{◌≡◌, ℕ, zero, suc, ◌+◌, ◌-◌, ◌<◌, ◌≤◌, ◌⊎◌, inl, inr, Bool, true, false, ◌||◌, ◌&&◌, ◌==◌, cond, nat_lt}
+use Rattle.std.proofs.Common.{◌≡◌, ℕ, zero, suc, ◌+◌, ◌<◌, ◌≤◌, ◌⊎◌, inl, inr, Bool, true, false, ◌||◌, ◌&&◌, ◌==◌, cond, nat_lt}
 use Rattle.std.proofs.Common.{List, [], ◌∷◌, All, filter, map, slice_get, Some, arith, refl, sym, ap, ◌∙◌, eq-eqb, subst}
 use Rattle.std.specs.Prelude.{◌≢◌}
 use Rattle.std.specs.List.{list_any, range_with_len}
-use Rattle.std.proofs.lemmas.Bool.{cases_eq, cases_lt, ne_eqb}
+use Rattle.std.proofs.lemmas.Bool.{cases_eq, ne_eqb}
 use Rattle.std.proofs.lemmas.Bool.Decides.{nat_tests}
 use Rattle.std.proofs.lemmas.List.Elements.{All-cons, All-filter, All-head, All-nil, All-tail}
 use Rattle.nv_entry.specs.Opcode.{io_opcode}
@@ -28,8 +28,8 @@ use Rattle.nv_laws_sound.specs.Consistent.{IsInDevice, IsPlanned}
 use Rattle.nv_laws_sound.specs.LaidOut.{IsLaidOut}
 use Rattle.nv_laws_sound.proofs.EntryFields.{entry-opcode}
 use Rattle.nv_laws_sound.proofs.Named.{row-all}
-use Rattle.nv_laws_sound.proofs.Namespaces.{place-disk, place-own}
-use Rattle.nv_laws_sound.proofs.OnDisk.{AreOwn, entry-own, range-elsewhere, range-own, unit-below}
+use Rattle.nv_laws_sound.proofs.Namespaces.{AreOwn, own-away, place-disk, place-own}
+use Rattle.nv_laws_sound.proofs.OnDisk.{entry-own, range-elsewhere, range-own, unit-below}
 use Rattle.nv_laws_units.specs.Marks.{RunsToMarks, SameMarks}
 
 -- ---- blocks that become kept on the guest's own controller
@@ -140,21 +140,6 @@ module _ (host_bytes lanes : ℕ) (geometry : Geometry) (laid : IsLaidOut host_b
   below : number < form_unit_count (form_of is.work.opcode) entry
   below = unit-below host_bytes lanes geometry laid owner guest given entry plan is lane tag h host in_device number left
 
-  -- a block that isn't the owner's is none of the unit's
-  outside : (at start count : ℕ) → in_extents guest.namespace at ≡ false → AreOwn guest.namespace start count
-      → (at < start) ⊎ (start + count ≤ at)
-  outside at start count away own =
-      elim (cases_lt at start) [
-        | inl before ↦ inl before
-        | inr from ↦ elim (cases_lt at (start + count)) [
-          | inl inside ↦
-              (let here : at ≡ start + (at - start) = omega (arith, from) in
-              let bad : false ≡ true = sym away ∙ ap (in_extents guest.namespace) here ∙ own (at - start) (omega (arith, from, inside)) in
-              cc)
-          | inr behind ↦ inr behind
-        ]
-      ]
-
   first-own : has_blocks is.work.opcode ≡ true → AreOwn guest.namespace (slba_of h.entry) (count_of entry)
   first-own has =
       subst (λ e. AreOwn guest.namespace (slba_of e) (count_of entry)) (sym in_device.entry_is)
@@ -162,7 +147,7 @@ module _ (host_bytes lanes : ℕ) (geometry : Geometry) (laid : IsLaidOut host_b
 
   one-elsewhere : (at : ℕ) → in_extents guest.namespace at ≡ false → has_blocks is.work.opcode ≡ true → number < count_of entry
       → slba_of h.entry + number ≢ at
-  one-elsewhere at away has few same = off (outside at (slba_of h.entry) (count_of entry) away (first-own has))
+  one-elsewhere at away has few same = off (own-away guest.namespace (slba_of h.entry) (count_of entry) at (first-own has) away)
     where
       off : (at < slba_of h.entry) ⊎ (slba_of h.entry + count_of entry ≤ at) → ⊥
       off (inl before) = absurd (omega (arith, before, same))
@@ -184,7 +169,7 @@ module _ (host_bytes lanes : ℕ) (geometry : Geometry) (laid : IsLaidOut host_b
       units-elsewhere (one_range_units (deallocates h.entry) (range_at number h.pieces m.memory)) work at m
       (subst (λ memory. All (IsElsewhere at) (one_range_units (deallocates h.entry) (range_at number h.pieces memory))) (sym same)
       (range-elsewhere at (deallocates h.entry) (range_at number h.pieces host)
-      (outside at (start_of (range_at number h.pieces host)) (blocks_of (range_at number h.pieces host)) away own)))
+      (own-away guest.namespace (start_of (range_at number h.pieces host)) (blocks_of (range_at number h.pieces host)) at own away)))
   form-same Keep form some at away work m same = cc
 
   -- a unit that is no Flush's leaves a block that isn't its guest's, and its mark
@@ -256,7 +241,7 @@ module _ (host_bytes lanes : ℕ) (geometry : Geometry) (laid : IsLaidOut host_b
                   raised-at (range_with_len 0 blocks) p.kept lba
                   ∙ ap (λ b. b || p.kept lba) (ap (list_any (λ x. lba == x)) (sym (filter-row 0 blocks)) ∙ row-any lba 0 blocks (λ _. true) (omega arith) (omega (arith, within)))
                   ∙ sym (unit-keeps all (place_in guest_too.namespace lba)
-                  (place-disk host_bytes geometry.disk_blocks guest_too (laid.given other guest_too given_too) lba within) disk kept));
+                  (place-disk host_bytes geometry.disk_blocks lba guest_too (laid.given other guest_too given_too) within) disk kept));
             })
         by_form false some =
             record {

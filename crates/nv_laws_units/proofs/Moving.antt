@@ -277,7 +277,7 @@ module _ (host_bytes lanes : ℕ) (geometry : Geometry) (laid : IsLaidOut host_b
         (sym (own-block Keep form (λ e. cc) (KeepAll (shape_of guest).blocks)
         (subst (λ n. slice_get (form_units Keep (shape_of guest).blocks entry is.work.ranges) n ≡ Some (KeepAll (shape_of guest).blocks)) first refl)))
         (keep-same guest.namespace apart (shape_of guest).blocks geometry.disk_blocks is.work (block_work is.work.opcode h.pieces flag) own whole same refl
-        (place-disk host_bytes geometry.disk_blocks guest (laid.given owner guest given)))
+        (λ lba within. place-disk host_bytes geometry.disk_blocks lba guest (laid.given owner guest given) within))
 
   -- the guest's blocks are the same behind it, and whether a Compare has differed
   pub unit-same : (own : Moved) (disk : ℕ → ℕ → ℕ) (kept : ℕ → Bool)
