@@ -7,7 +7,7 @@ use Rattle.nv_entry.specs.Submission.{slba_of}
 use Rattle.nv_model.proofs.UnitsElsewhere.{units-elsewhere}
 use Rattle.nv_model.specs.Carried.{block_work, units_moved}
 use Rattle.nv_model.specs.Judge.{Clear, ClearBlock, Form, Keep, Manage, MoveBlock, Transfer, Work}
-use Rattle.nv_model.specs.Judge.{count_of, deallocates, form_has_blocks, form_of, has_blocks, is_fua, one_range_units, range_count_of}
+use Rattle.nv_model.specs.Judge.{count_of, deallocates, form_has_blocks, form_of, has_blocks, is_fua, one_range_units}
 use Rattle.nv_model.specs.Laws.{IsElsewhere}
 use Rattle.nv_model.specs.Private.{Moved}
 use Rattle.nv_world_model.specs.Area.{tag_count}

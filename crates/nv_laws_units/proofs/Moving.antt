@@ -1,7 +1,7 @@
 -- A device's unit of a guest's command is a unit of its private controller.
-use Rattle.std.proofs.Common.{◌≡◌, ℕ, ◌+◌, ◌-◌, ◌*◌, ◌<◌, ◌≤◌, Bool, true, false, ◌&&◌, ◌==◌, nat_le, List, [], ◌∷◌, drop, flat_map, length, map, slice_get}
-use Rattle.std.proofs.Common.{take, Some, arith, refl, sym, ap, ◌∙◌, leb-true, subst}
-use Rattle.std.specs.List.{list_any, range_with_len}
+use Rattle.std.proofs.Common.{◌≡◌, ℕ, ◌+◌, ◌-◌, ◌*◌, ◌<◌, ◌≤◌, Bool, true, false, ◌&&◌, ◌==◌, List, [], ◌∷◌, drop, slice_get}
+use Rattle.std.proofs.Common.{take, Some, arith, refl, sym, ap, ◌∙◌, subst}
+use Rattle.std.specs.List.{list_any}
 use Rattle.std.proofs.lemmas.List.{drop-map, take-map}
 use Rattle.nv_entry.specs.Opcode.{io_opcode}
 use Rattle.nv_entry.specs.Range.{blocks_of, start_of}
@@ -12,29 +12,25 @@ use Rattle.nv_mem.specs.GuestMap.{mapped}
 use Rattle.nv_mem.specs.Places.{At, places_of, total_len}
 use Rattle.nv_model.specs.Carried.{block_work, units_moved}
 use Rattle.nv_model.specs.Judge.{Clear, ClearBlock, Form, Keep, KeepAll, Manage, MoveBlock, Transfer, Work, WorkUnit, count_of, deallocates, form_has_blocks}
-use Rattle.nv_model.specs.Judge.{form_of, form_transfer_len, form_units, has_blocks, is_fua, is_read, one_range_units, range_count_of, range_fits}
+use Rattle.nv_model.specs.Judge.{form_of, form_transfer_len, form_units, has_blocks, is_fua, is_read, one_range_units, range_fits}
 use Rattle.nv_model.specs.Limits.{block}
 use Rattle.nv_model.specs.Memory.{gathered, scattered}
 use Rattle.nv_model.specs.Private.{Moved, block_bytes, numbers_of, places_of_block}
 use Rattle.nv_model.proofs.AnyAnswers.{end-sound}
-use Rattle.nv_model.proofs.Endings.{and-true}
 use Rattle.nv_model.proofs.Judged.{IsSoundWork}
 use Rattle.nv_model.proofs.Units.{clear_units-at, move_units-at}
 use Rattle.nv_model.proofs.UnitsElsewhere.{units-memory}
 use Rattle.nv_ns.specs.Extents.{AreApart, blocks_in, place_in}
-use Rattle.nv_world_model.specs.Area.{addresses_of, bounce_page, entry_of, form_dwords, list_page, physical_entry, prps_of, range_place, tag_count, translated_range}
+use Rattle.nv_world_model.specs.Area.{addresses_of, bounce_page, entry_of, form_dwords, list_page, physical_entry, prps_of, range_place, tag_count}
 use Rattle.nv_world_model.specs.Device.{Held, device_unit, form_moves, form_unit_count, moved_by, range_at}
 use Rattle.nv_world_model.specs.Geometry.{Geometry, Guest, regions_of, shape_of}
-use Rattle.nv_world_model.specs.Plan.{Bounced, Direct, NoData, Plan, go_plan}
+use Rattle.nv_world_model.specs.Plan.{Bounced, Direct, NoData, Plan}
 use Rattle.nv_world_model.specs.Seat.{form_numbers}
-use Rattle.nv_laws_sound.specs.Area.{Shows, form_ranges, ranges_of}
 use Rattle.nv_laws_sound.specs.Consistent.{IsInDevice, IsPlanned}
 use Rattle.nv_laws_sound.specs.LaidOut.{IsLaidOut}
 use Rattle.nv_laws_sound.proofs.EntryFields.{entry-opcode}
-use Rattle.nv_laws_sound.proofs.LaidOuts.{all-one}
-use Rattle.nv_laws_sound.proofs.Lists.{slice_get-there}
-use Rattle.nv_laws_sound.proofs.Namespaces.{place-disk, range-disk, range-row, row}
-use Rattle.nv_laws_sound.proofs.OnDisk.{blocks-fit, entry-starts, row-bytes, shown-range, translated-blocks, translated-start, unit-below}
+use Rattle.nv_laws_sound.proofs.Namespaces.{place-disk, range-row, range-within, row}
+use Rattle.nv_laws_sound.proofs.OnDisk.{blocks-fit, entry-starts, range-fields, range-tested, range-there, unit-below}
 use Rattle.nv_laws_sound.proofs.PlanSizes.{planned-kinds}
 use Rattle.nv_laws_units.specs.Units.{SameBlocks, addresses_of_block, own_units}
 use Rattle.nv_laws_units.proofs.Blocks.{block-bytes, block-same, clear-same, keep-same, range-same}
@@ -153,53 +149,23 @@ module _ (host_bytes lanes : ℕ) (geometry : Geometry) (laid : IsLaidOut host_b
       own-one is.work number unit (ap (λ f. form_numbers f is.work) same ∙ one-numbered form is.work other)
       (ap (λ us. slice_get us number) (sound.units ∙ ap (λ f. form_units f (shape_of guest).blocks entry is.work.ranges) same) ∙ found)
 
-  -- a range of the guest's, and that range in the bounce pages
-  range-there : form_of is.work.opcode ≡ Manage → (range : List ℕ) × (slice_get is.work.ranges number ≡ Some range)
-  range-there form =
-      let few : number < range_count_of entry = subst (λ f. number < form_unit_count f entry) form below in
-      let many : length is.work.ranges ≡ range_count_of entry = sound.counted form in
-      slice_get-there is.work.ranges number (omega (arith, few, many))
+  -- the guest's range behind it, and how the device reads it
+  range-here : form_of is.work.opcode ≡ Manage → (range : List ℕ) × (slice_get is.work.ranges number ≡ Some range)
+  range-here = range-there host_bytes lanes geometry laid owner guest given entry plan is lane tag h host in_device number left
 
-  range-read : form_of is.work.opcode ≡ Manage → (range : List ℕ) → slice_get is.work.ranges number ≡ Some range
-      → range_at number h.pieces host ≡ translated_range guest.namespace range
-  range-read form range found =
-      let few : number < range_count_of entry = subst (λ f. number < form_unit_count f entry) form below in
-      let bounced : plan ≡ Bounced is.work = is.plan_is ∙ ap (λ f. go_plan f (regions_of guest) is.work) form in
-      let ranges_shown : Shows host bounce (flat_map (translated_range guest.namespace) is.work.ranges) =
-      subst (λ f. Shows host bounce (form_ranges f guest is.work)) form (subst (λ p. Shows host bounce (ranges_of p guest)) bounced in_device.pages.ranges) in
-      let places : places_of h.pieces ≡ map At (range_with_len bounce (total_len is.work.pieces)) =
-      in_device.places ∙ ap (λ p. map At (addresses_of p guest bounce)) bounced in
-      let total : total_len is.work.pieces ≡ 16 * range_count_of entry = sound.total ∙ ap (λ f. form_transfer_len f entry) form in
-      let split : total_len is.work.pieces ≡ 16 * number + (16 + (16 * range_count_of entry - (16 * number + 16))) = omega (arith, total, few) in
-      ap (λ ps. gathered host (take 16 (drop (16 * number) ps))) (places ∙ ap (λ n. map At (range_with_len bounce n)) split)
-      ∙ row-bytes host bounce (16 * number) (16 * range_count_of entry - (16 * number + 16))
-      ∙ shown-range guest.namespace host is.work.ranges number bounce range found ranges_shown
+  range-fit : (range : List ℕ) → slice_get is.work.ranges number ≡ Some range → range_fits (blocks_in guest.namespace) range ≡ true
+  range-fit = range-tested host_bytes lanes geometry laid owner guest given entry plan is lane tag h host in_device number left
 
-  range-within : (range : List ℕ) → slice_get is.work.ranges number ≡ Some range
-      → (blocks_of range ≤ blocks_in guest.namespace) × (start_of range ≤ blocks_in guest.namespace - blocks_of range)
-  range-within range found =
-      let fits = all-one (range_fits (shape_of guest).blocks) is.work.ranges number range sound.fit found in
-      let both = and-true (nat_le (blocks_of range) (blocks_in guest.namespace)) (nat_le (start_of range) (blocks_in guest.namespace - blocks_of range)) fits in
-      (leb-true (blocks_of range) (blocks_in guest.namespace) both.0, leb-true (start_of range) (blocks_in guest.namespace - blocks_of range) both.1)
-
-  range-fields : form_of is.work.opcode ≡ Manage → (range : List ℕ) → slice_get is.work.ranges number ≡ Some range
+  fields-are : form_of is.work.opcode ≡ Manage → (range : List ℕ) → slice_get is.work.ranges number ≡ Some range
       → (start_of (range_at number h.pieces host) ≡ range_place guest.namespace range) × (blocks_of (range_at number h.pieces host) ≡ blocks_of range)
-  range-fields form range found =
-      let fits = all-one (range_fits (shape_of guest).blocks) is.work.ranges number range sound.fit found in
-      let disk = range-disk host_bytes geometry.disk_blocks guest (laid.given owner guest given) range fits in
-      let few_blocks = laid.few_blocks in
-      let read = range-read form range found in (
-        ap start_of read ∙ translated-start guest.namespace range (omega (arith, disk, few_blocks)),
-        ap blocks_of read ∙ translated-blocks guest.namespace range (omega (arith, disk, few_blocks)),
-      )
+  fields-are = range-fields host_bytes lanes geometry laid owner guest given entry plan is lane tag h host in_device number left
 
   -- its blocks are a row on the disk, too
   range-runs : form_of is.work.opcode ≡ Manage → (range : List ℕ) → slice_get is.work.ranges number ≡ Some range → (i : ℕ) → i < blocks_of range
       → place_in guest.namespace (start_of range + i) ≡ start_of (range_at number h.pieces host) + i
   range-runs form range found i below =
-      let fits = all-one (range_fits (shape_of guest).blocks) is.work.ranges number range sound.fit found in
-      let runs = range-row guest.namespace range i (laid.given owner guest given).one fits below in
-      let begins = (range-fields form range found).0 in
+      let runs = range-row guest.namespace range i (laid.given owner guest given).one (range-fit range found) below in
+      let begins = (fields-are form range found).0 in
       omega (arith, runs, begins)
 
   -- a block is one of the guest's, and the device's is where the disk has it
@@ -254,11 +220,8 @@ module _ (host_bytes lanes : ℕ) (geometry : Geometry) (laid : IsLaidOut host_b
         (clear-same guest.namespace apart (slba_of entry + number) (slba_of h.entry + number) (is_fua entry) (is_fua h.entry)
         is.work (block_work is.work.opcode h.pieces flag) own whole same (at-below has few) (there-is has few) (sym (fua-is has)))
     form-same Manage form =
-        let range = range-there form in
-        let fields = range-fields form range.0 range.1 in
-        let within = range-within range.0 range.1 in
-        let some = within.0 in
-        let most = within.1 in
+        let range = range-here form in
+        let fields = fields-are form range.0 range.1 in
         subst (λ us. SameBlocks guest.namespace (units_moved us is.work own)
         (units_moved (one_range_units (deallocates h.entry) (range_at number h.pieces whole.memory)) (block_work is.work.opcode h.pieces flag) whole))
         (sym (own-range is.work number (deallocates entry) range.0 (ap (λ f. form_numbers f is.work) form)
@@ -268,7 +231,7 @@ module _ (host_bytes lanes : ℕ) (geometry : Geometry) (laid : IsLaidOut host_b
         (subst (λ m. SameBlocks guest.namespace (units_moved (one_range_units (deallocates h.entry) range.0) is.work own)
         (units_moved (one_range_units (deallocates h.entry) (range_at number h.pieces m)) (block_work is.work.opcode h.pieces flag) whole)) (sym memory_is)
         (range-same guest.namespace apart (deallocates h.entry) range.0 (range_at number h.pieces host) is.work (block_work is.work.opcode h.pieces flag) own whole same
-        (omega (arith, some, most)) (range-runs form range.0 range.1) fields.1)))
+        (range-within (blocks_in guest.namespace) range.0 (range-fit range.0 range.1)) (range-runs form range.0 range.1) fields.1)))
     form-same Keep form =
         let few : number < 1 = subst (λ f. number < form_unit_count f entry) form below in
         let first : 0 ≡ number = omega (arith, few) in
