@@ -21,7 +21,7 @@ use Rattle.nv_model.proofs.Judged.{IsSoundWork}
 use Rattle.nv_model.proofs.Units.{clear_units-at, move_units-at}
 use Rattle.nv_model.proofs.UnitsElsewhere.{units-memory}
 use Rattle.nv_ns.specs.Extents.{AreApart, blocks_in, place_in}
-use Rattle.nv_world_model.specs.Area.{addresses_of, bounce_page, entry_of, form_dwords, list_page, physical_entry, prps_of, range_place, tag_count}
+use Rattle.nv_world_model.specs.Area.{addresses_of, bounce_page, entry_of, form_dwords, list_page, physical_entry, prps_of, tag_count}
 use Rattle.nv_world_model.specs.Device.{Held, device_unit, form_moves, form_unit_count, moved_by, range_at}
 use Rattle.nv_world_model.specs.Geometry.{Geometry, Guest, regions_of, shape_of}
 use Rattle.nv_world_model.specs.Plan.{Bounced, Direct, NoData, Plan}
@@ -29,8 +29,8 @@ use Rattle.nv_world_model.specs.Seat.{form_numbers}
 use Rattle.nv_laws_sound.specs.Consistent.{IsInDevice, IsPlanned}
 use Rattle.nv_laws_sound.specs.LaidOut.{IsLaidOut}
 use Rattle.nv_laws_sound.proofs.EntryFields.{entry-opcode}
-use Rattle.nv_laws_sound.proofs.Namespaces.{place-disk, range-row, range-within, row}
-use Rattle.nv_laws_sound.proofs.OnDisk.{blocks-fit, entry-starts, range-fields, range-tested, range-there, unit-below}
+use Rattle.nv_laws_sound.proofs.Namespaces.{place-disk, range-within}
+use Rattle.nv_laws_sound.proofs.OnDisk.{blocks-fit, entry-block, range-block, range-fields, range-tested, range-there, unit-below}
 use Rattle.nv_laws_sound.proofs.PlanSizes.{planned-kinds}
 use Rattle.nv_laws_units.specs.Units.{SameBlocks, addresses_of_block, own_units}
 use Rattle.nv_laws_units.proofs.Blocks.{block-bytes, block-same, clear-same, keep-same, range-same}
@@ -105,10 +105,6 @@ module _ (host_bytes lanes : ℕ) (geometry : Geometry) (laid : IsLaidOut host_b
   count-within : has_blocks is.work.opcode ≡ true → (count_of entry ≤ blocks_in guest.namespace) × (slba_of entry ≤ blocks_in guest.namespace - count_of entry)
   count-within has = blocks-fit host_bytes lanes geometry laid owner guest given entry plan is lane tag has
 
-  starts : has_blocks is.work.opcode ≡ true → slba_of h.entry ≡ place_in guest.namespace (slba_of entry)
-  starts has =
-      ap slba_of in_device.entry_is ∙ entry-starts host_bytes lanes geometry laid owner guest given entry plan is lane tag has
-
   fua-is : has_blocks is.work.opcode ≡ true → is_fua h.entry ≡ is_fua entry
   fua-is has =
       entry-built (λ e. is_fua e ≡ is_fua entry)
@@ -156,17 +152,16 @@ module _ (host_bytes lanes : ℕ) (geometry : Geometry) (laid : IsLaidOut host_b
   range-fit : (range : List ℕ) → slice_get is.work.ranges number ≡ Some range → range_fits (blocks_in guest.namespace) range ≡ true
   range-fit = range-tested host_bytes lanes geometry laid owner guest given entry plan is lane tag h host in_device number left
 
-  fields-are : form_of is.work.opcode ≡ Manage → (range : List ℕ) → slice_get is.work.ranges number ≡ Some range
-      → (start_of (range_at number h.pieces host) ≡ range_place guest.namespace range) × (blocks_of (range_at number h.pieces host) ≡ blocks_of range)
-  fields-are = range-fields host_bytes lanes geometry laid owner guest given entry plan is lane tag h host in_device number left
+  blocks-are : form_of is.work.opcode ≡ Manage → (range : List ℕ) → slice_get is.work.ranges number ≡ Some range
+      → blocks_of (range_at number h.pieces host) ≡ blocks_of range
+  blocks-are form range found =
+      (range-fields host_bytes lanes geometry laid owner guest given entry plan is lane tag h host in_device number left form range found).1
 
-  -- its blocks are a row on the disk, too
+  -- each of its blocks is where the guest's lies
   range-runs : form_of is.work.opcode ≡ Manage → (range : List ℕ) → slice_get is.work.ranges number ≡ Some range → (i : ℕ) → i < blocks_of range
       → place_in guest.namespace (start_of range + i) ≡ start_of (range_at number h.pieces host) + i
   range-runs form range found i below =
-      let runs = range-row guest.namespace range i (laid.given owner guest given).one (range-fit range found) below in
-      let begins = (fields-are form range found).0 in
-      omega (arith, runs, begins)
+      sym (range-block host_bytes lanes geometry laid owner guest given entry plan is lane tag h host in_device number left form range found i below)
 
   -- a block is one of the guest's, and the device's is where the disk has it
   at-below : has_blocks is.work.opcode ≡ true → number < count_of entry → slba_of entry + number < blocks_in guest.namespace
@@ -178,12 +173,8 @@ module _ (host_bytes lanes : ℕ) (geometry : Geometry) (laid : IsLaidOut host_b
 
   there-is : has_blocks is.work.opcode ≡ true → number < count_of entry → slba_of h.entry + number ≡ place_in guest.namespace (slba_of entry + number)
   there-is has few =
-      let within = count-within has in
-      let some = within.0 in
-      let most = within.1 in
-      let start = starts has in
-      let runs = row guest.namespace (slba_of entry) (count_of entry) number (laid.given owner guest given).one (omega (arith, some, most)) few in
-      omega (arith, start, runs)
+      ap (λ e. slba_of e + number) in_device.entry_is
+      ∙ entry-block host_bytes lanes geometry laid owner guest given entry plan is lane tag has number few
 
   apart : AreApart guest.namespace
   apart = (laid.given owner guest given).apart
@@ -221,7 +212,6 @@ module _ (host_bytes lanes : ℕ) (geometry : Geometry) (laid : IsLaidOut host_b
         is.work (block_work is.work.opcode h.pieces flag) own whole same (at-below has few) (there-is has few) (sym (fua-is has)))
     form-same Manage form =
         let range = range-here form in
-        let fields = fields-are form range.0 range.1 in
         subst (λ us. SameBlocks guest.namespace (units_moved us is.work own)
         (units_moved (one_range_units (deallocates h.entry) (range_at number h.pieces whole.memory)) (block_work is.work.opcode h.pieces flag) whole))
         (sym (own-range is.work number (deallocates entry) range.0 (ap (λ f. form_numbers f is.work) form)
@@ -231,7 +221,7 @@ module _ (host_bytes lanes : ℕ) (geometry : Geometry) (laid : IsLaidOut host_b
         (subst (λ m. SameBlocks guest.namespace (units_moved (one_range_units (deallocates h.entry) range.0) is.work own)
         (units_moved (one_range_units (deallocates h.entry) (range_at number h.pieces m)) (block_work is.work.opcode h.pieces flag) whole)) (sym memory_is)
         (range-same guest.namespace apart (deallocates h.entry) range.0 (range_at number h.pieces host) is.work (block_work is.work.opcode h.pieces flag) own whole same
-        (range-within (blocks_in guest.namespace) range.0 (range-fit range.0 range.1)) (range-runs form range.0 range.1) fields.1)))
+        (range-within (blocks_in guest.namespace) range.0 (range-fit range.0 range.1)) (range-runs form range.0 range.1) (blocks-are form range.0 range.1))))
     form-same Keep form =
         let few : number < 1 = subst (λ f. number < form_unit_count f entry) form below in
         let first : 0 ≡ number = omega (arith, few) in
