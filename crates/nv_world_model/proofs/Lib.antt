@@ -17,3 +17,4 @@ pub mod CutFits
 pub mod ShareParts
 pub mod ShareWholes
 pub mod TagCounts
+pub mod OwnUnits

@@ -1,5 +1,5 @@
 -- A command that goes has as many shares as its fields take tags, and these are no more than the extents.
-use Rattle.std.proofs.Common.{◌≡◌, ℕ, ◌+◌, ◌<◌, ◌≤◌, Bool, true, false, cond, not, ◌&&◌, ◌==◌, List, [], ◌∷◌, map, length, Option, Some, None, refl}
+use Rattle.std.proofs.Common.{◌≡◌, ℕ, ◌+◌, ◌<◌, ◌≤◌, Bool, true, false, cond, not, ◌==◌, List, [], ◌∷◌, length, Option, Some, None, refl}
 use Rattle.std.proofs.Common.{ap, sym, ◌∙◌, subst, arith}
 use Rattle.std.specs.List.{enumerate_from, sum_by}
 use Rattle.std.proofs.lemmas.List.{length-map}
@@ -23,7 +23,7 @@ use Rattle.nv_model.proofs.Endings.{and-false, not-false}
 use Rattle.nv_model.proofs.Judged.{refusal_by_opcode-none}
 use Rattle.nv_prp.specs.Fits.{places_fit}
 use Rattle.nv_world_model.specs.Plan.{Bounced, Direct, NoData, Plan, go_plan, plan_of, transfer_plan}
-use Rattle.nv_world_model.specs.Share.{Share, block_share, form_tags, range_share, shares_by, shares_of, tags_by, tags_of_entry}
+use Rattle.nv_world_model.specs.Share.{block_share, form_tags, range_share, shares_by, shares_of, tags_by, tags_of_entry}
 
 -- ---- as many as shares
 

@@ -1,6 +1,7 @@
 -- What a share's own work is of the whole.
-use Rattle.std.specs.Prelude.{◌≡◌, ℕ, Bool, List, length, slice_get, Some}
-use Rattle.nv_model.specs.Judge.{Work, WorkUnit}
+use Rattle.std.specs.Prelude.{◌≡◌, ℕ, ◌+◌, ◌^◌, ◌≤◌, Bool, List, length, slice_get, Some}
+use Rattle.nv_entry.specs.Range.{blocks_of, start_of}
+use Rattle.nv_model.specs.Judge.{Work, WorkUnit, range_units}
 use Rattle.nv_model.specs.Private.{unit_moved}
 use Rattle.nv_world_model.specs.Seat.{work_of}
 use Rattle.nv_world_model.specs.Share.{Share}
@@ -19,3 +20,14 @@ pub record IsPartOf (whole own : Work) (numbers : List ℕ) : Type 0 where
 -- a share's own plan is of such a part
 abbrev pub IsShareOf : Work → Share → Type 0
 IsShareOf whole share = (own : Work) × ((work_of share.plan ≡ Some own) × IsPartOf whole own share.numbers)
+
+-- ---- ranges of Dataset Management
+
+-- a range whose parts can be spelled in 16 bytes as it is itself
+pub record FitsFields (range : List ℕ) : Type 0 where
+  pub blocks : blocks_of range ≤ 2 ^ 32
+  pub last : start_of range + blocks_of range ≤ 2 ^ 64
+
+-- a share's own work has the units of its own ranges
+abbrev pub HasItsUnits : (deallocate : Bool) → Share → Type 0
+HasItsUnits deallocate share = (own : Work) × ((work_of share.plan ≡ Some own) × (own.units ≡ range_units deallocate own.ranges))

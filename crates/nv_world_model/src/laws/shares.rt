@@ -1,6 +1,6 @@
 //! What the shares of a plan are of the plan.
 
-ghost use Rattle.std.specs.Prelude.{◌≡◌, ℕ, ◌+◌, ◌*◌, ◌<◌, ◌≤◌, ◌==◌, Bool, true, List, [], ◌∷◌, drop, flat_map, length, take};
+ghost use Rattle.std.specs.Prelude.{◌≡◌, ℕ, ◌+◌, ◌*◌, ◌^◌, ◌<◌, ◌≤◌, ◌==◌, Bool, true, List, [], ◌∷◌, drop, flat_map, length, take};
 ghost use Rattle.std.specs.List.{All, count_by};
 ghost use Rattle.nv_mem.specs.GuestMap.{mapped};
 ghost use Rattle.nv_mem.specs.Places.{places_of, total_len};
@@ -9,14 +9,14 @@ ghost use Rattle.nv_mem.specs.declared.region.Region.{Region};
 ghost use Rattle.nv_ns.specs.BlockRange.{Extent};
 ghost use Rattle.nv_ns.specs.Extents.{Namespace, blocks_in};
 ghost use Rattle.nv_model.specs.Endings.{MayEndIn};
-ghost use Rattle.nv_model.specs.Judge.{Go, Work, judge};
+ghost use Rattle.nv_model.specs.Judge.{Go, Manage, Work, deallocates, form_of, judge};
 ghost use Rattle.nv_model.specs.Laws.{IsMappedPiece};
 ghost use Rattle.nv_model.specs.Limits.{block};
 ghost use Rattle.nv_model.specs.Private.{numbers_of};
 ghost use Rattle.nv_prp.specs.Fits.{places_fit};
 ghost use Rattle.nv_world_model.specs.Plan.{plan_of};
 ghost use Rattle.nv_world_model.specs.Share.{Share, cut_pieces, shares_of, tags_of_entry};
-ghost use Rattle.nv_world_model.specs.SharesLaws.{IsShareOf};
+ghost use Rattle.nv_world_model.specs.SharesLaws.{FitsFields, HasItsUnits, IsShareOf};
 
 /// With one extent a command that goes has one share, which is its plan.
 pub fn one_extent_has_one_share()
@@ -62,4 +62,14 @@ pub fn each_share_has_a_tag()
 pub fn a_command_takes_no_more_tags_than_extents()
     ensures at_least_one { (ns : Namespace) (entry : List ℕ) → 0 < length ns → 1 ≤ tags_of_entry ns entry }
     ensures no_more { (ns : Namespace) (entry : List ℕ) → 0 < length ns → tags_of_entry ns entry ≤ length ns }
+{}
+
+/// A share of a Dataset Management has the units of its own ranges, where the guest's ranges can be cut in 16 bytes; those that lie in a
+/// namespace of at most 2 to the 32 blocks can.
+pub fn a_share_has_the_units_of_its_ranges()
+    ensures units { (regions : List Region) (mapped : ℕ → Bool) (limit : ℕ) (ns : Namespace) (entry : List ℕ) (work : Work) →
+        MayEndIn (judge mapped limit (blocks_in ns) entry) (Go work) → form_of work.opcode ≡ Manage → All FitsFields work.ranges →
+        All (HasItsUnits (deallocates entry)) (shares_of ns entry (plan_of regions (Go work))) }
+    ensures small { (mapped : ℕ → Bool) (limit blocks : ℕ) (entry : List ℕ) (work : Work) →
+        MayEndIn (judge mapped limit blocks entry) (Go work) → blocks ≤ 2 ^ 32 → All FitsFields work.ranges }
 {}

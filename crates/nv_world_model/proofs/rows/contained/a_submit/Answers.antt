@@ -1,4 +1,4 @@
-use Rattle.std.proofs.Common.{◌≡◌, ◌+◌, ◌∷◌, ℕ, List, [], replicate, refl}
+use Rattle.std.proofs.Common.{◌≡◌, ◌∷◌, ℕ, List, [], replicate, refl}
 use Rattle.nv_entry.specs.Layout.{number_at, dword, qword, bits, bytes_of_dwords}
 use Rattle.nv_entry.specs.Completion.{completion}
 use Rattle.nv_mem.specs.GuestMap.{everywhere}
@@ -28,7 +28,8 @@ use Rattle.nv_world_model.specs.declared.event.Event.TheVariants as event
 use Rattle.nv_world_model.specs.World.{World}
 use Rattle.nv_world_model.specs.RowsSmall.{small, small_behind, small_first, small_second, taken_second}
 use Rattle.nv_world_model.specs.Step.{After}
-use Rattle.nv_world_model.proofs.SmallWorld.{each_tag, each_block, leaves-first, own-first, entry-inside, entry-outside, entry-same, host-cut, image-agree, slot-area, slot-first, slot-second, first_at}
+use Rattle.nv_world_model.proofs.SmallWorld.{each_tag, each_block, leaves-first, own-first, entry-inside, entry-outside}
+use Rattle.nv_world_model.proofs.SmallWorld.{entry-same, host-cut, image-agree, slot-area, slot-first, slot-second, first_at}
 use Rattle.nv_world_model.proofs.rows.contained.a_submit.Goals as goal
 
 -- the world before the event and behind it, and the same of the world cut down to the first guest
