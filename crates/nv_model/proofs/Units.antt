@@ -1,11 +1,12 @@
 -- The units of a command: what they say of it, and that they lie in its namespace.
-use Rattle.std.proofs.Common.{◌≡◌, ℕ, zero, suc, ◌+◌, ◌<◌, ◌≤◌, Bool, true, false, not, ◌&&◌}
-use Rattle.std.proofs.Common.{List, [], ◌∷◌, map, length, drop, slice_get, All, Some, arith, refl, ap, ◌∙◌}
+use Rattle.std.proofs.Common.{◌≡◌, ℕ, zero, suc, ◌+◌, ◌<◌, ◌≤◌, Bool, true, false, not, ◌&&◌, if◌then◌else◌, List, [], ◌∷◌, ◌++◌, map, length}
+use Rattle.std.proofs.Common.{length-append, take, drop, sum_by, slice_get, All, Some, arith, refl, ap, ◌∙◌}
 use Rattle.std.specs.Bool.{⊤}
 use Rattle.std.specs.List.{list_all, range_with_len, enumerate_from}
 use Rattle.std.proofs.lemmas.List.Elements.{All-nil, All-cons, All-append, All-head, All-tail, All-map}
 use Rattle.std.proofs.lemmas.List.FromFn.{length-range_with_len, length-enumerate_from}
 use Rattle.std.proofs.lemmas.List.{length-map}
+use Rattle.std.proofs.lemmas.List.Sums.{sum_by-cons}
 use Rattle.nv_entry.specs.Range.{blocks_of, start_of}
 use Rattle.nv_entry.specs.Submission.{slba_of}
 use Rattle.nv_ns.specs.BlockRange.{in_namespace}
@@ -200,3 +201,70 @@ pub length-clear_units : (mark : Bool) (start n : ℕ) → length (clear_units m
 unfolding clear_units
 length-clear_units mark start n =
     length-map (range_with_len start n) (λ (lba : ℕ). ClearBlock lba mark) ∙ length-range_with_len start n
+
+-- ---- the units of ranges
+
+-- the unit of a block of a range
+abbrev pub range_unit : (deallocate : Bool) → (lba : ℕ) → WorkUnit
+range_unit deallocate lba = if deallocate then ClearBlock lba false else LeaveBlock lba
+
+left_units-at : (start n i : ℕ) → i < n → slice_get (map LeaveBlock (range_with_len start n)) i ≡ Some (LeaveBlock (start + i))
+left_units-at start zero i below = absurd (omega arith)
+left_units-at start (suc n) zero below = let also : start + 0 ≡ start = omega arith in rw also refl
+left_units-at start (suc n) (suc i) below =
+    let also : start + suc i ≡ start + 1 + i = omega arith in rw also (left_units-at (start + 1) n i (omega arith))
+
+one_range_units-at : (deallocate : Bool) (range : List ℕ) (i : ℕ) → i < blocks_of range
+    → slice_get (one_range_units deallocate range) i ≡ Some (range_unit deallocate (start_of range + i))
+one_range_units-at true range i below = clear_units-at false (start_of range) (blocks_of range) i below
+one_range_units-at false range i below = left_units-at (start_of range) (blocks_of range) i below
+
+length-one_range_units : (deallocate : Bool) (range : List ℕ) → length (one_range_units deallocate range) ≡ blocks_of range
+length-one_range_units true range = length-clear_units false (start_of range) (blocks_of range)
+length-one_range_units false range =
+    length-map (range_with_len (start_of range) (blocks_of range)) LeaveBlock ∙ length-range_with_len (start_of range) (blocks_of range)
+
+-- as many as the ranges have blocks
+pub length-range_units : (deallocate : Bool) (ranges : List (List ℕ)) → length (range_units deallocate ranges) ≡ sum_by blocks_of ranges
+unfolding range_units
+length-range_units deallocate [] = refl
+length-range_units deallocate (range ∷ ranges) =
+    let first = length-one_range_units deallocate range in
+    let others = length-range_units deallocate ranges in
+    let both = length-append (one_range_units deallocate range) (range_units deallocate ranges) in
+    let sum = sum_by-cons blocks_of range ranges in omega arith
+
+in_front : (xs ys : List WorkUnit) (i : ℕ) → i < length xs → slice_get (xs ++ ys) i ≡ slice_get xs i
+in_front [] ys i below = absurd (omega arith)
+in_front (x ∷ xs) ys zero below = refl
+in_front (x ∷ xs) ys (suc i) below = in_front xs ys i (omega arith)
+
+behind : (xs ys : List WorkUnit) (i at : ℕ) → at ≡ length xs + i → slice_get (xs ++ ys) at ≡ slice_get ys i
+behind [] ys i at is = let same : at ≡ i = omega arith in ap (slice_get ys) same
+behind (x ∷ xs) ys i zero is = absurd (omega arith)
+behind (x ∷ xs) ys i (suc at) is = behind xs ys i at (omega arith)
+
+-- and each block of a range has one, behind those of the ranges before it
+pub range_units-at : (deallocate : Bool) (ranges : List (List ℕ)) (k i : ℕ) (range : List ℕ) → slice_get ranges k ≡ Some range
+    → i < blocks_of range
+    → slice_get (range_units deallocate ranges) (sum_by blocks_of (take k ranges) + i) ≡ Some (range_unit deallocate (start_of range + i))
+unfolding range_units
+range_units-at deallocate [] k i range is below = absurd (none k is)
+  where
+    none : (k : ℕ) → slice_get {X = List ℕ} [] k ≡ Some range → ⊥
+    none zero is = (cc)
+    none (suc k) is = (cc)
+range_units-at deallocate (first ∷ ranges) zero i range is below =
+    let same : first ≡ range = cc in
+    let size = length-one_range_units deallocate first in
+    let count = ap blocks_of same in
+    let at : 0 + i ≡ i = omega arith in
+    ap (slice_get (range_units deallocate (first ∷ ranges))) at
+    ∙ in_front (one_range_units deallocate first) (range_units deallocate ranges) i (omega arith)
+    ∙ one_range_units-at deallocate first i (omega arith) ∙ ap (λ (r : List ℕ). Some (range_unit deallocate (start_of r + i))) same
+range_units-at deallocate (first ∷ ranges) (suc k) i range is below =
+    let size = length-one_range_units deallocate first in
+    let sum = sum_by-cons blocks_of first (take k ranges) in
+    behind (one_range_units deallocate first) (range_units deallocate ranges) (sum_by blocks_of (take k ranges) + i)
+    (sum_by blocks_of (first ∷ take k ranges) + i) (omega arith)
+    ∙ range_units-at deallocate ranges k i range is below

@@ -1,11 +1,12 @@
 //! What each verdict that goes says, whatever the memory holds.
-ghost use Rattle.std.specs.Prelude.{◌≡◌, ℕ, ◌+◌, ◌<◌, Bool, true, List, [], ◌∷◌, length, All, Some, slice_get};
+ghost use Rattle.std.specs.Prelude.{◌≡◌, ℕ, ◌+◌, ◌<◌, Bool, true, false, if◌then◌else◌, List, [], ◌∷◌, length, take, sum_by, All, Some, slice_get};
 ghost use Rattle.std.specs.List.{list_all};
 ghost use Rattle.nv_entry.specs.Opcode.{io_opcode};
+ghost use Rattle.nv_entry.specs.Range.{blocks_of, start_of};
 ghost use Rattle.nv_entry.specs.Submission.{opcode_of, slba_of};
 ghost use Rattle.nv_mem.specs.Places.{places_of, total_len};
-ghost use Rattle.nv_model.specs.Judge.{Work, Transfer, Clear, Manage, Keep, MoveBlock, ClearBlock, KeepAll, Go, count_of};
-ghost use Rattle.nv_model.specs.Judge.{deallocates, form_of, is_fua, range_count_of, range_fits, range_units, transfer_len};
+ghost use Rattle.nv_model.specs.Judge.{Work, Transfer, Clear, Manage, Keep, MoveBlock, ClearBlock, LeaveBlock, KeepAll, Go};
+ghost use Rattle.nv_model.specs.Judge.{count_of, deallocates, form_of, is_fua, range_count_of, range_fits, range_units, transfer_len};
 ghost use Rattle.nv_model.specs.Private.{Shape, verdict_in};
 ghost use Rattle.nv_model.specs.Laws.{IsMappedPiece, IsMappedPlace, IsUnitWithin};
 
@@ -66,4 +67,17 @@ pub fn dataset_management_has_the_units_of_its_ranges()
         verdict_in shape memory entry ≡ Go work → form_of work.opcode ≡ Manage →
         (length work.ranges ≡ range_count_of entry) × ((list_all (range_fits shape.blocks) work.ranges ≡ true)
         × (work.units ≡ range_units (deallocates entry) work.ranges)) }
+{}
+
+/// A Dataset Management has one unit for each block of each of its ranges, range by range, and in the order of a range's blocks. Where the
+/// command deallocates, the block becomes zeros and is not kept; else it stays as it is.
+pub fn dataset_management_has_a_unit_for_each_block()
+    ensures count { (shape : Shape) (memory : ℕ → ℕ) (entry : List ℕ) (work : Work) →
+        verdict_in shape memory entry ≡ Go work → form_of work.opcode ≡ Manage →
+        length work.units ≡ sum_by blocks_of work.ranges }
+    ensures each { (shape : Shape) (memory : ℕ → ℕ) (entry : List ℕ) (work : Work) (k i : ℕ) (range : List ℕ) →
+        verdict_in shape memory entry ≡ Go work → form_of work.opcode ≡ Manage →
+        slice_get work.ranges k ≡ Some range → i < blocks_of range →
+        slice_get work.units (sum_by blocks_of (take k work.ranges) + i)
+        ≡ Some (if deallocates entry then ClearBlock (start_of range + i) false else LeaveBlock (start_of range + i)) }
 {}
