@@ -1,7 +1,8 @@
--- Lemmas on `InNamespace` and its test, for this crate and those above it.
-use Rattle.std.proofs.Common.{◌≡◌, ℕ, ◌+◌, ◌<◌, true, arith}
+-- Lemmas on `InNamespace` and its test, and on a namespace of one extent, for this crate and those above it.
+use Rattle.std.proofs.Common.{◌≡◌, ℕ, ◌+◌, ◌<◌, true, [], ◌∷◌, arith}
 use Rattle.std.proofs.lemmas.Grind.{common_steps}
-use Rattle.nv_ns.specs.BlockRange.{InNamespace, in_namespace}
+use Rattle.nv_ns.specs.BlockRange.{Extent, InNamespace, in_namespace}
+use Rattle.nv_ns.specs.Extents.{blocks_in}
 
 -- a range that passes the test is in the namespace
 pub InNamespace-tested : (slba count blocks : ℕ) → in_namespace slba count blocks ≡ true → InNamespace slba count blocks
@@ -14,3 +15,7 @@ in_namespace-true slba count blocks inside = grind (arith, common_steps)
 -- each block of a range in the namespace is in it
 pub block_below : (slba count blocks i : ℕ) → InNamespace slba count blocks → i < count → slba + i < blocks
 block_below slba count blocks i inside below = omega arith
+
+-- a namespace of one extent has its blocks
+pub blocks_in-one : (extent : Extent) → blocks_in (extent ∷ []) ≡ extent.blocks
+blocks_in-one extent = omega arith
