@@ -1,9 +1,7 @@
 -- Words of the laws on one command
-use Rattle.std.specs.Prelude.{◌≡◌, ◌≢◌, ◌≤◌, ℕ, Bool, false, All, List, length}
-use Rattle.std.specs.Bool.{⊤}
+use Rattle.std.specs.Prelude.{◌≡◌, ℕ, Bool, false, All, List, length}
 use Rattle.nv_entry.specs.Status.{StatusField}
-use Rattle.nv_mem.specs.Places.{Place}
-use Rattle.nv_model.specs.Judge.{ClearBlock, KeepAll, LeaveBlock, MoveBlock, Work, WorkUnit}
+use Rattle.nv_model.specs.Judge.{Work, WorkUnit}
 use Rattle.nv_model.specs.Limits.{block}
 use Rattle.nv_model.specs.Carried.{units_moved}
 use Rattle.nv_model.specs.Laws.{IsOrderOf}

@@ -4,6 +4,7 @@ ghost use Rattle.std.specs.Prelude.{◌≡◌, ◌+◌, ◌%◌, ◌<◌, ◌≤
 ghost use Rattle.std.specs.List.{slice_index_or};
 ghost use Rattle.nv_mem.specs.Bytes.{InMemory, after_store, bytes_at};
 ghost use Rattle.nv_model.specs.Limits.{block as block_size, page};
+ghost use Rattle.nv_ns.specs.Extents.{blocks_in};
 ghost use Rattle.nv_flat.specs.Flat.{FitsLimits, identity_map};
 ghost use Rattle.nv_moves.specs.Flat.{flat};
 
@@ -132,7 +133,8 @@ impl FlatController {
 
     /// The namespace of the guest: all blocks, as one extent.
     pub(crate) fn namespace(&self) -> VirtualNs
-        ensures { result ≡ record { base = 0; blocks = length self.now.disk } ∷ [] }
+        ensures value { result ≡ record { base = 0; blocks = length self.now.disk } ∷ [] }
+        ensures blocks { blocks_in result ≡ length self.now.disk }
     {
         VirtualNs::of(Extent::new(0, self.blocks()))
     }

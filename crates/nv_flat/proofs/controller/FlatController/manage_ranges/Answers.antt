@@ -9,7 +9,6 @@ use Rattle.nv_judge.proofs.RangeLemmas.{ranges-fit}
 use Rattle.nv_judge.specs.Ranges.{ranges_verdict}
 use Rattle.nv_mem.specs.Places.{Place, places_of}
 use Rattle.nv_model.specs.Judge.{range_count_of}
-use Rattle.nv_ns.specs.Extents.{blocks_in}
 use Rattle.nv_moves.specs.Buffer.{AreBelow}
 use Rattle.nv_moves.specs.Flat.{Flat}
 use Rattle.nv_flat.specs.One.{IsRun}
@@ -39,18 +38,16 @@ returns-in-Err-clause-run c =
     let m : IsManaged c.args.self.now c.args.sqe.now c.args.places.now c.fetch.new.out =
     managed c.args.self.now c.args.sqe.now c.args.places.now c.fetch.new.out c.self.inside.memory c.new.result (length c.args.ranges.now)
     c.requires.in_order c.requires.spelled (ap (λ (f : Flat). f.memory) c.self.view_is) c.new.ensures c.requires.whole c.fetch.ensures.bytes in
-    let blocks : blocks_in c.namespace.result ≡ length c.args.self.now.disk = ap blocks_in c.namespace.ensures in
     let P : ℕ → Type 0 = λ n. Err c.in-Err.status ≡ ranges_verdict n c.fetch.new.out in
-    managed-refused c.args.self.now c.args.sqe.now c.args.places.now c.fetch.new.out c.in-Err.status m (sym (subst P blocks c.in-Err.ensures))
+    managed-refused c.args.self.now c.args.sqe.now c.args.places.now c.fetch.new.out c.in-Err.status m (sym (subst P c.namespace.ensures.blocks c.in-Err.ensures))
 
 pub returns-clause-run : goal.returns-clause-run
 returns-clause-run c =
     let m : IsManaged c.args.self.now c.args.sqe.now c.args.places.now c.fetch.new.out =
     managed c.args.self.now c.args.sqe.now c.args.places.now c.fetch.new.out c.self.inside.memory c.new.result (length c.args.ranges.now)
     c.requires.in_order c.requires.spelled (ap (λ (f : Flat). f.memory) c.self.view_is) c.new.ensures c.requires.whole c.fetch.ensures.bytes in
-    let blocks : blocks_in c.namespace.result ≡ length c.args.self.now.disk = ap blocks_in c.namespace.ensures in
     let P : ℕ → Type 0 = λ n. Ok c.in_default.field-0 ≡ ranges_verdict n c.fetch.new.out in
-    let fit = ranges-fit (length c.args.self.now.disk) c.fetch.new.out (sym (subst P blocks c.in_default.ensures)) in
+    let fit = ranges-fit (length c.args.self.now.disk) c.fetch.new.out (sym (subst P c.namespace.ensures.blocks c.in_default.ensures)) in
     let S : StatusField → Type 0 = λ st. IsRun c.args.self.now c.args.sqe.now st c.if-deallocate.self in
     let G : Flat → Type 0 = λ g. IsRun c.args.self.now c.args.sqe.now (done_with Success) g in
     subst S (sym c.status.ensures)
