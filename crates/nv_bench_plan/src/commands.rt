@@ -3,7 +3,7 @@
 use nv_entry::Sqe;
 use nv_mem::{Bytes, GuestMap, NoMemory};
 use nv_model::limits::MOST_DESCRIPTORS;
-use nv_ns::VirtualNs;
+use nv_ns::{Extent, VirtualNs};
 use nv_plan::{Job, Planned, ReadDone, Transcript, make_plan};
 use std::alloc::Global;
 
@@ -124,7 +124,7 @@ pub fn planned(
     count: u32,
     plans: bool,
 ) -> Result<u32, NoMemory> {
-    let ns = VirtualNs::new(0, 1024);
+    let ns = VirtualNs::of(Extent::new(0, 1024));
     let mut made = 0u32;
     for _ in 0..count {
         let job = job(alloc, kind)?;

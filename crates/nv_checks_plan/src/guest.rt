@@ -4,7 +4,7 @@
 use nv_entry::{Sqe, StatusCode};
 use nv_mem::{Bytes, GuestMap, NoMemory, Piece, Region};
 use nv_model::limits::MOST_DESCRIPTORS;
-use nv_ns::VirtualNs;
+use nv_ns::{Extent, VirtualNs};
 use nv_plan::{Job, PlanKind, Planned, ReadDone, Transcript, make_plan};
 use std::alloc::{Allocator, Global};
 use std::process::Abort;
@@ -168,7 +168,7 @@ impl Guest {
 
 /// The guest's blocks.
 pub fn range() -> VirtualNs {
-    VirtualNs::new(1000, 64)
+    VirtualNs::of(Extent::new(1000, 64))
 }
 
 /// The command with these dwords changed.

@@ -21,7 +21,7 @@ use Rattle.nv_model.proofs.InParts.{ranges-short}
 use Rattle.nv_model.proofs.ListsFed.{AreSpelled}
 use Rattle.nv_mem.specs.GuestMap.{mapped}
 use Rattle.nv_model.proofs.JudgeCases.{judge-listed, judge-refused, judge-unlisted, judge_ranges-fits, judge_ranges-refused}
-use Rattle.nv_ns.specs.BlockRange.{Extent, block_count}
+use Rattle.nv_ns.specs.Extents.{Namespace, blocks_in}
 use Rattle.nv_prp.specs.Fits.{places_fit}
 use Rattle.nv_world_model.specs.Area.{translated_range}
 use Rattle.nv_world_model.specs.Geometry.{Guest, regions_of, shape_of}
@@ -38,25 +38,25 @@ use Rattle.nv_plan.specs.declared.outcome.Outcome.TheVariants.{Wanted, Settled}
 
 -- a command that its fields refuse is answered
 pub plan_over-refused : (given : Guest) (entry : List ℕ) (reads : List ReadDone) (st : StatusField)
-    → field_verdict (block_count given.extent) entry ≡ Err st
+    → field_verdict (blocks_in given.namespace) entry ≡ Err st
     → plan_over given entry reads ≡ Ended (Answer st)
 unfolding plan_over in_transcript
 plan_over-refused given entry reads st refused =
-    let by = field_verdict-err (block_count given.extent) entry st refused in
-    ap (λ d. planned (regions_of given) (in_transcript d [] reads)) (judge-refused (shape_of given).mapped given.limit (block_count given.extent) entry by.0 by.1)
+    let by = field_verdict-err (blocks_in given.namespace) entry st refused in
+    ap (λ d. planned (regions_of given) (in_transcript d [] reads)) (judge-refused (shape_of given).mapped given.limit (blocks_in given.namespace) entry by.0 by.1)
     ∙ ap (λ (s : StatusField). Ended (Answer s)) (sym by.2)
 
 -- what is known of a command whose fields are in order
 pub record IsKnown (given : Guest) (entry : List ℕ) (opcode : IoOpcode) (need : Need) : Type 0 where
-  pub unrefused : field_refusal (block_count given.extent) entry ≡ None
+  pub unrefused : field_refusal (blocks_in given.namespace) entry ≡ None
   pub known : io_opcode (opcode_of entry) ≡ Some opcode
   pub needs : need ≡ need_of entry opcode
 
 pub known-by : (given : Guest) (entry : List ℕ) (opcode : IoOpcode) (need : Need)
-    → field_verdict (block_count given.extent) entry ≡ Ok need → io_opcode (opcode_of entry) ≡ Some opcode
+    → field_verdict (blocks_in given.namespace) entry ≡ Ok need → io_opcode (opcode_of entry) ≡ Some opcode
     → IsKnown given entry opcode need
 known-by given entry opcode need fine known =
-    let by = field_verdict-ok (block_count given.extent) entry need fine in
+    let by = field_verdict-ok (blocks_in given.namespace) entry need fine in
     let same : by.1.0 ≡ opcode = some_same by.1.0 opcode (sym by.1.1 ∙ known) in
     record { unrefused = by.0; known = known; needs = by.1.2 ∙ ap (need_of entry) same }
   where
@@ -65,9 +65,9 @@ known-by given entry opcode need fine known =
 
 -- one of an unknown opcode is refused
 pub never-unknown : (given : Guest) (entry : List ℕ) (need : Need)
-    → field_verdict (block_count given.extent) entry ≡ Ok need → io_opcode (opcode_of entry) ≡ None → ⊥
+    → field_verdict (blocks_in given.namespace) entry ≡ Ok need → io_opcode (opcode_of entry) ≡ None → ⊥
 never-unknown given entry need fine unknown =
-    let by = field_verdict-ok (block_count given.extent) entry need fine in
+    let by = field_verdict-ok (blocks_in given.namespace) entry need fine in
     not_none by.1.0 (sym unknown ∙ by.1.1)
   where
     not_none : (a : IoOpcode) → None ≡ Some a → ⊥
@@ -76,15 +76,15 @@ never-unknown given entry need fine unknown =
 -- one without a buffer moves no data
 pub plan_over-no_data : (given : Guest) (entry : List ℕ) (reads : List ReadDone) (opcode : IoOpcode) (need : Need)
     → IsKnown given entry opcode need → has_buffer opcode ≡ false
-    → outlined given.extent (plan_over given entry reads) ≡ Ended (record { kind = kind.NoData; places = []; ranges = [] })
+    → outlined given.namespace (plan_over given entry reads) ≡ Ended (record { kind = kind.NoData; places = []; ranges = [] })
 unfolding plan_over in_transcript
 plan_over-no_data given entry reads opcode need is buffer =
-    ap (λ d. outlined given.extent (planned (regions_of given) (in_transcript d [] reads)))
-    (judge-unlisted (shape_of given).mapped given.limit (block_count given.extent) entry opcode is.unrefused is.known buffer)
+    ap (λ d. outlined given.namespace (planned (regions_of given) (in_transcript d [] reads)))
+    (judge-unlisted (shape_of given).mapped given.limit (blocks_in given.namespace) entry opcode is.unrefused is.known buffer)
     ∙ by_opcode opcode buffer
   where
     by_opcode : (o : IoOpcode) → has_buffer o ≡ false
-        → outlined given.extent (Ended (plan_of (regions_of given) (Go (work_of (block_count given.extent) o entry [] []))))
+        → outlined given.namespace (Ended (plan_of (regions_of given) (Go (work_of (blocks_in given.namespace) o entry [] []))))
         ≡ Ended (record { kind = kind.NoData; places = []; ranges = [] })
     by_opcode Flush none = refl
     by_opcode WriteZeroes none = refl
@@ -100,14 +100,14 @@ pub plan_over-listed : (given : Guest) (entry : List ℕ) (reads : List ReadDone
 unfolding plan_over
 plan_over-listed given entry reads opcode need is buffer =
     ap (λ d. planned (regions_of given) (in_transcript d [] reads))
-    (judge-listed (shape_of given).mapped given.limit (block_count given.extent) entry opcode is.unrefused is.known buffer)
+    (judge-listed (shape_of given).mapped given.limit (blocks_in given.namespace) entry opcode is.unrefused is.known buffer)
 
 -- how many bytes a buffer has
 pub transfer-some : (given : Guest) (entry : List ℕ) (opcode : IoOpcode) (need : Need) (dest : Bool)
     → IsKnown given entry opcode need → form_of opcode ≡ Transfer dest
     → (0 < need.bytes) × (need.bytes ≤ 131072)
 transfer-some given entry opcode need dest is form =
-    let few : count_of entry ≤ 256 = count-at_most (block_count given.extent) entry opcode is.unrefused is.known (buffered opcode dest form) (ranged opcode dest form) in
+    let few : count_of entry ≤ 256 = count-at_most (blocks_in given.namespace) entry opcode is.unrefused is.known (buffered opcode dest form) (ranged opcode dest form) in
     let many : need.bytes ≡ 512 * count_of entry = ap (λ (n : Need). n.bytes) is.needs ∙ len_of opcode dest form in
     (omega arith, omega arith)
   where
@@ -154,28 +154,28 @@ spelled-places listed regions need pieces spelled is =
 planned-list : (given : Guest) (opcode : IoOpcode) (entry : List ℕ) (reads behind : List ReadDone) (listed : Outcome (Result (List Piece) StatusField)) (need : Need)
     → IsJudgedAs listed behind (list_of (data_pointer (psdt_of entry)) (regions_of given) given.limit need entry) reads entry
     → need ≡ need_of entry opcode
-    → planned (regions_of given) (judged_list listed behind (block_count given.extent) entry opcode) ≡ plan_of_list given opcode entry reads
+    → planned (regions_of given) (judged_list listed behind (blocks_in given.namespace) entry opcode) ≡ plan_of_list given opcode entry reads
 planned-list given opcode entry reads behind listed need judged needs =
-    ap (planned (regions_of given)) (judged (block_count given.extent) opcode)
-    ∙ ap (λ (n : Need). planned (regions_of given) (verdict_over (list_of (data_pointer (psdt_of entry)) (regions_of given) given.limit n entry) reads (block_count given.extent) entry opcode)) needs
+    ap (planned (regions_of given)) (judged (blocks_in given.namespace) opcode)
+    ∙ ap (λ (n : Need). planned (regions_of given) (verdict_over (list_of (data_pointer (psdt_of entry)) (regions_of given) given.limit n entry) reads (blocks_in given.namespace) entry opcode)) needs
 
 -- more of it is wanted
 pub list-wanted : (given : Guest) (opcode : IoOpcode) (entry : List ℕ) (reads behind : List ReadDone) (listed : Outcome (Result (List Piece) StatusField)) (need : Need) (addr len : ℕ)
     → IsJudgedAs listed behind (list_of (data_pointer (psdt_of entry)) (regions_of given) given.limit need entry) reads entry
     → need ≡ need_of entry opcode → listed ≡ Wanted addr len
-    → Asked addr len ≡ outlined given.extent (plan_of_list given opcode entry reads)
+    → Asked addr len ≡ outlined given.namespace (plan_of_list given opcode entry reads)
 list-wanted given opcode entry reads behind listed need addr len judged needs is =
-    ap (λ (l : Outcome (Result (List Piece) StatusField)). outlined given.extent (planned (regions_of given) (judged_list l behind (block_count given.extent) entry opcode))) (sym is)
-    ∙ ap (outlined given.extent) (planned-list given opcode entry reads behind listed need judged needs)
+    ap (λ (l : Outcome (Result (List Piece) StatusField)). outlined given.namespace (planned (regions_of given) (judged_list l behind (blocks_in given.namespace) entry opcode))) (sym is)
+    ∙ ap (outlined given.namespace) (planned-list given opcode entry reads behind listed need judged needs)
 
 -- it is refused
 pub list-refused : (given : Guest) (opcode : IoOpcode) (entry : List ℕ) (reads behind : List ReadDone) (listed : Outcome (Result (List Piece) StatusField)) (need : Need) (st : StatusField)
     → IsJudgedAs listed behind (list_of (data_pointer (psdt_of entry)) (regions_of given) given.limit need entry) reads entry
     → need ≡ need_of entry opcode → listed ≡ Settled (Err st)
-    → Ended (record { kind = kind.Answer st; places = []; ranges = [] }) ≡ outlined given.extent (plan_of_list given opcode entry reads)
+    → Ended (record { kind = kind.Answer st; places = []; ranges = [] }) ≡ outlined given.namespace (plan_of_list given opcode entry reads)
 list-refused given opcode entry reads behind listed need st judged needs is =
-    ap (λ (l : Outcome (Result (List Piece) StatusField)). outlined given.extent (planned (regions_of given) (judged_list l behind (block_count given.extent) entry opcode))) (sym is)
-    ∙ ap (outlined given.extent) (planned-list given opcode entry reads behind listed need judged needs)
+    ap (λ (l : Outcome (Result (List Piece) StatusField)). outlined given.namespace (planned (regions_of given) (judged_list l behind (blocks_in given.namespace) entry opcode))) (sym is)
+    ∙ ap (outlined given.namespace) (planned-list given opcode entry reads behind listed need judged needs)
 
 -- it spells the places of a transfer
 abbrev pub kind_by : Bool → PlanKind
@@ -185,22 +185,22 @@ kind_by false = kind.Bounced
 transfer-outline : (given : Guest) (opcode : IoOpcode) (dest : Bool) (entry : List ℕ) (behind : List ReadDone) (pieces : List Piece) (fit : Bool)
     → form_of opcode ≡ Transfer dest → fit ≡ places_fit (regions_of given) pieces
     → Ended (record { kind = kind_by fit; places = pieces; ranges = [] })
-    ≡ outlined given.extent (planned (regions_of given) (in_transcript (judge_reading (block_count given.extent) entry opcode (Spells pieces)) [] behind))
+    ≡ outlined given.namespace (planned (regions_of given) (in_transcript (judge_reading (blocks_in given.namespace) entry opcode (Spells pieces)) [] behind))
 unfolding in_transcript
 transfer-outline given opcode dest entry behind pieces fit form fits =
     by_fit fit
-    ∙ ap (λ (b : Bool). outlined given.extent (Ended (transfer_plan b (work_of (block_count given.extent) opcode entry pieces [])))) fits
+    ∙ ap (λ (b : Bool). outlined given.namespace (Ended (transfer_plan b (work_of (blocks_in given.namespace) opcode entry pieces [])))) fits
     ∙ by_opcode opcode dest form
   where
     by_fit : (b : Bool)
         → Ended (record { kind = kind_by b; places = pieces; ranges = [] })
-        ≡ outlined given.extent (Ended (transfer_plan b (work_of (block_count given.extent) opcode entry pieces [])))
+        ≡ outlined given.namespace (Ended (transfer_plan b (work_of (blocks_in given.namespace) opcode entry pieces [])))
     by_fit true = refl
     by_fit false = refl
 
     by_opcode : (o : IoOpcode) (d : Bool) → form_of o ≡ Transfer d
-        → outlined given.extent (Ended (transfer_plan (places_fit (regions_of given) pieces) (work_of (block_count given.extent) o entry pieces [])))
-        ≡ outlined given.extent (planned (regions_of given) (in_transcript (judge_reading (block_count given.extent) entry o (Spells pieces)) [] behind))
+        → outlined given.namespace (Ended (transfer_plan (places_fit (regions_of given) pieces) (work_of (blocks_in given.namespace) o entry pieces [])))
+        ≡ outlined given.namespace (planned (regions_of given) (in_transcript (judge_reading (blocks_in given.namespace) entry o (Spells pieces)) [] behind))
     by_opcode Flush d e = (cc)
     by_opcode WriteZeroes d e = (cc)
     by_opcode Read d e = refl
@@ -212,11 +212,11 @@ pub list-transfers : (given : Guest) (opcode : IoOpcode) (dest : Bool) (entry : 
     → IsJudgedAs listed behind (list_of (data_pointer (psdt_of entry)) (regions_of given) given.limit need entry) reads entry
     → form_of opcode ≡ Transfer dest → need ≡ need_of entry opcode → listed ≡ Settled (Ok pieces)
     → fit ≡ places_fit (regions_of given) pieces
-    → Ended (record { kind = kind_by fit; places = pieces; ranges = [] }) ≡ outlined given.extent (plan_of_list given opcode entry reads)
+    → Ended (record { kind = kind_by fit; places = pieces; ranges = [] }) ≡ outlined given.namespace (plan_of_list given opcode entry reads)
 list-transfers given opcode dest entry reads behind listed need pieces fit judged form needs is fits =
     transfer-outline given opcode dest entry behind pieces fit form fits
-    ∙ ap (λ (l : Outcome (Result (List Piece) StatusField)). outlined given.extent (planned (regions_of given) (judged_list l behind (block_count given.extent) entry opcode))) (sym is)
-    ∙ ap (outlined given.extent) (planned-list given opcode entry reads behind listed need judged needs)
+    ∙ ap (λ (l : Outcome (Result (List Piece) StatusField)). outlined given.namespace (planned (regions_of given) (judged_list l behind (blocks_in given.namespace) entry opcode))) (sym is)
+    ∙ ap (outlined given.namespace) (planned-list given opcode entry reads behind listed need judged needs)
 
 -- ---- Dataset Management
 
@@ -224,22 +224,22 @@ list-transfers given opcode dest entry reads behind listed need pieces fit judge
 pub list-manages : (given : Guest) (entry : List ℕ) (reads behind : List ReadDone) (listed : Outcome (Result (List Piece) StatusField)) (need : Need) (pieces : List Piece) (fetched : Outcome (List ℕ))
     → IsJudgedAs listed behind (list_of (data_pointer (psdt_of entry)) (regions_of given) given.limit need entry) reads entry
     → need ≡ need_of entry DatasetManagement → listed ≡ Settled (Ok pieces) → IsFetched fetched pieces behind
-    → outlined given.extent (planned (regions_of given) (made_of fetched (λ bytes. judge_ranges (block_count given.extent) DatasetManagement entry pieces (ranges_in (range_count_of entry) bytes))))
-    ≡ outlined given.extent (plan_of_list given DatasetManagement entry reads)
+    → outlined given.namespace (planned (regions_of given) (made_of fetched (λ bytes. judge_ranges (blocks_in given.namespace) DatasetManagement entry pieces (ranges_in (range_count_of entry) bytes))))
+    ≡ outlined given.namespace (plan_of_list given DatasetManagement entry reads)
 list-manages given entry reads behind listed need pieces fetched judged needs is shows =
-    ap (λ v. outlined given.extent (planned (regions_of given) v))
-    (shows (λ bytes. judge_ranges (block_count given.extent) DatasetManagement entry pieces (ranges_in (range_count_of entry) bytes)))
-    ∙ ap (λ (l : Outcome (Result (List Piece) StatusField)). outlined given.extent (planned (regions_of given) (judged_list l behind (block_count given.extent) entry DatasetManagement))) (sym is)
-    ∙ ap (outlined given.extent) (planned-list given DatasetManagement entry reads behind listed need judged needs)
+    ap (λ v. outlined given.namespace (planned (regions_of given) v))
+    (shows (λ bytes. judge_ranges (blocks_in given.namespace) DatasetManagement entry pieces (ranges_in (range_count_of entry) bytes)))
+    ∙ ap (λ (l : Outcome (Result (List Piece) StatusField)). outlined given.namespace (planned (regions_of given) (judged_list l behind (blocks_in given.namespace) entry DatasetManagement))) (sym is)
+    ∙ ap (outlined given.namespace) (planned-list given DatasetManagement entry reads behind listed need judged needs)
 
 -- some of the bytes are wanted
 pub ranges-wanted : (given : Guest) (entry : List ℕ) (reads behind : List ReadDone) (listed : Outcome (Result (List Piece) StatusField)) (need : Need) (pieces : List Piece) (fetched : Outcome (List ℕ)) (addr len : ℕ)
     → IsJudgedAs listed behind (list_of (data_pointer (psdt_of entry)) (regions_of given) given.limit need entry) reads entry
     → need ≡ need_of entry DatasetManagement → listed ≡ Settled (Ok pieces) → IsFetched fetched pieces behind
     → fetched ≡ Wanted addr len
-    → Asked addr len ≡ outlined given.extent (plan_of_list given DatasetManagement entry reads)
+    → Asked addr len ≡ outlined given.namespace (plan_of_list given DatasetManagement entry reads)
 ranges-wanted given entry reads behind listed need pieces fetched addr len judged needs is shows wanted =
-    ap (λ (o : Outcome (List ℕ)). outlined given.extent (planned (regions_of given) (made_of o (λ bytes. judge_ranges (block_count given.extent) DatasetManagement entry pieces (ranges_in (range_count_of entry) bytes))))) (sym wanted)
+    ap (λ (o : Outcome (List ℕ)). outlined given.namespace (planned (regions_of given) (made_of o (λ bytes. judge_ranges (blocks_in given.namespace) DatasetManagement entry pieces (ranges_in (range_count_of entry) bytes))))) (sym wanted)
     ∙ list-manages given entry reads behind listed need pieces fetched judged needs is shows
 
 -- all of them were fetched
@@ -247,14 +247,14 @@ pub ranges-fetched : (given : Guest) (entry : List ℕ) (reads behind : List Rea
     → IsJudgedAs listed behind (list_of (data_pointer (psdt_of entry)) (regions_of given) given.limit need entry) reads entry
     → need ≡ need_of entry DatasetManagement → listed ≡ Settled (Ok pieces) → IsFetched fetched pieces behind
     → fetched ≡ Settled bytes → length bytes ≡ need.bytes
-    → outline ≡ outline_of given.extent (plan_of (regions_of given) (judge_ranges (block_count given.extent) DatasetManagement entry pieces (ranges_in (length bytes / 16) bytes)))
-    → Ended outline ≡ outlined given.extent (plan_of_list given DatasetManagement entry reads)
+    → outline ≡ outline_of given.namespace (plan_of (regions_of given) (judge_ranges (blocks_in given.namespace) DatasetManagement entry pieces (ranges_in (length bytes / 16) bytes)))
+    → Ended outline ≡ outlined given.namespace (plan_of_list given DatasetManagement entry reads)
 ranges-fetched given entry reads behind listed need pieces fetched bytes outline judged needs is shows came whole says =
     let many = (ranges-some entry need needs).0 in
     let count : length bytes / 16 ≡ range_count_of entry = omega arith in
     ap Ended says
-    ∙ ap (λ (n : ℕ). Ended (outline_of given.extent (plan_of (regions_of given) (judge_ranges (block_count given.extent) DatasetManagement entry pieces (ranges_in n bytes))))) count
-    ∙ ap (λ (o : Outcome (List ℕ)). outlined given.extent (planned (regions_of given) (made_of o (λ b. judge_ranges (block_count given.extent) DatasetManagement entry pieces (ranges_in (range_count_of entry) b))))) (sym came)
+    ∙ ap (λ (n : ℕ). Ended (outline_of given.namespace (plan_of (regions_of given) (judge_ranges (blocks_in given.namespace) DatasetManagement entry pieces (ranges_in n bytes))))) count
+    ∙ ap (λ (o : Outcome (List ℕ)). outlined given.namespace (planned (regions_of given) (made_of o (λ b. judge_ranges (blocks_in given.namespace) DatasetManagement entry pieces (ranges_in (range_count_of entry) b))))) (sym came)
     ∙ list-manages given entry reads behind listed need pieces fetched judged needs is shows
 
 -- as many as were asked for
@@ -263,23 +263,23 @@ pub fetched-len : (fetched : Outcome (List ℕ)) (n : ℕ) (bytes : List ℕ) �
 fetched-len fetched n bytes has came = subst (λ (o : Outcome (List ℕ)). HasLen o n) came has
 
 -- what one says whose ranges are refused
-pub ranged-refused : (ns : Extent) (regions : List Region) (entry : List ℕ) (pieces : List Piece) (bytes : List ℕ) (st : StatusField)
-    → ranges_verdict ns.blocks bytes ≡ Err st
+pub ranged-refused : (ns : Namespace) (regions : List Region) (entry : List ℕ) (pieces : List Piece) (bytes : List ℕ) (st : StatusField)
+    → ranges_verdict (blocks_in ns) bytes ≡ Err st
     → record { kind = kind.Answer st; places = []; ranges = [] }
-    ≡ outline_of ns (plan_of regions (judge_ranges ns.blocks DatasetManagement entry pieces (ranges_in (length bytes / 16) bytes)))
+    ≡ outline_of ns (plan_of regions (judge_ranges (blocks_in ns) DatasetManagement entry pieces (ranges_in (length bytes / 16) bytes)))
 ranged-refused ns regions entry pieces bytes st refused =
-    let leave = ranges-leave ns.blocks bytes st refused in
-    sym (ap (λ (v : Verdict). outline_of ns (plan_of regions v)) (judge_ranges-refused ns.blocks DatasetManagement entry pieces (ranges_in (length bytes / 16) bytes) leave.0 ∙ ap Refuse (sym leave.1)))
+    let leave = ranges-leave (blocks_in ns) bytes st refused in
+    sym (ap (λ (v : Verdict). outline_of ns (plan_of regions v)) (judge_ranges-refused (blocks_in ns) DatasetManagement entry pieces (ranges_in (length bytes / 16) bytes) leave.0 ∙ ap Refuse (sym leave.1)))
 
 -- and one whose ranges all fit
-pub ranged-fits : (ns : Extent) (regions : List Region) (entry : List ℕ) (pieces : List Piece) (bytes : List ℕ) (ranges : List (List ℕ))
-    → list_all (range_fits ns.blocks) (ranges_in (length bytes / 16) bytes) ≡ true
+pub ranged-fits : (ns : Namespace) (regions : List Region) (entry : List ℕ) (pieces : List Piece) (bytes : List ℕ) (ranges : List (List ℕ))
+    → list_all (range_fits (blocks_in ns)) (ranges_in (length bytes / 16) bytes) ≡ true
     → ranges ≡ map (translated_range ns) (ranges_in (length bytes / 16) bytes)
     → record { kind = kind.Bounced; places = pieces; ranges = ranges }
-    ≡ outline_of ns (plan_of regions (judge_ranges ns.blocks DatasetManagement entry pieces (ranges_in (length bytes / 16) bytes)))
+    ≡ outline_of ns (plan_of regions (judge_ranges (blocks_in ns) DatasetManagement entry pieces (ranges_in (length bytes / 16) bytes)))
 ranged-fits ns regions entry pieces bytes ranges fit are =
     ap (λ (rs : List (List ℕ)). record { kind = kind.Bounced; places = pieces; ranges = rs }) are
-    ∙ sym (ap (λ (v : Verdict). outline_of ns (plan_of regions v)) (judge_ranges-fits ns.blocks DatasetManagement entry pieces (ranges_in (length bytes / 16) bytes) fit))
+    ∙ sym (ap (λ (v : Verdict). outline_of ns (plan_of regions v)) (judge_ranges-fits (blocks_in ns) DatasetManagement entry pieces (ranges_in (length bytes / 16) bytes) fit))
 
 -- ---- the whole
 
@@ -294,13 +294,13 @@ pub transfer-buffer : (opcode : IoOpcode) (dest : Bool) → form_of opcode ≡ T
 transfer-buffer opcode dest form = ap form_has_buffer form
 
 -- what is wanted is what the definition wants
-pub outlined-wanted : (extent : Extent) (outcome : Come Plan) (addr len : ℕ) → Asked addr len ≡ outlined extent outcome
+pub outlined-wanted : (ns : Namespace) (outcome : Come Plan) (addr len : ℕ) → Asked addr len ≡ outlined ns outcome
     → outcome ≡ Asked addr len
-outlined-wanted extent (Asked at n) addr len e = (cc)
-outlined-wanted extent (Ended plan) addr len e = (cc)
+outlined-wanted ns (Asked at n) addr len e = (cc)
+outlined-wanted ns (Ended plan) addr len e = (cc)
 
 -- and what is settled says what the definition's plan says
-pub outlined-settled : (extent : Extent) (outcome : Come Plan) (outline : Outline) → Ended outline ≡ outlined extent outcome
-    → (plan : Plan) × ((outcome ≡ Ended plan) × (outline ≡ outline_of extent plan))
-outlined-settled extent (Asked at n) outline e = (cc)
-outlined-settled extent (Ended plan) outline e = (plan, (refl, (cc)))
+pub outlined-settled : (ns : Namespace) (outcome : Come Plan) (outline : Outline) → Ended outline ≡ outlined ns outcome
+    → (plan : Plan) × ((outcome ≡ Ended plan) × (outline ≡ outline_of ns plan))
+outlined-settled ns (Asked at n) outline e = (cc)
+outlined-settled ns (Ended plan) outline e = (plan, (refl, (cc)))

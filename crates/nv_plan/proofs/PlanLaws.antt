@@ -26,7 +26,7 @@ use Rattle.nv_model.proofs.InParts.{judge-in_parts}
 use Rattle.nv_model.proofs.InTurn.{in_transcript-settled}
 use Rattle.nv_model.proofs.JudgeCases.{judge-refused}
 use Rattle.nv_model.proofs.Judged.{IsSoundWork}
-use Rattle.nv_ns.specs.BlockRange.{Extent, block_count}
+use Rattle.nv_ns.specs.Extents.{Namespace, blocks_in}
 use Rattle.nv_ns.proofs.Ranges.{InNamespace-tested}
 use Rattle.nv_prp.specs.Built.{HoldsList, SpellsAddresses, built, reading_of}
 use Rattle.nv_prp.specs.Fits.{fit_prp, host_addresses, is_run, places_fit}
@@ -46,25 +46,25 @@ use Rattle.nv_plan.proofs.PlanCases.{transfer-some}
 -- some answers lead to a verdict, and what a plan says is what that verdict's plan says
 pub record IsOutlined (given : Guest) (entry : List ℕ) (outline : Outline) : Type 0 where
   pub verdict : Verdict
-  pub may : MayEndIn (judge (shape_of given).mapped given.limit (block_count given.extent) entry) verdict
-  pub says : outline ≡ outline_of given.extent (plan_of (regions_of given) verdict)
+  pub may : MayEndIn (judge (shape_of given).mapped given.limit (blocks_in given.namespace) entry) verdict
+  pub says : outline ≡ outline_of given.namespace (plan_of (regions_of given) verdict)
 
 pub IsJobsPlan-outlined : (p : MadePlan) → IsJobsPlan p → IsOutlined p.given p.job.sqe p.outline
 unfolding plan_over
 IsJobsPlan-outlined p is =
-    by_outcome (in_transcript (judge (shape_of p.given).mapped p.given.limit (block_count p.given.extent) p.job.sqe) [] p.job.reads) refl is.settled
+    by_outcome (in_transcript (judge (shape_of p.given).mapped p.given.limit (blocks_in p.given.namespace) p.job.sqe) [] p.job.reads) refl is.settled
   where
     by_outcome : (o : Come Verdict)
-        → in_transcript (judge (shape_of p.given).mapped p.given.limit (block_count p.given.extent) p.job.sqe) [] p.job.reads ≡ o
-        → outlined p.given.extent (planned (regions_of p.given) o) ≡ Ended p.outline
+        → in_transcript (judge (shape_of p.given).mapped p.given.limit (blocks_in p.given.namespace) p.job.sqe) [] p.job.reads ≡ o
+        → outlined p.given.namespace (planned (regions_of p.given) o) ≡ Ended p.outline
         → IsOutlined p.given p.job.sqe p.outline
     by_outcome (Asked addr len) came e = (cc)
     by_outcome (Ended verdict) came e =
         record {
           verdict = verdict;
           may =
-              settled-may (judge (shape_of p.given).mapped p.given.limit (block_count p.given.extent) p.job.sqe) 0 [] p.job.reads verdict
-              (judge-in_parts (shape_of p.given).mapped p.given.limit (block_count p.given.extent) p.job.sqe) came;
+              settled-may (judge (shape_of p.given).mapped p.given.limit (blocks_in p.given.namespace) p.job.sqe) 0 [] p.job.reads verdict
+              (judge-in_parts (shape_of p.given).mapped p.given.limit (blocks_in p.given.namespace) p.job.sqe) came;
           says = (cc);
         }
 
@@ -73,9 +73,9 @@ pub IsJobsPlan-same : (p q : MadePlan) → IsJobsPlan p → IsJobsPlan q → p.j
     → p.given ≡ q.given → p.outline ≡ q.outline
 IsJobsPlan-same p q is other sqe reads given =
     ended (sym is.settled
-    ∙ ap (λ (g : Guest). outlined g.extent (plan_over g p.job.sqe p.job.reads)) given
-    ∙ ap (λ (e : List ℕ). outlined q.given.extent (plan_over q.given e p.job.reads)) sqe
-    ∙ ap (λ (rs : List ReadDone). outlined q.given.extent (plan_over q.given q.job.sqe rs)) reads
+    ∙ ap (λ (g : Guest). outlined g.namespace (plan_over g p.job.sqe p.job.reads)) given
+    ∙ ap (λ (e : List ℕ). outlined q.given.namespace (plan_over q.given e p.job.reads)) sqe
+    ∙ ap (λ (rs : List ReadDone). outlined q.given.namespace (plan_over q.given q.job.sqe rs)) reads
     ∙ other.settled)
   where
     ended : {a b : Outline} → ◌≡◌ {A = Come Outline} (Ended a) (Ended b) → a ≡ b
@@ -83,21 +83,21 @@ IsJobsPlan-same p q is other sqe reads given =
 
 -- what is read then changes nothing
 outlined-further : (given : Guest) (entry : List ℕ) (reads more : List ReadDone) (outline : Outline)
-    → outlined given.extent (plan_over given entry reads) ≡ Ended outline
-    → outlined given.extent (plan_over given entry (reads ++ more)) ≡ Ended outline
+    → outlined given.namespace (plan_over given entry reads) ≡ Ended outline
+    → outlined given.namespace (plan_over given entry (reads ++ more)) ≡ Ended outline
 unfolding plan_over
 outlined-further given entry reads more outline settled =
-    by_outcome (in_transcript (judge (shape_of given).mapped given.limit (block_count given.extent) entry) [] reads) refl settled
+    by_outcome (in_transcript (judge (shape_of given).mapped given.limit (blocks_in given.namespace) entry) [] reads) refl settled
   where
     by_outcome : (o : Come Verdict)
-        → in_transcript (judge (shape_of given).mapped given.limit (block_count given.extent) entry) [] reads ≡ o
-        → outlined given.extent (planned (regions_of given) o) ≡ Ended outline
-        → outlined given.extent (planned (regions_of given) (in_transcript (judge (shape_of given).mapped given.limit (block_count given.extent) entry) [] (reads ++ more)))
+        → in_transcript (judge (shape_of given).mapped given.limit (blocks_in given.namespace) entry) [] reads ≡ o
+        → outlined given.namespace (planned (regions_of given) o) ≡ Ended outline
+        → outlined given.namespace (planned (regions_of given) (in_transcript (judge (shape_of given).mapped given.limit (blocks_in given.namespace) entry) [] (reads ++ more)))
         ≡ Ended outline
     by_outcome (Asked addr len) came e = (cc)
     by_outcome (Ended verdict) came e =
-        ap (λ (o : Come Verdict). outlined given.extent (planned (regions_of given) o))
-        (in_transcript-settled (judge (shape_of given).mapped given.limit (block_count given.extent) entry) reads more verdict came)
+        ap (λ (o : Come Verdict). outlined given.namespace (planned (regions_of given) o))
+        (in_transcript-settled (judge (shape_of given).mapped given.limit (blocks_in given.namespace) entry) reads more verdict came)
         ∙ e
 
 pub IsJobsPlan-further : (p q : MadePlan) (more : List ReadDone) → IsJobsPlan p → IsJobsPlan q → p.job.sqe ≡ q.job.sqe
@@ -109,13 +109,13 @@ IsJobsPlan-further p q more is other sqe reads given =
 -- ---- each verdict's plan
 
 -- it has no places, or those of the work
-outline-places : (P : List Piece → Type 0) (form : Form) (extent : Extent) (regions : List Region) (work : Work)
-    → P [] → P work.pieces → P (outline_of extent (go_plan form regions work)).places
-outline-places P (Transfer dest) extent regions work none all =
-    (elim (places_fit regions work.pieces) as (λ b. P (outline_of extent (transfer_plan b work)).places) [ true ↦ all | false ↦ all ])
-outline-places P Clear extent regions work none all = none
-outline-places P Manage extent regions work none all = all
-outline-places P Keep extent regions work none all = none
+outline-places : (P : List Piece → Type 0) (form : Form) (ns : Namespace) (regions : List Region) (work : Work)
+    → P [] → P work.pieces → P (outline_of ns (go_plan form regions work)).places
+outline-places P (Transfer dest) ns regions work none all =
+    (elim (places_fit regions work.pieces) as (λ b. P (outline_of ns (transfer_plan b work)).places) [ true ↦ all | false ↦ all ])
+outline-places P Clear ns regions work none all = none
+outline-places P Manage ns regions work none all = all
+outline-places P Keep ns regions work none all = none
 
 -- one that is direct is of a transfer, whose places fit
 record IsDirectBy (form : Form) (regions : List Region) (places : List Piece) (work : Work) : Type 0 where
@@ -124,82 +124,82 @@ record IsDirectBy (form : Form) (regions : List Region) (places : List Piece) (w
   same : places ≡ work.pieces
   fit : places_fit regions work.pieces ≡ true
 
-direct-by : (form : Form) (extent : Extent) (regions : List Region) (work : Work)
-    → (outline_of extent (go_plan form regions work)).kind ≡ kind.Direct
-    → IsDirectBy form regions (outline_of extent (go_plan form regions work)).places work
-direct-by (Transfer dest) extent regions work direct = by_fit (places_fit regions work.pieces) refl direct
+direct-by : (form : Form) (ns : Namespace) (regions : List Region) (work : Work)
+    → (outline_of ns (go_plan form regions work)).kind ≡ kind.Direct
+    → IsDirectBy form regions (outline_of ns (go_plan form regions work)).places work
+direct-by (Transfer dest) ns regions work direct = by_fit (places_fit regions work.pieces) refl direct
   where
-    by_fit : (b : Bool) → places_fit regions work.pieces ≡ b → (outline_of extent (transfer_plan b work)).kind ≡ kind.Direct
-        → IsDirectBy (Transfer dest) regions (outline_of extent (transfer_plan b work)).places work
+    by_fit : (b : Bool) → places_fit regions work.pieces ≡ b → (outline_of ns (transfer_plan b work)).kind ≡ kind.Direct
+        → IsDirectBy (Transfer dest) regions (outline_of ns (transfer_plan b work)).places work
     by_fit true is e = record { dest = dest; is = refl; same = refl; fit = is }
     by_fit false is e = (cc)
-direct-by Clear extent regions work direct = (cc)
-direct-by Manage extent regions work direct = (cc)
-direct-by Keep extent regions work direct = (cc)
+direct-by Clear ns regions work direct = (cc)
+direct-by Manage ns regions work direct = (cc)
+direct-by Keep ns regions work direct = (cc)
 
 -- one that is bounced has the work's places; if it is of a transfer, they do not fit
-bounced-by : (form : Form) (extent : Extent) (regions : List Region) (work : Work)
-    → (outline_of extent (go_plan form regions work)).kind ≡ kind.Bounced
-    → ((outline_of extent (go_plan form regions work)).places ≡ work.pieces)
+bounced-by : (form : Form) (ns : Namespace) (regions : List Region) (work : Work)
+    → (outline_of ns (go_plan form regions work)).kind ≡ kind.Bounced
+    → ((outline_of ns (go_plan form regions work)).places ≡ work.pieces)
     × ((dest : Bool) → form ≡ Transfer dest → places_fit regions work.pieces ≡ false)
-bounced-by (Transfer dest) extent regions work bounced = by_fit (places_fit regions work.pieces) refl bounced
+bounced-by (Transfer dest) ns regions work bounced = by_fit (places_fit regions work.pieces) refl bounced
   where
-    by_fit : (b : Bool) → places_fit regions work.pieces ≡ b → (outline_of extent (transfer_plan b work)).kind ≡ kind.Bounced
-        → ((outline_of extent (transfer_plan b work)).places ≡ work.pieces)
+    by_fit : (b : Bool) → places_fit regions work.pieces ≡ b → (outline_of ns (transfer_plan b work)).kind ≡ kind.Bounced
+        → ((outline_of ns (transfer_plan b work)).places ≡ work.pieces)
         × ((d : Bool) → Transfer dest ≡ Transfer d → places_fit regions work.pieces ≡ false)
     by_fit true is e = (cc)
     by_fit false is e = (refl, λ d same. is)
-bounced-by Clear extent regions work bounced = (cc)
-bounced-by Manage extent regions work bounced = (refl, λ d same. (cc))
-bounced-by Keep extent regions work bounced = (cc)
+bounced-by Clear ns regions work bounced = (cc)
+bounced-by Manage ns regions work bounced = (refl, λ d same. (cc))
+bounced-by Keep ns regions work bounced = (cc)
 
 -- one that moves no data has no places
-no_data-by : (form : Form) (extent : Extent) (regions : List Region) (work : Work)
-    → (outline_of extent (go_plan form regions work)).kind ≡ kind.NoData
-    → (outline_of extent (go_plan form regions work)).places ≡ []
-no_data-by (Transfer dest) extent regions work none = by_fit (places_fit regions work.pieces) none
+no_data-by : (form : Form) (ns : Namespace) (regions : List Region) (work : Work)
+    → (outline_of ns (go_plan form regions work)).kind ≡ kind.NoData
+    → (outline_of ns (go_plan form regions work)).places ≡ []
+no_data-by (Transfer dest) ns regions work none = by_fit (places_fit regions work.pieces) none
   where
-    by_fit : (b : Bool) → (outline_of extent (transfer_plan b work)).kind ≡ kind.NoData → (outline_of extent (transfer_plan b work)).places ≡ []
+    by_fit : (b : Bool) → (outline_of ns (transfer_plan b work)).kind ≡ kind.NoData → (outline_of ns (transfer_plan b work)).places ≡ []
     by_fit true e = (cc)
     by_fit false e = (cc)
-no_data-by Clear extent regions work none = refl
-no_data-by Manage extent regions work none = (cc)
-no_data-by Keep extent regions work none = refl
+no_data-by Clear ns regions work none = refl
+no_data-by Manage ns regions work none = (cc)
+no_data-by Keep ns regions work none = refl
 
 -- and one that goes does not answer
-answer-by : (form : Form) (extent : Extent) (regions : List Region) (work : Work) (st : StatusField)
-    → (outline_of extent (go_plan form regions work)).kind ≡ kind.Answer st → ⊥
-answer-by (Transfer dest) extent regions work st none = by_fit (places_fit regions work.pieces) none
+answer-by : (form : Form) (ns : Namespace) (regions : List Region) (work : Work) (st : StatusField)
+    → (outline_of ns (go_plan form regions work)).kind ≡ kind.Answer st → ⊥
+answer-by (Transfer dest) ns regions work st none = by_fit (places_fit regions work.pieces) none
   where
-    by_fit : (b : Bool) → (outline_of extent (transfer_plan b work)).kind ≡ kind.Answer st → ⊥
+    by_fit : (b : Bool) → (outline_of ns (transfer_plan b work)).kind ≡ kind.Answer st → ⊥
     by_fit true e = (cc)
     by_fit false e = (cc)
-answer-by Clear extent regions work st none = (cc)
-answer-by Manage extent regions work st none = (cc)
-answer-by Keep extent regions work st none = (cc)
+answer-by Clear ns regions work st none = (cc)
+answer-by Manage ns regions work st none = (cc)
+answer-by Keep ns regions work st none = (cc)
 
 -- its ranges are those of the work, or none
-outline-ranges : (form : Form) (extent : Extent) (regions : List Region) (work : Work) (blocks : ℕ)
+outline-ranges : (form : Form) (ns : Namespace) (regions : List Region) (work : Work) (blocks : ℕ)
     → list_all (range_fits blocks) work.ranges ≡ true
     → (ranges : List (List ℕ)) × ((list_all (range_fits blocks) ranges ≡ true)
-    × ((outline_of extent (go_plan form regions work)).ranges ≡ map (translated_range extent) ranges))
-outline-ranges (Transfer dest) extent regions work blocks fit =
+    × ((outline_of ns (go_plan form regions work)).ranges ≡ map (translated_range ns) ranges))
+outline-ranges (Transfer dest) ns regions work blocks fit =
     (elim (places_fit regions work.pieces) as (λ b. (ranges : List (List ℕ)) × ((list_all (range_fits blocks) ranges ≡ true)
-    × ((outline_of extent (transfer_plan b work)).ranges ≡ map (translated_range extent) ranges))) [
+    × ((outline_of ns (transfer_plan b work)).ranges ≡ map (translated_range ns) ranges))) [
       | true ↦ ([], (refl, refl))
       | false ↦ (work.ranges, (fit, refl))
     ])
-outline-ranges Clear extent regions work blocks fit = ([], (refl, refl))
-outline-ranges Manage extent regions work blocks fit = (work.ranges, (fit, refl))
-outline-ranges Keep extent regions work blocks fit = ([], (refl, refl))
+outline-ranges Clear ns regions work blocks fit = ([], (refl, refl))
+outline-ranges Manage ns regions work blocks fit = (work.ranges, (fit, refl))
+outline-ranges Keep ns regions work blocks fit = ([], (refl, refl))
 
 -- ---- the places
 
 -- what is known of a plan that goes
 sound-work : (given : Guest) (entry : List ℕ) (work : Work)
-    → MayEndIn (judge (shape_of given).mapped given.limit (block_count given.extent) entry) (Go work)
-    → IsSoundWork (mapped (regions_of given)) (block_count given.extent) entry work
-sound-work given entry work may = end-sound (shape_of given).mapped given.limit (block_count given.extent) entry work may
+    → MayEndIn (judge (shape_of given).mapped given.limit (blocks_in given.namespace) entry) (Go work)
+    → IsSoundWork (mapped (regions_of given)) (blocks_in given.namespace) entry work
+sound-work given entry work may = end-sound (shape_of given).mapped given.limit (blocks_in given.namespace) entry work may
 
 same_opcode : (entry : List ℕ) (a b : IoOpcode) → io_opcode (opcode_of entry) ≡ Some a → io_opcode (opcode_of entry) ≡ Some b → a ≡ b
 same_opcode entry a b is other = some_same (sym is ∙ other)
@@ -212,18 +212,18 @@ pub places-mapped : (given : Guest) (entry : List ℕ) (outline : Outline) → I
 places-mapped given entry outline o =
     subst (λ (x : Outline). All (IsMappedPiece (mapped (regions_of given))) x.places) (sym o.says) (by_verdict o.verdict o.may)
   where
-    by_verdict : (v : Verdict) → MayEndIn (judge (shape_of given).mapped given.limit (block_count given.extent) entry) v
-        → All (IsMappedPiece (mapped (regions_of given))) (outline_of given.extent (plan_of (regions_of given) v)).places
+    by_verdict : (v : Verdict) → MayEndIn (judge (shape_of given).mapped given.limit (blocks_in given.namespace) entry) v
+        → All (IsMappedPiece (mapped (regions_of given))) (outline_of given.namespace (plan_of (regions_of given) v)).places
     by_verdict (Refuse st) may = All-nil (IsMappedPiece (mapped (regions_of given)))
     by_verdict (Go work) may =
-        outline-places (λ ps. All (IsMappedPiece (mapped (regions_of given))) ps) (form_of work.opcode) given.extent (regions_of given) work
+        outline-places (λ ps. All (IsMappedPiece (mapped (regions_of given))) ps) (form_of work.opcode) given.namespace (regions_of given) work
         (All-nil (IsMappedPiece (mapped (regions_of given)))) (sound-work given entry work may).mapped_each
 
 -- what is known of a direct plan
 pub record IsDirect (given : Guest) (entry : List ℕ) (outline : Outline) : Type 0 where
   pub work : Work
-  pub sound : IsSoundWork (mapped (regions_of given)) (block_count given.extent) entry work
-  pub unrefused : field_refusal (block_count given.extent) entry ≡ None
+  pub sound : IsSoundWork (mapped (regions_of given)) (blocks_in given.namespace) entry work
+  pub unrefused : field_refusal (blocks_in given.namespace) entry ≡ None
   pub dest : Bool
   pub form : form_of work.opcode ≡ Transfer dest
   pub same : outline.places ≡ work.pieces
@@ -231,12 +231,12 @@ pub record IsDirect (given : Guest) (entry : List ℕ) (outline : Outline) : Typ
 
 -- a command that goes is not refused by its fields
 unrefused-by : (given : Guest) (entry : List ℕ) (work : Work) (refusal : Option StatusCode)
-    → field_refusal (block_count given.extent) entry ≡ refusal
-    → MayEndIn (judge (shape_of given).mapped given.limit (block_count given.extent) entry) (Go work)
-    → field_refusal (block_count given.extent) entry ≡ None
+    → field_refusal (blocks_in given.namespace) entry ≡ refusal
+    → MayEndIn (judge (shape_of given).mapped given.limit (blocks_in given.namespace) entry) (Go work)
+    → field_refusal (blocks_in given.namespace) entry ≡ None
 unrefused-by given entry work None is may = is
 unrefused-by given entry work (Some code) is may =
-    absurd (refused (subst (λ d. MayEndIn d (Go work)) (judge-refused (shape_of given).mapped given.limit (block_count given.extent) entry code is) may))
+    absurd (refused (subst (λ d. MayEndIn d (Go work)) (judge-refused (shape_of given).mapped given.limit (blocks_in given.namespace) entry code is) may))
   where
     refused : {st : StatusField} → Refuse st ≡ Go work → ⊥
     refused e = (cc)
@@ -246,16 +246,16 @@ pub direct-is : (given : Guest) (entry : List ℕ) (outline : Outline) → IsOut
 direct-is given entry outline o direct =
     subst (IsDirect given entry) (sym o.says) (by_verdict o.verdict o.may (ap (λ (x : Outline). x.kind) (sym o.says) ∙ direct))
   where
-    by_verdict : (v : Verdict) → MayEndIn (judge (shape_of given).mapped given.limit (block_count given.extent) entry) v
-        → (outline_of given.extent (plan_of (regions_of given) v)).kind ≡ kind.Direct
-        → IsDirect given entry (outline_of given.extent (plan_of (regions_of given) v))
+    by_verdict : (v : Verdict) → MayEndIn (judge (shape_of given).mapped given.limit (blocks_in given.namespace) entry) v
+        → (outline_of given.namespace (plan_of (regions_of given) v)).kind ≡ kind.Direct
+        → IsDirect given entry (outline_of given.namespace (plan_of (regions_of given) v))
     by_verdict (Refuse st) may e = (cc)
     by_verdict (Go work) may e =
-        let by = direct-by (form_of work.opcode) given.extent (regions_of given) work e in
+        let by = direct-by (form_of work.opcode) given.namespace (regions_of given) work e in
         record {
           work = work;
           sound = sound-work given entry work may;
-          unrefused = unrefused-by given entry work (field_refusal (block_count given.extent) entry) refl may;
+          unrefused = unrefused-by given entry work (field_refusal (blocks_in given.namespace) entry) refl may;
           dest = by.dest;
           form = by.is;
           same = by.same;
@@ -304,13 +304,13 @@ bounced-is given entry outline opcode o known bounced =
     × ((dest : Bool) → form_of opcode ≡ Transfer dest → places_fit (regions_of given) x.places ≡ false)) (sym o.says)
     (by_verdict o.verdict o.may (ap (λ (x : Outline). x.kind) (sym o.says) ∙ bounced))
   where
-    by_verdict : (v : Verdict) → MayEndIn (judge (shape_of given).mapped given.limit (block_count given.extent) entry) v
-        → (outline_of given.extent (plan_of (regions_of given) v)).kind ≡ kind.Bounced
-        → (total_len (outline_of given.extent (plan_of (regions_of given) v)).places ≡ transfer_len opcode entry)
-        × ((dest : Bool) → form_of opcode ≡ Transfer dest → places_fit (regions_of given) (outline_of given.extent (plan_of (regions_of given) v)).places ≡ false)
+    by_verdict : (v : Verdict) → MayEndIn (judge (shape_of given).mapped given.limit (blocks_in given.namespace) entry) v
+        → (outline_of given.namespace (plan_of (regions_of given) v)).kind ≡ kind.Bounced
+        → (total_len (outline_of given.namespace (plan_of (regions_of given) v)).places ≡ transfer_len opcode entry)
+        × ((dest : Bool) → form_of opcode ≡ Transfer dest → places_fit (regions_of given) (outline_of given.namespace (plan_of (regions_of given) v)).places ≡ false)
     by_verdict (Refuse st) may e = (cc)
     by_verdict (Go work) may e =
-        let by = bounced-by (form_of work.opcode) given.extent (regions_of given) work e in
+        let by = bounced-by (form_of work.opcode) given.namespace (regions_of given) work e in
         let sound = sound-work given entry work may in
         let same = same_opcode entry work.opcode opcode sound.opcode known in (
           ap total_len by.0 ∙ sound.total ∙ ap (λ (x : IoOpcode). transfer_len x entry) same,
@@ -323,36 +323,36 @@ pub no_data-is : (given : Guest) (entry : List ℕ) (outline : Outline) → IsOu
 no_data-is given entry outline o none =
     ap (λ (x : Outline). x.places) o.says ∙ by_verdict o.verdict (ap (λ (x : Outline). x.kind) (sym o.says) ∙ none)
   where
-    by_verdict : (v : Verdict) → (outline_of given.extent (plan_of (regions_of given) v)).kind ≡ kind.NoData
-        → (outline_of given.extent (plan_of (regions_of given) v)).places ≡ []
+    by_verdict : (v : Verdict) → (outline_of given.namespace (plan_of (regions_of given) v)).kind ≡ kind.NoData
+        → (outline_of given.namespace (plan_of (regions_of given) v)).places ≡ []
     by_verdict (Refuse st) e = (cc)
-    by_verdict (Go work) e = no_data-by (form_of work.opcode) given.extent (regions_of given) work e
+    by_verdict (Go work) e = no_data-by (form_of work.opcode) given.namespace (regions_of given) work e
 
 pub answer-is : (given : Guest) (entry : List ℕ) (outline : Outline) (st : StatusField) → IsOutlined given entry outline
     → outline.kind ≡ kind.Answer st → outline.places ≡ []
 answer-is given entry outline st o answer =
     ap (λ (x : Outline). x.places) o.says ∙ by_verdict o.verdict (ap (λ (x : Outline). x.kind) (sym o.says) ∙ answer)
   where
-    by_verdict : (v : Verdict) → (outline_of given.extent (plan_of (regions_of given) v)).kind ≡ kind.Answer st
-        → (outline_of given.extent (plan_of (regions_of given) v)).places ≡ []
+    by_verdict : (v : Verdict) → (outline_of given.namespace (plan_of (regions_of given) v)).kind ≡ kind.Answer st
+        → (outline_of given.namespace (plan_of (regions_of given) v)).places ≡ []
     by_verdict (Refuse other) e = refl
-    by_verdict (Go work) e = absurd (answer-by (form_of work.opcode) given.extent (regions_of given) work st e)
+    by_verdict (Go work) e = absurd (answer-by (form_of work.opcode) given.namespace (regions_of given) work st e)
 
 -- ---- the ranges
 
 pub ranges-are : (given : Guest) (entry : List ℕ) (outline : Outline) → IsOutlined given entry outline
-    → (ranges : List (List ℕ)) × ((list_all (range_fits (block_count given.extent)) ranges ≡ true)
-    × (outline.ranges ≡ map (translated_range given.extent) ranges))
+    → (ranges : List (List ℕ)) × ((list_all (range_fits (blocks_in given.namespace)) ranges ≡ true)
+    × (outline.ranges ≡ map (translated_range given.namespace) ranges))
 ranges-are given entry outline o =
-    subst (λ (x : Outline). (ranges : List (List ℕ)) × ((list_all (range_fits (block_count given.extent)) ranges ≡ true)
-    × (x.ranges ≡ map (translated_range given.extent) ranges))) (sym o.says) (by_verdict o.verdict o.may)
+    subst (λ (x : Outline). (ranges : List (List ℕ)) × ((list_all (range_fits (blocks_in given.namespace)) ranges ≡ true)
+    × (x.ranges ≡ map (translated_range given.namespace) ranges))) (sym o.says) (by_verdict o.verdict o.may)
   where
-    by_verdict : (v : Verdict) → MayEndIn (judge (shape_of given).mapped given.limit (block_count given.extent) entry) v
-        → (ranges : List (List ℕ)) × ((list_all (range_fits (block_count given.extent)) ranges ≡ true)
-        × ((outline_of given.extent (plan_of (regions_of given) v)).ranges ≡ map (translated_range given.extent) ranges))
+    by_verdict : (v : Verdict) → MayEndIn (judge (shape_of given).mapped given.limit (blocks_in given.namespace) entry) v
+        → (ranges : List (List ℕ)) × ((list_all (range_fits (blocks_in given.namespace)) ranges ≡ true)
+        × ((outline_of given.namespace (plan_of (regions_of given) v)).ranges ≡ map (translated_range given.namespace) ranges))
     by_verdict (Refuse st) may = ([], (refl, refl))
     by_verdict (Go work) may =
-        outline-ranges (form_of work.opcode) given.extent (regions_of given) work (block_count given.extent) (sound-work given entry work may).fit
+        outline-ranges (form_of work.opcode) given.namespace (regions_of given) work (blocks_in given.namespace) (sound-work given entry work may).fit
 
 -- a range on the disk: its bytes are read back, so far as they reach
 range-start : (blocks lba : ℕ) → start_of (number_bytes 4 0 ++ number_bytes 4 blocks ++ number_bytes 8 lba) ≡ lba % 2 ^ 64

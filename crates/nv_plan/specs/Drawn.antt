@@ -4,7 +4,7 @@ use Rattle.nv_entry.specs.Opcode.{data_pointer}
 use Rattle.nv_entry.specs.Submission.{psdt_of}
 use Rattle.nv_entry.specs.declared.opcode.IoOpcode.{IoOpcode}
 use Rattle.nv_judge.specs.Need.{need_of}
-use Rattle.nv_ns.specs.BlockRange.{block_count}
+use Rattle.nv_ns.specs.Extents.{blocks_in}
 use Rattle.nv_model.specs.Transcript.{Outcome as Come, ReadDone, Settled as Ended, Wanted as Asked}
 use Rattle.nv_world_model.specs.Geometry.{Guest, regions_of}
 use Rattle.nv_world_model.specs.Plan.{Plan, planned}
@@ -16,7 +16,7 @@ use Rattle.nv_plan.specs.declared.outcome.Outcome.TheVariants.{Wanted, Settled}
 
 -- what a guest was given
 abbrev pub given_of : Given → Guest
-given_of given = record { memory_map = given.map.now; extent = given.ns; limit = given.limit }
+given_of given = record { memory_map = given.map.now; namespace = given.ns.now; limit = given.limit }
 
 -- what has come of a job
 abbrev pub drawn : Outcome Outline → Come Outline
@@ -27,4 +27,4 @@ drawn (Settled outline) = Ended outline
 abbrev pub plan_of_list : Guest → IoOpcode → (entry : List ℕ) → List ReadDone → Come Plan
 plan_of_list given opcode entry reads =
     planned (regions_of given)
-    (verdict_over (list_of (data_pointer (psdt_of entry)) (regions_of given) given.limit (need_of entry opcode) entry) reads (block_count given.extent) entry opcode)
+    (verdict_over (list_of (data_pointer (psdt_of entry)) (regions_of given) given.limit (need_of entry opcode) entry) reads (blocks_in given.namespace) entry opcode)

@@ -1,9 +1,11 @@
 -- Words of the laws about plans
-use Rattle.std.specs.Prelude.{ℕ, ◌+◌, ◌≤◌, List}
+use Rattle.std.specs.Prelude.{◌≡◌, ℕ, ◌+◌, ◌<◌, ◌≤◌, List}
 use Rattle.nv_entry.specs.Range.{blocks_of, start_of}
-use Rattle.nv_ns.specs.BlockRange.{Extent, block_at, block_count}
+use Rattle.nv_ns.specs.Extents.{LiesInOne, Namespace, blocks_in}
+use Rattle.nv_world_model.specs.Area.{first_base}
 
--- a range of the disk lies in a namespace's blocks
-abbrev pub LiesIn : Extent → List ℕ → Type 0
-LiesIn extent range =
-    (block_at extent 0 ≤ start_of range) × (start_of range + blocks_of range ≤ block_at extent (block_count extent))
+-- a range of the disk that has blocks lies in one extent of a namespace; one of no blocks starts behind the first extent's base, no farther
+-- than the namespace is long
+pub record LiesIn (ns : Namespace) (range : List ℕ) : Type 0 where
+  pub some : 0 < blocks_of range → LiesInOne ns (record { first = 0; start = start_of range; count = blocks_of range })
+  pub none : blocks_of range ≡ 0 → (first_base ns ≤ start_of range) × (start_of range ≤ first_base ns + blocks_in ns)

@@ -18,4 +18,4 @@ outcome_of given job = plan_over given job.sqe job.reads
 
 -- a plan says what the definition says of its job and of what its guest was given
 pub record IsJobsPlan (p : MadePlan) : Type 0 where
-  pub settled : outlined p.given.extent (outcome_of p.given p.job) ≡ Settled p.outline
+  pub settled : outlined p.given.namespace (outcome_of p.given p.job) ≡ Settled p.outline

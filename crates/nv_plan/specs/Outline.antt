@@ -3,7 +3,7 @@
 use Rattle.std.specs.Prelude.{ℕ, List, [], map}
 use Rattle.nv_mem.specs.declared.piece.Piece.{Piece}
 use Rattle.nv_model.specs.Transcript.{Outcome, Settled, Wanted}
-use Rattle.nv_ns.specs.BlockRange.{Extent}
+use Rattle.nv_ns.specs.Extents.{Namespace}
 use Rattle.nv_world_model.specs.Area.{translated_range}
 use Rattle.nv_world_model.specs.Plan.{Answer, Bounced, Direct, NoData, Plan}
 use Rattle.nv_plan.specs.declared.kind.PlanKind.{PlanKind}
@@ -15,15 +15,15 @@ pub record Outline : Type 0 where
   pub places : List Piece
   pub ranges : List (List ℕ)
 
--- what a plan says in a namespace that lies there
-abbrev pub outline_of : Extent → Plan → Outline
-outline_of extent (Answer st) = record { kind = kind.Answer st; places = []; ranges = [] }
-outline_of extent (NoData work) = record { kind = kind.NoData; places = []; ranges = [] }
-outline_of extent (Direct work) = record { kind = kind.Direct; places = work.pieces; ranges = [] }
-outline_of extent (Bounced work) =
-    record { kind = kind.Bounced; places = work.pieces; ranges = map (translated_range extent) work.ranges }
+-- what a plan says in that namespace
+abbrev pub outline_of : Namespace → Plan → Outline
+outline_of ns (Answer st) = record { kind = kind.Answer st; places = []; ranges = [] }
+outline_of ns (NoData work) = record { kind = kind.NoData; places = []; ranges = [] }
+outline_of ns (Direct work) = record { kind = kind.Direct; places = work.pieces; ranges = [] }
+outline_of ns (Bounced work) =
+    record { kind = kind.Bounced; places = work.pieces; ranges = map (translated_range ns) work.ranges }
 
 -- more is wanted, or this is what the plan says
-abbrev pub outlined : Extent → Outcome Plan → Outcome Outline
-outlined extent (Wanted addr len) = Wanted addr len
-outlined extent (Settled plan) = Settled (outline_of extent plan)
+abbrev pub outlined : Namespace → Outcome Plan → Outcome Outline
+outlined ns (Wanted addr len) = Wanted addr len
+outlined ns (Settled plan) = Settled (outline_of ns plan)

@@ -7,6 +7,6 @@ use nv_ns::VirtualNs;
 #[derive(Drop)]
 pub(crate) struct Given<'a> {
     pub(crate) map: &'a GuestMap,
-    pub(crate) ns: VirtualNs,
+    pub(crate) ns: &'a VirtualNs,
     pub(crate) limit: u32,
 }

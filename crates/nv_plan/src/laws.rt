@@ -1,6 +1,6 @@
 //! What a plan comes to, as functions that do nothing: each contract is a law.
 
-ghost use Rattle.std.specs.Prelude.{◌≡◌, ℕ, ◌+◌, ◌%◌, ◌^◌, ◌<◌, Bool, true, false, List, [], ◌++◌, All, Some, length, map};
+ghost use Rattle.std.specs.Prelude.{◌≡◌, ℕ, ◌%◌, Bool, true, false, IsTrue, List, [], ◌++◌, All, Some, length, map};
 ghost use Rattle.std.specs.List.{list_all};
 ghost use Rattle.nv_entry.specs.Opcode.{io_opcode};
 ghost use Rattle.nv_entry.specs.Status.{StatusField};
@@ -12,7 +12,7 @@ ghost use Rattle.nv_model.specs.Judge.{Transfer, form_of, range_fits, transfer_l
 ghost use Rattle.nv_model.specs.Laws.{IsMappedPiece};
 ghost use Rattle.nv_model.specs.Limits.{page};
 ghost use Rattle.nv_model.specs.Transcript.{ReadDone};
-ghost use Rattle.nv_ns.specs.BlockRange.{block_count};
+ghost use Rattle.nv_ns.specs.Extents.{blocks_in, is_namespace};
 ghost use Rattle.nv_prp.specs.Built.{HoldsList, SpellsAddresses, built, reading_of};
 ghost use Rattle.nv_prp.specs.Fits.{host_addresses, places_fit};
 ghost use Rattle.nv_world_model.specs.Area.{translated_range};
@@ -56,12 +56,12 @@ pub fn direct_addresses_fit_and_spell_the_image()
         SpellsAddresses addresses (reading_of memory (built list_page addresses) (length addresses)) }
 {}
 
-/// The ranges of a plan are ranges that lie in the guest's namespace, translated; so they lie in its blocks on the disk, and a range
-/// outside of it is never in a plan.
+/// The ranges of a plan are ranges that lie in the guest's namespace, translated; so they lie in its blocks on the disk, where that is one
+/// extent, and a range outside of it is never in a plan.
 pub fn ranges_lie_in_the_namespace()
     ensures translated { (p : MadePlan) → IsJobsPlan p →
-        (ranges : List (List ℕ)) × ((list_all (range_fits (block_count p.given.extent)) ranges ≡ true)
-        × (p.outline.ranges ≡ map (translated_range p.given.extent) ranges)) }
-    ensures inside { (p : MadePlan) → IsJobsPlan p → p.given.extent.base + p.given.extent.blocks < 2 ^ 64 →
-        All (LiesIn p.given.extent) p.outline.ranges }
+        (ranges : List (List ℕ)) × ((list_all (range_fits (blocks_in p.given.namespace)) ranges ≡ true)
+        × (p.outline.ranges ≡ map (translated_range p.given.namespace) ranges)) }
+    ensures inside { (p : MadePlan) → IsJobsPlan p → IsTrue (is_namespace p.given.namespace) → length p.given.namespace ≡ 1 →
+        All (LiesIn p.given.namespace) p.outline.ranges }
 {}

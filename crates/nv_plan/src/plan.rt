@@ -27,17 +27,17 @@ impl Model for Plan {
 
     ghost Value = { MadePlan };
 
-    ghost view = { λ p. record { job = p.job; given = record { memory_map = p.map; extent = p.ns; limit = p.limit }; outline = p.outline } };
+    ghost view = { λ p. record { job = p.job; given = record { memory_map = p.map; namespace = p.ns; limit = p.limit }; outline = p.outline } };
 
     ghost invariant = { λ p.
-        IsJobsPlan (record { job = p.job; given = record { memory_map = p.map; extent = p.ns; limit = p.limit }; outline = p.outline }) };
+        IsJobsPlan (record { job = p.job; given = record { memory_map = p.map; namespace = p.ns; limit = p.limit }; outline = p.outline }) };
 }
 
 impl Plan {
     /// The plan of a job, where this is what it says.
     pub(crate) fn new(job: Job, map: GuestMap, ns: VirtualNs, limit: u32, outline: Outline) -> Self
-        requires { IsJobsPlan (record { job = job; given = record { memory_map = map; extent = ns; limit = limit }; outline = outline }) }
-        ensures { result ≡ record { job = job; given = record { memory_map = map; extent = ns; limit = limit }; outline = outline } }
+        requires { IsJobsPlan (record { job = job; given = record { memory_map = map; namespace = ns; limit = limit }; outline = outline }) }
+        ensures { result ≡ record { job = job; given = record { memory_map = map; namespace = ns; limit = limit }; outline = outline } }
     {
         Plan {
             job,
@@ -65,11 +65,11 @@ impl Plan {
     }
 
     /// The guest's namespace that it was made with.
-    pub fn ns(&self) -> VirtualNs
-        ensures value { result ≡ self.now.given.extent }
+    pub fn ns(&self) -> &VirtualNs
+        ensures value { result.now ≡ self.now.given.namespace }
         ensures is_plan { IsJobsPlan self.now }
     {
-        self.ns
+        &self.ns
     }
 
     /// The most descriptors of a list that it was made with.

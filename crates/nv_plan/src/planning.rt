@@ -6,6 +6,7 @@ ghost use Rattle.nv_entry.specs.declared.opcode.IoOpcode.TheVariants as opcode;
 ghost use Rattle.nv_judge.specs.Need.{need_of};
 ghost use Rattle.nv_model.specs.Judge.{Transfer, form_of, judge_ranges, ranges_in};
 ghost use Rattle.nv_model.specs.Limits.{most_bytes, range_size};
+ghost use Rattle.nv_ns.specs.Extents.{blocks_in};
 ghost use Rattle.nv_world_model.specs.Plan.{plan_of};
 ghost use Rattle.nv_world_model.specs.SetUp.{most_limit};
 ghost use Rattle.nv_plan.specs.Drawn.{drawn, given_of, plan_of_list};
@@ -43,11 +44,11 @@ pub fn make_plan<A: Allocator + Clone>(
 ) -> Planned
     requires some { 0 < limit }
     requires most { limit ≤ most_limit }
-    ensures { IsPlanned result job (record { memory_map = map.now; extent = ns.now; limit = limit }) }
+    ensures { IsPlanned result job (record { memory_map = map.now; namespace = ns.now; limit = limit }) }
 {
     let given = Given {
         map,
-        ns: *ns,
+        ns,
         limit,
     };
     match given.outline(heap, alloc, &job) {
@@ -69,9 +70,9 @@ impl<'a> Given<'a> {
         job: &Job,
     ) -> Result<Outcome<Outline>, NoMemory>
         requires { 0 < self.now.limit }
-        ensures { IfOk result (λ outline. drawn outline ≡ outlined self.now.ns (outcome_of (given_of self.now) job.now)) }
+        ensures { IfOk result (λ outline. drawn outline ≡ outlined self.now.ns.now (outcome_of (given_of self.now) job.now)) }
     {
-        let need = match judge_fields(&job.sqe, &self.ns) {
+        let need = match judge_fields(&job.sqe, self.ns) {
             Ok(need) => need,
             Err(status) => return Ok(Outcome::Settled(Outline::answer(alloc, status))),
         };
@@ -104,7 +105,7 @@ impl<'a> Given<'a> {
         requires most { need.bytes ≤ most_bytes }
         ensures { IfOk result (λ outline. (opcode : IoOpcode) (dest : Bool) →
             form_of opcode ≡ Transfer dest → need ≡ need_of sqe.now opcode →
-            drawn outline ≡ outlined self.now.ns (plan_of_list (given_of self.now) opcode sqe.now reads.old)) }
+            drawn outline ≡ outlined self.now.ns.now (plan_of_list (given_of self.now) opcode sqe.now reads.old)) }
     {
         match self.read_list(heap, alloc, sqe, need, reads)? {
             Outcome::Wanted { addr, len } => Ok(Outcome::Wanted { addr, len }),
@@ -132,7 +133,7 @@ impl<'a> Given<'a> {
         requires limit { 0 < self.now.limit }
         requires need { need ≡ need_of sqe.now opcode.DatasetManagement }
         ensures { IfOk result (λ outline.
-            drawn outline ≡ outlined self.now.ns (plan_of_list (given_of self.now) opcode.DatasetManagement sqe.now reads.old)) }
+            drawn outline ≡ outlined self.now.ns.now (plan_of_list (given_of self.now) opcode.DatasetManagement sqe.now reads.old)) }
     {
         match self.read_list(heap, alloc, sqe, need, reads)? {
             Outcome::Wanted { addr, len } => Ok(Outcome::Wanted { addr, len }),
@@ -157,10 +158,10 @@ impl<'a> Given<'a> {
     fn ranged(&self, alloc: Global, places: Places, bytes: &[u8]) -> Result<Outline, NoMemory>
         requires { length bytes.now % range_size ≡ 0 }
         ensures { IfOk result (λ outline. (entry : List ℕ) →
-            outline ≡ outline_of self.now.ns (plan_of self.now.map.now.regions
-            (judge_ranges self.now.ns.blocks opcode.DatasetManagement entry places (ranges_in (length bytes.now / range_size) bytes.now)))) }
+            outline ≡ outline_of self.now.ns.now (plan_of self.now.map.now.regions
+            (judge_ranges (blocks_in self.now.ns.now) opcode.DatasetManagement entry places (ranges_in (length bytes.now / range_size) bytes.now)))) }
     {
-        if let Err(status) = judge_ranges(bytes, &self.ns) {
+        if let Err(status) = judge_ranges(bytes, self.ns) {
             return Ok(Outline::answer(alloc, status));
         }
         Ok(Outline::ranged(places, translated(alloc, bytes, self.ns)?))

@@ -1,14 +1,16 @@
 //! The ranges of a Dataset Management: their bytes, and where they lie on the disk.
 
-ghost use Rattle.std.specs.Prelude.{◌≡◌, ◌%◌, ◌/◌, ◌≤◌, ◌++◌, All, IfOk, List, ℕ, [], length, map, true};
+ghost use Rattle.std.specs.Prelude.{◌≡◌, ◌+◌, ◌%◌, ◌/◌, ◌≤◌, ◌==◌, ◌++◌, if◌then◌else◌, All, IfOk, List, ℕ, [], length, map, true};
 ghost use Rattle.std.specs.List.{list_all};
 ghost use Rattle.nv_entry.specs.Layout.{number_bytes};
 ghost use Rattle.nv_mem.specs.Places.{total_len};
 ghost use Rattle.nv_model.specs.Judge.{range_fits, ranges_in};
 ghost use Rattle.nv_model.specs.Limits.{part_size, range_size};
 ghost use Rattle.nv_model.proofs.RunPieces.{IsRunPiece};
+ghost use Rattle.nv_ns.specs.BlockRange.{in_namespace};
+ghost use Rattle.nv_ns.specs.Extents.{blocks_in, place_in};
 ghost use Rattle.nv_plan.specs.Listed.{HasLen, IsFetched};
-ghost use Rattle.nv_world_model.specs.Area.{translated_range};
+ghost use Rattle.nv_world_model.specs.Area.{first_base, translated_range};
 
 use crate::outcome::Outcome;
 use crate::transcript::ReadsLeft;
@@ -47,21 +49,41 @@ pub(crate) fn fetch(
 }
 
 /// The ranges in these bytes, as the disk has them. Each lies in the namespace.
-pub(crate) fn translated(alloc: Global, bytes: &[u8], ns: VirtualNs) -> Result<Vec<Range>, NoMemory>
-    requires fit { list_all (range_fits ns.blocks) (ranges_in (length bytes.now / range_size) bytes.now) ≡ true }
-    ensures { IfOk result (λ ranges. ranges.items ≡ map (translated_range ns) (ranges_in (length bytes.now / range_size) bytes.now)) }
+pub(crate) fn translated(
+    alloc: Global,
+    bytes: &[u8],
+    ns: &VirtualNs,
+) -> Result<Vec<Range>, NoMemory>
+    requires fit { list_all (range_fits (blocks_in ns.now)) (ranges_in (length bytes.now / range_size) bytes.now) ≡ true }
+    ensures { IfOk result (λ ranges.
+        ranges.items ≡ map (translated_range ns.now) (ranges_in (length bytes.now / range_size) bytes.now)) }
 {
     let mut ranges = Vec::with_capacity(alloc, bytes.len() / RANGE_SIZE)?;
     let mut rest = bytes;
     while let Some((range, more)) = rest.split_first_chunk::<RANGE_SIZE>() {
         let range = Range::of(range);
-        let Some(start) = ns.translate(range.start(), u64::from(range.blocks())) else {
-            unreachable!()
-        };
+        let start = place(ns, range.start(), range.blocks());
         ranges.push(Range::of(&range_bytes(range.blocks(), start)))?;
         rest = more;
     }
     Ok(ranges)
+}
+
+// The disk's block at which a range of the namespace starts; one of no blocks as far behind the first extent's base as it starts.
+fn place(ns: &VirtualNs, start: u64, blocks: u32) -> u64
+    requires fits { in_namespace start blocks (blocks_in ns.now) ≡ true }
+    ensures { result ≡ (if blocks == 0 then first_base ns.now + start else place_in ns.now start) }
+{
+    let Some(parts) = ns.translate(start, u64::from(blocks)) else {
+        unreachable!()
+    };
+    match parts.get(0) {
+        Some(part) => part.start(),
+        None => match ns.extent(0) {
+            Some(first) => first.base() + start,
+            None => unreachable!(),
+        },
+    }
 }
 
 // The bytes of a range without attributes.

@@ -9,4 +9,4 @@ returns-clause-translated c p is = ranges-are p.given p.job.sqe p.outline (IsJob
 pub returns-clause-inside : goal.returns-clause-inside
 returns-clause-inside c p is small =
     let are = ranges-are p.given p.job.sqe p.outline (IsJobsPlan-outlined p is) in
-    subst (λ (ranges : List (List ℕ)). All (LiesIn p.given.extent) ranges) (sym are.1.1) (ranges-lie p.given.extent are.0 small are.1.0)
+    subst (λ (ranges : List (List ℕ)). All (LiesIn p.given.namespace) ranges) (sym are.1.1) (ranges-lie p.given.namespace are.0 small are.1.0)

@@ -2,7 +2,7 @@ use Rattle.std.proofs.Common.{ℕ, ◌/◌, List, length, ap, ◌∙◌, arith}
 use Rattle.nv_mem.specs.Places.{total_len}
 use Rattle.nv_model.specs.Judge.{judge_ranges, ranges_in}
 use Rattle.nv_model.specs.Transcript.{Settled}
-use Rattle.nv_ns.specs.BlockRange.{block_count}
+use Rattle.nv_ns.specs.Extents.{blocks_in}
 use Rattle.nv_world_model.specs.Plan.{plan_of}
 use Rattle.nv_plan.specs.Drawn.{given_of}
 use Rattle.nv_plan.specs.declared.outcome.Outcome.TheVariants.{Settled as settled}
@@ -47,4 +47,4 @@ returns-in_ok-ranged-in-Settled g c =
     ranges-fetched (given_of c.args.self.now) c.args.sqe.now c.args.reads.now c.read_list.new.reads c.in_ok-addr.field-0 c.args.need c.in-Settled-Ok.places c.in_ok-addr-in-Settled-Ok.field-0 c.in-Settled.bytes c.in_ok-ranged-in-Settled.field-0
     c.in_ok-addr.ensures.judged c.requires.need (c.in-Settled-Ok.is ∙ ap settled c.in-Settled-Ok.field-0-is) c.in_ok-addr-in-Settled-Ok.ensures.fetched c.in-Settled.is (whole ∙ total)
     (c.in_ok-ranged-in-Settled.ensures c.args.sqe.now
-    ∙ ap (λ (b : List ℕ). outline_of c.args.self.now.ns (plan_of c.args.self.now.map.now.regions (judge_ranges (block_count c.args.self.now.ns) DatasetManagement c.args.sqe.now c.in-Settled-Ok.places (ranges_in (length b / 16) b)))) c.as_slice.ensures)
+    ∙ ap (λ (b : List ℕ). outline_of c.args.self.now.ns.now (plan_of c.args.self.now.map.now.regions (judge_ranges (blocks_in c.args.self.now.ns.now) DatasetManagement c.args.sqe.now c.in-Settled-Ok.places (ranges_in (length b / 16) b)))) c.as_slice.ensures)

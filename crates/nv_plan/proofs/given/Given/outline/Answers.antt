@@ -11,7 +11,7 @@ use Rattle.nv_plan.proofs.given.Given.outline.Goals as goal
 pub returns-in-Err : goal.returns-in-Err
 returns-in-Err g c =
     ap (λ (o : Outline). Settled o) c.answer.ensures
-    ∙ sym (ap (outlined c.args.self.now.ns) (plan_over-refused (given_of c.args.self.now) c.args.job.now.sqe c.args.job.now.reads c.in-Err.status (sym c.in-Err.ensures)))
+    ∙ sym (ap (outlined c.args.self.now.ns.now) (plan_over-refused (given_of c.args.self.now) c.args.job.now.sqe c.args.job.now.reads c.in-Err.status (sym c.in-Err.ensures)))
 
 pub returns-in-Flush : goal.returns-in-Flush
 returns-in-Flush g c =
@@ -26,8 +26,8 @@ returns-in-Read g c =
     let form = transfer-form c.in-Some.opcode c.in-Read.is in
     IfOk-weaker c.transfer.result _ _ (λ outline says.
     says c.in-Some.opcode form.0 form.1 known.needs
-    ∙ ap (λ (reads : List ReadDone). outlined c.args.self.now.ns (plan_of_list (given_of c.args.self.now) c.in-Some.opcode c.args.job.now.sqe reads)) c.all-reads.ensures
-    ∙ sym (ap (outlined c.args.self.now.ns) (plan_over-listed (given_of c.args.self.now) c.args.job.now.sqe c.args.job.now.reads c.in-Some.opcode c.in-Ok.need known (transfer-buffer c.in-Some.opcode form.0 form.1))))
+    ∙ ap (λ (reads : List ReadDone). outlined c.args.self.now.ns.now (plan_of_list (given_of c.args.self.now) c.in-Some.opcode c.args.job.now.sqe reads)) c.all-reads.ensures
+    ∙ sym (ap (outlined c.args.self.now.ns.now) (plan_over-listed (given_of c.args.self.now) c.args.job.now.sqe c.args.job.now.reads c.in-Some.opcode c.in-Ok.need known (transfer-buffer c.in-Some.opcode form.0 form.1))))
     c.transfer.ensures
 
 pub returns-in-DatasetManagement : goal.returns-in-DatasetManagement
@@ -36,7 +36,7 @@ returns-in-DatasetManagement g c =
     let buffer : has_buffer c.in-Some.opcode ≡ true = ap has_buffer c.in-DatasetManagement.is in
     IfOk-weaker c.manage.result _ _ (λ outline says.
     says
-    ∙ ap (λ (reads : List ReadDone). outlined c.args.self.now.ns (plan_of_list (given_of c.args.self.now) DatasetManagement c.args.job.now.sqe reads)) c.all-reads.ensures
-    ∙ ap (λ o. outlined c.args.self.now.ns (plan_of_list (given_of c.args.self.now) o c.args.job.now.sqe c.args.job.now.reads)) (sym c.in-DatasetManagement.is)
-    ∙ sym (ap (outlined c.args.self.now.ns) (plan_over-listed (given_of c.args.self.now) c.args.job.now.sqe c.args.job.now.reads c.in-Some.opcode c.in-Ok.need known buffer)))
+    ∙ ap (λ (reads : List ReadDone). outlined c.args.self.now.ns.now (plan_of_list (given_of c.args.self.now) DatasetManagement c.args.job.now.sqe reads)) c.all-reads.ensures
+    ∙ ap (λ o. outlined c.args.self.now.ns.now (plan_of_list (given_of c.args.self.now) o c.args.job.now.sqe c.args.job.now.reads)) (sym c.in-DatasetManagement.is)
+    ∙ sym (ap (outlined c.args.self.now.ns.now) (plan_over-listed (given_of c.args.self.now) c.args.job.now.sqe c.args.job.now.reads c.in-Some.opcode c.in-Ok.need known buffer)))
     c.manage.ensures
