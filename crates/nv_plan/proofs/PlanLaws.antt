@@ -1,6 +1,7 @@
 -- What each plan says
-use Rattle.std.proofs.Common.{◌≡◌, ℕ, ◌+◌, ◌-◌, ◌/◌, ◌%◌, ◌^◌, ◌<◌, ◌≤◌, Bool, true, false, All, List, [], ◌∷◌, ◌++◌, Option, Some, None, length, map, arith, refl, sym, ap, subst, ◌∙◌}
+use Rattle.std.proofs.Common.{◌≡◌, ℕ, ◌+◌, ◌-◌, ◌/◌, ◌%◌, ◌^◌, ◌<◌, ◌≤◌, ◌==◌, cond, Bool, true, false, All, IsTrue, List, [], ◌∷◌, ◌++◌, Option, Some, None, length, map, arith, refl, sym, ap, subst, ◌∙◌}
 use Rattle.std.specs.List.{list_all}
+use Rattle.std.proofs.lemmas.Bool.Decides.{nat_tests}
 use Rattle.std.proofs.lemmas.List.Elements.{All-cons, All-nil}
 use Rattle.byteorder.specs.Numbers.{little_from-bytes}
 use Rattle.nv_entry.specs.Layout.{dword, number_at, number_bytes, qword}
@@ -26,13 +27,14 @@ use Rattle.nv_model.proofs.InParts.{judge-in_parts}
 use Rattle.nv_model.proofs.InTurn.{in_transcript-settled}
 use Rattle.nv_model.proofs.JudgeCases.{judge-refused}
 use Rattle.nv_model.proofs.Judged.{IsSoundWork}
-use Rattle.nv_ns.specs.Extents.{Namespace, blocks_in}
+use Rattle.nv_ns.specs.BlockRange.{Extent}
+use Rattle.nv_ns.specs.Extents.{Namespace, blocks_in, is_namespace, place_in}
 use Rattle.nv_ns.proofs.Ranges.{InNamespace-tested}
 use Rattle.nv_prp.specs.Built.{HoldsList, SpellsAddresses, built, reading_of}
 use Rattle.nv_prp.specs.Fits.{fit_prp, host_addresses, is_run, places_fit}
 use Rattle.nv_prp.proofs.HostRuns.{length-mapped_runs}
 use Rattle.nv_prp.proofs.Spelling.{built-spells}
-use Rattle.nv_world_model.specs.Area.{translated_range}
+use Rattle.nv_world_model.specs.Area.{range_place, translated_range}
 use Rattle.nv_world_model.specs.Geometry.{Guest, regions_of, shape_of}
 use Rattle.nv_world_model.specs.Plan.{go_plan, plan_of, plan_over, planned, transfer_plan}
 use Rattle.nv_plan.specs.Laws.{LiesIn}
@@ -370,22 +372,46 @@ range-blocks blocks lba =
 lies : (extent : Extent) (made : List ℕ) (start blocks : ℕ) → extent.base + extent.blocks < 2 ^ 64
     → blocks ≤ extent.blocks → start ≤ extent.blocks - blocks
     → start_of made ≡ (extent.base + start) % 2 ^ 64 → blocks_of made ≡ blocks % 2 ^ 32
-    → LiesIn extent made
-lies extent made start blocks small few low at many = (omega arith, omega arith)
+    → LiesIn (extent ∷ []) made
+lies extent made start blocks small few low at many =
+    record {
+      some = λ some. (extent, ((0, omega arith, refl), omega arith, omega arith));
+      none = λ none. (omega arith, omega arith);
+    }
 
--- a range that fits lies, translated, in the namespace's blocks
-range-lies : (extent : Extent) (range : List ℕ) → extent.base + extent.blocks < 2 ^ 64 → range_fits extent.blocks range ≡ true
-    → LiesIn extent (translated_range extent range)
+-- where the one extent has a range
+range_place-one : (extent : Extent) (range : List ℕ) → range_fits (extent.blocks + 0) range ≡ true
+    → range_place (extent ∷ []) range ≡ extent.base + start_of range
+range_place-one extent range fits =
+    let inside = InNamespace-tested (start_of range) (blocks_of range) (extent.blocks + 0) fits in
+    by_count (blocks_of range) (start_of range) (omega (arith, inside.0, inside.1))
+  where
+    by_count : (blocks start : ℕ) → start + blocks ≤ extent.blocks
+        → cond (blocks == 0) (extent.base + start) (place_in (extent ∷ []) start) ≡ extent.base + start
+    by_count blocks start within = grind (arith, nat_tests)
+
+-- a range that fits lies, translated, in the blocks of the one extent
+range-lies : (extent : Extent) (range : List ℕ) → extent.base + extent.blocks < 2 ^ 64 → range_fits (extent.blocks + 0) range ≡ true
+    → LiesIn (extent ∷ []) (translated_range (extent ∷ []) range)
 range-lies extent range small fits =
-    let inside = InNamespace-tested (start_of range) (blocks_of range) extent.blocks fits in
-    lies extent (translated_range extent range) (start_of range) (blocks_of range) small inside.0 inside.1
-    (range-start (blocks_of range) (extent.base + start_of range)) (range-blocks (blocks_of range) (extent.base + start_of range))
+    let inside = InNamespace-tested (start_of range) (blocks_of range) (extent.blocks + 0) fits in
+    let at = range_place-one extent range fits in
+    lies extent (translated_range (extent ∷ []) range) (start_of range) (blocks_of range) small (omega (arith, inside.0)) (omega (arith, inside.1, inside.0))
+    (range-start (blocks_of range) (range_place (extent ∷ []) range) ∙ ap (λ (n : ℕ). n % 2 ^ 64) at)
+    (range-blocks (blocks_of range) (range_place (extent ∷ []) range))
 
--- and so each of some
-pub ranges-lie : (extent : Extent) (ranges : List (List ℕ)) → extent.base + extent.blocks < 2 ^ 64
-    → list_all (range_fits extent.blocks) ranges ≡ true → All (LiesIn extent) (map (translated_range extent) ranges)
-ranges-lie extent [] small fit = All-nil (LiesIn extent)
-ranges-lie extent (range ∷ ranges) small fit =
-    let both = and-true (range_fits extent.blocks range) (list_all (range_fits extent.blocks) ranges) fit in
-    All-cons (LiesIn extent) (translated_range extent range) (map (translated_range extent) ranges) (range-lies extent range small both.0)
-    (ranges-lie extent ranges small both.1)
+ranges-lie-one : (extent : Extent) (ranges : List (List ℕ)) → extent.base + extent.blocks < 2 ^ 64
+    → list_all (range_fits (extent.blocks + 0)) ranges ≡ true → All (LiesIn (extent ∷ [])) (map (translated_range (extent ∷ [])) ranges)
+ranges-lie-one extent [] small fit = All-nil (LiesIn (extent ∷ []))
+ranges-lie-one extent (range ∷ ranges) small fit =
+    let both = and-true (range_fits (extent.blocks + 0) range) (list_all (range_fits (extent.blocks + 0)) ranges) fit in
+    All-cons (LiesIn (extent ∷ [])) (translated_range (extent ∷ []) range) (map (translated_range (extent ∷ [])) ranges)
+    (range-lies extent range small both.0) (ranges-lie-one extent ranges small both.1)
+
+-- and so each of some, in a namespace of one extent
+pub ranges-lie : (ns : Namespace) (ranges : List (List ℕ)) → IsTrue (is_namespace ns) → length ns ≡ 1
+    → list_all (range_fits (blocks_in ns)) ranges ≡ true → All (LiesIn ns) (map (translated_range ns) ranges)
+ranges-lie [] ranges kept one fit = absurd (omega arith)
+ranges-lie (extent ∷ []) ranges kept one fit =
+    let few : extent.base + extent.blocks < 2 ^ 64 = grind (arith, nat_tests) in ranges-lie-one extent ranges few fit
+ranges-lie (extent ∷ next ∷ rest) ranges kept one fit = absurd (omega arith)

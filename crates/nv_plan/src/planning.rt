@@ -46,11 +46,7 @@ pub fn make_plan<A: Allocator + Clone>(
     requires most { limit ≤ most_limit }
     ensures { IsPlanned result job (record { memory_map = map.now; namespace = ns.now; limit = limit }) }
 {
-    let given = Given {
-        map,
-        ns,
-        limit,
-    };
+    let given = Given { map, ns, limit };
     match given.outline(heap, alloc, &job) {
         Ok(Outcome::Wanted { addr, len }) => Planned::Need(job, addr, len),
         Ok(Outcome::Settled(outline)) => match map.try_clone(alloc) {

@@ -62,8 +62,9 @@ pub(crate) fn translated(
     let mut rest = bytes;
     while let Some((range, more)) = rest.split_first_chunk::<RANGE_SIZE>() {
         let range = Range::of(range);
-        let start = place(ns, range.start(), range.blocks());
-        ranges.push(Range::of(&range_bytes(range.blocks(), start)))?;
+        let blocks = range.blocks();
+        let start = place(ns, range.start(), blocks);
+        ranges.push(Range::of(&range_bytes(blocks, start)))?;
         rest = more;
     }
     Ok(ranges)
@@ -79,10 +80,7 @@ fn place(ns: &VirtualNs, start: u64, blocks: u32) -> u64
     };
     match parts.get(0) {
         Some(part) => part.start(),
-        None => match ns.extent(0) {
-            Some(first) => first.base() + start,
-            None => unreachable!(),
-        },
+        None => ns.as_slice()[0].base() + start,
     }
 }
 

@@ -7,6 +7,7 @@ pub returns-clause-translated : goal.returns-clause-translated
 returns-clause-translated c p is = ranges-are p.given p.job.sqe p.outline (IsJobsPlan-outlined p is)
 
 pub returns-clause-inside : goal.returns-clause-inside
-returns-clause-inside c p is small =
+returns-clause-inside c p is kept one =
     let are = ranges-are p.given p.job.sqe p.outline (IsJobsPlan-outlined p is) in
-    subst (λ (ranges : List (List ℕ)). All (LiesIn p.given.namespace) ranges) (sym are.1.1) (ranges-lie p.given.namespace are.0 small are.1.0)
+    subst (λ (ranges : List (List ℕ)). All (LiesIn p.given.namespace) ranges) (sym are.1.1)
+    (ranges-lie p.given.namespace are.0 kept one are.1.0)
