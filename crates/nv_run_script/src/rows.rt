@@ -5,6 +5,7 @@ ghost use Rattle.nv_model.specs.declared.act.Act.TheVariants as act;
 ghost use Rattle.nv_run_script.specs.declared.line.Task.TheVariants as task;
 ghost use Rattle.nv_once_script.specs.declared.once.fault.FaultKind.TheVariants.{BadBytes, BadNumber, MissingWord, OutOfPlace, TooManyWords, UnknownWord};
 ghost use Rattle.nv_once_script.specs.declared.once.fault.ScriptFault.TheVariants.{Line};
+ghost use Rattle.nv_replay_script.specs.ReplayRows.{extended_by, guest_at};
 ghost use Rattle.nv_run_script.specs.RunRows.{behind_set_up, of_lines};
 ghost use Rattle.nv_run_script.specs.RunScript.{script_of};
 
@@ -19,10 +20,15 @@ pub fn examples()
     ensures a_size_missing { script_of (codes "host 1\nmediator 1\ndisk 1\nawait zz 0 0\n") ≡ Err (Line 4 OutOfPlace) }
     // A map behind a guest's line.
     ensures a_late_map { behind_set_up (codes "load 0 0 4" ∷ codes "map 0 0x20000 0 4096" ∷ []) ≡ Err (Line 10 OutOfPlace) }
+    // An extent of a guest, and one behind a guest's line.
+    ensures an_extent { behind_set_up (codes "extent 0 3000 32" ∷ []) ≡ Ok (record (of_lines []) {
+      guests = extended_by (record { base = 3000; blocks = 32 } ∷ []) (guest_at 0x100000 1000) ∷ guest_at 0x200000 2000 ∷ [];
+    }) }
+    ensures a_late_extent { behind_set_up (codes "load 0 0 4" ∷ codes "extent 0 zz 32" ∷ []) ≡ Err (Line 10 OutOfPlace) }
     // Lines of two guests, an empty one and a comment between them: each keeps its number.
-    ensures lines { behind_set_up (codes "store 1 0x3000 abCD" ∷ [] ∷ codes "# later"
-        ∷ codes "await 0 0x1101c 0x00010002" ∷ codes "awaitreg 1 0x1c 0" ∷ [])
-        ≡ Ok (of_lines (record { number = 9; guest = 1; task = task.Act (act.Store 0x3000 (0xab ∷ 0xcd ∷ [])) }
+    ensures lines { behind_set_up (codes "store 1 0x3000 abCD" ∷ [] ∷ codes "# later" ∷ codes "await 0 0x1101c 0x00010002"
+        ∷ codes "awaitreg 1 0x1c 0" ∷ []) ≡ Ok (of_lines
+        (record { number = 9; guest = 1; task = task.Act (act.Store 0x3000 (0xab ∷ 0xcd ∷ [])) }
         ∷ record { number = 12; guest = 0; task = task.Await 0x1101c 0x00010002 }
         ∷ record { number = 13; guest = 1; task = task.AwaitReg 0x1c 0 } ∷ [])) }
     // A guest that is not set up: that is seen before the words behind its number are read.

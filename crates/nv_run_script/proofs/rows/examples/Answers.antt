@@ -70,3 +70,11 @@ returns-clause-a_line_of_once c = refl
 pub returns-clause-an_unknown_word : goal.returns-clause-an_unknown_word
 unfolding script_of script_by lines_of without_last_feed words_of words_in after_lines after_words keyword_of vocabulary number_of written spelled decode_pairs
 returns-clause-an_unknown_word c = refl
+
+pub returns-clause-an_extent : goal.returns-clause-an_extent
+unfolding script_of script_by lines_of without_last_feed words_of words_in after_lines after_words keyword_of vocabulary number_of written spelled decode_pairs
+returns-clause-an_extent c = refl
+
+pub returns-clause-a_late_extent : goal.returns-clause-a_late_extent
+unfolding script_of script_by lines_of without_last_feed words_of words_in after_lines after_words keyword_of vocabulary number_of written spelled decode_pairs
+returns-clause-a_late_extent c = refl

@@ -10,17 +10,20 @@ use Rattle.nv_run_script.proofs.reading.Reading.read.Goals as goal
 
 pub returns-in_default : goal.returns-in_default
 returns-in_default c =
-    after_words-none (after_keyword c.args.number (progress c.args.self.now)) (progress c.args.self.now) (words_of c.args.line.now) (sym c.of-words.ensures ∙ c.in_default.ensures.steps.0)
+    after_words-none (after_keyword c.args.number (progress c.args.self.now)) (progress c.args.self.now) (words_of c.args.line.now)
+    (sym c.of-words.ensures ∙ c.in_default.ensures.steps.0)
 
 pub returns-in_err-keyword : goal.returns-in_err-keyword
 returns-in_err-keyword c =
     let unknown = ap (λ (o : Option Keyword). ok_or o UnknownWord) (sym c.look_up.ensures) ∙ sym c.ok_or.ensures.value ∙ c.in_err-keyword.was in
     let p = err_from_is_err_and c.from_residual.result c.from_residual.ensures.1 in
-    rw (p.1, p.2) (after_words-unknown (after_keyword c.args.number (progress c.args.self.now)) (progress c.args.self.now) (words_of c.args.line.now)
-    _ _ _ (sym c.of-words.ensures ∙ c.in-Some.ensures.steps) unknown)
+    rw (p.1, p.2)
+    (after_words-unknown (after_keyword c.args.number (progress c.args.self.now)) (progress c.args.self.now) (words_of c.args.line.now) _ _ _
+    (sym c.of-words.ensures ∙ c.in-Some.ensures.steps) unknown)
 
 pub returns : goal.returns
 returns c =
     let known = ap (λ (o : Option Keyword). ok_or o UnknownWord) (sym c.look_up.ensures) ∙ sym c.ok_or.ensures.value ∙ c.in_ok-keyword.was in
-    rw (after_words-known (after_keyword c.args.number (progress c.args.self.now)) (progress c.args.self.now) (words_of c.args.line.now)
-    _ _ _ (sym c.of-words.ensures ∙ c.in-Some.ensures.steps) known) c.add.ensures
+    rw (after_words-known (after_keyword c.args.number (progress c.args.self.now)) (progress c.args.self.now) (words_of c.args.line.now) _ _ _
+    (sym c.of-words.ensures ∙ c.in-Some.ensures.steps) known)
+    c.add.ensures
