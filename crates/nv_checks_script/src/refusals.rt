@@ -8,7 +8,7 @@ use nv_run_script::Task;
 use nv_world_model::Event;
 use std::process::Abort;
 
-/// A world of two guests, the first of whose maps has five regions, and five acts of that guest.
+/// A world of two guests, the first of which has five extents and a map of five regions, and five acts of that guest.
 const ACTS: &str = "\
 host 0x1000000
 mediator 0x400000
@@ -16,6 +16,10 @@ disk 4096
 lanes 1
 guest 0 range 1000 64 heap 65536
 guest 1 range 2000 64 heap 65536
+extent 0 3000 1
+extent 0 3001 1
+extent 0 3002 1
+extent 0 3003 1
 map 0 0x0 0x100000 0x1000
 map 0 0x1000 0x101000 0x1000
 map 0 0x2000 0x102000 0x1000
@@ -48,12 +52,22 @@ fn had_none<S>(made: &Result<S, ScriptFault>) -> bool {
     matches!(made, Err(ScriptFault::NoMemory))
 }
 
+// Whether a guest's first block is this one of the disk.
+fn begins_at(guest: &GuestSetUp, base: u64) -> bool {
+    match guest.extents.first() {
+        Some(extent) => extent.base == base,
+        None => false,
+    }
+}
+
 // Whether the guests are those of the set-up.
 fn are_guests(guests: &[GuestSetUp]) -> bool {
     match guests {
         [first, second] => {
-            first.base == 1000
-                && second.base == 2000
+            begins_at(first, 1000)
+                && begins_at(second, 2000)
+                && first.extents.len() == 5
+                && second.extents.len() == 1
                 && first.regions.len() == 5
                 && second.regions.len() == 1
         }
@@ -132,7 +146,7 @@ fn a_script_of_run_is_parsed_again(rt: HostRuntime) {
     let script = script.expect(&rt, "a script");
     assert!(rt; are_guests(&script.guests) && script.lines.len() == 5);
     for (place, line) in script.lines.iter().enumerate() {
-        assert!(rt; line.number == 13 + place as u64 && line.guest == 0);
+        assert!(rt; line.number == 17 + place as u64 && line.guest == 0);
         match &line.task {
             Task::Act(act) => assert!(rt; is_act(place, act)),
             _ => assert!(rt; false),

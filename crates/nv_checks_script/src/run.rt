@@ -59,6 +59,10 @@ cmd 00|out of place
 dump 0 0|out of place
 block 0|out of place
 block 0 0|too many words
+extent 2 zz 1|out of place
+extent 0 1 zz|bad number
+extent 0 1|missing word
+extent 0 1 2 3|too many words
 map 2 0 0 4096|out of place
 descriptors 2 1|out of place
 descriptors 0 zz|bad number
@@ -110,16 +114,20 @@ fn wants_the_set_up_first(rt: HostRuntime) -> Result<(), Fail> {
         let found = format!(in rt.alloc(); "{fault}")?;
         assert_eq!(rt; found.as_str(), want);
     }
-    let text = joined(rt.alloc(), SET_UP, "load 0 0 4\nmap 0 0x20000 0 4096\n")?;
-    let fault = parse(rt.alloc(), text.as_bytes()).err().ok_or("no fault")?;
-    let found = format!(in rt.alloc(); "{fault}")?;
-    assert_eq!(rt; found.as_str(), "line 10: out of place");
+    for late in ["map 0 0x20000 0 4096", "extent 0 zz 1"] {
+        let text = format!(in rt.alloc(); "{SET_UP}load 0 0 4\n{late}\n")?;
+        let fault = parse(rt.alloc(), text.as_bytes()).err().ok_or("no fault")?;
+        let found = format!(in rt.alloc(); "{fault}")?;
+        assert_eq!(rt; found.as_str(), "line 10: out of place");
+    }
     let script = parse(rt.alloc(), SET_UP.as_bytes())?;
     let found = format!(in rt.alloc(); "{script:?}")?;
     let want =
         "Script { sizes: Sizes { host: 16777216, mediator: 4194304, disk: 4096, lanes: 1 }, guests: [\
-        GuestSetUp { base: 1000, blocks: 64, heap: 65536, limit: None, regions: [Region { guest: 0, host: 1048576, len: 131072 }] }, \
-        GuestSetUp { base: 2000, blocks: 64, heap: 65536, limit: None, regions: [Region { guest: 0, host: 2097152, len: 131072 }] }\
+        GuestSetUp { extents: [Extent { base: 1000, blocks: 64 }], heap: 65536, limit: None, \
+        regions: [Region { guest: 0, host: 1048576, len: 131072 }] }, \
+        GuestSetUp { extents: [Extent { base: 2000, blocks: 64 }], heap: 65536, limit: None, \
+        regions: [Region { guest: 0, host: 2097152, len: 131072 }] }\
         ], lines: [] }";
     assert_eq!(rt; found.as_str(), want);
     Ok(())
