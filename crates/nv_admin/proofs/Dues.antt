@@ -17,9 +17,9 @@ use Rattle.nv_entry.specs.declared.status_code.StatusCode.{StatusCode}
 use Rattle.nv_entry.specs.declared.status_code.StatusCode.TheVariants as code
 use Rattle.nv_model.proofs.Endings.{and-true, first_failing-none}
 use Rattle.nv_model.proofs.QueuesKept.{by_test}
-use Rattle.nv_model.specs.Admin.{AdminEffect, AdminStep, Hidden, NothingToDo, QueueFull, Shown, Stepped, Structure, admin, admin_command}
+use Rattle.nv_model.specs.Admin.{AdminEffect, AdminStep, Hidden, NothingToDo, QueueFull, Shown, Structure, admin, admin_command}
 use Rattle.nv_model.specs.Admin.{answered, checked, completes_to_checks, contiguous, create_completion, create_submission}
-use Rattle.nv_model.specs.Admin.{delete_completion, delete_found, delete_submission, done_by, done_with_opcode, finish_deletion}
+use Rattle.nv_model.specs.Admin.{delete_completion, delete_found, delete_submission, done_by, done_with_opcode}
 use Rattle.nv_model.specs.Admin.{front_command, identified, identify_by, identify_reading, is_queue_full, new_queue_checks, number_of_queues}
 use Rattle.nv_model.specs.Admin.{place_checks, qid, qsize, selector, shown, stepped, uses, with_answer, with_completion_posted}
 use Rattle.nv_model.specs.Controller.{Controller, Deletion, Posted, completion_queue, front, is_enabled, is_ready, post, queue_of, submission_queue, took, took_of, with_submission}

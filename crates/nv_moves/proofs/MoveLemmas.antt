@@ -1,12 +1,11 @@
 -- A block that moves, over a memory, blocks and marks that are lists
 use Rattle.std.proofs.Common.{◌≡◌, ℕ, suc, ◌+◌, ◌-◌, ◌*◌, ◌<◌, ◌≤◌, Bool, true, false}
-use Rattle.std.proofs.Common.{not, ◌&&◌, ◌||◌, nat_eq, List, [], ◌∷◌, length, slice_index, get_or, set}
+use Rattle.std.proofs.Common.{◌||◌, List, [], length, slice_index, get_or, set}
 use Rattle.std.proofs.Common.{take, drop, refl, sym, ap, ◌∙◌, arith, cond, ◌==◌, inl, inr, replicate}
 use Rattle.std.proofs.lemmas.Bool.{cases_eq}
 use Rattle.std.proofs.lemmas.Grind.{get_or-set_at}
 use Rattle.std.proofs.lemmas.List.{get_or-set_other, get_or_past}
 use Rattle.std.proofs.Math.Seq.{take-length}
-use lib.Pointwise.{pointwise}
 use mathlib.Core.Path.{fun_ext}
 use Rattle.std.specs.List.{slice_index_or, range_with_len}
 use Rattle.std.proofs.lemmas.Bool.Decides.{nat_tests}

@@ -1,8 +1,7 @@
 -- Commands that are looked at, taken and completed, by the queues that are found.
-use Rattle.std.proofs.Common.{◌≡◌, ℕ, zero, suc, ◌+◌, ◌-◌, ◌*◌, ◌<◌, ◌≤◌, ◌^◌, Bool, true, false, cond, ◌==◌, if◌then◌else◌, List, length, slice_index}
+use Rattle.std.proofs.Common.{◌≡◌, ℕ, zero, suc, ◌+◌, ◌-◌, ◌*◌, ◌<◌, ◌≤◌, ◌^◌, Bool, true, false, cond, ◌==◌, if◌then◌else◌, List, slice_index}
 use Rattle.std.proofs.Common.{slice_set, Option, Some, None, IsSome, arith, refl, sym, ap, ◌∙◌, subst}
 use Rattle.nv_entry.specs.Completion.{completion}
-use Rattle.nv_entry.specs.Layout.{bytes_of_dwords}
 use Rattle.nv_entry.specs.Status.{StatusField}
 use Rattle.nv_mem.specs.declared.region.Region.{Region}
 use Rattle.nv_vctl.specs.Vctl.{host_behind}

@@ -1,4 +1,4 @@
-use Rattle.std.proofs.Common.{◌≡◌, ◌==◌, ℕ, slice_index, ap, sym, ◌∙◌}
+use Rattle.std.proofs.Common.{◌==◌, ℕ, slice_index, ap, sym, ◌∙◌}
 use Rattle.nv_admin.proofs.Dues.{command-by, deletion-by, full-not, idle-not}
 use Rattle.nv_admin.proofs.due.is_due.Goals as goal
 
