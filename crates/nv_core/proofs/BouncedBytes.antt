@@ -31,7 +31,7 @@ pub bounces-not : (p : MadePlan) (host : ℕ → ℕ) (at : ℕ) → IsJobsPlan 
     → host ≡ stored host at (bounced_bytes (plan_made p) p.given host)
 bounces-not p host at is other = by-plan (plan_made p) (made-said p is).says
   where
-    by-plan : (plan : Plan) → p.outline ≡ outline_of p.given.extent plan → host ≡ stored host at (bounced_bytes plan p.given host)
+    by-plan : (plan : Plan) → p.outline ≡ outline_of p.given.namespace plan → host ≡ stored host at (bounced_bytes plan p.given host)
     by-plan (Answer st) says = sym (stored-nil host at)
     by-plan (NoData work) says = sym (stored-nil host at)
     by-plan (Direct work) says = sym (stored-nil host at)
@@ -91,7 +91,7 @@ module _ (p : MadePlan) (is : IsJobsPlan p) (e : p.outline.kind ≡ kind.Bounced
       record {
         few = ranges-few p b goes form;
         bytes =
-            (λ host. by-form Manage host form ∙ sym (flat-ranges p.given.extent b.work.ranges)
+            (λ host. by-form Manage host form ∙ sym (flat-ranges p.given.namespace b.work.ranges)
             ∙ ap (λ (rs : List (List ℕ)). flat_map (λ (r : List ℕ). r) rs) (sym b.ranges));
       }
 

@@ -10,7 +10,7 @@ use Rattle.nv_mem.specs.declared.region.Region.{Region}
 use Rattle.nv_model.specs.Judge.{Work, is_read}
 use Rattle.nv_model.specs.Memory.{bytes_from, image, put_image, scattered}
 use Rattle.nv_model.specs.Transcript.{Outcome, Settled, Wanted}
-use Rattle.nv_ns.specs.BlockRange.{Extent}
+use Rattle.nv_ns.specs.Extents.{Namespace}
 use Rattle.nv_plan.specs.Made.{IsJobsPlan, MadePlan, outcome_of}
 use Rattle.nv_plan.specs.Outline.{Outline, outline_of, outlined}
 use Rattle.nv_plan.specs.declared.kind.PlanKind.{PlanKind}
@@ -45,13 +45,13 @@ has-ended t st e =
 -- ---- plans
 
 -- what is kept of a plan is what it says
-outline-by : (extent : Extent) (outcome : Outcome Plan) (outline : Outline) → outlined extent outcome ≡ Settled outline
-    → outline ≡ outline_of extent (plan_come outcome)
-outline-by extent (Wanted addr len) outline e = cc
-outline-by extent (Settled plan) outline e = cc
+outline-by : (ns : Namespace) (outcome : Outcome Plan) (outline : Outline) → outlined ns outcome ≡ Settled outline
+    → outline ≡ outline_of ns (plan_come outcome)
+outline-by ns (Wanted addr len) outline e = cc
+outline-by ns (Settled plan) outline e = cc
 
-outline-is : (p : MadePlan) → IsJobsPlan p → p.outline ≡ outline_of p.given.extent (plan_made p)
-outline-is p is = outline-by p.given.extent (outcome_of p.given p.job) p.outline is.settled
+outline-is : (p : MadePlan) → IsJobsPlan p → p.outline ≡ outline_of p.given.namespace (plan_made p)
+outline-is p is = outline-by p.given.namespace (outcome_of p.given p.job) p.outline is.settled
 
 -- ---- what is delivered
 
@@ -75,13 +75,13 @@ module _ (st : StatusField) (entry : List ℕ) (slot host_bytes : ℕ) (regions 
   told : (k : PlanKind) (outline : Outline) (v : Bool) → outline.kind ≡ k → delivers outline.kind entry st ≡ v → delivers k entry st ≡ v
   told k outline v says e = ap (λ (x : PlanKind). delivers x entry st) (sym says) ∙ e
 
-  read-of : (extent : Extent) (plan : Plan) (outline : Outline) → outline ≡ outline_of extent plan → MayDeliver (Some plan) entry slot host_bytes regions
+  read-of : (ns : Namespace) (plan : Plan) (outline : Outline) → outline ≡ outline_of ns plan → MayDeliver (Some plan) entry slot host_bytes regions
       → delivers outline.kind entry st ≡ true → IsReadOf plan outline
-  read-of extent (Answer answer) outline same may e =
+  read-of ns (Answer answer) outline same may e =
       let bad : false ≡ true = told (kind.Answer answer) outline true (ap (λ (o : Outline). o.kind) same) e in cc
-  read-of extent (NoData work) outline same may e = let bad : false ≡ true = told kind.NoData outline true (ap (λ (o : Outline). o.kind) same) e in cc
-  read-of extent (Direct work) outline same may e = let bad : false ≡ true = told kind.Direct outline true (ap (λ (o : Outline). o.kind) same) e in cc
-  read-of extent (Bounced work) outline same may e =
+  read-of ns (NoData work) outline same may e = let bad : false ≡ true = told kind.NoData outline true (ap (λ (o : Outline). o.kind) same) e in cc
+  read-of ns (Direct work) outline same may e = let bad : false ≡ true = told kind.Direct outline true (ap (λ (o : Outline). o.kind) same) e in cc
+  read-of ns (Bounced work) outline same may e =
       record {
         work = work;
         is = refl;
@@ -92,12 +92,12 @@ module _ (st : StatusField) (entry : List ℕ) (slot host_bytes : ℕ) (regions 
         may = may;
       }
 
-  other-of : (host : ℕ → ℕ) (extent : Extent) (plan : Plan) (outline : Outline) → outline ≡ outline_of extent plan → MayDeliver (Some plan) entry slot host_bytes regions
+  other-of : (host : ℕ → ℕ) (ns : Namespace) (plan : Plan) (outline : Outline) → outline ≡ outline_of ns plan → MayDeliver (Some plan) entry slot host_bytes regions
       → delivers outline.kind entry st ≡ false → host ≡ delivered_host (Some plan) st slot regions host
-  other-of host extent (Answer answer) outline same may e = refl
-  other-of host extent (NoData work) outline same may e = refl
-  other-of host extent (Direct work) outline same may e = refl
-  other-of host extent (Bounced work) outline same may e =
+  other-of host ns (Answer answer) outline same may e = refl
+  other-of host ns (NoData work) outline same may e = refl
+  other-of host ns (Direct work) outline same may e = refl
+  other-of host ns (Bounced work) outline same may e =
       let none : (is_read work.opcode && is_success st) ≡ false =
       ap (λ (o : Option IoOpcode). is_read_of o && is_success st) (sym may.opcode)
       ∙ told kind.Bounced outline false (ap (λ (o : Outline). o.kind) same) e in
@@ -109,13 +109,13 @@ module _ (st : StatusField) (entry : List ℕ) (slot host_bytes : ℕ) (regions 
 
     pub read-bounced : delivers p.outline.kind entry st ≡ true → IsReadBounced p st entry slot host_bytes regions
     read-bounced e =
-        let r = read-of p.given.extent (plan_made p) p.outline (outline-is p is) own e in
+        let r = read-of p.given.namespace (plan_made p) p.outline (outline-is p is) own e in
         record { work = r.work; is = r.is; places = r.places; reads = r.reads; may = r.may }
 
     -- nothing else is delivered
     pub delivers-nothing : (host : ℕ → ℕ) → delivers p.outline.kind entry st ≡ false → host ≡ delivered_host plan st slot regions host
     delivers-nothing host e =
-        other-of host p.given.extent (plan_made p) p.outline (outline-is p is) own e
+        other-of host p.given.namespace (plan_made p) p.outline (outline-is p is) own e
         ∙ ap (λ (o : Option Plan). delivered_host o st slot regions host) (sym there)
 
     -- its bytes are

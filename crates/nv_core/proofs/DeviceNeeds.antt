@@ -7,6 +7,7 @@ use Rattle.nv_core.specs.State.{IsOf, State}
 use Rattle.nv_device.specs.Moving.{IsMovable, MayMove}
 use Rattle.nv_device.specs.Physical.{HoldsArea, held_at, lane_of}
 use Rattle.nv_device.specs.Taking.{IsTakeable, MayTake, front_of, waits}
+use Rattle.nv_entry.specs.Range.{blocks_of, start_of}
 use Rattle.nv_entry.specs.Submission.{cid_of}
 use Rattle.nv_entry.specs.declared.opcode.IoOpcode.TheVariants.{DatasetManagement}
 use Rattle.nv_model.specs.Judge.{form_of}
@@ -16,12 +17,13 @@ use Rattle.nv_moves.specs.Buffer.{AreBelow}
 use Rattle.nv_moves.specs.Flat.{byte_of_block}
 use Rattle.nv_moves.specs.Marks.{mark_of}
 use Rattle.nv_world_model.specs.Area.{entry_of, tag_count}
-use Rattle.nv_world_model.specs.Device.{DeviceLane, Held, front_entry}
+use Rattle.nv_world_model.specs.Device.{DeviceLane, Held, front_entry, range_at}
 use Rattle.nv_world_model.specs.Geometry.{Geometry}
 use Rattle.nv_world_model.specs.World.{Lane, Tag}
 use Rattle.nv_laws_sound.proofs.EntryFields.{entry-cid}
 use Rattle.nv_laws_sound.proofs.Lists.{slice_get-below, slice_get-there, some-same}
 use Rattle.nv_laws_sound.proofs.MoveEvents.{IsHolding, held-flies, held-opcode}
+use Rattle.nv_laws_sound.proofs.Namespaces.{own-ends}
 use Rattle.nv_laws_sound.proofs.OnDisk.{range-own}
 use Rattle.nv_laws_sound.proofs.Rings.{between-head, far-some}
 use Rattle.nv_laws_sound.proofs.TakenEvents.{IsQueuedAt, queued-at}
@@ -114,10 +116,11 @@ held-moves geometry s lane slot number h is a left =
           let form = ap form_of (some-same b.planned.work.opcode DatasetManagement (sym opcode ∙ dataset)) in
           let own = range-own (length s.host) n geometry laid b.command.guest b.guest b.is.given b.command.entry b.plan b.planned lane slot h (byte_in s.host)
           b.in_device number left form in
-          let to = own.to in
-          let on_disk = (laid.given b.command.guest b.guest b.is.given).on_disk in
+          let range = range_at number h.pieces (byte_in s.host) in
+          let ends = own-ends (length s.host) geometry.disk_blocks (start_of range) (blocks_of range) b.guest
+          (laid.given b.command.guest b.guest b.is.given) own some in
           let blocks = is.blocks in
-          omega (arith, to, on_disk, blocks));
+          omega (arith, ends, blocks));
     }
 
 pub may-move : (geometry : Geometry) (s : State) (lane slot number : ℕ) → IsOf geometry s → lane < length s.device.lanes

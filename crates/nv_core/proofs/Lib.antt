@@ -27,3 +27,6 @@ pub mod SubmitJobs
 pub mod Submits
 pub mod PlanSubmits
 pub mod Dues
+pub mod Claims
+pub mod Places
+pub mod ItemsSame

@@ -22,19 +22,19 @@ use Rattle.nv_world_model.specs.Plan.{Answer, Bounced, Direct, NoData, Plan, pla
 -- what came of the job is that plan, and it says what the made plan says
 pub record IsSaid (p : MadePlan) : Type 0 where
   pub come : plan_over p.given p.job.sqe p.job.reads ≡ Settled (plan_made p)
-  pub says : p.outline ≡ outline_of p.given.extent (plan_made p)
+  pub says : p.outline ≡ outline_of p.given.namespace (plan_made p)
 
 pub made-said : (p : MadePlan) → IsJobsPlan p → IsSaid p
 made-said p is = record { come = (by-outcome (outcome_of p.given p.job) is.settled).0; says = (by-outcome (outcome_of p.given p.job) is.settled).1 }
   where
-    by-outcome : (o : Outcome Plan) → outlined p.given.extent o ≡ Settled p.outline
-        → (o ≡ Settled (plan_come o)) × (p.outline ≡ outline_of p.given.extent (plan_come o))
+    by-outcome : (o : Outcome Plan) → outlined p.given.namespace o ≡ Settled p.outline
+        → (o ≡ Settled (plan_come o)) × (p.outline ≡ outline_of p.given.namespace (plan_come o))
     by-outcome (Wanted addr len) e = cc
     by-outcome (Settled plan) e = (refl, cc)
 
 -- ---- by its kind
 
-kind-answer : (o : Outline) (p : MadePlan) (plan : Plan) (st : StatusField) → o ≡ outline_of p.given.extent plan → o.kind ≡ kind.Answer st → plan ≡ Answer st
+kind-answer : (o : Outline) (p : MadePlan) (plan : Plan) (st : StatusField) → o ≡ outline_of p.given.namespace plan → o.kind ≡ kind.Answer st → plan ≡ Answer st
 kind-answer o p (Answer s) st says e = cc
 kind-answer o p (NoData work) st says e = cc
 kind-answer o p (Direct work) st says e = cc
@@ -47,7 +47,7 @@ pub record IsNoData (p : MadePlan) : Type 0 where
   pub work : Work
   pub plan_is : plan_made p ≡ NoData work
 
-kind-no_data : (o : Outline) (p : MadePlan) (plan : Plan) → o ≡ outline_of p.given.extent plan → o.kind ≡ kind.NoData → (work : Work) × (plan ≡ NoData work)
+kind-no_data : (o : Outline) (p : MadePlan) (plan : Plan) → o ≡ outline_of p.given.namespace plan → o.kind ≡ kind.NoData → (work : Work) × (plan ≡ NoData work)
 kind-no_data o p (Answer s) says e = cc
 kind-no_data o p (NoData work) says e = (work, refl)
 kind-no_data o p (Direct work) says e = cc
@@ -63,7 +63,7 @@ pub record IsDirect (p : MadePlan) : Type 0 where
   pub plan_is : plan_made p ≡ Direct work
   pub places : p.outline.places ≡ work.pieces
 
-kind-direct : (o : Outline) (p : MadePlan) (plan : Plan) → o ≡ outline_of p.given.extent plan → o.kind ≡ kind.Direct
+kind-direct : (o : Outline) (p : MadePlan) (plan : Plan) → o ≡ outline_of p.given.namespace plan → o.kind ≡ kind.Direct
     → (work : Work) × ((plan ≡ Direct work) × (o.places ≡ work.pieces))
 kind-direct o p (Answer s) says e = cc
 kind-direct o p (NoData work) says e = cc
@@ -79,10 +79,10 @@ pub record IsBounced (p : MadePlan) : Type 0 where
   pub work : Work
   pub plan_is : plan_made p ≡ Bounced work
   pub places : p.outline.places ≡ work.pieces
-  pub ranges : p.outline.ranges ≡ map (translated_range p.given.extent) work.ranges
+  pub ranges : p.outline.ranges ≡ map (translated_range p.given.namespace) work.ranges
 
-kind-bounced : (o : Outline) (p : MadePlan) (plan : Plan) → o ≡ outline_of p.given.extent plan → o.kind ≡ kind.Bounced
-    → (work : Work) × ((plan ≡ Bounced work) × ((o.places ≡ work.pieces) × (o.ranges ≡ map (translated_range p.given.extent) work.ranges)))
+kind-bounced : (o : Outline) (p : MadePlan) (plan : Plan) → o ≡ outline_of p.given.namespace plan → o.kind ≡ kind.Bounced
+    → (work : Work) × ((plan ≡ Bounced work) × ((o.places ≡ work.pieces) × (o.ranges ≡ map (translated_range p.given.namespace) work.ranges)))
 kind-bounced o p (Answer s) says e = cc
 kind-bounced o p (NoData work) says e = cc
 kind-bounced o p (Direct work) says e = cc
@@ -134,7 +134,7 @@ direct-goes p work is e =
 pub record HasWork (p : MadePlan) : Type 0 where
   pub work : Work
   pub goes : MayGo p work
-  pub dwords : plan_dwords (plan_made p) p.given.extent p.job.sqe ≡ form_dwords (form_of work.opcode) p.given.extent p.job.sqe
+  pub dwords : plan_dwords (plan_made p) p.given.namespace p.job.sqe ≡ form_dwords (form_of work.opcode) p.given.namespace p.job.sqe
 
 pub made-work : (p : MadePlan) → IsJobsPlan p → IsGoing (plan_made p) → HasWork p
 made-work p is goes =
@@ -143,6 +143,6 @@ made-work p is goes =
       work = planned.work;
       goes = planned.verdict;
       dwords =
-          planned-by (λ q. plan_dwords q p.given.extent p.job.sqe ≡ form_dwords (form_of planned.work.opcode) p.given.extent p.job.sqe) p.given p.job.sqe (plan_made p) planned
+          planned-by (λ q. plan_dwords q p.given.namespace p.job.sqe ≡ form_dwords (form_of planned.work.opcode) p.given.namespace p.job.sqe) p.given p.job.sqe (plan_made p) planned
           (λ none. refl) (λ buffer fits. refl) (λ buffer. refl);
     }

@@ -240,6 +240,13 @@ module _ (geometry : Geometry) (s old : State) (number : ℕ) where
       let many = is.consistent.controllers in
       omega arith
 
+  -- a guest's map was made for the host
+  pub made-for : (guest : Guest) (m : Mapping) → s ≡ old → IsOf geometry old → slice_get geometry.guests number ≡ Some guest
+      → m ≡ guest.memory_map → m.host_len ≡ length s.host
+  made-for guest m same is there same_map =
+      let here = subst (λ (o : State). IsOf geometry o) (sym same) is in
+      ap (λ (k : Mapping). k.host_len) same_map ∙ (here.laid_out.given number guest there).host
+
   -- the guest's act
   pub act-done : (i : ℕ) (guest : Guest) (c c_new : Controller) (a : Act) (r : Reply) (host_new : List ℕ)
       → s ≡ old → IsOf geometry old → i ≡ number → i < length s.controllers → c ≡ get_or s.controllers i c

@@ -1,6 +1,6 @@
 -- How long the transfer of a plan is, and which blocks its command names.
-use Rattle.std.proofs.Common.{◌≡◌, ℕ, suc, ◌+◌, ◌-◌, ◌/◌, ◌^◌, ◌<◌, ◌≤◌, true, List, [], map, length, Option, arith, refl, sym, ap, ◌∙◌, mod-lt, flat_map, ◌∷◌, ◌++◌}
-use Rattle.std.proofs.lemmas.Bool.Decides.{nat_tests}
+use Rattle.std.proofs.Common.{◌≡◌, ℕ, suc, ◌-◌, ◌/◌, ◌^◌, ◌<◌, ◌≤◌, true, List, [], map, length, Option, arith, refl, sym, ap, ◌∙◌, mod-lt, flat_map, ◌∷◌, ◌++◌}
+use Rattle.std.proofs.Common.{leb-true}
 use Rattle.std.specs.Prelude.{nat_le}
 use Rattle.nv_core.specs.Submit.{NamesBlocks}
 use Rattle.nv_core.proofs.MadePlans.{IsBounced, MayGo, bounced-goes, direct-goes, made-bounced, made-direct}
@@ -16,7 +16,7 @@ use Rattle.nv_model.specs.Limits.{most_bytes}
 use Rattle.nv_model.proofs.AnyAnswers.{end-short, end-sound, end-within}
 use Rattle.nv_model.proofs.Endings.{and-true}
 use Rattle.nv_model.proofs.Judged.{IsSoundWork}
-use Rattle.nv_ns.specs.BlockRange.{Extent}
+use Rattle.nv_ns.specs.Extents.{Namespace}
 use Rattle.nv_plan.specs.Made.{IsJobsPlan, MadePlan}
 use Rattle.nv_plan.specs.declared.kind.PlanKind.TheVariants as kind
 use Rattle.nv_world_model.specs.Area.{form_dwords, translated_range}
@@ -36,15 +36,14 @@ module _ (p : MadePlan) (work : Work) (goes : MayGo p work) where
   pub len-total : len_of (io_opcode (opcode_of p.job.sqe)) p.job.sqe ≡ total_len work.pieces
   len-total = len-is ∙ sym sound.total
 
-  -- the blocks that it names are on the disk
-  pub names-blocks : p.given.extent.base + p.given.extent.blocks < 2 ^ 64 → NamesBlocks work.opcode p.job.sqe p.given.extent
-  names-blocks small has =
+  -- the blocks that it names are the namespace's
+  pub names-blocks : NamesBlocks work.opcode p.job.sqe p.given.namespace
+  names-blocks has =
       let within = end-within (mapped (regions_of p.given)) p.given.limit (shape_of p.given).blocks p.job.sqe work goes has in
-      below (slba_of p.job.sqe) (count_of p.job.sqe) p.given.extent.blocks p.given.extent.base small
-      (and-true (nat_le (count_of p.job.sqe) p.given.extent.blocks) (nat_le (slba_of p.job.sqe) (p.given.extent.blocks - count_of p.job.sqe)) within).1
-    where
-      below : (slba count blocks base : ℕ) → base + blocks < 2 ^ 64 → nat_le slba (blocks - count) ≡ true → base + slba < 2 ^ 64
-      below slba count blocks base fits e = grind (arith, nat_tests)
+      let both = and-true (nat_le (count_of p.job.sqe) (shape_of p.given).blocks) (nat_le (slba_of p.job.sqe) ((shape_of p.given).blocks - count_of p.job.sqe)) within in
+      let some = leb-true (count_of p.job.sqe) (shape_of p.given).blocks both.0 in
+      let most = leb-true (slba_of p.job.sqe) ((shape_of p.given).blocks - count_of p.job.sqe) both.1 in
+      omega (arith, some, most)
 
 -- a buffer has some bytes
 form-some : (form : Form) (entry : List ℕ) → form_has_buffer form ≡ true → 0 < form_transfer_len form entry
@@ -100,18 +99,19 @@ pub ranges-few : (p : MadePlan) (b : IsBounced p) → MayGo p b.work → form_of
 ranges-few p b goes form =
     let many = (sound p b.work goes).counted form in
     let few = nr_of-few p.job.sqe in
-    let same : length p.outline.ranges ≡ length b.work.ranges = ap length b.ranges ∙ length-map (translated_range p.given.extent) b.work.ranges in
+    let same : length p.outline.ranges ≡ length b.work.ranges = ap length b.ranges ∙ length-map (translated_range p.given.namespace) b.work.ranges in
     omega (arith, many, few, same)
 
 -- their bytes
-pub flat-ranges : (extent : Extent) (ranges : List (List ℕ)) → flat_map (λ (r : List ℕ). r) (map (translated_range extent) ranges) ≡ flat_map (translated_range extent) ranges
-flat-ranges extent [] = refl
-flat-ranges extent (range ∷ ranges) = ap (λ (bytes : List ℕ). translated_range extent range ++ bytes) (flat-ranges extent ranges)
+pub flat-ranges : (ns : Namespace) (ranges : List (List ℕ))
+    → flat_map (λ (r : List ℕ). r) (map (translated_range ns) ranges) ≡ flat_map (translated_range ns) ranges
+flat-ranges ns [] = refl
+flat-ranges ns (range ∷ ranges) = ap (λ (bytes : List ℕ). translated_range ns range ++ bytes) (flat-ranges ns ranges)
 
 -- ---- the dwords
 
-pub form_dwords-three : (form : Form) (extent : Extent) (entry : List ℕ) → length (form_dwords form extent entry) ≡ 3
-form_dwords-three (Transfer dest) extent entry = refl
-form_dwords-three Clear extent entry = refl
-form_dwords-three Manage extent entry = refl
-form_dwords-three Keep extent entry = refl
+pub form_dwords-three : (form : Form) (ns : Namespace) (entry : List ℕ) → length (form_dwords form ns entry) ≡ 3
+form_dwords-three (Transfer dest) ns entry = refl
+form_dwords-three Clear ns entry = refl
+form_dwords-three Manage ns entry = refl
+form_dwords-three Keep ns entry = refl

@@ -57,11 +57,11 @@ module _ (l moved : Lane) (tag : ℕ) (command : Command) (reads : List ReadDone
       (record { memory = out.memory; device = out.device; tags = out.tags ∙ changed-twice _ }))
 
 -- what the guest was given, by its parts
-pub given-is : (given : Guest) (g : Guest) → g.memory_map ≡ given.memory_map → g.extent ≡ given.extent → g.limit ≡ given.limit → g ≡ given
+pub given-is : (given : Guest) (g : Guest) → g.memory_map ≡ given.memory_map → g.namespace ≡ given.namespace → g.limit ≡ given.limit → g ≡ given
 given-is given g one two three =
-    ap (λ m. let x : Guest = record { memory_map = m; extent = g.extent; limit = g.limit } in x) one
-    ∙ ap (λ e. let x : Guest = record { memory_map = given.memory_map; extent = e; limit = g.limit } in x) two
-    ∙ ap (λ (n : ℕ). let x : Guest = record { memory_map = given.memory_map; extent = given.extent; limit = n } in x) three
+    ap (λ m. let x : Guest = record { memory_map = m; namespace = g.namespace; limit = g.limit } in x) one
+    ∙ ap (λ e. let x : Guest = record { memory_map = given.memory_map; namespace = e; limit = g.limit } in x) two
+    ∙ ap (λ (n : ℕ). let x : Guest = record { memory_map = given.memory_map; namespace = given.namespace; limit = n } in x) three
 
 -- what came of the job came of the command
 pub outcome-is : (given g : Guest) (lane tag : ℕ) (command : Command) (reads : List ReadDone) (job : Job) (o : Outcome Plan) → g ≡ given

@@ -32,6 +32,7 @@ use Rattle.nv_laws_sound.specs.Consistent.{IsPlanned}
 use Rattle.nv_laws_sound.specs.LaidOut.{IsLaidOut}
 use Rattle.nv_laws_sound.proofs.EntryFields.{entry-cid}
 use Rattle.nv_laws_sound.proofs.HeldEntries.{addresses-below, physical-opcode, plan-counts, plan-lengths, plan-prps, plan-reads}
+use Rattle.nv_laws_sound.proofs.Namespaces.{own-ends}
 use Rattle.nv_laws_sound.proofs.OnDisk.{blocks-counted, entry-own}
 use Rattle.nv_laws_sound.proofs.PlanSizes.{addresses-nameable}
 
@@ -160,11 +161,10 @@ module _ (lanes : ℕ) (geometry : Geometry) (host : List ℕ) (laid : IsLaidOut
             subst (λ o. names_blocks o ≡ true → slba_of physical + count_of physical ≤ blocks) (sym opcode)
             (λ has.
             (let own = entry-own (length host) lanes geometry laid owner guest given entry plan is lane tag has in
-            let to = own.to in
-            let on_disk = (laid.given owner guest given).on_disk in
+            let ends = own-ends (length host) geometry.disk_blocks (slba_of physical) (count_of entry) guest (laid.given owner guest given) own (omega arith) in
             let count : count_of physical ≡ count_of entry =
             sym (blocks-counted (form_of is.work.opcode) physical has) ∙ units ∙ blocks-counted (form_of is.work.opcode) entry has in
-            omega (arith, to, on_disk, disk, count)));
+            omega (arith, ends, disk, count)));
         identifier = subst (λ n. n < tag_count) (sym (entry-cid plan guest entry geometry.mediator lane tag tag_below)) tag_below;
         free = free;
       }

@@ -40,7 +40,8 @@ module _ (w : World) (number lane queue : ℕ) (guest : Guest) (c c_new : Contro
   unfolding taken_to
   tagged None addr is = nothing reply.Busy is
   tagged (Some tag) addr is =
-      let t : Tag = Taken (record { guest = number; queue = queue; entry = bytes_from (image (regions_of guest) w.host) addr sqe_size }) [] in
+      let entry = bytes_from (image (regions_of guest) w.host) addr sqe_size in
+      let t : Tag = Taken (record { guest = number; queue = queue; entry = entry; leader = tag }) [] in
       ap (λ (x : Reply). let a : After = record { world = put_in number lane c_new l_new w; reply = x } in a) is.reply
       ∙ ap (λ (d : Controller). let a : After = record { world = put_in number lane d l_new w; reply = reply.Done } in a) is.controller
       ∙ ap (λ (k : Lane). let a : After = record { world = put_in number lane (took c queue) k w; reply = reply.Done } in a) is.lane

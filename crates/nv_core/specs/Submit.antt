@@ -12,7 +12,7 @@ use Rattle.nv_model.specs.declared.reply.Reply.{Reply}
 use Rattle.nv_model.specs.declared.reply.Reply.TheVariants as reply
 use Rattle.nv_plan.specs.Made.{MadePlan}
 use Rattle.nv_plan.specs.declared.job.Job.{Job}
-use Rattle.nv_ns.specs.BlockRange.{Extent, block_at}
+use Rattle.nv_ns.specs.Extents.{Namespace, blocks_in}
 use Rattle.nv_world_model.specs.Area.{lane_start, list_page, ring_size, tag_count, written}
 use Rattle.nv_world_model.specs.Geometry.{Geometry, Guest, regions_of}
 use Rattle.nv_world_model.specs.Plan.{Answer, Bounced, Direct, NoData, Plan}
@@ -44,9 +44,9 @@ pub record HasRoom (mediator lane tag : ℕ) (guest : Guest) (host : List ℕ) :
   pub made_for : guest.memory_map.host_len ≡ length host
   pub apart : span_met (regions_of guest) (list_page mediator lane tag) tag_bytes ≡ false
 
--- the first block that a command names, if it names any, has a number of 64 bits on the disk
-abbrev pub NamesBlocks : IoOpcode → (entry : List ℕ) → Extent → Type 0
-NamesBlocks opcode entry extent = has_blocks opcode ≡ true → block_at extent (slba_of entry) < 2 ^ 64
+-- the first block that a command names, if it names any, is one of the namespace
+abbrev pub NamesBlocks : IoOpcode → (entry : List ℕ) → Namespace → Type 0
+NamesBlocks opcode entry ns = has_blocks opcode ≡ true → slba_of entry < blocks_in ns
 
 -- ---- what is done
 

@@ -18,7 +18,8 @@ pub record IsNothingTaken (answer r : Reply) (c c_new : Controller) (l l_new : L
 pub record IsUnder (tag addr guest queue : ℕ) (memory : ℕ → ℕ) (r : Reply) (c c_new : Controller) (l l_new : Lane) : Type 0 where
   pub reply : r ≡ reply.Done
   pub controller : c_new ≡ took c queue
-  pub lane : l_new ≡ tag_changed tag (Taken (record { guest = guest; queue = queue; entry = bytes_from memory addr sqe_size }) []) l
+  pub lane :
+      l_new ≡ tag_changed tag (Taken (record { guest = guest; queue = queue; entry = bytes_from memory addr sqe_size; leader = tag }) []) l
 
 -- the entry at that address was taken, where a tag is free
 abbrev pub IsTagged : Option ℕ → (addr guest queue : ℕ) → (memory : ℕ → ℕ) → Reply → (c c_new : Controller)

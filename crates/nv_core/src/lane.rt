@@ -66,7 +66,7 @@ impl Lane {
     /// Gives the command the lowest free tag; `None`, with nothing changed, where no tag is free.
     pub(crate) fn claim(&mut self, alloc: Global, claim: Claim) -> Option<u8>
         ensures tag { result ≡ free_tag self.old.tags }
-        ensures some { IfSome result (λ tag. self.new ≡ tag_changed tag (Taken (command_of claim) []) self.old) }
+        ensures some { IfSome result (λ tag. self.new ≡ tag_changed tag (Taken (command_of claim tag) []) self.old) }
         ensures none { result ≡ None → self.new ≡ self.old }
     {
         let tag = self.tags.claim(claim)?;
@@ -88,7 +88,7 @@ impl Lane {
     pub(crate) fn claimed(&self, tag: u8) -> &Claim
         requires { state_in (slice_get self.now.tags tag) ≡ Some state.Taken }
         ensures { (command : Command) (reads : List Read) → slice_get self.now.tags tag ≡ Some (Taken command reads) →
-            command_of result.now ≡ command }
+            command_of result.now command.leader ≡ command }
     {
         self.tags.entry(tag)
     }

@@ -56,7 +56,7 @@ impl Lane {
     pub(crate) fn ended(&self, tag: u8) -> &Claim
         requires { IsEnded (slice_get self.now.tags tag) }
         ensures { (command : Command) (st : StatusField) (plan : Option WorldPlan) → slice_get self.now.tags tag ≡ Some (Ended command st plan) →
-            command_of result.now ≡ command }
+            command_of result.now command.leader ≡ command }
     {
         self.tags.entry(tag)
     }

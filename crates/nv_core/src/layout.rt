@@ -21,7 +21,7 @@ impl Model for Given {
 
     ghost Value = { Guest };
 
-    ghost view = { λ g. record { memory_map = g.map; extent = g.ns; limit = g.limit } };
+    ghost view = { λ g. record { memory_map = g.map; namespace = g.ns; limit = g.limit } };
 
     ghost invariant = { λ g. IsLimit g.limit };
 }
@@ -30,7 +30,7 @@ impl Given {
     /// This memory, this namespace, and this limit on descriptors, which is 1 to 4,096.
     pub fn new(map: GuestMap, ns: VirtualNs, limit: u32) -> Self
         requires { IsLimit limit }
-        ensures { result ≡ record { memory_map = map; extent = ns; limit = limit } }
+        ensures { result ≡ record { memory_map = map; namespace = ns; limit = limit } }
     {
         Given { map, ns, limit }
     }
@@ -43,10 +43,10 @@ impl Given {
     }
 
     /// The guest's namespace.
-    pub fn ns(&self) -> VirtualNs
-        ensures { result ≡ self.now.extent }
+    pub fn ns(&self) -> &VirtualNs
+        ensures { result.now ≡ self.now.namespace }
     {
-        self.ns
+        &self.ns
     }
 
     /// The most descriptors of a list.

@@ -6,7 +6,7 @@ ghost use Rattle.nv_entry.specs.Layout.{bytes_of_dwords};
 ghost use Rattle.nv_entry.specs.Status.{bit};
 ghost use Rattle.nv_entry.specs.Submission.{deallocate_of, nlb_of, slba_of};
 ghost use Rattle.nv_model.specs.Judge.{form_of, is_fua};
-ghost use Rattle.nv_ns.specs.BlockRange.{block_at};
+ghost use Rattle.nv_ns.specs.Extents.{blocks_in, place_in};
 ghost use Rattle.nv_world_model.specs.Area.{form_dwords, physical_entry, two_dwords};
 
 use byteorder::{ByteOrder, LittleEndian};
@@ -57,9 +57,9 @@ pub(crate) fn physical_entry(opcode: u8, tag: u8, prps: &Prps, dwords: [u32; 3])
 
 /// CDW10 to CDW12 of the physical command for a guest's command of that opcode: the block on the disk with NLB and FUA; or NR and
 /// deallocate; or nothing.
-pub(crate) fn dwords(opcode: IoOpcode, sqe: &Sqe, ns: VirtualNs) -> [u32; 3]
-    requires { NamesBlocks opcode sqe.now ns }
-    ensures { result ≡ form_dwords (form_of opcode) ns sqe.now }
+pub(crate) fn dwords(opcode: IoOpcode, sqe: &Sqe, ns: &VirtualNs) -> [u32; 3]
+    requires { NamesBlocks opcode sqe.now ns.now }
+    ensures { result ≡ form_dwords (form_of opcode) ns.now sqe.now }
 {
     match opcode {
         IoOpcode::Read | IoOpcode::Write | IoOpcode::Compare | IoOpcode::WriteZeroes => {
@@ -70,13 +70,37 @@ pub(crate) fn dwords(opcode: IoOpcode, sqe: &Sqe, ns: VirtualNs) -> [u32; 3]
     }
 }
 
-// The block on the disk at which a guest's range of blocks begins, with its NLB and FUA.
-fn block_dwords(sqe: &Sqe, ns: VirtualNs) -> [u32; 3]
-    requires { ns.base + slba_of sqe.now < 2 ^ 64 }
-    ensures { result ≡ two_dwords (block_at ns (slba_of sqe.now)) ++ (nlb_of sqe.now + 2 ^ 30 * bit (is_fua sqe.now)) ∷ [] }
+// The block on the disk at which a guest's blocks begin, with its NLB and FUA.
+fn block_dwords(sqe: &Sqe, ns: &VirtualNs) -> [u32; 3]
+    requires { slba_of sqe.now < blocks_in ns.now }
+    ensures { result ≡ two_dwords (place_in ns.now (slba_of sqe.now)) ++ (nlb_of sqe.now + 2 ^ 30 * bit (is_fua sqe.now)) ∷ [] }
 {
-    let start = ns.base() + sqe.slba();
+    let start = place_in(sqe.slba(), ns);
     [low(start), high(start), count_dword(sqe)]
+}
+
+// The block on the disk that a block of a namespace is.
+fn place_in(lba: u64, ns: &VirtualNs) -> u64
+    requires { lba < blocks_in ns.now }
+    ensures { result ≡ place_in ns.now lba }
+{
+    let first = ns.as_slice()[0];
+    if lba < first.blocks() {
+        first.base() + lba
+    } else {
+        place_behind(lba, ns)
+    }
+}
+
+// The same, wherever in the namespace the block is.
+fn place_behind(lba: u64, ns: &VirtualNs) -> u64
+    requires { lba < blocks_in ns.now }
+    ensures { result ≡ place_in ns.now lba }
+{
+    let Some(parts) = ns.translate(lba, 1) else {
+        unreachable!()
+    };
+    parts.as_slice()[0].start()
 }
 
 // NLB and FUA.

@@ -64,7 +64,7 @@ impl Core {
     }
 
     /// Carries out a plan that was made elsewhere, where it was made of what stands: its tag was taken, by the guest's command of its
-    /// job, with the same reads of its lists, and the guest's map, range of blocks and limit are those that it was made with. `None` where
+    /// job, with the same reads of its lists, and the guest's map, namespace and limit are those that it was made with. `None` where
     /// not, and nothing has changed.
     pub fn submit_plan(&mut self, layout: &Layout, plan: Plan) -> Option<Reply>
         requires { IsOf layout.now self.old }
@@ -124,8 +124,7 @@ fn submit_on(
     ensures len { length host.new ≡ length host.old }
 {
     let job = take_job(alloc, place, ring);
-    let ns = given.ns();
-    match make_plan(alloc, alloc, job, given.map(), &ns, given.limit()) {
+    match make_plan(alloc, alloc, job, given.map(), given.ns(), given.limit()) {
         Planned::Need(job, _, _) => {
             ring.replace_reads(place.tag, job.reads);
             Ok(Reply::Stale)

@@ -115,16 +115,13 @@ fn write_bounced(plan: &Plan, bounce: u64, host: &mut Host)
 fn entry_of(plan: &Plan, tag: u8, prps: &Prps) -> [u8; 64]
     requires { IsGoing (plan_made plan.now) }
     ensures { result ≡ physical_entry (opcode_of plan.now.job.sqe) tag prps.now
-        (plan_dwords (plan_made plan.now) plan.now.given.extent plan.now.job.sqe) }
+        (plan_dwords (plan_made plan.now) plan.now.given.namespace plan.now.job.sqe) }
 {
     let sqe = &plan.job().sqe;
     let Some(opcode) = sqe.io_opcode() else {
         unreachable!()
     };
-    // With the base of the range comes that its end fits in 64 bits.
-    let ns = plan.ns();
-    let _base = ns.base();
-    physical_entry(sqe.opcode(), tag, prps, dwords(opcode, sqe, ns))
+    physical_entry(sqe.opcode(), tag, prps, dwords(opcode, sqe, plan.ns()))
 }
 
 // Stores numbers of 64 bits from host address `at` on.

@@ -29,8 +29,8 @@ carry_out-requires-clause-taken c =
 
 pub returns-in-Need-clause-ok : goal.returns-in-Need-clause-ok
 returns-in-Need-clause-ok c = λ command reads there.
-    let given : Guest = record { memory_map = c.map.result.now; extent = c.ns-ns.result; limit = c.limit.result } in
-    let whose = given-is c.args.given.now given c.map.ensures c.ns-ns.ensures c.limit.ensures.value in
+    let given : Guest = record { memory_map = c.map.result.now; namespace = c.ns.result.now; limit = c.limit.result } in
+    let whose = given-is c.args.given.now given c.map.ensures c.ns.ensures c.limit.ensures.value in
     let job = c.take_job-job.ensures.job command reads there in
     let moved = c.take_job-job.ensures.moved command reads there in
     let planned = subst (λ (x : Planned). IsPlanned x c.take_job-job.result given) c.in-Need.is c.make_plan.ensures in
@@ -49,7 +49,7 @@ returns-in-Need-clause-ok c = λ command reads there.
 
 pub returns-in-NoMemory-clause-err : goal.returns-in-NoMemory-clause-err
 returns-in-NoMemory-clause-err c =
-    let given : Guest = record { memory_map = c.map.result.now; extent = c.ns-ns.result; limit = c.limit.result } in
+    let given : Guest = record { memory_map = c.map.result.now; namespace = c.ns.result.now; limit = c.limit.result } in
     let f = some-taken (slice_get c.args.ring.now.tags c.args.place.tag) c.requires.taken in
     let job = c.take_job-job.ensures.job f.command f.reads f.there in
     let moved = c.take_job-job.ensures.moved f.command f.reads f.there in
@@ -65,8 +65,8 @@ returns-in-NoMemory-clause-err c =
 
 pub returns-in-Plan-clause-ok : goal.returns-in-Plan-clause-ok
 returns-in-Plan-clause-ok c = λ command reads there.
-    let given : Guest = record { memory_map = c.map.result.now; extent = c.ns-ns.result; limit = c.limit.result } in
-    let whose = given-is c.args.given.now given c.map.ensures c.ns-ns.ensures c.limit.ensures.value in
+    let given : Guest = record { memory_map = c.map.result.now; namespace = c.ns.result.now; limit = c.limit.result } in
+    let whose = given-is c.args.given.now given c.map.ensures c.ns.ensures c.limit.ensures.value in
     let job = c.take_job-job.ensures.job command reads there in
     let moved = c.take_job-job.ensures.moved command reads there in
     let planned = subst (λ (x : Planned). IsPlanned x c.take_job-job.result given) c.in-Plan.is c.make_plan.ensures in

@@ -1,4 +1,4 @@
-use Rattle.std.proofs.Common.{◌≡◌, ◌+◌, ◌<◌, ◌^◌, ◌∙◌, ℕ, ap, sym, subst}
+use Rattle.std.proofs.Common.{◌≡◌, ◌∙◌, ℕ, ap, sym, subst}
 use Rattle.nv_core.proofs.MadePlans.{made-work}
 use Rattle.nv_core.proofs.PlanLengths.{names-blocks, sound}
 use Rattle.nv_core.specs.Submit.{NamesBlocks}
@@ -7,7 +7,7 @@ use Rattle.nv_entry.specs.Submission.{opcode_of}
 use Rattle.nv_entry.specs.declared.opcode.IoOpcode.{IoOpcode}
 use Rattle.nv_laws_sound.proofs.Lists.{some-same}
 use Rattle.nv_model.specs.Judge.{form_of}
-use Rattle.nv_ns.specs.BlockRange.{Extent}
+use Rattle.nv_ns.specs.Extents.{Namespace}
 use Rattle.nv_plan.specs.declared.job.Job.{Job}
 use Rattle.nv_world_model.specs.Area.{form_dwords, physical_entry}
 use Rattle.nv_core.proofs.writing.entry_of.Goals as goal
@@ -25,10 +25,9 @@ dwords-requires c =
     let w = made-work p c.job.ensures.is_plan c.requires in
     let known = ap (λ (j : Job). io_opcode (opcode_of j.sqe)) (sym c.job.ensures.value) ∙ sym c.io_opcode.ensures ∙ c.in-Some.is in
     let same : w.work.opcode ≡ c.in-Some.opcode = some-same w.work.opcode c.in-Some.opcode (sym (sound p w.work w.goes).opcode ∙ known) in
-    let fits : p.given.extent.base + p.given.extent.blocks < 2 ^ 64 = subst (λ (x : Extent). x.base + x.blocks < 2 ^ 64) c.ns-ns.ensures.value c.base-base.ensures.fits in
-    subst (λ (x : Extent). NamesBlocks c.in-Some.opcode c.job.result.now.sqe x) (sym c.ns-ns.ensures.value)
-    (subst (λ (j : Job). NamesBlocks c.in-Some.opcode j.sqe p.given.extent) (sym c.job.ensures.value)
-    (subst (λ (o : IoOpcode). NamesBlocks o p.job.sqe p.given.extent) same (names-blocks p w.work w.goes fits)))
+    subst (λ (x : Namespace). NamesBlocks c.in-Some.opcode c.job.result.now.sqe x) (sym c.ns.ensures.value)
+    (subst (λ (j : Job). NamesBlocks c.in-Some.opcode j.sqe p.given.namespace) (sym c.job.ensures.value)
+    (subst (λ (o : IoOpcode). NamesBlocks o p.job.sqe p.given.namespace) same (names-blocks p w.work w.goes)))
 
 pub returns : goal.returns
 returns c =
@@ -40,7 +39,7 @@ returns c =
     ∙ ap (λ (o : ℕ). physical_entry o c.args.tag c.args.prps.now c.dwords.result) (c.opcode.ensures ∙ ap (λ (j : Job). opcode_of j.sqe) c.job.ensures.value)
     ∙ ap (physical_entry (opcode_of p.job.sqe) c.args.tag c.args.prps.now)
     (c.dwords.ensures
-    ∙ ap (λ (x : Extent). form_dwords (form_of c.in-Some.opcode) x c.job.result.now.sqe) c.ns-ns.ensures.value
-    ∙ ap (λ (j : Job). form_dwords (form_of c.in-Some.opcode) p.given.extent j.sqe) c.job.ensures.value
-    ∙ ap (λ (o : IoOpcode). form_dwords (form_of o) p.given.extent p.job.sqe) (sym same)
+    ∙ ap (λ (x : Namespace). form_dwords (form_of c.in-Some.opcode) x c.job.result.now.sqe) c.ns.ensures.value
+    ∙ ap (λ (j : Job). form_dwords (form_of c.in-Some.opcode) p.given.namespace j.sqe) c.job.ensures.value
+    ∙ ap (λ (o : IoOpcode). form_dwords (form_of o) p.given.namespace p.job.sqe) (sym same)
     ∙ sym w.dwords)

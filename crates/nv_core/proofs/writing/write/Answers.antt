@@ -32,7 +32,7 @@ returns-clause-bytes c =
     let tag = c.args.place.tag in
     let list = list_page mediator lane tag in
     let entry : c.entry_of-entry.result ≡ entry_of (plan_made p) p.given p.job.sqe mediator lane tag =
-    c.entry_of-entry.ensures ∙ ap (λ (x : Prps). physical_entry (opcode_of p.job.sqe) tag x (plan_dwords (plan_made p) p.given.extent p.job.sqe)) c.prps_of-prps.ensures.value in
+    c.entry_of-entry.ensures ∙ ap (λ (x : Prps). physical_entry (opcode_of p.job.sqe) tag x (plan_dwords (plan_made p) p.given.namespace p.job.sqe)) c.prps_of-prps.ensures.value in
     let inside : c.submission_slot.result + length c.entry_of-entry.result ≤ length c.write_bounced.new.host =
     (let sized : length c.entry_of-entry.result ≡ 64 = ap length entry ∙ entry-length (plan_made p) p.given p.job.sqe mediator lane tag in
     let one = c.store_numbers.ensures.len in let two = c.write_bounced.ensures.len in let area = c.requires.room.area in let below = c.requires.at in let at = c.submission_slot.ensures in

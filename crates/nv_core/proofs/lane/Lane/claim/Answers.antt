@@ -13,7 +13,7 @@ returns-in_err-tag-clause-tag c =
 pub invariant_of-self-2 : goal.invariant_of-self-2
 invariant_of-self-2 c =
     lane-whole c.self.inside.head c.self.inside.phase c.self.inside.tags c.self.inside.progress.items c.args.self.now c.self.invariant c.self.view_is
-    c.in_ok-tag.tag c.from.result (Used (command_of c.args.claim) Taken) (progress.Reading c.new.result) c.claim.new.self c.from.ensures c.in_ok-tag.ensures.some tt
+    c.in_ok-tag.tag c.from.result (Used (command_of c.args.claim c.in_ok-tag.tag) Taken) (progress.Reading c.new.result) c.claim.new.self c.from.ensures c.in_ok-tag.ensures.some tt
 
 pub returns-clause-tag : goal.returns-clause-tag
 returns-clause-tag c =
@@ -23,5 +23,5 @@ returns-clause-tag c =
 pub returns-clause-some : goal.returns-clause-some
 returns-clause-some c =
     lane-changed c.self.inside.head c.self.inside.phase c.self.inside.tags c.self.inside.progress.items c.args.self.now c.self.invariant c.self.view_is
-    c.in_ok-tag.tag c.from.result (Used (command_of c.args.claim) Taken) (progress.Reading c.new.result) _ c.claim.new.self c.from.ensures c.in_ok-tag.ensures.some
-    (ap (TakenTag (command_of c.args.claim)) c.new.ensures)
+    c.in_ok-tag.tag c.from.result (Used (command_of c.args.claim c.in_ok-tag.tag) Taken) (progress.Reading c.new.result) _ c.claim.new.self c.from.ensures c.in_ok-tag.ensures.some
+    (ap (TakenTag (command_of c.args.claim c.in_ok-tag.tag)) c.new.ensures)

@@ -1,7 +1,8 @@
-use Rattle.std.proofs.Common.{◌∙◌, ap, sym}
+use Rattle.std.proofs.Common.{◌∙◌, Some, ap, sym}
+use Rattle.nv_core.proofs.Claims.{claim-is}
 use Rattle.nv_core.proofs.LaneTags.{lane-taken, same-taken}
-use Rattle.nv_laws_sound.proofs.Lists.{some-same}
-use Rattle.nv_tags.specs.Tags.{command_in, command_of, state_of}
+use Rattle.nv_tags.specs.Tags.{command_in, leader_of, slot_at, state_of}
+use Rattle.nv_world_model.specs.World.{Command}
 use Rattle.nv_core.proofs.lane.Lane.claimed.Goals as goal
 
 pub entry-requires : goal.entry-requires
@@ -12,5 +13,6 @@ entry-requires c =
 pub returns : goal.returns
 returns c = λ command reads there.
     let at = lane-taken c.self.inside.head c.self.inside.phase c.self.inside.tags c.self.inside.progress.items c.args.self.now c.self.invariant c.self.view_is c.args.tag c.requires in
-    some-same (command_of c.entry.result.now) at.command (sym c.entry.ensures ∙ ap command_in at.slot_is)
-    ∙ (same-taken c.self.inside.head c.self.inside.phase c.self.inside.tags c.self.inside.progress.items c.args.self.now c.self.invariant c.self.view_is c.args.tag command reads at there).0
+    claim-is c.entry.result.now (leader_of (slot_at c.self.inside.tags c.args.tag)) command
+    (sym c.entry.ensures ∙ ap command_in at.slot_is
+    ∙ ap (λ (d : Command). Some d) (same-taken c.self.inside.head c.self.inside.phase c.self.inside.tags c.self.inside.progress.items c.args.self.now c.self.invariant c.self.view_is c.args.tag command reads at there).0)

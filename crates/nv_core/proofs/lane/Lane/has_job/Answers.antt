@@ -9,7 +9,7 @@ use Rattle.nv_world_model.specs.World.{Command}
 use Rattle.nv_core.proofs.lane.Lane.has_job.Goals as goal
 
 -- what two comparisons tell of a job
-has-is : (claim : Claim) (command : Command) (kept other reads : List ReadDone) (job : Job) (b : Bool) → command_of claim ≡ command → kept ≡ reads → other ≡ job.reads
+has-is : (claim : Claim) (command : Command) (kept other reads : List ReadDone) (job : Job) (b : Bool) → command_of claim command.leader ≡ command → kept ≡ reads → other ≡ job.reads
     → (job.guest ≡ claim.guest) × (job.sqe ≡ claim.entry) → (IsTrue b → kept ≡ other) × (kept ≡ other → IsTrue b)
     → (IsTrue b → IsJobOf job.lane job.tag command reads job) × (IsJobOf job.lane job.tag command reads job → IsTrue b)
 has-is claim command kept other reads job b same read theirs is compared = (
@@ -24,7 +24,7 @@ has-is claim command kept other reads job b same read theirs is compared = (
 )
 
 -- or one that differs
-has-not : (claim : Claim) (command : Command) (reads : List ReadDone) (job : Job) (b : Bool) → command_of claim ≡ command → b ≡ false
+has-not : (claim : Claim) (command : Command) (reads : List ReadDone) (job : Job) (b : Bool) → command_of claim command.leader ≡ command → b ≡ false
     → ((job.guest ≡ claim.guest) × (job.sqe ≡ claim.entry) → IsTrue b)
     → (IsTrue b → IsJobOf job.lane job.tag command reads job) × (IsJobOf job.lane job.tag command reads job → IsTrue b)
 has-not claim command reads job b same none other =

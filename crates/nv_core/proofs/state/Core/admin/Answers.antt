@@ -2,7 +2,7 @@ use Rattle.std.proofs.Common.{◌≤◌, ◌<◌, ◌∙◌, ap, length, subst, 
 use Rattle.nv_core.proofs.Placed.{admin-done, admin-nobody, has-controller, in-place}
 use Rattle.nv_core.specs.Seat.{told_by}
 use Rattle.nv_core.specs.State.{State}
-use Rattle.nv_ns.specs.BlockRange.{block_count}
+use Rattle.nv_ns.specs.Extents.{blocks_in}
 use Rattle.nv_core.proofs.state.Core.admin.Goals as goal
 
 pub returns-in_default : goal.returns-in_default
@@ -29,5 +29,5 @@ returns c =
     admin-done c.args.layout.now s c.args.self.now c.args.guest c.from-number.result c.in-Some.given.now c.index_mut-vctl.result.now c.admin.new.vctl
     c.map.result.now c.blocks-block_count.result c.reply_of.result c.admin.new.host
     c.self.view_is c.from-number.ensures below c.index_mut-vctl.ensures.value c.in-Some.ensures c.map.ensures
-    (c.blocks-block_count.ensures.value ∙ ap block_count c.ns.ensures)
+    (c.blocks-block_count.ensures.value ∙ ap blocks_in c.ns.ensures)
     (c.reply_of.ensures ∙ ap told_by c.admin.ensures.reply, (c.admin.ensures.controller, c.admin.ensures.host)) c.admin.ensures.len

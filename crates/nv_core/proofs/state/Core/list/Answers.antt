@@ -1,6 +1,6 @@
 use Rattle.std.proofs.Common.{◌≡◌, ◌∙◌, ◌++◌, ◌∷◌, [], ℕ, Some, true, false, slice_get, ap, refl, sym, subst, arith}
 use Rattle.nv_core.proofs.ListReads.{list-done, list-ignored, list-nobody, list-not, list-unmapped}
-use Rattle.nv_core.proofs.Placed.{held-is}
+use Rattle.nv_core.proofs.Placed.{held-is, made-for}
 use Rattle.nv_core.proofs.TakenTags.{taken-below, taken-here, taken-state, taken-there}
 use Rattle.nv_core.specs.State.{IsOf, IsStep, State}
 use Rattle.nv_model.specs.Transcript.{ReadDone}
@@ -83,3 +83,21 @@ returns-clause-ok c =
     (sym c.is_part.ensures ∙ c.if-not-is_part.false) c.in_ok-shown.ensures c.in_ok-kept.ensures
     (λ command reads held. c.in_ok-push_read.ensures.ok command reads held
     ∙ ap (λ (r : ReadDone). tag_changed c.args.tag (Taken command (reads ++ r ∷ [])) c.index_mut-ring.result.now) c.new.ensures)
+
+pub read_bytes-requires-clause-host : goal.read_bytes-requires-clause-host
+read_bytes-requires-clause-host c =
+    let s : State = record { host = c.self.inside.host; device = c.self.inside.device; lanes = c.self.inside.lanes.items; controllers = c.self.inside.controllers.items } in
+    made-for c.args.layout.now s c.args.self.now c.claimed.result.now.guest c.in-Some-guest.given.now c.in-Some-guest.given.now.memory_map c.self.view_is
+    c.requires c.in-Some-guest.ensures refl
+
+pub read_bytes-requires-2-clause-host : goal.read_bytes-requires-2-clause-host
+read_bytes-requires-2-clause-host c =
+    let s : State = record { host = c.self.inside.host; device = c.self.inside.device; lanes = c.self.inside.lanes.items; controllers = c.self.inside.controllers.items } in
+    made-for c.args.layout.now s c.args.self.now c.claimed.result.now.guest c.in-Some-guest.given.now c.in-Some-guest.given.now.memory_map c.self.view_is
+    c.requires c.in-Some-guest.ensures refl
+
+pub read_bytes-requires-3-clause-host : goal.read_bytes-requires-3-clause-host
+read_bytes-requires-3-clause-host c =
+    let s : State = record { host = c.self.inside.host; device = c.self.inside.device; lanes = c.self.inside.lanes.items; controllers = c.self.inside.controllers.items } in
+    made-for c.args.layout.now s c.args.self.now c.claimed.result.now.guest c.in-Some-guest.given.now c.in-Some-guest.given.now.memory_map c.self.view_is
+    c.requires c.in-Some-guest.ensures refl

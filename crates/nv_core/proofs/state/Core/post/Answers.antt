@@ -1,4 +1,5 @@
 use Rattle.std.proofs.Common.{◌≡◌, ◌∙◌, Option, Some, slice_get, ap, subst, arith}
+use Rattle.nv_core.proofs.Placed.{made-for}
 use Rattle.nv_core.proofs.Posts.{area-fits, ended-below, ended-here, ended-state, ended-there, has-controller, is-ended, may-settle, post-done, post-held}
 use Rattle.nv_core.proofs.Posts.{post-nobody, post-no_tag, post-not, queues-there, same-lane, tag-below}
 use Rattle.nv_core.specs.Ending.{Settled, settled}
@@ -165,3 +166,9 @@ returns-in-Done c =
     (same-lane c.self.inside.lanes.items c.from-at.result c.index-ring.result.now c.index_mut.result.now c.index-ring.ensures c.index_mut.ensures.value
     (let below = ended-below c.self.inside.lanes.items c.args.lane c.args.tag c.in-Some-ended.status t in let number = c.from-at.ensures in omega arith)) c.settle.ensures.settled)
     c.release.new.self c.release.ensures c.in-Done.is
+
+pub settle-requires-clause-host : goal.settle-requires-clause-host
+settle-requires-clause-host c =
+    let s : State = record { host = c.self.inside.host; device = c.self.inside.device; lanes = c.self.inside.lanes.items; controllers = c.self.inside.controllers.items } in
+    made-for c.args.layout.now s c.args.self.now c.ended-2.result.now.guest c.in-Some-guest.given.now c.map.result.now c.self.view_is c.requires.of
+    c.in-Some-guest.ensures c.map.ensures

@@ -1,5 +1,5 @@
 use Rattle.std.proofs.Common.{◌≤◌, ◌<◌, ◌∙◌, length, subst, sym, refl, arith}
-use Rattle.nv_core.proofs.Placed.{has-controller, in-place}
+use Rattle.nv_core.proofs.Placed.{has-controller, in-place, made-for}
 use Rattle.nv_core.proofs.Takes.{looked-up, take-done, take-no_lane, take-no_queue, take-nobody}
 use Rattle.nv_core.specs.State.{CountsMore, State}
 use Rattle.nv_laws_sound.proofs.Lists.{slice_get-there}
@@ -53,3 +53,9 @@ returns c =
     take-done c.args.layout.now s c.args.self.now c.args.guest c.args.queue c.args.lane c.in-Some.given.now c.index_mut-vctl.result.now c.self.view_is c.in-Some.ensures found
     c.index_mut-ring.result.now found_lane c.from-number.result c.from-at.result c.take_front.new.vctl c.take_front.new.ring c.take_front.result
     c.from-number.ensures c.from-at.ensures (sym c.is_io_queue.ensures ∙ c.if-not-is_io_queue.false) c.take_front.ensures
+
+pub take_front-requires-clause-host : goal.take_front-requires-clause-host
+take_front-requires-clause-host c =
+    let s : State = record { host = c.self.inside.host; device = c.self.inside.device; lanes = c.self.inside.lanes.items; controllers = c.self.inside.controllers.items } in
+    made-for c.args.layout.now s c.args.self.now c.args.guest c.in-Some.given.now c.in-Some.given.now.memory_map c.self.view_is c.requires.of
+    c.in-Some.ensures refl
