@@ -1,5 +1,6 @@
 pub mod Twos
 pub mod Areas
+pub mod Namespaces
 pub mod Starts
 pub mod Counts
 pub mod Steps

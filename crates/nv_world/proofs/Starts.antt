@@ -6,12 +6,13 @@ use Rattle.nv_core.specs.State.{IsOpening, State, world_of}
 use Rattle.nv_device.specs.Physical.{FitsLimits}
 use Rattle.nv_laws_others.specs.Alike.{HasFittingStatus}
 use Rattle.nv_laws_sound.proofs.CountedRuns.{opening-counted}
-use Rattle.nv_laws_sound.proofs.LaidOuts.{accepted, all-one, laid-out, limit-fits, on-disk, sizes-of}
+use Rattle.nv_laws_sound.proofs.LaidOuts.{accepted, all-one, laid-out, limit-fits, sizes-of}
 use Rattle.nv_laws_sound.proofs.Openings.{opening-consistent}
 use Rattle.nv_laws_sound.specs.Consistent.{IsConsistent}
 use Rattle.nv_laws_sound.specs.Counted.{IsCounted}
 use Rattle.nv_laws_sound.specs.LaidOut.{IsLaidOut}
 use Rattle.nv_mem.specs.GuestMap.{IsSound}
+use Rattle.nv_world.proofs.Namespaces.{guest-namespace}
 use Rattle.nv_world.specs.Mediated.{IsRunning, Kept, MayBeGiven, Mediated, mediated, opened, setup_of}
 use Rattle.nv_world_model.specs.Geometry.{Geometry, Guest}
 use Rattle.nv_world_model.specs.declared.logged.Logged.{Logged}
@@ -19,15 +20,14 @@ use Rattle.nv_world_model.specs.SetUp.{SetUp, guest_fits, refusal_of, world_at_s
 use Rattle.nv_world_model.specs.Step.{replay, replies}
 use Rattle.nv_world_model.specs.World.{World, opening_lane, opening_world}
 
--- what its guests' ranges and its sizes come to
+-- what its guests' extents and its sizes come to
 pub may-be-given : (s : SetUp) → refusal_of s ≡ None → (number : ℕ) (guest : Guest) → slice_get s.geometry.guests number ≡ Some guest → MayBeGiven guest
 may-be-given s none number guest at =
     let sizes = sizes-of s (accepted s none).sizes in
     let fits = all-one (guest_fits s) s.geometry.guests number guest sizes.guests at in
-    let disk = on-disk s guest fits in
     let limit = limit-fits s guest fits in
     let few = sizes.few_blocks in
-    record { blocks = omega (arith, disk, few); limit = record { some = limit.0; most = limit.1 } }
+    record { blocks = guest-namespace s guest fits few; limit = record { some = limit.0; most = limit.1 } }
 
 pub lanes-small : (s : SetUp) → refusal_of s ≡ None → s.lanes < 256
 lanes-small s none = let few = (sizes-of s (accepted s none).sizes).few_lanes in omega (arith, few)

@@ -1,11 +1,11 @@
 -- The mediator as its callers see it: its set-up, the log of what has happened, and the world behind it (profile).
-use Rattle.std.specs.Prelude.{◌≡◌, ◌⊎◌, ◌+◌, ◌^◌, ◌<◌, ℕ, All, List, [], ◌∷◌, ◌++◌, length, Option, Some, None}
+use Rattle.std.specs.Prelude.{◌≡◌, ◌⊎◌, ℕ, true, All, List, [], ◌∷◌, ◌++◌, length, Option, Some, None}
 use Rattle.nv_core.specs.State.{CountsMore, IsOf, IsSameSize, State, world_of}
 use Rattle.nv_laws_sound.specs.Counted.{IsCounted}
 use Rattle.nv_core.specs.Submit.{IsCurrent, IsLimit}
 use Rattle.nv_laws_others.specs.Alike.{HasFittingStatus}
 use Rattle.nv_mem.specs.GuestMap.{Mapping}
-use Rattle.nv_ns.specs.BlockRange.{Extent}
+use Rattle.nv_ns.specs.Extents.{Namespace, is_namespace}
 use Rattle.nv_model.specs.declared.reply.Reply.{Reply}
 use Rattle.nv_model.specs.declared.reply.Reply.TheVariants as reply
 use Rattle.nv_plan.specs.Made.{MadePlan}
@@ -112,15 +112,15 @@ abbrev pub map_of : Option Guest → Option Mapping
 map_of None = None
 map_of (Some guest) = Some guest.memory_map
 
-abbrev pub range_of : Option Guest → Option Extent
+abbrev pub range_of : Option Guest → Option Namespace
 range_of None = None
-range_of (Some guest) = Some guest.extent
+range_of (Some guest) = Some guest.namespace
 
 abbrev pub limit_of : Option Guest → Option ℕ
 limit_of None = None
 limit_of (Some guest) = Some guest.limit
 
--- what a guest is to have may be given to it: its blocks have numbers of 64 bits, and its limit on descriptors may be
+-- what a guest is to have may be given to it: its extents are a namespace, and its limit on descriptors may be
 pub record MayBeGiven (guest : Guest) : Type 0 where
-  pub blocks : guest.extent.base + guest.extent.blocks < 2 ^ 64
+  pub blocks : is_namespace guest.namespace ≡ true
   pub limit : IsLimit guest.limit

@@ -1,13 +1,14 @@
 //! Whether a set-up makes a world.
 
-ghost use Rattle.std.specs.Prelude.{◌≡◌};
+ghost use Rattle.std.specs.Prelude.{◌≡◌, ◌||◌, ◌++◌, true};
 ghost use Rattle.std.specs.List.{list_all, list_any};
 ghost use Rattle.nv_mem.specs.GuestMap.{spans_meet};
 ghost use Rattle.nv_world.specs.Refused.{refused};
-ghost use Rattle.nv_world_model.specs.SetUp.{any_two, blocks_meet, guest_fits, host_fits, maps_meet, meets_area, refusal_of, sizes_fit};
+ghost use Rattle.nv_world_model.specs.SetUp.{all_extents, any_two, blocks_meet, extent_fits, guest_fits, host_fits};
+ghost use Rattle.nv_world_model.specs.SetUp.{maps_meet, meets_area, refusal_of, sizes_fit};
 
 use crate::refusal::Refusal;
-use crate::setup::{GuestSetup, Setup};
+use crate::setup::{Extent, GuestSetup, Setup};
 use nv_mem::PAGE_SIZE;
 
 /// The most guests.
@@ -25,6 +26,9 @@ const MOST_HOST_BYTES: u64 = 1_073_741_824;
 /// The most blocks of the disk: 1 GiB.
 const MOST_DISK_BLOCKS: u64 = 2_097_152;
 
+/// The most extents that a guest may be given.
+const MOST_GIVEN: usize = 1;
+
 /// The most descriptors of a list that a guest may be given.
 const MOST_LIMIT: u32 = 4096;
 
@@ -38,7 +42,7 @@ pub(crate) fn refusal_of(setup: &Setup) -> Option<Refusal>
 {
     if setup.guests.len() > MOST_GUESTS {
         Some(Refusal::TooManyGuests)
-    } else if ranges_meet(&setup.guests) {
+    } else if extents_meet(&setup.guests) {
         Some(Refusal::RangesMeet)
     } else if maps_meet(&setup.guests) || area_met(setup) {
         Some(Refusal::MapsMeet)
@@ -49,24 +53,57 @@ pub(crate) fn refusal_of(setup: &Setup) -> Option<Refusal>
     }
 }
 
-// Whether some two guests' ranges have a block in common.
-#[tactic(auto, using(crate::proofs::Twos::any_two_drop))]
-fn ranges_meet(guests: &[GuestSetup]) -> bool
-    ensures { result ≡ any_two blocks_meet guests.now }
+// Whether some two extents, of one guest or of two, have a block in common. Each is compared with each behind it: with E extents that
+// is about half of E times E.
+fn extents_meet(guests: &[GuestSetup]) -> bool
+    ensures { result ≡ any_two blocks_meet (all_extents guests.now) }
 {
     for (number, guest) in guests.iter().enumerate() {
-        if has_block_of(guest, &guests[number + 1..]) {
+        if meet_later(&guest.extents, &guests[number + 1..]) {
             return true;
         }
     }
     false
 }
 
-// Whether a guest's range has a block in common with one of these.
-fn has_block_of(guest: &GuestSetup, others: &[GuestSetup]) -> bool
-    ensures { result ≡ list_any (blocks_meet guest.now) others.now }
+// Whether one of these extents has a block in common with another of them, or with one of these guests.
+fn meet_later(extents: &[Extent], others: &[GuestSetup]) -> bool
+    ensures { any_two blocks_meet (extents.now ++ all_extents others.now)
+        ≡ (result || any_two blocks_meet (all_extents others.now)) }
 {
-    others.iter().any(|other| spans_meet(guest.base, guest.blocks, other.base, other.blocks))
+    for (number, extent) in extents.iter().enumerate() {
+        if has_block_of(*extent, &extents[number + 1..]) || has_block_with(*extent, others) {
+            return true;
+        }
+    }
+    false
+}
+
+// Whether an extent has a block in common with one of these.
+fn has_block_of(extent: Extent, others: &[Extent]) -> bool
+    ensures { result ≡ list_any (blocks_meet extent) others.now }
+{
+    others.iter().any(|other| blocks_meet(extent, *other))
+}
+
+// Whether an extent has a block in common with one of these guests'.
+#[tactic(auto, using(crate::proofs::Twos::any_extents_drop))]
+fn has_block_with(extent: Extent, guests: &[GuestSetup]) -> bool
+    ensures { result ≡ list_any (blocks_meet extent) (all_extents guests.now) }
+{
+    for guest in guests {
+        if has_block_of(extent, &guest.extents) {
+            return true;
+        }
+    }
+    false
+}
+
+// Whether two extents have a block in common.
+fn blocks_meet(extent: Extent, other: Extent) -> bool
+    ensures { result ≡ blocks_meet extent other }
+{
+    spans_meet(extent.base, extent.blocks, other.base, other.blocks)
 }
 
 // Whether `a_len` numbers from `a` on and `b_len` from `b` on have one in common.
@@ -155,9 +192,25 @@ fn guest_fits(setup: &Setup, guest: &GuestSetup) -> bool
 {
     guest.map.host_len() == setup.host_bytes
         && guest.map.regions().len() <= MOST_REGIONS
-        && 1 <= guest.blocks
-        && guest.blocks <= setup.disk_blocks
-        && guest.base <= setup.disk_blocks - guest.blocks
+        && 1 <= guest.extents.len()
+        && guest.extents.len() <= MOST_GIVEN
+        && extents_fit(setup, &guest.extents)
         && 1 <= guest.limit
         && guest.limit <= MOST_LIMIT
+}
+
+// Whether each of a guest's extents may be.
+fn extents_fit(setup: &Setup, extents: &[Extent]) -> bool
+    ensures { result ≡ list_all (extent_fits setup.now) extents.now }
+{
+    extents.iter().all(|extent| extent_fits(setup, *extent))
+}
+
+// Whether an extent has a block, and all of its blocks are on the disk.
+fn extent_fits(setup: &Setup, extent: Extent) -> bool
+    ensures { result ≡ extent_fits setup.now extent }
+{
+    1 <= extent.blocks
+        && extent.blocks <= setup.disk_blocks
+        && extent.base <= setup.disk_blocks - extent.blocks
 }

@@ -16,5 +16,5 @@ mod submitting;
 mod world;
 
 pub use refusal::Refusal;
-pub use setup::{GuestSetup, Setup};
+pub use setup::{Extent, GuestSetup, Setup};
 pub use world::World;

@@ -1,16 +1,17 @@
 //! The world of a set-up that is not refused.
 
-ghost use Rattle.std.specs.Prelude.{◌≡◌, ℕ, IfOk, None, Some, slice_get};
+ghost use Rattle.std.specs.Prelude.{◌≡◌, ◌+◌, ◌^◌, ◌<◌, ℕ, IfOk, IsTrue, None, Some, slice_get};
 ghost use Rattle.nv_mem.specs.GuestMap.{IsSound};
+ghost use Rattle.nv_ns.specs.Extents.{is_namespace};
 ghost use Rattle.nv_world.specs.Mediated.{MayBeGiven, mediated, opened};
 ghost use Rattle.nv_world_model.specs.Geometry.{Guest};
 ghost use Rattle.nv_world_model.specs.SetUp.{refusal_of};
 
-use crate::setup::{GuestSetup, Setup};
+use crate::setup::{Extent, GuestSetup, Setup};
 use crate::world::World;
 use nv_core::{Core, Given, Layout};
 use nv_mem::NoMemory;
-use nv_ns::VirtualNs;
+use nv_ns::{Extent as OneExtent, VirtualNs};
 use std::alloc::Global;
 
 impl World {
@@ -58,10 +59,32 @@ fn given_of(guest: GuestSetup) -> Given
 {
     let GuestSetup {
         map,
-        base,
-        blocks,
+        extents,
         limit,
     } = guest;
     let _host_len = map.host_len();
-    Given::new(map, VirtualNs::new(base, blocks), limit)
+    Given::new(map, namespace_of(&extents), limit)
+}
+
+// The namespace of these extents.
+fn namespace_of(extents: &[Extent]) -> VirtualNs
+    requires { IsTrue (is_namespace extents.now) }
+    ensures { result ≡ extents.now }
+{
+    let Some((first, rest)) = extents.split_first() else {
+        unreachable!()
+    };
+    let mut ns = VirtualNs::of(extent_of(*first));
+    for extent in rest {
+        ns.push(extent_of(*extent));
+    }
+    ns
+}
+
+// An extent of a namespace.
+fn extent_of(extent: Extent) -> OneExtent
+    requires { extent.base + extent.blocks < 2 ^ 64 }
+    ensures { result ≡ extent }
+{
+    OneExtent::new(extent.base, extent.blocks)
 }

@@ -3,15 +3,32 @@
 use nv_mem::GuestMap;
 use std::marker::Model;
 
-/// What a guest is to have: its memory, its range of the disk's blocks, and the most descriptors of a list.
+/// Blocks of the disk in a row: `blocks` of them from block `base` on.
+#[derive(Clone, Copy, Debug, PartialEq, Eq)]
+pub struct Extent {
+    /// the disk's block that is its first
+    pub base: u64,
+    /// how many blocks it has, at least 1
+    pub blocks: u64,
+}
+
+impl Model for Extent {
+    ghost use Rattle.nv_ns.specs.BlockRange.{Extent as OneRange};
+
+    ghost Value = { OneRange };
+
+    ghost view = { λ e. record { base = e.base; blocks = e.blocks } };
+
+    ghost inverse = { λ r. record { base = r.base; blocks = r.blocks } };
+}
+
+/// What a guest is to have: its memory, its blocks of the disk, and the most descriptors of a list.
 #[derive(Debug, Drop)]
 pub struct GuestSetup {
     /// the guest's memory, 0 to 64 regions of a map that was made for the host's length
     pub map: GuestMap,
-    /// the disk's block that the guest's first block is
-    pub base: u64,
-    /// how many blocks the guest has, at least 1
-    pub blocks: u64,
+    /// the disk's blocks that are the guest's, in the order in which the guest counts them: one extent, which no other has a block of
+    pub extents: Vec<Extent>,
     /// the most descriptors of a list, 1 to 4,096
     pub limit: u32,
 }
@@ -21,7 +38,7 @@ impl Model for GuestSetup {
 
     ghost Value = { Guest };
 
-    ghost view = { λ g. record { memory_map = g.map; extent = record { base = g.base; blocks = g.blocks }; limit = g.limit } };
+    ghost view = { λ g. record { memory_map = g.map; namespace = g.extents.items; limit = g.limit } };
 }
 
 /// What a world is to be made of.

@@ -10,7 +10,7 @@ use nv_world_model::{Event, Logged};
 
 impl World {
     /// Carries out a plan that was made elsewhere, as the event Submit of its tag, and logs it so. Stale, with nothing logged, where it was
-    /// not made of what stands now: its job is not its tag's, or the guest's map, range or limit is another. Where no memory is left,
+    /// not made of what stands now: its job is not its tag's, or the guest's map, namespace or limit is another. Where no memory is left,
     /// nothing has changed.
     pub fn submit_plan(&mut self, plan: Plan) -> Reply
         ensures submitted { IsSubmitted plan (mediated self.old) result (mediated self.new) }

@@ -77,9 +77,10 @@ impl World {
         Some(self.layout.guest(guest)?.map())
     }
 
-    /// The blocks of the guest of that number; `None` where there is no such guest.
-    pub fn range(&self, guest: u8) -> Option<VirtualNs>
-        ensures { result ≡ range_of (slice_get self.now.geometry.guests guest) }
+    /// The namespace of the guest of that number; `None` where there is no such guest.
+    pub fn range(&self, guest: u8) -> Option<&VirtualNs>
+        ensures { MatchOption result (slice_get self.now.geometry.guests guest ≡ None)
+            (λ ns. Some ns.now ≡ range_of (slice_get self.now.geometry.guests guest)) }
     {
         Some(self.layout.guest(guest)?.ns())
     }

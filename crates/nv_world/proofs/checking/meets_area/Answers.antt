@@ -13,7 +13,7 @@ returns c =
     } in
     let g : Guest = record {
       memory_map = c.guest.inside.map;
-      extent = record { base = c.guest.inside.base; blocks = c.guest.inside.blocks };
+      namespace = c.guest.inside.extents.items;
       limit = c.guest.inside.limit;
     } in
     area-cut c.args.setup.now s c.args.guest.now g c.saturating_mul-area.result c.meets_host.result c.setup.view_is c.guest.view_is
