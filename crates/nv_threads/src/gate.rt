@@ -27,7 +27,7 @@ pub trait Gate {
     ) -> Planned
         requires some { 0 < limit }
         requires most { limit ≤ most_limit }
-        ensures { IsPlanned result job (record { memory_map = map.now; extent = ns.now; limit = limit }) };
+        ensures { IsPlanned result job (record { memory_map = map.now; namespace = ns.now; limit = limit }) };
 }
 
 /// The gate that just makes plans.

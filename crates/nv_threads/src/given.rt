@@ -10,7 +10,7 @@ use std::alloc::Global;
 use std::marker::Model;
 use std::sync::Wait;
 
-/// The map, the range and the limit on descriptors that a guest was given.
+/// The map, the namespace and the limit on descriptors that a guest was given.
 #[derive(Debug, Drop)]
 pub(crate) struct Given {
     map: GuestMap,
@@ -24,7 +24,7 @@ impl Model for Given {
 
     ghost Value = { Guest };
 
-    ghost view = { λ g. record { memory_map = g.map; extent = g.ns; limit = g.limit } };
+    ghost view = { λ g. record { memory_map = g.map; namespace = g.ns; limit = g.limit } };
 
     ghost invariant = { λ g. IsLimit g.limit };
 }
@@ -39,7 +39,7 @@ impl Given {
         guest: u8,
     ) -> Result<Option<Self>, NoMemory> {
         let map = map_of(&shared.lock(rt).world, alloc, guest)?;
-        let ns = shared.lock(rt).world.range(guest);
+        let ns = shared.lock(rt).world.range(guest).copied();
         let limit = shared.lock(rt).world.limit(guest);
         let (Some(map), Some(ns), Some(limit)) = (map, ns, limit) else {
             return Ok(None);
@@ -52,7 +52,7 @@ impl Given {
         &self.map
     }
 
-    /// Its range.
+    /// Its namespace.
     pub(crate) fn ns(&self) -> &VirtualNs {
         &self.ns
     }

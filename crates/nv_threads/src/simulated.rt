@@ -20,7 +20,7 @@ use crate::telling::tell;
 use nv_mem::{GuestMap, NoMemory, Region};
 use nv_model::Act;
 use nv_plan::{Job, Planned, make_plan};
-use nv_world::{GuestSetup, Setup, World};
+use nv_world::{Extent, GuestSetup, Setup, World};
 use nv_world_model::{Event, Logged};
 use std::alloc::Global;
 use std::process::Abort;
@@ -541,7 +541,7 @@ fn planned(world: &World, alloc: Global, job: Job, is_starved: bool) -> Planned 
     let guest = job.guest;
     match (world.map(guest), world.range(guest), world.limit(guest)) {
         (Some(map), Some(ns), Some(limit)) if !is_starved => {
-            make_plan(alloc, alloc, job, map, &ns, limit)
+            make_plan(alloc, alloc, job, map, ns, limit)
         }
         _ => Planned::NoMemory(job),
     }
@@ -556,10 +556,13 @@ fn opened(alloc: Global) -> Result<World, Fail> {
             host: 0x10_0000 * (guest + 1),
             len: MEMORY,
         };
-        guests.push(GuestSetup {
-            map: GuestMap::new(HOST, vec![in alloc; region]?)?,
+        let extent = Extent {
             base: 1000 * guest,
             blocks: 64,
+        };
+        guests.push(GuestSetup {
+            map: GuestMap::new(HOST, vec![in alloc; region]?)?,
+            extents: vec![in alloc; extent]?,
             limit: 1024,
         })?;
     }
