@@ -56,7 +56,7 @@ block\r|unknown word
 \0|unknown word
 block\x0b1|unknown word
 blocké 1|unknown word
-extent 0 1 2|unknown word
+extents 0 1 2|unknown word
 stor 0 00|unknown word
 stores 0 00|unknown word
 ";
@@ -106,6 +106,9 @@ devmove 0 0 0|out of place
 devpost 0 0|out of place
 devfail 0 0 0 0 0|out of place
 devfail 0 0 0 0|missing word
+extent 0 zz 1|out of place
+extent 0 zz|missing word
+extent 0 1 2 3|too many words
 descriptors 0 zz|out of place
 descriptors 0|missing word
 keep 0|out of place
