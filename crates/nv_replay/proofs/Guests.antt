@@ -1,12 +1,14 @@
 -- The guests of a script, mapped one after another
-use Rattle.std.proofs.Common.{◌≡◌, ℕ, ◌+◌, length, List, [], ◌∷◌, ◌++◌, Result, Ok, Err, refl, sym, ap, append_assoc}
+use Rattle.std.proofs.Common.{◌≡◌, ℕ, ◌+◌, length, List, [], ◌∷◌, ◌++◌, Result, Ok, Err, refl, sym, ap, append_assoc, inl, inr}
 use Rattle.std.proofs.lemmas.List.{append-nil}
 use Rattle.std.specs.Prelude.{MatchResult}
 use Rattle.std.specs.Result.{IsErrAnd}
 use Rattle.nv_replay_script.specs.ReplaySetUp.{GuestValue}
 use Rattle.nv_once_script.specs.OnceFault.{◌>>=◌}
 use Rattle.nv_world_model.specs.Geometry.{Guest}
-use Rattle.nv_replay.specs.Opening.{guests_from, mapped_guest}
+use Rattle.nv_replay.specs.Opening.{IsRefusalOf, guests_from, mapped_guest}
+use Rattle.nv_replay.specs.declared.fault.ReplayFault.{ReplayFault}
+use Rattle.nv_replay.specs.declared.fault.ReplayFault.TheVariants.{Refused}
 use Rattle.nv_replay.specs.declared.refusal.SetUpRefusal.{SetUpRefusal}
 
 -- guests behind those that were made
@@ -44,11 +46,17 @@ pub guests_from-mapped : (host n : ℕ) (made : List Guest) (guest : GuestValue)
 unfolding guests_from
 guests_from-mapped host n made guest left first mapped = rw mapped (behind-first made first (guests_from host (n + 1) left))
 
--- a guest whose map is refused
-pub guests_from-refused : (host n : ℕ) (made : List Guest) (guest : GuestValue) (left : List GuestValue) (refusal : SetUpRefusal)
-    → mapped_guest host n guest ≡ Err refusal → behind made (guests_from host n (guest ∷ left)) ≡ Err refusal
+refused-by : (first : Result Guest SetUpRefusal) (made : List Guest) (rest : Result (List Guest) SetUpRefusal) (fault : ReplayFault)
+    → IsRefusalOf first fault → IsRefusalOf (behind made (first >>= λ guest. rest >>= λ guests. all_of (guest ∷ guests))) fault
+refused-by first made rest fault (inl no_memory) = inl no_memory
+refused-by (Ok guest) made rest fault (inr refused) = cc
+refused-by (Err refusal) made rest fault (inr refused) = let same : Refused refusal ≡ fault = cc in inr (rw same refl)
+
+-- a guest that is refused
+pub guests_from-refused : (host n : ℕ) (made : List Guest) (guest : GuestValue) (left : List GuestValue) (fault : ReplayFault)
+    → IsRefusalOf (mapped_guest host n guest) fault → IsRefusalOf (behind made (guests_from host n (guest ∷ left))) fault
 unfolding guests_from
-guests_from-refused host n made guest left refusal refused = rw refused refl
+guests_from-refused host n made guest left fault refused = refused-by (mapped_guest host n guest) made (guests_from host (n + 1) left) fault refused
 
 -- what holds of the one error that a result can be
 pub MatchResult-err : {T E : Type 0} → (r : Result T E) (P : T → Type 0) (Q R : E → Type 0)

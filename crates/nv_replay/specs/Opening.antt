@@ -1,8 +1,10 @@
 -- The world that a script's text opens: each guest's map in their order, then the set-up (profile)
-use Rattle.std.specs.Prelude.{◌≡◌, ℕ, ◌+◌, ◌⊎◌, min, List, [], ◌∷◌, Option, Some, None, Result, Ok, Err}
+use Rattle.std.specs.Prelude.{◌≡◌, ℕ, ◌+◌, ◌⊎◌, min, List, [], ◌∷◌, map, Option, Some, None, Result, Ok, Err}
 use Rattle.std.specs.Result.{result_map_both}
 use Rattle.nv_mem.specs.GuestMap.{refusal_of as map_refusal_of}
 use Rattle.nv_mem.specs.declared.map_error.MapError.{MapError}
+use Rattle.nv_ns.specs.BlockRange.{Extent}
+use Rattle.nv_replay_script.specs.declared.set_up.Extent.{Extent as WrittenExtent}
 use Rattle.nv_replay_script.specs.ReplayScript.{ScriptValue, script_of}
 use Rattle.nv_replay_script.specs.ReplaySetUp.{GuestValue}
 use Rattle.nv_replay_script.specs.declared.sizes.Sizes.{Sizes}
@@ -29,12 +31,16 @@ limit_of (Some n) = min n 4294967295
 
 -- ---- the guests
 
--- what a guest of a script is given in a host of so many bytes
+-- the extent that a line writes
+abbrev pub extent_written : WrittenExtent → Extent
+extent_written written = record { base = written.base; blocks = written.blocks }
+
+-- what a guest of a script is given in a host of so many bytes: the extents that its lines write, in their order
 abbrev pub given : (host : ℕ) → GuestValue → Guest
 given host guest =
     record {
       memory_map = record { host_len = host; regions = guest.regions };
-      extent = record { base = guest.base; blocks = guest.blocks };
+      namespace = map extent_written guest.extents;
       limit = limit_of guest.limit;
     }
 

@@ -30,16 +30,6 @@ impl From<ScriptFault> for ReplayFault {
     }
 }
 
-impl From<SetUpRefusal> for ReplayFault {
-    ghost use Rattle.nv_replay.specs.declared.fault.ReplayFault.TheVariants.{Refused};
-
-    ghost from_gives = { λ refusal made. made ≡ Refused refusal };
-
-    fn from(refusal: SetUpRefusal) -> Self {
-        ReplayFault::Refused(refusal)
-    }
-}
-
 impl From<Refusal> for ReplayFault {
     ghost from_gives = { λ refusal made. made ≡ of_refusal refusal };
 

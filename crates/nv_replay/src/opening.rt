@@ -4,15 +4,16 @@ ghost use Rattle.nv_replay_script.specs.ReplayScript.{script_value};
 ghost use Rattle.nv_replay_script.specs.ReplaySetUp.{guest_value};
 ghost use Rattle.nv_world.specs.Mediated.{mediated, opened};
 ghost use Rattle.nv_world_model.specs.SetUp.{refusal_of};
-ghost use Rattle.nv_replay.specs.Opening.{IsFaultOf, IsRefusalOf, guests_from, limit_of, mapped_guest, opened_by, replay_of, set_up_of};
+ghost use Rattle.nv_replay.specs.Opening.{IsFaultOf, IsRefusalOf, extent_written, guests_from, limit_of, mapped_guest};
+ghost use Rattle.nv_replay.specs.Opening.{opened_by, replay_of, set_up_of};
 
 use crate::fault::ReplayFault;
 use crate::refusal::SetUpRefusal;
 use crate::replay::Replay;
 use nv_mem::GuestMap;
-use nv_replay_script::{GuestSetUp, Script, Sizes, parse};
-use nv_world::{GuestSetup, Setup, World};
-use std::alloc::Global;
+use nv_replay_script::{Extent as WrittenExtent, GuestSetUp, Script, Sizes, parse};
+use nv_world::{Extent, GuestSetup, Setup, World};
+use std::alloc::{AllocError, Global};
 
 /// The most descriptors of a guest's list where no line names them.
 const USUAL_LIMIT: u32 = 1024;
@@ -81,28 +82,46 @@ fn map_guests(
 {
     let mut made = Vec::with_capacity(alloc, guests.len())?;
     for guest in guests {
-        let mapped = map_guest(host, made.len(), guest)?;
+        let mapped = map_guest(alloc, host, made.len(), guest)?;
         made.push(mapped)?;
     }
     Ok(made)
 }
 
-// A guest with its map.
-fn map_guest(host: u64, number: usize, guest: GuestSetUp) -> Result<GuestSetup, SetUpRefusal>
-    ensures { result ≡ mapped_guest host number (guest_value guest) }
+// A guest with its map and its extents.
+fn map_guest(
+    alloc: Global,
+    host: u64,
+    number: usize,
+    guest: GuestSetUp,
+) -> Result<GuestSetup, ReplayFault>
+    ensures { let wanted = mapped_guest host number (guest_value guest)
+        in MatchResult result (λ made. wanted ≡ Ok made) (IsRefusalOf wanted) }
 {
     match GuestMap::new(host, guest.regions) {
         Ok(map) => Ok(GuestSetup {
             map,
-            base: guest.base,
-            blocks: guest.blocks,
+            extents: take_extents(alloc, &guest.extents)?,
             limit: limit_in_bits(guest.limit),
         }),
-        Err(error) => Err(SetUpRefusal::Map {
+        Err(error) => Err(ReplayFault::Refused(SetUpRefusal::Map {
             guest: number,
             error,
-        }),
+        })),
     }
+}
+
+// The extents of a guest as a world takes them, in the order written.
+fn take_extents(alloc: Global, written: &[WrittenExtent]) -> Result<Vec<Extent>, AllocError>
+    ensures { IfOk result (λ made. made.items ≡ map extent_written written.now) }
+{
+    written
+        .iter()
+        .map(|extent| Extent {
+            base: extent.base,
+            blocks: extent.blocks,
+        })
+        .collect(alloc)
 }
 
 // The most descriptors of a guest's list. What doesn't fit into 32 bits is no limit that may be, and stays none.

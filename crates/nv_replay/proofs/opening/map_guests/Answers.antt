@@ -1,10 +1,8 @@
-use Rattle.std.proofs.Common.{◌≡◌, ◌+◌, ◌∷◌, [], length, map, Err, sym, ap, ◌∙◌, arith, rules, inr, length-append}
+use Rattle.std.proofs.Common.{◌≡◌, ◌+◌, ◌∷◌, [], length, map, Ok, ap, ◌∙◌, arith, rules, length-append}
 use Rattle.std.proofs.lemmas.List.{nil_from_length}
-use Rattle.std.specs.Result.{result_map_both}
 use Rattle.std.specs.Vec.Iter.{into_iter_items}
 use Rattle.nv_replay_script.specs.ReplaySetUp.{guest_value}
 use Rattle.nv_replay.specs.Opening.{mapped_guest}
-use Rattle.nv_replay.specs.declared.fault.ReplayFault.TheVariants.{Refused}
 use Rattle.nv_replay.proofs.Guests.{behind_from, guests_from-end, guests_from-mapped, guests_from-refused, MatchResult-err}
 use Rattle.nv_replay.proofs.opening.map_guests.Goals as goal
 
@@ -13,15 +11,12 @@ returns-in_err-mapped c =
     let made = c.loop-guest.made.items in
     let guest = guest_value c.in-Some.guest in
     let left = map guest_value (into_iter_items c.next.new.self) in
-    let refusal = c.in_err-mapped.field-0.0 in
+    let fault = c.in_err-mapped.field-0.0 in
     let number : c.len-in-loop-guest.result ≡ length made = search rules in
-    let refused = ap (λ n. mapped_guest c.args.host n guest) (sym number) ∙ sym c.map_guest.ensures ∙ c.in_err-mapped.was in
-    let wanted = c.loop-guest.invariant.0
-    ∙ ap (λ gs. behind_from c.args.host made (map guest_value gs)) c.in-Some.ensures.steps.0
-    ∙ guests_from-refused c.args.host (length made) made guest left refusal refused
-    in
+    let refused = guests_from-refused c.args.host (length made) made guest left fault (rw number at c.in_err-mapped.ensures) in
+    let wanted = c.loop-guest.invariant.0 ∙ ap (λ gs. behind_from c.args.host made (map guest_value gs)) c.in-Some.ensures.steps.0 in
     MatchResult-err c.from_residual-in_err-mapped.result _ _ _ c.from_residual-in_err-mapped.ensures.1
-    (λ fault is. inr (ap (λ r. result_map_both (λ a. a) (λ e. Refused e) r) wanted ∙ ap Err (sym is)))
+    (λ told is. let same : told ≡ fault = is in rw (same, wanted) refused)
 
 pub loop-guest-preserved : goal.loop-guest-preserved
 loop-guest-preserved c =
@@ -31,7 +26,7 @@ loop-guest-preserved c =
     let mapped = c.in_ok-mapped.mapped in
     let number : c.len-in-loop-guest.result ≡ length made = search rules in
     let turn : into_iter_items c.loop-guest.guest-iterator ≡ c.in-Some.guest ∷ into_iter_items c.next.new.self = c.in-Some.ensures.steps.0 in
-    let is = ap (λ n. mapped_guest c.args.host n guest) (sym number) ∙ sym c.map_guest.ensures ∙ c.in_ok-mapped.was in
+    let is : mapped_guest c.args.host (length made) guest ≡ Ok mapped = rw number at c.in_ok-mapped.ensures in
     let wanted = c.loop-guest.invariant.0
     ∙ ap (λ gs. behind_from c.args.host made (map guest_value gs)) turn
     ∙ guests_from-mapped c.args.host (length made) made guest left mapped is
