@@ -1,7 +1,7 @@
 //! Two guests on two lanes: where their memory, blocks and queues lie, and what they do first.
 
 use nv_mem::{GuestMap, NoMemory, Region};
-use nv_world::{GuestSetup, Setup, World};
+use nv_world::{Extent, GuestSetup, Setup, World};
 use std::alloc::Global;
 
 /// The guest that does as it pleases.
@@ -135,12 +135,15 @@ fn regions(alloc: Global, image: u64, more: &[(u64, u64)]) -> Result<Vec<Region>
     Ok(regions)
 }
 
-// A guest with these regions and that range.
-fn guest_of(regions: Vec<Region>, base: u64) -> Option<GuestSetup> {
-    Some(GuestSetup {
-        map: GuestMap::new(HOST, regions).ok()?,
+// A guest with these regions, whose blocks lie in a row from that one on.
+fn guest_of(alloc: Global, regions: Vec<Region>, base: u64) -> Option<GuestSetup> {
+    let extent = Extent {
         base,
         blocks: BLOCKS,
+    };
+    Some(GuestSetup {
+        map: GuestMap::new(HOST, regions).ok()?,
+        extents: vec![in alloc; extent].ok()?,
         limit: LIMIT,
     })
 }
@@ -148,11 +151,10 @@ fn guest_of(regions: Vec<Region>, base: u64) -> Option<GuestSetup> {
 /// The world at its start, where the other guest may have more memory; none where memory was refused.
 pub fn opened(alloc: Global, more: bool) -> Option<World> {
     let besides: &[(u64, u64)] = if more { &MORE } else { &[] };
-    let hostile = guest_of(
-        regions(alloc, HOSTILE_IMAGES[0], besides).ok()?,
-        HOSTILE_BASE,
-    )?;
-    let honest = guest_of(regions(alloc, HONEST_IMAGE, &[]).ok()?, HONEST_BASE)?;
+    let hostile = regions(alloc, HOSTILE_IMAGES[0], besides).ok()?;
+    let hostile = guest_of(alloc, hostile, HOSTILE_BASE)?;
+    let honest = regions(alloc, HONEST_IMAGE, &[]).ok()?;
+    let honest = guest_of(alloc, honest, HONEST_BASE)?;
     let setup = Setup {
         host_bytes: HOST,
         mediator: MEDIATOR,

@@ -57,9 +57,9 @@ impl Runs {
     fn planned(&self, tag: Tag) -> Option<Planned> {
         let job = self.both.job(self.alloc, tag.lane, tag.number).ok()??;
         let map = self.both.map(job.guest)?;
-        let range = self.both.range(job.guest)?;
+        let ns = self.both.range(job.guest)?;
         let limit = self.both.limit(job.guest)?;
-        Some(make_plan(self.alloc, self.alloc, job, map, &range, limit))
+        Some(make_plan(self.alloc, self.alloc, job, map, ns, limit))
     }
 
     // The first unit of a command that has not moved, or the last.

@@ -1,7 +1,7 @@
 //! A world with two lanes and two guests, each with 128 KiB of memory and 64 blocks, and the entries of their commands.
 
 use nv_mem::{GuestMap, Region};
-use nv_world::{GuestSetup, Setup, World};
+use nv_world::{Extent, GuestSetup, Setup, World};
 use std::alloc::Global;
 
 /// How many bytes the host has, and each guest's memory.
@@ -28,10 +28,13 @@ fn guest(alloc: Global, image: u64, base: u64) -> Option<GuestSetup> {
         len: MEMORY,
     };
     let regions = vec![in alloc; region].ok()?;
-    Some(GuestSetup {
-        map: GuestMap::new(HOST, regions).ok()?,
+    let extent = Extent {
         base,
         blocks: BLOCKS,
+    };
+    Some(GuestSetup {
+        map: GuestMap::new(HOST, regions).ok()?,
+        extents: vec![in alloc; extent].ok()?,
         limit: LIMIT,
     })
 }

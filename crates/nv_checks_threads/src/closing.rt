@@ -3,7 +3,7 @@
 use crate::bench::{BASES, BLOCKS, HOST, IMAGES, LIMIT, MEMORY, opened};
 use crate::running::{Part, run};
 use nv_mem::Region;
-use nv_ns::VirtualNs;
+use nv_ns::{Extent, VirtualNs};
 use nv_threads::{Open, Shared};
 use nv_world::World;
 use std::process::Abort;
@@ -19,8 +19,9 @@ fn expect_guest(rt: &impl Abort, world: &World, guest: u8, image: u64, base: u64
         len: MEMORY,
     };
     assert!(rt; map.regions() == [region].as_slice());
-    assert!(rt; VirtualNs::fits(base, BLOCKS));
-    assert_eq!(rt; world.range(guest), Some(VirtualNs::new(base, BLOCKS)));
+    assert!(rt; Extent::fits(base, BLOCKS));
+    let ns = VirtualNs::of(Extent::new(base, BLOCKS));
+    assert_eq!(rt; world.range(guest).copied(), Some(ns));
     assert_eq!(rt; world.limit(guest), Some(LIMIT));
 }
 

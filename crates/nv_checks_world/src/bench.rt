@@ -5,7 +5,7 @@ use nv_entry::{Cqe, Sqe};
 use nv_mem::{BoxedBytes, GuestMap, NoMemory, Region};
 use nv_model::{Act, Reply};
 use nv_plan::{Planned, make_plan};
-use nv_world::{GuestSetup, Setup, World};
+use nv_world::{Extent, GuestSetup, Setup, World};
 use nv_world_model::Event;
 use std::alloc::Global;
 
@@ -45,10 +45,13 @@ pub fn opened(alloc: Global) -> Option<World> {
     };
     let regions = vec![in alloc; region].ok()?;
     let map = GuestMap::new(0x100_0000, regions).ok()?;
-    let guest = GuestSetup {
-        map,
+    let extent = Extent {
         base: BASE,
         blocks: BLOCKS,
+    };
+    let guest = GuestSetup {
+        map,
+        extents: vec![in alloc; extent].ok()?,
         limit: LIMIT,
     };
     let setup = Setup {
@@ -179,10 +182,10 @@ fn planned(world: &World, alloc: Global) -> Result<Option<Planned>, NoMemory> {
     let Some(map) = world.map(job.guest) else {
         return Ok(None);
     };
-    let Some(range) = world.range(job.guest) else {
+    let Some(ns) = world.range(job.guest) else {
         return Ok(None);
     };
-    Ok(Some(make_plan(alloc, alloc, job, map, &range, LIMIT)))
+    Ok(Some(make_plan(alloc, alloc, job, map, ns, LIMIT)))
 }
 
 // Whether the command of tag 0 is planned, with its lists read as they are wanted, and its plan carried out.

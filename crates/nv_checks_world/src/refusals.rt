@@ -139,8 +139,8 @@ fn expect_done(rt: &impl Abort, alloc: Global, world: &mut World, deeds: &[Deed]
 fn planned(world: &World, alloc: Global) -> Option<Planned> {
     let job = world.job(alloc, 0, 0).ok()??;
     let map = world.map(job.guest)?;
-    let range = world.range(job.guest)?;
-    Some(make_plan(alloc, alloc, job, map, &range, 1024))
+    let ns = world.range(job.guest)?;
+    Some(make_plan(alloc, alloc, job, map, ns, 1024))
 }
 
 // Whether the command of tag 0 is planned, and its plan carried out; none where there was no memory.

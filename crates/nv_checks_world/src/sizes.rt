@@ -1,7 +1,7 @@
 //! Sizes at and beyond each limit of a set-up.
 
 use nv_mem::{GuestMap, Region};
-use nv_world::{GuestSetup, Refusal, Setup, World};
+use nv_world::{Extent, GuestSetup, Refusal, Setup, World};
 use nv_world_model::Logged;
 use std::alloc::Global;
 use std::process::Abort;
@@ -12,12 +12,18 @@ const PAGE: u64 = 4096;
 
 const IMAGES: u64 = 0x10_0000;
 
-/// What the last guest has: its range, its limit on descriptors, where its memory lies in the host, in how many
+/// Blocks of the disk in a row, as a table has them: so many from that one on.
+#[derive(Clone, Copy)]
+struct Span {
+    base: u64,
+    blocks: u64,
+}
+
+/// What the last guest has: its extents, its limit on descriptors, where its memory lies in the host, in how many
 /// regions of a page, and the length of the host that its map was made for.
 #[derive(Clone, Copy)]
 struct Seat {
-    base: u64,
-    blocks: u64,
+    extents: &'static [Span],
     limit: u32,
     image: u64,
     regions: u64,
@@ -37,9 +43,27 @@ struct Case {
 
 const HOST: u64 = 0x100_0000;
 
-const SEAT: Seat = Seat {
+/// One extent of 64 blocks.
+const BLOCKS: &[Span] = &[Span {
     base: 64,
     blocks: 64,
+}];
+
+/// Nine, each of a block.
+const NINE: &[Span] = &[
+    Span { base: 0, blocks: 1 },
+    Span { base: 1, blocks: 1 },
+    Span { base: 2, blocks: 1 },
+    Span { base: 3, blocks: 1 },
+    Span { base: 4, blocks: 1 },
+    Span { base: 5, blocks: 1 },
+    Span { base: 6, blocks: 1 },
+    Span { base: 7, blocks: 1 },
+    Span { base: 8, blocks: 1 },
+];
+
+const SEAT: Seat = Seat {
+    extents: BLOCKS,
     limit: 1024,
     image: 0x20_0000,
     regions: 1,
@@ -93,8 +117,7 @@ const ACCEPTED: &[Case] = &[
         name: "a disk of one block",
         disk: 1,
         last: Seat {
-            base: 0,
-            blocks: 1,
+            extents: &[Span { base: 0, blocks: 1 }],
             ..SEAT
         },
         ..PLAIN
@@ -197,19 +220,67 @@ const BAD_SIZES: &[Case] = &[
         ..PLAIN
     },
     Case {
-        name: "a range of no block",
-        last: Seat { blocks: 0, ..SEAT },
-        ..PLAIN
-    },
-    Case {
-        name: "a range that ends behind the disk",
-        last: Seat { base: 65, ..SEAT },
-        ..PLAIN
-    },
-    Case {
-        name: "a range whose end wraps",
+        name: "no extent",
         last: Seat {
-            base: u64::MAX,
+            extents: &[],
+            ..SEAT
+        },
+        ..PLAIN
+    },
+    Case {
+        name: "an extent of no block",
+        last: Seat {
+            extents: &[Span {
+                base: 64,
+                blocks: 0,
+            }],
+            ..SEAT
+        },
+        ..PLAIN
+    },
+    Case {
+        name: "an extent that ends behind the disk",
+        last: Seat {
+            extents: &[Span {
+                base: 65,
+                blocks: 64,
+            }],
+            ..SEAT
+        },
+        ..PLAIN
+    },
+    Case {
+        name: "an extent whose end wraps",
+        last: Seat {
+            extents: &[Span {
+                base: u64::MAX,
+                blocks: 64,
+            }],
+            ..SEAT
+        },
+        ..PLAIN
+    },
+    Case {
+        name: "two extents",
+        last: Seat {
+            extents: &[
+                Span {
+                    base: 96,
+                    blocks: 32,
+                },
+                Span {
+                    base: 64,
+                    blocks: 32,
+                },
+            ],
+            ..SEAT
+        },
+        ..PLAIN
+    },
+    Case {
+        name: "9 extents",
+        last: Seat {
+            extents: NINE,
             ..SEAT
         },
         ..PLAIN
@@ -245,11 +316,13 @@ const BAD_SIZES: &[Case] = &[
     },
 ];
 
-/// A last guest whose range meets another's, and whose memory meets the mediator's area, with a limit that may not
+/// A last guest an extent of which meets another's, and whose memory meets the mediator's area, with a limit that may not
 /// be.
 const MEETING: Seat = Seat {
-    base: 0,
-    blocks: 64,
+    extents: &[Span {
+        base: 0,
+        blocks: 64,
+    }],
     limit: 0,
     image: 0x40_0000,
     regions: 1,
@@ -279,10 +352,62 @@ const LOWEST: &[(Refusal, Case)] = &[
     (
         Refusal::RangesMeet,
         Case {
-            name: "ranges and memory that meet, and 9 lanes",
+            name: "extents and memory that meet, and 9 lanes",
             guests: 2,
             lanes: 9,
             last: MEETING,
+            ..PLAIN
+        },
+    ),
+    (
+        Refusal::RangesMeet,
+        Case {
+            name: "two extents of one guest that meet",
+            last: Seat {
+                extents: &[
+                    Span {
+                        base: 64,
+                        blocks: 32,
+                    },
+                    Span {
+                        base: 95,
+                        blocks: 8,
+                    },
+                ],
+                ..SEAT
+            },
+            ..PLAIN
+        },
+    ),
+    (
+        Refusal::RangesMeet,
+        Case {
+            name: "a second extent that meets another guest's",
+            guests: 2,
+            last: Seat {
+                extents: &[
+                    Span {
+                        base: 64,
+                        blocks: 32,
+                    },
+                    Span { base: 0, blocks: 2 },
+                ],
+                ..SEAT
+            },
+            ..PLAIN
+        },
+    ),
+    (
+        Refusal::RangesMeet,
+        Case {
+            name: "extents that meet where there is no disk",
+            last: Seat {
+                extents: &[Span {
+                    base: u64::MAX,
+                    blocks: 1,
+                }; 2],
+                ..SEAT
+            },
             ..PLAIN
         },
     ),
@@ -310,19 +435,29 @@ const LOWEST: &[(Refusal, Case)] = &[
     ),
 ];
 
-// What a guest has that is not the last: a block, and a page.
+// What a guest has that is not the last, but for its block: a page.
 fn plain_seat(number: u8, made_for: u64) -> Seat {
     Seat {
-        base: u64::from(number),
-        blocks: 1,
         image: IMAGES + PAGE * u64::from(number),
         made_for,
         ..SEAT
     }
 }
 
-// A guest with that.
-fn guest(alloc: Global, seat: &Seat) -> Result<GuestSetup, Fail> {
+// The extents that these are.
+fn extents(alloc: Global, spans: &[Span]) -> Result<Vec<Extent>, Fail> {
+    let mut extents = Vec::new(alloc);
+    for span in spans {
+        extents.push(Extent {
+            base: span.base,
+            blocks: span.blocks,
+        })?;
+    }
+    Ok(extents)
+}
+
+// A guest with that, and these blocks.
+fn guest(alloc: Global, seat: &Seat, spans: &[Span]) -> Result<GuestSetup, Fail> {
     let mut regions = Vec::new(alloc);
     for number in 0..seat.regions {
         regions.push(Region {
@@ -333,8 +468,7 @@ fn guest(alloc: Global, seat: &Seat) -> Result<GuestSetup, Fail> {
     }
     Ok(GuestSetup {
         map: GuestMap::new(seat.made_for, regions)?,
-        base: seat.base,
-        blocks: seat.blocks,
+        extents: extents(alloc, spans)?,
         limit: seat.limit,
     })
 }
@@ -343,10 +477,14 @@ fn guest(alloc: Global, seat: &Seat) -> Result<GuestSetup, Fail> {
 fn guests(alloc: Global, case: &Case) -> Result<Vec<GuestSetup>, Fail> {
     let mut guests = Vec::new(alloc);
     for number in 1..case.guests {
-        guests.push(guest(alloc, &plain_seat(number, case.host))?)?;
+        let block = Span {
+            base: u64::from(number),
+            blocks: 1,
+        };
+        guests.push(guest(alloc, &plain_seat(number, case.host), &[block])?)?;
     }
     if case.guests > 0 {
-        guests.push(guest(alloc, &case.last)?)?;
+        guests.push(guest(alloc, &case.last, case.last.extents)?)?;
     }
     Ok(guests)
 }

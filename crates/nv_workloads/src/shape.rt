@@ -2,7 +2,7 @@
 
 use crate::text::Text;
 use nv_mem::{GuestMap, NoMemory, Region};
-use nv_world::{GuestSetup, Setup};
+use nv_world::{Extent, GuestSetup, Setup};
 use std::alloc::Global;
 
 /// The bytes of each guest's memory.
@@ -86,8 +86,7 @@ impl Shape {
             let (base, blocks) = self.range(guest);
             guests.push(GuestSetup {
                 map,
-                base,
-                blocks,
+                extents: vec![in alloc; Extent { base, blocks }]?,
                 limit: DESCRIPTORS,
             })?;
         }

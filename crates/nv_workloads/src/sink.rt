@@ -77,7 +77,7 @@ impl Mediated {
         ) else {
             return Ok(true);
         };
-        match make_plan(alloc, alloc, job, map, &ns, limit) {
+        match make_plan(alloc, alloc, job, map, ns, limit) {
             Planned::Need(_, addr, len) => {
                 self.digest.number(addr);
                 self.digest.number(len);
