@@ -11,6 +11,8 @@ mod digits;
 #[cfg(test)]
 mod events;
 #[cfg(test)]
+mod extents;
+#[cfg(test)]
 mod guests;
 #[cfg(test)]
 mod limits;
