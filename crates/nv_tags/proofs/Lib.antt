@@ -1,1 +1,7 @@
+pub mod GroupLaws
+pub mod Groups
+pub mod Lowest
+pub mod Masks
+pub mod Rows
 pub mod Slots
+pub mod Together

@@ -1,1 +1,3 @@
 pub mod Tags
+pub mod Kept
+pub mod Laws

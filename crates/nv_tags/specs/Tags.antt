@@ -1,8 +1,10 @@
 -- The tags of a lane, which are the physical command identifiers, too: whose each is, and where its command is
 -- (profile; identifiers: Base Specification 2.0, "Submission Queue Entry", CID).
-use Rattle.std.specs.Prelude.{ℕ, Bool, true, false, List, [], ◌∷◌, slice_get, slice_set, Option, Some, None}
-use Rattle.std.specs.List.{position}
+use Rattle.std.specs.Prelude.{◌≡◌, ℕ, Bool, true, false, ◌==◌, nat_le, if◌then◌else◌, List, [], ◌∷◌, length, map, slice_get, slice_set, take}
+use Rattle.std.specs.Prelude.{Option, Some, None}
+use Rattle.std.specs.List.{filter, position, range_with_len}
 use Rattle.nv_entry.specs.Status.{StatusField}
+use Rattle.nv_world_model.specs.Area.{tag_count}
 use Rattle.nv_world_model.specs.World.{Command}
 use Rattle.nv_tags.specs.declared.claim.Claim.{Claim}
 use Rattle.nv_tags.specs.declared.state.TagState.{TagState}
@@ -30,9 +32,9 @@ free_slot slots = position is_free slots
 
 -- ---- as callers name them
 
--- the command of a claim
-abbrev pub command_of : Claim → Command
-command_of claim = record { guest = claim.guest; queue = claim.queue; entry = claim.entry }
+-- the command of a claim, which goes by that tag
+abbrev pub command_of : Claim → (leader : ℕ) → Command
+command_of claim leader = record { guest = claim.guest; queue = claim.queue; entry = claim.entry; leader = leader }
 
 -- a tag by its state and its claim
 abbrev pub slot_of : TagState → Command → Slot
@@ -87,10 +89,61 @@ ended_with state.Taken = None
 ended_with state.Flying = None
 ended_with (state.Ended st) = Some st
 
--- ---- as they are kept
+-- ---- several tags of one command
 
--- tags by their states and their claims, one beside the other
-unfoldable pub slots_of : List TagState → List Claim → List Slot
-slots_of [] claims = []
-slots_of (s ∷ states) [] = []
-slots_of (s ∷ states) (claim ∷ claims) = slot_of s (command_of claim) ∷ slots_of states claims
+-- the tags of whose slots a test holds, in order
+unfoldable pub tags_where : (Slot → Bool) → List Slot → List ℕ
+tags_where test slots = filter (λ tag. test (slot_at slots tag)) (range_with_len 0 (length slots))
+
+-- all free tags
+abbrev pub free_slots : List Slot → List ℕ
+free_slots slots = tags_where is_free slots
+
+-- the lowest `count` of these, or none where there are fewer
+abbrev pub lowest : (count : ℕ) → (tags : List ℕ) → Option (List ℕ)
+lowest count tags = if nat_le count (length tags) then Some (take count tags) else None
+
+-- the `count` lowest free tags
+abbrev pub claimed : (count : ℕ) → List Slot → Option (List ℕ)
+claimed count slots = lowest count (free_slots slots)
+
+-- the first of these tags
+abbrev pub leader_in : Option (List ℕ) → Option ℕ
+leader_in None = None
+leader_in (Some []) = None
+leader_in (Some (tag ∷ tags)) = Some tag
+
+-- a list with that value at each of these places
+abbrev pub set_each : {X : Type 0} → (places : List ℕ) → X → List X → List X
+set_each [] x xs = xs
+set_each (at ∷ places) x xs = set_each places x (slice_set xs at x)
+
+-- slots of which these tags are a command's that was taken
+abbrev pub taken_by : Command → (tags : List ℕ) → List Slot → List Slot
+taken_by command tags slots = set_each tags (Used command Taken) slots
+
+-- whether a tag is one of a command that goes by this tag
+abbrev pub goes_by : (leader : ℕ) → Slot → Bool
+goes_by leader Free = false
+goes_by leader (Used command point) = command.leader == leader
+
+-- a group: the tags of a lane whose command goes by that tag, in order
+abbrev pub group : (leader : ℕ) → List Slot → List ℕ
+group leader slots = tags_where (goes_by leader) slots
+
+-- a tag is one that its own command goes by
+abbrev pub Leads : (tag : ℕ) → List Slot → Type 0
+Leads tag slots = goes_by tag (slot_at slots tag) ≡ true
+
+-- the tag that a tag's command goes by; 64, which is no tag, where the tag is nobody's
+abbrev pub leader_of : Slot → ℕ
+leader_of Free = tag_count
+leader_of (Used command point) = command.leader
+
+-- a tag that is free now if it was of that group
+abbrev pub freed : (leader : ℕ) → Slot → Slot
+freed leader slot = if goes_by leader slot then Free else slot
+
+-- all of a group are free at once
+abbrev pub released : (leader : ℕ) → List Slot → List Slot
+released leader slots = map (freed leader) slots

@@ -3,13 +3,20 @@
 //! A lane has 64 tags, numbered from 0. A tag is free, or it belongs to one command of a guest from the moment that the
 //! command is taken until it is completed for its guest: [`Tags::claim`] gives the lowest free tag, and the command goes
 //! on through [`Tags::fly`] and [`Tags::end`] to [`Tags::release`]. A call changes the tag that it names and no other.
-//! Nothing here takes memory.
+//!
+//! A command that takes several physical ones has as many tags: [`Tags::claim_group`] gives the lowest free ones, all at once or none.
+//! It goes by the lowest of them, its leader; the tags that go by one leader are its [`Tags::group`], which [`Tags::release_group`] frees at
+//! once. A command of one tag is its own leader, and costs nothing for it. Nothing here takes memory.
 #![tactic(auto)]
 
 mod claim;
+mod group;
+pub mod laws;
+mod several;
 mod state;
 mod tags;
 
 pub use claim::Claim;
+pub use group::Group;
 pub use state::TagState;
 pub use tags::{TAG_COUNT, Tags};

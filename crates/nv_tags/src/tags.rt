@@ -1,12 +1,15 @@
 //! A lane's tags.
 
-ghost use Rattle.std.specs.Prelude.{◌≡◌, ◌≢◌, ◌<◌, ◌⊎◌, replicate, slice_set, Some, None, IfSome, is_some};
+ghost use Rattle.std.specs.Prelude.{◌≡◌, ◌≢◌, ◌<◌, ◌⊎◌, ℕ, List, replicate, slice_set, Some, None, IfSome, is_some};
 ghost use Rattle.std.specs.List.{position};
 ghost use Rattle.nv_world_model.specs.Area.{tag_count};
-ghost use Rattle.nv_tags.specs.Tags.{Ended, Flying, Free, Taken, Used, command_in, command_of, free_slot, is_free_state, slot_at, state_at, with_point};
+ghost use Rattle.nv_tags.specs.Tags.{Ended, Flying, Free, Taken, Used, claimed, command_in, command_of, free_slot, group, is_free_state};
+ghost use Rattle.nv_tags.specs.Tags.{Leads, leader_in, leader_of, released, slot_at, state_at, taken_by, with_point};
 ghost use Rattle.nv_tags.specs.declared.state.TagState.TheVariants as state;
 
 use crate::claim::Claim;
+use crate::group::{Group, with, without};
+use crate::several::{free_each, lowest_free_mask, take_each};
 use crate::state::TagState;
 use nv_entry::{Sqe, Status};
 use std::marker::Model;
@@ -19,17 +22,22 @@ pub const TAG_COUNT: usize = 64;
 pub struct Tags {
     states: [TagState; 64],
     claims: [Claim; 64],
+    // the tag that each tag's command goes by
+    leaders: [u8; 64],
+    // of each tag, those behind it in the group that goes by it, a bit for each
+    groups: [u64; 64],
 }
 
 impl Model for Tags {
-    ghost use Rattle.std.specs.Prelude.{◌≡◌, List, length};
-    ghost use Rattle.nv_tags.specs.Tags.{Slot, slots_of};
+    ghost use Rattle.std.specs.Prelude.{List};
+    ghost use Rattle.nv_tags.specs.Kept.{AreKept, slots_of};
+    ghost use Rattle.nv_tags.specs.Tags.{Slot};
 
     ghost Value = { List Slot };
 
-    ghost view = { λ t. slots_of t.states t.claims };
+    ghost view = { λ t. slots_of t.states t.claims t.leaders };
 
-    ghost invariant = { λ t. (length t.states ≡ 64) × (length t.claims ≡ 64) };
+    ghost invariant = { λ t. AreKept t.states t.claims t.leaders t.groups };
 }
 
 // the place of the first free state
@@ -52,6 +60,8 @@ impl Tags {
         Tags {
             states: [TagState::Free; 64],
             claims: [nobodys; 64],
+            leaders: [0; 64],
+            groups: [0; 64],
         }
     }
 
@@ -62,24 +72,78 @@ impl Tags {
         lowest_free(&self.states).is_some()
     }
 
-    /// Gives the command the lowest free tag; `None`, with nothing changed, where no tag is free.
+    /// Whether so many tags are free: whether [`Tags::claim_group`] would give them.
+    pub fn has_free_group(&self, count: u8) -> bool
+        requires { 0 < count }
+        ensures { result ≡ is_some (claimed count self.now) }
+    {
+        lowest_free_mask(&self.states, count).is_some()
+    }
+
+    /// Gives the command the lowest free tag, which it goes by; `None`, with nothing changed, where no tag is free.
     pub fn claim(&mut self, claim: Claim) -> Option<u8>
         ensures tag { result ≡ free_slot self.old }
-        ensures some { IfSome result (λ tag. self.new ≡ slice_set self.old tag (Used (command_of claim) Taken)) }
+        ensures some { IfSome result (λ tag. self.new ≡ slice_set self.old tag (Used (command_of claim tag) Taken)) }
         ensures none { result ≡ None → self.new ≡ self.old }
     {
         let tag = lowest_free(&self.states)?;
         self.states[tag] = TagState::Taken;
         self.claims[tag] = claim;
+        self.leaders[tag] = tag as u8;
         Some(tag as u8)
+    }
+
+    /// Gives the command the `count` lowest free tags, all at once. It goes by the lowest of them, which is the result; `None`, with nothing
+    /// changed, where fewer tags are free.
+    pub fn claim_group(&mut self, claim: Claim, count: u8) -> Option<u8>
+        requires { 0 < count }
+        ensures leader { result ≡ leader_in (claimed count self.old) }
+        ensures some { (tags : List ℕ) → claimed count self.old ≡ Some tags →
+            IfSome result (λ leader. self.new ≡ taken_by (command_of claim leader) tags self.old) }
+        ensures none { result ≡ None → self.new ≡ self.old }
+    {
+        if count == 1 {
+            return self.claim(claim);
+        }
+        let mask = lowest_free_mask(&self.states, count)?;
+        let Some(leader) = Group::of(mask).pop() else {
+            unreachable!()
+        };
+        take_each(
+            &mut self.states,
+            &mut self.claims,
+            &mut self.leaders,
+            Group::of(mask),
+            &claim,
+            leader,
+        );
+        self.groups[usize::from(leader)] |= without(mask, leader);
+        Some(leader)
     }
 
     /// The command of the tag, as it was claimed. The tag is not free.
     pub fn entry(&self, tag: u8) -> &Claim
         requires used { state_at self.now tag ≢ state.Free }
-        ensures { command_in (slot_at self.now tag) ≡ Some (command_of result.now) }
+        ensures { command_in (slot_at self.now tag) ≡ Some (command_of result.now (leader_of (slot_at self.now tag))) }
     {
         &self.claims[usize::from(tag)]
+    }
+
+    /// The tag that the command of the tag goes by: the lowest of the tags that it was claimed with. The tag is not free.
+    pub fn leader(&self, tag: u8) -> u8
+        requires used { state_at self.now tag ≢ state.Free }
+        ensures value { result ≡ leader_of (slot_at self.now tag) }
+        ensures there { result < tag_count }
+    {
+        self.leaders[usize::from(tag)]
+    }
+
+    /// The tags of a command that goes by this tag, in order; itself, where it is the only one.
+    pub fn group(&self, leader: u8) -> Group
+        requires leads { Leads leader self.now }
+        ensures { result ≡ group leader self.now }
+    {
+        Group::of(with(self.groups[usize::from(leader)], leader))
     }
 
     /// Where the tag, 0 to 63, is.
@@ -106,11 +170,24 @@ impl Tags {
         self.states[usize::from(tag)] = TagState::Ended(status);
     }
 
-    /// The tag becomes free. It was not.
+    /// The tag becomes free, and no other. It was not.
     pub fn release(&mut self, tag: u8)
         requires used { state_at self.old tag ≢ state.Free }
         ensures { self.new ≡ slice_set self.old tag Free }
     {
+        let leader = usize::from(self.leaders[usize::from(tag)]);
+        self.groups[leader] = without(self.groups[leader], tag);
         self.states[usize::from(tag)] = TagState::Free;
+    }
+
+    /// The tags of a command that goes by this tag become free, all at once.
+    pub fn release_group(&mut self, leader: u8)
+        requires leads { Leads leader self.old }
+        ensures { self.new ≡ released leader self.old }
+    {
+        let at = usize::from(leader);
+        self.states[at] = TagState::Free;
+        free_each(&mut self.states, Group::of(self.groups[at]));
+        self.groups[at] = 0;
     }
 }

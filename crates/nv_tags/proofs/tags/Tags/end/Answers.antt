@@ -1,14 +1,32 @@
 use Rattle.std.proofs.Common.{refl, arith}
 use Rattle.nv_tags.specs.Tags.{Ended}
 use Rattle.nv_tags.specs.declared.state.TagState.TheVariants as state
-use Rattle.nv_tags.proofs.Slots.{going-used, moved-seen, there}
+use Rattle.nv_tags.proofs.Groups.{AreKept-moved}
+use Rattle.nv_tags.proofs.Slots.{busy-seen, going-used, moved-seen, there}
 use Rattle.nv_tags.proofs.tags.Tags.end.Goals as goal
 
 pub listed : goal.listed
-listed c = let below = there c.self.inside.states c.self.inside.claims c.self.invariant c.args.self.now c.self.view_is c.args.tag c.from.result c.from.ensures (going-used c.args.self.now c.args.tag c.requires.going) in grind (arith)
+listed c =
+    let below = there c.self.inside.states c.self.inside.claims c.self.inside.leaders c.self.inside.groups c.self.invariant c.args.self.now c.self.view_is
+    c.args.tag c.from.result c.from.ensures (going-used c.args.self.now c.args.tag c.requires.going) in
+    let all = c.self.invariant.states_are in
+    omega arith
 
 pub bounds-self-inside-from : goal.bounds-self-inside-from
-bounds-self-inside-from c = there c.self.inside.states c.self.inside.claims c.self.invariant c.args.self.now c.self.view_is c.args.tag c.from.result c.from.ensures (going-used c.args.self.now c.args.tag c.requires.going)
+bounds-self-inside-from c =
+    there c.self.inside.states c.self.inside.claims c.self.inside.leaders c.self.inside.groups c.self.invariant c.args.self.now c.self.view_is
+    c.args.tag c.from.result c.from.ensures (going-used c.args.self.now c.args.tag c.requires.going)
+
+pub invariant_of-self : goal.invariant_of-self
+invariant_of-self c =
+    AreKept-moved c.self.inside.states c.self.inside.claims c.self.inside.leaders c.self.inside.groups c.self.invariant c.from.result
+    (there c.self.inside.states c.self.inside.claims c.self.inside.leaders c.self.inside.groups c.self.invariant c.args.self.now c.self.view_is
+    c.args.tag c.from.result c.from.ensures (going-used c.args.self.now c.args.tag c.requires.going))
+    (state.Ended c.args.status) (busy-seen c.self.inside.states c.self.inside.claims c.self.inside.leaders c.self.inside.groups c.self.invariant c.args.self.now c.self.view_is
+    c.args.tag c.from.result c.from.ensures (going-used c.args.self.now c.args.tag c.requires.going)) refl
 
 pub returns : goal.returns
-returns c = moved-seen c.self.inside.states c.self.inside.claims c.self.invariant c.args.self.now c.self.view_is c.args.tag c.from.result c.from.ensures (Ended c.args.status) (state.Ended c.args.status) (λ command. refl) (going-used c.args.self.now c.args.tag c.requires.going)
+returns c =
+    moved-seen c.self.inside.states c.self.inside.claims c.self.inside.leaders c.self.inside.groups c.self.invariant c.args.self.now c.self.view_is
+    c.args.tag c.from.result c.from.ensures
+    (Ended c.args.status) (state.Ended c.args.status) (λ command. refl) (going-used c.args.self.now c.args.tag c.requires.going)

@@ -3,4 +3,7 @@ use Rattle.nv_tags.proofs.Slots.{state-seen}
 use Rattle.nv_tags.proofs.tags.Tags.state.Goals as goal
 
 pub returns : goal.returns
-returns c = state-seen c.self.inside.states c.self.inside.claims c.self.invariant c.args.self.now c.self.view_is c.args.tag c.from.result c.from.ensures c.index-self-from.result (omega arith)
+returns c =
+    state-seen c.self.inside.states c.self.inside.claims c.self.inside.leaders c.self.inside.groups c.self.invariant c.args.self.now c.self.view_is
+    c.args.tag c.from.result c.from.ensures
+    c.index-self-from.result (omega arith)

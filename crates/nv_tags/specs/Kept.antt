@@ -1,0 +1,54 @@
+-- Tags as they are kept: states, claims and leaders, one beside the other; and of each tag that may lead, the tags behind it, as a number
+-- with a bit for each. No contract of a public function names this.
+use Rattle.std.specs.Prelude.{◌≡◌, ℕ, ◌<◌, ◌==◌, ◌&&◌, not, Bool, if◌then◌else◌, List, [], ◌∷◌, length, slice_index, slice_index_or}
+use Rattle.std.specs.Int.{bit_at}
+use Rattle.std.specs.List.{filter, range_with_len}
+use Rattle.nv_entry.specs.Status.{bit}
+use Rattle.nv_world_model.specs.Area.{tag_count}
+use Rattle.nv_tags.specs.Tags.{Slot, command_of, is_free_state, slot_of}
+use Rattle.nv_tags.specs.declared.claim.Claim.{Claim}
+use Rattle.nv_tags.specs.declared.state.TagState.{TagState}
+use Rattle.nv_tags.specs.declared.state.TagState.TheVariants as state
+
+-- tags by their states, their claims and the tags that these go by
+unfoldable pub slots_of : List TagState → List Claim → (leaders : List ℕ) → List Slot
+slots_of [] claims leaders = []
+slots_of (s ∷ states) [] leaders = []
+slots_of (s ∷ states) (claim ∷ claims) [] = []
+slots_of (s ∷ states) (claim ∷ claims) (leader ∷ leaders) = slot_of s (command_of claim leader) ∷ slots_of states claims leaders
+
+-- the tags whose bits are set, in order
+unfoldable pub tags_in : (mask : ℕ) → List ℕ
+tags_in mask = filter (λ tag. bit_at mask tag == 1) (range_with_len 0 tag_count)
+
+-- whether the tag of that number is free
+abbrev pub is_free_at : List TagState → (tag : ℕ) → Bool
+is_free_at states tag = is_free_state (slice_index_or states tag state.Free)
+
+-- the free tags, in order
+unfoldable pub free_states : List TagState → List ℕ
+free_states states = filter (is_free_at states) (range_with_len 0 (length states))
+
+-- whether a tag is behind that leader in its group
+abbrev pub is_behind : List TagState → (leaders : List ℕ) → (leader tag : ℕ) → Bool
+is_behind states leaders leader tag =
+    not (is_free_at states tag) && (slice_index leaders tag == leader && not (tag == leader))
+
+-- a mask that has that tag, too, or not any more
+abbrev pub IsWith : (before tag now : ℕ) → Type 0
+IsWith before tag now = (t : ℕ) → t < tag_count → bit_at now t ≡ (if t == tag then 1 else bit_at before t)
+
+abbrev pub IsWithout : (before tag now : ℕ) → Type 0
+IsWithout before tag now = (t : ℕ) → t < tag_count → bit_at now t ≡ (if t == tag then 0 else bit_at before t)
+
+-- what is kept of 64 tags
+pub record AreKept (states : List TagState) (claims : List Claim) (leaders groups : List ℕ) : Type 0 where
+  pub states_are : length states ≡ tag_count
+  pub claims_are : length claims ≡ tag_count
+  pub leaders_are : length leaders ≡ tag_count
+  pub groups_are : length groups ≡ tag_count
+  -- each goes by a tag that there is
+  pub led : (tag : ℕ) → tag < tag_count → slice_index leaders tag < tag_count
+  -- a bit is set exactly where the tag is behind that leader
+  pub behind : (leader tag : ℕ) → leader < tag_count → tag < tag_count
+      → bit_at (slice_index groups leader) tag ≡ bit (is_behind states leaders leader tag)

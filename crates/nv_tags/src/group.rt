@@ -1,0 +1,60 @@
+//! Tags of a lane, without memory.
+
+ghost use Rattle.std.specs.Prelude.{◌≡◌, ◌<◌, [], ◌∷◌, IfSome, MatchOption};
+ghost use Rattle.nv_world_model.specs.Area.{tag_count};
+ghost use Rattle.nv_tags.specs.Kept.{IsWith, IsWithout, tags_in};
+
+use std::marker::Model;
+
+/// Some tags of a lane, lowest first. A contract sees the list of their numbers.
+#[derive(Drop)]
+pub struct Group {
+    mask: u64,
+}
+
+impl Model for Group {
+    ghost use Rattle.std.specs.Prelude.{List, ℕ};
+    ghost use Rattle.nv_tags.specs.Kept.{tags_in};
+
+    ghost Value = { List ℕ };
+
+    ghost view = { λ g. tags_in g.mask };
+}
+
+impl Group {
+    /// The tags whose bits are set.
+    pub(crate) fn of(mask: u64) -> Self
+        ensures { result ≡ tags_in mask }
+    {
+        Group { mask }
+    }
+
+    /// Takes the lowest tag; `None` where none is left.
+    pub fn pop(&mut self) -> Option<u8>
+        ensures lowest { MatchOption result (self.old ≡ []) (λ tag. self.old ≡ tag ∷ self.new) }
+        ensures there { IfSome result (λ tag. tag < tag_count) }
+    {
+        if self.mask == 0 {
+            return None;
+        }
+        let tag = self.mask.trailing_zeros() as u8;
+        self.mask = without(self.mask, tag);
+        Some(tag)
+    }
+}
+
+/// A mask with the bit of a tag set, too.
+pub(crate) fn with(mask: u64, tag: u8) -> u64
+    requires { tag < tag_count }
+    ensures { IsWith mask tag result }
+{
+    mask | (1 << tag)
+}
+
+/// A mask with the bit of a tag cleared.
+pub(crate) fn without(mask: u64, tag: u8) -> u64
+    requires { tag < tag_count }
+    ensures { IsWithout mask tag result }
+{
+    mask & !(1 << tag)
+}
