@@ -1,7 +1,7 @@
 -- Tags by their states, their claims and their leaders, one beside the other.
-use Rattle.std.proofs.Common.{◌≡◌, ◌≢◌, ◌⊎◌, ℕ, zero, suc, ◌<◌, ◌≤◌, ◌==◌, not, ◌&&◌, false, List, [], ◌∷◌, length, set, slice_index, slice_index_or, replicate}
+use Rattle.std.proofs.Common.{◌≡◌, ◌≢◌, ◌⊎◌, ℕ, zero, suc, ◌<◌, ◌≤◌, ◌==◌, not, ◌&&◌, false, true, List, [], ◌∷◌, length, set, slice_index, slice_index_or, replicate}
 use Rattle.std.proofs.Common.{Some, arith, refl, sym, ap, ◌∙◌, subst, inl, inr}
-use Rattle.std.proofs.lemmas.Bool.{cases_lt}
+use Rattle.std.proofs.lemmas.Bool.{cases_lt, eq-eqb}
 use Rattle.std.specs.List.{position, position_or_len}
 use Rattle.nv_world_model.specs.World.{Command}
 use Rattle.nv_tags.specs.Kept.{AreKept, is_free_at, slots_of}
@@ -136,6 +136,11 @@ leader-slot state.Free command used = absurd (used refl)
 leader-slot state.Taken command used = refl
 leader-slot state.Flying command used = refl
 leader-slot (state.Ended st) command used = refl
+
+-- of one that is its own leader, where it is not nobody's
+pub leads-by : (slot : Slot) (tag : ℕ) → state_of slot ≢ state.Free → leader_of slot ≡ tag → goes_by tag slot ≡ true
+leads-by Free tag used own = absurd (used refl)
+leads-by (Used command point) tag used own = eq-eqb command.leader tag own
 
 free-state : (s : TagState) → s ≢ state.Free → is_free_state s ≡ false
 free-state state.Free used = absurd (used refl)

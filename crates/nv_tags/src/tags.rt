@@ -129,11 +129,13 @@ impl Tags {
         &self.claims[usize::from(tag)]
     }
 
-    /// The tag that the command of the tag goes by: the lowest of the tags that it was claimed with. The tag is not free.
+    /// The tag that the command of the tag goes by: the lowest of the tags that it was claimed with. The tag is not free. One that is its
+    /// own leader leads a group.
     pub fn leader(&self, tag: u8) -> u8
         requires used { state_at self.now tag ≢ state.Free }
         ensures value { result ≡ leader_of (slot_at self.now tag) }
         ensures there { result < tag_count }
+        ensures leads { result ≡ tag → Leads tag self.now }
     {
         self.leaders[usize::from(tag)]
     }

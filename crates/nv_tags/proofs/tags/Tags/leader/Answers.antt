@@ -1,4 +1,6 @@
-use Rattle.nv_tags.proofs.Slots.{leader-seen, there}
+use Rattle.std.proofs.Common.{sym, ◌∙◌}
+use Rattle.nv_tags.specs.Tags.{slot_at}
+use Rattle.nv_tags.proofs.Slots.{leader-seen, leads-by, there}
 use Rattle.nv_tags.proofs.tags.Tags.leader.Goals as goal
 
 pub bounds-self-inside-from : goal.bounds-self-inside-from
@@ -16,3 +18,9 @@ returns-clause-there c =
     c.self.invariant.led c.from.result
     (there c.self.inside.states c.self.inside.claims c.self.inside.leaders c.self.inside.groups c.self.invariant c.args.self.now c.self.view_is
     c.args.tag c.from.result c.from.ensures c.requires.used)
+
+pub returns-clause-leads : goal.returns-clause-leads
+returns-clause-leads c = λ own.
+    leads-by (slot_at c.args.self.now c.args.tag) c.args.tag c.requires.used
+    (sym (leader-seen c.self.inside.states c.self.inside.claims c.self.inside.leaders c.self.inside.groups c.self.invariant c.args.self.now c.self.view_is
+    c.args.tag c.from.result c.from.ensures c.requires.used) ∙ own)
