@@ -1,8 +1,8 @@
 -- Extents that a set-up may have are a namespace, and so are those that come first of them.
-use Rattle.std.proofs.Common.{◌≡◌, ℕ, ◌+◌, ◌*◌, ◌^◌, ◌<◌, ◌≤◌, ◌&&◌, ◌++◌, Bool, true, List, [], ◌∷◌, length, refl, ap, sym, ◌∙◌, arith, length-append, leb-true}
+use Rattle.std.proofs.Common.{◌≡◌, ℕ, ◌+◌, ◌*◌, ◌^◌, ◌<◌, ◌≤◌, ◌&&◌, ◌++◌, true, [], ◌∷◌, length, refl, ap, sym, ◌∙◌, arith, length-append, leb-true}
 use Rattle.std.proofs.Common.{zero, suc, drop, get_or, ltb-true, take, take-append-drop}
 use Rattle.std.proofs.lemmas.List.{take_more}
-use Rattle.std.specs.Prelude.{◌==◌, nat_lt, nat_le}
+use Rattle.std.specs.Prelude.{◌==◌, nat_le}
 use Rattle.std.specs.List.{list_all}
 use Rattle.std.proofs.lemmas.Bool.Decides.{nat_tests}
 use Rattle.std.proofs.lemmas.Grind.{common_steps}

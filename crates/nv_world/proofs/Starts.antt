@@ -110,3 +110,13 @@ holds-more P [] y all holds zero x at = let same : y ≡ x = cc in subst P same 
 holds-more P [] y all holds (suc i) x at = cc
 holds-more P (z ∷ zs) y all holds zero x at = all zero x at
 holds-more P (z ∷ zs) y all holds (suc i) x at = holds-more P zs y (λ j. all (suc j)) holds i x at
+
+-- what comes next of a list is one of its members
+member-behind : {X : Type 0} (before rest : List X) (y : X) → slice_get (before ++ y ∷ rest) (length before) ≡ Some y
+member-behind [] rest y = refl
+member-behind (x ∷ before) rest y = member-behind before rest y
+
+pub there-behind : {X : Type 0} (all before left rest : List X) (y : X) → all ≡ before ++ left → left ≡ y ∷ rest
+    → slice_get all (length before) ≡ Some y
+there-behind all before left rest y is next =
+    ap (λ (xs : List _). slice_get xs (length before)) (is ∙ ap (λ (ys : List _). before ++ ys) next) ∙ member-behind before rest y

@@ -1,6 +1,6 @@
-use Rattle.std.proofs.Common.{◌≡◌, ◌∙◌, ap, sym, subst, List, [], ◌∷◌, ◌++◌, ℕ, Some, slice_get, append_assoc}
+use Rattle.std.proofs.Common.{◌≡◌, ◌∙◌, ap, sym, subst, List, [], ◌∷◌, ◌++◌, ℕ, Some, length, slice_get, append_assoc}
 use Rattle.nv_mem.specs.GuestMap.{IsSound}
-use Rattle.nv_world.proofs.Starts.{holds-more}
+use Rattle.nv_world.proofs.Starts.{holds-more, there-behind}
 use Rattle.nv_world_model.specs.Geometry.{Guest}
 use Rattle.nv_world.proofs.opening.all_given.Goals as goal
 
@@ -15,3 +15,9 @@ loop-guest-preserved c =
       sound = subst (λ (g : List Guest). (i : ℕ) (x : Guest) → slice_get g i ≡ Some x → IsSound x.memory_map) (sym c.in_ok-push.ensures.items)
           (holds-more (λ (g : Guest). IsSound g.memory_map) given c.given_of.result c.loop-guest.invariant.sound c.given_of.ensures.sound);
     }
+
+pub given_of-requires : goal.given_of-requires
+given_of-requires c =
+    c.requires (length c.loop-guest.given.items) c.in-Some.guest
+    (there-behind c.args.guests.items c.loop-guest.given.items c.loop-guest.guest-iterator.rest.items c.next.new.self.rest.items c.in-Some.guest
+    c.loop-guest.invariant.all c.in-Some.ensures.steps.0)
