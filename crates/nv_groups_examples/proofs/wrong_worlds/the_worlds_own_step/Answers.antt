@@ -1,0 +1,19 @@
+use Rattle.std.proofs.Common.{List, ap, sym, ◌∙◌, subst}
+use Rattle.nv_model.specs.Private.{Step, run_of, start}
+use Rattle.nv_world_groups.specs.Agrees.{Agrees}
+use Rattle.nv_world_model.specs.Geometry.{shape_of}
+use Rattle.nv_world_groups.specs.PrivateSteps.{seen_by}
+use Rattle.nv_world_groups.specs.World.{World}
+use Rattle.nv_world_model.specs.declared.logged.Logged.{Logged}
+use Rattle.nv_groups_examples.specs.Guests.{first, opened}
+use Rattle.nv_groups_examples.proofs.Own.{logged-own, replay-own, steps-own}
+use Rattle.nv_groups_examples.proofs.wrong_worlds.the_worlds_own_step.Goals as goal
+
+pub returns : goal.returns
+returns c events p =
+    record {
+      run = p.run;
+      runs = ap (λ (ss : List Step). run_of (shape_of first) ss start) (steps-own events opened) ∙ p.runs;
+      seen = p.seen ∙ ap (λ (ls : List Logged). seen_by 0 ls) (sym (logged-own events opened));
+      agrees = subst (λ (w : World). Agrees 0 first w p.run.state) (sym (replay-own events opened)) p.agrees;
+    }

@@ -1,0 +1,8 @@
+//! Worked examples of the private-controller theorem where namespaces have several extents: a whole log of a guest of two extents beside one of
+//! three, whose premises hold and whose private run is written out, and worlds that are wrong. Computed from the definitions; there is no code
+//! here.
+#![tactic(auto)]
+
+pub mod second_story;
+pub mod story;
+pub mod wrong_worlds;

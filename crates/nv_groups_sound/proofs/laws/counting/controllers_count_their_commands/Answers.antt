@@ -1,0 +1,25 @@
+use Rattle.std.proofs.Common.{sym, subst}
+use Rattle.std.proofs.lemmas.List.{length-replicate}
+use Rattle.nv_world_groups.specs.World.{opening_lane, opening_world, world_at_start}
+use Rattle.nv_groups_sound.specs.LaidOut.{IsLaidOut}
+use Rattle.nv_groups_sound.proofs.CountedSteps.{step-counted}
+use Rattle.nv_groups_sound.proofs.CountedRuns.{opening-counted, replay-counted}
+use Rattle.nv_groups_sound.proofs.LaidOuts.{laid-out}
+use Rattle.nv_groups_sound.proofs.Openings.{opening-consistent}
+use Rattle.nv_groups_sound.proofs.laws.counting.controllers_count_their_commands.Goals as goal
+
+pub returns-clause-start : goal.returns-clause-start
+returns-clause-start c = λ s. opening-counted s.geometry s.lanes
+
+pub returns-clause-step : goal.returns-clause-step
+returns-clause-step c = step-counted
+
+pub returns-clause-events : goal.returns-clause-events
+returns-clause-events c = replay-counted
+
+pub returns-clause-from_start : goal.returns-clause-from_start
+unfolding opening_world
+returns-clause-from_start c = λ s events none sound.
+    replay-counted s.host_bytes s.geometry events (world_at_start s)
+    (subst (λ n. IsLaidOut s.host_bytes n s.geometry) (sym (length-replicate s.lanes opening_lane)) (laid-out s none sound))
+    (opening-consistent s.geometry s.lanes) (opening-counted s.geometry s.lanes)

@@ -1,0 +1,5 @@
+//! What holds of every world that events lead to, as functions that do nothing: each contract is a law.
+pub mod counting;
+pub mod keeping;
+pub mod rings;
+pub mod setting_up;

@@ -1,0 +1,27 @@
+//! What each event keeps.
+
+ghost use Rattle.std.specs.Prelude.{◌≡◌, ℕ, List, Some, None, length, slice_get};
+ghost use Rattle.nv_mem.specs.GuestMap.{IsSound};
+ghost use Rattle.nv_world_model.specs.Geometry.{Geometry, Guest};
+ghost use Rattle.nv_world_model.specs.SetUp.{SetUp, refusal_of};
+ghost use Rattle.nv_world_groups.specs.Step.{replay, step};
+ghost use Rattle.nv_world_groups.specs.World.{World, world_at_start};
+ghost use Rattle.nv_world_model.specs.declared.event.Event.{Event};
+ghost use Rattle.nv_groups_sound.specs.Consistent.{IsConsistent};
+ghost use Rattle.nv_groups_sound.specs.LaidOut.{IsLaidOut};
+
+/// Each event leads from a consistent world to one with as many lanes.
+pub fn each_event_keeps_a_world_consistent()
+    ensures consistent { (host_bytes : ℕ) (geometry : Geometry) (e : Event) (w : World) →
+        IsLaidOut host_bytes (length w.lanes) geometry → IsConsistent geometry w → IsConsistent geometry (step geometry e w).world }
+    ensures lanes { (geometry : Geometry) (e : Event) (w : World) → length (step geometry e w).world.lanes ≡ length w.lanes }
+{}
+
+/// So whatever events a set-up that isn't refused sees, hostile guests' and the failing of commands among them, its world stays consistent.
+pub fn worlds_stay_consistent()
+    ensures events { (host_bytes : ℕ) (geometry : Geometry) (events : List Event) (w : World) →
+        IsLaidOut host_bytes (length w.lanes) geometry → IsConsistent geometry w → IsConsistent geometry (replay geometry events w) }
+    ensures from_start { (s : SetUp) (events : List Event) → refusal_of s ≡ None →
+        ((number : ℕ) (guest : Guest) → slice_get s.geometry.guests number ≡ Some guest → IsSound guest.memory_map) →
+        IsConsistent s.geometry (replay s.geometry events (world_at_start s)) }
+{}

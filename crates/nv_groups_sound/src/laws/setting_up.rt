@@ -1,0 +1,21 @@
+//! Set-ups, and worlds at their start.
+
+ghost use Rattle.std.specs.Prelude.{◌≡◌, ℕ, Some, None, slice_get};
+ghost use Rattle.nv_mem.specs.GuestMap.{IsSound};
+ghost use Rattle.nv_world_model.specs.Geometry.{Guest};
+ghost use Rattle.nv_world_model.specs.SetUp.{SetUp, refusal_of};
+ghost use Rattle.nv_world_groups.specs.World.{world_at_start};
+ghost use Rattle.nv_groups_sound.specs.Consistent.{IsConsistent};
+ghost use Rattle.nv_groups_sound.specs.LaidOut.{IsLaidOut};
+
+/// Where a set-up is not refused, and its maps are, no two guests share a byte or a block, and none has a byte of the mediator's area.
+pub fn accepted_set_ups_are_laid_out()
+    ensures { (s : SetUp) → refusal_of s ≡ None →
+        ((number : ℕ) (guest : Guest) → slice_get s.geometry.guests number ≡ Some guest → IsSound guest.memory_map) →
+        IsLaidOut s.host_bytes s.lanes s.geometry }
+{}
+
+/// The world of a set-up is consistent at the start.
+pub fn worlds_begin_consistent()
+    ensures { (s : SetUp) → IsConsistent s.geometry (world_at_start s) }
+{}

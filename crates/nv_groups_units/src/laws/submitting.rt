@@ -1,0 +1,38 @@
+//! The verdict and the source of a command that is handed on.
+
+ghost use Rattle.std.specs.Prelude.{◌≡◌, ℕ, ◌<◌, List, All, false};
+ghost use Rattle.nv_mem.specs.GuestMap.{mapped};
+ghost use Rattle.nv_mem.specs.Places.{places_of, total_len};
+ghost use Rattle.nv_model.specs.Dialogue.{asked};
+ghost use Rattle.nv_model.specs.Judge.{Transfer, Work, form_of, judge};
+ghost use Rattle.nv_model.specs.Memory.{bytes_from, gathered, image};
+ghost use Rattle.nv_model.specs.Parts.{ShowsOn};
+ghost use Rattle.nv_model.specs.Private.{verdict_in};
+ghost use Rattle.nv_model.specs.Transcript.{ReadDone, Settled};
+ghost use Rattle.nv_world_model.specs.Area.{bounce_page, ring_size};
+ghost use Rattle.nv_world_model.specs.Geometry.{Geometry, Guest, regions_of, shape_of};
+ghost use Rattle.nv_world_model.specs.Plan.{Bounced, Plan, plan_of, plan_over};
+ghost use Rattle.nv_world_model.specs.Share.{Share};
+ghost use Rattle.nv_world_groups.specs.Parts.{share_written};
+ghost use Rattle.nv_groups_sound.specs.Consistent.{IsPlanned};
+
+/// Verdict at submission: where the reads of a command's lists show a memory wherever judging the command in that
+/// memory asks, its plan is that of its verdict in that memory, whatever else they show and whenever they were made.
+pub fn the_plan_is_the_verdicts_at_submission()
+    ensures { (guest : Guest) (entry : List ℕ) (reads : List ReadDone) (plan : Plan) (memory : ℕ → ℕ) →
+        plan_over guest entry reads ≡ Settled plan →
+        All (ShowsOn memory (asked memory (judge (mapped (regions_of guest)) guest.limit
+        (shape_of guest).blocks entry))) reads →
+        plan ≡ plan_of (regions_of guest) (verdict_in (shape_of guest) memory entry) }
+{}
+
+/// A share's part of a Write's and a Compare's source that is bounced stands in its tag's bounce pages, in order, as the
+/// guest's memory has it.
+pub fn a_source_is_bounced_as_the_guest_has_it()
+    ensures { (geometry : Geometry) (guest : Guest) (entry : List ℕ) (share : Share) (work : Work)
+        (lane tag slot : ℕ) (host : ℕ → ℕ) → IsPlanned guest entry share →
+        slot < ring_size → share.plan ≡ Bounced work → form_of work.opcode ≡ Transfer false →
+        bytes_from (share_written share guest entry geometry.mediator lane tag slot host)
+        (bounce_page geometry.mediator lane tag) (total_len work.pieces)
+        ≡ gathered (image (regions_of guest) host) (places_of work.pieces) }
+{}
