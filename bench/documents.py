@@ -27,7 +27,7 @@ BEGIN = "<!-- written by bench/%s.py -->"
 END = "<!-- as far as here -->"
 DEFINITIONS = "docs/DEFINITIONS.md"
 # crates all of whose definitions are logs
-LOGS = {"nv_examples"}
+LOGS = {"nv_examples", "nv_groups_examples"}
 # names of the toolchain's that documents speak of
 FOREIGN = {"as_flattened_mut"}
 
@@ -249,9 +249,9 @@ def check_code():
         words.update(re.findall(r"\w[\w-]*", text), re.findall(r"\w+", text))
         words.add(os.path.splitext(os.path.basename(path))[0])
         if path.endswith((".rt", ".antt")):
-            long_lines += sum(len(line) > LONG for line in text.split("\n"))
+            long_lines += sum(len(line.encode()) > LONG for line in text.split("\n"))
     if long_lines >= LONG_LINES:
-        yield f"crates/: {long_lines} lines of over {LONG} characters, and fewer than {LONG_LINES} are wanted"
+        yield f"crates/: {long_lines} lines of over {LONG} bytes, and fewer than {LONG_LINES} are wanted"
     for path in pages():
         prose = re.sub(r"```.*?```", "", read(path), flags=re.S)
         for code in re.findall(r"`([^`\n]+)`", prose):

@@ -3,6 +3,7 @@
 //! here.
 #![tactic(auto)]
 
+pub mod edges;
 pub mod second_story;
 pub mod story;
 pub mod wrong_worlds;

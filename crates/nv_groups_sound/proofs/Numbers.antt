@@ -213,7 +213,8 @@ puts-there {X = X} p (x ∷ xs) vs m y many is =
     → slice_get (puts (cond b (0 ∷ map suc (numbers_where p xs)) (map suc (numbers_where p xs))) vs (x ∷ xs)) m ≡ Some y → IsPut p (x ∷ xs) vs m y) [
       | true ↦ λ passes count at. passing (λ zs k fewer there. puts-there p xs zs k y fewer there) passes vs count m at
       | false ↦ λ fails count at.
-          staying (λ k there. puts-there p xs vs k y (count ∙ length-suc (numbers_where p xs)) there) fails m (count ∙ length-suc (numbers_where p xs)) (sym (ap (λ zs. slice_get zs m) (puts-suc (numbers_where p xs) vs xs x)) ∙ at)
+          staying (λ k there. puts-there p xs vs k y (count ∙ length-suc (numbers_where p xs)) there) fails m
+          (count ∙ length-suc (numbers_where p xs)) (sym (ap (λ zs. slice_get zs m) (puts-suc (numbers_where p xs) vs xs x)) ∙ at)
     ]) refl many is
   where
     passing : ((zs : List X) (k : ℕ) → length zs ≡ length (numbers_where p xs) → slice_get (puts (numbers_where p xs) zs xs) k ≡ Some y
@@ -228,7 +229,8 @@ puts-there {X = X} p (x ∷ xs) vs m y many is =
         put-more p x v xs vs m y
         (rest vs m (fewer ∙ length-suc (numbers_where p xs)) (sym (ap (λ zs. slice_get zs (suc m)) (puts-suc (numbers_where p xs) vs xs v)) ∙ at))
 
-    staying : ((k : ℕ) → slice_get (puts (numbers_where p xs) vs xs) k ≡ Some y → IsPut p xs vs k y) → p x ≡ false → (m : ℕ) → length vs ≡ length (numbers_where p xs) → slice_get (x ∷ puts (numbers_where p xs) vs xs) m ≡ Some y
+    staying : ((k : ℕ) → slice_get (puts (numbers_where p xs) vs xs) k ≡ Some y → IsPut p xs vs k y) → p x ≡ false → (m : ℕ)
+        → length vs ≡ length (numbers_where p xs) → slice_get (x ∷ puts (numbers_where p xs) vs xs) m ≡ Some y
         → IsPut p (x ∷ xs) vs m y
     staying rest fails zero count at = let same : x ≡ y = cc in Stayed at (subst (λ z. p z ≡ false) same fails)
     staying rest fails (suc m) count at = put-behind p x xs vs m y (rest m at)

@@ -1,5 +1,6 @@
 -- A command is handed on: its list, its source or its ranges, and its physical entry are written, and the doorbell is rung.
-use Rattle.std.proofs.Common.{◌≡◌, ℕ, ◌+◌, ◌<◌, ◌≤◌, ◌⊎◌, inl, inr, Bool, true, false, cond, ◌==◌, List, length, set, slice_get, Option, Some, None, arith, refl, sym, ap, ◌∙◌, eq-eqb, subst}
+use Rattle.std.proofs.Common.{◌≡◌, ℕ, ◌+◌, ◌<◌, ◌≤◌, ◌⊎◌, inl, inr, Bool, true, false, cond, ◌==◌}
+use Rattle.std.proofs.Common.{List, length, set, slice_get, Option, Some, None, arith, refl, sym, ap, ◌∙◌, eq-eqb, subst}
 use Rattle.std.specs.Prelude.{◌≢◌}
 use Rattle.std.proofs.lemmas.Bool.{cases_eq, cases_lt, eqb-false}
 use Rattle.nv_entry.specs.StatusCode.{done_with}
@@ -133,7 +134,8 @@ module _ (host_bytes lanes : ℕ) (geometry : Geometry) (laid : IsLaidOut host_b
         ranges =
             ranges-shown guest entry share host entered bounce is
             (shows-between bounced entered bounce (list_page geometry.mediator lane (tag + 1)) bounce (own_bytes share.plan guest.namespace guest host)
-            (same-stored bounced bounce (list_page geometry.mediator lane (tag + 1)) at (share_entry share guest.namespace guest entry geometry.mediator lane tag) (inr (omega (arith, sized, slot_below))))
+            (same-stored bounced bounce (list_page geometry.mediator lane (tag + 1)) at
+            (share_entry share guest.namespace guest entry geometry.mediator lane tag) (inr (omega (arith, sized, slot_below))))
             (omega arith) (omega (arith, short)) (shows-stored listed bounce (own_bytes share.plan guest.namespace guest host)));
       }
 

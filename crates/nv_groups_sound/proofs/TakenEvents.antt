@@ -58,7 +58,8 @@ queued-at geometry lane tag at host head d held (Flying command share (Queued sl
       is = is.is;
       planned = is.planned;
       some = is.some;
-      entry_is = subst (λ s. bytes_from host (submission_slot geometry.mediator lane s) sqe_size ≡ share_entry share is.guest.namespace is.guest command.entry geometry.mediator lane tag) same shown;
+      entry_is = subst (λ s. bytes_from host (submission_slot geometry.mediator lane s) sqe_size
+          ≡ share_entry share is.guest.namespace is.guest command.entry geometry.mediator lane tag) same shown;
       pages = is.stands.0.pages;
       not_held = is.stands.1;
     }
@@ -125,7 +126,8 @@ module _ (host_bytes lanes : ℕ) (geometry : Geometry) (laid : IsLaidOut host_b
       not_there slot stands same =
           let b = queued-at geometry lane other slot host l.head d o x there stands in
           let here : bytes_from host (submission_slot geometry.mediator lane d.head) sqe_size ≡ share_entry b.share b.guest.namespace b.guest b.command.entry geometry.mediator lane other =
-          subst (λ s. bytes_from host (submission_slot geometry.mediator lane s) sqe_size ≡ share_entry b.share b.guest.namespace b.guest b.command.entry geometry.mediator lane other) same b.entry_is in
+          subst (λ s. bytes_from host (submission_slot geometry.mediator lane s) sqe_size
+          ≡ share_entry b.share b.guest.namespace b.guest b.command.entry geometry.mediator lane other) same b.entry_is in
           let one : cid_of physical ≡ other =
           ap cid_of (sym a.entry_is ∙ here) ∙ entry-cid b.share b.guest b.command.entry geometry.mediator lane other other_below in
           eqb-false other tag apart (sym one ∙ entry-cid a.share a.guest a.command.entry geometry.mediator lane tag tag-below)

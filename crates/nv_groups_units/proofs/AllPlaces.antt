@@ -1,9 +1,10 @@
 -- Each place of a transfer is one of some share's.
-use Rattle.std.proofs.Common.{◌≡◌, ℕ, zero, suc, ◌+◌, ◌*◌, ◌<◌, ◌≤◌, Bool, true, false, ◌||◌, ◌==◌, eqb, cond, List, [], ◌∷◌, ◌++◌, All, drop, length, map, slice_get, take, Some}
+use Rattle.std.proofs.Common.{◌≡◌, ℕ, zero, suc, ◌+◌, ◌*◌, ◌<◌, ◌≤◌, Bool, true, false, ◌||◌, ◌==◌, eqb, cond, List}
+use Rattle.std.proofs.Common.{[], ◌∷◌, ◌++◌, All, drop, length, map, slice_get, Some}
 use Rattle.std.proofs.Common.{arith, refl, sym, ap, ◌∙◌, eq-eqb, eqb-true, subst, inl, inr}
 use Rattle.std.specs.List.{Contains, enumerate_from, range_with_len}
 use Rattle.std.proofs.lemmas.Bool.{cases_eq}
-use Rattle.std.proofs.lemmas.List.Elements.{All-contains, All-contains_itself, All-cons, All-drop, All-head, All-map, All-nil, All-tail, All-take}
+use Rattle.std.proofs.lemmas.List.Elements.{All-contains, All-contains_itself, All-cons, All-drop, All-head, All-nil, All-tail, All-take}
 use Rattle.std.proofs.lemmas.List.Sums.{sum_by-cons}
 use Rattle.nv_entry.specs.Submission.{slba_of}
 use Rattle.nv_mem.specs.GuestMap.{mapped}
@@ -26,7 +27,6 @@ use Rattle.nv_groups_sound.proofs.PlanSizes.{own_work}
 use Rattle.nv_groups_units.proofs.OwnShares.{own-share}
 use Rattle.nv_groups_units.proofs.Progress.{has, has-times}
 use Rattle.nv_groups_units.proofs.SharePlaces.{blocks-all, share-blocks}
-
 
 -- ---- the shares of a plan
 

@@ -1,10 +1,10 @@
 -- What is delivered of all tags of a command is what the guest's own memory has had since their units moved.
-use Rattle.std.proofs.Common.{◌≡◌, ℕ, zero, suc, ◌+◌, ◌*◌, ◌<◌, ◌≤◌, Bool, true, false, cond, List, [], ◌∷◌, All, length, slice_get, Option, Some, None}
+use Rattle.std.proofs.Common.{◌≡◌, ℕ, ◌+◌, ◌<◌, ◌≤◌, true, false, cond, List, [], ◌∷◌, All, length, slice_get, Option, Some, None}
 use Rattle.std.proofs.Common.{arith, refl, sym, ap, ◌∙◌, subst}
 use Rattle.std.specs.List.{AllPairs}
 use Rattle.std.proofs.lemmas.List.Elements.{All-cons, All-head, All-nil, All-tail, All-weaker}
 use Rattle.nv_mem.specs.GuestMap.{IsApart, guest_of, mapped}
-use Rattle.nv_mem.specs.Places.{At, Place, places_of, total_len}
+use Rattle.nv_mem.specs.Places.{At, places_of, total_len}
 use Rattle.nv_mem.proofs.PlaceLists.{length-places_of}
 use Rattle.nv_model.specs.Judge.{Work, is_read}
 use Rattle.nv_model.specs.Laws.{IsAnother}
@@ -21,7 +21,7 @@ use Rattle.nv_world_groups.specs.Step.{delivered_all, delivered_by, delivered_fr
 use Rattle.nv_world_groups.specs.World.{Ended, Flying, Free, Lane, Tag, Taken, World, tag_in, tag_of}
 use Rattle.nv_groups_sound.specs.Consistent.{IsConsistent, IsPlanned}
 use Rattle.nv_groups_sound.specs.LaidOut.{IsLaidOut}
-use Rattle.nv_groups_sound.proofs.Lists.{slice_get-there, some-same}
+use Rattle.nv_groups_sound.proofs.Lists.{slice_get-there}
 use Rattle.nv_groups_sound.proofs.PlanSizes.{own_work}
 use Rattle.nv_groups_units.specs.Delivered.{HasPage, delivered_places, plan_delivered}
 use Rattle.nv_groups_units.specs.Places.{HasAt}
@@ -73,7 +73,11 @@ module _ (o : Owner) (apart : AllPairs IsApart (regions_of o.given)) where
   by-host (Direct work) bounce z at outside = (refl, refl)
   by-host (Bounced work) bounce z at outside =
       elim (is_read work.opcode) as (λ b. ((cond b (scattered_to bounce work o z) z).host at ≡ z.host at) × ((cond b (scattered_to bounce work o z) z).lanes ≡ z.lanes)) [
-        | true ↦ (put_image-elsewhere (regions_of o.given) (scattered (image (regions_of o.given) z.host) (places_of work.pieces) (bytes_from z.host bounce (total_len work.pieces))) z.host at outside, refl)
+        | true ↦ (
+          put_image-elsewhere (regions_of o.given)
+              (scattered (image (regions_of o.given) z.host) (places_of work.pieces) (bytes_from z.host bounce (total_len work.pieces))) z.host at outside,
+          refl,
+        )
         | false ↦ (refl, refl)
       ]
 

@@ -1,5 +1,6 @@
 -- The numbers of a share's units grow, and so do those that a unit of the device's stands for.
-use Rattle.std.proofs.Common.{◌≡◌, ℕ, zero, suc, ◌+◌, ◌-◌, ◌<◌, ◌≤◌, Bool, true, false, not, ◌||◌, ◌==◌, cond, List, [], ◌∷◌, ◌++◌, All}
+use Rattle.std.proofs.Common.{◌≡◌, ℕ, zero, suc, ◌+◌, ◌-◌, ◌<◌, ◌≤◌, Bool, true, false, not, ◌||◌, ◌==◌, cond, List}
+use Rattle.std.proofs.Common.{[], ◌∷◌, ◌++◌, All}
 use Rattle.std.proofs.Common.{filter, slice_get, Option, Some, None, arith, refl, sym, ap, ◌∙◌, eq-eqb, inl, inr}
 use Rattle.std.proofs.lemmas.Bool.{cases_eq, ne_eqb}
 use Rattle.std.specs.List.{cons_option, filter_map, list_any, range_with_len}

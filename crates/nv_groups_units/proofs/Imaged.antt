@@ -1,5 +1,6 @@
 -- A guest's memory in the host behind a unit of a share of its command: a direct Read's block is at its places, and a bounced one changes nothing there.
-use Rattle.std.proofs.Common.{◌≡◌, ℕ, ◌+◌, ◌-◌, ◌*◌, ◌<◌, ◌≤◌, Bool, true, List, All, drop, map, slice_get, take, Some, None, arith, sym, ap, ◌∙◌, subst}
+use Rattle.std.proofs.Common.{◌≡◌, ℕ, ◌+◌, ◌-◌, ◌*◌, ◌<◌, ◌≤◌, Bool, true, List, All, drop, map, slice_get, take, Some}
+use Rattle.std.proofs.Common.{None, arith, sym, ap, ◌∙◌, subst}
 use Rattle.std.specs.List.{list_all, range_with_len}
 use Rattle.std.proofs.lemmas.List.{take-map}
 use Rattle.std.proofs.lemmas.List.Elements.{All-map}

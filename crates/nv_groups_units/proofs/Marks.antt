@@ -1,5 +1,6 @@
 -- What others' units, and blocks that become kept, do to a guest's marks.
-use Rattle.std.proofs.Common.{◌≡◌, ℕ, zero, suc, ◌+◌, ◌<◌, ◌≤◌, ◌⊎◌, inl, inr, Bool, true, false, ◌||◌, ◌&&◌, ◌==◌, cond, nat_lt}
+use Rattle.std.proofs.Common.{◌≡◌, ℕ, zero, suc, ◌+◌, ◌<◌, ◌≤◌, ◌⊎◌, inl, inr, Bool, true, false, ◌||◌, ◌&&◌}
+use Rattle.std.proofs.Common.{◌==◌, cond, nat_lt}
 use Rattle.std.proofs.Common.{List, [], ◌∷◌, All, filter, length, map, slice_get, Some, arith, refl, sym, ap, ◌∙◌, eq-eqb, subst}
 use Rattle.std.specs.Prelude.{◌≢◌}
 use Rattle.std.specs.List.{list_any, range_with_len}

@@ -1,5 +1,6 @@
 -- What a share's own work is to the device: its plan, its pieces, its units, and the fields that its physical entry has.
-use Rattle.std.proofs.Common.{◌≡◌, ℕ, ◌+◌, ◌-◌, ◌*◌, ◌^◌, ◌<◌, ◌≤◌, Bool, true, false, ◌&&◌, List, [], ◌∷◌, drop, length, map, slice_get, take, Some}
+use Rattle.std.proofs.Common.{◌≡◌, ℕ, ◌+◌, ◌-◌, ◌*◌, ◌^◌, ◌<◌, ◌≤◌, Bool, true, false, ◌&&◌, List, []}
+use Rattle.std.proofs.Common.{◌∷◌, drop, length, map, slice_get, take, Some}
 use Rattle.std.proofs.Common.{refl, ap, sym, ◌∙◌, subst, arith, leb-true, nat_le}
 use Rattle.std.specs.List.{All, Contains, enumerate_from, range_with_len}
 use Rattle.std.proofs.lemmas.List.{take_all}

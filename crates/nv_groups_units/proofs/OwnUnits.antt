@@ -1,5 +1,6 @@
 -- Which units of a share's own work a unit of the device's stands for: one of its own, or of a range all its blocks'.
-use Rattle.std.proofs.Common.{◌≡◌, ℕ, zero, suc, ◌+◌, ◌<◌, Bool, true, false, ◌||◌, ◌==◌, cond, List, [], ◌∷◌, ◌++◌, filter, flat_map, length, map, replicate}
+use Rattle.std.proofs.Common.{◌≡◌, ℕ, zero, suc, ◌+◌, ◌<◌, Bool, true, false, ◌||◌, ◌==◌, cond, List, [], ◌∷◌, ◌++◌}
+use Rattle.std.proofs.Common.{filter, flat_map, length, map, replicate}
 use Rattle.std.proofs.Common.{slice_get, Option, Some, option_to_list, arith, refl, sym, ap, ◌∙◌, append-nil, eq-eqb, length-append}
 use Rattle.std.specs.List.{enumerate_from, list_any, range_with_len}
 use Rattle.std.proofs.lemmas.Bool.{ne_eqb}

@@ -1,18 +1,16 @@
 -- What is left of a command's units behind one of a share, and what others' comparisons change.
-use Rattle.std.proofs.Common.{◌≡◌, ℕ, zero, suc, ◌+◌, ◌<◌, ◌≤◌, ◌⊎◌, inl, inr, Bool, true, false, not, ◌||◌, ◌&&◌, ◌==◌, eqb, cond, List, [], ◌∷◌, ◌++◌, All}
-use Rattle.std.proofs.Common.{filter, flat_map, length, slice_get, Option, Some, None, arith, refl, sym, ap, ◌∙◌, eq-eqb, eqb-true, subst, count_by}
+use Rattle.std.proofs.Common.{◌≡◌, ℕ, zero, suc, ◌+◌, ◌<◌, ◌≤◌, ◌⊎◌, inl, inr, Bool, true, false, not, ◌||◌, ◌&&◌}
+use Rattle.std.proofs.Common.{◌==◌, eqb, cond, List, [], ◌∷◌, ◌++◌}
+use Rattle.std.proofs.Common.{filter, length, slice_get, Option, Some, None, arith, refl, sym, ap, ◌∙◌, eq-eqb, eqb-true}
 use Rattle.std.specs.List.{cons_option, filter_map, list_any, range_with_len}
 use Rattle.std.proofs.lemmas.Bool.{cases_eq, cases_lt, ne_eqb}
 use Rattle.std.proofs.lemmas.List.Sums.{sum_by-append, sum_by-cons}
 use Rattle.nv_mem.specs.GuestMap.{mapped}
-use Rattle.nv_mem.specs.declared.region.Region.{Region}
-use Rattle.nv_ns.specs.Extents.{Namespace, blocks_in}
 use Rattle.nv_model.specs.Carried.{moved_on, units_moved}
-use Rattle.nv_model.specs.Judge.{Go, Work, WorkUnit, form_of}
+use Rattle.nv_model.specs.Judge.{Work, WorkUnit, form_of}
 use Rattle.nv_model.specs.Private.{Moved, numbers_of, others, unit_moved}
 use Rattle.nv_model.proofs.AnyAnswers.{end-sound}
 use Rattle.nv_world_model.specs.Geometry.{Guest, regions_of, shape_of}
-use Rattle.nv_world_model.specs.Plan.{plan_of}
 use Rattle.nv_world_model.specs.Share.{Share, shares_of}
 use Rattle.nv_world_model.proofs.AllShares.{all_numbers, shares_of-times}
 use Rattle.nv_world_model.proofs.ShareNumbers.{times}

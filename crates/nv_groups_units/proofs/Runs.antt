@@ -1,5 +1,6 @@
 -- Units that move one after the other are a run of the guest's private controller.
-use Rattle.std.proofs.Common.{◌≡◌, ℕ, suc, ◌+◌, ◌<◌, Bool, true, false, not, ◌||◌, ◌==◌, cond, List, [], ◌∷◌, All, filter, flat_map, length, map, slice_get}
+use Rattle.std.proofs.Common.{◌≡◌, ℕ, suc, ◌+◌, ◌<◌, Bool, true, false, not, ◌||◌, ◌==◌, cond, List, [], ◌∷◌, All}
+use Rattle.std.proofs.Common.{filter, flat_map, length, map, slice_get}
 use Rattle.std.proofs.Common.{Some, None, option_to_list, arith, refl, sym, ap, ◌∙◌, eq-eqb, eqb-true, subst}
 use Rattle.std.specs.List.{enumerate_from, list_any}
 use Rattle.std.specs.Bool.{⊤}
@@ -210,4 +211,3 @@ places-without left number from (n ∷ numbers) =
       where
         differ : (number == n) ≡ false → n ≡ number → ⊥
         differ apart same = let both : true ≡ false = sym (eq-eqb number n (sym same)) ∙ apart in cc
-

@@ -26,9 +26,12 @@ use Rattle.nv_world_model.specs.Share.{Share, tags_of_entry}
 use Rattle.nv_world_groups.specs.Parts.{is_no_command}
 use Rattle.nv_world_model.specs.Plan.{Answer, Bounced, Direct, NoData, Plan, plan_over}
 use Rattle.nv_world_groups.specs.Seat.{Owner, owner_of, put_back, seat}
-use Rattle.nv_world_groups.specs.Step.{act_put_back, acted_in, administered_by, administered_in, carried_out, carry_out, completion_read, delivered, delivered_all, delivered_by, delivered_from}
-use Rattle.nv_world_groups.specs.Step.{device_fail, device_post, device_posted, device_take, device_took, ended_at, ended_at_once, handed_on, is_io_queue, is_success}
-use Rattle.nv_world_groups.specs.Step.{entry_at, list_at, listed, post_all, post_at, post_by, posted_to, ran_out_of, reap, reaped, scattered_to, standing_at, statuses_of, step}
+use Rattle.nv_world_groups.specs.Step.{act_put_back, acted_in, administered_by, administered_in, carried_out, carry_out, completion_read, delivered}
+use Rattle.nv_world_groups.specs.Step.{delivered_all, delivered_by, delivered_from}
+use Rattle.nv_world_groups.specs.Step.{device_fail, device_post, device_posted, device_take, device_took, ended_at, ended_at_once, handed_on}
+use Rattle.nv_world_groups.specs.Step.{is_io_queue, is_success}
+use Rattle.nv_world_groups.specs.Step.{entry_at, list_at, listed, post_all, post_at, post_by, posted_to, ran_out_of, reap, reaped, scattered_to}
+use Rattle.nv_world_groups.specs.Step.{standing_at, statuses_of, step}
 use Rattle.nv_world_groups.specs.Step.{submit_by, submitted, submitted_on, take_from, take_front, take_tags, taken_to}
 use Rattle.nv_world_groups.specs.World.{Answered, Command, Ended, Flying, Free, InDevice, Lane, Standing, Tag, Taken, World}
 use Rattle.nv_world_groups.specs.World.{claimed, group, tag_of, with_controller, with_device, with_host, with_lane, with_tag, with_tags}

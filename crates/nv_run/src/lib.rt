@@ -6,6 +6,8 @@
 //! A guest's thread goes through its lines by its port: what the port's list says of that is `specs/Driving`. What is printed is by the lines
 //! and the log alone (`specs/Shown`): `specs/Played` says of which log. Of what threads do beside each other nothing is claimed but what
 //! `nv_threads` says.
+//!
+//! That its world is the one that the text opens, and which line a wait in vain names, is tested and not proved.
 #![tactic(auto)]
 
 mod driven;
