@@ -1,5 +1,5 @@
 -- Each guest's controller counts its commands behind a take, and behind a completion: a command counts in the tag that it goes by.
-use Rattle.std.proofs.Common.{◌≡◌, ℕ, zero, suc, ◌/◌, ◌%◌, ◌<◌, ◌≤◌, Bool, true, false, cond, ◌==◌, List, [], ◌∷◌, filter, length, map, set, slice_get}
+use Rattle.std.proofs.Common.{◌≡◌, ℕ, ◌/◌, ◌%◌, ◌<◌, Bool, true, false, cond, ◌==◌, List, [], ◌∷◌, filter, length, set, slice_get}
 use Rattle.std.proofs.Common.{Option, Some, None, arith, refl, sym, ap, ◌∙◌, eq-eqb, subst}
 use Rattle.std.specs.List.{All}
 use Rattle.std.proofs.lemmas.Bool.{eqb-false, ne_eqb}
@@ -14,7 +14,7 @@ use Rattle.nv_world_model.specs.Geometry.{Geometry, Guest}
 use Rattle.nv_world_model.specs.Share.{Share}
 use Rattle.nv_world_groups.specs.Seat.{Owner, member_by, member_of, name_of}
 use Rattle.nv_world_groups.specs.Step.{entry_at, taken_to}
-use Rattle.nv_world_groups.specs.World.{Command, Ended, Flying, Free, Lane, Tag, Taken, World, changed_at, group, lowest, tag_changed, tag_in, tag_of}
+use Rattle.nv_world_groups.specs.World.{Command, Ended, Flying, Free, Lane, Tag, Taken, World, changed_at, group, tag_changed, tag_in, tag_of}
 use Rattle.nv_world_groups.specs.World.{with_controller, with_tag, with_tags}
 use Rattle.nv_world_groups.proofs.Seats.{IsOwner}
 use Rattle.nv_groups_sound.specs.Counted.{IsCounted, command_in, commands}
@@ -23,8 +23,9 @@ use Rattle.nv_groups_sound.proofs.Commands.{put-commands, same-commands}
 use Rattle.nv_groups_sound.proofs.CountedActs.{retag-counted}
 use Rattle.nv_groups_sound.proofs.Folds.{HasTag, group-has, group-numbers, tag-part, tag_of-other}
 use Rattle.nv_groups_sound.proofs.Groupings.{goes-has, goes-of}
+use Rattle.nv_groups_sound.proofs.GroupShares.{first-leader}
 use Rattle.nv_groups_sound.proofs.Lists.{IsThere, Put, Was, set-there, slice_get-below}
-use Rattle.nv_groups_sound.proofs.Numbers.{AreDistinct, Passes, numbers-length, numbers-pass, numbers_where}
+use Rattle.nv_groups_sound.proofs.Numbers.{AreDistinct, numbers-length}
 use Rattle.nv_groups_sound.proofs.Stages.{filter-at}
 use Rattle.nv_groups_sound.proofs.Takes.{IsFree}
 
@@ -69,41 +70,13 @@ goes-elsewhere leader tag number t goes apart =
 
 -- ---- the first of a group
 
-lowest-suc : (ns : List ℕ) (m : ℕ) → lowest ns ≤ m → lowest (map suc ns) ≤ suc m
-lowest-suc [] m low = omega arith
-lowest-suc (n ∷ ns) m low = omega (arith, low)
-
-numbers-low : {X : Type 0} (p : X → Bool) (xs : List X) (m : ℕ) (x : X) → slice_get xs m ≡ Some x → p x ≡ true → lowest (numbers_where p xs) ≤ m
-numbers-low p [] m x at passes = cc
-numbers-low {X = X} p (y ∷ ys) m x at passes =
-    (elim (p y) as (λ b. p y ≡ b → lowest (cond b (0 ∷ map suc (numbers_where p ys)) (map suc (numbers_where p ys))) ≤ m) [
-      | true ↦ λ is. omega arith
-      | false ↦ λ is. later is m at (λ k there. numbers-low p ys k x there passes)
-    ]) refl
-  where
-    later : p y ≡ false → (m : ℕ) → slice_get (y ∷ ys) m ≡ Some x → ((k : ℕ) → slice_get ys k ≡ Some x → lowest (numbers_where p ys) ≤ k)
-        → lowest (map suc (numbers_where p ys)) ≤ m
-    later fails zero at rest =
-        let same : y ≡ x = cc in
-        let bad : true ≡ false = sym passes ∙ ap p (sym same) ∙ fails in cc
-    later fails (suc m) at rest = lowest-suc (numbers_where p ys) m (rest m at)
-
 -- it is the tag that the command goes by
 pub group-first : (geometry : Geometry) (w : World) (lane leader : ℕ) (l : Lane) (t : Tag) (command : Command) (n : ℕ) (rest : List ℕ)
     → slice_get w.lanes lane ≡ Some l → AreGroups geometry l.tags → slice_get l.tags leader ≡ Some t → command_of (part_of t) ≡ Some command
     → command.leader ≡ leader → group w lane leader ≡ n ∷ rest → n ≡ leader
 group-first geometry w lane leader l t command n rest at is found has leads same =
-    let parts : List Part = parts_of l.tags in
-    let numbers : numbers_where (goes_by leader) parts ≡ n ∷ rest = sym (group-numbers w lane leader l at) ∙ same in
-    let goes = goes-of leader (part_of t) command has leads in
-    let low = numbers-low (goes_by leader) parts leader (part_of t) (tag-part l.tags leader t found) goes in
-    let here = ap lowest numbers in
-    let p = All-head (Passes (goes_by leader) parts) n rest (subst (All (Passes (goes_by leader) parts)) numbers (numbers-pass (goes_by leader) parts)) in
-    let g = goes-has leader p.x p.passes in
-    let member = is n p.x g.command p.is g.has in
-    let least = member.low in
-    let led = g.leads in
-    omega (arith, low, here, least, led)
+    first-leader geometry (parts_of l.tags) leader (part_of t) command n rest is (tag-part l.tags leader t found) has leads
+    (sym (group-numbers w lane leader l at) ∙ same)
 
 pub group-some : (w : World) (lane leader : ℕ) (l : Lane) (t : Tag) (command : Command) → slice_get w.lanes lane ≡ Some l
     → slice_get l.tags leader ≡ Some t → command_of (part_of t) ≡ Some command → command.leader ≡ leader → group w lane leader ≡ [] → ⊥

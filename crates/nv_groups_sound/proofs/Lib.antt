@@ -45,3 +45,4 @@ pub mod CountedTags
 pub mod CountedEvents
 pub mod CountedSteps
 pub mod CountedRuns
+pub mod GroupShares

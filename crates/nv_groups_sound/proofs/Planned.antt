@@ -62,7 +62,7 @@ module _ (guest : Guest) (entry : List ℕ) (reads : List ReadDone) where
 -- ---- its shares
 
 -- each is one of that plan
-abbrev IsOf : Plan → Share → Type 0
+abbrev pub IsOf : Plan → Share → Type 0
 IsOf plan share = share.whole ≡ plan
 
 all-refl : {X : Type 0} (xs : List X) (plan : Plan) (f : X → Share) → ((x : X) → (f x).whole ≡ plan) → All (λ x. IsOf plan (f x)) xs
@@ -80,7 +80,7 @@ by-form Manage ns entry plan work =
     (all-refl (enumerate_from 0 (placed 0 ns)) plan (λ p. range_share plan work p.0 p.1) (λ p. refl))
 by-form Keep ns entry plan work = All-cons (IsOf plan) (whole_share plan work) [] refl (All-nil (IsOf plan))
 
-shares-whole : (ns : Namespace) (entry : List ℕ) (plan : Plan) → All (IsOf plan) (shares_of ns entry plan)
+pub shares-whole : (ns : Namespace) (entry : List ℕ) (plan : Plan) → All (IsOf plan) (shares_of ns entry plan)
 shares-whole ns entry (Answer st) = All-nil (IsOf (Answer st))
 shares-whole ns entry (NoData work) = by-form (form_of work.opcode) ns entry (NoData work) work
 shares-whole ns entry (Direct work) = by-form (form_of work.opcode) ns entry (Direct work) work
