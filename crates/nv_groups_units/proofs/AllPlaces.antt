@@ -89,7 +89,7 @@ times-has k (x ∷ xs) some =
       | false ↦ λ both. times-has k xs (omega (arith, both, some))
     ]) (sym sum)
 
-has-row : (k n from : ℕ) → from ≤ k → k < from + n → has k (range_with_len from n) ≡ true
+pub has-row : (k n from : ℕ) → from ≤ k → k < from + n → has k (range_with_len from n) ≡ true
 has-row k zero from low high = absurd (omega (arith, low, high))
 has-row k (suc n) from low high =
     elim (cases_eq from k) [

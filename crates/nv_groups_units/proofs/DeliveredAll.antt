@@ -66,19 +66,17 @@ module _ (o : Owner) (apart : AllPairs IsApart (regions_of o.given)) where
 
   -- and the host outside of it, and all tags, are as they were
   by-host : (plan : Plan) (bounce : ℕ) (z : World) (at : ℕ) → guest_of (regions_of o.given) at ≡ None
-      → ((delivered_by plan bounce o z).host at ≡ z.host at) × ((delivered_by plan bounce o z).lanes ≡ z.lanes)
+      → (delivered_by plan bounce o z).host at ≡ z.host at
   unfolding scattered_to
-  by-host (Answer st) bounce z at outside = (refl, refl)
-  by-host (NoData work) bounce z at outside = (refl, refl)
-  by-host (Direct work) bounce z at outside = (refl, refl)
+  by-host (Answer st) bounce z at outside = refl
+  by-host (NoData work) bounce z at outside = refl
+  by-host (Direct work) bounce z at outside = refl
   by-host (Bounced work) bounce z at outside =
-      elim (is_read work.opcode) as (λ b. ((cond b (scattered_to bounce work o z) z).host at ≡ z.host at) × ((cond b (scattered_to bounce work o z) z).lanes ≡ z.lanes)) [
-        | true ↦ (
-          put_image-elsewhere (regions_of o.given)
-              (scattered (image (regions_of o.given) z.host) (places_of work.pieces) (bytes_from z.host bounce (total_len work.pieces))) z.host at outside,
-          refl,
-        )
-        | false ↦ (refl, refl)
+      elim (is_read work.opcode) as (λ b. (cond b (scattered_to bounce work o z) z).host at ≡ z.host at) [
+        | true ↦
+            put_image-elsewhere (regions_of o.given)
+            (scattered (image (regions_of o.given) z.host) (places_of work.pieces) (bytes_from z.host bounce (total_len work.pieces))) z.host at outside
+        | false ↦ refl
       ]
 
   by-lanes : (plan : Plan) (bounce : ℕ) (z : World) → (delivered_by plan bounce o z).lanes ≡ z.lanes
@@ -96,7 +94,7 @@ module _ (o : Owner) (apart : AllPairs IsApart (regions_of o.given)) where
   from-host (Some (Taken command reads)) bounce z at outside = refl
   from-host (Some (Flying command share standing)) bounce z at outside = refl
   from-host (Some (Ended command st None)) bounce z at outside = refl
-  from-host (Some (Ended command st (Some share))) bounce z at outside = (by-host share.plan bounce z at outside).0
+  from-host (Some (Ended command st (Some share))) bounce z at outside = by-host share.plan bounce z at outside
 
   from-lanes : (found : Option Tag) (bounce : ℕ) (z : World) → (delivered_from found bounce o z).lanes ≡ z.lanes
   from-lanes None bounce z = refl

@@ -25,9 +25,9 @@ use Rattle.nv_groups_sound.specs.Consistent.{IsInDevice}
 use Rattle.nv_groups_sound.specs.LaidOut.{IsLaidOut}
 use Rattle.nv_groups_sound.proofs.MoveEvents.{unit-apart}
 use Rattle.nv_groups_sound.proofs.Named.{row-all}
+use Rattle.nv_groups_sound.proofs.OnDisk.{drop-row}
 use Rattle.nv_groups_units.specs.Places.{LieAt}
 use Rattle.nv_groups_units.specs.Units.{addresses_of_block}
-use Rattle.nv_groups_units.proofs.OwnDisk.{drop-row}
 use Rattle.nv_groups_units.proofs.OwnShares.{IsOwnShare}
 use Rattle.nv_groups_units.proofs.Lies.{gathered-lie, image-same, image-scattered, lie-drop, lie-pieces, lie-take}
 

@@ -22,3 +22,5 @@ pub mod SharePlaces
 pub mod Progress
 pub mod DeliveredAll
 pub mod AllPlaces
+pub mod LeftThere
+pub mod Handed

@@ -27,10 +27,11 @@ use Rattle.nv_groups_sound.specs.Consistent.{IsInDevice}
 use Rattle.nv_groups_sound.specs.LaidOut.{IsLaidOut}
 use Rattle.nv_groups_sound.proofs.Named.{row-all}
 use Rattle.nv_groups_sound.proofs.Namespaces.{AreOwn, own-away, place-disk, place-own}
+use Rattle.nv_groups_sound.proofs.OnDisk.{range-elsewhere}
 use Rattle.nv_groups_sound.proofs.PlanSizes.{HasCount}
 use Rattle.nv_groups_units.specs.Marks.{RunsToMarks, SameMarks}
 use Rattle.nv_groups_units.proofs.Moving as moving
-use Rattle.nv_groups_units.proofs.OwnDisk.{entry-own, range-elsewhere, range-own, unit-below_blocks}
+use Rattle.nv_groups_units.proofs.OwnDisk.{entry-own, range-own, unit-below_blocks}
 use Rattle.nv_groups_units.proofs.OwnShares.{IsOwnShare}
 
 -- ---- blocks that become kept on the guest's own controller

@@ -1,23 +1,17 @@
 -- The blocks that a share's physical command names on the disk, itself or in its ranges, are where its guest's lie.
-use Rattle.std.proofs.Common.{◌≡◌, ℕ, zero, suc, ◌+◌, ◌-◌, ◌*◌, ◌^◌, ◌<◌, ◌≤◌, ◌⊎◌, inl, inr, Bool, true}
-use Rattle.std.proofs.Common.{false, ◌||◌, ◌==◌, List, [], ◌∷◌, All, drop}
-use Rattle.std.proofs.Common.{flat_map, length, map, slice_get, take, Some, arith, refl, sym, ap, ◌∙◌, eqb-true, subst}
+use Rattle.std.proofs.Common.{◌≡◌, ℕ, zero, suc, ◌+◌, ◌-◌, ◌*◌, ◌^◌, ◌<◌, ◌≤◌, true}
+use Rattle.std.proofs.Common.{◌==◌, List, [], ◌∷◌, All, drop}
+use Rattle.std.proofs.Common.{flat_map, length, map, slice_get, take, Some, arith, refl, sym, ap, ◌∙◌, subst}
 use Rattle.std.specs.List.{list_any, range_with_len}
 use Rattle.std.proofs.lemmas.Bool.Decides.{nat_tests}
-use Rattle.std.proofs.lemmas.List.{drop-map}
-use Rattle.std.proofs.lemmas.List.Elements.{All-cons, All-head, All-map, All-nil, All-tail}
-use Rattle.std.proofs.lemmas.List.FromFn.{take-map-range_with_len}
-use Rattle.byteorder.specs.Numbers.{little_number-reads_back}
-use Rattle.nv_entry.specs.Layout.{dword, number_at, number_bytes, qword}
+use Rattle.std.proofs.lemmas.List.Elements.{All-head, All-tail}
 use Rattle.nv_entry.specs.Range.{blocks_of, start_of}
 use Rattle.nv_entry.specs.Submission.{opcode_of, slba_of}
-use Rattle.nv_mem.specs.Places.{At, addresses, places_of, total_len}
-use Rattle.nv_model.specs.Laws.{IsElsewhere}
-use Rattle.nv_model.specs.Judge.{ClearBlock, LeaveBlock, clear_units, one_range_units, Clear, Form, Keep, Manage, MoveBlock, Transfer, Work, WorkUnit, count_of}
+use Rattle.nv_mem.specs.Places.{At, places_of, total_len}
+use Rattle.nv_model.specs.Judge.{ClearBlock, Clear, Form, Keep, Manage, MoveBlock, Transfer, Work, WorkUnit, count_of}
 use Rattle.nv_model.specs.Judge.{is_fua}
 use Rattle.nv_model.specs.Judge.{form_has_blocks, form_of, has_blocks, range_fits}
-use Rattle.nv_model.specs.Memory.{bytes_from, gathered}
-use Rattle.nv_model.proofs.MemoryLemmas.{gathered-addresses}
+use Rattle.nv_model.specs.Memory.{gathered}
 use Rattle.nv_ns.specs.Extents.{Namespace, blocks_in, place_in}
 use Rattle.nv_prp.specs.declared.prps.Prps.{Prps}
 use Rattle.nv_world_model.specs.Area.{addresses_of, bounce_page, list_page, physical_entry, prps_of, range_place, translated_range}
@@ -32,96 +26,14 @@ use Rattle.nv_groups_sound.specs.Consistent.{IsInDevice}
 use Rattle.nv_groups_sound.specs.LaidOut.{IsLaidOut}
 use Rattle.nv_groups_sound.proofs.EntryFields.{form-back, form-start, own_units as units_counted}
 use Rattle.nv_groups_sound.proofs.Lists.{slice_get-there}
-use Rattle.nv_groups_sound.proofs.Named.{row-all}
 use Rattle.nv_groups_sound.proofs.Namespaces.{AreOwn, blocks-few, place-fits, place-own, range_place-fits}
+use Rattle.nv_groups_sound.proofs.OnDisk.{among, row-bytes, shown-range, translated-blocks, translated-start}
 use Rattle.nv_groups_sound.proofs.OwnRows.{IsRangeRow}
 use Rattle.nv_groups_sound.proofs.OwnWork.{IsRow, own_len}
 use Rattle.nv_groups_sound.proofs.PlanSizes.{HasCount}
-use Rattle.nv_groups_sound.proofs.Shows.{shows-append}
 use Rattle.nv_groups_units.proofs.OwnShares.{AreUnitsOf, IsOwnShare}
 
--- ---- a translated range
-
--- what is read back of it
-translated-blocks : (ns : Namespace) (range : List ℕ) → blocks_of range < 2 ^ 32
-    → blocks_of (translated_range ns range) ≡ blocks_of range
-unfolding dword number_at
-translated-blocks ns range fits = little_number-reads_back 4 (blocks_of range) (number_bytes 8 (range_place ns range)) fits
-
-translated-start : (ns : Namespace) (range : List ℕ) → range_place ns range < 2 ^ 64
-    → start_of (translated_range ns range) ≡ range_place ns range
-unfolding qword number_at
-translated-start ns range fits = little_number-reads_back 8 (range_place ns range) [] fits
-
--- a range that was written stands in its place
-shown-range : (ns : Namespace) (memory : ℕ → ℕ) (ranges : List (List ℕ)) (n : ℕ) (at : ℕ) (range : List ℕ) → slice_get ranges n ≡ Some range
-    → Shows memory at (flat_map (translated_range ns) ranges) → bytes_from memory (at + 16 * n) 16 ≡ translated_range ns range
-shown-range ns memory [] n at range found shown = cc
-shown-range ns memory (r ∷ ranges) zero at range found shown =
-    let same : r ≡ range = cc in
-    let parts = shows-append memory at (translated_range ns r) (flat_map (translated_range ns) ranges) shown in
-    let here : at + 16 * 0 ≡ at = omega arith in
-    rw here (parts.0 ∙ ap (translated_range ns) same)
-shown-range ns memory (r ∷ ranges) (suc n) at range found shown =
-    let parts = shows-append memory at (translated_range ns r) (flat_map (translated_range ns) ranges) shown in
-    let rest = shown-range ns memory ranges n (at + 16) range found parts.1 in
-    let here : at + 16 * suc n ≡ at + 16 + 16 * n = omega arith in
-    rw here rest
-
--- dropping a row's front leaves its end
-pub drop-row : (k from len : ℕ) → drop k (range_with_len from (k + len)) ≡ range_with_len (from + k) len
-drop-row zero from len =
-    let here : from + 0 ≡ from = omega arith in
-    let none : 0 + len ≡ len = omega arith in
-    rw (here, none) refl
-drop-row (suc k) from len =
-    let more : suc k + len ≡ suc (k + len) = omega arith in
-    let here : from + suc k ≡ from + 1 + k = omega arith in
-    rw (more, here) (drop-row k (from + 1) len)
-
--- the bytes of 16 places of a row
-row-bytes : (memory : ℕ → ℕ) (bounce k rest : ℕ) → gathered memory (take 16 (drop k (map At (range_with_len bounce (k + (16 + rest)))))) ≡ bytes_from memory (bounce + k) 16
-unfolding addresses
-row-bytes memory bounce k rest =
-    ap (λ ps. gathered memory (take 16 ps)) (drop-map At k (range_with_len bounce (k + (16 + rest))) ∙ ap (map At) (drop-row k bounce (16 + rest)))
-    ∙ ap (gathered memory) (take-map-range_with_len At (bounce + k) (16 + rest) 16 (omega arith))
-    ∙ gathered-addresses memory (bounce + k) 16
-
--- ---- units of a range
-
--- each block of a row outside of which a block lies is elsewhere
-clears-elsewhere : (at from len : ℕ) (mark : Bool) → (at < from) ⊎ (from + len ≤ at) → All (IsElsewhere at) (clear_units mark (range_with_len from len))
-unfolding clear_units
-clears-elsewhere at from len mark away =
-    All-map (IsElsewhere at) (λ lba. ClearBlock lba mark) (range_with_len from len)
-    (row-all (λ lba. IsElsewhere at (ClearBlock lba mark)) from len (λ lba low high same. off lba low high same away))
-  where
-    off : (lba : ℕ) → from ≤ lba → lba < from + len → lba ≡ at → (at < from) ⊎ (from + len ≤ at) → ⊥
-    off lba low high same (inl before) = absurd (omega (arith, low, same, before))
-    off lba low high same (inr behind) = absurd (omega (arith, high, same, behind))
-
-leaves-elsewhere : (at : ℕ) (lbas : List ℕ) → All (IsElsewhere at) (map LeaveBlock lbas)
-leaves-elsewhere at lbas = All-map (IsElsewhere at) LeaveBlock lbas (row-tt lbas)
-  where
-    row-tt : (lbas : List ℕ) → All (λ lba. IsElsewhere at (LeaveBlock lba)) lbas
-    row-tt [] = All-nil (λ lba. IsElsewhere at (LeaveBlock lba))
-    row-tt (lba ∷ lbas) = All-cons (λ lba. IsElsewhere at (LeaveBlock lba)) lba lbas tt (row-tt lbas)
-
-pub range-elsewhere : (at : ℕ) (deallocate : Bool) (range : List ℕ) → (at < start_of range) ⊎ (start_of range + blocks_of range ≤ at)
-    → All (IsElsewhere at) (one_range_units deallocate range)
-range-elsewhere at true range away = clears-elsewhere at (start_of range) (blocks_of range) false away
-range-elsewhere at false range away = leaves-elsewhere at (range_with_len (start_of range) (blocks_of range))
-
 -- ---- members
-
--- a number that is among others has what each has
-among : (P : ℕ → Type 0) (n : ℕ) (xs : List ℕ) → All P xs → list_any (λ k. k == n) xs ≡ true → P n
-among P n [] each e = cc
-among P n (x ∷ xs) each e =
-    (elim (x == n) as (λ b. (x == n) ≡ b → (b || list_any (λ k. k == n) xs) ≡ true → P n) [
-      | true ↦ λ is any. subst P (eqb-true x n is) (All-head P x xs each)
-      | false ↦ λ is any. among P n xs (All-tail P x xs each) any
-    ]) refl e
 
 -- the one of a number has what all have
 each-one : {X : Type 0} (P : X → Type 0) (xs : List X) (n : ℕ) (x : X) → All P xs → slice_get xs n ≡ Some x → P x

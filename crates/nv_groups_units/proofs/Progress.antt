@@ -126,7 +126,7 @@ one-place numbers i j n grow first second =
           ]
     ]
 
-has-behind : (numbers : List ℕ) → Grow numbers → (k n : ℕ) → slice_get numbers k ≡ Some n → (ds : List ℕ)
+pub has-behind : (numbers : List ℕ) → Grow numbers → (k n : ℕ) → slice_get numbers k ≡ Some n → (ds : List ℕ)
     → has n (filter_map (slice_get numbers) ds) ≡ has k ds
 has-behind numbers grow k n at [] = refl
 has-behind numbers grow k n at (d ∷ ds) = by_found (slice_get numbers d) refl (has-behind numbers grow k n at ds)
@@ -228,7 +228,7 @@ has-at k (x ∷ xs) zero n at same =
 has-at k (x ∷ xs) (suc i) n at same =
     let more = has-at k xs i n at same in elim (x == k) as (λ b. (b || has k xs) ≡ true) [ true ↦ refl | false ↦ more ]
 
-has-numbers : (numbers : List ℕ) (k : ℕ) (ds : List ℕ) → has k (filter_map (slice_get numbers) ds) ≡ true → has k numbers ≡ true
+pub has-numbers : (numbers : List ℕ) (k : ℕ) (ds : List ℕ) → has k (filter_map (slice_get numbers) ds) ≡ true → has k numbers ≡ true
 has-numbers numbers k [] is = cc
 has-numbers numbers k (d ∷ ds) is = by_found (slice_get numbers d) refl (λ any. has-numbers numbers k ds any) is
   where
@@ -245,7 +245,7 @@ has-numbers numbers k (d ∷ ds) is = by_found (slice_get numbers d) refl (λ an
 abbrev pub in_rests : (k : ℕ) → List Rest → Bool
 in_rests k rests = list_any (λ (r : Rest). list_any (λ other. other == k) r.left) rests
 
-in_rests-append : (k : ℕ) (front back : List Rest) → in_rests k (front ++ back) ≡ (in_rests k front || in_rests k back)
+pub in_rests-append : (k : ℕ) (front back : List Rest) → in_rests k (front ++ back) ≡ (in_rests k front || in_rests k back)
 in_rests-append k [] back = refl
 in_rests-append k (r ∷ front) back = ap (λ b. has k r.left || b) (in_rests-append k front back) ∙ assoc (has k r.left) (in_rests k front) (in_rests k back)
   where

@@ -140,7 +140,7 @@ places-below left from (n ∷ numbers) =
     by_test false rest = rest
 
 -- those of one number are among those of more
-one-among : (left : List ℕ) (number from : ℕ) (numbers : List ℕ) → is_among number left ≡ true
+pub one-among : (left : List ℕ) (number from : ℕ) (numbers : List ℕ) → is_among number left ≡ true
     → All (λ k. is_among k (places_of_those left from numbers) ≡ true) (places_of_those (number ∷ []) from numbers)
 one-among left number from [] there = All-nil (λ k. is_among k [] ≡ true)
 one-among left number from (n ∷ numbers) there =

@@ -1,7 +1,8 @@
 -- What a unit of a share of a guest's command in the device is to its private controller: the units of the command that
 -- the device's unit stands for, and where a block's bytes lie in the host; and when the guest's own blocks are those of
 -- the disk (profile).
-use Rattle.std.specs.Prelude.{◌≡◌, ℕ, ◌*◌, ◌<◌, ◌==◌, not, Bool, List, [], ◌∷◌, drop, filter, flat_map, length, map, option_to_list, slice_get, take, Some}
+use Rattle.std.specs.Prelude.{◌≡◌, ℕ, ◌*◌, ◌<◌, ◌==◌, not, Bool, List, [], ◌∷◌, drop, filter, flat_map, length, map}
+use Rattle.std.specs.Prelude.{option_to_list, slice_get, take, Some}
 use Rattle.std.specs.List.{list_any}
 use Rattle.nv_mem.specs.Places.{At, Place}
 use Rattle.nv_model.specs.Judge.{Work, WorkUnit}
