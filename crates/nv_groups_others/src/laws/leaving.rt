@@ -1,0 +1,32 @@
+//! What each event leaves.
+
+ghost use Rattle.std.specs.Prelude.{◌≡◌, ℕ, List, None, Some, length, slice_get};
+ghost use Rattle.nv_mem.specs.GuestMap.{IsSound};
+ghost use Rattle.nv_world_model.specs.declared.event.Event.{Event};
+ghost use Rattle.nv_world_model.specs.declared.event.Event.TheVariants as event;
+ghost use Rattle.nv_world_groups.specs.Contained.{Contained, LeavesOthers, RaisesOne, owner};
+ghost use Rattle.nv_world_model.specs.Geometry.{Geometry, Guest};
+ghost use Rattle.nv_world_model.specs.SetUp.{SetUp, refusal_of};
+ghost use Rattle.nv_world_groups.specs.Step.{replay, step};
+ghost use Rattle.nv_world_groups.specs.World.{World, world_at_start};
+ghost use Rattle.nv_groups_sound.specs.Consistent.{IsConsistent};
+ghost use Rattle.nv_groups_sound.specs.LaidOut.{IsLaidOut};
+
+/// Every other guest's view is as it was, and so is each byte that is neither the owner's nor the mediator's, and each block that isn't the
+/// owner's, but that its mark may rise: whatever the guests do, and whichever commands fail. For one event in a consistent world, and for the
+/// next event behind any others since a set-up that isn't refused.
+pub fn events_leave_others()
+    ensures each { (host_bytes : ℕ) (geometry : Geometry) (w : World) (e : Event) → IsLaidOut host_bytes (length w.lanes) geometry → IsConsistent geometry w →
+        LeavesOthers geometry (owner e w) w (step geometry e w).world }
+    ensures from_start { (s : SetUp) (events : List Event) (e : Event) → refusal_of s ≡ None →
+        ((number : ℕ) (guest : Guest) → slice_get s.geometry.guests number ≡ Some guest → IsSound guest.memory_map) →
+        let w = replay s.geometry events (world_at_start s) in
+        LeavesOthers s.geometry (owner e w) w (step s.geometry e w).world }
+{}
+
+/// A Keep raises one block's mark at most; and an event that is no guest's, as one that names a tag that is free, is contained, whole.
+pub fn events_of_nobody_are_contained()
+    ensures keep { (geometry : Geometry) (w : World) (block : ℕ) → RaisesOne block w (step geometry (event.Keep block) w).world }
+    ensures contained { (host_bytes : ℕ) (geometry : Geometry) (w : World) (e : Event) → IsLaidOut host_bytes (length w.lanes) geometry → IsConsistent geometry w →
+        owner e w ≡ None → Contained geometry e w }
+{}
