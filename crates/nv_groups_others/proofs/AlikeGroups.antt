@@ -1,14 +1,14 @@
 -- A guest's commands have the same tags in worlds that look alike to it.
-use Rattle.std.proofs.Common.{◌≡◌, ℕ, zero, suc, Bool, true, false, cond, ◌==◌, List, [], ◌∷◌, length, map, slice_get, Option, Some, None, arith, refl, sym, ap, ◌∙◌, eq-eqb, eqb-true, subst}
+use Rattle.std.proofs.Common.{◌≡◌, ℕ, suc, Bool, true, false, cond, List, [], ◌∷◌, length, map, slice_get, Option, Some}
+use Rattle.std.proofs.Common.{None, arith, refl, sym, ap, ◌∙◌, eq-eqb, eqb-true}
 use Rattle.std.specs.List.{All}
 use Rattle.std.specs.Option.{option_map}
 use Rattle.std.proofs.lemmas.List.Elements.{All-head, All-tail}
-use Rattle.nv_entry.specs.Status.{StatusField}
 use Rattle.nv_world_groups.specs.Contained.{guest_of_one}
 use Rattle.nv_world_groups.specs.Step.{ended_status, status_before, statuses_of}
 use Rattle.nv_world_groups.specs.View.{is_guest, is_tag_of, lane_numbers, own_tag}
-use Rattle.nv_world_groups.specs.World.{Command, Ended, Flying, Free, Lane, Tag, Taken, World, claimed, first_of, goes_by as tag_goes_by, group, group_in}
-use Rattle.nv_world_groups.specs.World.{is_free, leader_of, tag_in, tag_of, tags_where}
+use Rattle.nv_world_groups.specs.World.{Ended, Flying, Free, Lane, Tag, Taken, World, claimed, first_of, goes_by as tag_goes_by, group, group_in}
+use Rattle.nv_world_groups.specs.World.{is_free, leader_of, tag_in, tag_of}
 use Rattle.nv_groups_sound.specs.Groups.{goes_by, part_of}
 use Rattle.nv_groups_sound.proofs.Folds.{HasTag, group-has}
 use Rattle.nv_groups_sound.proofs.Lists.{some-same}

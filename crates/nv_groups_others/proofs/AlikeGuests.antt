@@ -1,5 +1,5 @@
 -- A guest's acts, admin steps, takes and reads of lists, and commands that are given up, in worlds that look alike to it: they look alike behind them.
-use Rattle.std.proofs.Common.{◌≡◌, ℕ, Bool, true, false, cond, ◌&&◌, nat_le, List, [], ◌∷◌, ◌++◌, length, set, map, slice_get, take}
+use Rattle.std.proofs.Common.{◌≡◌, ℕ, Bool, true, false, cond, ◌&&◌, nat_le, List, [], ◌∷◌, ◌++◌, length, map, slice_get, take}
 use Rattle.std.proofs.Common.{Option, Some, None, refl, sym, ap, ◌∙◌, eq-eqb, subst}
 use Rattle.std.specs.List.{All, list_any}
 use Rattle.std.specs.Option.{option_map}
@@ -15,7 +15,6 @@ use Rattle.nv_model.specs.Controller.{Controller, doorbell, front, reg_read, reg
 use Rattle.nv_model.specs.Limits.{part_size}
 use Rattle.nv_model.specs.Memory.{byte_or, bytes_from, image, put_image, stored}
 use Rattle.nv_model.specs.Private.{Acted, Private, Shape, acted, controlled, register_replied}
-use Rattle.nv_model.specs.Queue.{sqe_size}
 use Rattle.nv_model.specs.Transcript.{ReadDone}
 use Rattle.nv_model.specs.declared.act.Act.{Act}
 use Rattle.nv_model.specs.declared.act.Act.TheVariants as act

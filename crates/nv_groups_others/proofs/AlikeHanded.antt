@@ -1,5 +1,6 @@
 -- A guest's commands that are handed on share by share, in worlds that look alike to it: they look alike behind it.
-use Rattle.std.proofs.Common.{◌≡◌, ℕ, Bool, true, false, cond, List, [], ◌∷◌, length, set, slice_get, Option, Some, refl, sym, ap, ◌∙◌, eq-eqb, subst}
+use Rattle.std.proofs.Common.{◌≡◌, ℕ, Bool, true, false, cond, List, [], ◌∷◌, length, slice_get, Some, refl, sym, ap, ◌∙◌}
+use Rattle.std.proofs.Common.{eq-eqb, subst}
 use Rattle.std.specs.List.{All, list_any}
 use Rattle.std.proofs.lemmas.List.Elements.{All-head, All-tail}
 use Rattle.nv_entry.specs.StatusCode.{done_with}
@@ -10,7 +11,6 @@ use Rattle.nv_model.specs.Transcript.{Outcome, ReadDone, Settled, Wanted}
 use Rattle.nv_world_model.specs.declared.event.Event.TheVariants as event
 use Rattle.nv_world_model.specs.Area.{bounce_page}
 use Rattle.nv_world_groups.specs.Contained.{guest_of_one}
-use Rattle.nv_world_model.specs.Device.{DeviceLane}
 use Rattle.nv_world_model.specs.Geometry.{Geometry, Guest}
 use Rattle.nv_world_model.specs.Plan.{Answer, Bounced, Direct, NoData, Plan, plan_over}
 use Rattle.nv_world_model.specs.Share.{Share, shares_of}
@@ -34,7 +34,7 @@ use Rattle.nv_groups_sound.proofs.TagEvents.{IsTakenBy}
 use Rattle.nv_groups_others.specs.Alike.{GoesByItsOwn}
 use Rattle.nv_groups_others.proofs.AlikeFolds.{own-pair, tag-alike}
 use Rattle.nv_groups_others.proofs.AlikeGuests.{ended-alike}
-use Rattle.nv_groups_others.proofs.AlikeReplies.{group-same, own, rings-same, tag-here}
+use Rattle.nv_groups_others.proofs.AlikeReplies.{group-same, rings-same, tag-here}
 use Rattle.nv_groups_others.proofs.AlikeSubmits.{submitted-alike}
 use Rattle.nv_groups_others.proofs.AlikeWalks.{device-both, device-too, owner-both, taken-both}
 use Rattle.nv_groups_others.proofs.HandedEvents.{carried-apart}

@@ -1,5 +1,6 @@
 -- Worlds that look alike to a guest behind a change of one of its tags, of its lane, and of the device's side of it.
-use Rattle.std.proofs.Common.{◌≡◌, ℕ, ◌+◌, ◌<◌, ◌≤◌, inl, inr, true, List, [], ◌∷◌, ◌++◌, length, map, set, slice_get, Some, arith, refl, sym, ap, ◌∙◌}
+use Rattle.std.proofs.Common.{◌≡◌, ℕ, ◌+◌, ◌<◌, ◌≤◌, inl, inr, true, List, [], ◌∷◌, ◌++◌, length, map, set, slice_get}
+use Rattle.std.proofs.Common.{Some, arith, refl, sym, ap, ◌∙◌}
 use Rattle.std.specs.List.{list_any}
 use Rattle.std.proofs.lemmas.Bool.{le-leb, lt-ltb}
 use Rattle.nv_entry.specs.Completion.{status_of}
@@ -12,7 +13,8 @@ use Rattle.nv_world_model.specs.Device.{DeviceLane}
 use Rattle.nv_world_model.specs.Geometry.{Geometry, Guest}
 use Rattle.nv_world_model.specs.Share.{Share}
 use Rattle.nv_world_groups.specs.Seat.{completion_at, held_by, held_in}
-use Rattle.nv_world_groups.specs.View.{IsAlike, SameMarks, Span, is_tag_of, lane_numbers, list_shown, own_held, read_shown, ring_numbers, slot_shown, source_shown}
+use Rattle.nv_world_groups.specs.View.{IsAlike, SameMarks, Span, is_tag_of, lane_numbers, list_shown, own_held, read_shown, ring_numbers, slot_shown}
+use Rattle.nv_world_groups.specs.View.{source_shown}
 use Rattle.nv_world_groups.specs.World.{Answered, Command, Flying, Lane, Queued, Standing, Tag, World, tag_of}
 use Rattle.nv_world_model.proofs.Seats.{slice_get-set}
 use Rattle.nv_groups_sound.proofs.Shows.{bytes_from-between}

@@ -1,5 +1,6 @@
 -- A guest's commands that are completed, in worlds that look alike to it: they look alike behind it. What is delivered of a bounced Read is shown to the guest.
-use Rattle.std.proofs.Common.{◌≡◌, ℕ, zero, suc, ◌+◌, ◌*◌, ◌<◌, ◌≤◌, inl, inr, Bool, true, false, cond, not, ◌==◌, List, [], ◌∷◌, filter, length, map}
+use Rattle.std.proofs.Common.{◌≡◌, ℕ, zero, suc, ◌+◌, ◌*◌, ◌<◌, ◌≤◌, inl, inr, Bool, true, false, cond, not, ◌==◌, List, []}
+use Rattle.std.proofs.Common.{◌∷◌, filter, length, map}
 use Rattle.std.proofs.Common.{set, slice_get, Option, Some, None, arith, refl, sym, ap, ◌∙◌, eq-eqb, subst}
 use mathlib.Core.Path.{fun_ext}
 use Rattle.std.specs.List.{All, list_any, range_with_len}
@@ -21,10 +22,11 @@ use Rattle.nv_world_model.specs.Geometry.{Geometry, Guest, regions_of}
 use Rattle.nv_world_model.specs.Plan.{Answer, Bounced, Direct, NoData, Plan}
 use Rattle.nv_world_model.specs.Share.{Share}
 use Rattle.nv_world_groups.specs.Seat.{Owner, owner_of, put_back}
-use Rattle.nv_world_groups.specs.Step.{deciding, delivered, delivered_all, delivered_by, delivered_from, ended_status, for_ended, for_owner, is_success, post_all}
+use Rattle.nv_world_groups.specs.Step.{deciding, delivered, delivered_all, delivered_by, delivered_from, ended_status, for_ended, for_owner, is_success}
+use Rattle.nv_world_groups.specs.Step.{post_all}
 use Rattle.nv_world_groups.specs.Step.{post_by, posted_to, ran_out_of, scattered_to, status_before, statuses_of, step}
 use Rattle.nv_world_groups.specs.View.{IsAlike, Span, is_tag_of, lane_numbers, result_shown, ring_numbers, units_shown}
-use Rattle.nv_world_groups.specs.World.{Command, Ended, Flying, Free, Tag, Taken, World, group, tag_in, tag_of, with_controller, with_host, with_tags}
+use Rattle.nv_world_groups.specs.World.{Command, Ended, Flying, Free, Tag, Taken, World, group, tag_of, with_controller, with_host, with_tags}
 use Rattle.nv_world_model.proofs.Seats.{slice_get-set}
 use Rattle.nv_groups_sound.specs.Consistent.{IsConsistentOfTags, IsPlanned}
 use Rattle.nv_groups_sound.specs.LaidOut.{IsLaidOut}
@@ -41,7 +43,7 @@ use Rattle.nv_groups_others.proofs.AlikeFolds.{IsMine, own-pairs, tags-alike}
 use Rattle.nv_groups_others.proofs.AlikeGroups.{group-mine}
 use Rattle.nv_groups_others.proofs.AlikeGuests.{image-left, put_image-both, sides-both}
 use Rattle.nv_groups_others.proofs.AlikeLanes.{one-in, own-same}
-use Rattle.nv_groups_others.proofs.AlikeReplies.{group-same, memory, own, statuses-same, tag-here}
+use Rattle.nv_groups_others.proofs.AlikeReplies.{group-same, own, statuses-same, tag-here}
 use Rattle.nv_groups_others.proofs.AlikeWalks.{either-both, ended-both, owner-both, tag-too}
 use Rattle.nv_groups_others.proofs.Behind.{alike-lanes, guests-shared, lanes-shared, memory-behind, rings-shared, shared-of}
 use Rattle.nv_groups_others.proofs.LeavesFolds.{have-still}

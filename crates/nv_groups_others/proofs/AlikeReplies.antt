@@ -1,6 +1,7 @@
 -- An event of a guest's is answered by that guest's view and the shared numbers alone.
-use Rattle.std.proofs.Common.{◌≡◌, ℕ, zero, suc, ◌+◌, Bool, true, false, cond, not, ◌&&◌, ◌==◌, nat_le, nat_lt, List, [], ◌∷◌, length, map, slice_get, Option}
-use Rattle.std.proofs.Common.{Some, None, arith, refl, sym, ap, ◌∙◌, eq-eqb}
+use Rattle.std.proofs.Common.{◌≡◌, ℕ, zero, suc, Bool, true, false, cond, ◌&&◌, ◌==◌, nat_le, List, [], ◌∷◌}
+use Rattle.std.proofs.Common.{length, map, slice_get, Option}
+use Rattle.std.proofs.Common.{Some, None, arith, refl, sym, ap, ◌∙◌}
 use Rattle.std.specs.List.{list_any}
 use Rattle.std.specs.Option.{option_map}
 use Rattle.std.proofs.lemmas.Option.{slice_get-map}
@@ -30,9 +31,10 @@ use Rattle.nv_world_model.specs.Geometry.{Geometry, Guest, regions_of, shape_of}
 use Rattle.nv_world_model.specs.Plan.{Plan, plan_over}
 use Rattle.nv_world_groups.specs.Seat.{Owner, held_by, held_in, owner_by, owner_of, seat}
 use Rattle.nv_world_groups.specs.Step.{After, act_put_back, acted_in, administered_by, administered_in, device_fail, device_move, device_post, ended_at_once}
-use Rattle.nv_world_groups.specs.Step.{deciding, entry_at, for_device, for_ended, for_guest, for_held, for_lane, for_leader, for_owner, for_taken, is_io_queue, is_success}
+use Rattle.nv_world_groups.specs.Step.{deciding, entry_at, for_device, for_ended, for_guest, for_held, for_lane, for_leader, for_owner, for_taken}
+use Rattle.nv_world_groups.specs.Step.{is_io_queue, is_success}
 use Rattle.nv_world_groups.specs.Step.{list_at, listed, post_all, post_by, replied, statuses_of, step, submit_by, take_from, take_front, take_tags}
-use Rattle.nv_world_groups.specs.View.{IsAlike, is_guest, is_tag_of, lane_numbers, own_held, own_tag, ring_numbers, shared_numbers}
+use Rattle.nv_world_groups.specs.View.{IsAlike, is_tag_of, lane_numbers, own_held, ring_numbers, shared_numbers}
 use Rattle.nv_world_groups.specs.World.{Command, Ended, Flying, Free, Lane, Tag, Taken, World, claimed, group, is_free, tag_of}
 use Rattle.nv_groups_sound.proofs.Lists.{some-same}
 use Rattle.nv_groups_others.specs.Alike.{GoesByItsOwn}

@@ -1,5 +1,6 @@
 -- A guest's completions, in worlds that look alike to it: they look alike behind the device's posting of one, and the mediator's reading of one.
-use Rattle.std.proofs.Common.{◌≡◌, ℕ, ◌^◌, ◌<◌, Bool, true, false, cond, ◌&&◌, ◌==◌, List, [], ◌∷◌, length, set, slice_get, Option, Some, None, arith, refl, sym, ap, ◌∙◌, eq-eqb, subst}
+use Rattle.std.proofs.Common.{◌≡◌, ℕ, ◌^◌, ◌<◌, Bool, true, false, cond, ◌&&◌, ◌==◌, List, [], ◌∷◌, length, set, slice_get}
+use Rattle.std.proofs.Common.{Option, Some, None, arith, refl, sym, ap, ◌∙◌, eq-eqb, subst}
 use Rattle.std.specs.List.{list_any}
 use Rattle.std.proofs.lemmas.Bool.{eqb-false}
 use Rattle.nv_entry.specs.Completion.{completion, sc_of, sct_of, status_of}
@@ -19,7 +20,8 @@ use Rattle.nv_world_groups.specs.Contained.{guest_of_one, is_answered_at, next_g
 use Rattle.nv_world_model.specs.Device.{DeviceLane, Held, completion_posted, completion_written, held_status, next_phase}
 use Rattle.nv_world_model.specs.Geometry.{Geometry, Guest}
 use Rattle.nv_world_groups.specs.Seat.{completion_at, held_by, held_in}
-use Rattle.nv_world_groups.specs.Step.{After, completion_read, device_fail, device_post, device_posted, ended_at, for_device, for_held, is_success, passed_on, reap, reaped, step}
+use Rattle.nv_world_groups.specs.Step.{After, completion_read, device_fail, device_post, device_posted, ended_at, for_device, for_held, is_success}
+use Rattle.nv_world_groups.specs.Step.{passed_on, reap, reaped, step}
 use Rattle.nv_world_groups.specs.View.{IsAlike, RingNumbers, guest_of_tag, is_tag_of, lane_numbers, moved_shown, own_held, ring_numbers, units_shown}
 use Rattle.nv_world_groups.specs.World.{Answered, Ended, Flying, InDevice, Lane, Tag, World, tag_changed, tag_in, tag_of, with_lane}
 use Rattle.nv_world_model.proofs.Seats.{slice_get-set}

@@ -1,6 +1,7 @@
 -- A guest's commands that are handed on, in worlds that look alike to it: they look alike behind it. What is shown of such a command is its entry, its list, and a
 -- source that is bounced, all of which are written by the event.
-use Rattle.std.proofs.Common.{◌≡◌, ℕ, ◌+◌, ◌-◌, ◌*◌, ◌<◌, ◌≤◌, true, false, cond, List, [], ◌∷◌, flat_map, length, replicate, set, slice_get, Some, arith, refl}
+use Rattle.std.proofs.Common.{◌≡◌, ℕ, ◌+◌, ◌-◌, ◌*◌, ◌<◌, ◌≤◌, true, false, cond, List, [], ◌∷◌, flat_map, length}
+use Rattle.std.proofs.Common.{replicate, set, slice_get, Some, arith, refl}
 use Rattle.std.proofs.Common.{sym, ap, ◌∙◌, eq-eqb, length-append, subst}
 use Rattle.std.specs.List.{list_any}
 use Rattle.std.proofs.Math.Seq.{take-append_seam}

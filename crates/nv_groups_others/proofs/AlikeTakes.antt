@@ -1,10 +1,10 @@
 -- A guest's entries that the device takes, in worlds that look alike to it: they look alike behind it. The device reads the entry and its list, which are shown.
-use Rattle.std.proofs.Common.{◌≡◌, ℕ, zero, suc, ◌+◌, ◌*◌, ◌<◌, ◌≤◌, inl, inr, true, false, not, ◌||◌, ◌==◌, List, length, set, slice_get, Option, Some, arith, refl, sym, ap, ◌∙◌, eq-eqb, subst}
+use Rattle.std.proofs.Common.{◌≡◌, ℕ, zero, suc, ◌+◌, ◌*◌, ◌<◌, ◌≤◌, inl, inr, true, false, not, ◌||◌, ◌==◌, List}
+use Rattle.std.proofs.Common.{length, set, slice_get, Option, Some, arith, refl, sym, ap, ◌∙◌, eq-eqb, subst}
 use Rattle.std.specs.List.{list_any, range_with_len}
 use Rattle.std.proofs.lemmas.Bool.{cases_eq, eqb-false}
 use Rattle.nv_entry.specs.Submission.{cid_of}
 use Rattle.nv_model.specs.Judge.{Clear, Form, Keep, Manage, Transfer, Work, form_is_read, form_of, is_read}
-use Rattle.nv_model.specs.Limits.{block}
 use Rattle.nv_model.specs.Memory.{bytes_from}
 use Rattle.nv_model.specs.Queue.{is_empty, next_slot, sqe_size}
 use Rattle.nv_world_model.specs.declared.event.Event.TheVariants as event

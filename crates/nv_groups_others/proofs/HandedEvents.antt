@@ -1,18 +1,17 @@
 -- What a command leaves that is handed on share by share, or that ends at once.
-use Rattle.std.proofs.Common.{◌≡◌, ℕ, false, ◌==◌, List, [], ◌∷◌, length, set, slice_get, Option, Some, refl, sym, ap, ◌∙◌, subst}
+use Rattle.std.proofs.Common.{◌≡◌, ℕ, false, ◌==◌, List, [], ◌∷◌, length, slice_get, Some, refl, sym, ap, ◌∙◌, subst}
 use Rattle.std.specs.List.{All}
 use Rattle.std.proofs.lemmas.List.Elements.{All-head, All-tail}
 use Rattle.nv_model.specs.Transcript.{Outcome, ReadDone, Settled, Wanted}
 use Rattle.nv_world_model.specs.declared.event.Event.TheVariants as event
 use Rattle.nv_world_groups.specs.Contained.{guest_of_one}
-use Rattle.nv_world_model.specs.Device.{DeviceLane}
 use Rattle.nv_world_model.specs.Geometry.{Geometry}
 use Rattle.nv_world_model.specs.Plan.{Answer, Bounced, Direct, NoData, Plan, plan_over}
 use Rattle.nv_world_model.specs.Share.{Share, shares_of}
 use Rattle.nv_world_model.proofs.Seats.{slice_get-set, slice_get-set-other}
 use Rattle.nv_world_groups.specs.Seat.{Owner, owner_of}
 use Rattle.nv_world_groups.specs.Step.{carried_out, carry_out, handed_on, step, submit_by}
-use Rattle.nv_world_groups.specs.World.{Command, Lane, Tag, Taken, World, group, tag_changed, tag_in, tag_of}
+use Rattle.nv_world_groups.specs.World.{Command, Lane, Taken, World, group, tag_changed, tag_in, tag_of}
 use Rattle.nv_world_groups.proofs.Seats.{owner_of-is, owner_of-number}
 use Rattle.nv_groups_sound.specs.Consistent.{IsConsistentOfTags, IsPlanned}
 use Rattle.nv_groups_sound.specs.LaidOut.{IsLaidOut}
@@ -58,7 +57,7 @@ module _ (host_bytes : ℕ) (geometry : Geometry) where
       let z : World = carried_out geometry.mediator lane tag command share o w in
       let c = carried-is w geometry.mediator lane tag command share o a.l a.d a.at_lane a.at_device in
       let now : IsConsistentOfTags geometry z = carried_out-consistent host_bytes geometry w lane tag command first.has.reads share o laid fine found given is in
-      let many : length z.lanes ≡ length w.lanes = ap length c.lanes ∙ length-set w.lanes lane (tag_changed tag c.now a.l) in
+      let many : length z.lanes ≡ length w.lanes = ap (λ ls. length ls) c.lanes ∙ length-set w.lanes lane (tag_changed tag c.now a.l) in
       leaves-then geometry (Some command.guest) w z (handed_on geometry.mediator lane tags shares command o z) many
       (carried-leaves host_bytes geometry w laid fine lane tag command first.has.reads share o found is)
       (handed_on-leaves lane tags shares command o z (subst (λ n. IsLaidOut host_bytes n geometry) (sym many) laid) now given

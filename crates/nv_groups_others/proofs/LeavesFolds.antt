@@ -1,5 +1,6 @@
 -- What changes leave that come one after the other, as those of a command's tags.
-use Rattle.std.proofs.Common.{◌≡◌, ℕ, ◌&&◌, Bool, true, false, cond, ◌==◌, nat_le, nat_lt, List, [], ◌∷◌, length, set, slice_get, Option, Some, None, refl, sym, ap, ◌∙◌, subst}
+use Rattle.std.proofs.Common.{◌≡◌, ℕ, ◌&&◌, Bool, true, false, cond, nat_le, nat_lt, List, [], ◌∷◌, length, slice_get}
+use Rattle.std.proofs.Common.{Option, Some, None, refl, sym, ap, ◌∙◌}
 use Rattle.std.specs.Prelude.{◌≢◌}
 use Rattle.std.specs.List.{All}
 use Rattle.std.specs.Option.{option_map}
@@ -9,17 +10,16 @@ use Rattle.nv_entry.specs.StatusCode.{done_with}
 use Rattle.nv_entry.specs.declared.status_code.StatusCode.TheVariants.{Success}
 use Rattle.nv_world_model.specs.Area.{lane_start}
 use Rattle.nv_world_model.specs.Geometry.{Geometry}
-use Rattle.nv_world_groups.specs.Contained.{in_area}
 use Rattle.nv_world_groups.specs.Seat.{held_in}
 use Rattle.nv_world_groups.specs.Step.{ended_at_once}
-use Rattle.nv_world_groups.specs.View.{guest_of_tag, is_tag_of, own_held, own_tag}
-use Rattle.nv_world_groups.specs.World.{Command, Ended, Flying, Free, Lane, Tag, Taken, World, changed_at, group, tag_changed, tag_in, tag_of, with_tag, with_tags}
-use Rattle.nv_groups_sound.specs.Groups.{AreGroups, command_of, goes_by, part_of, parts_of}
+use Rattle.nv_world_groups.specs.View.{guest_of_tag, is_tag_of, own_tag}
+use Rattle.nv_world_groups.specs.World.{Command, Ended, Flying, Free, Lane, Tag, Taken, World, changed_at, group, tag_changed, tag_in, tag_of, with_tag}
+use Rattle.nv_world_groups.specs.World.{with_tags}
+use Rattle.nv_groups_sound.specs.Groups.{AreGroups, command_of, part_of, parts_of}
 use Rattle.nv_groups_sound.proofs.Folds.{HasTag, group-has, have-other, tag-part, tag_of-other}
 use Rattle.nv_groups_sound.proofs.Groupings.{group-command}
 use Rattle.nv_groups_sound.proofs.Lists.{length-set}
 use Rattle.nv_groups_sound.proofs.Numbers.{AreDistinct}
-use Rattle.nv_groups_sound.proofs.Retags.{with_tag-is}
 use Rattle.nv_groups_others.specs.Leaving.{IsShownAt, Leaves}
 use Rattle.nv_groups_others.proofs.Events.{leaves-nothing}
 use Rattle.nv_groups_others.proofs.Parts.{helds-left, tag-apart, tags-left}

@@ -1,5 +1,6 @@
 -- What leaves all but the owner's alone leaves every other guest's view.
-use Rattle.std.proofs.Common.{◌≡◌, ℕ, ◌+◌, ◌<◌, ◌≤◌, ◌⊎◌, inl, inr, true, false, ◌==◌, nat_le, nat_lt, length, slice_get, Option, Some, None, is_some, arith}
+use Rattle.std.proofs.Common.{◌≡◌, ℕ, ◌+◌, ◌<◌, ◌≤◌, ◌⊎◌, inl, inr, true, false, ◌==◌, nat_le, nat_lt, length, slice_get}
+use Rattle.std.proofs.Common.{Option, Some, None, is_some, arith}
 use Rattle.std.proofs.Common.{refl, sym, ap, ◌∙◌, eqb-true, leb-true, ltb-true, subst}
 use Rattle.std.specs.Prelude.{◌≢◌}
 use Rattle.std.proofs.lemmas.Bool.{cases_eq, cases_lt, le-leb, lt-ltb, ne_eqb}

@@ -1,5 +1,5 @@
 -- The tags of all lanes behind a change of one.
-use Rattle.std.proofs.Common.{◌≡◌, ℕ, false, ◌==◌, List, set, slice_get, Some, sym, ap, ◌∙◌, subst, ◌⊎◌, inl, inr}
+use Rattle.std.proofs.Common.{◌≡◌, ℕ, false, ◌==◌, List, set, slice_get, Some, sym, ap, ◌∙◌, subst, inl, inr}
 use Rattle.std.proofs.lemmas.Bool.{cases_eq, ne_eqb}
 use Rattle.nv_world_groups.specs.World.{Lane, Tag, tag_in}
 use Rattle.nv_world_model.proofs.Seats.{slice_get-set, slice_get-set-other}

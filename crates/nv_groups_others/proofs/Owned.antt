@@ -1,5 +1,6 @@
 -- In a consistent world, and in one that is cut down to a guest, what goes by a tag of that guest's is that guest's.
-use Rattle.std.proofs.Common.{◌≡◌, ℕ, ◌⊎◌, inl, inr, Bool, true, false, cond, ◌||◌, ◌==◌, List, length, slice_get, Option, Some, None, [], arith, refl, sym, ap, ◌∙◌, subst}
+use Rattle.std.proofs.Common.{◌≡◌, ℕ, ◌⊎◌, inl, inr, Bool, true, false, cond, ◌==◌, length, slice_get, Option, Some}
+use Rattle.std.proofs.Common.{None, [], arith, refl, sym, ap, ◌∙◌, subst}
 use Rattle.std.specs.Option.{option_map}
 use Rattle.nv_world_model.specs.Area.{tag_count}
 use Rattle.nv_world_model.specs.Geometry.{Geometry, Guest}

@@ -1,5 +1,6 @@
 -- Which replies the parts of a step have, and that one that tells of no change comes with none.
-use Rattle.std.proofs.Common.{◌≡◌, ℕ, ◌+◌, Bool, true, false, cond, ◌&&◌, ◌==◌, nat_le, inl, inr, List, [], ◌∷◌, length, slice_get, Option, Some, None, refl}
+use Rattle.std.proofs.Common.{◌≡◌, ℕ, ◌+◌, Bool, true, false, cond, ◌&&◌, ◌==◌, nat_le, inl, inr, List, [], ◌∷◌, length}
+use Rattle.std.proofs.Common.{slice_get, Option, Some, None, refl}
 use Rattle.nv_entry.specs.Status.{StatusField}
 use Rattle.nv_model.specs.Admin.{AdminStep, NothingToDo, QueueFull, Stepped, admin}
 use Rattle.nv_entry.specs.Layout.{number_bytes}
@@ -17,12 +18,13 @@ use Rattle.nv_world_model.specs.Geometry.{Geometry, regions_of, shape_of}
 use Rattle.nv_world_model.specs.Laws.{IsAmong, IsBytesOr, MayAnswer, MayAnswerAct}
 use Rattle.nv_world_model.specs.Plan.{Plan, plan_over}
 use Rattle.nv_world_groups.specs.Seat.{Owner, completion_at, owner_of, put_back, seat}
-use Rattle.nv_world_groups.specs.Step.{After, act_put_back, acted_by, acted_in, administered_by, administered_in, carry_out, deciding, delivered, device_moved, entry_at}
+use Rattle.nv_world_groups.specs.Step.{After, act_put_back, acted_by, acted_in, administered_by, administered_in, carry_out, deciding, delivered}
+use Rattle.nv_world_groups.specs.Step.{device_moved, entry_at}
 use Rattle.nv_world_groups.specs.Step.{device_post, device_posted, device_took, ended_at_once, for_device, for_ended, for_guest, for_held, for_lane, for_owner}
 use Rattle.nv_world_groups.specs.Step.{for_leader, for_taken, is_io_queue, is_success, is_telling, kept_block, list_at, listed, post_all, post_by, posted_to}
 use Rattle.nv_world_groups.specs.Step.{ran_out_of, reaped, replied, statuses_of, step, submit_by, take_front, take_tags, taken_to}
 use Rattle.nv_world_groups.specs.World.{Command, Ended, Flying, Free, Lane, Tag, Taken, World, claimed, group, tag_of}
-use Rattle.nv_world_model.specs.Share.{Share, tags_of_entry}
+use Rattle.nv_world_model.specs.Share.{tags_of_entry}
 use Rattle.nv_world_model.specs.declared.event.Event.{Event}
 use Rattle.nv_world_model.specs.declared.event.Event.TheVariants as event
 use Rattle.nv_model.specs.Limits.{part_size}
@@ -114,7 +116,8 @@ controlled-answers : (a : Act) (c : Option Controller) (p : Private) → MayAnsw
 controlled-answers a None p done ignored = ignored
 controlled-answers a (Some c) p done ignored = done
 
-register-answers : (a : Act) (value : Option ℕ) (p : Private) → MayAnswerAct a reply.Ignored → ((bytes : List ℕ) → MayAnswerAct a (reply.Bytes bytes)) → MayAnswerAct a (register_replied value p).reply
+register-answers : (a : Act) (value : Option ℕ) (p : Private) → MayAnswerAct a reply.Ignored → ((bytes : List ℕ) → MayAnswerAct a (reply.Bytes bytes))
+    → MayAnswerAct a (register_replied value p).reply
 register-answers a None p ignored some = ignored
 register-answers a (Some value) p ignored some = some (number_bytes 4 value)
 
@@ -136,7 +139,8 @@ acted-answers shape (act.Doorbell offset value) p =
 acted_by-answers : (a : Act) (x : Acted) (o : Owner) (w : World) → MayAnswerAct a x.reply → IsAnswer (MayAnswerAct a) w (acted_by x o w)
 acted_by-answers a x o w may = act-answers a x.reply x.state o w may
 
-administered-answers : (May : Reply → Type 0) (w : World) (done_may : May reply.Done) (idle : May reply.Idle) (held : May reply.Held) (x : AdminStep) (o : Owner) → IsAnswer May w (administered_by x o w)
+administered-answers : (May : Reply → Type 0) (w : World) (done_may : May reply.Done) (idle : May reply.Idle) (held : May reply.Held) (x : AdminStep) (o : Owner)
+    → IsAnswer May w (administered_by x o w)
 administered-answers May w done_may idle held NothingToDo o = nothing May w reply.Idle idle
 administered-answers May w done_may idle held QueueFull o = nothing May w reply.Held held
 administered-answers May w done_may idle held (Stepped c memory) o = done May w (put_back o memory c w) done_may

@@ -1,5 +1,6 @@
 -- What the device's takes and the mediator's reaping leave: their owner is the guest of the one tag whose slot is next.
-use Rattle.std.proofs.Common.{◌≡◌, ℕ, zero, suc, Bool, true, false, cond, List, [], ◌∷◌, length, set, slice_get, Option, Some, arith, refl, sym, ap, ◌∙◌, subst}
+use Rattle.std.proofs.Common.{◌≡◌, ℕ, zero, suc, Bool, true, false, cond, List, [], ◌∷◌, length, set, slice_get, Option, Some, arith, refl}
+use Rattle.std.proofs.Common.{sym, ap, ◌∙◌, subst}
 use Rattle.std.proofs.lemmas.Bool.{eqb-false}
 use Rattle.nv_entry.specs.Completion.{status_of}
 use Rattle.nv_model.specs.Queue.{is_empty, next_slot}

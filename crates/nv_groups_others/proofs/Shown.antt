@@ -1,6 +1,8 @@
 -- Where bytes that are shown to a guest lie.
-use Rattle.std.proofs.Common.{◌≡◌, ℕ, zero, suc, ◌+◌, ◌*◌, ◌%◌, ◌<◌, ◌≤◌, ◌⊎◌, inl, inr, Bool, true, false, cond, not, ◌&&◌, ◌||◌, ◌==◌, nat_le, nat_lt, List}
-use Rattle.std.proofs.Common.{[], ◌∷◌, ◌++◌, filter, flat_map, length, map, slice_get, Option, Some, None, arith, refl, sym, ap, ◌∙◌, eq-eqb, eqb-true}
+use Rattle.std.proofs.Common.{◌≡◌, ℕ, zero, suc, ◌+◌, ◌*◌, ◌%◌, ◌<◌, ◌≤◌, ◌⊎◌, inl, inr, Bool, true, false, cond, not}
+use Rattle.std.proofs.Common.{◌&&◌, ◌||◌, ◌==◌, nat_le, nat_lt, List}
+use Rattle.std.proofs.Common.{[], ◌∷◌, ◌++◌, filter, flat_map, length, map, slice_get, Option, Some, None, arith, refl, sym, ap, ◌∙◌}
+use Rattle.std.proofs.Common.{eq-eqb, eqb-true}
 use Rattle.std.proofs.Common.{leb-true, ltb-true, subst}
 use Rattle.std.specs.List.{enumerate_from, list_any, range_with_len}
 use Rattle.nv_entry.specs.Completion.{status_of}
@@ -16,7 +18,8 @@ use Rattle.nv_world_model.specs.Geometry.{Geometry, Guest}
 use Rattle.nv_world_model.specs.Share.{Share}
 use Rattle.nv_world_groups.specs.Seat.{completion_at, held_in}
 use Rattle.nv_world_groups.specs.Step.{is_success}
-use Rattle.nv_world_groups.specs.View.{Span, guest_of_tag, is_tag_of, lies_in, list_shown, moved_shown, own_shown, read_shown, result_shown, shown, slot_shown, source_shown, tag_shown, units_shown}
+use Rattle.nv_world_groups.specs.View.{Span, guest_of_tag, is_tag_of, lies_in, list_shown, moved_shown, own_shown, read_shown, result_shown, shown}
+use Rattle.nv_world_groups.specs.View.{slot_shown, source_shown, tag_shown, units_shown}
 use Rattle.nv_world_groups.specs.World.{Answered, Command, Ended, Flying, Free, InDevice, Queued, Standing, Tag, Taken, World, tag_in, tag_of}
 use Rattle.nv_groups_sound.specs.Consistent.{IsConsistentOfTags, IsPlanned, IsTag}
 use Rattle.nv_groups_sound.specs.LaidOut.{IsLaidOut}

@@ -1,6 +1,6 @@
 -- What takes, reads of lists, commands that are given up, and completions leave.
-use Rattle.std.proofs.Common.{◌≡◌, ℕ, Bool, true, false, cond, ◌&&◌, nat_le, List, [], ◌∷◌, length, set, slice_get, take, Option, Some, None, refl, sym, ap, ◌∙◌, subst}
-use Rattle.std.specs.Prelude.{◌≢◌}
+use Rattle.std.proofs.Common.{◌≡◌, ℕ, Bool, true, false, cond, ◌&&◌, nat_le, List, [], ◌∷◌, length, set, slice_get, take, Option, Some}
+use Rattle.std.proofs.Common.{None, refl, sym, ap, ◌∙◌, subst}
 use Rattle.std.specs.List.{All}
 use Rattle.std.proofs.lemmas.Bool.{ne_eqb}
 use Rattle.std.proofs.lemmas.List.Elements.{All-weaker}
@@ -26,7 +26,7 @@ use Rattle.nv_world_groups.specs.Seat.{Owner, owner_of, put_back}
 use Rattle.nv_world_groups.specs.Step.{deciding, delivered, delivered_all, delivered_by, delivered_from, entry_at, is_io_queue, is_success, list_at, listed}
 use Rattle.nv_world_groups.specs.Step.{post_all, post_by, posted_to, ran_out_of, scattered_to, statuses_of, step, take_from, take_front, take_tags, taken_to}
 use Rattle.nv_world_groups.specs.View.{guest_of_tag}
-use Rattle.nv_world_groups.specs.World.{Command, Ended, Flying, Free, Lane, Tag, Taken, World, claimed, first_of, group, is_free, lowest, tag_in, tag_of, tags_where}
+use Rattle.nv_world_groups.specs.World.{Command, Ended, Flying, Free, Lane, Tag, Taken, World, claimed, group, is_free, lowest, tag_in, tag_of}
 use Rattle.nv_world_groups.specs.World.{with_controller, with_host, with_tags}
 use Rattle.nv_world_groups.proofs.Seats.{IsOwner, owner_of-is, owner_of-number}
 use Rattle.nv_world_model.proofs.Seats.{slice_get-set-other}
@@ -35,7 +35,7 @@ use Rattle.nv_groups_sound.specs.Groups.{command_of, part_of}
 use Rattle.nv_groups_sound.specs.LaidOut.{IsLaidOut}
 use Rattle.nv_groups_sound.proofs.Folds.{HasTag, group-distinct}
 use Rattle.nv_groups_sound.proofs.GroupsKept.{HasGroups}
-use Rattle.nv_groups_sound.proofs.Numbers.{AreDistinct, Passes, numbers-are, numbers-distinct, numbers-pass, numbers_where, take-all, take-distinct}
+use Rattle.nv_groups_sound.proofs.Numbers.{AreDistinct, Passes, numbers-distinct, numbers-pass, numbers_where, take-all, take-distinct}
 use Rattle.nv_groups_sound.proofs.Retags.{is-at}
 use Rattle.nv_groups_sound.proofs.Takes.{claimed-is}
 use Rattle.nv_groups_sound.proofs.Walks.{either, ended-walk, guest-walk, lane-walk, owner-walk, taken-walk}

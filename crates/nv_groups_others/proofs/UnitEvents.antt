@@ -1,5 +1,6 @@
 -- What a unit that moves leaves.
-use Rattle.std.proofs.Common.{◌≡◌, ℕ, ◌<◌, inl, inr, true, false, ◌==◌, All, length, set, slice_get, Some, None, arith, refl, sym, ap, ◌∙◌, subst}
+use Rattle.std.proofs.Common.{◌≡◌, ℕ, ◌<◌, inl, inr, true, false, ◌==◌, All, length, set, slice_get, Some, None, arith, refl, sym, ap}
+use Rattle.std.proofs.Common.{◌∙◌, subst}
 use Rattle.std.specs.List.{list_any}
 use Rattle.nv_mem.specs.GuestMap.{guest_of}
 use Rattle.nv_mem.specs.Places.{At}

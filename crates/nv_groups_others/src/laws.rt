@@ -5,3 +5,4 @@ pub mod cutting;
 pub mod leaving;
 pub mod reading;
 pub mod showing;
+pub mod unfitting;
