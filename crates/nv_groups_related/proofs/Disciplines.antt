@@ -53,6 +53,12 @@ never-both b yes_it no_it = let bad : true ≡ false = sym yes_it ∙ no_it in c
 abbrev pub IsTakenEntry : (number : ℕ) → World → (entry : List ℕ) → Type 0
 IsTakenEntry number w entry = (q : List ℕ → Bool) → q entry ≡ true → list_any q (taken_entries number w) ≡ true
 
+-- so is that of each tag of the guest's
+pub own-taken : (geometry : Geometry) (number : ℕ) (w : World) → HasGroups geometry w.lanes → (lane tag : ℕ) (t : Tag) (entry : List ℕ)
+    → tag_of w lane tag ≡ Some t → any_entry number t ≡ entry ∷ [] → IsTakenEntry number w entry
+own-taken geometry number w are lane tag t entry there is q e =
+    taken-among geometry w are number q lane tag t there (ap (list_any q) is ∙ ap (λ b. b || false) e)
+
 -- what each leaves alone, each of the guest's tags does
 pub tags-untouched : (geometry : Geometry) (number : ℕ) (guest : Guest) (w : World) → HasGroups geometry w.lanes → (other memory behind : ℕ → ℕ)
     → ((entry : List ℕ) → IsTakenEntry number w entry → IsUntouched guest entry w.host other memory behind)
@@ -61,17 +67,14 @@ tags-untouched geometry number guest w are other memory behind each lane tag t o
     let there = own-there number (tag_of w lane tag) t own in
     by_tag t there.0 there.1
   where
-    own-taken : (t : Tag) (entry : List ℕ) → tag_of w lane tag ≡ Some t → any_entry number t ≡ entry ∷ [] → IsTakenEntry number w entry
-    own-taken t entry there is q e = taken-among geometry w are number q lane tag t there (ap (list_any q) is ∙ ap (λ b. b || false) e)
-
     by_tag : (t : Tag) → tag_of w lane tag ≡ Some t → is_tag_of number (Some t) ≡ true → IsTagUntouched t guest w.host other memory behind
     by_tag Free there mine = tt
     by_tag (Taken command reads) there mine =
-        each command.entry (own-taken (Taken command reads) command.entry there (ap (λ b. cond b (command.entry ∷ []) []) mine))
+        each command.entry (own-taken geometry number w are lane tag (Taken command reads) command.entry there (ap (λ b. cond b (command.entry ∷ []) []) mine))
     by_tag (Flying command share standing) there mine =
-        each command.entry (own-taken (Flying command share standing) command.entry there (ap (λ b. cond b (command.entry ∷ []) []) mine))
+        each command.entry (own-taken geometry number w are lane tag (Flying command share standing) command.entry there (ap (λ b. cond b (command.entry ∷ []) []) mine))
     by_tag (Ended command st share) there mine =
-        each command.entry (own-taken (Ended command st share) command.entry there (ap (λ b. cond b (command.entry ∷ []) []) mine))
+        each command.entry (own-taken geometry number w are lane tag (Ended command st share) command.entry there (ap (λ b. cond b (command.entry ∷ []) []) mine))
 
 module _ (number : ℕ) (guest : Guest) (w : World) where
   -- ---- discipline

@@ -1,7 +1,7 @@
 -- The private controller of a guest goes along, without a step, where a completion of the guest's is read.
 use Rattle.std.proofs.Common.{◌≡◌, ℕ, ◌<◌, ◌⊎◌, inl, inr, Bool, true, false, cond, ◌==◌, List, [], set, slice_get, Option, Some, None}
 use Rattle.std.proofs.Common.{arith, refl, sym, ap, ◌∙◌, eq-eqb, eqb-true, subst}
-use Rattle.std.proofs.lemmas.Bool.{cases_eq, eqb-false, ne_eqb}
+use Rattle.std.proofs.lemmas.Bool.{cases_eq, eqb-false}
 use Rattle.nv_entry.specs.Status.{StatusField}
 use Rattle.nv_model.specs.Private.{Private}
 use Rattle.nv_model.specs.Queue.{is_empty}
@@ -27,7 +27,7 @@ use Rattle.nv_groups_related.specs.Following.{GoesAlong, IsReached}
 use Rattle.nv_groups_related.specs.Related.{IsMovedStatus, IsTagRelated, IsUnderWay, Related, hides, none_left}
 use Rattle.nv_groups_related.proofs.Goings.{dull-goes, none-goes}
 use Rattle.nv_groups_related.proofs.Rests.{led, rests-by}
-use Rattle.nv_groups_related.proofs.Retold.{IsRetold, members-of, retag-related}
+use Rattle.nv_groups_related.proofs.Retold.{IsRetold, members-of, one-told, retag-related}
 use Rattle.nv_groups_related.proofs.Statuses.{passed_on-moved}
 use Rattle.nv_groups_related.proofs.Tags.{own-as, put-same, tag-below}
 use Rattle.nv_groups_related.proofs.Views.{device_of, status_in}
@@ -73,9 +73,6 @@ module _ (host_bytes : ℕ) (geometry : Geometry) (number : ℕ) (guest : Guest)
         retagged-by w behind lane tag l (tag_changed tag now (completion_read l)) d d before now at_lane at_device flies refl refl
         (sym (set-same w.device lane d at_device)) (λ b apart. refl)
 
-    away-as : (a b : ℕ) → ((a ≡ lane) → (b == tag) ≡ true → ⊥) → (a ≡ lane) → (b ≡ tag) → ⊥
-    away-as a b away same also = away same (eq-eqb b tag also)
-
     -- the command goes by the tag that it went by
     led-kept : (other b : ℕ) → led other (tag_of w lane b) ≡ led other (tag_of behind lane b)
     led-kept other b =
@@ -84,22 +81,9 @@ module _ (host_bytes : ℕ) (geometry : Geometry) (number : ℕ) (guest : Guest)
           | inr apart ↦ ap (led other) (sym (changed.tags lane b (λ same also. apart also)))
         ]
 
-    led-only : (other b : ℕ) → (b == tag) ≡ true → (other ≡ command.leader → ⊥) → led other (tag_of w lane b) ≡ false
-    led-only other b is apart =
-        subst (λ n. led other (tag_of w lane n) ≡ false) (sym (eqb-true b tag is)) (ap (led other) there ∙ ne_eqb command.leader other (λ same. apart (sym same)))
-
     retold : IsRetold geometry number guest lane command.leader (λ b. b == tag) w behind
     retold =
-        record {
-          tags = (λ a b away. changed.tags a b (away-as a b away));
-          held = (λ a b away. changed.held a b (away-as a b away));
-          before = (λ b other is apart. led-only other b is apart);
-          behind = (λ b other is apart. sym (led-kept other b) ∙ led-only other b is apart);
-          bytes = (λ a b t addr away own bytes. refl);
-          memory = refl;
-          disk = refl;
-          kept = refl;
-        }
+        one-told geometry number guest lane command.leader tag before now w behind changed there refl refl (λ a b u addr away own bytes. refl) refl refl refl
 
     hides-as : (b : Bool) (held : Option Held) (addr : ℕ) → hides (cond b (Some now) None) held addr ≡ hides (cond b (Some before) None) held addr
     hides-as true held addr = refl

@@ -1,5 +1,6 @@
 -- Tags of a guest's command change in the world, and the command on the private controller alike: one stands for the other still.
-use Rattle.std.proofs.Common.{◌≡◌, ℕ, ◌/◌, ◌%◌, ◌<◌, inl, inr, Bool, true, false, cond, slice_get, Option, Some, None, arith, refl, sym, ap, ◌∙◌, eq-eqb, subst}
+use Rattle.std.proofs.Common.{◌≡◌, ℕ, ◌/◌, ◌%◌, ◌<◌, inl, inr, Bool, true, false, cond, ◌==◌, slice_get, Option, Some, None}
+use Rattle.std.proofs.Common.{arith, refl, sym, ap, ◌∙◌, eq-eqb, eqb-true, subst}
 use Rattle.std.proofs.lemmas.Bool.{cases_eq, ne_eqb}
 use Rattle.nv_model.specs.Controller.{Controller}
 use Rattle.nv_model.specs.Memory.{image}
@@ -10,10 +11,11 @@ use Rattle.nv_world_model.specs.Device.{Held}
 use Rattle.nv_world_model.specs.Geometry.{Geometry, Guest, regions_of}
 use Rattle.nv_world_groups.specs.Seat.{member_in, members, name_of, rest_at, rests_of, tag_rest}
 use Rattle.nv_world_groups.specs.View.{own_held, own_tag}
-use Rattle.nv_world_groups.specs.World.{Tag, World, tag_of}
+use Rattle.nv_world_groups.specs.World.{Tag, World, goes_by, leader_of, tag_of}
 use Rattle.nv_world_model.proofs.SeatTags.{name-lane, name-tag}
 use Rattle.nv_groups_sound.specs.Consistent.{IsConsistent}
 use Rattle.nv_groups_others.specs.Leaving.{IsBytes}
+use Rattle.nv_groups_others.proofs.Behind.{IsRetagged}
 use Rattle.nv_groups_related.specs.Related.{IsTagRelated, Related, hides}
 use Rattle.nv_groups_related.proofs.Rests.{group-same, guest-part, led, member-elsewhere, member-own, member-rests, rests-by}
 use Rattle.nv_groups_related.proofs.Views.{device_of, own-is, own-there, page-left, rest-kept, status-left, status_in, tag-kept}
@@ -37,6 +39,34 @@ pub record IsRetold (geometry : Geometry) (number : ℕ) (guest : Guest) (lane l
   pub memory : image (regions_of guest) w.host ≡ image (regions_of guest) z.host
   pub disk : z.disk ≡ w.disk
   pub kept : z.kept ≡ w.kept
+
+-- so it is where one tag has changed, and goes by the tag that it went by
+pub one-told : (geometry : Geometry) (number : ℕ) (guest : Guest) (lane leader tag : ℕ) (t new : Tag) (w z : World) → IsRetagged lane tag new w z
+    → tag_of w lane tag ≡ Some t → leader_of t ≡ Some leader → leader_of new ≡ Some leader
+    → ((a b : ℕ) (u : Tag) (addr : ℕ) → ((a ≡ lane) → (b ≡ tag) → ⊥) → own_tag number (tag_of w a b) ≡ Some u → IsBytes geometry.mediator a b u addr
+    → w.host addr ≡ z.host addr)
+    → image (regions_of guest) w.host ≡ image (regions_of guest) z.host → z.disk ≡ w.disk → z.kept ≡ w.kept
+    → IsRetold geometry number guest lane leader (λ b. b == tag) w z
+one-told geometry number guest lane leader tag t new w z changed there was now bytes memory disk kept =
+    record {
+      tags = (λ a b away. changed.tags a b (apart a b away));
+      held = (λ a b away. changed.held a b (apart a b away));
+      before = (λ b other is differ. led-only w t was there b other is differ);
+      behind = (λ b other is differ. led-only z new now changed.here b other is differ);
+      bytes = (λ a b u addr away own of_it. bytes a b u addr (apart a b away) own of_it);
+      memory = memory;
+      disk = disk;
+      kept = kept;
+    }
+  where
+    apart : (a b : ℕ) → ((a ≡ lane) → (b == tag) ≡ true → ⊥) → (a ≡ lane) → (b ≡ tag) → ⊥
+    apart a b away same also = away same (eq-eqb b tag also)
+
+    led-only : (x : World) (u : Tag) → leader_of u ≡ Some leader → tag_of x lane tag ≡ Some u → (b other : ℕ) → (b == tag) ≡ true → (other ≡ leader → ⊥)
+        → led other (tag_of x lane b) ≡ false
+    led-only x u leads here b other is differ =
+        subst (λ n. led other (tag_of x lane n) ≡ false) (sym (eqb-true b tag is))
+        (ap (led other) here ∙ ap (goes_by other) leads ∙ ne_eqb leader other (λ same. differ (sym same)))
 
 module _ (geometry : Geometry) (number : ℕ) (guest : Guest) (w z : World) (fine : IsConsistent geometry w) (lane leader : ℕ) (touched : ℕ → Bool)
     (below : leader < tag_count) (told : IsRetold geometry number guest lane leader touched w z) (p : Private) (related : Related geometry number guest w p) where
