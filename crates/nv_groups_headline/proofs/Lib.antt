@@ -1,0 +1,12 @@
+pub mod Effects
+pub mod Stepping
+pub mod Apart
+pub mod Admins
+pub mod Retagged
+pub mod Whole
+pub mod Posts
+pub mod Rings
+pub mod Handing
+pub mod Shared
+pub mod Answering
+pub mod Submits
