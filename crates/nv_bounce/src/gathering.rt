@@ -8,7 +8,7 @@ ghost use Rattle.nv_model.specs.Memory.{byte_in, gathered, image, stored};
 ghost use Rattle.nv_bounce.specs.Bounce.{NamesNoBucket, gathered_to};
 
 use crate::pieces::len_of;
-use nv_mem::{GuestMap, Host, Piece, Places};
+use nv_mem::{GuestMap, Host, Piece};
 
 /// Copies the bytes at a guest's places to the slot, in order. No other byte of the host changes.
 ///
@@ -18,7 +18,7 @@ use nv_mem::{GuestMap, Host, Piece, Places};
 ///   ([`crate::name_no_bucket`]), as for every source,
 /// - that as many bytes from `slot` on as the places name ([`crate::total_len`]) lie in the host ([`Host::holds`]), and that the map
 ///   has none of them ([`GuestMap::meets_host`]).
-pub fn gather(places: &Places, map: &GuestMap, host: &mut Host, slot: u64)
+pub fn gather(places: &[Piece], map: &GuestMap, host: &mut Host, slot: u64)
     requires host { map.now.host_len ≡ length host.old }
     requires mapped { All (IsMappedPiece (mapped map.now.regions)) places.now }
     requires no_bucket { All NamesNoBucket places.now }
@@ -31,7 +31,7 @@ pub fn gather(places: &Places, map: &GuestMap, host: &mut Host, slot: u64)
     // An address in the host fits in 64 bits, and so does the end of the slot.
     let _host_len = map.host_len();
     let mut to = slot;
-    for piece in places.pieces() {
+    for piece in places {
         gather_piece(piece, map, host, to);
         to += len_of(piece);
     }

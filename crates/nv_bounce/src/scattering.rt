@@ -8,7 +8,7 @@ ghost use Rattle.nv_model.specs.Memory.{byte_in, bytes_from, image, put_image, s
 ghost use Rattle.nv_bounce.specs.Bounce.{scattered_from};
 
 use crate::pieces::len_of;
-use nv_mem::{GuestMap, Host, Piece, Places};
+use nv_mem::{GuestMap, Host, Piece};
 
 /// Copies the bytes of the slot, as many as the places name, to a guest's places, in order. A bucket discards its bytes, and an
 /// address that is named twice keeps the last byte meant for it. No other byte of the host changes.
@@ -18,7 +18,7 @@ use nv_mem::{GuestMap, Host, Piece, Places};
 /// - that the places' addresses are mapped ([`crate::are_mapped`] tests it),
 /// - that as many bytes from `slot` on as the places name ([`crate::total_len`]) lie in the host ([`Host::holds`]), and that the map
 ///   has none of them ([`GuestMap::meets_host`]).
-pub fn scatter(slot: u64, places: &Places, map: &GuestMap, host: &mut Host)
+pub fn scatter(slot: u64, places: &[Piece], map: &GuestMap, host: &mut Host)
     requires host { map.now.host_len ≡ length host.old }
     requires mapped { All (IsMappedPiece (mapped map.now.regions)) places.now }
     requires inside { InMemory (length host.old) slot (total_len places.now) }
@@ -32,7 +32,7 @@ pub fn scatter(slot: u64, places: &Places, map: &GuestMap, host: &mut Host)
     // With the length of the host comes what is known of every map, and that the end of the slot fits in 64 bits.
     let _host_len = map.host_len();
     let mut from = slot;
-    for piece in places.pieces() {
+    for piece in places {
         scatter_piece(from, piece, map, host);
         from += len_of(piece);
     }

@@ -129,8 +129,8 @@ fn make(way: Way, places: &Places, map: &GuestMap, host: &mut Host, slot: u64) -
         return false;
     }
     match way {
-        Way::Scatter => scatter(slot, places, map, host),
-        Way::Gather if name_no_bucket(places) => gather(places, map, host, slot),
+        Way::Scatter => scatter(slot, places.pieces(), map, host),
+        Way::Gather if name_no_bucket(places) => gather(places.pieces(), map, host, slot),
         Way::Gather => return false,
     }
     true

@@ -12,11 +12,11 @@ ghost use Rattle.nv_prp.specs.Met.{met_more};
 
 use crate::met::Met;
 use crate::prps::Prps;
-use nv_mem::{GuestMap, Piece, Places};
+use nv_mem::{GuestMap, Piece};
 
 /// What names the host addresses of these places, which fit PRP and are 131,072 at most. Where there are more than two pages, the
 /// list of the page entries stands at `list_page`, which is a page's start.
-pub fn build(map: &GuestMap, places: &Places, list_page: u64) -> Prps
+pub fn build(map: &GuestMap, places: &[Piece], list_page: u64) -> Prps
     requires mapped { All (IsMappedPiece (mapped map.now.regions)) places.now }
     requires fit { places_fit map.now.regions places.now ≡ true }
     requires most { total_len places.now ≤ most_bytes }
@@ -24,7 +24,7 @@ pub fn build(map: &GuestMap, places: &Places, list_page: u64) -> Prps
     ensures { result ≡ built list_page (host_addresses map.now.regions places.now) }
 {
     let mut met = Met::nothing();
-    for piece in places.pieces() {
+    for piece in places {
         match *piece {
             Piece::Run { addr, len } => add_run(map, addr, len, &mut met),
             Piece::Bucket { len: _ } => {}

@@ -144,7 +144,7 @@ fn built(map: &GuestMap, places: &Places, list_page: u64) -> Option<Prps> {
         return None;
     }
     if fits(map, places) {
-        Some(build(map, places, list_page))
+        Some(build(map, places.pieces(), list_page))
     } else {
         None
     }

@@ -12,16 +12,16 @@ use Rattle.nv_bounce.proofs.gathering.gather.Goals as goal
 
 pub gather_piece-requires-clause-apart : goal.gather_piece-requires-clause-apart
 gather_piece-requires-clause-apart c =
-    let items : List Piece = c.pieces-piece-items.result.now in
-    let apart : span_met c.args.map.now.regions c.args.slot (total_len items) ≡ false = rw c.pieces-piece-items.ensures c.requires.apart in
+    let items : List Piece = c.args.places.now in
+    let apart : span_met c.args.map.now.regions c.args.slot (total_len items) ≡ false = c.requires.apart in
     let within = piece-within (gathered_to c.args.map.now.regions) c.args.host.now c.args.slot items c.loop-piece.host c.loop-piece.to
     c.loop-piece.piece-index (piece.Run 0 0) c.loop-piece.invariant c.loop-piece-test.true in
     span_met-part c.args.map.now.regions c.args.slot (total_len items) c.loop-piece.to _ apart within.0 within.1
 
 pub loop-piece-preserved : goal.loop-piece-preserved
 loop-piece-preserved c =
-    let items : List Piece = c.pieces-piece-items.result.now in
-    let apart : span_met c.args.map.now.regions c.args.slot (total_len items) ≡ false = rw c.pieces-piece-items.ensures c.requires.apart in
+    let items : List Piece = c.args.places.now in
+    let apart : span_met c.args.map.now.regions c.args.slot (total_len items) ≡ false = c.requires.apart in
     rw c.len_of-to.ensures
     (IsAtPiece-next (gathered_to c.args.map.now.regions) c.args.host.now c.args.slot items c.loop-piece.host c.gather_piece.new.host c.loop-piece.to
     c.loop-piece.piece-index (piece.Run 0 0) (gathering-in_order c.args.map.now.regions c.args.slot (total_len items) apart)
@@ -29,8 +29,7 @@ loop-piece-preserved c =
 
 pub returns-clause-bytes : goal.returns-clause-bytes
 returns-clause-bytes c =
-    let items : List Piece = c.pieces-piece-items.result.now in
-    let apart : span_met c.args.map.now.regions c.args.slot (total_len items) ≡ false = rw c.pieces-piece-items.ensures c.requires.apart in
+    let items : List Piece = c.args.places.now in
+    let apart : span_met c.args.map.now.regions c.args.slot (total_len items) ≡ false = c.requires.apart in
     IsAtPiece-end (gathered_to c.args.map.now.regions) c.args.host.now c.args.slot items c.loop-piece.host c.loop-piece.to c.loop-piece.piece-index
     (gathering-in_order c.args.map.now.regions c.args.slot (total_len items) apart) c.loop-piece.invariant c.loop-piece-test.false
-    ∙ ap (λ (pieces : List Piece). gathered_to c.args.map.now.regions (places_of pieces) c.args.slot (byte_in c.args.host.now)) c.pieces-piece-items.ensures

@@ -5,4 +5,4 @@ use Rattle.nv_bounce.proofs.gathering.gather.Given as goal
 
 abbrev pub invariant-loop-piece : goal.invariant-loop-piece
 invariant-loop-piece l =
-    IsAtPiece (gathered_to l.map.regions) l.fn.host l.slot l.piece-items l.host l.to (drop l.piece-index l.piece-items)
+    IsAtPiece (gathered_to l.map.regions) l.fn.host l.slot l.places l.host l.to (drop l.piece-index l.places)

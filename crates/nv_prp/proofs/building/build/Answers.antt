@@ -15,7 +15,7 @@ add_run-requires-clause-room c =
     let most : length (host_addresses c.args.map.now.regions c.args.places.now) ≤ 131072 = let most = c.requires.most in omega arith in
     let fit = both (list_all is_run c.args.places.now) (fit_prp (host_addresses c.args.map.now.regions c.args.places.now)) c.requires.fit in
     Pieces-room
-    c.args.map.now.regions c.pieces-piece-items.result.now c.loop-piece.piece-index (host_addresses c.args.map.now.regions c.args.places.now) c.loop-piece.met (piece.Run 0 0)
+    c.args.map.now.regions c.args.places.now c.loop-piece.piece-index (host_addresses c.args.map.now.regions c.args.places.now) c.loop-piece.met (piece.Run 0 0)
     (piece.Run c.in-Run.addr c.in-Run.len) c.loop-piece.invariant c.loop-piece-test.true c.in-Run.is fit.1 most
 
 pub loop-piece-preserved : goal.loop-piece-preserved
@@ -23,11 +23,11 @@ loop-piece-preserved c =
     elim c.match-piece.branch [
       | in-Run w ↦
           Pieces-next
-          c.args.map.now.regions c.pieces-piece-items.result.now c.loop-piece.piece-index (host_addresses c.args.map.now.regions c.args.places.now) c.loop-piece.met c.match-piece.met
+          c.args.map.now.regions c.args.places.now c.loop-piece.piece-index (host_addresses c.args.map.now.regions c.args.places.now) c.loop-piece.met c.match-piece.met
           (piece.Run 0 0) (piece.Run w.in-Run.addr w.in-Run.len) c.loop-piece.invariant c.loop-piece-test.true w.in-Run.is (w.met-is ∙ w.add_run.ensures)
       | in-Bucket w ↦
           Pieces-next
-          c.args.map.now.regions c.pieces-piece-items.result.now c.loop-piece.piece-index (host_addresses c.args.map.now.regions c.args.places.now) c.loop-piece.met c.match-piece.met
+          c.args.map.now.regions c.args.places.now c.loop-piece.piece-index (host_addresses c.args.map.now.regions c.args.places.now) c.loop-piece.met c.match-piece.met
           (piece.Run 0 0) (piece.Bucket w.in-Bucket.len) c.loop-piece.invariant c.loop-piece-test.true w.in-Bucket.is
           (w.met-is ∙ met-bucket c.args.map.now.regions c.loop-piece.met w.in-Bucket.len)
     ]
@@ -37,6 +37,6 @@ returns c =
     c.prps.ensures
     ∙ ap (prps_met c.args.list_page)
     (Pieces-end
-    c.args.map.now.regions c.pieces-piece-items.result.now c.loop-piece.piece-index (host_addresses c.args.map.now.regions c.args.places.now) c.loop-piece.met c.loop-piece.invariant
+    c.args.map.now.regions c.args.places.now c.loop-piece.piece-index (host_addresses c.args.map.now.regions c.args.places.now) c.loop-piece.met c.loop-piece.invariant
     c.loop-piece-test.false)
     ∙ prps_met-built c.args.list_page (host_addresses c.args.map.now.regions c.args.places.now)
