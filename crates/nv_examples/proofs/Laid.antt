@@ -1,5 +1,6 @@
 -- Changes of the host as runs of bytes, one after another, and what of them is the first guest's
-use Rattle.std.proofs.Common.{◌≡◌, ℕ, ◌+◌, ◌-◌, ◌<◌, ◌≤◌, Bool, true, false, ◌&&◌, ◌||◌, nat_le, nat_lt, if◌then◌else◌, List, [], ◌∷◌, ◌++◌, flat_map, length, Some, None, refl, arith, ap, sym, ◌∙◌}
+use Rattle.std.proofs.Common.{◌≡◌, ℕ, ◌+◌, ◌-◌, ◌<◌, ◌≤◌, Bool, true, false, ◌&&◌, ◌||◌, nat_le, nat_lt, if◌then◌else◌, List, [], ◌∷◌}
+use Rattle.std.proofs.Common.{◌++◌, flat_map, length, Some, None, refl, arith, ap, sym, ◌∙◌}
 use Rattle.std.specs.List.{list_all}
 use Rattle.std.proofs.lemmas.Bool.Decides.{nat_tests}
 use mathlib.Core.Path.{fun_ext}
@@ -7,11 +8,11 @@ use Rattle.nv_mem.specs.GuestMap.{covers, covers_host}
 use Rattle.nv_mem.specs.declared.region.Region.{Region}
 use Rattle.nv_model.specs.Memory.{byte_at_host, byte_or, image, put_image, stored}
 use Rattle.nv_model.proofs.MemoryLemmas.{scattered-addresses}
-use Rattle.nv_world_model.specs.Geometry.{regions_of}
+use Rattle.nv_world_model.specs.Geometry.{Geometry, regions_of}
 use Rattle.nv_world_model.specs.Step.{replay}
 use Rattle.nv_world_model.specs.World.{World, with_host}
 use Rattle.nv_world_model.specs.declared.event.Event.{Event}
-use Rattle.nv_examples.specs.Guests.{first, set_up}
+use Rattle.nv_examples.specs.Guests.{first}
 use Rattle.nv_examples.proofs.Changes.{Area, AreaSpread, Change, Direct, OtherSame, OtherStore, OwnSame, OwnSpread, OwnStore, all_changed, all_fit, all_spans, changed, fits, laid, spans_of}
 
 -- ---- a guest's memory in the host
@@ -175,21 +176,21 @@ stored-swap m a xs b ys apart = fun_ext (stored-swap_at m a xs b ys apart)
 
 -- ---- pieces of a log
 
-pub replay-append : (xs ys : List Event) (w : World) → replay set_up.geometry (xs ++ ys) w ≡ replay set_up.geometry ys (replay set_up.geometry xs w)
+pub replay-append : (geometry : Geometry) (xs ys : List Event) (w : World) → replay geometry (xs ++ ys) w ≡ replay geometry ys (replay geometry xs w)
 unfolding replay
-replay-append [] ys w = refl
-replay-append (x ∷ xs) ys w = replay-append xs ys _
+replay-append geometry [] ys w = refl
+replay-append geometry (x ∷ xs) ys w = replay-append geometry xs ys _
 
 -- the world behind a piece, and behind the rest of the log
-pub further : (xs ys : List Event) (w v z : World) → replay set_up.geometry xs w ≡ v → replay set_up.geometry ys v ≡ z
-    → replay set_up.geometry (xs ++ ys) w ≡ z
-further xs ys w v z a b = replay-append xs ys w ∙ ap (λ (u : World). replay set_up.geometry ys u) a ∙ b
+pub further : (geometry : Geometry) (xs ys : List Event) (w v z : World) → replay geometry xs w ≡ v → replay geometry ys v ≡ z
+    → replay geometry (xs ++ ys) w ≡ z
+further geometry xs ys w v z a b = replay-append geometry xs ys w ∙ ap (λ (u : World). replay geometry ys u) a ∙ b
 
 -- the world behind some events has its host laid out by their changes
-pub replay-laid : (xs : List Event) (cs : List Change) (w : World)
-    → (replay set_up.geometry xs w).host ≡ all_changed cs w.host → all_fit cs ≡ true
-    → replay set_up.geometry xs w ≡ with_host (laid (all_spans cs) w.host) (replay set_up.geometry xs w)
-replay-laid xs cs w e fit = ap (λ (h : ℕ → ℕ). with_host h (replay set_up.geometry xs w)) (e ∙ all-laid cs w.host fit)
+pub replay-laid : (geometry : Geometry) (xs : List Event) (cs : List Change) (w : World)
+    → (replay geometry xs w).host ≡ all_changed cs w.host → all_fit cs ≡ true
+    → replay geometry xs w ≡ with_host (laid (all_spans cs) w.host) (replay geometry xs w)
+replay-laid geometry xs cs w e fit = ap (λ (h : ℕ → ℕ). with_host h (replay geometry xs w)) (e ∙ all-laid cs w.host fit)
 
 -- pieces of changes, one after another
 unfoldable pub all_laid : List (List Change) → (ℕ → ℕ) → ℕ → ℕ

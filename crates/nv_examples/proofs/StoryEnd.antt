@@ -18,12 +18,13 @@ use Rattle.nv_model.specs.Admin.{admin_command, admin}
 use Rattle.nv_prp.specs.Fits.{hosts_of, fit_behind}
 use Rattle.nv_prp.specs.Built.{built}
 use Rattle.nv_world_model.specs.Plan.{plan_over}
-use Rattle.nv_world_model.specs.Area.{physical_entry, written}
+use Rattle.nv_world_model.specs.Area.{physical_entry}
 use Rattle.nv_world_model.specs.Device.{held_of, device_unit, completion_written}
-use Rattle.nv_world_model.specs.Seat.{units_behind, members, seat, put_back}
-use Rattle.nv_world_model.specs.Step.{acted_in, administered_in, taken_to, listed, ended_at_once, submitted, device_took, device_moved, device_posted}
-use Rattle.nv_world_model.specs.Step.{kept_block, reaped, scattered_to, posted_to, ran_out_of, step, replay, replies}
-use Rattle.nv_world_model.specs.World.{opening_world}
+use Rattle.nv_world_model.specs.ShareArea.{share_written}
+use Rattle.nv_world_model.specs.Seat.{members, put_back, rest_at, rests_of, seat, units_behind}
+use Rattle.nv_world_model.specs.Step.{acted_in, administered_in, delivered_all, device_moved, device_posted, device_took, handed_on, kept_block, listed}
+use Rattle.nv_world_model.specs.Step.{posted_to, ran_out_of, reaped, replay, replies, scattered_to, statuses_of, step, submitted, taken_to}
+use Rattle.nv_world_model.specs.World.{claimed, group, opening_world, with_tags}
 use Rattle.nv_world_model.specs.SetUp.{refusal_of}
 use Rattle.nv_world_model.specs.Headline.{none_failed}
 use Rattle.nv_world_model.specs.Disciplined.{is_disciplined, taken_entries}
@@ -51,51 +52,51 @@ use Rattle.nv_examples.proofs.StoryHosts.{world_12}
 
 tidy_1 : replay set_up.geometry (part 0 6) opened ≡ world_1
 unfolding behind world_1 completion bytes_of_dwords physical_entry
-tidy_1 = replay-laid (part 0 6) changes_1 opened host_1 refl
+tidy_1 = replay-laid set_up.geometry (part 0 6) changes_1 opened host_1 refl
 
 tidy_2 : replay set_up.geometry (part 6 6) world_1 ≡ world_2
 unfolding behind world_2 completion bytes_of_dwords physical_entry
-tidy_2 = replay-laid (part 6 6) changes_2 world_1 host_2 refl
+tidy_2 = replay-laid set_up.geometry (part 6 6) changes_2 world_1 host_2 refl
 
 tidy_3 : replay set_up.geometry (part 12 9) world_2 ≡ world_3
 unfolding behind world_3 completion bytes_of_dwords physical_entry
-tidy_3 = replay-laid (part 12 9) changes_3 world_2 host_3 refl
+tidy_3 = replay-laid set_up.geometry (part 12 9) changes_3 world_2 host_3 refl
 
 tidy_4 : replay set_up.geometry (part 21 5) world_3 ≡ world_4
 unfolding behind world_4 completion bytes_of_dwords physical_entry
-tidy_4 = replay-laid (part 21 5) changes_4 world_3 host_4 refl
+tidy_4 = replay-laid set_up.geometry (part 21 5) changes_4 world_3 host_4 refl
 
 tidy_5 : replay set_up.geometry (part 26 9) world_4 ≡ world_5
 unfolding behind world_5 completion bytes_of_dwords physical_entry
-tidy_5 = replay-laid (part 26 9) changes_5 world_4 host_5 refl
+tidy_5 = replay-laid set_up.geometry (part 26 9) changes_5 world_4 host_5 refl
 
 tidy_6 : replay set_up.geometry (part 35 12) world_5 ≡ world_6
 unfolding behind world_6 completion bytes_of_dwords physical_entry
-tidy_6 = replay-laid (part 35 12) changes_6 world_5 host_6 refl
+tidy_6 = replay-laid set_up.geometry (part 35 12) changes_6 world_5 host_6 refl
 
 tidy_7 : replay set_up.geometry (part 47 20) world_6 ≡ world_7
 unfolding behind world_7 completion bytes_of_dwords physical_entry
-tidy_7 = replay-laid (part 47 20) changes_7 world_6 host_7 refl
+tidy_7 = replay-laid set_up.geometry (part 47 20) changes_7 world_6 host_7 refl
 
 tidy_8 : replay set_up.geometry (part 67 9) world_7 ≡ world_8
 unfolding behind world_8 completion bytes_of_dwords physical_entry
-tidy_8 = replay-laid (part 67 9) changes_8 world_7 host_8 refl
+tidy_8 = replay-laid set_up.geometry (part 67 9) changes_8 world_7 host_8 refl
 
 tidy_9 : replay set_up.geometry (part 76 19) world_8 ≡ world_9
 unfolding behind world_9 completion bytes_of_dwords physical_entry
-tidy_9 = replay-laid (part 76 19) changes_9 world_8 host_9 refl
+tidy_9 = replay-laid set_up.geometry (part 76 19) changes_9 world_8 host_9 refl
 
 tidy_10 : replay set_up.geometry (part 95 5) world_9 ≡ world_10
 unfolding behind world_10 completion bytes_of_dwords physical_entry
-tidy_10 = replay-laid (part 95 5) changes_10 world_9 host_10 refl
+tidy_10 = replay-laid set_up.geometry (part 95 5) changes_10 world_9 host_10 refl
 
 tidy_11 : replay set_up.geometry (part 100 12) world_10 ≡ world_11
 unfolding behind world_11 completion bytes_of_dwords physical_entry
-tidy_11 = replay-laid (part 100 12) changes_11 world_10 host_11 refl
+tidy_11 = replay-laid set_up.geometry (part 100 12) changes_11 world_10 host_11 refl
 
 tidy_12 : replay set_up.geometry (part 112 7) world_11 ≡ world_12
 unfolding behind world_12 completion bytes_of_dwords physical_entry
-tidy_12 = replay-laid (part 112 7) changes_12 world_11 host_12 refl
+tidy_12 = replay-laid set_up.geometry (part 112 7) changes_12 world_11 host_12 refl
 
 -- what is left of the log behind each piece
 abbrev rest_11 : List Event
@@ -137,17 +138,17 @@ pieces = refl
 story-end : story_end ≡ world_12
 story-end =
     ap (λ (es : List Event). replay set_up.geometry es opened) pieces
-    ∙ further (part 0 6) rest_1 opened world_1 world_12 tidy_1
-    (further (part 6 6) rest_2 world_1 world_2 world_12 tidy_2
-    (further (part 12 9) rest_3 world_2 world_3 world_12 tidy_3
-    (further (part 21 5) rest_4 world_3 world_4 world_12 tidy_4
-    (further (part 26 9) rest_5 world_4 world_5 world_12 tidy_5
-    (further (part 35 12) rest_6 world_5 world_6 world_12 tidy_6
-    (further (part 47 20) rest_7 world_6 world_7 world_12 tidy_7
-    (further (part 67 9) rest_8 world_7 world_8 world_12 tidy_8
-    (further (part 76 19) rest_9 world_8 world_9 world_12 tidy_9
-    (further (part 95 5) rest_10 world_9 world_10 world_12 tidy_10
-    (further (part 100 12) rest_11 world_10 world_11 world_12 tidy_11
+    ∙ further set_up.geometry (part 0 6) rest_1 opened world_1 world_12 tidy_1
+    (further set_up.geometry (part 6 6) rest_2 world_1 world_2 world_12 tidy_2
+    (further set_up.geometry (part 12 9) rest_3 world_2 world_3 world_12 tidy_3
+    (further set_up.geometry (part 21 5) rest_4 world_3 world_4 world_12 tidy_4
+    (further set_up.geometry (part 26 9) rest_5 world_4 world_5 world_12 tidy_5
+    (further set_up.geometry (part 35 12) rest_6 world_5 world_6 world_12 tidy_6
+    (further set_up.geometry (part 47 20) rest_7 world_6 world_7 world_12 tidy_7
+    (further set_up.geometry (part 67 9) rest_8 world_7 world_8 world_12 tidy_8
+    (further set_up.geometry (part 76 19) rest_9 world_8 world_9 world_12 tidy_9
+    (further set_up.geometry (part 95 5) rest_10 world_9 world_10 world_12 tidy_10
+    (further set_up.geometry (part 100 12) rest_11 world_10 world_11 world_12 tidy_11
     (tidy_12)))))))))))
 
 -- all changes, and their runs of bytes
@@ -226,12 +227,13 @@ read_first m =
 
 private-memory : story_private.memory
     ≡ laid late (scattered (laid mid (read_first (laid early zeros))) (addresses 0x3401 (length block_bytes)) block_bytes)
-unfolding number_at dword qword bits bytes_of_dwords completion everywhere addresses bytes_from gathered image put_image scattered stored in_memory and_then
-    asked first_read in_transcript read_array read_sgl read_entries read_source ranges_in move_units clear_units range_units judge units_moved opening register
-    reg_write doorbell front took post ran_out differs start private_step run_of footprints completion_slots stores_into loads_from_destination admin_command
-    admin hosts_of fit_behind built plan_over physical_entry written held_of device_unit completion_written units_behind members seat put_back acted_in
-    administered_in taken_to listed ended_at_once submitted device_took device_moved device_posted kept_block reaped scattered_to posted_to ran_out_of step
-    replay replies opening_world refusal_of none_failed is_disciplined taken_entries private_steps seen_by logged laid
+unfolding number_at dword qword bits bytes_of_dwords completion everywhere addresses bytes_from gathered image put_image scattered stored in_memory
+    and_then asked first_read in_transcript read_array read_sgl read_entries read_source ranges_in move_units clear_units range_units judge units_moved
+    opening register reg_write doorbell front took post ran_out differs start private_step run_of footprints completion_slots stores_into
+    loads_from_destination admin_command admin hosts_of fit_behind built plan_over physical_entry held_of device_unit completion_written share_written
+    with_tags group claimed units_behind rest_at rests_of members seat put_back acted_in administered_in taken_to listed submitted handed_on device_took
+    device_moved device_posted kept_block reaped scattered_to delivered_all posted_to ran_out_of statuses_of step replay replies opening_world refusal_of
+    none_failed is_disciplined taken_entries private_steps seen_by logged laid
 private-memory = refl
 
 -- the same runs, the bounced Read's in the place that they have in the world

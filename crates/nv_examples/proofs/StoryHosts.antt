@@ -28,12 +28,13 @@ use Rattle.nv_model.specs.Admin.{admin_command, admin}
 use Rattle.nv_prp.specs.Fits.{hosts_of, fit_behind}
 use Rattle.nv_prp.specs.Built.{built}
 use Rattle.nv_world_model.specs.Plan.{plan_over}
-use Rattle.nv_world_model.specs.Area.{physical_entry, written}
+use Rattle.nv_world_model.specs.Area.{physical_entry}
 use Rattle.nv_world_model.specs.Device.{held_of, device_unit, completion_written}
-use Rattle.nv_world_model.specs.Seat.{units_behind, members, seat, put_back}
-use Rattle.nv_world_model.specs.Step.{acted_in, administered_in, taken_to, listed, ended_at_once, submitted, device_took, device_moved, device_posted}
-use Rattle.nv_world_model.specs.Step.{kept_block, reaped, scattered_to, posted_to, ran_out_of, step, replay, replies}
-use Rattle.nv_world_model.specs.World.{opening_world}
+use Rattle.nv_world_model.specs.ShareArea.{share_written}
+use Rattle.nv_world_model.specs.Seat.{members, put_back, rest_at, rests_of, seat, units_behind}
+use Rattle.nv_world_model.specs.Step.{acted_in, administered_in, delivered_all, device_moved, device_posted, device_took, handed_on, kept_block, listed}
+use Rattle.nv_world_model.specs.Step.{posted_to, ran_out_of, reaped, replay, replies, scattered_to, statuses_of, step, submitted, taken_to}
+use Rattle.nv_world_model.specs.World.{claimed, group, opening_world, with_tags}
 use Rattle.nv_world_model.specs.SetUp.{refusal_of}
 use Rattle.nv_world_model.specs.Headline.{none_failed}
 use Rattle.nv_world_model.specs.Disciplined.{is_disciplined, taken_entries}
@@ -46,8 +47,8 @@ abbrev ok : StatusField
 ok = done_with Success
 
 -- a physical entry that names no list
-abbrev handed_on : (opcode tag prp1 : ℕ) → List ℕ → List ℕ
-handed_on opcode tag prp1 dwords = physical_entry opcode tag (record { prp1 = prp1; prp2 = 0; list = replicate 32 0; used = 0 }) dwords
+abbrev entry_for : (opcode tag prp1 : ℕ) → List ℕ → List ℕ
+entry_for opcode tag prp1 dwords = physical_entry opcode tag (record { prp1 = prp1; prp2 = 0; list = replicate 32 0; used = 0 }) dwords
 
 -- the bytes of the block that was written
 abbrev block_bytes : List ℕ
@@ -75,12 +76,13 @@ unfoldable pub world_1 : World
 world_1 = behind (part 0 6) changes_1 opened
 
 pub host_1 : (replay set_up.geometry (part 0 6) opened).host ≡ all_changed changes_1 (opened).host
-unfolding number_at dword qword bits bytes_of_dwords completion everywhere addresses bytes_from gathered image put_image scattered stored in_memory and_then
-    asked first_read in_transcript read_array read_sgl read_entries read_source ranges_in move_units clear_units range_units judge units_moved opening register
-    reg_write doorbell front took post ran_out differs start private_step run_of footprints completion_slots stores_into loads_from_destination admin_command
-    admin hosts_of fit_behind built plan_over physical_entry written held_of device_unit completion_written units_behind members seat put_back acted_in
-    administered_in taken_to listed ended_at_once submitted device_took device_moved device_posted kept_block reaped scattered_to posted_to ran_out_of step
-    replay replies opening_world refusal_of none_failed is_disciplined taken_entries private_steps seen_by logged all_changed changed laid behind
+unfolding number_at dword qword bits bytes_of_dwords completion everywhere addresses bytes_from gathered image put_image scattered stored in_memory
+    and_then asked first_read in_transcript read_array read_sgl read_entries read_source ranges_in move_units clear_units range_units judge units_moved
+    opening register reg_write doorbell front took post ran_out differs start private_step run_of footprints completion_slots stores_into
+    loads_from_destination admin_command admin hosts_of fit_behind built plan_over physical_entry held_of device_unit completion_written share_written
+    with_tags group claimed units_behind rest_at rests_of members seat put_back acted_in administered_in taken_to listed submitted handed_on device_took
+    device_moved device_posted kept_block reaped scattered_to delivered_all posted_to ran_out_of statuses_of step replay replies opening_world refusal_of
+    none_failed is_disciplined taken_entries private_steps seen_by logged all_changed changed laid behind
 host_1 = refl
 
 -- ---- piece 2
@@ -97,12 +99,13 @@ unfoldable pub world_2 : World
 world_2 = behind (part 6 6) changes_2 world_1
 
 pub host_2 : (replay set_up.geometry (part 6 6) world_1).host ≡ all_changed changes_2 world_1.host
-unfolding number_at dword qword bits bytes_of_dwords completion everywhere addresses bytes_from gathered image put_image scattered stored in_memory and_then
-    asked first_read in_transcript read_array read_sgl read_entries read_source ranges_in move_units clear_units range_units judge units_moved opening register
-    reg_write doorbell front took post ran_out differs start private_step run_of footprints completion_slots stores_into loads_from_destination admin_command
-    admin hosts_of fit_behind built plan_over physical_entry written held_of device_unit completion_written units_behind members seat put_back acted_in
-    administered_in taken_to listed ended_at_once submitted device_took device_moved device_posted kept_block reaped scattered_to posted_to ran_out_of step
-    replay replies opening_world refusal_of none_failed is_disciplined taken_entries private_steps seen_by logged all_changed changed laid behind world_1
+unfolding number_at dword qword bits bytes_of_dwords completion everywhere addresses bytes_from gathered image put_image scattered stored in_memory
+    and_then asked first_read in_transcript read_array read_sgl read_entries read_source ranges_in move_units clear_units range_units judge units_moved
+    opening register reg_write doorbell front took post ran_out differs start private_step run_of footprints completion_slots stores_into
+    loads_from_destination admin_command admin hosts_of fit_behind built plan_over physical_entry held_of device_unit completion_written share_written
+    with_tags group claimed units_behind rest_at rests_of members seat put_back acted_in administered_in taken_to listed submitted handed_on device_took
+    device_moved device_posted kept_block reaped scattered_to delivered_all posted_to ran_out_of statuses_of step replay replies opening_world refusal_of
+    none_failed is_disciplined taken_entries private_steps seen_by logged all_changed changed laid behind world_1
 host_2 = refl
 
 -- ---- piece 3
@@ -119,13 +122,13 @@ unfoldable pub world_3 : World
 world_3 = behind (part 12 9) changes_3 world_2
 
 pub host_3 : (replay set_up.geometry (part 12 9) world_2).host ≡ all_changed changes_3 world_2.host
-unfolding number_at dword qword bits bytes_of_dwords completion everywhere addresses bytes_from gathered image put_image scattered stored in_memory and_then
-    asked first_read in_transcript read_array read_sgl read_entries read_source ranges_in move_units clear_units range_units judge units_moved opening register
-    reg_write doorbell front took post ran_out differs start private_step run_of footprints completion_slots stores_into loads_from_destination admin_command
-    admin hosts_of fit_behind built plan_over physical_entry written held_of device_unit completion_written units_behind members seat put_back acted_in
-    administered_in taken_to listed ended_at_once submitted device_took device_moved device_posted kept_block reaped scattered_to posted_to ran_out_of step
-    replay replies opening_world refusal_of none_failed is_disciplined taken_entries private_steps seen_by logged all_changed changed laid behind world_1
-    world_2
+unfolding number_at dword qword bits bytes_of_dwords completion everywhere addresses bytes_from gathered image put_image scattered stored in_memory
+    and_then asked first_read in_transcript read_array read_sgl read_entries read_source ranges_in move_units clear_units range_units judge units_moved
+    opening register reg_write doorbell front took post ran_out differs start private_step run_of footprints completion_slots stores_into
+    loads_from_destination admin_command admin hosts_of fit_behind built plan_over physical_entry held_of device_unit completion_written share_written
+    with_tags group claimed units_behind rest_at rests_of members seat put_back acted_in administered_in taken_to listed submitted handed_on device_took
+    device_moved device_posted kept_block reaped scattered_to delivered_all posted_to ran_out_of statuses_of step replay replies opening_world refusal_of
+    none_failed is_disciplined taken_entries private_steps seen_by logged all_changed changed laid behind world_1 world_2
 host_3 = refl
 
 -- ---- piece 4
@@ -142,13 +145,13 @@ unfoldable pub world_4 : World
 world_4 = behind (part 21 5) changes_4 world_3
 
 pub host_4 : (replay set_up.geometry (part 21 5) world_3).host ≡ all_changed changes_4 world_3.host
-unfolding number_at dword qword bits bytes_of_dwords completion everywhere addresses bytes_from gathered image put_image scattered stored in_memory and_then
-    asked first_read in_transcript read_array read_sgl read_entries read_source ranges_in move_units clear_units range_units judge units_moved opening register
-    reg_write doorbell front took post ran_out differs start private_step run_of footprints completion_slots stores_into loads_from_destination admin_command
-    admin hosts_of fit_behind built plan_over physical_entry written held_of device_unit completion_written units_behind members seat put_back acted_in
-    administered_in taken_to listed ended_at_once submitted device_took device_moved device_posted kept_block reaped scattered_to posted_to ran_out_of step
-    replay replies opening_world refusal_of none_failed is_disciplined taken_entries private_steps seen_by logged all_changed changed laid behind world_1
-    world_2 world_3
+unfolding number_at dword qword bits bytes_of_dwords completion everywhere addresses bytes_from gathered image put_image scattered stored in_memory
+    and_then asked first_read in_transcript read_array read_sgl read_entries read_source ranges_in move_units clear_units range_units judge units_moved
+    opening register reg_write doorbell front took post ran_out differs start private_step run_of footprints completion_slots stores_into
+    loads_from_destination admin_command admin hosts_of fit_behind built plan_over physical_entry held_of device_unit completion_written share_written
+    with_tags group claimed units_behind rest_at rests_of members seat put_back acted_in administered_in taken_to listed submitted handed_on device_took
+    device_moved device_posted kept_block reaped scattered_to delivered_all posted_to ran_out_of statuses_of step replay replies opening_world refusal_of
+    none_failed is_disciplined taken_entries private_steps seen_by logged all_changed changed laid behind world_1 world_2 world_3
 host_4 = refl
 
 -- ---- piece 5
@@ -162,19 +165,19 @@ changes_5 =
     ∷ OtherSame
     ∷ Area 0x33000 []
     ∷ Area 0x34000 []
-    ∷ Area 0x30000 (handed_on 0x01 0 0x10800 (2 ∷ 0 ∷ 0 ∷ [])) ∷ []
+    ∷ Area 0x30000 (entry_for 0x01 0 0x10800 (2 ∷ 0 ∷ 0 ∷ [])) ∷ []
 
 unfoldable pub world_5 : World
 world_5 = behind (part 26 9) changes_5 world_4
 
 pub host_5 : (replay set_up.geometry (part 26 9) world_4).host ≡ all_changed changes_5 world_4.host
-unfolding number_at dword qword bits bytes_of_dwords completion everywhere addresses bytes_from gathered image put_image scattered stored in_memory and_then
-    asked first_read in_transcript read_array read_sgl read_entries read_source ranges_in move_units clear_units range_units judge units_moved opening register
-    reg_write doorbell front took post ran_out differs start private_step run_of footprints completion_slots stores_into loads_from_destination admin_command
-    admin hosts_of fit_behind built plan_over physical_entry written held_of device_unit completion_written units_behind members seat put_back acted_in
-    administered_in taken_to listed ended_at_once submitted device_took device_moved device_posted kept_block reaped scattered_to posted_to ran_out_of step
-    replay replies opening_world refusal_of none_failed is_disciplined taken_entries private_steps seen_by logged all_changed changed laid behind world_1
-    world_2 world_3 world_4
+unfolding number_at dword qword bits bytes_of_dwords completion everywhere addresses bytes_from gathered image put_image scattered stored in_memory
+    and_then asked first_read in_transcript read_array read_sgl read_entries read_source ranges_in move_units clear_units range_units judge units_moved
+    opening register reg_write doorbell front took post ran_out differs start private_step run_of footprints completion_slots stores_into
+    loads_from_destination admin_command admin hosts_of fit_behind built plan_over physical_entry held_of device_unit completion_written share_written
+    with_tags group claimed units_behind rest_at rests_of members seat put_back acted_in administered_in taken_to listed submitted handed_on device_took
+    device_moved device_posted kept_block reaped scattered_to delivered_all posted_to ran_out_of statuses_of step replay replies opening_world refusal_of
+    none_failed is_disciplined taken_entries private_steps seen_by logged all_changed changed laid behind world_1 world_2 world_3 world_4
 host_5 = refl
 
 -- ---- piece 6
@@ -192,13 +195,13 @@ unfoldable pub world_6 : World
 world_6 = behind (part 35 12) changes_6 world_5
 
 pub host_6 : (replay set_up.geometry (part 35 12) world_5).host ≡ all_changed changes_6 world_5.host
-unfolding number_at dword qword bits bytes_of_dwords completion everywhere addresses bytes_from gathered image put_image scattered stored in_memory and_then
-    asked first_read in_transcript read_array read_sgl read_entries read_source ranges_in move_units clear_units range_units judge units_moved opening register
-    reg_write doorbell front took post ran_out differs start private_step run_of footprints completion_slots stores_into loads_from_destination admin_command
-    admin hosts_of fit_behind built plan_over physical_entry written held_of device_unit completion_written units_behind members seat put_back acted_in
-    administered_in taken_to listed ended_at_once submitted device_took device_moved device_posted kept_block reaped scattered_to posted_to ran_out_of step
-    replay replies opening_world refusal_of none_failed is_disciplined taken_entries private_steps seen_by logged all_changed changed laid behind world_1
-    world_2 world_3 world_4 world_5
+unfolding number_at dword qword bits bytes_of_dwords completion everywhere addresses bytes_from gathered image put_image scattered stored in_memory
+    and_then asked first_read in_transcript read_array read_sgl read_entries read_source ranges_in move_units clear_units range_units judge units_moved
+    opening register reg_write doorbell front took post ran_out differs start private_step run_of footprints completion_slots stores_into
+    loads_from_destination admin_command admin hosts_of fit_behind built plan_over physical_entry held_of device_unit completion_written share_written
+    with_tags group claimed units_behind rest_at rests_of members seat put_back acted_in administered_in taken_to listed submitted handed_on device_took
+    device_moved device_posted kept_block reaped scattered_to delivered_all posted_to ran_out_of statuses_of step replay replies opening_world refusal_of
+    none_failed is_disciplined taken_entries private_steps seen_by logged all_changed changed laid behind world_1 world_2 world_3 world_4 world_5
 host_6 = refl
 
 -- ---- piece 7
@@ -209,10 +212,10 @@ changes_7 =
     ∷ OwnSame
     ∷ Area 0x54000 []
     ∷ Area 0x55000 []
-    ∷ Area 0x30040 (handed_on 0x02 1 0x55000 (2 ∷ 0 ∷ 0 ∷ []))
+    ∷ Area 0x30040 (entry_for 0x02 1 0x55000 (2 ∷ 0 ∷ 0 ∷ []))
     ∷ Area 0x33000 []
     ∷ Area 0x34000 []
-    ∷ Area 0x30080 (handed_on 0x02 0 0x10a00 (2 ∷ 0 ∷ 0 ∷ []))
+    ∷ Area 0x30080 (entry_for 0x02 0 0x10a00 (2 ∷ 0 ∷ 0 ∷ []))
     ∷ AreaSpread 0x55000 block_bytes
     ∷ Direct 0x0a00 block_bytes
     ∷ Area 0x32010 (completion 0 3 1 1 true ok)
@@ -224,13 +227,13 @@ unfoldable pub world_7 : World
 world_7 = behind (part 47 20) changes_7 world_6
 
 pub host_7 : (replay set_up.geometry (part 47 20) world_6).host ≡ all_changed changes_7 world_6.host
-unfolding number_at dword qword bits bytes_of_dwords completion everywhere addresses bytes_from gathered image put_image scattered stored in_memory and_then
-    asked first_read in_transcript read_array read_sgl read_entries read_source ranges_in move_units clear_units range_units judge units_moved opening register
-    reg_write doorbell front took post ran_out differs start private_step run_of footprints completion_slots stores_into loads_from_destination admin_command
-    admin hosts_of fit_behind built plan_over physical_entry written held_of device_unit completion_written units_behind members seat put_back acted_in
-    administered_in taken_to listed ended_at_once submitted device_took device_moved device_posted kept_block reaped scattered_to posted_to ran_out_of step
-    replay replies opening_world refusal_of none_failed is_disciplined taken_entries private_steps seen_by logged all_changed changed laid behind world_1
-    world_2 world_3 world_4 world_5 world_6
+unfolding number_at dword qword bits bytes_of_dwords completion everywhere addresses bytes_from gathered image put_image scattered stored in_memory
+    and_then asked first_read in_transcript read_array read_sgl read_entries read_source ranges_in move_units clear_units range_units judge units_moved
+    opening register reg_write doorbell front took post ran_out differs start private_step run_of footprints completion_slots stores_into
+    loads_from_destination admin_command admin hosts_of fit_behind built plan_over physical_entry held_of device_unit completion_written share_written
+    with_tags group claimed units_behind rest_at rests_of members seat put_back acted_in administered_in taken_to listed submitted handed_on device_took
+    device_moved device_posted kept_block reaped scattered_to delivered_all posted_to ran_out_of statuses_of step replay replies opening_world refusal_of
+    none_failed is_disciplined taken_entries private_steps seen_by logged all_changed changed laid behind world_1 world_2 world_3 world_4 world_5 world_6
 host_7 = refl
 
 -- ---- piece 8
@@ -244,19 +247,20 @@ changes_8 =
     ∷ OwnSame
     ∷ Area 0x33000 []
     ∷ Area 0x34000 []
-    ∷ Area 0x300c0 (handed_on 0x02 0 0x34000 (2 ∷ 0 ∷ 0 ∷ [])) ∷ []
+    ∷ Area 0x300c0 (entry_for 0x02 0 0x34000 (2 ∷ 0 ∷ 0 ∷ [])) ∷ []
 
 unfoldable pub world_8 : World
 world_8 = behind (part 67 9) changes_8 world_7
 
 pub host_8 : (replay set_up.geometry (part 67 9) world_7).host ≡ all_changed changes_8 world_7.host
-unfolding number_at dword qword bits bytes_of_dwords completion everywhere addresses bytes_from gathered image put_image scattered stored in_memory and_then
-    asked first_read in_transcript read_array read_sgl read_entries read_source ranges_in move_units clear_units range_units judge units_moved opening register
-    reg_write doorbell front took post ran_out differs start private_step run_of footprints completion_slots stores_into loads_from_destination admin_command
-    admin hosts_of fit_behind built plan_over physical_entry written held_of device_unit completion_written units_behind members seat put_back acted_in
-    administered_in taken_to listed ended_at_once submitted device_took device_moved device_posted kept_block reaped scattered_to posted_to ran_out_of step
-    replay replies opening_world refusal_of none_failed is_disciplined taken_entries private_steps seen_by logged all_changed changed laid behind world_1
-    world_2 world_3 world_4 world_5 world_6 world_7
+unfolding number_at dword qword bits bytes_of_dwords completion everywhere addresses bytes_from gathered image put_image scattered stored in_memory
+    and_then asked first_read in_transcript read_array read_sgl read_entries read_source ranges_in move_units clear_units range_units judge units_moved
+    opening register reg_write doorbell front took post ran_out differs start private_step run_of footprints completion_slots stores_into
+    loads_from_destination admin_command admin hosts_of fit_behind built plan_over physical_entry held_of device_unit completion_written share_written
+    with_tags group claimed units_behind rest_at rests_of members seat put_back acted_in administered_in taken_to listed submitted handed_on device_took
+    device_moved device_posted kept_block reaped scattered_to delivered_all posted_to ran_out_of statuses_of step replay replies opening_world refusal_of
+    none_failed is_disciplined taken_entries private_steps seen_by logged all_changed changed laid behind world_1 world_2 world_3 world_4 world_5 world_6
+    world_7
 host_8 = refl
 
 -- ---- piece 9
@@ -269,7 +273,7 @@ changes_9 =
     ∷ AreaSpread 0x34000 block_bytes
     ∷ Area 0x54000 []
     ∷ Area 0x55000 []
-    ∷ Area 0x30100 (handed_on 0x00 1 0 (0 ∷ 0 ∷ 0 ∷ []))
+    ∷ Area 0x30100 (entry_for 0x00 1 0 (0 ∷ 0 ∷ 0 ∷ []))
     ∷ Area 0x32030 (completion 0 5 1 1 true (record { sct = 2; sc = 0x81; dnr = false }))
     ∷ Area 0x32040 (completion 0 5 1 0 true ok)
     ∷ OwnSpread 0x3401 block_bytes
@@ -279,13 +283,14 @@ unfoldable pub world_9 : World
 world_9 = behind (part 76 19) changes_9 world_8
 
 pub host_9 : (replay set_up.geometry (part 76 19) world_8).host ≡ all_changed changes_9 world_8.host
-unfolding number_at dword qword bits bytes_of_dwords completion everywhere addresses bytes_from gathered image put_image scattered stored in_memory and_then
-    asked first_read in_transcript read_array read_sgl read_entries read_source ranges_in move_units clear_units range_units judge units_moved opening register
-    reg_write doorbell front took post ran_out differs start private_step run_of footprints completion_slots stores_into loads_from_destination admin_command
-    admin hosts_of fit_behind built plan_over physical_entry written held_of device_unit completion_written units_behind members seat put_back acted_in
-    administered_in taken_to listed ended_at_once submitted device_took device_moved device_posted kept_block reaped scattered_to posted_to ran_out_of step
-    replay replies opening_world refusal_of none_failed is_disciplined taken_entries private_steps seen_by logged all_changed changed laid behind world_1
-    world_2 world_3 world_4 world_5 world_6 world_7 world_8
+unfolding number_at dword qword bits bytes_of_dwords completion everywhere addresses bytes_from gathered image put_image scattered stored in_memory
+    and_then asked first_read in_transcript read_array read_sgl read_entries read_source ranges_in move_units clear_units range_units judge units_moved
+    opening register reg_write doorbell front took post ran_out differs start private_step run_of footprints completion_slots stores_into
+    loads_from_destination admin_command admin hosts_of fit_behind built plan_over physical_entry held_of device_unit completion_written share_written
+    with_tags group claimed units_behind rest_at rests_of members seat put_back acted_in administered_in taken_to listed submitted handed_on device_took
+    device_moved device_posted kept_block reaped scattered_to delivered_all posted_to ran_out_of statuses_of step replay replies opening_world refusal_of
+    none_failed is_disciplined taken_entries private_steps seen_by logged all_changed changed laid behind world_1 world_2 world_3 world_4 world_5 world_6
+    world_7 world_8
 host_9 = refl
 
 -- ---- piece 10
@@ -302,13 +307,14 @@ unfoldable pub world_10 : World
 world_10 = behind (part 95 5) changes_10 world_9
 
 pub host_10 : (replay set_up.geometry (part 95 5) world_9).host ≡ all_changed changes_10 world_9.host
-unfolding number_at dword qword bits bytes_of_dwords completion everywhere addresses bytes_from gathered image put_image scattered stored in_memory and_then
-    asked first_read in_transcript read_array read_sgl read_entries read_source ranges_in move_units clear_units range_units judge units_moved opening register
-    reg_write doorbell front took post ran_out differs start private_step run_of footprints completion_slots stores_into loads_from_destination admin_command
-    admin hosts_of fit_behind built plan_over physical_entry written held_of device_unit completion_written units_behind members seat put_back acted_in
-    administered_in taken_to listed ended_at_once submitted device_took device_moved device_posted kept_block reaped scattered_to posted_to ran_out_of step
-    replay replies opening_world refusal_of none_failed is_disciplined taken_entries private_steps seen_by logged all_changed changed laid behind world_1
-    world_2 world_3 world_4 world_5 world_6 world_7 world_8 world_9
+unfolding number_at dword qword bits bytes_of_dwords completion everywhere addresses bytes_from gathered image put_image scattered stored in_memory
+    and_then asked first_read in_transcript read_array read_sgl read_entries read_source ranges_in move_units clear_units range_units judge units_moved
+    opening register reg_write doorbell front took post ran_out differs start private_step run_of footprints completion_slots stores_into
+    loads_from_destination admin_command admin hosts_of fit_behind built plan_over physical_entry held_of device_unit completion_written share_written
+    with_tags group claimed units_behind rest_at rests_of members seat put_back acted_in administered_in taken_to listed submitted handed_on device_took
+    device_moved device_posted kept_block reaped scattered_to delivered_all posted_to ran_out_of statuses_of step replay replies opening_world refusal_of
+    none_failed is_disciplined taken_entries private_steps seen_by logged all_changed changed laid behind world_1 world_2 world_3 world_4 world_5 world_6
+    world_7 world_8 world_9
 host_10 = refl
 
 -- ---- piece 11
@@ -322,20 +328,21 @@ changes_11 =
     ∷ OwnSame
     ∷ Area 0x33000 []
     ∷ Area 0x34000 []
-    ∷ Area 0x30140 (handed_on 0x00 0 0 (0 ∷ 0 ∷ 0 ∷ []))
+    ∷ Area 0x30140 (entry_for 0x00 0 0 (0 ∷ 0 ∷ 0 ∷ []))
     ∷ Area 0x32050 (completion 0 6 1 0 true ok) ∷ []
 
 unfoldable pub world_11 : World
 world_11 = behind (part 100 12) changes_11 world_10
 
 pub host_11 : (replay set_up.geometry (part 100 12) world_10).host ≡ all_changed changes_11 world_10.host
-unfolding number_at dword qword bits bytes_of_dwords completion everywhere addresses bytes_from gathered image put_image scattered stored in_memory and_then
-    asked first_read in_transcript read_array read_sgl read_entries read_source ranges_in move_units clear_units range_units judge units_moved opening register
-    reg_write doorbell front took post ran_out differs start private_step run_of footprints completion_slots stores_into loads_from_destination admin_command
-    admin hosts_of fit_behind built plan_over physical_entry written held_of device_unit completion_written units_behind members seat put_back acted_in
-    administered_in taken_to listed ended_at_once submitted device_took device_moved device_posted kept_block reaped scattered_to posted_to ran_out_of step
-    replay replies opening_world refusal_of none_failed is_disciplined taken_entries private_steps seen_by logged all_changed changed laid behind world_1
-    world_2 world_3 world_4 world_5 world_6 world_7 world_8 world_9 world_10
+unfolding number_at dword qword bits bytes_of_dwords completion everywhere addresses bytes_from gathered image put_image scattered stored in_memory
+    and_then asked first_read in_transcript read_array read_sgl read_entries read_source ranges_in move_units clear_units range_units judge units_moved
+    opening register reg_write doorbell front took post ran_out differs start private_step run_of footprints completion_slots stores_into
+    loads_from_destination admin_command admin hosts_of fit_behind built plan_over physical_entry held_of device_unit completion_written share_written
+    with_tags group claimed units_behind rest_at rests_of members seat put_back acted_in administered_in taken_to listed submitted handed_on device_took
+    device_moved device_posted kept_block reaped scattered_to delivered_all posted_to ran_out_of statuses_of step replay replies opening_world refusal_of
+    none_failed is_disciplined taken_entries private_steps seen_by logged all_changed changed laid behind world_1 world_2 world_3 world_4 world_5 world_6
+    world_7 world_8 world_9 world_10
 host_11 = refl
 
 -- ---- piece 12
@@ -350,11 +357,12 @@ unfoldable pub world_12 : World
 world_12 = behind (part 112 7) changes_12 world_11
 
 pub host_12 : (replay set_up.geometry (part 112 7) world_11).host ≡ all_changed changes_12 world_11.host
-unfolding number_at dword qword bits bytes_of_dwords completion everywhere addresses bytes_from gathered image put_image scattered stored in_memory and_then
-    asked first_read in_transcript read_array read_sgl read_entries read_source ranges_in move_units clear_units range_units judge units_moved opening register
-    reg_write doorbell front took post ran_out differs start private_step run_of footprints completion_slots stores_into loads_from_destination admin_command
-    admin hosts_of fit_behind built plan_over physical_entry written held_of device_unit completion_written units_behind members seat put_back acted_in
-    administered_in taken_to listed ended_at_once submitted device_took device_moved device_posted kept_block reaped scattered_to posted_to ran_out_of step
-    replay replies opening_world refusal_of none_failed is_disciplined taken_entries private_steps seen_by logged all_changed changed laid behind world_1
-    world_2 world_3 world_4 world_5 world_6 world_7 world_8 world_9 world_10 world_11
+unfolding number_at dword qword bits bytes_of_dwords completion everywhere addresses bytes_from gathered image put_image scattered stored in_memory
+    and_then asked first_read in_transcript read_array read_sgl read_entries read_source ranges_in move_units clear_units range_units judge units_moved
+    opening register reg_write doorbell front took post ran_out differs start private_step run_of footprints completion_slots stores_into
+    loads_from_destination admin_command admin hosts_of fit_behind built plan_over physical_entry held_of device_unit completion_written share_written
+    with_tags group claimed units_behind rest_at rests_of members seat put_back acted_in administered_in taken_to listed submitted handed_on device_took
+    device_moved device_posted kept_block reaped scattered_to delivered_all posted_to ran_out_of statuses_of step replay replies opening_world refusal_of
+    none_failed is_disciplined taken_entries private_steps seen_by logged all_changed changed laid behind world_1 world_2 world_3 world_4 world_5 world_6
+    world_7 world_8 world_9 world_10 world_11
 host_12 = refl

@@ -16,23 +16,23 @@ use Rattle.nv_world_model.specs.PrivateSteps.{act_of, private_steps}
 use Rattle.nv_world_model.specs.SetUp.{any_two}
 use Rattle.nv_world_model.specs.Step.{replay, step}
 use Rattle.nv_world_model.specs.World.{World}
+use Rattle.nv_examples.specs.Stepping.{behind_run}
 use Rattle.nv_examples.specs.Events.{begins, begins_with_list, ends, loads, moves, rings, stores, up, whole}
 use Rattle.nv_examples.specs.Guests.{by_sgl, first, flush, opened, read, set_up, write}
 use Rattle.nv_examples.specs.Logs.{logged}
-use Rattle.nv_examples.specs.StoryRun.{behind_run}
 use Rattle.nv_world_model.specs.Geometry.{shape_of}
 
 -- ---- the premises and the promise, of the log of these events from the start
 
 abbrev pub none_failed_in : List Event → Bool
-none_failed_in events = none_failed set_up.geometry 0 (logged events opened) opened
+none_failed_in events = none_failed set_up.geometry 0 (logged set_up.geometry events opened) opened
 
 abbrev pub is_disciplined_in : List Event → Bool
-is_disciplined_in events = is_disciplined set_up.geometry 0 first (logged events opened) opened
+is_disciplined_in events = is_disciplined set_up.geometry 0 first (logged set_up.geometry events opened) opened
 
 abbrev pub HasPrivateRun : List Event → Type 0
 HasPrivateRun events =
-    IsPrivateRun set_up.geometry 0 first (logged events opened) opened (replay set_up.geometry events opened)
+    IsPrivateRun set_up.geometry 0 first (logged set_up.geometry events opened) opened (replay set_up.geometry events opened)
 
 -- ---- which clause is kept
 
@@ -106,7 +106,7 @@ code_in (Some t) = code_of t.progress
 abbrev pub refused_before_last : List Event → Option ℕ
 refused_before_last events =
     code_in ((behind_run (run_of (shape_of first)
-    (private_steps set_up.geometry 0 first (logged (take (length events - 1) events) opened) opened) start)).bag 1)
+    (private_steps set_up.geometry 0 first (logged set_up.geometry (take (length events - 1) events) opened) opened) start)).bag 1)
 
 -- ---- commands
 

@@ -1,5 +1,6 @@
 -- The examples' set-up: a small host with two guests, and the commands that they give
 use Rattle.std.specs.Prelude.{ℕ, ◌+◌, ◌*◌, ◌-◌, List, [], ◌∷◌}
+use Rattle.nv_ns.specs.Extents.{Namespace}
 use Rattle.nv_model.specs.Rows.{command, data_block, prps}
 use Rattle.nv_model.specs.RowsRuns.{admin_entry}
 use Rattle.nv_model.specs.declared.act.Act.{Act}
@@ -11,21 +12,21 @@ use Rattle.nv_world_model.specs.World.{World}
 
 -- ---- the set-up
 
--- a guest with four pages of memory from address 0 on, which lie there in the host, and two blocks from this one on
-abbrev pub guest_with : (host base : ℕ) → Guest
-guest_with host base =
+-- a guest with four pages of memory from address 0 on, which lie there in the host, and that namespace
+abbrev pub guest_with : (host : ℕ) → Namespace → Guest
+guest_with host ns =
     record {
       memory_map = record { host_len = 0x873000; regions = record { guest = 0; host = host; len = 0x4000 } ∷ [] };
-      namespace = record { base = base; blocks = 2 } ∷ [];
+      namespace = ns;
       limit = 8;
     }
 
--- the guest that the examples are of, and its neighbour
+-- the guest that the examples are of, and its neighbour: two blocks each
 abbrev pub first : Guest
-first = guest_with 0x10000 2
+first = guest_with 0x10000 (record { base = 2; blocks = 2 } ∷ [])
 
 abbrev pub neighbour : Guest
-neighbour = guest_with 0x20000 4
+neighbour = guest_with 0x20000 (record { base = 4; blocks = 2 } ∷ [])
 
 -- one lane, whose pages begin at 30000h, and a disk of eight blocks
 abbrev pub set_up : SetUp

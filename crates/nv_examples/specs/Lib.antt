@@ -1,8 +1,10 @@
 pub mod Guests
 pub mod Logs
+pub mod Stepping
 pub mod Story
 pub mod StoryRun
 pub mod Events
 pub mod Breaches
 pub mod WrongWorlds
 pub mod SecondStory
+pub mod Edges

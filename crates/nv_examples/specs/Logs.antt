@@ -6,7 +6,7 @@ use Rattle.nv_world_model.specs.declared.event.Event.{Event}
 use Rattle.nv_world_model.specs.declared.logged.Logged.{Logged}
 use Rattle.nv_world_model.specs.Step.{step}
 use Rattle.nv_world_model.specs.World.{World}
-use Rattle.nv_examples.specs.Guests.{set_up}
+use Rattle.nv_world_model.specs.Geometry.{Geometry}
 
 -- an event with its reply
 abbrev pub told : Event → Reply → Logged
@@ -17,7 +17,7 @@ abbrev pub done : Event → Logged
 done e = told e reply.Done
 
 -- these events with their replies, from that world on
-unfoldable pub logged : List Event → World → List Logged
-logged [] w = []
-logged (e ∷ events) w =
-    (record { event = e; reply = (step set_up.geometry e w).reply }) ∷ logged events (step set_up.geometry e w).world
+unfoldable pub logged : Geometry → List Event → World → List Logged
+logged geometry [] w = []
+logged geometry (e ∷ events) w =
+    (record { event = e; reply = (step geometry e w).reply }) ∷ logged geometry events (step geometry e w).world

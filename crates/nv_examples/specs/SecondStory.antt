@@ -12,10 +12,10 @@ use Rattle.nv_world_model.specs.Geometry.{shape_of}
 use Rattle.nv_world_model.specs.PrivateSteps.{private_steps}
 use Rattle.nv_world_model.specs.Step.{replay}
 use Rattle.nv_world_model.specs.World.{World}
+use Rattle.nv_examples.specs.Stepping.{behind_run}
 use Rattle.nv_examples.specs.Events.{ends, loads, moves, rings, stores, up}
 use Rattle.nv_examples.specs.Guests.{by_sgl, first, opened, other, own, set_up}
 use Rattle.nv_examples.specs.Logs.{logged}
-use Rattle.nv_examples.specs.StoryRun.{behind_run}
 
 -- ---- the events
 
@@ -53,10 +53,10 @@ second_story =
 -- ---- its private run
 
 abbrev pub second_log : List Logged
-second_log = logged second_story opened
+second_log = logged set_up.geometry second_story opened
 
 abbrev pub run_of_events : List Event → Option Run
-run_of_events events = run_of (shape_of first) (private_steps set_up.geometry 0 first (logged events opened) opened) start
+run_of_events events = run_of (shape_of first) (private_steps set_up.geometry 0 first (logged set_up.geometry events opened) opened) start
 
 abbrev pub second_run : Option Run
 second_run = run_of_events second_story

@@ -4,7 +4,7 @@ use Rattle.nv_model.specs.Controller.{Controller, opening}
 use Rattle.nv_model.specs.Queue.{new_completion, new_submission}
 use Rattle.nv_model.specs.declared.act.Act.TheVariants as act
 use Rattle.nv_model.specs.Memory.{bytes_from, image, stored}
-use Rattle.nv_model.specs.Private.{ActStep, AdminQueueStep, JudgeStep, KeepStep, MoveStep, PostStep, Private, Run, RunOutStep, Seen, Step, TakeStep, run_of, start}
+use Rattle.nv_model.specs.Private.{ActStep, AdminQueueStep, JudgeStep, KeepStep, MoveStep, PostStep, Private, Run, RunOutStep, Step, TakeStep, run_of, start}
 use Rattle.nv_world_model.specs.Geometry.{regions_of, shape_of}
 use Rattle.nv_world_model.specs.Log.{events_of}
 use Rattle.nv_world_model.specs.PrivateSteps.{private_steps}
@@ -12,6 +12,7 @@ use Rattle.nv_world_model.specs.Step.{replay}
 use Rattle.nv_world_model.specs.declared.logged.Logged.{Logged}
 use Rattle.nv_world_model.specs.World.{World}
 use Rattle.nv_examples.specs.Guests.{create_completion_queue, create_submission_queue, delete_completion_queue, delete_submission_queue, first, flush, opened, read, read_by_prp, set_up, write}
+use Rattle.nv_examples.specs.Stepping.{behind_run}
 use Rattle.nv_examples.specs.Story.{story}
 
 -- ---- the run
@@ -63,17 +64,9 @@ story_steps = steps_of_bring_up ++ steps_of_write ++ steps_of_reads ++ steps_of_
 abbrev pub story_end : World
 story_end = replay set_up.geometry (events_of story) opened
 
--- the run of these steps; what the guest sees along it, and the private controller behind it
+-- the run of these steps, and the private controller behind it
 abbrev pub story_run : Option Run
 story_run = run_of (shape_of first) story_steps start
-
-abbrev pub seen_along : Option Run → List Seen
-seen_along None = []
-seen_along (Some run) = run.seen
-
-abbrev pub behind_run : Option Run → Private
-behind_run None = start
-behind_run (Some run) = run.state
 
 abbrev pub story_private : Private
 story_private = behind_run story_run

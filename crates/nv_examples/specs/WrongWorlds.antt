@@ -1,72 +1,37 @@
 -- Worlds whose step is wrong, and logs by which that is told
-use Rattle.std.specs.Prelude.{◌≡◌, ℕ, ◌+◌, Bool, true, ◌&&◌, ◌==◌, if◌then◌else◌, List, [], ◌∷◌, ◌++◌, slice_get, slice_set, Option, Some, None}
+use Rattle.std.specs.Prelude.{ℕ, ◌+◌, Bool, true, ◌&&◌, ◌==◌, if◌then◌else◌, List, [], ◌∷◌, ◌++◌, slice_get, slice_set, Option, Some, None}
+use Rattle.nv_entry.specs.Status.{StatusField}
 use Rattle.nv_entry.specs.StatusCode.{done_with}
 use Rattle.nv_entry.specs.Submission.{opcode_of}
 use Rattle.nv_entry.specs.declared.status_code.StatusCode.TheVariants.{Success}
 use Rattle.nv_model.specs.Controller.{Controller, is_enabled}
 use Rattle.nv_model.specs.Memory.{stored}
-use Rattle.nv_model.specs.Private.{Run, Step, run_of, start}
 use Rattle.nv_model.specs.Queue.{CompletionQueue}
 use Rattle.nv_model.specs.Rows.{command, data_block, with_fua}
 use Rattle.nv_model.specs.declared.act.Act.TheVariants as act
 use Rattle.nv_model.specs.declared.reply.Reply.TheVariants as reply
-use Rattle.nv_world_model.specs.Agrees.{Agrees}
 use Rattle.nv_world_model.specs.Area.{submission_slot}
 use Rattle.nv_world_model.specs.Device.{DeviceLane}
-use Rattle.nv_world_model.specs.Disciplined.{in_order}
-use Rattle.nv_world_model.specs.Geometry.{shape_of}
-use Rattle.nv_world_model.specs.PrivateSteps.{act_of, seen_by, steps_of}
-use Rattle.nv_world_model.specs.Seat.{owner_of}
-use Rattle.nv_world_model.specs.Step.{After, ended_at_once, for_ended, for_owner, for_taken, ran_out_of, replied, step}
-use Rattle.nv_world_model.specs.World.{World, tag_of, with_controller, with_host}
+use Rattle.nv_world_model.specs.Seat.{Owner, owner_of}
+use Rattle.nv_world_model.specs.Step.{After, ended_at_once, for_ended, for_owner, for_taken, ran_out_of, replied, statuses_of, step}
+use Rattle.nv_world_model.specs.World.{World, group, tag_of, with_controller, with_host}
 use Rattle.nv_world_model.specs.declared.event.Event.{Event}
 use Rattle.nv_world_model.specs.declared.event.Event.TheVariants as event
-use Rattle.nv_world_model.specs.declared.logged.Logged.{Logged}
+use Rattle.nv_examples.specs.Stepping.{Stepping}
 use Rattle.nv_examples.specs.Events.{begins, ends, loads, moves, rings, stores, up, up_with, whole}
-use Rattle.nv_examples.specs.Guests.{first, flush, opened, own, read, set_up}
-
--- ---- the promise, of a world with that step
-
-abbrev pub Stepping : Type 0
-Stepping = Event → World → After
+use Rattle.nv_examples.specs.Guests.{flush, own, read, set_up}
 
 -- the world's own step
 abbrev pub right : Stepping
 right e w = step set_up.geometry e w
-
--- the world behind these events, and their log
-unfoldable pub replay_by : Stepping → List Event → World → World
-replay_by by [] w = w
-replay_by by (e ∷ events) w = replay_by by events (by e w).world
-
-unfoldable pub logged_by : Stepping → List Event → World → List Logged
-logged_by by [] w = []
-logged_by by (e ∷ events) w = (record { event = e; reply = (by e w).reply }) ∷ logged_by by events (by e w).world
-
--- the steps of the first guest's private controller that they stand for, and whether that guest is disciplined along them
-unfoldable pub steps_by : Stepping → List Event → World → List Step
-steps_by by [] w = []
-steps_by by (e ∷ events) w = steps_of 0 first w e (by e w).reply ++ steps_by by events (by e w).world
-
-unfoldable pub disciplined_by : Stepping → List Event → World → Bool
-disciplined_by by [] w = in_order None 0 first w
-disciplined_by by (e ∷ events) w = in_order (act_of 0 e) 0 first w && disciplined_by by events (by e w).world
-
--- the steps of the log of these events are a run of the first guest's private controller, in which the guest sees its acts with the logged
--- replies, and which ends in a state that agrees with the world behind them
-pub record IsFollowed (by : Stepping) (events : List Event) : Type 0 where
-  pub run : Run
-  pub runs : run_of (shape_of first) (steps_by by events opened) start ≡ Some run
-  pub seen : run.seen ≡ seen_by 0 (logged_by by events opened)
-  pub agrees : Agrees 0 first (replay_by by events opened) run.state
 
 -- ---- a Flush without its unit
 
 -- a Submit that answers a Flush at once, with Success
 abbrev pub flush_at_once : Stepping
 flush_at_once (event.Submit lane tag) w =
-    for_taken (tag_of w lane tag) w (λ command reads.
-    if opcode_of command.entry == 0 then replied reply.Done (ended_at_once lane tag command (done_with Success) w)
+    for_taken tag (tag_of w lane tag) w (λ command reads.
+    if opcode_of command.entry == 0 then replied reply.Done (ended_at_once lane (group w lane tag) command (done_with Success) w)
     else right (event.Submit lane tag) w)
 flush_at_once e w = right e w
 
@@ -121,12 +86,19 @@ three_flushes =
 
 -- ---- a Read's bytes are dropped
 
+-- a command all of whose tags have ended runs out, and nothing is delivered
+abbrev pub dropped_by : Option (List StatusField) → (queue lane : ℕ) → (tags : List ℕ) → Owner → World → After
+dropped_by None queue lane tags o w = replied reply.Stale w
+dropped_by (Some sts) queue lane tags o w = replied reply.Done (ran_out_of queue lane tags o w)
+
 -- a Post that delivers nothing where its command runs out
 abbrev pub bytes_dropped : Stepping
 bytes_dropped (event.Post lane tag) w =
-    for_ended (tag_of w lane tag) w (λ command st plan.
+    for_ended tag (tag_of w lane tag) w (λ command.
     for_owner (owner_of set_up.geometry w command.guest) w (λ o.
-    if is_enabled o.controller then right (event.Post lane tag) w else replied reply.Done (ran_out_of command.queue lane tag o w)))
+    (let tags = group w lane tag in
+    if is_enabled o.controller then right (event.Post lane tag) w
+    else dropped_by (statuses_of lane tags w) command.queue lane tags o w)))
 bytes_dropped e w = right e w
 
 -- a bounced Read of zeros to where a 7 stands, which runs out behind a reset; that byte is loaded then

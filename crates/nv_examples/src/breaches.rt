@@ -10,7 +10,9 @@ ghost use Rattle.std.specs.Prelude.{◌≡◌, ◌&&◌, ℕ, List, [], ◌∷�
 ghost use Rattle.nv_model.specs.Footprint.{Named};
 ghost use Rattle.nv_model.specs.declared.act.Act.{Act};
 ghost use Rattle.nv_world_model.specs.Disciplined.{keeps_to};
-ghost use Rattle.nv_examples.specs.Breaches.{HasPrivateRun, byte_named_twice, clauses_kept, destination_in_destination, entry_in_destination, has_no_slot, is_disciplined_in, list_in_destination, load_from_destination, loads_elsewhere, none_failed_in, refused_before_last, shares_none, slot_in_destination, slot_in_list, slot_in_source, source_in_destination, store_into_destination, store_into_list, store_into_source, stores_elsewhere};
+ghost use Rattle.nv_examples.specs.Breaches.{HasPrivateRun, byte_named_twice, clauses_kept, destination_in_destination, entry_in_destination, has_no_slot, is_disciplined_in};
+ghost use Rattle.nv_examples.specs.Breaches.{list_in_destination, load_from_destination, loads_elsewhere, none_failed_in, refused_before_last, shares_none, slot_in_destination};
+ghost use Rattle.nv_examples.specs.Breaches.{slot_in_list, slot_in_source, source_in_destination, store_into_destination, store_into_list, store_into_source, stores_elsewhere};
 
 /// In a state the four clauses together are what the definition asks.
 #[tactic(none)]

@@ -9,14 +9,15 @@ ghost use Rattle.nv_model.specs.Controller.{opening, ran_out};
 ghost use Rattle.nv_model.specs.Memory.{bytes_from, scattered};
 ghost use Rattle.nv_model.specs.Private.{AdminQueueStep, GiveUpStep, JudgeStep, start};
 ghost use Rattle.nv_model.specs.Rows.{command, dword0, flush, prps, with_fua, write_zeroes, zeros};
-ghost use Rattle.nv_model.specs.RowsRuns.{after, all_marks, bring_up, can_run, dword_in, new_completion_queue, new_submission_queue, numbered_blocks, read_register, replied_to, ring, store, with_command, write_register};
-ghost use Rattle.nv_world_model.specs.Area.{entry_of};
+ghost use Rattle.nv_model.specs.RowsRuns.{after, all_marks, bring_up, can_run, dword_in, new_completion_queue, new_submission_queue, numbered_blocks, read_register, replied_to};
+ghost use Rattle.nv_model.specs.RowsRuns.{ring, store, with_command, write_register};
+ghost use Rattle.nv_world_model.specs.ShareArea.{share_entry};
 ghost use Rattle.nv_world_model.specs.Device.{device_unit};
-ghost use Rattle.nv_world_model.specs.Plan.{NoData};
 ghost use Rattle.nv_world_model.specs.PrivateSteps.{steps_done};
-ghost use Rattle.nv_world_model.specs.RowsSmall.{clear_work, small_first};
+ghost use Rattle.nv_world_model.specs.RowsSmall.{small_first};
 ghost use Rattle.nv_world_model.specs.World.{Taken, with_tag};
 ghost use Rattle.nv_world_model.specs.declared.event.Event.TheVariants as event;
+ghost use Rattle.nv_examples.specs.Edges.{both_share};
 ghost use Rattle.nv_examples.specs.Guests.{first, neighbour, opened};
 
 /// Bytes that are given to places, in order.
@@ -57,8 +58,8 @@ pub fn commands()
     // A command that was refused, a Flush of namespace 2, is not judged again.
     ensures a_verdict_is_given { can_run (JudgeStep 0 ∷ []) (with_command zeros numbered_blocks (all_marks false) (command (dword0 flush 0 0) 2 (prps 0 0) 0 0 0)) ≡ true }
     ensures it_is_given_once { can_run (JudgeStep 0 ∷ JudgeStep 0 ∷ []) (with_command zeros numbered_blocks (all_marks false) (command (dword0 flush 0 0) 2 (prps 0 0) 0 0 0)) ≡ false }
-    // A Write Zeroes with FUA has it in CDW12 of its physical entry, beside NLB.
-    ensures fua_of_a_physical_write_zeroes { dword (entry_of (NoData clear_work) small_first (command (dword0 write_zeroes 0 0) 1 (replicate 16 0) 0 0 (with_fua 1)) 0x10000 0 1) 12
+    // A Write Zeroes of two blocks with FUA has it in CDW12 of its physical entry, beside NLB.
+    ensures fua_of_a_physical_write_zeroes { dword (share_entry both_share small_first.namespace small_first (command (dword0 write_zeroes 0 0) 1 (replicate 16 0) 0 0 (with_fua 1)) 0x10000 0 1) 12
         ≡ with_fua 1 }
     // In the device its block is kept with it, and not kept without.
     ensures fua_keeps_what_it_clears { (device_unit 0 8 (record {

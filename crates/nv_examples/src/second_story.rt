@@ -5,10 +5,11 @@ ghost use Rattle.std.specs.Prelude.{◌≡◌, ◌∷◌, [], true, is_some, rep
 ghost use Rattle.nv_model.specs.Private.{AdminQueueStep, JudgeStep, MoveStep, PostStep, TakeStep};
 ghost use Rattle.nv_model.specs.Memory.{bytes_from};
 ghost use Rattle.nv_world_model.specs.PrivateSteps.{private_steps, seen_by};
+ghost use Rattle.nv_examples.specs.Stepping.{seen_along};
 ghost use Rattle.nv_examples.specs.Breaches.{is_disciplined_in, none_failed_in};
 ghost use Rattle.nv_examples.specs.Guests.{first, opened, set_up};
 ghost use Rattle.nv_examples.specs.SecondStory.{besides_acts, block_bytes, private_behind, replies_seen, replies_told, second_log, second_run, second_story, up_to_write, world_behind};
-ghost use Rattle.nv_examples.specs.StoryRun.{memory_in, seen_along};
+ghost use Rattle.nv_examples.specs.StoryRun.{memory_in};
 
 /// The log's premises and its private run, a clause each.
 #[tactic(none)]

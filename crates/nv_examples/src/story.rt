@@ -11,9 +11,10 @@ ghost use Rattle.nv_world_model.specs.Headline.{IsPrivateRun, none_failed};
 ghost use Rattle.nv_world_model.specs.Log.{IsReplay};
 ghost use Rattle.nv_world_model.specs.PrivateSteps.{private_steps, seen_by};
 ghost use Rattle.nv_world_model.specs.SetUp.{refusal_of};
+ghost use Rattle.nv_examples.specs.Stepping.{seen_along};
 ghost use Rattle.nv_examples.specs.Guests.{first, neighbour, opened, set_up};
 ghost use Rattle.nv_examples.specs.Story.{story};
-ghost use Rattle.nv_examples.specs.StoryRun.{block_at_end, bytes_at_end, bytes_at_places, controller_at_end, late_private, late_world, memory_in, seen_along, story_end, story_private, story_run, story_steps};
+ghost use Rattle.nv_examples.specs.StoryRun.{block_at_end, bytes_at_end, bytes_at_places, controller_at_end, late_private, late_world, memory_in, story_end, story_private, story_run, story_steps};
 
 /// The log's premises, a clause each.
 #[tactic(none)]

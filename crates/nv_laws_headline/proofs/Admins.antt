@@ -25,8 +25,8 @@ use Rattle.nv_laws_related.proofs.Acts.{owner-there, owner_with, put-related}
 use Rattle.nv_laws_related.proofs.Beginning.{not-awaited}
 use Rattle.nv_laws_related.proofs.Disciplines.{commands_of, order-is}
 use Rattle.nv_laws_related.proofs.Fronts.{entry-free}
-use Rattle.nv_laws_related.proofs.Others.{dull-goes}
-use Rattle.nv_laws_related.proofs.Tags.{one-goes}
+use Rattle.nv_laws_related.proofs.Goings.{dull-goes}
+use Rattle.nv_laws_related.proofs.Goings.{one-goes}
 use Rattle.nv_laws_related.proofs.Takes.{queues-sorted}
 use Rattle.nv_laws_headline.proofs.Apart.{IsNamed, destination-apart, slots-apart}
 use Rattle.nv_laws_headline.proofs.Effects.{admin_completions, queue_behind}
@@ -48,7 +48,7 @@ module _ (host_bytes : ℕ) (geometry : Geometry) (number : ℕ) (guest : Guest)
   Named = IsNamed number guest w
 
   in_place : QueuesInPlace (mapped (regions_of guest)) p.controller
-  in_place = reached.consistent.queues number guest p.controller given related.controller
+  in_place = reached.consistent.of_tags.queues number guest p.controller given related.controller
 
   sorted : (q : SubmissionQueue) → slice_get p.controller.submission 0 ≡ Some (Some q) → IsInOrder q.size q.head q.tail
   sorted = queues-sorted host_bytes geometry number guest given w reached p related 0
@@ -60,7 +60,7 @@ module _ (host_bytes : ℕ) (geometry : Geometry) (number : ℕ) (guest : Guest)
       (λ i below.
       related.memory (addr + i)
       (front-mapped (mapped (regions_of guest)) p.controller 0 addr in_place found i below)
-      (not-awaited geometry number guest w p related (addr + i)
+      (not-awaited geometry number guest w reached.consistent p related (addr + i)
       (entry-free number guest w p.controller 0 addr found sorted clear (addr + i) (omega arith) (omega (arith, below)))))
 
   -- a byte that a taken command names is beside the slot of the next completion

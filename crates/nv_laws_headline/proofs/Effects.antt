@@ -10,13 +10,18 @@ use Rattle.nv_entry.specs.Status.{StatusField}
 use Rattle.nv_entry.specs.StatusCode.{done_with}
 use Rattle.nv_entry.specs.Submission.{cdw_of, cid_of, fuse_of, opcode_of, prp1_of, psdt_of}
 use Rattle.nv_entry.specs.declared.opcode.AdminOpcode.{AdminOpcode}
-use Rattle.nv_entry.specs.declared.opcode.AdminOpcode.TheVariants.{DeleteIoSubmissionQueue, CreateIoSubmissionQueue, GetLogPage, DeleteIoCompletionQueue, CreateIoCompletionQueue, Identify, Abort, SetFeatures, GetFeatures, AsynchronousEventRequest}
+use Rattle.nv_entry.specs.declared.opcode.AdminOpcode.TheVariants.{DeleteIoSubmissionQueue, CreateIoSubmissionQueue, GetLogPage}
+use Rattle.nv_entry.specs.declared.opcode.AdminOpcode.TheVariants.{DeleteIoCompletionQueue, CreateIoCompletionQueue, Identify, Abort, SetFeatures}
+use Rattle.nv_entry.specs.declared.opcode.AdminOpcode.TheVariants.{GetFeatures, AsynchronousEventRequest}
 use Rattle.nv_entry.specs.declared.status_code.StatusCode.{StatusCode}
 use Rattle.nv_entry.specs.declared.status_code.StatusCode.TheVariants as code
 use Rattle.nv_mem.specs.Places.{Place, places_of}
 use Rattle.nv_model.proofs.Endings.{first_failing-none}
 use Rattle.nv_model.proofs.Together.{queue_of-set-has}
-use Rattle.nv_model.specs.Admin.{AdminEffect, Hidden, Shown, Structure, admin_command, answered, checked, completes_to_checks, completion_id, create_completion, create_submission, delete_completion, delete_found, done_by, done_with_opcode, has_io_queue, identified, identify_by, identify_reading, new_queue_checks, number_of_queues, place_checks, qid, qsize, queues_allocated, selector, set_features, shown, uses}
+use Rattle.nv_model.specs.Admin.{AdminEffect, Hidden, Shown, Structure, admin_command, answered, checked, completes_to_checks, completion_id}
+use Rattle.nv_model.specs.Admin.{create_completion, create_submission, delete_completion, delete_found, done_by, done_with_opcode, has_io_queue}
+use Rattle.nv_model.specs.Admin.{identified, identify_by, identify_reading, new_queue_checks, number_of_queues, place_checks, qid, qsize}
+use Rattle.nv_model.specs.Admin.{queues_allocated, selector, set_features, shown, uses}
 use Rattle.nv_model.specs.Controller.{Controller, completion_queue, queue_of, submission_queue, took, took_of, with_completion, with_submission}
 use Rattle.nv_model.specs.Footprint.{Destination, Named, admin_named, identify_named, is_identify}
 use Rattle.nv_model.specs.Limits.{last_queue, most_requests, most_slots}

@@ -1,126 +1,200 @@
--- A guest's tag becomes free, and what is done with it leaves alone what the guest's other commands name: one stands for the other still.
-use Rattle.std.proofs.Common.{◌≡◌, ℕ, ◌/◌, ◌%◌, ◌<◌, inl, inr, true, false, cond, List, slice_get, Option, Some, None, arith, refl, sym, ap, ◌∙◌, eq-eqb, subst}
+-- All tags of a guest's command become free, and what is done with that leaves alone what the guest's other commands name: one stands for the other still.
+use Rattle.std.proofs.Common.{◌≡◌, ℕ, inl, inr, true, false, List, slice_get, Option, Some, None, refl, sym, ap, ◌∙◌, eqb-true, subst}
 use Rattle.std.proofs.lemmas.Bool.{cases_eq, ne_eqb}
 use Rattle.nv_mem.specs.GuestMap.{guest_of, mapped}
 use Rattle.nv_model.specs.Controller.{Controller}
 use Rattle.nv_model.specs.Memory.{image}
 use Rattle.nv_model.specs.Private.{Private, put}
-use Rattle.nv_world_model.specs.Area.{bounce_page, tag_count}
+use Rattle.nv_world_model.specs.Area.{bounce_page}
 use Rattle.nv_world_model.specs.Device.{Held}
 use Rattle.nv_world_model.specs.Geometry.{Geometry, Guest, regions_of}
-use Rattle.nv_world_model.specs.Seat.{member_in, members, name_of}
-use Rattle.nv_world_model.specs.View.{own_held, own_tag}
-use Rattle.nv_world_model.specs.World.{Free, Tag, World, changed_at, tag_changed, tag_of, with_tag}
-use Rattle.nv_laws_sound.proofs.Lists.{set-same}
-use Rattle.nv_laws_sound.proofs.Retags.{is-at}
-use Rattle.nv_laws_others.proofs.Behind.{IsRetagged, retagged-by}
+use Rattle.nv_world_model.specs.Seat.{member_in, members, name_of, rests_of}
+use Rattle.nv_world_model.specs.View.{is_tag_of, own_held, own_tag}
+use Rattle.nv_world_model.specs.World.{Command, Free, Lane, Tag, World, goes_by, group, leader_of, tag_of, with_tags}
+use Rattle.nv_laws_sound.specs.Groups.{command_of, part_of}
+use Rattle.nv_laws_sound.proofs.CountedActs.{HasLane, lane-of}
+use Rattle.nv_laws_sound.proofs.Groupings.{goes-of}
+use Rattle.nv_laws_sound.proofs.GroupsKept.{HasGroups, freed-groups}
+use Rattle.nv_laws_others.specs.Leaving.{IsShownAt}
 use Rattle.nv_laws_related.specs.Following.{IsReached}
 use Rattle.nv_laws_related.specs.Related.{IsTagRelated, Related, hides}
-use Rattle.nv_laws_related.proofs.Retold.{members-of}
-use Rattle.nv_laws_related.proofs.SeatsRelated.{seated, tags-left}
+use Rattle.nv_laws_related.proofs.Changing.{all-touched, touched, with_tags-away, with_tags-here, with_tags-rest}
+use Rattle.nv_laws_related.proofs.Rests.{goes-part, group-led, led}
+use Rattle.nv_laws_related.proofs.Retold.{IsRetold, told-bag}
+use Rattle.nv_laws_related.proofs.SeatsRelated.{area-left, seated, tags-left}
+use Rattle.nv_laws_related.proofs.Tags.{tag-below}
 use Rattle.nv_laws_related.proofs.Undisturbed.{IsTagUntouched, undisturbed}
-use Rattle.nv_laws_related.proofs.Views.{AreTagsLeft, device_of, member-kept, member-own, own-there, pages-left, status_in, statuses-left, there-short}
+use Rattle.nv_laws_related.proofs.Views.{AreTagsLeft, device_of, members-left, own-there, pages-left, status_in, statuses-left}
+use Rattle.nv_laws_related.proofs.Within.{there-fit}
+use Rattle.nv_laws_headline.proofs.Answering.{led-touched}
 
--- this tag or another
-pub by-tag : (lane tag : ℕ) (P : (a b : ℕ) → Type 0) → P lane tag → ((a b : ℕ) → ((a ≡ lane) → (b ≡ tag) → ⊥) → P a b) → (a b : ℕ) → P a b
-by-tag lane tag P one others a b =
+-- these tags of a lane or others
+pub by-tags : (lane : ℕ) (ns : List ℕ) (P : (a b : ℕ) → Type 0) → ((b : ℕ) → touched ns b ≡ true → P lane b)
+    → ((a b : ℕ) → ((a ≡ lane) → touched ns b ≡ true → ⊥) → P a b) → (a b : ℕ) → P a b
+by-tags lane ns P one others a b =
     elim (cases_eq a lane) [
       | inr away ↦ others a b (λ same also. away same)
-      | inl same ↦ elim (cases_eq b tag) [
-        | inr away ↦ others a b (λ here also. away also)
-        | inl also ↦ subst (λ x. P x b) (sym same) (subst (λ y. P lane y) (sym also) one)
-      ]
+      | inl same ↦ (elim (touched ns b) as (λ c. touched ns b ≡ c → P a b) [
+        | true ↦ λ is. subst (λ x. P x b) (sym same) (one b is)
+        | false ↦ λ is. others a b (λ here also. (let bad : true ≡ false = sym also ∙ is in cc))
+      ]) refl
     ]
 
+-- a tag that goes by one goes by no other
+led-other : (o : Option Tag) (leader other : ℕ) → led leader o ≡ true → (other ≡ leader → ⊥) → led other o ≡ false
+led-other None leader other goes apart = refl
+led-other (Some t) leader other goes apart = by (leader_of t) goes
+  where
+    by : (x : Option ℕ) → goes_by leader x ≡ true → goes_by other x ≡ false
+    by None led_so = cc
+    by (Some n) led_so = ne_eqb n other (λ same. apart (sym same ∙ eqb-true n leader led_so))
+
+led-there : (o : Option Tag) (leader : ℕ) → led leader o ≡ true → (t : Tag) × (o ≡ Some t)
+led-there None leader goes = cc
+led-there (Some t) leader goes = (t, refl)
+
 module _ (host_bytes : ℕ) (geometry : Geometry) (number : ℕ) (guest : Guest) (given : slice_get geometry.guests number ≡ Some guest)
-    (w : World) (reached : IsReached host_bytes geometry w) (p : Private) (related : Related geometry number guest w p) (lane tag : ℕ) (below : tag < tag_count)
-    (t : Tag) (there : tag_of w lane tag ≡ Some t) (host : ℕ → ℕ) (controllers : List Controller)
-    (bytes : (at : ℕ) → guest_of (regions_of guest) at ≡ None → host at ≡ w.host at) where
+    (w : World) (reached : IsReached host_bytes geometry w) (p : Private) (related : Related geometry number guest w p) (lane tag : ℕ)
+    (t : Tag) (command : Command) (there : tag_of w lane tag ≡ Some t) (has : command_of (part_of t) ≡ Some command) (leads : command.leader ≡ tag)
+    (host : ℕ → ℕ) (controllers : List Controller) (bytes : (at : ℕ) → guest_of (regions_of guest) at ≡ None → host at ≡ w.host at) where
+  abbrev ns : List ℕ
+  ns = group w lane tag
+
+  abbrev Away : (a b : ℕ) → Type 0
+  Away a b = (a ≡ lane) → touched ns b ≡ true → ⊥
+
   abbrev y : World
   y = seated w host controllers
 
-  abbrev pub z : World
-  z = with_tag lane tag Free y
+  abbrev lanes : List Lane
+  lanes = (with_tags lane ns Free y).lanes
 
-  changed : IsRetagged lane tag Free y z
-  changed =
-      let a = is-at geometry w lane tag t reached.consistent there in
-      retagged-by y z lane tag a.l (tag_changed tag Free a.l) a.d a.d t Free a.at_lane a.at_device a.at_tag refl
-      (ap (λ o. changed_at o lane (tag_changed tag Free) w.lanes) a.at_lane) (sym (set-same w.device lane a.d a.at_device)) (λ b apart. refl)
+  -- the world behind, and one where nothing but these tags has changed
+  abbrev z : World
+  z = record y { lanes = lanes }
 
-  left : AreTagsLeft number geometry w y
-  left = tags-left host_bytes geometry number guest given w reached.laid reached.consistent host controllers bytes
+  abbrev x : World
+  x = record w { lanes = lanes }
 
-  other-hides : (a b addr : ℕ) → ((a ≡ lane) → (b ≡ tag) → ⊥)
+  -- ---- tags
+
+  pub tags-away : (a b : ℕ) → Away a b → tag_of z a b ≡ tag_of w a b
+  tags-away a b away = with_tags-away lane ns Free y a b away
+
+  goes : (b : ℕ) → touched ns b ≡ true → led tag (tag_of w lane b) ≡ true
+  goes b among = all-touched (λ n. led tag (tag_of w lane n) ≡ true) ns b (group-led w lane tag) among
+
+  tags-free : (b : ℕ) → touched ns b ≡ true → tag_of z lane b ≡ Some Free
+  tags-free b among =
+      let u = led-there (tag_of w lane b) tag (goes b among) in
+      with_tags-here lane ns Free y b u.0 among u.1
+
+  leader-among : touched ns tag ≡ true
+  leader-among = led-touched w lane tag tag (ap (led tag) there ∙ goes-part tag t ∙ goes-of tag (part_of t) command has leads)
+
+  retold : IsRetold geometry number guest lane tag (touched ns) w x
+  retold =
+      record {
+        tags = tags-away;
+        held = (λ a b away. refl);
+        before = (λ b other among apart. led-other (tag_of w lane b) tag other (goes b among) apart);
+        behind = (λ b other among apart. ap (led other) (tags-free b among));
+        bytes = (λ a b u addr away own by. refl);
+        memory = refl;
+        disk = refl;
+        kept = refl;
+      }
+
+  -- ---- what is shown is not of these
+
+  shown-away : (addr : ℕ) (s : IsShownAt number geometry x addr) → Away s.lane s.tag
+  shown-away addr s same among =
+      let free : Some s.t ≡ Some Free = sym s.there ∙ ap (λ n. tag_of z n s.tag) same ∙ tags-free s.tag among in
+      let bad : true ≡ false = sym s.own ∙ ap (is_tag_of number) free in cc
+
+  shown-was : (addr : ℕ) → IsShownAt number geometry x addr → IsShownAt number geometry w addr
+  shown-was addr s =
+      record {
+        lane = s.lane;
+        tag = s.tag;
+        t = s.t;
+        there = sym (tags-away s.lane s.tag (shown-away addr s)) ∙ s.there;
+        own = s.own;
+        bytes = s.bytes;
+      }
+
+  left : AreTagsLeft number geometry x z
+  left =
+      record {
+        tags = (λ a b. refl);
+        held = (λ a b. refl);
+        area = (λ addr s.
+            area-left host_bytes geometry number guest given w reached.laid reached.consistent host controllers bytes addr (shown-was addr s));
+      }
+
+  groups : HasGroups geometry lanes
+  groups =
+      let l : HasLane w lane tag t = lane-of w lane tag t there in
+      freed-groups geometry w lane tag l.l command t reached.consistent.groups l.at l.found has leads y l.at reached.consistent.groups
+
+  freed-bag : (name : ℕ) → put p.bag (name_of lane tag) None name ≡ members geometry z number name
+  freed-bag name =
+      told-bag geometry number guest w x reached.consistent lane tag (touched ns)
+      (tag-below host_bytes geometry number guest given w reached p related lane tag t there) retold p related None p.controller
+      (sym (ap (λ o. member_in o tag number (rests_of geometry x lane tag)) (tags-free tag leader-among))) name
+      ∙ members-left geometry number x z left groups groups name
+
+  -- ---- other tags
+
+  pub was-left : AreTagsLeft number geometry w y
+  was-left = tags-left host_bytes geometry number guest given w reached.laid reached.consistent host controllers bytes
+
+  other-hides : (a b addr : ℕ) → Away a b
       → hides (own_tag number (tag_of w a b)) (own_held number (tag_of w a b) (device_of w a b)) addr
       ≡ hides (own_tag number (tag_of z a b)) (own_held number (tag_of z a b) (device_of z a b)) addr
   other-hides a b addr away =
-      ap (λ o. hides (own_tag number o) (own_held number o (device_of w a b)) addr) (sym (changed.tags a b away))
-      ∙ ap (λ h. hides (own_tag number (tag_of z a b)) (own_held number (tag_of z a b) h) addr) (sym (changed.held a b away))
-
-  other-member : (a b : ℕ) → ((a ≡ lane) → (b ≡ tag) → ⊥)
-      → member_in (tag_of w a b) number (device_of w a b) (status_in geometry w a) ≡ member_in (tag_of z a b) number (device_of z a b) (status_in geometry z a)
-  other-member a b away =
-      member-own (tag_of w a b) number (device_of w a b) (status_in geometry w a)
-      ∙ member-kept (own_tag number (tag_of w a b)) number (own_held number (tag_of w a b) (device_of w a b)) (status_in geometry w a) (status_in geometry z a)
-      (λ t at own stands. statuses-left geometry number w y left a b at t own stands)
-      ∙ sym (member-own (tag_of w a b) number (device_of w a b) (status_in geometry z a))
-      ∙ ap (λ o. member_in o number (device_of w a b) (status_in geometry z a)) (sym (changed.tags a b away))
-      ∙ ap (λ h. member_in (tag_of z a b) number h (status_in geometry z a)) (sym (changed.held a b away))
-
-  freed-bag : (name : ℕ) → put p.bag (name_of lane tag) None name ≡ members geometry z number name
-  unfolding members
-  freed-bag name =
-      elim (cases_eq name (name_of lane tag)) [
-        | inl same ↦
-            ap (λ b. cond b None (p.bag name)) (eq-eqb name (name_of lane tag) same)
-            ∙ sym (members-of geometry z number lane tag below ∙ ap (λ o. member_in o number (device_of z lane tag) (status_in geometry z lane)) changed.here)
-            ∙ sym (ap (λ n. members geometry z number n) same)
-        | inr other ↦
-            ap (λ b. cond b None (p.bag name)) (ne_eqb name (name_of lane tag) other) ∙ related.bag name
-            ∙ other-member (name / tag_count) (name % tag_count) (λ same also. other (omega (arith, same, also)))
-      ]
+      ap (λ o. hides (own_tag number o) (own_held number o (device_of w a b)) addr) (sym (tags-away a b away))
 
   module _ (memory : ℕ → ℕ) (c : Controller)
-      (untouched : (a b : ℕ) → ((a ≡ lane) → (b ≡ tag) → ⊥) → (u : Tag) → own_tag number (tag_of w a b) ≡ Some u → IsTagUntouched u guest w.host host p.memory memory) where
-    other-row : (a b : ℕ) → ((a ≡ lane) → (b ≡ tag) → ⊥) → (o : Option Tag) (held : Option Held) → own_tag number (tag_of w a b) ≡ o
+      (untouched : (a b : ℕ) → Away a b → (u : Tag) → own_tag number (tag_of w a b) ≡ Some u → IsTagUntouched u guest w.host host p.memory memory) where
+    other-row : (a b : ℕ) → Away a b → (o : Option Tag) (held : Option Held) → own_tag number (tag_of w a b) ≡ o
         → IsTagRelated o guest held (status_in geometry w a) (bounce_page geometry.mediator a b) w.host p.memory
         → IsTagRelated o guest held (status_in geometry z a) (bounce_page geometry.mediator a b) host memory
     other-row a b away None held own was = tt
     other-row a b away (Some u) held own was =
-        undisturbed guest (bounce_page geometry.mediator a b) w.host host p.memory memory (pages-left geometry number w y left a b u own)
-        (status_in geometry w a) (status_in geometry z a) u held (λ at stands. statuses-left geometry number w y left a b at u own stands)
-        (there-short geometry w a b u reached.consistent (own-there number (tag_of w a b) u own).0) (untouched a b away u own) was
+        undisturbed guest (bounce_page geometry.mediator a b) w.host host p.memory memory (pages-left geometry number w y was-left a b u own)
+        (status_in geometry w a) (status_in geometry z a) u held (λ at stands. statuses-left geometry number w y was-left a b at u own stands)
+        (there-fit geometry w a b u reached.consistent.of_tags (own-there number (tag_of w a b) u own).0) (untouched a b away u own) was
 
     abbrev TagIs : (a b : ℕ) → Type 0
     TagIs a b =
         IsTagRelated (own_tag number (tag_of z a b)) guest (own_held number (tag_of z a b) (device_of z a b)) (status_in geometry z a)
         (bounce_page geometry.mediator a b) host memory
 
-    other-is : (a b : ℕ) → ((a ≡ lane) → (b ≡ tag) → ⊥) → TagIs a b
+    other-is : (a b : ℕ) → Away a b → TagIs a b
     other-is a b away =
-        subst (λ h. IsTagRelated (own_tag number (tag_of z a b)) guest (own_held number (tag_of z a b) h) (status_in geometry z a) (bounce_page geometry.mediator a b) host memory)
-        (sym (changed.held a b away))
-        (subst (λ o. IsTagRelated (own_tag number o) guest (own_held number o (device_of w a b)) (status_in geometry z a) (bounce_page geometry.mediator a b) host memory)
-        (sym (changed.tags a b away))
-        (other-row a b away (own_tag number (tag_of w a b)) (own_held number (tag_of w a b) (device_of w a b)) refl (related.tags a b)))
+        subst (λ o. IsTagRelated (own_tag number o) guest (own_held number o (device_of w a b)) (status_in geometry z a) (bounce_page geometry.mediator a b) host memory)
+        (sym (tags-away a b away))
+        (other-row a b away (own_tag number (tag_of w a b)) (own_held number (tag_of w a b) (device_of w a b)) refl (related.tags a b))
 
-    free-is : TagIs lane tag
-    free-is =
-        subst (λ o. IsTagRelated (own_tag number o) guest (own_held number o (device_of z lane tag)) (status_in geometry z lane) (bounce_page geometry.mediator lane tag) host memory)
-        (sym changed.here) tt
+    free-is : (b : ℕ) → touched ns b ≡ true → TagIs lane b
+    free-is b among =
+        subst (λ o. IsTagRelated (own_tag number o) guest (own_held number o (device_of z lane b)) (status_in geometry z lane) (bounce_page geometry.mediator lane b) host memory)
+        (sym (tags-free b among)) tt
 
     pub freed-related : slice_get controllers number ≡ Some c
         → ((addr : ℕ) → mapped (regions_of guest) addr ≡ true
-        → ((a b : ℕ) → ((a ≡ lane) → (b ≡ tag) → ⊥) → hides (own_tag number (tag_of w a b)) (own_held number (tag_of w a b) (device_of w a b)) addr ≡ false)
+        → ((a b : ℕ) → Away a b → hides (own_tag number (tag_of w a b)) (own_held number (tag_of w a b) (device_of w a b)) addr ≡ false)
         → memory addr ≡ image (regions_of guest) host addr)
-        → Related geometry number guest z (record p { memory = memory; controller = c; bag = put p.bag (name_of lane tag) None })
+        → Related geometry number guest (with_tags lane ns Free y) (record p { memory = memory; controller = c; bag = put p.bag (name_of lane tag) None })
     freed-related at same =
-        record {
+        subst (λ v. Related geometry number guest v (record p { memory = memory; controller = c; bag = put p.bag (name_of lane tag) None }))
+        (sym (with_tags-rest lane ns Free y))
+        (record {
           controller = at;
           blocks = related.blocks;
           marks = related.marks;
           memory = (λ addr inside none. same addr inside (λ a b away. other-hides a b addr away ∙ none a b));
           bag = freed-bag;
-          tags = by-tag lane tag TagIs free-is other-is;
-        }
+          tags = by-tags lane ns TagIs free-is other-is;
+        })

@@ -1,26 +1,28 @@
--- The private controller of a guest goes along where a unit of the guest's own command is moved.
+-- The private controller of a guest goes along where a unit of the guest's own command is moved, in whichever tag.
 use Rattle.std.proofs.Common.{◌≡◌, ℕ, inl, inr, true, false, ◌==◌, slice_get, Some, arith, refl, sym, ap, ◌∙◌}
 use Rattle.std.specs.List.{list_any}
-use Rattle.nv_model.specs.Judge.{is_read}
+use Rattle.nv_model.specs.Judge.{Work, is_read}
 use Rattle.nv_model.specs.Private.{Private}
 use Rattle.nv_model.specs.declared.reply.Reply.TheVariants as reply
 use Rattle.nv_world_model.specs.declared.event.Event.TheVariants as event
 use Rattle.nv_world_model.specs.Contained.{guest_of_one, owner}
 use Rattle.nv_world_model.specs.Device.{DeviceLane, Held}
 use Rattle.nv_world_model.specs.Geometry.{Geometry, Guest}
-use Rattle.nv_world_model.specs.Seat.{work_of}
 use Rattle.nv_world_model.specs.Step.{device_move, device_moved, replied, step}
 use Rattle.nv_world_model.specs.World.{Flying, InDevice, Lane, Tag, World, tag_in}
 use Rattle.nv_laws_sound.proofs.Lists.{slice_get-below, slice_get-there, some-same}
 use Rattle.nv_laws_sound.proofs.MoveEvents.{held-flies}
+use Rattle.nv_laws_sound.proofs.PlanSizes.{own_work}
 use Rattle.nv_laws_related.specs.Following.{GoesAlong, IsDisciplinedAt, IsReached}
 use Rattle.nv_laws_related.specs.Related.{Related}
-use Rattle.nv_laws_related.proofs.Others.{dull-goes}
+use Rattle.nv_laws_related.proofs.Goings.{dull-goes}
 use Rattle.nv_laws_related.proofs.Ways.{device-way, either-way, held-way}
-use Rattle.nv_laws_headline.proofs.Moves.{bounced-goes, direct-goes, no_read-goes}
-use Rattle.nv_laws_headline.proofs.Whole.{planned-work}
-use Rattle.nv_laws_headline.proofs.WorkPlans.{moves-bytes, plan-kind}
+use Rattle.nv_laws_related.proofs.Within.{planned-own, planned-work}
 use Rattle.nv_laws_units.proofs.Moving.{read-form}
+use Rattle.nv_laws_headline.proofs.MoveOthers.{no_read-goes}
+use Rattle.nv_laws_headline.proofs.MovePlans.{moves-bytes, plan-kind}
+use Rattle.nv_laws_headline.proofs.MoveReads.{bounced-goes, direct-goes}
+use Rattle.nv_laws_headline.proofs.Moves.{IsMove}
 
 module _ (host_bytes : ℕ) (geometry : Geometry) (number : ℕ) (guest : Guest) (given : slice_get geometry.guests number ≡ Some guest)
     (w : World) (reached : IsReached host_bytes geometry w) (p : Private) (related : Related geometry number guest w p) (lane tag unit : ℕ)
@@ -31,24 +33,40 @@ module _ (host_bytes : ℕ) (geometry : Geometry) (number : ℕ) (guest : Guest)
   one-goes : (l : Lane) (d : DeviceLane) (h : Held) (t : Tag) → slice_get w.lanes lane ≡ Some l → slice_get w.device lane ≡ Some d → slice_get l.tags tag ≡ Some t
       → slice_get d.held tag ≡ Some (Some h) → list_any (λ k. k == unit) h.left ≡ true → Goes (device_moved geometry.disk_blocks lane tag unit h w)
   one-goes l d h t at there found held left =
-      let holds = held-flies geometry lane tag w.host l.head d h t ((reached.consistent.lanes lane l d at there).tags tag t (Some h) found held) in
+      let holds = held-flies geometry lane tag w.host l.head d h t ((reached.consistent.of_tags.lanes lane l d at there).tags tag t (Some h) found held) in
       let command = holds.command in
-      let plan = holds.plan in
-      let work = holds.planned.work in
-      let flies : slice_get l.tags tag ≡ Some (Flying command plan InDevice) = found ∙ ap (λ x. Some x) holds.flies in
-      let whose : command.guest ≡ number = some-same command.guest number (sym (ap guest_of_one (ap (λ o. tag_in o tag) at ∙ flies)) ∙ own) in
-      let goes : work_of plan ≡ Some work = planned-work holds.guest command.entry plan holds.planned in
-      (elim (is_read work.opcode) as (λ b. is_read work.opcode ≡ b → Goes (device_moved geometry.disk_blocks lane tag unit h w)) [
-        | false ↦ λ other.
-            no_read-goes host_bytes geometry number guest given w reached p related lane tag unit l d h command plan work at there flies held whose goes left disciplined.before other
+      let share = holds.share in
+      let whole = holds.planned.work in
+      let work : Work = own_work holds.guest command.entry share holds.planned in
+      let flies : slice_get l.tags tag ≡ Some (Flying command share InDevice) = found ∙ ap (λ x. Some x) holds.flies in
+      let m : IsMove host_bytes geometry number guest w p lane tag unit = record {
+        given = given;
+        reached = reached;
+        related = related;
+        l = l;
+        d = d;
+        h = h;
+        command = command;
+        share = share;
+        whole = whole;
+        work = work;
+        at = at;
+        there = there;
+        found = flies;
+        under = held;
+        whose = some-same command.guest number (sym (ap guest_of_one (ap (λ o. tag_in o tag) at ∙ flies)) ∙ own);
+        goes = planned-work holds.guest command.entry share holds.planned;
+        part = planned-own holds.guest command.entry share holds.planned;
+        left = left;
+      } in
+      (elim (is_read whole.opcode) as (λ b. is_read whole.opcode ≡ b → Goes (device_moved geometry.disk_blocks lane tag unit h w)) [
+        | false ↦ λ other. no_read-goes host_bytes geometry number guest w p lane tag unit m disciplined.before other
         | true ↦ λ reads.
-            elim (plan-kind plan work goes) [
-              | inl none ↦ absurd (moves-bytes holds.guest command.entry plan holds.planned work true refl (read-form work.opcode reads) none)
+            elim (plan-kind share.plan work (planned-own holds.guest command.entry share holds.planned)) [
+              | inl none ↦ absurd (moves-bytes holds.guest command.entry share holds.planned work true (read-form whole.opcode reads) none)
               | inr some ↦ elim some [
-                | inl direct ↦
-                    direct-goes host_bytes geometry number guest given w reached p related lane tag unit l d h command plan work at there flies held whose goes left disciplined.before reads direct
-                | inr bounced ↦
-                    bounced-goes host_bytes geometry number guest given w reached p related lane tag unit l d h command plan work at there flies held whose goes left disciplined.before reads bounced
+                | inl direct ↦ direct-goes host_bytes geometry number guest w p lane tag unit m disciplined.before reads direct
+                | inr bounced ↦ bounced-goes host_bytes geometry number guest w p lane tag unit m disciplined.before reads bounced
               ]
             ]
       ]) refl
@@ -63,9 +81,9 @@ module _ (host_bytes : ℕ) (geometry : Geometry) (number : ℕ) (guest : Guest)
       either-way P w dull (list_any (λ k. k == unit) h.left) _ _
       (λ left.
       (let among = slice_get-below w.device lane d there in
-      let sides = reached.consistent.sides in
+      let sides = reached.consistent.of_tags.sides in
       let l = slice_get-there w.lanes lane (omega (arith, among, sides)) in
-      let before = reached.consistent.lanes lane l.0 d l.1 there in
+      let before = reached.consistent.of_tags.lanes lane l.0 d l.1 there in
       let tags = before.positions.tags in
       let sized = before.positions.held in
       let under = slice_get-below d.held tag (Some h) held in

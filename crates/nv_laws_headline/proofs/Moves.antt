@@ -1,143 +1,210 @@
--- The private controller of a guest goes along with a unit of the guest's own command, where its memory behind the unit stands for the world's.
-use Rattle.std.proofs.Common.{◌≡◌, ℕ, ◌+◌, ◌*◌, ◌/◌, ◌%◌, ◌<◌, ◌≤◌, inl, inr, Bool, true, false, cond, not, ◌&&◌, ◌||◌, ◌==◌, List, [], ◌∷◌, All, drop}
-use Rattle.std.proofs.Common.{flat_map, length, set, slice_get, Option, Some, None, arith, refl, sym, ap, ◌∙◌, eq-eqb, subst}
+-- The private controller of a guest goes along with a unit of a share of the guest's own command, where its memory behind the unit stands for the
+-- world's.
+use Rattle.std.proofs.Common.{◌≡◌, ℕ, ◌+◌, ◌/◌, ◌%◌, ◌<◌, inl, inr, Bool, true, false, cond, ◌||◌, ◌==◌, List, [], ◌∷◌, ◌++◌, All, filter, length, map, set}
+use Rattle.std.proofs.Common.{slice_get, Option, Some, None, arith, refl, sym, ap, ◌∙◌, eq-eqb, eqb-true, subst}
 use Rattle.std.specs.List.{list_any}
 use Rattle.std.proofs.lemmas.Bool.{cases_eq}
-use Rattle.std.proofs.lemmas.List.{length-drop, length-take-le}
-use Rattle.nv_mem.proofs.PlaceLists.{length-places_of}
-use Rattle.nv_mem.specs.Places.{At, places_of, total_len}
-use Rattle.nv_model.proofs.RunPieces.{IsRunPiece}
-use Rattle.nv_model.specs.Limits.{block}
-use Rattle.nv_world_model.specs.Disciplined.{clash, in_order, own_entry}
-use Rattle.nv_laws_related.proofs.Disciplines.{any-more, commands_of, never-both, not-so, tags-untouched}
-use Rattle.nv_laws_units.proofs.Imaged.{bounced-source}
-use Rattle.nv_laws_units.proofs.Moving.{read-form, unit-within}
-use Rattle.nv_model.proofs.UnitsElsewhere.{scattered-elsewhere}
-use Rattle.nv_model.proofs.Agreeing.{in_memory-agree}
-use Rattle.nv_model.specs.Dialogue.{asked}
-use Rattle.nv_world_model.specs.SetUp.{any_two}
-use Rattle.nv_laws_related.proofs.Beginning.{entry_awaits}
-use Rattle.nv_model.proofs.AnyAnswers.{end-sound}
-use Rattle.nv_model.proofs.Endings.{and-true}
-use Rattle.nv_laws_units.specs.Places.{NameNoneTwice}
-use Rattle.nv_laws_units.proofs.Once.{destination-once}
-use Rattle.nv_laws_headline.proofs.PageBytes.{gone-left, gone-still, has-page, left-before, once-block, page-has, row-some, unit-counted}
-use Rattle.nv_laws_related.proofs.Agreed.{place-same}
-use Rattle.nv_laws_related.proofs.Apart.{none-clash, pair-never, tags-pair}
-use Rattle.nv_laws_headline.proofs.Destinations.{block-awaits, destination-clear, lists-apart, not-among, reads-never}
-use Rattle.nv_laws_headline.proofs.WorkPlans.{fewer-form, moves-bytes, no_read-hides, plan-kind, still-left}
-use Rattle.nv_laws_sound.proofs.SourceRuns.{source-runs}
-use Rattle.nv_laws_headline.proofs.Sources.{gathered-same, source-page}
-use Rattle.nv_laws_headline.proofs.Whole.{buffer-fewer}
-use Rattle.nv_entry.specs.Status.{StatusField}
 use Rattle.nv_mem.specs.GuestMap.{mapped}
-use Rattle.nv_model.proofs.Bags.{put-elsewhere, put-here, put-same}
+use Rattle.nv_model.proofs.Bags.{put-elsewhere, put-here}
 use Rattle.nv_model.specs.Carried.{at_work, units_moved}
-use Rattle.nv_model.specs.Judge.{Transfer, Work, count_of, form_is_read, form_of, form_transfer_len, is_read, judge}
-use Rattle.nv_model.specs.Memory.{gathered, image}
-use Rattle.nv_model.specs.Private.{AtWork, Moved, Private, Taken as Member, numbers_of, others, places_of_block, put, run_of, verdict_in}
+use Rattle.nv_model.specs.Judge.{Work}
+use Rattle.nv_model.specs.Limits.{most_bytes}
+use Rattle.nv_model.specs.Memory.{image}
+use Rattle.nv_model.specs.Private.{AtWork, MoveStep, Moved, Private, Progress, Taken as Member, numbers_of, others, put, run_of}
 use Rattle.nv_model.specs.declared.reply.Reply.TheVariants as reply
 use Rattle.nv_world_model.specs.declared.event.Event.TheVariants as event
 use Rattle.nv_world_model.specs.Area.{bounce_page, tag_count}
 use Rattle.nv_world_model.specs.Device.{DeviceLane, Held, device_unit, unit_gone, with_held}
 use Rattle.nv_world_model.specs.Geometry.{Geometry, Guest, regions_of, shape_of}
-use Rattle.nv_world_model.specs.Plan.{Bounced, Direct, Plan}
-use Rattle.nv_world_model.specs.PrivateSteps.{others_moves, own_moves, work_in}
-use Rattle.nv_world_model.specs.Seat.{held_by, held_in, member_in, members, name_of, units_behind, with_left, work_of}
+use Rattle.nv_world_model.specs.Share.{Share}
+use Rattle.nv_world_model.specs.Seat.{Rest, held_by, held_in, member_in, members, name_of, numbers_behind, rest, rest_at, rests_of, tag_rest, work_of}
+use Rattle.nv_world_model.specs.Seat.{work_progress}
 use Rattle.nv_world_model.specs.Step.{device_moved, replied}
-use Rattle.nv_world_model.specs.View.{is_tag_of, own_held, own_tag}
-use Rattle.nv_world_model.specs.World.{Command, Ended, Flying, Free, InDevice, Lane, Tag, Taken, World, changed_at, tag_in, tag_of}
+use Rattle.nv_world_model.specs.View.{own_held, own_tag}
+use Rattle.nv_world_model.specs.World.{Command, Flying, InDevice, Lane, Tag, World, changed_at, group, tag_in, tag_of}
 use Rattle.nv_world_model.proofs.Seats.{slice_get-set}
-use Rattle.nv_laws_sound.proofs.Lists.{set-same, slice_get-below, some-same}
+use Rattle.nv_laws_sound.specs.Area.{SameBetween}
+use Rattle.nv_laws_sound.specs.Consistent.{IsPlanned}
+use Rattle.nv_laws_sound.proofs.Lists.{set-same}
 use Rattle.nv_laws_sound.proofs.MoveEvents.{moved-elsewhere, moved-undisturbed}
 use Rattle.nv_laws_others.specs.Leaving.{IsBytes}
+use Rattle.nv_laws_others.proofs.Behind.{IsRetagged, retagged-by}
 use Rattle.nv_laws_others.proofs.Leaving.{bytes-elsewhere}
 use Rattle.nv_laws_others.proofs.Parts.{held-put}
 use Rattle.nv_laws_related.specs.Following.{GoesAlong, IsReached}
-use Rattle.nv_laws_related.specs.Related.{HasBuffer, IsTagRelated, IsUnderWay, NoneHides, Related, form_has_bytes, hides, NoReadDiffers, block_names, is_left, is_place_at, left_where, plan_hides}
-use Rattle.nv_laws_related.proofs.Undisturbed.{IsTagUntouched, IsUntouched, entry_names, spans-agree}
-use Rattle.nv_laws_related.proofs.Views.{block-place, device_of, own-there, status_in}
-use Rattle.nv_laws_units.specs.Units.{IsHeld, SameBlocks, addresses_of_block, own_units, whole_of}
-use Rattle.nv_laws_units.proofs.InWorld.{parts, world-blocks, world-bounced, world-direct_read, world-direct_same, world-direct_source, world-others}
-use Rattle.nv_laws_units.proofs.InWorld.{world-own_elsewhere, world-page_kept, world-page_moved, world-run}
-use Rattle.nv_laws_headline.proofs.Retagged.{hidden-retagged, known-tag, member-known, members-elsewhere, tags-retagged}
+use Rattle.nv_laws_related.specs.Related.{IsTagRelated, NoneHides, Related, hides}
+use Rattle.nv_laws_related.proofs.Rests.{led, member-rests, rests-by}
+use Rattle.nv_laws_related.proofs.Retold.{members-of}
+use Rattle.nv_laws_related.proofs.Tags.{own-as, tag-below}
+use Rattle.nv_laws_related.proofs.Views.{device_of, page-left, rest-kept, status-left, status_in}
+use Rattle.nv_laws_units.specs.Units.{IsHeld, SameBlocks, left_without, own_of, own_units, whole_of}
+use Rattle.nv_laws_units.proofs.Events.{own-steps, run-from}
+use Rattle.nv_laws_units.proofs.InWorld.{parts}
+use Rattle.nv_laws_units.proofs.LeftThere.{numbers-there}
+use Rattle.nv_laws_units.proofs.Progress.{differed-before, in_rests, progress-left}
+use Rattle.nv_laws_headline.proofs.MoveGroups.{HasPart, IsAround, any_differed, around-here, differed-amid, leader-part, map-changed, member-handed}
+use Rattle.nv_laws_headline.proofs.MoveGroups.{numbers, others-left, shares, whole-same}
 
-module _ (host_bytes : ℕ) (geometry : Geometry) (number : ℕ) (guest : Guest) (given : slice_get geometry.guests number ≡ Some guest)
-    (w : World) (reached : IsReached host_bytes geometry w) (p : Private) (related : Related geometry number guest w p)
-    (lane tag unit : ℕ) (l : Lane) (d : DeviceLane) (h : Held) (command : Command) (plan : Plan) (work : Work) (at : slice_get w.lanes lane ≡ Some l)
-    (there : slice_get w.device lane ≡ Some d) (found : slice_get l.tags tag ≡ Some (Flying command plan InDevice))
-    (under : slice_get d.held tag ≡ Some (Some h)) (whose : command.guest ≡ number) (goes : work_of plan ≡ Some work)
-    (left : list_any (λ k. k == unit) h.left ≡ true) where
+-- a unit of a share of the guest's own command that is left in the device
+pub record IsMove (host_bytes : ℕ) (geometry : Geometry) (number : ℕ) (guest : Guest) (w : World) (p : Private) (lane tag unit : ℕ) : Type 0 where
+  pub given : slice_get geometry.guests number ≡ Some guest
+  pub reached : IsReached host_bytes geometry w
+  pub related : Related geometry number guest w p
+  pub l : Lane
+  pub d : DeviceLane
+  pub h : Held
+  pub command : Command
+  pub share : Share
+  pub whole : Work
+  pub work : Work
+  pub at : slice_get w.lanes lane ≡ Some l
+  pub there : slice_get w.device lane ≡ Some d
+  pub found : slice_get l.tags tag ≡ Some (Flying command share InDevice)
+  pub under : slice_get d.held tag ≡ Some (Some h)
+  pub whose : command.guest ≡ number
+  pub goes : work_of share.whole ≡ Some whole
+  pub part : work_of share.plan ≡ Some work
+  pub left : list_any (λ k. k == unit) h.left ≡ true
+
+-- another tag than that one
+abbrev pub IsElsewhere : (lane tag a b : ℕ) → Type 0
+IsElsewhere lane tag a b = (a ≡ lane) → (b ≡ tag) → ⊥
+
+module _ (host_bytes : ℕ) (geometry : Geometry) (number : ℕ) (guest : Guest) (w : World) (p : Private) (lane tag unit : ℕ)
+    (m : IsMove host_bytes geometry number guest w p lane tag unit) where
   abbrev pub was : Tag
-  was = Flying command plan InDevice
+  was = Flying m.command m.share InDevice
+
+  abbrev pub leader : ℕ
+  leader = m.command.leader
 
   abbrev pub name : ℕ
-  name = name_of lane tag
+  name = name_of lane leader
 
   -- the guest's own memory and blocks, before the unit and behind it, and the host's behind it
   abbrev pub own : Moved
-  own = record { memory = p.memory; disk = p.disk; kept = p.kept; differed = h.differed }
+  own = own_of p m.h.differed
 
   abbrev pub own_behind : Moved
-  own_behind = units_moved (own_units work unit) work own
+  own_behind = units_moved (own_units m.whole m.share unit) m.whole own
 
   abbrev pub moved : Moved
-  moved = device_unit unit geometry.disk_blocks h w.host w.disk w.kept
+  moved = device_unit unit geometry.disk_blocks m.h w.host w.disk w.kept
 
   abbrev pub h_behind : Held
-  h_behind = unit_gone unit moved.differed h
+  h_behind = unit_gone unit moved.differed m.h
+
+  abbrev pub bounce : ℕ
+  bounce = bounce_page geometry.mediator lane tag
 
   pub is_there : tag_of w lane tag ≡ Some was
-  is_there = ap (λ o. tag_in o tag) at ∙ found
+  is_there = ap (λ o. tag_in o tag) m.at ∙ m.found
 
-  pub is_under : device_of w lane tag ≡ Some h
-  is_under = ap (λ o. held_in o tag) there ∙ ap held_by under
+  pub is_under : device_of w lane tag ≡ Some m.h
+  is_under = ap (λ o. held_in o tag) m.there ∙ ap held_by m.under
 
-  pub mine : is_tag_of number (Some was) ≡ true
-  mine = eq-eqb command.guest number whose
+  pub mine : (m.command.guest == number) ≡ true
+  mine = eq-eqb m.command.guest number m.whose
 
-  abbrev pub it : IsHeld geometry w number guest lane tag plan work h
-  it = record { command = command; own = whose; given = given; flies = is_there; held = is_under; goes = goes }
+  abbrev pub it : IsHeld geometry w number guest lane tag m.share m.whole m.work m.h
+  it = record { command = m.command; own = m.whose; given = m.given; flies = is_there; held = is_under; goes = m.goes; part = m.part }
 
-  pub same_before : SameBlocks guest.namespace own (whole_of w h.differed)
-  same_before = record { bytes = related.blocks; marks = related.marks; compared = refl }
+  abbrev pub planned : IsPlanned guest m.command.entry m.share
+  planned = (parts host_bytes geometry w m.reached.laid m.reached.consistent number guest lane tag m.share m.whole m.work m.h it).planned
 
-  tag_below : tag < tag_count
-  tag_below =
-      let tags = (reached.consistent.lanes lane l d at there).positions.tags in
-      let among = slice_get-below l.tags tag was found in
-      omega (arith, tags, among)
+  pub whole_is : planned.work ≡ m.whole
+  whole_is = (parts host_bytes geometry w m.reached.laid m.reached.consistent number guest lane tag m.share m.whole m.work m.h it).whole_is
 
-  -- ---- its private command
+  pub same_before : SameBlocks guest.namespace own (whole_of w m.h.differed)
+  same_before = record { bytes = m.related.blocks; marks = m.related.marks; compared = refl }
 
-  -- the command with these of its units left
+  -- ---- its command's tags
+
+  leader-at : HasPart w lane leader m.command (numbers geometry number guest m.given w m.reached.consistent lane tag m.command m.share InDevice is_there m.whose)
+      (shares geometry number guest m.given w m.reached.consistent lane tag m.command m.share InDevice is_there m.whose)
+  leader-at = leader-part geometry number guest m.given w m.reached.consistent lane tag m.command m.share InDevice is_there m.whose
+
+  around-tag : IsAround (group w lane leader) tag
+  around-tag = around-here geometry number guest m.given w m.reached.consistent lane tag m.command m.share InDevice is_there m.whose
+
+  abbrev front_rests : List Rest
+  front_rests = map (rest_at geometry w lane) around-tag.front
+
+  abbrev back_rests : List Rest
+  back_rests = map (rest_at geometry w lane) around-tag.back
+
+  abbrev others_differed : Bool
+  others_differed = any_differed front_rests || any_differed back_rests
+
+  abbrev gone : List ℕ
+  gone = numbers_behind m.share (unit ∷ [])
+
+  -- those rests with one of that tag
+  abbrev rests_with : Rest → List Rest
+  rests_with r = front_rests ++ r ∷ back_rests
+
+  abbrev rest_was : Rest
+  rest_was = rest (numbers_behind m.share m.h.left) m.h.differed
+
+  abbrev rest_now : Rest
+  rest_now = rest (numbers_behind m.share (others unit m.h.left)) moved.differed
+
+  rest-was : rest_at geometry w lane tag ≡ rest_was
+  unfolding rest_at
+  rest-was =
+      ap (λ o. tag_rest o (device_of w lane tag) (status_in geometry w lane)) is_there
+      ∙ ap (λ o. tag_rest (Some was) o (status_in geometry w lane)) is_under
+
+  rests-were : rests_of geometry w lane leader ≡ rests_with rest_was
+  unfolding rests_of
+  rests-were =
+      map-changed (rest_at geometry w lane) (rest_at geometry w lane) (group w lane leader) tag around-tag (λ b apart. refl)
+      ∙ ap rests_with rest-was
+
+  abbrev left_with : Rest → List ℕ
+  left_with r = filter (λ k. in_rests k (rests_with r)) (numbers_of m.whole)
+
   abbrev member : List ℕ → Bool → Member
-  member units differed = record { queue = command.queue; entry = command.entry; progress = AtWork work units differed }
+  member left differed = record { queue = m.command.queue; entry = m.command.entry; progress = AtWork m.whole left differed }
 
-  member-is : (x : Held) (status : ℕ → StatusField) → member_in (Some was) number (Some x) status ≡ Some (member (units_behind work x.left) x.differed)
-  member-is x status =
-      ap (λ b. cond b (Some (with_o (work_of plan))) None) mine ∙ ap (λ o. Some (with_o o)) goes
-    where
-      with_o : Option Work → Member
-      with_o o = record { queue = command.queue; entry = command.entry; progress = with_left o x.left x.differed }
+  leader_below : leader < tag_count
+  leader_below = tag-below host_bytes geometry number guest m.given w m.reached p m.related lane leader leader-at.t leader-at.there
 
-  bag-has : p.bag name ≡ Some (member (units_behind work h.left) h.differed)
+  -- the member with these rests
+  member-with : (rests : List Rest) (r : Rest) → rests ≡ rests_with r
+      → member_in (tag_of w lane leader) leader number rests ≡ Some (member (left_with r) (others_differed || r.differed))
+  member-with rests r is =
+      ap (λ o. member_in o leader number rests) leader-at.there
+      ∙ member-handed leader-at.t leader number m.command leader-at.share rests leader-at.part_is (eq-eqb leader leader refl) mine
+      ∙ ap (λ (progress : Progress). Some (record { queue = m.command.queue; entry = m.command.entry; progress = progress }))
+      (ap (λ plan. work_progress (work_of plan) rests)
+      (whole-same geometry number guest m.given w m.reached.consistent lane tag m.command m.share InDevice is_there m.whose leader leader-at)
+      ∙ ap (λ o. work_progress o rests) m.goes ∙ ap (work_progress (Some m.whole)) is
+      ∙ ap (AtWork m.whole (left_with r)) (differed-amid front_rests back_rests r))
+
+  abbrev t_was : Member
+  t_was = member (left_with rest_was) (others_differed || m.h.differed)
+
+  bag-has : p.bag name ≡ Some t_was
   bag-has =
-      related.bag name
-      ∙ member-known geometry number w lane tag was (Some h) name (omega (arith, tag_below)) (omega (arith, tag_below)) is_there is_under
-      ∙ member-is h (status_in geometry w lane)
+      m.related.bag name ∙ members-of geometry w number lane leader leader_below ∙ member-with (rests_of geometry w lane leader) rest_was rests-were
 
-  abbrev pub behind : Private
-  behind = at_work name (member (units_behind work h.left) h.differed) work (units_behind work (others unit h.left)) own_behind p
+  -- ---- its steps
 
-  start-is : at_work name (member (units_behind work h.left) h.differed) work (units_behind work h.left) own p ≡ p
-  start-is = ap (λ b. record p { bag = b }) (put-same p.bag name (Some (member (units_behind work h.left) h.differed)) bag-has)
+  left-there : All (λ k. list_any (λ n. n == k) (left_with rest_was) ≡ true) gone
+  left-there =
+      subst (λ (x : Work). All (λ k. list_any (λ n. n == k) (filter (λ n. in_rests n (rests_with rest_was)) (numbers_of x)) ≡ true) gone) whole_is
+      (numbers-there guest m.command.entry m.share planned unit m.h.left front_rests back_rests m.h.differed m.left)
 
-  unit-runs : run_of (shape_of guest) (own_moves (Some work) name unit) p ≡ Some (record { state = behind; seen = [] })
+  abbrev behind : Private
+  behind = at_work name t_was m.whole (left_without gone (left_with rest_was)) (record own_behind { differed = others_differed || own_behind.differed }) p
+
+  unit-runs : run_of (shape_of guest) (map (MoveStep name) gone) p ≡ Some (record { state = behind; seen = [] })
   unit-runs =
-      ap (run_of (shape_of guest) (own_moves (Some work) name unit)) (sym start-is)
-      ∙ world-run host_bytes geometry w reached.laid reached.consistent number guest lane tag plan work h it (shape_of guest) name
-      (member (units_behind work h.left) h.differed) p unit own left
+      run-from host_bytes geometry w number guest lane tag m.share m.whole m.work m.h unit (shape_of guest) name t_was p (left_with rest_was)
+      (others_differed || m.h.differed) m.reached.laid m.reached.consistent it bag-has refl left-there
+      ∙ ap (λ x. Some (record { state = at_work name t_was m.whole (left_without gone (left_with rest_was)) x p; seen = [] }))
+      (differed-before (own_units m.whole m.share unit) m.whole own others_differed)
 
   -- ---- the world behind
 
@@ -150,345 +217,188 @@ module _ (host_bytes : ℕ) (geometry : Geometry) (number : ℕ) (guest : Guest)
         device = changed_at (slice_get w.device lane) lane (with_held tag (Some h_behind)) w.device;
       }
 
-  pub z-is : device_moved geometry.disk_blocks lane tag unit h w ≡ z
+  pub z-is : device_moved geometry.disk_blocks lane tag unit m.h w ≡ z
   unfolding device_moved
   z-is = refl
 
-  devices : z.device ≡ set w.device lane (with_held tag (Some h_behind) d)
-  devices = ap (λ o. changed_at o lane (with_held tag (Some h_behind)) w.device) there
+  changed : IsRetagged lane tag was w z
+  changed =
+      retagged-by w z lane tag m.l m.l m.d (with_held tag (Some h_behind) m.d) was was m.at m.there m.found (sym (set-same m.l.tags tag was m.found))
+      (sym (set-same w.lanes lane m.l m.at)) (ap (λ o. changed_at o lane (with_held tag (Some h_behind)) w.device) m.there)
+      (λ b apart. held-put m.d.held tag (Some h_behind) b apart)
 
   -- other tags' bytes in the area are as they were
-  bytes : (a b : ℕ) (t : Tag) (addr : ℕ) → ((a ≡ lane) → (b ≡ tag) → ⊥) → tag_of w a b ≡ Some t → IsBytes geometry.mediator a b t addr → w.host addr ≡ z.host addr
+  pub bytes : (a b : ℕ) (t : Tag) (addr : ℕ) → IsElsewhere lane tag a b → tag_of w a b ≡ Some t → IsBytes geometry.mediator a b t addr
+      → w.host addr ≡ z.host addr
   bytes =
-      let known = parts host_bytes geometry w reached.laid reached.consistent number guest lane tag plan work h it in
-      let owner : slice_get geometry.guests command.guest ≡ Some guest = ap (slice_get geometry.guests) whose ∙ given in
-      bytes-elsewhere geometry w moved.memory lane tag l.head l d (record d { held = set d.held tag (Some h_behind) }) reached.consistent at there
-      (moved-elsewhere host_bytes geometry (length w.lanes) lane tag reached.laid known.lane_below known.tag_below guest command.guest owner command.entry plan known.planned h w.host known.in_device unit w.disk w.kept)
+      let known = parts host_bytes geometry w m.reached.laid m.reached.consistent number guest lane tag m.share m.whole m.work m.h it in
+      let owner : slice_get geometry.guests m.command.guest ≡ Some guest = ap (slice_get geometry.guests) m.whose ∙ m.given in
+      bytes-elsewhere geometry w moved.memory lane tag m.l.head m.l m.d (record m.d { held = set m.d.held tag (Some h_behind) }) m.reached.consistent.of_tags
+      m.at m.there
+      (moved-elsewhere host_bytes geometry (length w.lanes) lane tag m.reached.laid known.lane_below known.tag_below guest m.command.guest owner
+      m.command.entry m.share planned m.h w.host known.in_device unit w.disk w.kept)
       (λ b x apart b_below is.
-      moved-undisturbed host_bytes geometry (length w.lanes) lane tag reached.laid known.lane_below known.tag_below guest command.guest owner command.entry plan known.planned h w.host known.in_device unit
-      w.disk w.kept b l.head d (set d.held tag (Some h_behind)) x apart b_below)
-
-  now_under : slice_get (with_held tag (Some h_behind) d).held tag ≡ Some (Some h_behind)
-  now_under = slice_get-set d.held tag (Some h) (Some h_behind) under
-
-  z_there : tag_of z lane tag ≡ Some was
-  z_there = is_there
+      moved-undisturbed host_bytes geometry (length w.lanes) lane tag m.reached.laid known.lane_below known.tag_below guest m.command.guest owner
+      m.command.entry m.share planned m.h w.host known.in_device unit w.disk w.kept b m.l.head m.d (set m.d.held tag (Some h_behind)) x apart b_below)
 
   z_under : device_of z lane tag ≡ Some h_behind
   z_under =
-      ap (λ ds. held_in (slice_get ds lane) tag) devices ∙ ap (λ o. held_in o tag) (slice_get-set w.device lane d (with_held tag (Some h_behind) d) there)
-      ∙ ap held_by now_under
+      ap (λ o. held_in (slice_get (changed_at o lane (with_held tag (Some h_behind)) w.device) lane) tag) m.there
+      ∙ ap (λ o. held_in o tag) (slice_get-set w.device lane m.d (with_held tag (Some h_behind) m.d) m.there)
+      ∙ ap held_by (slice_get-set m.d.held tag (Some m.h) (Some h_behind) m.under)
 
-  elsewhere-kept : (n : ℕ) → ((n / tag_count ≡ lane) → (n % tag_count ≡ tag) → ⊥) → members geometry w number n ≡ members geometry z number n
-  elsewhere-kept n apart =
-      members-elsewhere geometry number guest w reached.consistent lane tag l l d (with_held tag (Some h_behind) d) was was (Some h) (Some h_behind) at there found under
-      (sym (set-same l.tags tag was found)) mine mine now_under (λ b other. held-put d.held tag (Some h_behind) b other) z (sym (set-same w.lanes lane l at)) devices bytes n apart
+  -- what has come of other tags is the same
+  rest-away : (a b : ℕ) → IsElsewhere lane tag a b → rest_at geometry w a b ≡ rest_at geometry z a b
+  unfolding rest_at
+  rest-away a b apart = by (tag_of w a b) refl
+    where
+      by : (o : Option Tag) → tag_of w a b ≡ o
+          → tag_rest (tag_of w a b) (device_of w a b) (status_in geometry w a) ≡ tag_rest (tag_of w a b) (device_of z a b) (status_in geometry z a)
+      by None here =
+          ap (λ o. tag_rest o (device_of w a b) (status_in geometry w a)) here ∙ sym (ap (λ o. tag_rest o (device_of z a b) (status_in geometry z a)) here)
+      by (Some t) here =
+          ap (λ o. tag_rest o (device_of w a b) (status_in geometry w a)) here
+          ∙ rest-kept t (device_of w a b) (status_in geometry w a) (status_in geometry z a)
+          (λ at stands. status-left geometry w z a b at t (λ addr of_it. bytes a b t addr apart here of_it) stands)
+          ∙ ap (λ o. tag_rest (Some t) o (status_in geometry z a)) (sym (changed.held a b apart))
+          ∙ sym (ap (λ o. tag_rest o (device_of z a b) (status_in geometry z a)) here)
+
+  rest-now : rest_at geometry z lane tag ≡ rest_now
+  unfolding rest_at
+  rest-now =
+      ap (λ o. tag_rest o (device_of z lane tag) (status_in geometry z lane)) is_there
+      ∙ ap (λ o. tag_rest (Some was) o (status_in geometry z lane)) z_under
+
+  rests-are : rests_of geometry z lane leader ≡ rests_with rest_now
+  unfolding rests_of group
+  rests-are =
+      map-changed (rest_at geometry w lane) (rest_at geometry z lane) (group w lane leader) tag around-tag (λ b apart. rest-away lane b (λ _ also. apart also))
+      ∙ ap rests_with rest-now
+
+  -- ---- commands
+
+  -- another command is as it was
+  other-member : (a b : ℕ) → IsElsewhere lane leader a b
+      → member_in (tag_of w a b) b number (rests_of geometry w a b) ≡ member_in (tag_of z a b) b number (rests_of geometry z a b)
+  other-member a b apart =
+      member-rests (tag_of w a b) b number (rests_of geometry w a b) (rests_of geometry z a b)
+      (λ goes own_too.
+      rests-by geometry w z a b (λ c. refl)
+      (λ c goes_by_it. rest-away a c (λ same also. apart same (by_leader a c goes_by_it same also))))
+    where
+      by_leader : (a c : ℕ) → led b (tag_of w a c) ≡ true → a ≡ lane → c ≡ tag → b ≡ leader
+      by_leader a c goes same also =
+          sym (eqb-true leader b (sym (ap (led b) is_there) ∙ subst (λ y. led b (tag_of w lane y) ≡ true) also (subst (λ x. led b (tag_of w x c) ≡ true) same goes)))
 
   bag-behind : own_behind.differed ≡ moved.differed → (n : ℕ) → behind.bag n ≡ members geometry z number n
+  unfolding members
   bag-behind compared n =
       elim (cases_eq n name) [
         | inl same ↦
-            ap (put p.bag name (Some (member (units_behind work (others unit h.left)) own_behind.differed))) same
-            ∙ put-here p.bag name (Some (member (units_behind work (others unit h.left)) own_behind.differed))
-            ∙ ap (λ b. Some (member (units_behind work (others unit h.left)) b)) compared
-            ∙ sym
-            (member-known geometry number z lane tag was (Some h_behind) n (omega (arith, same, tag_below)) (omega (arith, same, tag_below)) z_there z_under
-            ∙ member-is h_behind (status_in geometry z lane))
+            ap (put p.bag name (Some (member (left_without gone (left_with rest_was)) (others_differed || own_behind.differed)))) same
+            ∙ put-here p.bag name (Some (member (left_without gone (left_with rest_was)) (others_differed || own_behind.differed)))
+            ∙ ap (λ left. Some (member left (others_differed || own_behind.differed)))
+            (progress-left guest m.command.entry m.share planned unit m.h.left (numbers_of m.whole) front_rests back_rests m.h.differed moved.differed
+            (others-left geometry number guest m.given w m.reached.consistent lane tag m.command m.share InDevice is_there m.whose planned around-tag))
+            ∙ ap (λ b. Some (member (left_with rest_now) (others_differed || b))) compared
+            ∙ sym (ap (members geometry z number) same ∙ members-of geometry z number lane leader leader_below
+            ∙ member-with (rests_of geometry z lane leader) rest_now rests-are)
         | inr other ↦
-            put-elsewhere p.bag name (Some (member (units_behind work (others unit h.left)) own_behind.differed)) n other
-            ∙ related.bag n ∙ elsewhere-kept n (λ in_lane in_tag. other (omega (arith, in_lane, in_tag)))
+            put-elsewhere p.bag name (Some (member (left_without gone (left_with rest_was)) (others_differed || own_behind.differed))) n other
+            ∙ m.related.bag n ∙ other-member (n / tag_count) (n % tag_count) (λ same also. other (omega (arith, same, also)))
+      ]
+
+  -- ---- hidden bytes
+
+  abbrev Hides : World → (a b addr : ℕ) → Bool
+  Hides x a b addr = hides (own_tag number (tag_of x a b)) (own_held number (tag_of x a b) (device_of x a b)) addr
+
+  hides-as : (x : World) (held : Held) (addr : ℕ) → tag_of x lane tag ≡ Some was → device_of x lane tag ≡ Some held → Hides x lane tag addr ≡ hides (Some was) (Some held) addr
+  hides-as x held addr there_too is =
+      ap (λ o. hides (own_tag number o) (own_held number o (device_of x lane tag)) addr) there_too
+      ∙ ap (λ b. hides (cond b (Some was) None) (cond b (device_of x lane tag) None) addr) mine ∙ ap (λ o. hides (Some was) o addr) is
+
+  by-tag : (P : (a b : ℕ) → Type 0) → P lane tag → ((a b : ℕ) → IsElsewhere lane tag a b → P a b) → (a b : ℕ) → P a b
+  by-tag P here away a b =
+      elim (cases_eq a lane) [
+        | inr apart ↦ away a b (λ same also. apart same)
+        | inl same ↦ elim (cases_eq b tag) [
+          | inr apart ↦ away a b (λ _ also. apart also)
+          | inl also ↦ subst (λ x. P x b) (sym same) (subst (λ y. P lane y) (sym also) here)
+        ]
       ]
 
   -- what is hidden in the world is hidden behind the unit
-  pub hidden-moved : (addr : ℕ) → (hides (Some was) (Some h_behind) addr ≡ false → hides (Some was) (Some h) addr ≡ false) → NoneHides number z addr → NoneHides number w addr
+  pub hidden-moved : (addr : ℕ) → (hides (Some was) (Some h_behind) addr ≡ false → hides (Some was) (Some m.h) addr ≡ false) → NoneHides number z addr
+      → NoneHides number w addr
   hidden-moved addr one none =
-      hidden-retagged geometry number guest w reached.consistent lane tag l l d (with_held tag (Some h_behind) d) was was (Some h) (Some h_behind) at there found under
-      (sym (set-same l.tags tag was found)) mine mine now_under (λ b other. held-put d.held tag (Some h_behind) b other) z (sym (set-same w.lanes lane l at)) devices bytes addr one none
+      by-tag (λ a b. Hides w a b addr ≡ false)
+      (hides-as w m.h addr is_there is_under ∙ one (sym (hides-as z h_behind addr is_there z_under) ∙ none lane tag))
+      (λ a b apart. ap (λ o. hides (own_tag number (tag_of w a b)) (own_held number (tag_of w a b) o) addr) (sym (changed.held a b apart)) ∙ none a b)
 
-  -- what is known of it
-  pub known : IsTagRelated (Some was) guest (Some h) (status_in geometry w lane) (bounce_page geometry.mediator lane tag) w.host p.memory
-  known = known-tag geometry number guest w p lane tag was (Some h) mine is_there is_under related
+  -- and a byte that the share hides behind the unit is hidden there
+  pub share-shown : (addr : ℕ) → NoneHides number z addr → hides (Some was) (Some h_behind) addr ≡ false
+  share-shown addr none = sym (hides-as z h_behind addr is_there z_under) ∙ none lane tag
+
+  -- ---- tags
+
+  -- what is known of a tag in the world before, and in that behind
+  abbrev pub IsTagBefore : (a b : ℕ) → Option Tag → Option Held → Type 0
+  IsTagBefore a b o held = IsTagRelated o guest held (status_in geometry w a) (bounce_page geometry.mediator a b) w.host p.memory
+
+  abbrev pub IsTagBehind : (a b : ℕ) → Option Tag → Option Held → Type 0
+  IsTagBehind a b o held = IsTagRelated o guest held (status_in geometry z a) (bounce_page geometry.mediator a b) z.host own_behind.memory
+
+  pub known : IsTagBefore lane tag (Some was) (Some m.h)
+  known =
+      subst (IsTagBefore lane tag (Some was))
+      (ap (λ o. own_held number o (device_of w lane tag)) is_there ∙ ap (λ b. cond b (device_of w lane tag) None) mine ∙ is_under)
+      (subst (λ o. IsTagBefore lane tag o (own_held number (tag_of w lane tag) (device_of w lane tag)))
+      (ap (own_tag number) is_there ∙ ap (λ b. cond b (Some was) None) mine) (m.related.tags lane tag))
+
+  abbrev pub AreOthersKept : Type 0
+  AreOthersKept = (a b : ℕ) (t : Tag) (held : Option Held) → IsElsewhere lane tag a b → own_tag number (tag_of w a b) ≡ Some t
+      → IsTagBefore a b (Some t) held → IsTagBehind a b (Some t) held
+
+  tags-behind : AreOthersKept → IsTagBehind lane tag (Some was) (Some h_behind) → (a b : ℕ)
+      → IsTagBehind a b (own_tag number (tag_of z a b)) (own_held number (tag_of z a b) (device_of z a b))
+  tags-behind kept one =
+      by-tag (λ a b. IsTagBehind a b (own_tag number (tag_of z a b)) (own_held number (tag_of z a b) (device_of z a b)))
+      (subst (IsTagBehind lane tag (own_tag number (tag_of z lane tag)))
+      (sym (ap (λ o. own_held number o (device_of z lane tag)) is_there ∙ ap (λ b. cond b (device_of z lane tag) None) mine ∙ z_under))
+      (own-as number (tag_of z lane tag) was (λ o. IsTagBehind lane tag o (Some h_behind)) is_there mine one))
+      (λ a b apart.
+      subst (λ o. IsTagBehind a b (own_tag number (tag_of w a b)) (own_held number (tag_of w a b) o)) (sym (changed.held a b apart))
+      (away a b apart (own_tag number (tag_of w a b)) (own_held number (tag_of w a b) (device_of w a b)) refl (m.related.tags a b)))
+    where
+      away : (a b : ℕ) → IsElsewhere lane tag a b → (o : Option Tag) (held : Option Held) → own_tag number (tag_of w a b) ≡ o → IsTagBefore a b o held
+          → IsTagBehind a b o held
+      away a b apart None held own_is was_so = tt
+      away a b apart (Some t) held own_is was_so = kept a b t held apart own_is was_so
+
+  -- another tag's pages, and the status of its completion
+  pub page-away : (a b : ℕ) (t : Tag) → IsElsewhere lane tag a b → tag_of w a b ≡ Some t
+      → SameBetween w.host z.host (bounce_page geometry.mediator a b) (bounce_page geometry.mediator a b + most_bytes)
+  page-away a b t apart here = page-left geometry w z a b t (λ addr of_it. bytes a b t addr apart here of_it)
 
   -- ---- the event
 
-  steps-are : cond (is_tag_of number (tag_of w lane tag)) (own_moves (work_in (tag_of w lane tag)) name unit) (others_moves (work_in (tag_of w lane tag)) guest.namespace)
-      ≡ own_moves (Some work) name unit
-  steps-are =
-      ap (λ o. cond (is_tag_of number o) (own_moves (work_in o) name unit) (others_moves (work_in o) guest.namespace)) is_there
-      ∙ ap (λ b. cond b (own_moves (work_of plan) name unit) (others_moves (work_of plan) guest.namespace)) mine
-      ∙ ap (λ o. own_moves o name unit) goes
-
   pub moved-goes : SameBlocks guest.namespace own_behind moved
       → ((addr : ℕ) → mapped (regions_of guest) addr ≡ true → NoneHides number z addr → own_behind.memory addr ≡ image (regions_of guest) moved.memory addr)
-      → ((a b : ℕ) (t : Tag) → ((a ≡ lane) → (b ≡ tag) → ⊥) → own_tag number (tag_of w a b) ≡ Some t → IsTagUntouched t guest w.host moved.memory p.memory own_behind.memory)
-      → (IsTagRelated (Some was) guest (Some h) (status_in geometry w lane) (bounce_page geometry.mediator lane tag) w.host p.memory
-      → IsTagRelated (Some was) guest (Some h_behind) (status_in geometry z lane) (bounce_page geometry.mediator lane tag) moved.memory own_behind.memory)
-      → GoesAlong geometry number guest (event.DevMove lane tag unit) w p (replied reply.Done (device_moved geometry.disk_blocks lane tag unit h w))
-  moved-goes same memory untouched one =
+      → AreOthersKept → IsTagBehind lane tag (Some was) (Some h_behind)
+      → GoesAlong geometry number guest (event.DevMove lane tag unit) w p (replied reply.Done (device_moved geometry.disk_blocks lane tag unit m.h w))
+  moved-goes same memory others_kept one =
       record {
         run = record { state = behind; seen = [] };
-        runs = ap (λ steps. run_of (shape_of guest) steps p) steps-are ∙ unit-runs;
+        runs = ap (λ steps. run_of (shape_of guest) steps p) (own-steps geometry w number guest lane tag m.share m.whole m.work m.h unit it) ∙ unit-runs;
         seen = refl;
         related = subst (λ x. Related geometry number guest x behind) (sym z-is)
             (record {
-              controller = related.controller;
+              controller = m.related.controller;
               blocks = same.bytes;
               marks = same.marks;
               memory = memory;
               bag = bag-behind same.compared;
-              tags = tags-retagged geometry number guest w reached.consistent lane tag l l d (with_held tag (Some h_behind) d) was was (Some h) (Some h_behind) at there found under
-                  (sym (set-same l.tags tag was found)) mine mine now_under (λ b other. held-put d.held tag (Some h_behind) b other) z (sym (set-same w.lanes lane l at)) devices bytes
-                  p.memory own_behind.memory untouched one related.tags;
+              tags = tags-behind others_kept one;
             });
       }
-
-  -- ---- units that are no Read's
-
-  abbrev bounce : ℕ
-  bounce = bounce_page geometry.mediator lane tag
-
-  own-is : own_entry number (Flying command plan InDevice) ≡ command.entry ∷ []
-  own-is = ap (λ b. cond b (command.entry ∷ []) []) mine
-
-  module _ (ordered : in_order None number guest w ≡ true) (other : is_read work.opcode ≡ false) where
-    hides-none : (addr : ℕ) → hides (own_tag number (tag_of w lane tag)) (own_held number (tag_of w lane tag) (device_of w lane tag)) addr ≡ false
-    hides-none addr =
-        ap (λ o. hides (own_tag number o) (own_held number o (device_of w lane tag)) addr) is_there
-        ∙ ap (λ b. hides (cond b (Some was) None) (cond b (device_of w lane tag) None) addr) mine
-        ∙ ap (λ x. hides (Some was) x addr) is_under
-        ∙ no_read-hides plan work (left_where InDevice (Some h)) addr goes other
-
-    direct-source : plan ≡ Direct work → gathered p.memory (places_of_block work unit) ≡ gathered w.host (addresses_of_block plan guest bounce unit)
-    direct-source direct =
-        gathered-same p.memory (image (regions_of guest) w.host) (places_of_block work unit)
-        (λ i addr place.
-        sym
-        (place-same host_bytes geometry number guest w reached p related ordered lane tag was command.entry is_there own-is hides-none
-        work unit i addr (known.0.steady work goes) place))
-        ∙ world-direct_source host_bytes geometry w reached.laid reached.consistent number guest lane tag plan work h it unit direct
-
-    page-source : plan ≡ Bounced work → form_of work.opcode ≡ Transfer false
-        → gathered p.memory (places_of_block work unit) ≡ gathered w.host (addresses_of_block plan guest bounce unit)
-    page-source bounced form =
-        let its = parts host_bytes geometry w reached.laid reached.consistent number guest lane tag plan work h it in
-        let within : block * unit + block ≤ total_len work.pieces =
-        subst (λ (x : Work). form_of x.opcode ≡ Transfer false → block * unit + block ≤ total_len x.pieces) its.work_is
-        (unit-within host_bytes (length w.lanes) geometry reached.laid number guest given command.entry plan its.planned lane tag its.tag_below h w.host its.in_device unit left false) form in
-        let all = length-places_of work.pieces in
-        let dropped = length-drop (block * unit) (places_of work.pieces) in
-        let sized : length (places_of_block work unit) ≡ block = length-take-le block (drop (block * unit) (places_of work.pieces)) (omega (arith, within, all, dropped)) in
-        let runs = subst (λ (x : Work). is_read x.opcode ≡ false → All IsRunPiece x.pieces) its.work_is
-        (source-runs (mapped (regions_of guest)) guest.limit (shape_of guest).blocks command.entry its.planned.work its.planned.verdict) other in
-        let buffer : HasBuffer (Bounced work) (left_where InDevice (Some h)) bounce w.host p.memory =
-        subst (λ x. HasBuffer x (left_where InDevice (Some h)) bounce w.host p.memory) bounced known.0.buffer in
-        source-page work unit bounce w.host p.memory runs sized (buffer unit (ap (λ f. form_has_bytes f (is_left (Some h) unit)) form ∙ left))
-        ∙ sym (bounced-source guest work plan w.host bounce unit bounced within)
-
-    source : form_of work.opcode ≡ Transfer false → gathered p.memory (places_of_block work unit) ≡ gathered w.host (addresses_of_block plan guest bounce unit)
-    source form =
-        let its = parts host_bytes geometry w reached.laid reached.consistent number guest lane tag plan work h it in
-        elim (plan-kind plan work goes) [
-          | inl none ↦ absurd (moves-bytes guest command.entry plan its.planned work false its.work_is form none)
-          | inr some ↦ elim some [ inl direct ↦ direct-source direct | inr bounced ↦ page-source bounced form ]
-        ]
-
-    pub no_read-goes : GoesAlong geometry number guest (event.DevMove lane tag unit) w p (replied reply.Done (device_moved geometry.disk_blocks lane tag unit h w))
-    no_read-goes =
-        let same = world-blocks host_bytes geometry w reached.laid reached.consistent number guest lane tag plan work h it unit left own same_before source in
-        let both = world-others host_bytes geometry w reached.laid reached.consistent number guest lane tag plan work h it unit left own other in
-        moved-goes same
-        (λ addr inside none.
-        ap (λ m. m addr) both.0 ∙ related.memory addr inside (hidden-moved addr (λ e. no_read-hides plan work (left_where InDevice (Some h)) addr goes other) none)
-        ∙ sym (ap (λ m. image (regions_of guest) m addr) both.1))
-        (λ a b t apart mine_too.
-        tags-untouched number guest w moved.memory p.memory own_behind.memory
-        (λ entry taken x named. (sym (ap (λ m. image (regions_of guest) m x) both.1), sym (ap (λ m. m x) both.0))) a b t mine_too)
-        (λ rel. (
-          subst (λ m. IsUnderWay guest command.entry plan (left_where InDevice (Some h_behind)) bounce m own_behind.memory) (sym both.1)
-              (subst (λ m. IsUnderWay guest command.entry plan (left_where InDevice (Some h_behind)) bounce w.host m) (sym both.0)
-              (record {
-                steady = rel.0.steady;
-                buffer = buffer-fewer plan (left_where InDevice (Some h)) (left_where InDevice (Some h_behind)) bounce w.host p.memory
-                    (λ x index i addr is place has.
-                    fewer-form (form_of x.opcode) (is_left (Some h_behind) index) (is_left (Some h) index)
-                    (ap (λ (y : Work). is_read y.opcode) (sym (some-same work x (sym goes ∙ is))) ∙ other) (still-left unit index h.left) has) rel.0.buffer;
-              })),
-          (λ x is reads.
-              (let bad : true ≡ false = sym reads ∙ ap (λ (y : Work). is_read y.opcode) (sym (some-same work x (sym goes ∙ is))) ∙ other in
-              cc)),
-        ))
-
-  -- ---- units of a Read
-
-  module _ (ordered : in_order None number guest w ≡ true) (reads : is_read work.opcode ≡ true) where
-    abbrev before : ℕ → ℕ
-    before = image (regions_of guest) w.host
-
-    abbrev after : ℕ → ℕ
-    after = image (regions_of guest) moved.memory
-
-    clear : any_two clash (flat_map (λ named. named) (commands_of number guest w p.controller)) ≡ false
-    clear = none-clash number guest w p.controller related.controller ordered
-
-    abbrev IsOut : (addr : ℕ) → Type 0
-    IsOut addr = list_any (is_place_at addr) (places_of_block work unit) ≡ false
-
-    own-elsewhere : (addr : ℕ) → IsOut addr → own_behind.memory addr ≡ p.memory addr
-    own-elsewhere addr out =
-        world-own_elsewhere host_bytes geometry w reached.laid reached.consistent number guest lane tag plan work h it unit left own reads same_before addr
-        (not-among addr (places_of_block work unit) out)
-
-    same-behind : SameBlocks guest.namespace own_behind moved
-    same-behind =
-        world-blocks host_bytes geometry w reached.laid reached.consistent number guest lane tag plan work h it unit left own same_before
-        (λ form. (let bad : true ≡ false = sym reads ∙ ap form_is_read form in cc))
-
-    differs-none : NoReadDiffers plan h.differed → NoReadDiffers plan h_behind.differed
-    differs-none none x is read = sym same-behind.compared ∙ reads-never (own_units work unit) work own reads ∙ none x is read
-
-    -- other commands name no byte of the block
-    other-out : (a b : ℕ) (t : Tag) (entry : List ℕ) → ((a ≡ lane) → (b ≡ tag) → ⊥) → tag_of w a b ≡ Some t → own_entry number t ≡ entry ∷ [] → (addr : ℕ)
-        → entry_names guest w.host addr entry ≡ true → IsOut addr
-    other-out a b t entry apart is one addr named =
-        not-so (list_any (is_place_at addr) (places_of_block work unit))
-        (λ e.
-        pair-never number guest w p.controller addr clear
-        (tags-pair geometry number w reached.consistent (entry_awaits guest w.host addr) (entry_names guest w.host addr) lane tag a b was t is_there is (λ same also. apart (sym same) (sym also))
-        (ap (list_any (entry_awaits guest w.host addr)) own-is
-        ∙ ap (λ b. b || false) (block-awaits number guest w p.controller clear lane tag was command.entry is_there own-is work (known.0.steady work goes) reads addr unit e))
-        (ap (list_any (entry_names guest w.host addr)) one ∙ ap (λ b. b || false) named)))
-
-    untouched : ((addr : ℕ) → IsOut addr → before addr ≡ after addr) → (a b : ℕ) (t : Tag) → ((a ≡ lane) → (b ≡ tag) → ⊥) → own_tag number (tag_of w a b) ≡ Some t
-        → IsTagUntouched t guest w.host moved.memory p.memory own_behind.memory
-    untouched kept a b t apart own =
-        (let is = own-there number (tag_of w a b) t own in by_tag t is.0 is.1)
-      where
-        by_entry : (t : Tag) (entry : List ℕ) → tag_of w a b ≡ Some t → own_entry number t ≡ entry ∷ [] → IsUntouched guest entry w.host moved.memory p.memory own_behind.memory
-        by_entry t entry is one addr named =
-            let out = other-out a b t entry apart is one addr named in
-            (kept addr out, sym (own-elsewhere addr out))
-
-        by_tag : (t : Tag) → tag_of w a b ≡ Some t → is_tag_of number (Some t) ≡ true → IsTagUntouched t guest w.host moved.memory p.memory own_behind.memory
-        by_tag Free is its = tt
-        by_tag (Taken c done) is its = by_entry (Taken c done) c.entry is (ap (λ b. cond b (c.entry ∷ []) []) its)
-        by_tag (Flying c x standing) is its = by_entry (Flying c x standing) c.entry is (ap (λ b. cond b (c.entry ∷ []) []) its)
-        by_tag (Ended c st x) is its = by_entry (Ended c st x) c.entry is (ap (λ b. cond b (c.entry ∷ []) []) its)
-
-    -- ---- in the guest's memory
-
-    direct-kept : plan ≡ Direct work → (addr : ℕ) → IsOut addr → before addr ≡ after addr
-    direct-kept direct addr out =
-        let gives = world-direct_read host_bytes geometry w reached.laid reached.consistent number guest lane tag plan work h it unit left own direct reads same_before in
-        sym
-        (ap (λ m. m addr) gives.in_host
-        ∙ scattered-elsewhere before (places_of_block work unit) gives.bytes addr (not-among addr (places_of_block work unit) out))
-
-    direct-steady : plan ≡ Direct work → verdict_in (shape_of guest) after command.entry ≡ verdict_in (shape_of guest) before command.entry
-    direct-steady direct =
-        let judging = judge (shape_of guest).mapped (shape_of guest).limit (shape_of guest).blocks command.entry in
-        in_memory-agree before after judging
-        (spans-agree before after (asked before judging)
-        (λ addr named.
-        direct-kept direct addr
-        (lists-apart number guest w p.controller clear lane tag was command.entry is_there own-is work (known.0.steady work goes) reads addr unit named)))
-
-    pub direct-goes : plan ≡ Direct work → GoesAlong geometry number guest (event.DevMove lane tag unit) w p (replied reply.Done (device_moved geometry.disk_blocks lane tag unit h w))
-    direct-goes direct =
-        moved-goes same-behind
-        (λ addr inside none.
-        world-direct_same host_bytes geometry w reached.laid reached.consistent number guest lane tag plan work h it unit left own direct reads same_before addr
-        (related.memory addr inside (hidden-moved addr (λ e. ap (λ x. plan_hides x (left_where InDevice (Some h)) addr) direct) none)))
-        (untouched (direct-kept direct))
-        (λ rel. (
-          record {
-            steady = (λ x is. direct-steady direct ∙ rel.0.steady x is);
-            buffer = subst (λ x. HasBuffer x (left_where InDevice (Some h_behind)) bounce moved.memory own_behind.memory) (sym direct) tt;
-          },
-          differs-none rel.1,
-        ))
-
-    -- ---- by way of the bounce pages
-
-    bounced-out : plan ≡ Bounced work → (addr : ℕ) → NoneHides number z addr → IsOut addr
-    bounced-out bounced addr none =
-        not-so (list_any (is_place_at addr) (places_of_block work unit))
-        (λ e.
-        never-both (plan_hides plan (left_where InDevice (Some h_behind)) addr)
-        (ap (λ x. plan_hides x (left_where InDevice (Some h_behind)) addr) bounced
-        ∙ ap (λ b. b && list_any (λ k. not (is_left (Some h_behind) k) && block_names work k addr) (numbers_of work)) reads
-        ∙ row-some (λ k. not (is_left (Some h_behind) k) && block_names work k addr) unit 0 (length work.units) (omega arith) unit_below
-        (ap (λ b. not b && block_names work unit addr) (gone-left unit h.left) ∙ e))
-        (sym (ap (λ o. hides (own_tag number o) (own_held number o (device_of z lane tag)) addr) z_there
-        ∙ ap (λ b. hides (cond b (Some was) None) (cond b (device_of z lane tag) None) addr) mine ∙ ap (λ x. hides (Some was) x addr) z_under) ∙ none lane tag))
-      where
-        unit_below : unit < 0 + length work.units
-        unit_below =
-            let its = parts host_bytes geometry w reached.laid reached.consistent number guest lane tag plan work h it in
-            let form : form_of its.planned.work.opcode ≡ Transfer true = ap (λ (x : Work). form_of x.opcode) its.work_is ∙ read-form work.opcode reads in
-            let within = unit-within host_bytes (length w.lanes) geometry reached.laid number guest given command.entry plan its.planned lane tag its.tag_below h w.host its.in_device unit left true form in
-            let count = unit-counted guest command.entry plan its.planned true form in
-            let sound = end-sound (mapped (regions_of guest)) guest.limit (shape_of guest).blocks command.entry its.planned.work its.planned.verdict in
-            let total : total_len its.planned.work.pieces ≡ block * count_of command.entry = sound.total ∙ ap (λ f. form_transfer_len f command.entry) form in
-            let same : length its.planned.work.units ≡ length work.units = ap (λ (x : Work). length x.units) its.work_is in
-            omega (arith, within, count, total, same)
-
-    bounced-shown : plan ≡ Bounced work → (addr : ℕ) → hides (Some was) (Some h_behind) addr ≡ false → hides (Some was) (Some h) addr ≡ false
-    bounced-shown bounced addr none =
-        not-so (plan_hides plan (left_where InDevice (Some h)) addr)
-        (λ e.
-        (let both = and-true (is_read work.opcode) (list_any (λ k. not (is_left (Some h) k) && block_names work k addr) (numbers_of work))
-        (sym (ap (λ x. plan_hides x (left_where InDevice (Some h)) addr) bounced) ∙ e) in
-        never-both (plan_hides plan (left_where InDevice (Some h_behind)) addr)
-        (ap (λ x. plan_hides x (left_where InDevice (Some h_behind)) addr) bounced
-        ∙ ap (λ b. b && list_any (λ k. not (is_left (Some h_behind) k) && block_names work k addr) (numbers_of work)) both.0
-        ∙ any-more (λ k. not (is_left (Some h) k) && block_names work k addr) (λ k. not (is_left (Some h_behind) k) && block_names work k addr) (numbers_of work)
-        (λ k one. (let parts_of = and-true (not (is_left (Some h) k)) (block_names work k addr) one in
-        ap (λ b. b && block_names work k addr) (gone-still unit k h.left parts_of.0) ∙ parts_of.1)) both.1) none))
-
-    bounced-page : plan ≡ Bounced work → HasBuffer (Bounced work) (left_where InDevice (Some h)) bounce w.host p.memory
-        → HasBuffer (Bounced work) (left_where InDevice (Some h_behind)) bounce moved.memory own_behind.memory
-    bounced-page bounced was_there index has i addr place =
-        elim (cases_eq index unit) [
-          | inl same ↦
-              subst (λ n. (i2 addr2 : ℕ) → slice_get (places_of_block work n) i2 ≡ Some (At addr2) → moved.memory (bounce + block * n + i2) ≡ own_behind.memory addr2) (sym same)
-              (has-page moved.memory own_behind.memory (bounce + block * unit) block (places_of_block work unit)
-              (world-page_moved host_bytes geometry w reached.laid reached.consistent number guest lane tag plan work h it unit left own bounced reads same_before
-              (once-block (places_of work.pieces) unit once))) i addr place
-          | inr apart ↦
-              has-page moved.memory own_behind.memory (bounce + block * index) block (places_of_block work index)
-              (world-page_kept host_bytes geometry w reached.laid reached.consistent number guest lane tag plan work h it unit left own index bounced reads same_before once apart
-              (page-has w.host p.memory (bounce + block * index) block (places_of_block work index) sized
-              (was_there index (ap (λ f. form_has_bytes f (is_left (Some h) index)) (read-form work.opcode reads)
-              ∙ left-before unit index h.left apart (sym (ap (λ f. form_has_bytes f (is_left (Some h_behind) index)) (read-form work.opcode reads)) ∙ has))))) i addr place
-        ]
-      where
-        once : NameNoneTwice (places_of work.pieces)
-        once = destination-once work.pieces (destination-clear number guest w p.controller clear lane tag was command.entry is_there own-is work (known.0.steady work goes) reads)
-
-        sized : length (places_of_block work index) ≡ block
-        sized =
-            let its = parts host_bytes geometry w reached.laid reached.consistent number guest lane tag plan work h it in
-            let form : form_of its.planned.work.opcode ≡ Transfer true = ap (λ (x : Work). form_of x.opcode) its.work_is ∙ read-form work.opcode reads in
-            let sound = end-sound (mapped (regions_of guest)) guest.limit (shape_of guest).blocks command.entry its.planned.work its.planned.verdict in
-            let total : total_len its.planned.work.pieces ≡ block * count_of command.entry = sound.total ∙ ap (λ f. form_transfer_len f command.entry) form in
-            let same : total_len its.planned.work.pieces ≡ total_len work.pieces = ap (λ (x : Work). total_len x.pieces) its.work_is in
-            let inside = block-place work index i (At addr) place in
-            let all = length-places_of work.pieces in
-            let dropped = length-drop (block * index) (places_of work.pieces) in
-            length-take-le block (drop (block * index) (places_of work.pieces)) (omega (arith, total, same, inside, all, dropped))
-
-    pub bounced-goes : plan ≡ Bounced work → GoesAlong geometry number guest (event.DevMove lane tag unit) w p (replied reply.Done (device_moved geometry.disk_blocks lane tag unit h w))
-    bounced-goes bounced =
-        let kept = world-bounced host_bytes geometry w reached.laid reached.consistent number guest lane tag plan work h it unit bounced in
-        moved-goes same-behind
-        (λ addr inside none.
-        own-elsewhere addr (bounced-out bounced addr none) ∙ related.memory addr inside (hidden-moved addr (bounced-shown bounced addr) none) ∙ sym (ap (λ m. m addr) kept))
-        (untouched (λ addr out. sym (ap (λ m. m addr) kept)))
-        (λ rel. (
-          record {
-            steady = (λ x is. ap (λ m. verdict_in (shape_of guest) m command.entry) kept ∙ rel.0.steady x is);
-            buffer = subst (λ x. HasBuffer x (left_where InDevice (Some h_behind)) bounce moved.memory own_behind.memory) (sym bounced)
-                (bounced-page bounced (subst (λ x. HasBuffer x (left_where InDevice (Some h)) bounce w.host p.memory) bounced rel.0.buffer));
-          },
-          differs-none rel.1,
-        ))

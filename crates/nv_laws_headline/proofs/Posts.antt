@@ -1,12 +1,14 @@
 -- The private controller of a guest goes along where the device answers the guest's command: no step is made.
-use Rattle.std.proofs.Common.{◌≡◌, ℕ, ◌+◌, ◌<◌, ◌≤◌, ◌⊎◌, inl, inr, Bool, true, ◌==◌, List, [], ◌∷◌, length, set, slice_get, Some, None, arith, refl, sym, ap, ◌∙◌, eq-eqb, subst}
+use Rattle.std.proofs.Common.{◌≡◌, ℕ, ◌+◌, ◌<◌, ◌≤◌, ◌⊎◌, inl, inr, Bool, true, ◌==◌, List, [], ◌∷◌, length}
+use Rattle.std.proofs.Common.{set, slice_get, Option, Some, None, arith, refl, sym, ap, ◌∙◌, eq-eqb, subst}
 use Rattle.std.proofs.lemmas.Bool.{cases_lt}
-use Rattle.std.specs.List.{list_any}
+use Rattle.std.specs.List.{filter_map, list_any}
 use Rattle.nv_entry.proofs.CompletionLemmas.{length-completion}
 use Rattle.nv_entry.specs.Completion.{completion, status_of}
 use Rattle.nv_mem.proofs.Images.{guest_of-host}
 use Rattle.nv_mem.specs.GuestMap.{guest_of}
 use Rattle.nv_model.proofs.MemoryLemmas.{bytes_from-stored, stored-outside}
+use Rattle.nv_model.specs.Judge.{Work}
 use Rattle.nv_model.specs.Limits.{most_bytes}
 use Rattle.nv_model.specs.Memory.{bytes_from, image, stored}
 use Rattle.nv_model.specs.Private.{Private, moved_status}
@@ -18,9 +20,9 @@ use Rattle.nv_world_model.specs.Contained.{guest_of_one, owner, tag_stands}
 use Rattle.nv_world_model.specs.Device.{DeviceLane, Held, completion_posted, completion_written, held_status, next_phase}
 use Rattle.nv_world_model.specs.Geometry.{Geometry, Guest, regions_of}
 use Rattle.nv_world_model.specs.Plan.{Plan}
-use Rattle.nv_world_model.specs.Seat.{member_of, tells_difference, with_left, work_of}
+use Rattle.nv_world_model.specs.Share.{Share}
+use Rattle.nv_world_model.specs.Seat.{held_by, held_in, numbers_behind, numbers_by, rest, tells_difference, work_of}
 use Rattle.nv_world_model.specs.Step.{device_post, device_posted, replied, step}
-use Rattle.nv_world_model.specs.View.{is_tag_of}
 use Rattle.nv_world_model.specs.World.{Answered, Flying, InDevice, Lane, Tag, World, tag_changed, tag_in, tag_of}
 use Rattle.nv_world_model.proofs.Seats.{slice_get-set}
 use Rattle.nv_laws_sound.specs.Consistent.{IsPlanned, waits_for_mediator}
@@ -29,13 +31,15 @@ use Rattle.nv_laws_sound.proofs.Lists.{count-fewer, slice_get-below, slice_get-t
 use Rattle.nv_laws_sound.proofs.MoveEvents.{held-flies}
 use Rattle.nv_laws_sound.proofs.Retags.{stands-is}
 use Rattle.nv_laws_sound.proofs.Rings.{far}
+use Rattle.nv_laws_others.proofs.Behind.{retagged-by}
 use Rattle.nv_laws_others.proofs.Leaving.{bytes-elsewhere}
 use Rattle.nv_laws_others.proofs.Parts.{held-put}
 use Rattle.nv_laws_related.specs.Following.{GoesAlong, IsReached}
 use Rattle.nv_laws_related.specs.Related.{IsMovedStatus, IsUnderWay, NoReadDiffers, Related, plan_hides}
-use Rattle.nv_laws_related.proofs.Statuses.{moved-back, moved-tells}
-use Rattle.nv_laws_related.proofs.Others.{dull-goes, none-goes}
-use Rattle.nv_laws_related.proofs.Views.{planned-short, status_in, under_way-kept}
+use Rattle.nv_laws_related.proofs.Statuses.{moved-back, moved-tells, units_behind-none}
+use Rattle.nv_laws_related.proofs.Goings.{dull-goes, none-goes}
+use Rattle.nv_laws_related.proofs.Views.{status_in, under_way-kept}
+use Rattle.nv_laws_related.proofs.Within.{planned-fit}
 use Rattle.nv_laws_related.proofs.Ways.{device-way, held-way}
 use Rattle.nv_laws_units.proofs.Lies.{image-same}
 use Rattle.nv_laws_headline.proofs.Retagged.{retagged}
@@ -46,6 +50,14 @@ is-moved plan differed none =
       status = ap moved_status (sym (moved-tells differed));
       no_read = (λ work is read. moved-tells differed ∙ none work is read);
     }
+
+-- where none of the device's units is left, none of the share's is
+none-by : (o : Option Work) (numbers : List ℕ) → numbers_by o numbers [] ≡ []
+none-by None numbers = refl
+none-by (Some work) numbers = ap (filter_map (slice_get numbers)) (units_behind-none work)
+
+pub none-behind : (share : Share) → numbers_behind share [] ≡ []
+none-behind share = none-by (work_of share.plan) share.numbers
 
 module _ (host_bytes : ℕ) (geometry : Geometry) (number : ℕ) (guest : Guest) (given : slice_get geometry.guests number ≡ Some guest)
     (w : World) (reached : IsReached host_bytes geometry w) (p : Private) (related : Related geometry number guest w p) where
@@ -81,19 +93,19 @@ module _ (host_bytes : ℕ) (geometry : Geometry) (number : ℕ) (guest : Guest)
       → Related geometry number guest (device_posted geometry.mediator lane tag (held_status h) d w) p
   unfolding device_posted completion_written
   posted-related lane tag l d h t at there found held none own =
-      let before = reached.consistent.lanes lane l d at there in
+      let before = reached.consistent.of_tags.lanes lane l d at there in
       let lane_below = slice_get-below w.lanes lane l at in
       let holds = held-flies geometry lane tag w.host l.head d h t (before.tags tag t (Some h) found held) in
       let command = holds.command in
-      let plan = holds.plan in
-      let was = Flying command plan InDevice in
-      let new = Flying command plan (Answered d.posted) in
+      let share = holds.share in
+      let was = Flying command share InDevice in
+      let new = Flying command share (Answered d.posted) in
       let flies : slice_get l.tags tag ≡ Some was = found ∙ ap (λ x. Some x) holds.flies in
       let here : tag_of w lane tag ≡ Some was = ap (λ o. tag_in o tag) at ∙ flies in
       let whose : command.guest ≡ number = some-same command.guest number (sym (ap guest_of_one here) ∙ own) in
       let same_guest : holds.guest ≡ guest = some-same holds.guest guest (sym holds.is.given ∙ ap (slice_get geometry.guests) whose ∙ given) in
-      let mine : is_tag_of number (Some was) ≡ true = eq-eqb command.guest number whose in
-      let planned : IsPlanned guest command.entry plan = subst (λ g. IsPlanned g command.entry plan) same_guest holds.planned in
+      let mine : (command.guest == number) ≡ true = eq-eqb command.guest number whose in
+      let planned : IsPlanned guest command.entry share = subst (λ g. IsPlanned g command.entry share) same_guest holds.planned in
       let tags = before.positions.tags in
       let among = slice_get-below l.tags tag was flies in
       let waiting = count-fewer (tag_stands waits_for_mediator) l.tags tag was flies refl in
@@ -110,26 +122,26 @@ module _ (host_bytes : ℕ) (geometry : Geometry) (number : ℕ) (guest : Guest)
       let read : status_in geometry z lane d.posted ≡ moved_status h.differed =
       ap status_of shown ∙ moved-back 0 d.head (queue_pair lane) tag d.phase h.differed (omega (arith, among, tags)) in
       let same = completion-image lane d.posted bytes sized lane_below posted_below in
-      subst (λ x. Related geometry number guest x p) (sym (stands-is w lane tag l d command plan InDevice (Answered d.posted) memory (completion_posted tag) at there flies))
-      (retagged geometry number guest w reached.consistent lane tag l (tag_changed tag new l) d (completion_posted tag d) was new (Some h) None at there flies held refl mine mine
-      (slice_get-set d.held tag (Some h) None held) (λ b apart. held-put d.held tag None b apart) z refl refl
-      (bytes-elsewhere geometry w memory lane tag l.head l d (completion_posted tag d) reached.consistent at there
+      subst (λ x. Related geometry number guest x p) (sym (stands-is w lane tag l d command share InDevice (Answered d.posted) memory (completion_posted tag) at there flies))
+      (retagged host_bytes geometry number guest given w reached lane tag command share InDevice (Answered d.posted) here mine (Some h) None z
+      (retagged-by w z lane tag l (tag_changed tag new l) d (completion_posted tag d) was new at there flies refl refl refl (λ b apart. held-put d.held tag None b apart))
+      (ap (λ o. held_in o tag) there ∙ ap held_by held)
+      (ap (λ o. held_in o tag) (slice_get-set w.device lane d (completion_posted tag d) there) ∙ ap held_by (slice_get-set d.held tag (Some h) None held))
+      (bytes-elsewhere geometry w memory lane tag l.head l d (completion_posted tag d) reached.consistent.of_tags at there
       (written-elsewhere geometry (length w.lanes) lane w.host d bytes sized lane_below posted_below)
       (λ b x apart b_below is.
       answer-undisturbed geometry (length w.lanes) lane w.host d bytes sized lane_below posted_below b l.head (set d.held tag None) (next_phase d.posted d.phase) x
       b_below before.positions.read before.positions.head before.positions.tail room))
-      p related refl refl refl same
-      (ap (λ ns. member_of number command (with_left (work_of plan) ns h.differed)) none
-      ∙ sym
-      (ap (λ s. member_of number command (with_left (work_of plan) [] (tells_difference s))) read
-      ∙ ap (λ b. member_of number command (with_left (work_of plan) [] b)) (moved-tells h.differed)))
-      (λ addr e. ap (λ ns. plan_hides plan (λ k. list_any (λ n. n == k) ns) addr) none ∙ e)
+      p related same refl refl refl
+      (ap (λ ns. rest ns h.differed) (ap (numbers_behind share) none ∙ none-behind share)
+      ∙ sym (ap (λ s. rest [] (tells_difference s)) read ∙ ap (rest []) (moved-tells h.differed)))
+      (λ addr e. ap (λ ns. plan_hides share.plan (λ k. list_any (λ n. n == k) ns) addr) none ∙ e)
       (λ rel. (
-        subst (λ ns. IsUnderWay guest command.entry plan (λ k. list_any (λ n. n == k) ns) bounce memory p.memory) none
+        subst (λ ns. IsUnderWay guest command.entry share (λ k. list_any (λ n. n == k) ns) bounce memory p.memory) none
             (under_way-kept guest bounce w.host memory p.memory same
             (written-same geometry (length w.lanes) lane w.host d bytes sized lane_below posted_below bounce (bounce + most_bytes) (inr (omega (arith, posted_below))))
-            command.entry plan (λ k. list_any (λ n. n == k) h.left) (planned-short guest command.entry plan planned) rel.0),
-        subst (IsMovedStatus plan) (sym read) (is-moved plan h.differed rel.1),
+            command.entry share (λ k. list_any (λ n. n == k) h.left) (planned-fit guest command.entry share planned) rel.0),
+        subst (IsMovedStatus share.plan) (sym read) (is-moved share.plan h.differed rel.1),
       )))
 
   pub posts-go : (lane slot : ℕ) → owner (event.DevPost lane slot) w ≡ Some number
@@ -146,9 +158,9 @@ module _ (host_bytes : ℕ) (geometry : Geometry) (number : ℕ) (guest : Guest)
       by_left (k ∷ left) d h there held some = dull-goes geometry number guest (event.DevPost lane slot) w p refl related reply.Idle refl
       by_left [] d h there held none =
           let among = slice_get-below w.device lane d there in
-          let sides = reached.consistent.sides in
+          let sides = reached.consistent.of_tags.sides in
           let l = slice_get-there w.lanes lane (omega (arith, among, sides)) in
-          let before = reached.consistent.lanes lane l.0 d l.1 there in
+          let before = reached.consistent.of_tags.lanes lane l.0 d l.1 there in
           let tags = before.positions.tags in
           let sized = before.positions.held in
           let under = slice_get-below d.held slot (Some h) held in

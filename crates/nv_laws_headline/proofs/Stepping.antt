@@ -12,7 +12,8 @@ use Rattle.nv_model.proofs.MemoryAlike.{scattered-at, stored-at}
 use Rattle.nv_model.proofs.MemoryLemmas.{stored-outside}
 use Rattle.nv_model.proofs.QueuesKept.{by_test}
 use Rattle.nv_model.proofs.TogetherKept.{front-may, took-together}
-use Rattle.nv_model.specs.Admin.{AdminEffect, AdminStep, NothingToDo, QueueFull, Stepped, admin, admin_command, admin_ready, answered, finish_deletion, front_command, is_queue_full, stepped, with_answer, with_completion_posted}
+use Rattle.nv_model.specs.Admin.{AdminEffect, AdminStep, NothingToDo, QueueFull, Stepped, admin, admin_command, admin_ready, answered}
+use Rattle.nv_model.specs.Admin.{finish_deletion, front_command, is_queue_full, stepped, with_answer, with_completion_posted}
 use Rattle.nv_model.specs.Controller.{Controller, Deletion, Posted, completion_queue, front, is_ready, post, post_from, post_to, submission_queue, took, with_submission}
 use Rattle.nv_model.specs.Footprint.{Named, admin_named}
 use Rattle.nv_model.specs.Memory.{bytes_from, scattered, stored}

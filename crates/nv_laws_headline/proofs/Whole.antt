@@ -1,28 +1,30 @@
--- A command as the device takes it: each unit of its own is left, since the device's unit behind it is.
-use Rattle.std.proofs.Common.{◌≡◌, ℕ, zero, suc, ◌+◌, ◌*◌, ◌<◌, ◌≤◌, Bool, true, cond, ◌==◌, List, [], ◌∷◌, All, filter, flat_map, length, map, replicate}
-use Rattle.std.proofs.Common.{slice_get, Some, arith, refl, sym, ap, ◌∙◌, subst}
-use Rattle.std.specs.List.{enumerate_from, list_any, range_with_len}
+-- A share as the device takes it: each unit of its own is left, since the device's unit behind it is.
+use Rattle.std.proofs.Common.{◌≡◌, ℕ, zero, suc, ◌+◌, ◌*◌, ◌^◌, ◌<◌, ◌≤◌, Bool, true, cond, ◌==◌, List, [], ◌∷◌, All, filter, flat_map, length, map, replicate}
+use Rattle.std.proofs.Common.{slice_get, Option, Some, arith, refl, sym, ap, ◌∙◌, subst}
+use Rattle.std.specs.List.{cons_option, enumerate_from, filter_map, list_any, range_with_len}
 use Rattle.std.proofs.lemmas.List.Elements.{All-append, All-cons, All-head, All-nil, All-tail}
 use Rattle.nv_entry.specs.Range.{blocks_of}
-use Rattle.nv_entry.specs.Submission.{slba_of}
 use Rattle.nv_mem.specs.Places.{At, Place, total_len}
-use Rattle.nv_model.proofs.AnyAnswers.{end-sound}
-use Rattle.nv_model.proofs.Units.{length-clear_units, length-move_units}
-use Rattle.nv_model.specs.Judge.{Clear, Form, Keep, Manage, Transfer, Work, count_of, form_of, form_transfer_len, form_units, is_fua, range_count_of}
+use Rattle.nv_model.specs.Judge.{Clear, Form, Keep, Manage, Transfer, Work, deallocates, form_of}
 use Rattle.nv_model.specs.Limits.{block}
-use Rattle.nv_model.specs.Private.{numbers_of, places_of_block}
-use Rattle.nv_mem.specs.GuestMap.{mapped}
-use Rattle.nv_world_model.specs.Device.{form_unit_count}
-use Rattle.nv_world_model.specs.Geometry.{Guest, regions_of, shape_of}
+use Rattle.nv_model.specs.Private.{places_of_block}
+use Rattle.nv_ns.specs.Extents.{Namespace, blocks_in}
+use Rattle.nv_world_model.specs.Geometry.{Guest}
 use Rattle.nv_world_model.specs.Plan.{Answer, Bounced, Direct, NoData, Plan}
-use Rattle.nv_world_model.specs.Seat.{form_numbers, units_behind, work_of}
+use Rattle.nv_world_model.specs.Share.{Share}
+use Rattle.nv_world_model.specs.Seat.{form_numbers, numbers_behind, numbers_by, units_behind, work_of}
 use Rattle.nv_laws_sound.specs.Consistent.{IsPlanned}
+use Rattle.nv_laws_sound.proofs.EntryFields.{own_units}
 use Rattle.nv_laws_sound.proofs.Named.{row-all}
-use Rattle.nv_laws_sound.proofs.PlanSizes.{planned-kinds}
-use Rattle.nv_laws_units.proofs.OwnUnits.{numbers-counted}
+use Rattle.nv_laws_sound.proofs.OwnWork.{own_len}
+use Rattle.nv_laws_sound.proofs.PlanSizes.{own_work}
+use Rattle.nv_laws_units.proofs.OwnShares.{AreUnitsOf, IsOwnShare, own-share}
+use Rattle.nv_laws_units.proofs.OwnUnits.{counted-ranges, counted-row}
+use Rattle.nv_laws_units.proofs.Renamed.{part-of}
 use Rattle.nv_laws_related.specs.Related.{HasBuffer, form_has_bytes}
 use Rattle.nv_laws_related.proofs.Keeping.{row-any}
 use Rattle.nv_laws_related.proofs.Views.{block-place}
+use Rattle.nv_laws_related.proofs.Within.{planned-own}
 
 -- ---- numbers that all are left
 
@@ -51,49 +53,71 @@ ranges-all P from (range ∷ ranges) each =
     (replicate-all P (blocks_of range) from (each from (omega arith) (omega arith)))
     (ranges-all P (from + 1) ranges (λ n low high. each n (omega (arith, low)) (omega (arith, high))))
 
-numbers-all : (P : ℕ → Type 0) (form : Form) (work : Work) (blocks : ℕ) (entry : List ℕ) → work.units ≡ form_units form blocks entry work.ranges
-    → (form ≡ Manage → length work.ranges ≡ range_count_of entry) → ((n : ℕ) → n < form_unit_count form entry → P n) → All P (form_numbers form work)
-numbers-all P (Transfer dest) work blocks entry units ranges each =
-    let many : length work.units ≡ count_of entry = ap length units ∙ length-move_units (slba_of entry) (count_of entry) in
-    row-all P 0 (length work.units) (λ n low high. each n (omega (arith, high, many)))
-numbers-all P Clear work blocks entry units ranges each =
-    let many : length work.units ≡ count_of entry = ap length units ∙ length-clear_units (is_fua entry) (slba_of entry) (count_of entry) in
-    row-all P 0 (length work.units) (λ n low high. each n (omega (arith, high, many)))
-numbers-all P Manage work blocks entry units ranges each =
-    let many = ranges refl in
-    ranges-all P 0 work.ranges (λ n low high. each n (omega (arith, high, many)))
-numbers-all P Keep work blocks entry units ranges each =
-    let many : length work.units ≡ 1 = ap length units in
-    row-all P 0 (length work.units) (λ n low high. each n (omega (arith, high, many)))
+numbers-all : (P : ℕ → Type 0) (form : Form) (own : Work) → (form ≡ Keep → length own.units ≡ 1) → ((n : ℕ) → n < own_units form own → P n)
+    → All P (form_numbers form own)
+numbers-all P (Transfer dest) own one each = row-all P 0 (length own.units) (λ n low high. each n (omega (arith, high)))
+numbers-all P Clear own one each = row-all P 0 (length own.units) (λ n low high. each n (omega (arith, high)))
+numbers-all P Manage own one each = ranges-all P 0 own.ranges (λ n low high. each n (omega (arith, high)))
+numbers-all P Keep own one each =
+    let many = one refl in
+    row-all P 0 (length own.units) (λ n low high. each n (omega (arith, high, many)))
 
-module _ (guest : Guest) (entry : List ℕ) (plan : Plan) (is : IsPlanned guest entry plan) where
+-- as many numbers as units
+own-numbered : (form : Form) (ns : Namespace) (entry : List ℕ) (first : ℕ) (own : Work) → blocks_in ns < 2 ^ 32 → AreUnitsOf form ns entry first own
+    → length (form_numbers form own) ≡ length own.units
+own-numbered (Transfer dest) ns entry first own few units = counted-row (Transfer dest) own (λ e. cc)
+own-numbered Clear ns entry first own few units = counted-row Clear own (λ e. cc)
+own-numbered Manage ns entry first own few units = counted-ranges own (deallocates entry) (units few)
+own-numbered Keep ns entry first own few units = counted-row Keep own (λ e. cc)
+
+keep-one : (form : Form) (ns : Namespace) (entry : List ℕ) (first : ℕ) (own : Work) → AreUnitsOf form ns entry first own → form ≡ Keep → length own.units ≡ 1
+keep-one (Transfer dest) ns entry first own units e = cc
+keep-one Clear ns entry first own units e = cc
+keep-one Manage ns entry first own units e = cc
+keep-one Keep ns entry first own units e = ap length units
+
+-- a list by all its places
+all-places : (f : ℕ → Option ℕ) (from : ℕ) (ns : List ℕ) → ((k : ℕ) → f (from + k) ≡ slice_get ns k) → filter_map f (range_with_len from (length ns)) ≡ ns
+all-places f from [] each = refl
+all-places f from (n ∷ ns) each =
+    let here : from + 0 ≡ from = omega arith in
+    ap (λ o. cons_option o (filter_map f (range_with_len (from + 1) (length ns)))) (sym (ap f here) ∙ each zero)
+    ∙ ap (λ xs. n ∷ xs)
+    (all-places f (from + 1) ns (λ k. (let on : from + 1 + k ≡ from + suc k = omega arith in ap f on ∙ each (suc k))))
+
+module _ (guest : Guest) (entry : List ℕ) (share : Share) (is : IsPlanned guest entry share) where
+  abbrev own : Work
+  own = own_work guest entry share is
+
   -- how many units the device has of it
   abbrev pub unit_total : ℕ
-  unit_total = form_unit_count (form_of is.work.opcode) entry
+  unit_total = own_units (form_of own.opcode) own
 
   -- all are left where all of the device's are
-  pub all-behind : units_behind is.work (range_with_len 0 unit_total) ≡ numbers_of is.work
+  pub all-behind : blocks_in guest.namespace < 2 ^ 32 → numbers_behind share (range_with_len 0 unit_total) ≡ share.numbers
   unfolding units_behind
-  all-behind =
-      let sound = end-sound (mapped (regions_of guest)) guest.limit (shape_of guest).blocks entry is.work is.verdict in
+  all-behind few =
+      let mine : IsOwnShare guest entry share own = own-share guest entry share is in
+      let part = part-of guest entry share is own (planned-own guest entry share is) in
+      let numbers = form_numbers (form_of own.opcode) own in
       let left = range_with_len 0 unit_total in
-      places-all left 0 (form_numbers (form_of is.work.opcode) is.work)
-      (numbers-all (IsIn left) (form_of is.work.opcode) is.work (shape_of guest).blocks entry sound.units sound.counted
+      ap (λ o. numbers_by o share.numbers left) (planned-own guest entry share is)
+      ∙ ap (filter_map (slice_get share.numbers))
+      (places-all left 0 numbers
+      (numbers-all (IsIn left) (form_of own.opcode) own (keep-one (form_of own.opcode) guest.namespace entry mine.first own mine.units)
       (λ n below. row-any n 0 unit_total (omega arith) (omega (arith, below))))
-      ∙ ap (range_with_len 0) (numbers-counted (form_of is.work.opcode) is.work (shape_of guest).blocks entry sound.units)
-
-  pub planned-work : work_of plan ≡ Some is.work
-  planned-work = planned-kinds (λ p. work_of p ≡ Some is.work) guest entry plan is refl (λ fits. refl) refl
+      ∙ ap (range_with_len 0) (own-numbered (form_of own.opcode) guest.namespace entry mine.first own few mine.units ∙ part.size))
+      ∙ all-places (slice_get share.numbers) 0 share.numbers (λ k. (let none : 0 + k ≡ k = omega arith in ap (slice_get share.numbers) none))
 
   -- a block of which a byte has a place is one of its units
-  pub placed-below : (dest : Bool) (index i : ℕ) (x : Place) → form_of is.work.opcode ≡ Transfer dest → slice_get (places_of_block is.work index) i ≡ Some x
+  pub placed-below : (dest : Bool) (index i : ℕ) (x : Place) → form_of own.opcode ≡ Transfer dest → slice_get (places_of_block own index) i ≡ Some x
       → index < unit_total
   placed-below dest index i x form at =
-      let sound = end-sound (mapped (regions_of guest)) guest.limit (shape_of guest).blocks entry is.work is.verdict in
-      let total : total_len is.work.pieces ≡ block * count_of entry = sound.total ∙ ap (λ f. form_transfer_len f entry) form in
-      let within = (block-place is.work index i x at).1 in
-      let below : index < count_of entry = omega (arith, total, within) in
-      subst (λ f. index < form_unit_count f entry) (sym form) below
+      let mine : IsOwnShare guest entry share own = own-share guest entry share is in
+      let total : total_len own.pieces ≡ block * length own.units = mine.total ∙ ap (λ f. own_len f own) form in
+      let within = (block-place own index i x at).1 in
+      let below : index < length own.units = omega (arith, total, within) in
+      subst (λ f. index < own_units f own) (sym form) below
 
 -- ---- buffers
 

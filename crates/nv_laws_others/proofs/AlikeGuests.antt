@@ -1,7 +1,10 @@
 -- A guest's acts, admin steps, takes and reads of lists, and commands that are given up, in worlds that look alike to it: they look alike behind them.
-use Rattle.std.proofs.Common.{◌≡◌, ℕ, Bool, true, false, cond, ◌&&◌, nat_le, List, [], ◌∷◌, ◌++◌, length, set, slice_get}
+use Rattle.std.proofs.Common.{◌≡◌, ℕ, Bool, true, false, cond, ◌&&◌, nat_le, List, [], ◌∷◌, ◌++◌, length, map, slice_get, take}
 use Rattle.std.proofs.Common.{Option, Some, None, refl, sym, ap, ◌∙◌, eq-eqb, subst}
-use Rattle.std.specs.List.{list_any}
+use Rattle.std.specs.List.{All, list_any}
+use Rattle.std.specs.Option.{option_map}
+use Rattle.std.proofs.lemmas.List.Elements.{All-weaker}
+use Rattle.std.proofs.lemmas.Option.{slice_get-map}
 use Rattle.nv_entry.specs.Status.{StatusField}
 use Rattle.nv_entry.specs.StatusCode.{done_with}
 use Rattle.nv_entry.specs.declared.status_code.StatusCode.TheVariants.{InternalError}
@@ -12,34 +15,39 @@ use Rattle.nv_model.specs.Controller.{Controller, doorbell, front, reg_read, reg
 use Rattle.nv_model.specs.Limits.{part_size}
 use Rattle.nv_model.specs.Memory.{byte_or, bytes_from, image, put_image, stored}
 use Rattle.nv_model.specs.Private.{Acted, Private, Shape, acted, controlled, register_replied}
-use Rattle.nv_model.specs.Queue.{sqe_size}
 use Rattle.nv_model.specs.Transcript.{ReadDone}
 use Rattle.nv_model.specs.declared.act.Act.{Act}
 use Rattle.nv_model.specs.declared.act.Act.TheVariants as act
 use Rattle.nv_model.specs.declared.reply.Reply.{Reply}
 use Rattle.nv_model.specs.declared.reply.Reply.TheVariants as reply
-use Rattle.nv_ns.specs.Extents.{place_in}
+use Rattle.nv_world_model.specs.Device.{DeviceLane}
+use Rattle.nv_world_model.specs.Share.{tags_of_entry}
 use Rattle.nv_world_model.specs.declared.event.Event.TheVariants as event
 use Rattle.nv_world_model.specs.Contained.{guest_of_one}
 use Rattle.nv_world_model.specs.Geometry.{Geometry, Guest, regions_of, shape_of}
 use Rattle.nv_world_model.specs.Seat.{Owner, held_by, held_in, owner_of, put_back, seat}
-use Rattle.nv_world_model.specs.Step.{act_put_back, acted_in, administered_by, administered_in, ended_at_once, for_lane, for_owner, for_taken, free_tag}
-use Rattle.nv_world_model.specs.Step.{is_free, is_io_queue, list_at, listed, replied, step, take_from, take_front, take_tag, taken_to}
+use Rattle.nv_world_model.specs.Step.{act_put_back, acted_in, administered_by, administered_in, ended_at_once, for_lane, for_owner, for_taken}
+use Rattle.nv_world_model.specs.Step.{entry_at, is_io_queue, list_at, listed, replied, step, take_from, take_front, take_tags, taken_to}
 use Rattle.nv_world_model.specs.View.{IsAlike, is_tag_of, lane_numbers, own_held}
-use Rattle.nv_world_model.specs.World.{Command, Ended, Free, Lane, Tag, Taken, World, changed_at, tag_changed, tag_in, tag_of, with_controller, with_tag}
+use Rattle.nv_world_model.specs.World.{Command, Ended, Flying, Free, Lane, Tag, Taken, World, claimed, group, is_free, lowest, tag_in, tag_of}
+use Rattle.nv_world_model.specs.World.{with_controller, with_tag, with_tags}
 use Rattle.nv_world_model.proofs.Seats.{slice_get-set}
-use Rattle.nv_laws_sound.specs.Consistent.{IsConsistent}
+use Rattle.nv_laws_sound.specs.Consistent.{IsConsistentOfTags}
 use Rattle.nv_laws_sound.specs.LaidOut.{IsLaidOut}
 use Rattle.nv_laws_sound.proofs.Changes.{put_image-area}
-use Rattle.nv_laws_sound.proofs.GuestEvents.{free-found}
-use Rattle.nv_laws_sound.proofs.Lists.{length-set, set-same}
-use Rattle.nv_laws_sound.proofs.Retags.{is-at, tag-is, with_tag-is}
+use Rattle.nv_laws_sound.proofs.Folds.{group-distinct}
+use Rattle.nv_laws_sound.proofs.Numbers.{Passes, numbers-distinct, numbers-pass, numbers_where, take-all, take-distinct}
+use Rattle.nv_laws_sound.proofs.Slots.{device-there}
+use Rattle.nv_laws_sound.proofs.Takes.{claimed-is}
+use Rattle.nv_laws_sound.proofs.Lists.{length-set, some-same}
+use Rattle.nv_laws_sound.proofs.Retags.{is-at, tag-is}
 use Rattle.nv_laws_others.specs.Leaving.{IsBytes}
-use Rattle.nv_laws_others.specs.Alike.{HoldsNothingFree}
-use Rattle.nv_laws_others.proofs.AlikeLanes.{lane-alike}
-use Rattle.nv_laws_others.proofs.AlikeReplies.{acted-same, lanes-same, memory, own, same-position, tag-here}
-use Rattle.nv_laws_others.proofs.AlikeWalks.{IsInBoth, either-both, guest-both, held-too, in-both, lane-both, device-too, owner-both, taken-both}
-use Rattle.nv_laws_others.proofs.Behind.{alike-lanes, guests-shared, lanes-shared, numbers-retagged, rings-shared, shared-of}
+use Rattle.nv_laws_others.specs.Alike.{GoesByItsOwn, HoldsNothingFree}
+use Rattle.nv_laws_others.proofs.AlikeFolds.{IsPair, at_once-alike, own-pair, tag-alike, tags-alike}
+use Rattle.nv_laws_others.proofs.AlikeGroups.{claimed-same, group-mine}
+use Rattle.nv_laws_others.proofs.AlikeReplies.{acted-same, entry-same, group-same, lanes-same, memory, own, tag-here}
+use Rattle.nv_laws_others.proofs.AlikeWalks.{either-both, guest-both, lane-both, device-too, owner-both, taken-both}
+use Rattle.nv_laws_others.proofs.Behind.{alike-lanes, guests-shared, lanes-shared, rings-shared, shared-of}
 use Rattle.nv_laws_others.proofs.Leaving.{bytes-in-lane}
 use Rattle.nv_laws_others.proofs.Shown.{in_span}
 use Rattle.nv_laws_others.proofs.ShownTags.{tag_spans}
@@ -100,7 +108,15 @@ module _ (p q : Private) (memory : p.memory ≡ q.memory) (controller : p.contro
   acted-reply : (shape : Shape) (a : Act) → (acted shape a p).reply ≡ (acted shape a q).reply
   acted-reply shape a = acted-same shape a p q memory controller
 
-module _ (host_bytes : ℕ) (geometry : Geometry) (w z : World) (laid : IsLaidOut host_bytes (length w.lanes) geometry) (fine : IsConsistent geometry w)
+-- a tag that is free
+free-there : (o : Option Tag) → option_map is_free o ≡ Some true → o ≡ Some Free
+free-there None e = cc
+free-there (Some Free) e = refl
+free-there (Some (Taken command reads)) e = cc
+free-there (Some (Flying command share standing)) e = cc
+free-there (Some (Ended command st share)) e = cc
+
+module _ (host_bytes : ℕ) (geometry : Geometry) (w z : World) (laid : IsLaidOut host_bytes (length w.lanes) geometry) (fine : IsConsistentOfTags geometry w)
     (number : ℕ) (guest : Guest) (given : slice_get geometry.guests number ≡ Some guest) (alike : IsAlike number guest geometry w z) where
   abbrev me : Controller → Owner
   me c = own geometry w z number guest given alike c
@@ -172,39 +188,24 @@ module _ (host_bytes : ℕ) (geometry : Geometry) (w z : World) (laid : IsLaidOu
       (administered_by (admin (shape_of guest).mapped (shape_of guest).blocks c m) (me c) z).world) same_memory
       (admin-by (admin (shape_of guest).mapped (shape_of guest).blocks c (image (regions_of guest) w.host)) c one two))
 
-  -- ---- one tag changes, and the device nothing
+  -- ---- where a tag of its own is
 
-  pub retag-alike : (lane tag : ℕ) (t s new : Tag) (x : IsInBoth w z lane tag t s) (v u : World)
-      → v.lanes ≡ set w.lanes lane (tag_changed tag new x.l) → u.lanes ≡ set z.lanes lane (tag_changed tag new x.m) → v.device ≡ w.device → u.device ≡ z.device
-      → ((addr : ℕ) → w.host addr ≡ z.host addr → v.host addr ≡ u.host addr)
-      → ((a b : ℕ) (t : Tag) (addr : ℕ) → tag_of w a b ≡ Some t → IsBytes geometry.mediator a b t addr → w.host addr ≡ v.host addr)
-      → v.disk ≡ w.disk → u.disk ≡ z.disk → v.kept ≡ w.kept → u.kept ≡ z.kept
-      → slice_get v.controllers number ≡ slice_get u.controllers number → length v.controllers ≡ length w.controllers → length u.controllers ≡ length z.controllers
-      → ((addr : ℕ) → is_tag_of number (Some new) ≡ true → list_any (in_span addr) (tag_spans guest geometry v lane tag new) ≡ true → v.host addr ≡ u.host addr)
-      → own_held number (Some new) (held_in (slice_get w.device lane) tag) ≡ own_held number (Some new) (held_in (slice_get z.device lane) tag)
-      → Behind v u
-  retag-alike lane tag t s new x v u lanes lanes_too device device_too bytes left disk disk_too kept kept_too controller many many_too written held =
-      lane-alike geometry number guest w z alike lane tag t s new x (tag_changed tag new x.l) (tag_changed tag new x.m) x.d x.e v u
-      refl refl (numbers-retagged x.l x.m tag new x.lanes) lanes lanes_too
-      (device ∙ sym (set-same w.device lane x.d x.device_one)) (device_too ∙ sym (set-same z.device lane x.e x.device_two)) x.rings (λ b apart. refl) (λ b apart. refl)
-      bytes (λ a b y addr apart there lies. left a b y addr there lies)
-      (λ lba offset below.
-      ap (λ f. f (place_in guest.namespace lba) offset) disk ∙ alike.view.blocks lba offset below ∙ sym (ap (λ f. f (place_in guest.namespace lba) offset) disk_too))
-      (λ lba below. ap (λ f. f (place_in guest.namespace lba)) kept ∙ alike.marks lba below ∙ sym (ap (λ f. f (place_in guest.namespace lba)) kept_too))
-      controller many many_too written
-      (sym (ap (λ o. own_held number (Some new) (held_in o tag)) x.device_one) ∙ held ∙ ap (λ o. own_held number (Some new) (held_in o tag)) x.device_two)
+  -- in a lane with its device's side in both
+  pub sides-both : (lane tag : ℕ) (t : Tag) → tag_of w lane tag ≡ Some t
+      → (d : DeviceLane) × (e : DeviceLane) × (slice_get w.device lane ≡ Some d) × (slice_get z.device lane ≡ Some e)
+  sides-both lane tag t there =
+      let a = is-at geometry w lane tag t fine there in
+      let e = device-too geometry w z number guest given alike lane a.d a.at_device in
+      (a.d, e.0, a.at_device, e.1)
 
   -- a tag of its own changes, and is shown no more of
   own-alike : (lane tag : ℕ) (t new : Tag) → tag_of w lane tag ≡ Some t → is_tag_of number (Some t) ≡ true
       → ((addr : ℕ) → list_any (in_span addr) (tag_spans guest geometry (with_tag lane tag new w) lane tag new) ≡ false)
       → Behind (with_tag lane tag new w) (with_tag lane tag new z)
   own-alike lane tag t new there mine nothing =
-      let x = in-both geometry w z number guest given alike lane tag t fine there mine in
-      retag-alike lane tag t t new x (with_tag lane tag new w) (with_tag lane tag new z)
-      (ap (λ v. v.lanes) (with_tag-is lane tag new w x.l x.lane_one)) (ap (λ v. v.lanes) (with_tag-is lane tag new z x.m x.lane_two)) refl refl
-      (λ addr same. same) (λ a b y addr is bytes. refl) refl refl refl refl alike.view.controller refl refl
-      (λ addr own lies. (let bad : true ≡ false = sym lies ∙ nothing addr in cc))
-      (ap (own_held number (Some new)) (held-too geometry w z number guest given alike lane tag t there mine))
+      let x = sides-both lane tag t there in
+      tag-alike geometry number guest given w z alike lane tag x.0 x.1 new x.2 x.3
+      (own-pair geometry number guest given w z alike lane tag new (record { t = t; is = there; has = mine })) nothing
 
   -- ---- lists, and commands that end at once
 
@@ -223,88 +224,117 @@ module _ (host_bytes : ℕ) (geometry : Geometry) (w z : World) (laid : IsLaidOu
   lists-alike lane tag addr len mine =
       let more = λ (command : Command) (reads : List ReadDone). for_owner (owner_of geometry w command.guest) w (λ o. list_at addr len lane tag command reads o w) in
       let again = λ (command : Command) (reads : List ReadDone). for_owner (owner_of geometry z command.guest) z (λ o. list_at addr len lane tag command reads o z) in
-      subst (λ t. Behind (for_taken (tag_of w lane tag) w more).world (for_taken t z again).world) (tag-here geometry w z number guest given alike lane tag mine)
-      (taken-both Behind w z alike number (tag_of w lane tag) mine more again (λ command reads there whose.
+      subst (λ t. Behind (for_taken tag (tag_of w lane tag) w more).world (for_taken tag t z again).world) (tag-here geometry w z number guest given alike lane tag mine)
+      (taken-both Behind w z alike number tag (tag_of w lane tag) mine more again (λ command reads there whose leads.
       owner-both geometry w z number guest given alike Behind alike command.guest whose
       (λ o. list_at addr len lane tag command reads o w) (λ o. list_at addr len lane tag command reads o z) (λ c one two.
       either-both Behind w z alike (all_mapped (regions_of guest) addr len) (all_mapped (regions_of guest) addr len) refl _ _ _ _
       (λ mapped. either-both Behind w z alike (nat_le 1 len && nat_le len part_size) (nat_le 1 len && nat_le len part_size) refl _ _ _ _
       (λ fits. list-alike addr len lane tag command reads c there whose) (λ out. alike)) (λ out. alike))))
 
-  pub ended-alike : (lane tag : ℕ) (command : Command) (reads : List ReadDone) (st : StatusField) → tag_of w lane tag ≡ Some (Taken command reads) → command.guest ≡ number
-      → Behind (ended_at_once lane tag command st w) (ended_at_once lane tag command st z)
-  unfolding ended_at_once
-  ended-alike lane tag command reads st there whose =
-      own-alike lane tag (Taken command reads) (Ended command st None) there (eq-eqb command.guest number whose) (λ x. refl)
+  module _ (one : GoesByItsOwn number w) (two : GoesByItsOwn number z) where
+    -- a command's tags end at once in both
+    pub ended-alike : (lane tag : ℕ) (command : Command) (reads : List ReadDone) (st : StatusField) → tag_of w lane tag ≡ Some (Taken command reads)
+        → command.guest ≡ number
+        → Behind (ended_at_once lane (group w lane tag) command st w) (ended_at_once lane (group z lane tag) command st z)
+    ended-alike lane tag command reads st there whose =
+        let x = sides-both lane tag (Taken command reads) there in
+        let mine : is_tag_of number (tag_of w lane tag) ≡ true = ap (is_tag_of number) there ∙ eq-eqb command.guest number whose in
+        subst (λ tags. Behind (ended_at_once lane (group w lane tag) command st w) (ended_at_once lane tags command st z))
+        (group-same geometry w z number guest given alike one two lane tag mine)
+        (at_once-alike geometry number guest given lane (group w lane tag) command st x.0 x.1 w z alike x.2 x.3
+        (group-mine number w lane tag one mine) (group-distinct w lane tag))
 
-  pub give_ups-alike : (lane tag : ℕ) → guest_of_one (tag_of w lane tag) ≡ Some number
-      → Behind (step geometry (event.GiveUp lane tag) w).world (step geometry (event.GiveUp lane tag) z).world
-  unfolding step
-  give_ups-alike lane tag mine =
-      subst (λ t. Behind (for_taken (tag_of w lane tag) w (λ command reads. replied reply.Done (ended_at_once lane tag command (done_with InternalError) w))).world
-      (for_taken t z (λ command reads. replied reply.Done (ended_at_once lane tag command (done_with InternalError) z))).world) (tag-here geometry w z number guest given alike lane tag mine)
-      (taken-both Behind w z alike number (tag_of w lane tag) mine _ _ (λ command reads there whose. ended-alike lane tag command reads (done_with InternalError) there whose))
+    pub give_ups-alike : (lane tag : ℕ) → guest_of_one (tag_of w lane tag) ≡ Some number
+        → Behind (step geometry (event.GiveUp lane tag) w).world (step geometry (event.GiveUp lane tag) z).world
+    unfolding step
+    give_ups-alike lane tag mine =
+        let more = λ (v : World) (command : Command) (reads : List ReadDone).
+        replied reply.Done (ended_at_once lane (group v lane tag) command (done_with InternalError) v) in
+        subst (λ t. Behind (for_taken tag (tag_of w lane tag) w (more w)).world (for_taken tag t z (more z)).world) (tag-here geometry w z number guest given alike lane tag mine)
+        (taken-both Behind w z alike number tag (tag_of w lane tag) mine (more w) (more z)
+        (λ command reads there whose leads. ended-alike lane tag command reads (done_with InternalError) there whose))
 
   -- ---- takes
 
   module _ (nothing : HoldsNothingFree z) where
-    taken-alike : (addr queue lane tag : ℕ) (l m : Lane) (c : Controller) → slice_get w.controllers number ≡ Some c → slice_get z.controllers number ≡ Some c
-        → slice_get w.lanes lane ≡ Some l → slice_get z.lanes lane ≡ Some m → free_tag l.tags ≡ Some tag → free_tag m.tags ≡ Some tag
-        → lane_numbers l ≡ lane_numbers m
-        → Behind (taken_to addr queue lane tag (me c) w) (taken_to addr queue lane tag (me c) z)
-    unfolding taken_to
-    taken-alike addr queue lane tag l m c one two at too found found_too numbers =
-        let there : tag_of w lane tag ≡ Some Free = ap (λ o. tag_in o tag) at ∙ free-found l.tags tag found in
-        let there_too : tag_of z lane tag ≡ Some Free = ap (λ o. tag_in o tag) too ∙ free-found m.tags tag found_too in
-        let a = is-at geometry w lane tag Free fine there in
-        let e = device-too geometry w z number guest given alike lane a.d a.at_device in
-        let new : (ℕ → ℕ) → Tag = λ mem. Taken (record { guest = number; queue = queue; entry = bytes_from mem addr sqe_size; leader = tag }) [] in
-        let x : IsInBoth w z lane tag Free Free = record {
-          l = l;
-          m = m;
-          d = a.d;
-          e = e.0;
-          lane_one = at;
-          lane_two = too;
-          device_one = a.at_device;
-          device_two = e.1;
-          tag_one = free-found l.tags tag found;
-          tag_two = free-found m.tags tag found_too;
-          lanes = numbers;
-          rings = e.2;
-        } in
+    -- free tags are pairs
+    free-pair : (lane tag : ℕ) (l m : Lane) (now : Tag) → slice_get w.lanes lane ≡ Some l → slice_get z.lanes lane ≡ Some m → map is_free l.tags ≡ map is_free m.tags
+        → Passes is_free l.tags tag → IsPair geometry number guest given w z lane now tag
+    free-pair lane tag l m now at too frees p =
+        let here : tag_of w lane tag ≡ Some Free = ap (λ o. tag_in o tag) at ∙ free-there (slice_get l.tags tag) (ap (option_map is_free) p.is ∙ ap (λ b. Some b) p.passes) in
+        let there : tag_of z lane tag ≡ Some Free =
+        ap (λ o. tag_in o tag) too
+        ∙ free-there (slice_get m.tags tag)
+        (sym (slice_get-map is_free m.tags tag) ∙ ap (λ bs. slice_get bs tag) (sym frees) ∙ slice_get-map is_free l.tags tag
+        ∙ ap (option_map is_free) p.is ∙ ap (λ b. Some b) p.passes) in
+        let a = is-at geometry w lane tag Free fine here in
         let empty : held_in (slice_get w.device lane) tag ≡ None =
         ap (λ o. held_in o tag) a.at_device ∙ ap held_by a.at_held ∙ tag-is geometry w lane tag Free fine a in
-        subst (λ mem. Behind (taken_to addr queue lane tag (me c) w)
-        (with_tag lane tag (new mem) (with_controller number (took c queue) z))) same_memory
-        (retag-alike lane tag Free Free (new (image (regions_of guest) w.host)) x (taken_to addr queue lane tag (me c) w)
-        (with_tag lane tag (new (image (regions_of guest) w.host)) (with_controller number (took c queue) z))
-        (ap (λ o. changed_at o lane (tag_changed tag (new (image (regions_of guest) w.host))) w.lanes) at)
-        (ap (λ o. changed_at o lane (tag_changed tag (new (image (regions_of guest) w.host))) z.lanes) too) refl refl
-        (λ y same. same) (λ g b y h is bytes. refl) refl refl refl refl
-        (slice_get-set w.controllers number c (took c queue) one ∙ sym (slice_get-set z.controllers number c (took c queue) two))
-        (length-set w.controllers number (took c queue)) (length-set z.controllers number (took c queue))
-        (λ y own lies. (let bad : false ≡ true = lies in cc))
-        (ap (own_held number (Some (new (image (regions_of guest) w.host)))) (empty ∙ sym (nothing lane tag there_too))))
+        record { t = Free; s = Free; here = here; there = there; held = ap (own_held number (Some now)) (empty ∙ sym (nothing lane tag there)) }
 
-    tag-alike : (found found_too : Option ℕ) (addr queue lane : ℕ) (l m : Lane) (c : Controller) → slice_get w.controllers number ≡ Some c → slice_get z.controllers number ≡ Some c
-        → slice_get w.lanes lane ≡ Some l → slice_get z.lanes lane ≡ Some m → free_tag l.tags ≡ found → free_tag m.tags ≡ found_too → found ≡ found_too
-        → lane_numbers l ≡ lane_numbers m
-        → Behind (take_tag found addr queue lane (me c) w).world (take_tag found_too addr queue lane (me c) z).world
-    tag-alike None None addr queue lane l m c one two at too found found_too same numbers = alike
-    tag-alike None (Some tag) addr queue lane l m c one two at too found found_too same numbers = cc
-    tag-alike (Some tag) None addr queue lane l m c one two at too found found_too same numbers = cc
-    tag-alike (Some tag) (Some other) addr queue lane l m c one two at too found found_too same numbers =
-        let named : tag ≡ other = cc in
-        subst (λ n. Behind (taken_to addr queue lane tag (me c) w) (taken_to addr queue lane n (me c) z)) named
-        (taken-alike addr queue lane tag l m c one two at too found (found_too ∙ sym same) numbers)
+    -- the controller's queue moves on in both
+    took-on : (c now : Controller) → slice_get w.controllers number ≡ Some c → slice_get z.controllers number ≡ Some c
+        → Behind (with_controller number now w) (with_controller number now z)
+    took-on c now one two =
+        alike-lanes geometry number guest w z alike (with_controller number now w) (with_controller number now z) refl refl refl refl (λ a b t addr is bytes. refl)
+        (record {
+          bytes = (λ addr bytes. bytes);
+          blocks = alike.view.blocks;
+          marks = alike.marks;
+          controller = slice_get-set w.controllers number c now one ∙ sym (slice_get-set z.controllers number c now two);
+          shared =
+              shared-of (with_controller number now w) (with_controller number now z) (lanes-shared w z alike.shared) (rings-shared w z alike.shared)
+              (length-set w.controllers number now ∙ guests-shared w z alike.shared ∙ sym (length-set z.controllers number now));
+        })
+
+    taken-alike : (addr queue lane count : ℕ) (l m : Lane) (c : Controller) → slice_get w.controllers number ≡ Some c → slice_get z.controllers number ≡ Some c
+        → slice_get w.lanes lane ≡ Some l → slice_get z.lanes lane ≡ Some m → map is_free l.tags ≡ map is_free m.tags
+        → Behind (taken_to addr queue lane (take count (numbers_where is_free l.tags)) (me c) w)
+        (taken_to addr queue lane (take count (numbers_where is_free l.tags)) (me c) z)
+    unfolding taken_to
+    taken-alike addr queue lane count l m c one two at too frees =
+        let ns = take count (numbers_where is_free l.tags) in
+        let new : List ℕ → Tag = λ entry. Taken (record { guest = number; queue = queue; entry = entry; leader = lowest ns }) [] in
+        let now : Tag = new (entry_at addr (me c) w) in
+        let v : World = with_controller number (took c queue) w in
+        let u : World = with_controller number (took c queue) z in
+        let d = device-there geometry w lane l fine at in
+        let e = device-too geometry w z number guest given alike lane d.0 d.1 in
+        let pairs : All (IsPair geometry number guest given w z lane now) ns =
+        take-all (IsPair geometry number guest given w z lane now) count (numbers_where is_free l.tags)
+        (All-weaker (Passes is_free l.tags) (IsPair geometry number guest given w z lane now) (λ n p. free-pair lane n l m now at too frees p)
+        (numbers_where is_free l.tags) (numbers-pass is_free l.tags)) in
+        subst (λ entry. Behind (with_tags lane ns now v) (with_tags lane ns (new entry) u)) (entry-same geometry w z number guest given alike addr c)
+        (tags-alike geometry number guest given lane ns now d.0 e.0 v u (took-on c (took c queue) one two) d.1 e.1 (λ x n y. refl)
+        (All-weaker (IsPair geometry number guest given w z lane now) (IsPair geometry number guest given v u lane now)
+        (λ n p. record { t = p.t; s = p.s; here = p.here; there = p.there; held = p.held }) ns pairs)
+        (take-distinct count (numbers_where is_free l.tags) (numbers-distinct is_free l.tags)))
+
+    found-alike : (found found_too : Option (List ℕ)) (addr queue lane count : ℕ) (l m : Lane) (c : Controller) → slice_get w.controllers number ≡ Some c
+        → slice_get z.controllers number ≡ Some c → slice_get w.lanes lane ≡ Some l → slice_get z.lanes lane ≡ Some m → map is_free l.tags ≡ map is_free m.tags
+        → claimed count l.tags ≡ found → found ≡ found_too
+        → Behind (take_tags found addr queue lane (me c) w).world (take_tags found_too addr queue lane (me c) z).world
+    found-alike None None addr queue lane count l m c one two at too frees e same = alike
+    found-alike None (Some tags) addr queue lane count l m c one two at too frees e same = cc
+    found-alike (Some tags) None addr queue lane count l m c one two at too frees e same = cc
+    found-alike (Some tags) (Some others) addr queue lane count l m c one two at too frees e same =
+        let named : tags ≡ others = some-same tags others same in
+        let is = (claimed-is count l.tags tags e).is in
+        subst (λ ns. Behind (taken_to addr queue lane tags (me c) w) (taken_to addr queue lane ns (me c) z)) named
+        (subst (λ ns. Behind (taken_to addr queue lane ns (me c) w) (taken_to addr queue lane ns (me c) z)) (sym is)
+        (taken-alike addr queue lane count l m c one two at too frees))
 
     front-alike : (addr : Option ℕ) (queue lane : ℕ) (l m : Lane) (c : Controller) → slice_get w.controllers number ≡ Some c → slice_get z.controllers number ≡ Some c
         → slice_get w.lanes lane ≡ Some l → slice_get z.lanes lane ≡ Some m → lane_numbers l ≡ lane_numbers m
         → Behind (take_front addr queue lane l (me c) w).world (take_front addr queue lane m (me c) z).world
     front-alike None queue lane l m c one two at too numbers = alike
     front-alike (Some addr) queue lane l m c one two at too numbers =
-        tag-alike (free_tag l.tags) (free_tag m.tags) addr queue lane l m c one two at too refl refl (same-position is_free l.tags m.tags (ap (λ n. n.free) numbers)) numbers
+        let frees : map is_free l.tags ≡ map is_free m.tags = ap (λ n. n.free) numbers in
+        let count = tags_of_entry guest.namespace (entry_at addr (me c) w) in
+        found-alike (claimed count l.tags) (claimed (tags_of_entry guest.namespace (entry_at addr (me c) z)) m.tags) addr queue lane count l m c one two at too frees refl
+        (claimed-same count l.tags m.tags frees
+        ∙ ap (λ entry. claimed (tags_of_entry guest.namespace entry) m.tags) (entry-same geometry w z number guest given alike addr c))
 
     pub takes-alike : (n queue lane : ℕ) → n ≡ number → Behind (step geometry (event.Take n queue lane) w).world (step geometry (event.Take n queue lane) z).world
     unfolding step

@@ -1,5 +1,6 @@
 -- Worlds that look alike to a guest behind a change of one of its tags, of its lane, and of the device's side of it.
-use Rattle.std.proofs.Common.{◌≡◌, ℕ, ◌+◌, ◌<◌, ◌≤◌, inl, inr, true, List, [], ◌∷◌, ◌++◌, length, map, set, slice_get, Some, arith, refl, sym, ap, ◌∙◌}
+use Rattle.std.proofs.Common.{◌≡◌, ℕ, ◌+◌, ◌<◌, ◌≤◌, inl, inr, true, List, [], ◌∷◌, ◌++◌, length, map, set, slice_get}
+use Rattle.std.proofs.Common.{Some, arith, refl, sym, ap, ◌∙◌}
 use Rattle.std.specs.List.{list_any}
 use Rattle.std.proofs.lemmas.Bool.{le-leb, lt-ltb}
 use Rattle.nv_entry.specs.Completion.{status_of}
@@ -10,9 +11,10 @@ use Rattle.nv_ns.specs.Extents.{blocks_in, place_in}
 use Rattle.nv_world_model.specs.Area.{bounce_page, completion_slot, list_page, submission_slot}
 use Rattle.nv_world_model.specs.Device.{DeviceLane}
 use Rattle.nv_world_model.specs.Geometry.{Geometry, Guest}
-use Rattle.nv_world_model.specs.Plan.{Plan}
+use Rattle.nv_world_model.specs.Share.{Share}
 use Rattle.nv_world_model.specs.Seat.{completion_at, held_by, held_in}
-use Rattle.nv_world_model.specs.View.{IsAlike, SameMarks, Span, is_tag_of, lane_numbers, list_shown, own_held, read_shown, ring_numbers, slot_shown, source_shown}
+use Rattle.nv_world_model.specs.View.{IsAlike, SameMarks, Span, is_tag_of, lane_numbers, list_shown, own_held, read_shown, ring_numbers, slot_shown}
+use Rattle.nv_world_model.specs.View.{source_shown}
 use Rattle.nv_world_model.specs.World.{Answered, Command, Flying, Lane, Queued, Standing, Tag, World, tag_of}
 use Rattle.nv_world_model.proofs.Seats.{slice_get-set}
 use Rattle.nv_laws_sound.proofs.Shows.{bytes_from-between}
@@ -28,22 +30,22 @@ use Rattle.nv_laws_others.proofs.ShownTags.{any-behind, any-front, shows-it, tag
 pub one-in : (addr from len : ℕ) → from ≤ addr → addr < from + len → list_any (in_span addr) ((from, len) ∷ []) ≡ true
 one-in addr from len low high = rw (le-leb from addr low, lt-ltb addr (from + len) high) refl
 
-module _ (guest : Guest) (geometry : Geometry) (w : World) (lane tag : ℕ) (command : Command) (plan : Plan) (standing : Standing) (addr : ℕ) where
+module _ (guest : Guest) (geometry : Geometry) (w : World) (lane tag : ℕ) (command : Command) (share : Share) (standing : Standing) (addr : ℕ) where
   abbrev slot : List Span
   slot = slot_shown standing geometry.mediator lane
 
   abbrev listed : List Span
-  listed = list_shown plan guest (list_page geometry.mediator lane tag) (bounce_page geometry.mediator lane tag)
+  listed = list_shown share.plan guest (list_page geometry.mediator lane tag) (bounce_page geometry.mediator lane tag)
 
   abbrev source : List Span
-  source = source_shown plan (bounce_page geometry.mediator lane tag)
+  source = source_shown share.plan (bounce_page geometry.mediator lane tag)
 
   abbrev reading : List Span
   reading =
-      read_shown standing plan (held_in (slice_get w.device lane) tag) (λ at. status_of (completion_at geometry w lane at)) (bounce_page geometry.mediator lane tag)
+      read_shown standing share.plan (held_in (slice_get w.device lane) tag) (λ at. status_of (completion_at geometry w lane at)) (bounce_page geometry.mediator lane tag)
 
   abbrev all : List Span
-  all = tag_spans guest geometry w lane tag (Flying command plan standing)
+  all = tag_spans guest geometry w lane tag (Flying command share standing)
 
   -- what a tag that was handed on shows: its slot, its list, its source, or what was read
   pub flying-shows : (P : Type 0) → list_any (in_span addr) all ≡ true → (list_any (in_span addr) slot ≡ true → P)
@@ -89,23 +91,23 @@ module _ (geometry : Geometry) (number : ℕ) (guest : Guest) (w z : World) (ali
       alike.view.area addr (shows-it geometry w number guest addr (record { lane = lane; tag = tag; t = t; there = there; own = mine; lies = lies }))
 
   -- a completion that waits for it
-  pub completion-same : (lane tag at : ℕ) (command : Command) (plan : Plan) → tag_of w lane tag ≡ Some (Flying command plan (Answered at))
-      → is_tag_of number (Some (Flying command plan (Answered at))) ≡ true → completion_at geometry w lane at ≡ completion_at geometry z lane at
-  completion-same lane tag at command plan there mine =
+  pub completion-same : (lane tag at : ℕ) (command : Command) (share : Share) → tag_of w lane tag ≡ Some (Flying command share (Answered at))
+      → is_tag_of number (Some (Flying command share (Answered at))) ≡ true → completion_at geometry w lane at ≡ completion_at geometry z lane at
+  completion-same lane tag at command share there mine =
       bytes_from-between w.host z.host (completion_slot geometry.mediator lane at) (completion_slot geometry.mediator lane at + cqe_size) (completion_slot geometry.mediator lane at) cqe_size
       (λ addr low high.
-      own-same lane tag (Flying command plan (Answered at)) addr there mine
-      (slot-is guest geometry w lane tag command plan (Answered at) addr (one-in addr (completion_slot geometry.mediator lane at) cqe_size low high))) (omega arith) (omega arith)
+      own-same lane tag (Flying command share (Answered at)) addr there mine
+      (slot-is guest geometry w lane tag command share (Answered at) addr (one-in addr (completion_slot geometry.mediator lane at) cqe_size low high))) (omega arith) (omega arith)
 
   -- an entry of its that waits
-  pub entry-same : (lane tag at : ℕ) (command : Command) (plan : Plan) → tag_of w lane tag ≡ Some (Flying command plan (Queued at))
-      → is_tag_of number (Some (Flying command plan (Queued at))) ≡ true
+  pub entry-same : (lane tag at : ℕ) (command : Command) (share : Share) → tag_of w lane tag ≡ Some (Flying command share (Queued at))
+      → is_tag_of number (Some (Flying command share (Queued at))) ≡ true
       → bytes_from w.host (submission_slot geometry.mediator lane at) sqe_size ≡ bytes_from z.host (submission_slot geometry.mediator lane at) sqe_size
-  entry-same lane tag at command plan there mine =
+  entry-same lane tag at command share there mine =
       bytes_from-between w.host z.host (submission_slot geometry.mediator lane at) (submission_slot geometry.mediator lane at + sqe_size) (submission_slot geometry.mediator lane at) sqe_size
       (λ addr low high.
-      own-same lane tag (Flying command plan (Queued at)) addr there mine
-      (slot-is guest geometry w lane tag command plan (Queued at) addr (one-in addr (submission_slot geometry.mediator lane at) sqe_size low high))) (omega arith) (omega arith)
+      own-same lane tag (Flying command share (Queued at)) addr there mine
+      (slot-is guest geometry w lane tag command share (Queued at) addr (one-in addr (submission_slot geometry.mediator lane at) sqe_size low high))) (omega arith) (omega arith)
 
   -- ---- a lane changes, and the device's side of it
 

@@ -1,7 +1,8 @@
 -- An event of a guest's is answered by that guest's view and the shared numbers alone.
-use Rattle.std.proofs.Common.{◌≡◌, ℕ, zero, suc, ◌+◌, Bool, true, false, cond, not, ◌&&◌, ◌==◌, nat_le, nat_lt, List, [], ◌∷◌, length, map, slice_get, Option}
-use Rattle.std.proofs.Common.{Some, None, arith, refl, sym, ap, ◌∙◌, eq-eqb}
-use Rattle.std.specs.List.{list_any, position, prefix_len}
+use Rattle.std.proofs.Common.{◌≡◌, ℕ, zero, suc, Bool, true, false, cond, ◌&&◌, ◌==◌, nat_le, List, [], ◌∷◌}
+use Rattle.std.proofs.Common.{length, map, slice_get, Option}
+use Rattle.std.proofs.Common.{Some, None, arith, refl, sym, ap, ◌∙◌}
+use Rattle.std.specs.List.{list_any}
 use Rattle.std.specs.Option.{option_map}
 use Rattle.std.proofs.lemmas.Option.{slice_get-map}
 use mathlib.Core.Path.{fun_ext}
@@ -15,7 +16,7 @@ use Rattle.nv_model.specs.Controller.{Controller, Posted, doorbell, front, is_en
 use Rattle.nv_model.specs.Limits.{part_size}
 use Rattle.nv_model.specs.Memory.{bytes_from, image}
 use Rattle.nv_model.specs.Private.{Acted, Private, Shape, acted, controlled, register_replied}
-use Rattle.nv_model.specs.Queue.{is_empty}
+use Rattle.nv_model.specs.Queue.{is_empty, sqe_size}
 use Rattle.nv_model.specs.Transcript.{Outcome, ReadDone, Settled, Wanted}
 use Rattle.nv_model.specs.declared.act.Act.{Act}
 use Rattle.nv_model.specs.declared.act.Act.TheVariants as act
@@ -23,18 +24,21 @@ use Rattle.nv_model.specs.declared.reply.Reply.{Reply}
 use Rattle.nv_model.specs.declared.reply.Reply.TheVariants as reply
 use Rattle.nv_world_model.specs.declared.event.Event.{Event}
 use Rattle.nv_world_model.specs.declared.event.Event.TheVariants as event
-use Rattle.nv_world_model.specs.Area.{bounce_page}
+use Rattle.nv_world_model.specs.Share.{tags_of_entry}
 use Rattle.nv_world_model.specs.Contained.{guest_of_one, owner}
 use Rattle.nv_world_model.specs.Device.{DeviceLane, Held}
 use Rattle.nv_world_model.specs.Geometry.{Geometry, Guest, regions_of, shape_of}
 use Rattle.nv_world_model.specs.Plan.{Plan, plan_over}
 use Rattle.nv_world_model.specs.Seat.{Owner, held_by, held_in, owner_by, owner_of, seat}
 use Rattle.nv_world_model.specs.Step.{After, act_put_back, acted_in, administered_by, administered_in, device_fail, device_move, device_post, ended_at_once}
-use Rattle.nv_world_model.specs.Step.{for_device, for_ended, for_guest, for_held, for_lane, for_owner, for_taken, free_tag, is_free, is_io_queue, is_success}
-use Rattle.nv_world_model.specs.Step.{list_at, listed, post_at, post_by, replied, step, submit_by, take_from, take_front, take_tag}
-use Rattle.nv_world_model.specs.View.{IsAlike, is_guest, is_tag_of, lane_numbers, own_held, own_tag, ring_numbers, shared_numbers}
-use Rattle.nv_world_model.specs.World.{Command, Ended, Flying, Free, Lane, Tag, Taken, World, tag_of}
+use Rattle.nv_world_model.specs.Step.{deciding, entry_at, for_device, for_ended, for_guest, for_held, for_lane, for_leader, for_owner, for_taken}
+use Rattle.nv_world_model.specs.Step.{is_io_queue, is_success}
+use Rattle.nv_world_model.specs.Step.{list_at, listed, post_all, post_by, replied, statuses_of, step, submit_by, take_from, take_front, take_tags}
+use Rattle.nv_world_model.specs.View.{IsAlike, is_tag_of, lane_numbers, own_held, ring_numbers, shared_numbers}
+use Rattle.nv_world_model.specs.World.{Command, Ended, Flying, Free, Lane, Tag, Taken, World, claimed, group, is_free, tag_of}
 use Rattle.nv_laws_sound.proofs.Lists.{some-same}
+use Rattle.nv_laws_others.specs.Alike.{GoesByItsOwn}
+use Rattle.nv_laws_others.proofs.AlikeGroups.{claimed-same, group-mine, groups-alike, statuses-alike, tag-own, tag-same}
 
 -- ---- lists
 
@@ -52,19 +56,6 @@ module _ {X : Type 0} (p : X → Bool) where
   same-length [] (y ∷ ys) e = cc
   same-length (x ∷ xs) [] e = cc
   same-length (x ∷ xs) (y ∷ ys) e = ap (λ n. suc n) (same-length xs ys (ap rest e))
-
-  same-prefix : (xs ys : List X) → map p xs ≡ map p ys → prefix_len (λ x. not (p x)) xs ≡ prefix_len (λ x. not (p x)) ys
-  same-prefix [] [] e = refl
-  same-prefix [] (y ∷ ys) e = cc
-  same-prefix (x ∷ xs) [] e = cc
-  same-prefix (x ∷ xs) (y ∷ ys) e =
-      ap (λ b. cond (not b) (1 + prefix_len (λ z. not (p z)) xs) 0) (ap first e)
-      ∙ ap (λ n. cond (not (p y)) (1 + n) 0) (same-prefix xs ys (ap rest e))
-
-  pub same-position : (xs ys : List X) → map p xs ≡ map p ys → position p xs ≡ position p ys
-  same-position xs ys e =
-      ap (λ n. cond (nat_lt n (length xs)) (Some n) None) (same-prefix xs ys e)
-      ∙ ap (λ n. cond (nat_lt (prefix_len (λ x. not (p x)) ys) n) (Some (prefix_len (λ x. not (p x)) ys)) None) (same-length xs ys e)
 
 -- the same is held at a place of lists of one length
 pub same-slot : (xs ys : List (Option Held)) (i : ℕ) → length xs ≡ length ys → held_by (slice_get xs i) ≡ held_by (slice_get ys i)
@@ -87,23 +78,28 @@ tests-same : (b c : Bool) (x y u v : After) → b ≡ c → x.reply ≡ y.reply 
 tests-same b c x y u v same one other = ap (λ t. (cond t x u).reply) same ∙ either-same c x y u v one other
 
 module _ (w z : World) where
-  taken-same : (number : ℕ) (t : Option Tag) → guest_of_one t ≡ Some number → (more again : Command → List ReadDone → After)
-      → ((command : Command) (reads : List ReadDone) → command.guest ≡ number → (more command reads).reply ≡ (again command reads).reply)
-      → (for_taken t w more).reply ≡ (for_taken t z again).reply
-  taken-same number None own more again same = refl
-  taken-same number (Some Free) own more again same = refl
-  taken-same number (Some (Taken command reads)) own more again same = same command reads (some-same command.guest number own)
-  taken-same number (Some (Flying command plan standing)) own more again same = refl
-  taken-same number (Some (Ended command st plan)) own more again same = refl
+  leader-same : (tag : ℕ) (command : Command) (x y : After) → x.reply ≡ y.reply → (for_leader tag command w x).reply ≡ (for_leader tag command z y).reply
+  leader-same tag command x y same = either-same (command.leader == tag) x y (replied reply.Stale w) (replied reply.Stale z) same refl
 
-  ended-same : (number : ℕ) (t : Option Tag) → guest_of_one t ≡ Some number → (more again : Command → StatusField → Option Plan → After)
-      → ((command : Command) (st : StatusField) (plan : Option Plan) → command.guest ≡ number → (more command st plan).reply ≡ (again command st plan).reply)
-      → (for_ended t w more).reply ≡ (for_ended t z again).reply
-  ended-same number None own more again same = refl
-  ended-same number (Some Free) own more again same = refl
-  ended-same number (Some (Taken command reads)) own more again same = refl
-  ended-same number (Some (Flying command plan standing)) own more again same = refl
-  ended-same number (Some (Ended command st plan)) own more again same = same command st plan (some-same command.guest number own)
+  taken-same : (number tag : ℕ) (t : Option Tag) → guest_of_one t ≡ Some number → (more again : Command → List ReadDone → After)
+      → ((command : Command) (reads : List ReadDone) → command.guest ≡ number → (more command reads).reply ≡ (again command reads).reply)
+      → (for_taken tag t w more).reply ≡ (for_taken tag t z again).reply
+  taken-same number tag None own more again same = refl
+  taken-same number tag (Some Free) own more again same = refl
+  taken-same number tag (Some (Taken command reads)) own more again same =
+      leader-same tag command (more command reads) (again command reads) (same command reads (some-same command.guest number own))
+  taken-same number tag (Some (Flying command share standing)) own more again same = refl
+  taken-same number tag (Some (Ended command st share)) own more again same = refl
+
+  ended-same : (number tag : ℕ) (t : Option Tag) → guest_of_one t ≡ Some number → (more again : Command → After)
+      → ((command : Command) → command.guest ≡ number → (more command).reply ≡ (again command).reply)
+      → (for_ended tag t w more).reply ≡ (for_ended tag t z again).reply
+  ended-same number tag None own more again same = refl
+  ended-same number tag (Some Free) own more again same = refl
+  ended-same number tag (Some (Taken command reads)) own more again same = refl
+  ended-same number tag (Some (Flying command share standing)) own more again same = refl
+  ended-same number tag (Some (Ended command st share)) own more again same =
+      leader-same tag command (more command) (again command) (same command (some-same command.guest number own))
 
   lane-same : (x y : Option Lane) → option_map lane_numbers x ≡ option_map lane_numbers y → (more again : Lane → After)
       → ((l m : Lane) → lane_numbers l ≡ lane_numbers m → (more l).reply ≡ (again m).reply)
@@ -172,19 +168,6 @@ administered-same QueueFull o w z = refl
 administered-same (Stepped c memory) o w z = refl
 
 -- ---- tags
-
--- a tag that is that guest's in one is the same in both
-pub tag-same : (number : ℕ) (t u : Option Tag) → own_tag number t ≡ own_tag number u → is_tag_of number t ≡ true → t ≡ u
-tag-same number None u same own = cc
-tag-same number (Some t) u same own =
-    (elim (is_tag_of number u) as (λ b. cond (is_tag_of number (Some t)) (Some t) None ≡ cond b u None → Some t ≡ u) [
-      | true ↦ λ e. sym (ap (λ b. cond b (Some t) None) own) ∙ e
-      | false ↦ λ e. (let bad : Some t ≡ None = sym (ap (λ b. cond b (Some t) None) own) ∙ e in cc)
-    ]) same
-
-pub tag-own : (number : ℕ) (t : Option Tag) → guest_of_one t ≡ Some number → is_tag_of number t ≡ true
-tag-own number None own = cc
-tag-own number (Some t) own = ap (is_guest number) own ∙ eq-eqb number number refl
 
 -- what is held under it
 pub held-alike : (number : ℕ) (t u : Option Tag) (g h : Option Held) → own_held number t g ≡ own_held number u h → t ≡ u → is_tag_of number t ≡ true → g ≡ h
@@ -272,17 +255,25 @@ module _ (geometry : Geometry) (w z : World) (number : ℕ) (guest : Guest) (giv
       administered-same (admin (shape_of guest).mapped (shape_of guest).blocks c (image (regions_of guest) w.host)) (own c) w z
       ∙ ap (λ m. (administered_by (admin (shape_of guest).mapped (shape_of guest).blocks c m) (own c) z).reply) memory)
 
-  tag-replies : (t u : Option ℕ) (addr queue lane : ℕ) (o : Owner) → t ≡ u → (take_tag t addr queue lane o w).reply ≡ (take_tag u addr queue lane o z).reply
-  tag-replies t u addr queue lane o same = by_tag t ∙ ap (λ x. (take_tag x addr queue lane o z).reply) same
+  tags-replies : (t u : Option (List ℕ)) (addr queue lane : ℕ) (o : Owner) → t ≡ u
+      → (take_tags t addr queue lane o w).reply ≡ (take_tags u addr queue lane o z).reply
+  tags-replies t u addr queue lane o same = by_tags t ∙ ap (λ x. (take_tags x addr queue lane o z).reply) same
     where
-      by_tag : (x : Option ℕ) → (take_tag x addr queue lane o w).reply ≡ (take_tag x addr queue lane o z).reply
-      by_tag None = refl
-      by_tag (Some tag) = refl
+      by_tags : (x : Option (List ℕ)) → (take_tags x addr queue lane o w).reply ≡ (take_tags x addr queue lane o z).reply
+      by_tags None = refl
+      by_tags (Some tags) = refl
 
-  front-replies : (at : Option ℕ) (queue lane : ℕ) (l m : Lane) (o : Owner) → free_tag l.tags ≡ free_tag m.tags
-      → (take_front at queue lane l o w).reply ≡ (take_front at queue lane m o z).reply
-  front-replies None queue lane l m o same = refl
-  front-replies (Some addr) queue lane l m o same = tag-replies (free_tag l.tags) (free_tag m.tags) addr queue lane o same
+  -- its entry wants the same tags
+  pub entry-same : (addr : ℕ) (c : Controller) → entry_at addr (own c) w ≡ entry_at addr (own c) z
+  entry-same addr c = ap (λ m. bytes_from m addr sqe_size) memory
+
+  front-replies : (at : Option ℕ) (queue lane : ℕ) (l m : Lane) (c : Controller) → map is_free l.tags ≡ map is_free m.tags
+      → (take_front at queue lane l (own c) w).reply ≡ (take_front at queue lane m (own c) z).reply
+  front-replies None queue lane l m c same = refl
+  front-replies (Some addr) queue lane l m c same =
+      tags-replies _ _ addr queue lane (own c)
+      (claimed-same (tags_of_entry guest.namespace (entry_at addr (own c) w)) l.tags m.tags same
+      ∙ ap (λ e. claimed (tags_of_entry guest.namespace e) m.tags) (entry-same addr c))
 
   take-replies : (n queue lane : ℕ) → n ≡ number → (step geometry (event.Take n queue lane) w).reply ≡ (step geometry (event.Take n queue lane) z).reply
   unfolding step
@@ -293,13 +284,13 @@ module _ (geometry : Geometry) (w z : World) (number : ℕ) (guest : Guest) (giv
       lane-same w z (slice_get w.lanes lane) (slice_get z.lanes lane) (lanes-same lane) (λ l. take_from queue lane l (own c) w) (λ l. take_from queue lane l (own c) z)
       (λ l m numbers.
       either-same (is_io_queue queue) _ _ _ _
-      (front-replies (front c queue) queue lane l m (own c) (same-position is_free l.tags m.tags (ap (λ n. n.free) numbers))) refl))
+      (front-replies (front c queue) queue lane l m c (ap (λ n. n.free) numbers)) refl))
 
   list-replies : (lane tag addr len : ℕ) → guest_of_one (tag_of w lane tag) ≡ Some number
       → (step geometry (event.List lane tag addr len) w).reply ≡ (step geometry (event.List lane tag addr len) z).reply
   unfolding step listed
   list-replies lane tag addr len mine =
-      taken-same w z number (tag_of w lane tag) mine
+      taken-same w z number tag (tag_of w lane tag) mine
       (λ command reads. for_owner (owner_of geometry w command.guest) w (λ o. list_at addr len lane tag command reads o w))
       (λ command reads. for_owner (owner_of geometry z command.guest) z (λ o. list_at addr len lane tag command reads o z))
       (λ command reads whose.
@@ -307,40 +298,40 @@ module _ (geometry : Geometry) (w z : World) (number : ℕ) (guest : Guest) (giv
       (λ c.
       either-same (all_mapped (regions_of guest) addr len) _ _ _ _
       (either-same (nat_le 1 len && nat_le len part_size) _ _ _ _ (ap (λ m. reply.Bytes (bytes_from m addr len)) memory) refl) refl))
-      ∙ ap (λ t. (for_taken t z (λ command reads. for_owner (owner_of geometry z command.guest) z (λ o. list_at addr len lane tag command reads o z))).reply) (tag-here lane tag mine)
+      ∙ ap (λ t. (for_taken tag t z (λ command reads. for_owner (owner_of geometry z command.guest) z (λ o. list_at addr len lane tag command reads o z))).reply) (tag-here lane tag mine)
 
-  outcome-replies : (x : Outcome Plan) (lane tag : ℕ) (command : Command) (o : Owner) (d e : DeviceLane)
-      → (submit_by x geometry.mediator lane tag command o d w).reply ≡ (submit_by x geometry.mediator lane tag command o e z).reply
-  outcome-replies (Wanted addr len) lane tag command o d e = refl
-  outcome-replies (Settled plan) lane tag command o d e = refl
+  outcome-replies : (x : Outcome Plan) (lane : ℕ) (tags others : List ℕ) (command : Command) (o : Owner)
+      → (submit_by x geometry.mediator lane tags command o w).reply ≡ (submit_by x geometry.mediator lane others command o z).reply
+  outcome-replies (Wanted addr len) lane tags others command o = refl
+  outcome-replies (Settled plan) lane tags others command o = refl
 
   submit-replies : (lane tag : ℕ) → guest_of_one (tag_of w lane tag) ≡ Some number
       → (step geometry (event.Submit lane tag) w).reply ≡ (step geometry (event.Submit lane tag) z).reply
   unfolding step
   submit-replies lane tag mine =
-      taken-same w z number (tag_of w lane tag) mine
+      taken-same w z number tag (tag_of w lane tag) mine
       (λ command reads.
       for_owner (owner_of geometry w command.guest) w (λ o. for_device (slice_get w.device lane) w (λ d.
-      submit_by (plan_over o.given command.entry reads) geometry.mediator lane tag command o d w)))
+      submit_by (plan_over o.given command.entry reads) geometry.mediator lane (group w lane tag) command o w)))
       (λ command reads.
       for_owner (owner_of geometry z command.guest) z (λ o. for_device (slice_get z.device lane) z (λ d.
-      submit_by (plan_over o.given command.entry reads) geometry.mediator lane tag command o d z)))
+      submit_by (plan_over o.given command.entry reads) geometry.mediator lane (group z lane tag) command o z)))
       (λ command reads whose.
       owner-same command.guest whose _ _
       (λ c.
       device-same w z (slice_get w.device lane) (slice_get z.device lane) (rings-same lane) _ _
-      (λ d e there again numbers. outcome-replies (plan_over guest command.entry reads) lane tag command (own c) d e)))
-      ∙ ap (λ t. (for_taken t z (λ command reads.
+      (λ d e there again numbers. outcome-replies (plan_over guest command.entry reads) lane (group w lane tag) (group z lane tag) command (own c))))
+      ∙ ap (λ t. (for_taken tag t z (λ command reads.
       for_owner (owner_of geometry z command.guest) z (λ o. for_device (slice_get z.device lane) z (λ d.
-      submit_by (plan_over o.given command.entry reads) geometry.mediator lane tag command o d z)))).reply)
+      submit_by (plan_over o.given command.entry reads) geometry.mediator lane (group z lane tag) command o z)))).reply)
       (tag-here lane tag mine)
 
   give-up-replies : (lane tag : ℕ) → guest_of_one (tag_of w lane tag) ≡ Some number
       → (step geometry (event.GiveUp lane tag) w).reply ≡ (step geometry (event.GiveUp lane tag) z).reply
   unfolding step
   give-up-replies lane tag mine =
-      taken-same w z number (tag_of w lane tag) mine _ _ (λ command reads whose. refl)
-      ∙ ap (λ t. (for_taken t z (λ command reads. replied reply.Done (ended_at_once lane tag command (done_with InternalError) z))).reply) (tag-here lane tag mine)
+      taken-same w z number tag (tag_of w lane tag) mine _ _ (λ command reads whose. refl)
+      ∙ ap (λ t. (for_taken tag t z (λ command reads. replied reply.Done (ended_at_once lane (group z lane tag) command (done_with InternalError) z))).reply) (tag-here lane tag mine)
 
   device-take-replies : (lane : ℕ) → (step geometry (event.DevTake lane) w).reply ≡ (step geometry (event.DevTake lane) z).reply
   unfolding step
@@ -375,45 +366,65 @@ module _ (geometry : Geometry) (w z : World) (number : ℕ) (guest : Guest) (giv
       tests-same (is_empty l.head d.posted) (is_empty m.head e.posted) _ _ _ _
       (ap (λ n. is_empty n.head d.posted) of_lane ∙ ap (λ n. is_empty m.head n.posted) numbers) refl refl))
 
-  posted-replies : (x : Option Posted) (plan : Option Plan) (st : StatusField) (bounce lane tag : ℕ) (o : Owner)
-      → (post_by x plan st bounce lane tag o w).reply ≡ (post_by x plan st bounce lane tag o z).reply
-  posted-replies None plan st bounce lane tag o = refl
-  posted-replies (Some posted) plan st bounce lane tag o = refl
+  posted-replies : (x : Option Posted) (st : StatusField) (lane : ℕ) (tags others : List ℕ) (o : Owner)
+      → (post_by x st geometry.mediator lane tags o w).reply ≡ (post_by x st geometry.mediator lane others o z).reply
+  posted-replies None st lane tags others o = refl
+  posted-replies (Some posted) st lane tags others o = refl
 
-  abbrev post_after : World → (lane tag : ℕ) → Command → StatusField → Option Plan → After
-  post_after v lane tag command st plan =
-      for_owner (owner_of geometry v command.guest) v (λ o. post_at command st plan (bounce_page geometry.mediator lane tag) lane tag o v)
+  all-replies : (sts : Option (List StatusField)) (command : Command) (lane : ℕ) (tags others : List ℕ) (c : Controller)
+      → (post_all sts command geometry.mediator lane tags (own c) w).reply ≡ (post_all sts command geometry.mediator lane others (own c) z).reply
+  all-replies None command lane tags others c = refl
+  all-replies (Some sts) command lane tags others c =
+      either-same (is_enabled c) _ _ _ _
+      (posted-replies (post c command.queue 0 (cid_of command.entry) (deciding sts)) (deciding sts) lane tags others (own c)) refl
 
-  post-replies : (lane tag : ℕ) → guest_of_one (tag_of w lane tag) ≡ Some number
+  abbrev post_after : World → (lane tag : ℕ) → Command → After
+  post_after v lane tag command =
+      for_owner (owner_of geometry v command.guest) v
+      (λ o. post_all (statuses_of lane (group v lane tag) v) command geometry.mediator lane (group v lane tag) o v)
+
+  -- its command's tags are the same, and so have they ended
+  pub group-same : GoesByItsOwn number w → GoesByItsOwn number z → (lane leader : ℕ) → is_tag_of number (tag_of w lane leader) ≡ true
+      → group w lane leader ≡ group z lane leader
+  group-same one two lane leader mine = groups-alike number w z lane leader (alike.view.tags lane) (lanes-same lane) one two mine
+
+  pub statuses-same : GoesByItsOwn number w → GoesByItsOwn number z → (lane tag : ℕ) → is_tag_of number (tag_of w lane tag) ≡ true
+      → statuses_of lane (group w lane tag) w ≡ statuses_of lane (group z lane tag) z
+  statuses-same one two lane tag mine =
+      statuses-alike number w z lane (alike.view.tags lane) (group w lane tag) (group-mine number w lane tag one mine)
+      ∙ ap (λ tags. statuses_of lane tags z) (group-same one two lane tag mine)
+
+  post-replies : GoesByItsOwn number w → GoesByItsOwn number z → (lane tag : ℕ) → guest_of_one (tag_of w lane tag) ≡ Some number
       → (step geometry (event.Post lane tag) w).reply ≡ (step geometry (event.Post lane tag) z).reply
   unfolding step
-  post-replies lane tag mine =
-      ended-same w z number (tag_of w lane tag) mine (post_after w lane tag) (post_after z lane tag)
-      (λ command st plan whose.
+  post-replies one two lane tag mine =
+      ended-same w z number tag (tag_of w lane tag) mine (post_after w lane tag) (post_after z lane tag)
+      (λ command whose.
       owner-same command.guest whose _ _
       (λ c.
-      either-same (is_enabled c) _ _ _ _
-      (posted-replies (post c command.queue 0 (cid_of command.entry) st) plan st (bounce_page geometry.mediator lane tag) lane tag (own c)) refl))
-      ∙ ap (λ t. (for_ended t z (post_after z lane tag)).reply) (tag-here lane tag mine)
+      all-replies (statuses_of lane (group w lane tag) w) command lane (group w lane tag) (group z lane tag) c
+      ∙ ap (λ sts. (post_all sts command geometry.mediator lane (group z lane tag) (own c) z).reply)
+      (statuses-same one two lane tag (tag-own number (tag_of w lane tag) mine))))
+      ∙ ap (λ t. (for_ended tag t z (post_after z lane tag)).reply) (tag-here lane tag mine)
 
-  pub replies-same : (e : Event) → owner e w ≡ Some number → (step geometry e w).reply ≡ (step geometry e z).reply
+  pub replies-same : GoesByItsOwn number w → GoesByItsOwn number z → (e : Event) → owner e w ≡ Some number → (step geometry e w).reply ≡ (step geometry e z).reply
   unfolding step
-  replies-same (event.Guest n a) mine = act-replies n a (some-same n number mine)
-  replies-same (event.Admin n) mine = admin-replies n (some-same n number mine)
-  replies-same (event.Take n queue lane) mine = take-replies n queue lane (some-same n number mine)
-  replies-same (event.List lane tag addr len) mine = list-replies lane tag addr len mine
-  replies-same (event.Submit lane tag) mine = submit-replies lane tag mine
-  replies-same (event.GiveUp lane tag) mine = give-up-replies lane tag mine
-  replies-same (event.DevTake lane) mine = device-take-replies lane
-  replies-same (event.DevMove lane slot k) mine =
+  replies-same one two (event.Guest n a) mine = act-replies n a (some-same n number mine)
+  replies-same one two (event.Admin n) mine = admin-replies n (some-same n number mine)
+  replies-same one two (event.Take n queue lane) mine = take-replies n queue lane (some-same n number mine)
+  replies-same one two (event.List lane tag addr len) mine = list-replies lane tag addr len mine
+  replies-same one two (event.Submit lane tag) mine = submit-replies lane tag mine
+  replies-same one two (event.GiveUp lane tag) mine = give-up-replies lane tag mine
+  replies-same one two (event.DevTake lane) mine = device-take-replies lane
+  replies-same one two (event.DevMove lane slot k) mine =
       slot-replies lane slot (λ d h. device_move geometry.disk_blocks lane slot k h w) (λ d h. device_move geometry.disk_blocks lane slot k h z) mine
       (λ d e h. either-same (list_any (λ other. other == k) h.left) _ _ _ _ refl refl)
-  replies-same (event.DevPost lane slot) mine =
+  replies-same one two (event.DevPost lane slot) mine =
       slot-replies lane slot (λ d h. device_post h.left geometry.mediator lane slot h d w) (λ d h. device_post h.left geometry.mediator lane slot h d z) mine
       (λ d e h. post-replies-by h.left lane slot h d e)
-  replies-same (event.DevFail lane slot st) mine =
+  replies-same one two (event.DevFail lane slot st) mine =
       slot-replies lane slot (λ d h. device_fail geometry.mediator lane slot st d w) (λ d h. device_fail geometry.mediator lane slot st d z) mine
       (λ d e h. either-same (is_success st) _ _ _ _ refl refl)
-  replies-same (event.Keep block) mine = cc
-  replies-same (event.Reap lane) mine = reap-replies lane
-  replies-same (event.Post lane tag) mine = post-replies lane tag mine
+  replies-same one two (event.Keep block) mine = cc
+  replies-same one two (event.Reap lane) mine = reap-replies lane
+  replies-same one two (event.Post lane tag) mine = post-replies one two lane tag mine

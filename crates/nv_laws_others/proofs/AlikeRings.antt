@@ -1,5 +1,6 @@
 -- A guest's completions, in worlds that look alike to it: they look alike behind the device's posting of one, and the mediator's reading of one.
-use Rattle.std.proofs.Common.{◌≡◌, ℕ, ◌^◌, ◌<◌, Bool, true, false, cond, ◌&&◌, ◌==◌, List, [], ◌∷◌, length, set, slice_get, Option, Some, None, arith, refl, sym, ap, ◌∙◌, eq-eqb, subst}
+use Rattle.std.proofs.Common.{◌≡◌, ℕ, ◌^◌, ◌<◌, Bool, true, false, cond, ◌&&◌, ◌==◌, List, [], ◌∷◌, length, set, slice_get}
+use Rattle.std.proofs.Common.{Option, Some, None, arith, refl, sym, ap, ◌∙◌, eq-eqb, subst}
 use Rattle.std.specs.List.{list_any}
 use Rattle.std.proofs.lemmas.Bool.{eqb-false}
 use Rattle.nv_entry.specs.Completion.{completion, sc_of, sct_of, status_of}
@@ -19,11 +20,12 @@ use Rattle.nv_world_model.specs.Contained.{guest_of_one, is_answered_at, next_gu
 use Rattle.nv_world_model.specs.Device.{DeviceLane, Held, completion_posted, completion_written, held_status, next_phase}
 use Rattle.nv_world_model.specs.Geometry.{Geometry, Guest}
 use Rattle.nv_world_model.specs.Seat.{completion_at, held_by, held_in}
-use Rattle.nv_world_model.specs.Step.{After, completion_read, device_fail, device_post, device_posted, ended_at, for_device, for_held, is_success, passed_on, reap, reaped, step}
+use Rattle.nv_world_model.specs.Step.{After, completion_read, device_fail, device_post, device_posted, ended_at, for_device, for_held, is_success}
+use Rattle.nv_world_model.specs.Step.{passed_on, reap, reaped, step}
 use Rattle.nv_world_model.specs.View.{IsAlike, RingNumbers, guest_of_tag, is_tag_of, lane_numbers, moved_shown, own_held, ring_numbers, units_shown}
 use Rattle.nv_world_model.specs.World.{Answered, Ended, Flying, InDevice, Lane, Tag, World, tag_changed, tag_in, tag_of, with_lane}
 use Rattle.nv_world_model.proofs.Seats.{slice_get-set}
-use Rattle.nv_laws_sound.specs.Consistent.{IsConsistent, waits_for_mediator}
+use Rattle.nv_laws_sound.specs.Consistent.{IsConsistentOfTags, waits_for_mediator}
 use Rattle.nv_laws_sound.specs.LaidOut.{IsLaidOut}
 use Rattle.nv_laws_sound.proofs.AnswerEvents.{answer-undisturbed, written-elsewhere}
 use Rattle.nv_laws_sound.proofs.Lists.{count-fewer, length-set, set-same, slice_get-below, slice_get-there, some-same}
@@ -75,7 +77,7 @@ numbers-posted d e tag same =
     ∙ ap (λ n. record { head = n.head; tail = n.tail; posted = next_slot ring_size n.posted; phase = next_phase n.posted n.phase; slots = n.slots }) same
     ∙ sym (ap (λ n. record { head = e.head; tail = e.tail; posted = next_slot ring_size e.posted; phase = next_phase e.posted e.phase; slots = n }) (length-set e.held tag None))
 
-module _ (host_bytes : ℕ) (geometry : Geometry) (w z : World) (laid : IsLaidOut host_bytes (length w.lanes) geometry) (fine : IsConsistent geometry w)
+module _ (host_bytes : ℕ) (geometry : Geometry) (w z : World) (laid : IsLaidOut host_bytes (length w.lanes) geometry) (fine : IsConsistentOfTags geometry w)
     (number : ℕ) (guest : Guest) (given : slice_get geometry.guests number ≡ Some guest) (alike : IsAlike number guest geometry w z) where
   abbrev Behind : World → World → Type 0
   Behind v u = IsAlike number guest geometry v u
@@ -90,31 +92,31 @@ module _ (host_bytes : ℕ) (geometry : Geometry) (w z : World) (laid : IsLaidOu
   reaped-alike lane tag l m d e held t at too there again numbers rings found under next own =
       let before = fine.lanes lane l d at there in
       let a = answered-at geometry lane tag l.head w.host l.head d held t (before.tags tag t held found under) next in
-      let was = Flying a.command a.plan (Answered l.head) in
+      let was = Flying a.command a.share (Answered l.head) in
       let flies : slice_get l.tags tag ≡ Some was = found ∙ ap (λ x. Some x) a.flies in
       let here : tag_of w lane tag ≡ Some was = ap (λ o. tag_in o tag) at ∙ flies in
       let mine : is_tag_of number (Some was) ≡ true = eq-eqb a.command.guest number (some-same a.command.guest number (sym (ap guest_of_tag a.flies) ∙ own)) in
       let x = found-both geometry w z number guest given alike lane tag l m d e was at too there again numbers rings flies mine in
       let bytes = completion_at geometry w lane l.head in
       let same : bytes ≡ completion_at geometry z lane m.head =
-      completion-same geometry number guest w z alike lane tag l.head a.command a.plan here mine ∙ ap (λ n. completion_at geometry z lane n.head) numbers in
+      completion-same geometry number guest w z alike lane tag l.head a.command a.share here mine ∙ ap (λ n. completion_at geometry z lane n.head) numbers in
       let st = status_of bytes in
-      let new = Ended a.command (passed_on st) (Some a.plan) in
+      let new = Ended a.command (passed_on st) (Some a.share) in
       let now = tag_changed tag new (completion_read l) in
       let now_too = tag_changed tag new (completion_read m) in
       let bounce = bounce_page geometry.mediator lane tag in
       subst (λ bs. Behind (reaped lane bytes w) (reaped lane bs z)) same
       (subst (λ n. Behind (ended_at (tag_of w lane n) st lane n (with_lane lane completion_read w)) (ended_at (tag_of z lane n) st lane n (with_lane lane completion_read z))) (sym a.identifier)
-      (subst (λ v. Behind v (ended_at (tag_of z lane tag) st lane tag (with_lane lane completion_read z))) (sym (ended-is w lane tag l a.command a.plan (Answered l.head) st at flies))
-      (subst (λ u. Behind (record w { lanes = set w.lanes lane now }) u) (sym (ended-is z lane tag m a.command a.plan (Answered l.head) st too x.tag_two))
+      (subst (λ v. Behind v (ended_at (tag_of z lane tag) st lane tag (with_lane lane completion_read z))) (sym (ended-is w lane tag l a.command a.share (Answered l.head) st at flies))
+      (subst (λ u. Behind (record w { lanes = set w.lanes lane now }) u) (sym (ended-is z lane tag m a.command a.share (Answered l.head) st too x.tag_two))
       (lane-alike geometry number guest w z alike lane tag was was new x now now_too d e (record w { lanes = set w.lanes lane now }) (record z { lanes = set z.lanes lane now_too })
       refl refl (numbers-retagged (completion_read l) (completion_read m) tag new (numbers-read l m numbers)) refl refl
       (sym (set-same w.device lane d there)) (sym (set-same z.device lane e again)) rings (λ b apart. refl) (λ b apart. refl)
       (λ addr is. is) (λ g b y addr apart is lies. refl) alike.view.blocks alike.marks alike.view.controller refl refl
       (λ addr is lies.
       own-same geometry number guest w z alike lane tag was addr here mine
-      (read-is guest geometry w lane tag a.command a.plan (Answered l.head) addr
-      (ap (λ b. list_any (in_span addr) (cond b (units_shown a.plan [] bounce) [])) (sym (passed-success st)) ∙ lies)))
+      (read-is guest geometry w lane tag a.command a.share (Answered l.head) addr
+      (ap (λ b. list_any (in_span addr) (cond b (units_shown a.share.plan [] bounce) [])) (sym (passed-success st)) ∙ lies)))
       (ap (own_held number (Some new))
       (sym (ap (λ o. held_in o tag) there) ∙ held-too geometry w z number guest given alike lane tag was here mine ∙ ap (λ o. held_in o tag) again))))))
 
@@ -162,9 +164,9 @@ module _ (host_bytes : ℕ) (geometry : Geometry) (w z : World) (laid : IsLaidOu
       let lane_below = slice_get-below w.lanes lane l at in
       let holds = held-flies geometry lane tag w.host l.head d h t (before.tags tag t (Some h) found held) in
       let command = holds.command in
-      let plan = holds.plan in
-      let was = Flying command plan InDevice in
-      let new = Flying command plan (Answered d.posted) in
+      let share = holds.share in
+      let was = Flying command share InDevice in
+      let new = Flying command share (Answered d.posted) in
       let flies : slice_get l.tags tag ≡ Some was = found ∙ ap (λ x. Some x) holds.flies in
       let here : tag_of w lane tag ≡ Some was = ap (λ o. tag_in o tag) at ∙ flies in
       let mine : is_tag_of number (Some was) ≡ true = eq-eqb command.guest number (some-same command.guest number (sym (ap guest_of_one here) ∙ own)) in
@@ -188,11 +190,11 @@ module _ (host_bytes : ℕ) (geometry : Geometry) (w z : World) (laid : IsLaidOu
       let success : is_success (status_of (completion_at geometry v lane d.posted)) ≡ is_success st =
       ap (λ bs. is_success (status_of bs)) stands ∙ completion-success 0 d.head (queue_pair lane) tag d.phase st small type code in
       let bounce = bounce_page geometry.mediator lane tag in
-      let one = stands-is w lane tag l d command plan InDevice (Answered d.posted) (memory (ring_numbers d) w.host) (completion_posted tag) at there flies in
-      let two = stands-is z lane tag m e command plan InDevice (Answered e.posted) (memory (ring_numbers e) z.host) (completion_posted tag) too again x.tag_two in
+      let one = stands-is w lane tag l d command share InDevice (Answered d.posted) (memory (ring_numbers d) w.host) (completion_posted tag) at there flies in
+      let two = stands-is z lane tag m e command share InDevice (Answered e.posted) (memory (ring_numbers e) z.host) (completion_posted tag) too again x.tag_two in
       let two_as : _ ≡ u = two ∙ ap (λ (n : RingNumbers). record z {
         host = memory (ring_numbers e) z.host;
-        lanes = set z.lanes lane (tag_changed tag (Flying command plan (Answered n.posted)) m);
+        lanes = set z.lanes lane (tag_changed tag (Flying command share (Answered n.posted)) m);
         device = set z.device lane (completion_posted tag e);
       }) (sym rings) in
       subst (λ y. Behind y (device_posted geometry.mediator lane tag st e z)) (sym one)
@@ -208,20 +210,20 @@ module _ (host_bytes : ℕ) (geometry : Geometry) (w z : World) (laid : IsLaidOu
       (next_phase d.posted d.phase) y b_below before.positions.read before.positions.head before.positions.tail room))
       alike.view.blocks alike.marks alike.view.controller refl refl
       (λ addr is lies.
-      flying-shows guest geometry v lane tag command plan (Answered d.posted) addr (v.host addr ≡ u.host addr) lies
+      flying-shows guest geometry v lane tag command share (Answered d.posted) addr (v.host addr ≡ u.host addr) lies
       (λ by_slot.
       (let both = in-one addr slot cqe_size by_slot in
       let high = both.1 in
       stored-both w.host z.host slot bytes addr both.0 (omega (arith, high, sized)) ∙ ap (λ n. memory n z.host addr) rings))
-      (λ by_list. kept addr (own-same geometry number guest w z alike lane tag was addr here mine (list-is guest geometry w lane tag command plan InDevice addr by_list)))
-      (λ by_source. kept addr (own-same geometry number guest w z alike lane tag was addr here mine (source-is guest geometry w lane tag command plan InDevice addr by_source)))
+      (λ by_list. kept addr (own-same geometry number guest w z alike lane tag was addr here mine (list-is guest geometry w lane tag command share InDevice addr by_list)))
+      (λ by_source. kept addr (own-same geometry number guest w z alike lane tag was addr here mine (source-is guest geometry w lane tag command share InDevice addr by_source)))
       (λ by_read.
-      (let chosen = any-chosen (in_span addr) (is_success (status_of (completion_at geometry v lane d.posted))) (units_shown plan [] bounce) by_read in
+      (let chosen = any-chosen (in_span addr) (is_success (status_of (completion_at geometry v lane d.posted))) (units_shown share.plan [] bounce) by_read in
       let none = all_moved (sym success ∙ chosen.0) in
       let holding : held_in (slice_get w.device lane) tag ≡ Some h = ap (λ o. held_in o tag) there ∙ ap held_by held in
-      kept addr (own-same geometry number guest w z alike lane tag was addr here mine (read-is guest geometry w lane tag command plan InDevice addr
-      (ap (λ o. list_any (in_span addr) (moved_shown o plan bounce)) holding
-      ∙ ap (λ left. list_any (in_span addr) (units_shown plan left bounce)) none ∙ chosen.1))))))
+      kept addr (own-same geometry number guest w z alike lane tag was addr here mine (read-is guest geometry w lane tag command share InDevice addr
+      (ap (λ o. list_any (in_span addr) (moved_shown o share.plan bounce)) holding
+      ∙ ap (λ left. list_any (in_span addr) (units_shown share.plan left bounce)) none ∙ chosen.1))))))
       (ap (own_held number (Some new)) (ap held_by (slice_get-set d.held tag (Some h) None held) ∙ sym (ap held_by (slice_get-set e.held tag (Some h) None held_too))))))
 
   -- where the device holds a command of that guest's

@@ -1,22 +1,24 @@
 -- The ways through a step in two worlds that look alike to its owner: both go the same way, so what holds of the worlds behind each end of it holds behind
 -- the step.
-use Rattle.std.proofs.Common.{◌≡◌, ℕ, Bool, true, false, cond, List, slice_get, Option, Some, None, refl, sym, ap, ◌∙◌, subst}
+use Rattle.std.proofs.Common.{◌≡◌, ℕ, Bool, true, false, cond, ◌==◌, eqb-true, List, slice_get, Option, Some, None, refl, sym, ap, ◌∙◌, subst}
 use Rattle.std.specs.Option.{option_map}
 use Rattle.nv_entry.specs.Status.{StatusField}
 use Rattle.nv_model.specs.Controller.{Controller}
 use Rattle.nv_model.specs.Transcript.{ReadDone}
+use Rattle.nv_model.specs.declared.reply.Reply.TheVariants as reply
 use Rattle.nv_world_model.specs.Contained.{guest_of_one}
 use Rattle.nv_world_model.specs.Device.{DeviceLane, Held}
 use Rattle.nv_world_model.specs.Geometry.{Geometry, Guest}
-use Rattle.nv_world_model.specs.Plan.{Plan}
+use Rattle.nv_world_model.specs.Share.{Share}
 use Rattle.nv_world_model.specs.Seat.{Owner, held_in, owner_by, owner_of}
-use Rattle.nv_world_model.specs.Step.{After, for_device, for_ended, for_guest, for_held, for_lane, for_owner, for_taken}
+use Rattle.nv_world_model.specs.Step.{After, for_device, for_ended, for_guest, for_held, for_lane, for_leader, for_owner, for_taken, replied}
 use Rattle.nv_world_model.specs.View.{IsAlike, is_tag_of, lane_numbers, ring_numbers}
 use Rattle.nv_world_model.specs.World.{Command, Ended, Flying, Free, Lane, Tag, Taken, World, tag_in, tag_of}
-use Rattle.nv_laws_sound.specs.Consistent.{IsConsistent}
+use Rattle.nv_laws_sound.specs.Consistent.{IsConsistentOfTags}
 use Rattle.nv_laws_sound.proofs.Lists.{some-same}
 use Rattle.nv_laws_sound.proofs.Retags.{is-at}
-use Rattle.nv_laws_others.proofs.AlikeReplies.{by-controller, by-guest, held-alike, lanes-same, own, rings-same, tag-same}
+use Rattle.nv_laws_others.proofs.AlikeGroups.{tag-same}
+use Rattle.nv_laws_others.proofs.AlikeReplies.{by-controller, by-guest, held-alike, lanes-same, own, rings-same}
 
 module _ (P : World → World → Type 0) (w z : World) (holds : P w z) where
   either-one : (b : Bool) (x y u v : After) → (b ≡ true → P x.world u.world) → (b ≡ false → P y.world v.world) → P (cond b x y).world (cond b u v).world
@@ -28,24 +30,32 @@ module _ (P : World → World → Type 0) (w z : World) (holds : P w z) where
       → P (cond b x y).world (cond c u v).world
   either-both b c same x y u v so not_so = subst (λ t. P (cond b x y).world (cond t u v).world) same (either-one b x y u v so not_so)
 
-  pub taken-both : (number : ℕ) (t : Option Tag) → guest_of_one t ≡ Some number → (more again : Command → List ReadDone → After)
-      → ((command : Command) (reads : List ReadDone) → t ≡ Some (Taken command reads) → command.guest ≡ number → P (more command reads).world (again command reads).world)
-      → P (for_taken t w more).world (for_taken t z again).world
-  taken-both number None mine more again each = holds
-  taken-both number (Some Free) mine more again each = holds
-  taken-both number (Some (Taken command reads)) mine more again each = each command reads refl (some-same command.guest number mine)
-  taken-both number (Some (Flying command plan standing)) mine more again each = holds
-  taken-both number (Some (Ended command st plan)) mine more again each = holds
+  leader-both : (tag : ℕ) (command : Command) (x y : After) → (command.leader ≡ tag → P x.world y.world)
+      → P (for_leader tag command w x).world (for_leader tag command z y).world
+  leader-both tag command x y each =
+      either-one (command.leader == tag) x (replied reply.Stale w) y (replied reply.Stale z) (λ same. each (eqb-true command.leader tag same)) (λ other. holds)
 
-  pub ended-both : (number : ℕ) (t : Option Tag) → guest_of_one t ≡ Some number → (more again : Command → StatusField → Option Plan → After)
-      → ((command : Command) (st : StatusField) (plan : Option Plan) → t ≡ Some (Ended command st plan) → command.guest ≡ number
-      → P (more command st plan).world (again command st plan).world)
-      → P (for_ended t w more).world (for_ended t z again).world
-  ended-both number None mine more again each = holds
-  ended-both number (Some Free) mine more again each = holds
-  ended-both number (Some (Taken command reads)) mine more again each = holds
-  ended-both number (Some (Flying command plan standing)) mine more again each = holds
-  ended-both number (Some (Ended command st plan)) mine more again each = each command st plan refl (some-same command.guest number mine)
+  pub taken-both : (number tag : ℕ) (t : Option Tag) → guest_of_one t ≡ Some number → (more again : Command → List ReadDone → After)
+      → ((command : Command) (reads : List ReadDone) → t ≡ Some (Taken command reads) → command.guest ≡ number → command.leader ≡ tag
+      → P (more command reads).world (again command reads).world)
+      → P (for_taken tag t w more).world (for_taken tag t z again).world
+  taken-both number tag None mine more again each = holds
+  taken-both number tag (Some Free) mine more again each = holds
+  taken-both number tag (Some (Taken command reads)) mine more again each =
+      leader-both tag command (more command reads) (again command reads) (λ leads. each command reads refl (some-same command.guest number mine) leads)
+  taken-both number tag (Some (Flying command share standing)) mine more again each = holds
+  taken-both number tag (Some (Ended command st share)) mine more again each = holds
+
+  pub ended-both : (number tag : ℕ) (t : Option Tag) → guest_of_one t ≡ Some number → (more again : Command → After)
+      → ((command : Command) (st : StatusField) (share : Option Share) → t ≡ Some (Ended command st share) → command.guest ≡ number → command.leader ≡ tag
+      → P (more command).world (again command).world)
+      → P (for_ended tag t w more).world (for_ended tag t z again).world
+  ended-both number tag None mine more again each = holds
+  ended-both number tag (Some Free) mine more again each = holds
+  ended-both number tag (Some (Taken command reads)) mine more again each = holds
+  ended-both number tag (Some (Flying command share standing)) mine more again each = holds
+  ended-both number tag (Some (Ended command st share)) mine more again each =
+      leader-both tag command (more command) (again command) (λ leads. each command st share refl (some-same command.guest number mine) leads)
 
   pub lane-both : (x y : Option Lane) → option_map lane_numbers x ≡ option_map lane_numbers y → (more again : Lane → After)
       → ((l m : Lane) → x ≡ Some l → y ≡ Some m → lane_numbers l ≡ lane_numbers m → P (more l).world (again m).world)
@@ -128,7 +138,7 @@ module _ (geometry : Geometry) (w z : World) (number : ℕ) (guest : Guest) (giv
         rings = rings;
       }
 
-  pub in-both : (lane tag : ℕ) (t : Tag) → IsConsistent geometry w → tag_of w lane tag ≡ Some t → is_tag_of number (Some t) ≡ true → IsInBoth w z lane tag t t
+  pub in-both : (lane tag : ℕ) (t : Tag) → IsConsistentOfTags geometry w → tag_of w lane tag ≡ Some t → is_tag_of number (Some t) ≡ true → IsInBoth w z lane tag t t
   in-both lane tag t fine there mine =
       let a = is-at geometry w lane tag t fine there in
       let m = lane-too lane a.l a.at_lane in

@@ -1,6 +1,7 @@
 -- Worlds that look alike to a guest look alike to it behind an event, where each byte that was the same in both is the same still, one tag has
 -- become the same in both, and what is shown of that tag is the same.
-use Rattle.std.proofs.Common.{◌≡◌, ℕ, ◌+◌, ◌<◌, ◌⊎◌, inl, inr, true, List, length, map, set, slice_get, Option, Some, None, arith, refl, sym, ap, ◌∙◌, subst}
+use Rattle.std.proofs.Common.{◌≡◌, ℕ, ◌+◌, ◌<◌, ◌⊎◌, inl, inr, true, List, length, map, set, slice_get, Option, Some, None, arith}
+use Rattle.std.proofs.Common.{refl, sym, ap, ◌∙◌, subst}
 use Rattle.std.specs.List.{list_any}
 use Rattle.std.proofs.lemmas.Bool.{cases_eq}
 use Rattle.std.proofs.lemmas.List.{map-set}
@@ -14,10 +15,10 @@ use Rattle.nv_world_model.specs.Contained.{is_answered_at, tag_stands}
 use Rattle.nv_world_model.specs.Device.{DeviceLane, next_phase}
 use Rattle.nv_world_model.specs.Geometry.{Geometry, Guest, regions_of}
 use Rattle.nv_world_model.specs.Seat.{completion_at, held_in}
-use Rattle.nv_world_model.specs.Step.{completion_read, is_free}
+use Rattle.nv_world_model.specs.Step.{completion_read}
 use Rattle.nv_world_model.specs.View.{IsAlike, SameMarks, is_tag_of, lane_numbers, own_held, own_tag, ring_numbers, shared_numbers}
-use Rattle.nv_world_model.specs.World.{Lane, Tag, World, tag_changed, tag_in, tag_of}
-use Rattle.nv_laws_sound.proofs.Commands.{tag-elsewhere, tag-here}
+use Rattle.nv_world_model.specs.World.{Lane, Tag, World, is_free, tag_changed, tag_in, tag_of}
+use Rattle.nv_laws_others.proofs.OneTag.{tag-elsewhere, tag-here}
 use Rattle.nv_laws_sound.proofs.Shows.{bytes_from-between}
 use Rattle.nv_laws_others.specs.Leaving.{InCompletion, IsBytes}
 use Rattle.nv_laws_others.proofs.Parts.{device-elsewhere}

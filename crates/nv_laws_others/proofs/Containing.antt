@@ -11,24 +11,27 @@ use Rattle.nv_world_model.specs.CutDown.{cut}
 use Rattle.nv_world_model.specs.Geometry.{Geometry, Guest}
 use Rattle.nv_world_model.specs.Headline.{AreContained}
 use Rattle.nv_world_model.specs.Seat.{held_in}
-use Rattle.nv_world_model.specs.SetUp.{SetUp, refusal_of, world_at_start}
+use Rattle.nv_world_model.specs.SetUp.{SetUp, refusal_of}
 use Rattle.nv_world_model.specs.Step.{step}
 use Rattle.nv_world_model.specs.View.{IsAlike, is_tag_of}
 use Rattle.nv_world_model.specs.World.{World, opening_lane, opening_world, tag_of}
-use Rattle.nv_world_model.proofs.Replies.{step-answers}
+use Rattle.nv_world_model.specs.SetUp.{world_at_start}
+use Rattle.nv_laws_others.proofs.Replies.{step-answers}
 use Rattle.nv_laws_sound.specs.Consistent.{IsConsistent}
 use Rattle.nv_laws_sound.specs.LaidOut.{IsLaidOut}
 use Rattle.nv_laws_sound.proofs.LaidOuts.{laid-out}
 use Rattle.nv_laws_sound.proofs.Lists.{some-same}
 use Rattle.nv_laws_sound.proofs.Openings.{opening-consistent}
-use Rattle.nv_laws_sound.proofs.Steps.{lanes-kept, step-consistent}
-use Rattle.nv_laws_others.specs.Alike.{HasFittingStatus, HoldsNothingFree}
+use Rattle.nv_laws_sound.proofs.ManyLanes.{lanes-kept}
+use Rattle.nv_laws_sound.proofs.Steps.{step-consistent}
+use Rattle.nv_laws_others.specs.Alike.{GoesByItsOwn, HasFittingStatus, HoldsNothingFree}
 use Rattle.nv_laws_others.proofs.AlikeGuests.{acts-alike, admins-alike, give_ups-alike, lists-alike, takes-alike}
 use Rattle.nv_laws_others.proofs.AlikeMoves.{moves-alike}
 use Rattle.nv_laws_others.proofs.AlikePosts.{posts-alike}
 use Rattle.nv_laws_others.proofs.AlikeReplies.{replies-same}
 use Rattle.nv_laws_others.proofs.AlikeRings.{device_fails-alike, device_posts-alike, reaps-alike}
-use Rattle.nv_laws_others.proofs.AlikeSubmits.{submits-alike}
+use Rattle.nv_laws_others.proofs.AlikeHanded.{submits-alike}
+use Rattle.nv_laws_others.proofs.Owned.{consistent-owned, cut-owned}
 use Rattle.nv_laws_others.proofs.AlikeTakes.{device_takes-alike}
 use Rattle.nv_laws_others.proofs.Cuts.{cut-alike, device-cut, owns-same}
 use Rattle.nv_laws_others.proofs.Every.{each-leaves-others, keep-raises}
@@ -36,33 +39,33 @@ use Rattle.nv_laws_others.proofs.Every.{each-leaves-others, keep-raises}
 -- ---- worlds that look alike
 
 pub events-alike : (host_bytes : ℕ) (geometry : Geometry) (w z : World) (number : ℕ) (guest : Guest) (e : Event) → IsLaidOut host_bytes (length w.lanes) geometry
-    → IsConsistent geometry w → HoldsNothingFree z → slice_get geometry.guests number ≡ Some guest → IsAlike number guest geometry w z → HasFittingStatus e
+    → IsConsistent geometry w → HoldsNothingFree z → GoesByItsOwn number z → slice_get geometry.guests number ≡ Some guest → IsAlike number guest geometry w z → HasFittingStatus e
     → owner e w ≡ Some number → IsAlike number guest geometry (step geometry e w).world (step geometry e z).world
-events-alike host_bytes geometry w z number guest (event.Guest n a) laid fine nothing given alike fits mine =
-    acts-alike host_bytes geometry w z laid fine number guest given alike n a (some-same n number mine)
-events-alike host_bytes geometry w z number guest (event.Admin n) laid fine nothing given alike fits mine =
-    admins-alike host_bytes geometry w z laid fine number guest given alike n (some-same n number mine)
-events-alike host_bytes geometry w z number guest (event.Take n queue lane) laid fine nothing given alike fits mine =
-    takes-alike host_bytes geometry w z laid fine number guest given alike nothing n queue lane (some-same n number mine)
-events-alike host_bytes geometry w z number guest (event.List lane tag addr len) laid fine nothing given alike fits mine =
-    lists-alike host_bytes geometry w z laid fine number guest given alike lane tag addr len mine
-events-alike host_bytes geometry w z number guest (event.Submit lane tag) laid fine nothing given alike fits mine =
-    submits-alike host_bytes geometry w z laid fine number guest given alike lane tag mine
-events-alike host_bytes geometry w z number guest (event.GiveUp lane tag) laid fine nothing given alike fits mine =
-    give_ups-alike host_bytes geometry w z laid fine number guest given alike lane tag mine
-events-alike host_bytes geometry w z number guest (event.DevTake lane) laid fine nothing given alike fits mine =
-    device_takes-alike host_bytes geometry w z laid fine number guest given alike lane mine
-events-alike host_bytes geometry w z number guest (event.DevMove lane slot k) laid fine nothing given alike fits mine =
-    moves-alike host_bytes geometry w z laid fine number guest given alike lane slot k mine
-events-alike host_bytes geometry w z number guest (event.DevPost lane slot) laid fine nothing given alike fits mine =
-    device_posts-alike host_bytes geometry w z laid fine number guest given alike lane slot mine
-events-alike host_bytes geometry w z number guest (event.DevFail lane slot st) laid fine nothing given alike fits mine =
-    device_fails-alike host_bytes geometry w z laid fine number guest given alike lane slot st fits.0 fits.1 mine
-events-alike host_bytes geometry w z number guest (event.Keep block) laid fine nothing given alike fits mine = cc
-events-alike host_bytes geometry w z number guest (event.Reap lane) laid fine nothing given alike fits mine =
-    reaps-alike host_bytes geometry w z laid fine number guest given alike lane mine
-events-alike host_bytes geometry w z number guest (event.Post lane tag) laid fine nothing given alike fits mine =
-    posts-alike host_bytes geometry w z laid fine number guest given alike lane tag mine
+events-alike host_bytes geometry w z number guest (event.Guest n a) laid fine nothing owned given alike fits mine =
+    acts-alike host_bytes geometry w z laid fine.of_tags number guest given alike n a (some-same n number mine)
+events-alike host_bytes geometry w z number guest (event.Admin n) laid fine nothing owned given alike fits mine =
+    admins-alike host_bytes geometry w z laid fine.of_tags number guest given alike n (some-same n number mine)
+events-alike host_bytes geometry w z number guest (event.Take n queue lane) laid fine nothing owned given alike fits mine =
+    takes-alike host_bytes geometry w z laid fine.of_tags number guest given alike nothing n queue lane (some-same n number mine)
+events-alike host_bytes geometry w z number guest (event.List lane tag addr len) laid fine nothing owned given alike fits mine =
+    lists-alike host_bytes geometry w z laid fine.of_tags number guest given alike lane tag addr len mine
+events-alike host_bytes geometry w z number guest (event.Submit lane tag) laid fine nothing owned given alike fits mine =
+    submits-alike host_bytes geometry number guest given w z laid fine.of_tags fine.groups alike (consistent-owned geometry w number fine) owned lane tag mine
+events-alike host_bytes geometry w z number guest (event.GiveUp lane tag) laid fine nothing owned given alike fits mine =
+    give_ups-alike host_bytes geometry w z laid fine.of_tags number guest given alike (consistent-owned geometry w number fine) owned lane tag mine
+events-alike host_bytes geometry w z number guest (event.DevTake lane) laid fine nothing owned given alike fits mine =
+    device_takes-alike host_bytes geometry w z laid fine.of_tags number guest given alike lane mine
+events-alike host_bytes geometry w z number guest (event.DevMove lane slot k) laid fine nothing owned given alike fits mine =
+    moves-alike host_bytes geometry w z laid fine.of_tags number guest given alike lane slot k mine
+events-alike host_bytes geometry w z number guest (event.DevPost lane slot) laid fine nothing owned given alike fits mine =
+    device_posts-alike host_bytes geometry w z laid fine.of_tags number guest given alike lane slot mine
+events-alike host_bytes geometry w z number guest (event.DevFail lane slot st) laid fine nothing owned given alike fits mine =
+    device_fails-alike host_bytes geometry w z laid fine.of_tags number guest given alike lane slot st fits.0 fits.1 mine
+events-alike host_bytes geometry w z number guest (event.Keep block) laid fine nothing owned given alike fits mine = cc
+events-alike host_bytes geometry w z number guest (event.Reap lane) laid fine nothing owned given alike fits mine =
+    reaps-alike host_bytes geometry w z laid fine.of_tags number guest given alike lane mine
+events-alike host_bytes geometry w z number guest (event.Post lane tag) laid fine nothing owned given alike fits mine =
+    posts-alike host_bytes geometry w z laid fine.of_tags number guest given alike (consistent-owned geometry w number fine) owned lane tag mine
 
 -- ---- the world cut down
 
@@ -83,11 +86,12 @@ events-contained host_bytes geometry w e laid fine fits =
       others = each-leaves-others host_bytes geometry w e laid fine;
       own = (λ number guest given mine.
           (let z = cut number guest geometry w in
+          let owned = cut-owned host_bytes (length w.lanes) geometry w number guest laid given fine in
           let alike = cut-alike host_bytes (length w.lanes) geometry laid w number guest given in
           record {
-            reply = replies-same geometry w z number guest given alike e mine;
+            reply = replies-same geometry w z number guest given alike (consistent-owned geometry w number fine) owned e mine;
             alike =
-                events-alike host_bytes geometry w z number guest e laid fine (cut-holds host_bytes (length w.lanes) geometry laid w number guest given) given alike fits mine;
+                events-alike host_bytes geometry w z number guest e laid fine (cut-holds host_bytes (length w.lanes) geometry laid w number guest given) owned given alike fits mine;
           }));
       keep = (λ block is. subst (λ x. RaisesOne block w (step geometry x w).world) (sym is) (keep-raises geometry w block));
       dull = (step-answers geometry e w).dull;

@@ -1,5 +1,6 @@
 -- The world cut down to a guest looks to that guest as it does whole.
-use Rattle.std.proofs.Common.{◌≡◌, ℕ, zero, suc, ◌+◌, Bool, true, false, cond, ◌&&◌, ◌||◌, ◌==◌, List, [], ◌∷◌, length, map, slice_get}
+use Rattle.std.proofs.Common.{◌≡◌, ℕ, zero, suc, ◌+◌, Bool, true, false, cond, ◌&&◌, ◌||◌, ◌==◌, List, [], ◌∷◌, length, map}
+use Rattle.std.proofs.Common.{slice_get}
 use Rattle.std.proofs.Common.{Option, Some, None, is_some, arith, refl, sym, ap, ◌∙◌, eq-eqb}
 use Rattle.std.specs.List.{enumerate_from}
 use Rattle.std.specs.Option.{option_map}
@@ -16,9 +17,8 @@ use Rattle.nv_world_model.specs.CutDown.{cut, cut_controller, cut_device, cut_la
 use Rattle.nv_world_model.specs.Device.{DeviceLane, Held}
 use Rattle.nv_world_model.specs.Geometry.{Geometry, Guest, regions_of}
 use Rattle.nv_world_model.specs.Seat.{held_by, held_in}
-use Rattle.nv_world_model.specs.Step.{is_free}
 use Rattle.nv_world_model.specs.View.{IsAlike, in_image, is_tag_of, lane_numbers, lies_in, own_held, own_tag, ring_numbers, shared_numbers, shown}
-use Rattle.nv_world_model.specs.World.{Ended, Flying, Free, Lane, Tag, Taken, World, tag_in, tag_of}
+use Rattle.nv_world_model.specs.World.{Ended, Flying, Free, Lane, Tag, Taken, World, is_free, tag_in, tag_of}
 use Rattle.nv_laws_sound.specs.LaidOut.{IsLaidOut}
 use Rattle.nv_laws_sound.proofs.Lists.{slice_get-below}
 use Rattle.nv_laws_sound.proofs.Namespaces.{place-own}
@@ -52,8 +52,8 @@ module _ (number nobody : ℕ) (apart : (nobody == number) ≡ false) where
   free-kept : (t : Tag) → is_free t ≡ is_free (cut_tag number nobody t)
   free-kept Free = refl
   free-kept (Taken command reads) = free-chosen (command.guest == number) (Taken command reads) refl
-  free-kept (Flying command plan standing) = free-chosen (command.guest == number) (Flying command plan standing) refl
-  free-kept (Ended command st plan) = free-chosen (command.guest == number) (Ended command st plan) refl
+  free-kept (Flying command share standing) = free-chosen (command.guest == number) (Flying command share standing) refl
+  free-kept (Ended command st share) = free-chosen (command.guest == number) (Ended command st share) refl
 
   own-chosen : (b : Bool) (t : Tag) → is_tag_of number (Some t) ≡ b → b ≡ is_tag_of number (Some (cond b t (Taken (nobodys nobody) [])))
   own-chosen true t is = sym is
@@ -62,8 +62,8 @@ module _ (number nobody : ℕ) (apart : (nobody == number) ≡ false) where
   own-kept : (t : Tag) → is_tag_of number (Some t) ≡ is_tag_of number (Some (cut_tag number nobody t))
   own-kept Free = refl
   own-kept (Taken command reads) = own-chosen (command.guest == number) (Taken command reads) refl
-  own-kept (Flying command plan standing) = own-chosen (command.guest == number) (Flying command plan standing) refl
-  own-kept (Ended command st plan) = own-chosen (command.guest == number) (Ended command st plan) refl
+  own-kept (Flying command share standing) = own-chosen (command.guest == number) (Flying command share standing) refl
+  own-kept (Ended command st share) = own-chosen (command.guest == number) (Ended command st share) refl
 
   tag-chosen : (b : Bool) (t : Tag) → is_tag_of number (Some t) ≡ b → cond b (Some t) None ≡ own_tag number (Some (cond b t (Taken (nobodys nobody) [])))
   tag-chosen true t is = sym (ap (λ b. cond b (Some t) None) is)
@@ -72,8 +72,8 @@ module _ (number nobody : ℕ) (apart : (nobody == number) ≡ false) where
   tag-kept : (t : Tag) → own_tag number (Some t) ≡ own_tag number (Some (cut_tag number nobody t))
   tag-kept Free = refl
   tag-kept (Taken command reads) = tag-chosen (command.guest == number) (Taken command reads) refl
-  tag-kept (Flying command plan standing) = tag-chosen (command.guest == number) (Flying command plan standing) refl
-  tag-kept (Ended command st plan) = tag-chosen (command.guest == number) (Ended command st plan) refl
+  tag-kept (Flying command share standing) = tag-chosen (command.guest == number) (Flying command share standing) refl
+  tag-kept (Ended command st share) = tag-chosen (command.guest == number) (Ended command st share) refl
 
   -- where there is one
   tags-kept : (t : Option Tag) → own_tag number t ≡ own_tag number (option_map (cut_tag number nobody) t)
@@ -169,7 +169,7 @@ module _ (host_bytes lanes : ℕ) (geometry : Geometry) (laid : IsLaidOut host_b
       let there = guest_of-host (regions_of guest) addr at (laid.given number guest given).sound.apart is in
       sym (ap (λ o. cond (is_some o || lies_in (shown number guest geometry w) at) (w.host at) 0) there)
 
-  tag-cut : (lane tag : ℕ) → tag_of (cut number guest geometry w) lane tag ≡ option_map (cut_tag number (length geometry.guests)) (tag_of w lane tag)
+  pub tag-cut : (lane tag : ℕ) → tag_of (cut number guest geometry w) lane tag ≡ option_map (cut_tag number (length geometry.guests)) (tag_of w lane tag)
   unfolding cut
   tag-cut lane tag =
       ap (λ o. tag_in o tag) (slice_get-map (cut_lane number (length geometry.guests)) w.lanes lane)

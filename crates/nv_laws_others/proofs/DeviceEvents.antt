@@ -1,44 +1,48 @@
 -- What submissions, the physical controller's events but a unit's move, reaping and marks leave.
-use Rattle.std.proofs.Common.{◌≡◌, ℕ, ◌+◌, ◌<◌, inl, inr, Bool, true, false, cond, ◌==◌, nat_le, List, [], ◌∷◌, length, set, slice_get, Some, None, arith, refl, sym, ap, ◌∙◌, subst}
+use Rattle.std.proofs.Common.{◌≡◌, ℕ, ◌+◌, ◌<◌, inl, inr, Bool, true, false, cond, ◌==◌, nat_le, List, [], ◌∷◌, length, set}
+use Rattle.std.proofs.Common.{slice_get, Option, Some, None, arith, refl, sym, ap, ◌∙◌, subst}
 use Rattle.nv_entry.proofs.CompletionLemmas.{length-completion}
 use Rattle.nv_entry.specs.Completion.{completion}
 use Rattle.nv_entry.specs.Status.{StatusField}
+use Rattle.nv_entry.specs.StatusCode.{done_with}
+use Rattle.nv_entry.specs.declared.status_code.StatusCode.TheVariants.{Success}
 use Rattle.nv_model.specs.Memory.{stored}
-use Rattle.nv_model.specs.Transcript.{Outcome, ReadDone, Settled, Wanted}
+use Rattle.nv_model.specs.Transcript.{ReadDone}
 use Rattle.nv_world_model.specs.declared.event.Event.TheVariants as event
-use Rattle.nv_world_model.specs.Area.{completion_slot, queue_pair, tag_count, written}
+use Rattle.nv_world_model.specs.Area.{completion_slot, queue_pair, tag_count}
 use Rattle.nv_world_model.specs.Contained.{guest_of_one, tag_stands}
 use Rattle.nv_world_model.specs.Device.{DeviceLane, Held, completion_posted, completion_written, held_status, next_phase, rung}
 use Rattle.nv_world_model.specs.Geometry.{Geometry}
-use Rattle.nv_world_model.specs.Plan.{Answer, Bounced, Direct, NoData, Plan, plan_over}
-use Rattle.nv_world_model.specs.Seat.{Owner, owner_of}
-use Rattle.nv_world_model.specs.Step.{carry_out, device_fail, device_post, device_posted, is_success, kept_block, step, submit_by, submitted}
+use Rattle.nv_world_model.specs.Share.{Share}
+use Rattle.nv_world_model.specs.ShareArea.{is_no_command, share_written}
+use Rattle.nv_world_model.specs.Seat.{Owner}
+use Rattle.nv_world_model.specs.Step.{carried_out, device_fail, device_post, device_posted, is_success, kept_block, step, submitted, submitted_on}
 use Rattle.nv_world_model.specs.View.{is_tag_of}
-use Rattle.nv_world_model.specs.World.{Answered, Command, Flying, InDevice, Lane, Queued, Tag, Taken, World, tag_changed, tag_in, tag_of}
-use Rattle.nv_laws_sound.specs.Consistent.{IsConsistent, IsPlanned, waits_for_device, waits_for_mediator}
+use Rattle.nv_world_model.specs.World.{Answered, Command, Ended, Flying, InDevice, Lane, Queued, Tag, Taken, World, tag_changed, tag_in, tag_of, with_tag}
+use Rattle.nv_laws_sound.specs.Consistent.{IsConsistentOfTags, IsPlanned, waits_for_device, waits_for_mediator}
 use Rattle.nv_laws_sound.specs.LaidOut.{IsLaidOut}
 use Rattle.nv_laws_sound.proofs.AnswerEvents.{answer-undisturbed, written-elsewhere, written-same}
 use Rattle.nv_laws_sound.proofs.Lists.{count-fewer, slice_get-below, slice_get-there, some-same}
 use Rattle.nv_laws_sound.proofs.MoveEvents.{held-flies}
-use Rattle.nv_laws_sound.proofs.Planned.{Answers, IsAnswerOr, Plans, plan_over-is}
 use Rattle.nv_laws_sound.proofs.Retags.{is-at, stands-is}
 use Rattle.nv_laws_sound.proofs.Rings.{far}
 use Rattle.nv_laws_sound.proofs.SubmitEvents.{entered-elsewhere, entered-same, entered-undisturbed, submitted-is}
-use Rattle.nv_laws_sound.proofs.Walks.{device-walk, either, held-walk, owner-walk, taken-walk}
+use Rattle.nv_laws_sound.proofs.Walks.{device-walk, either, held-walk}
 use Rattle.nv_laws_others.specs.Leaving.{Leaves}
 use Rattle.nv_laws_others.proofs.Events.{leaves-lanes, leaves-nothing, leaves-tag}
 use Rattle.nv_laws_others.proofs.Leaving.{area-left, outside-area}
+use Rattle.nv_laws_others.proofs.LeavesFolds.{tag-leaves}
 use Rattle.nv_laws_others.proofs.Parts.{held-put, tag-apart}
-use Rattle.nv_laws_others.proofs.TagEvents.{ended-leaves, of-tag}
+use Rattle.nv_laws_others.proofs.TagEvents.{of-tag}
 
-module _ (host_bytes : ℕ) (geometry : Geometry) (w : World) (laid : IsLaidOut host_bytes (length w.lanes) geometry) (fine : IsConsistent geometry w) where
+module _ (host_bytes : ℕ) (geometry : Geometry) (w : World) (laid : IsLaidOut host_bytes (length w.lanes) geometry) (fine : IsConsistentOfTags geometry w) where
   -- ---- submissions
 
-  submitted-leaves : (lane tag : ℕ) (command : Command) (reads : List ReadDone) (plan : Plan) (o : Owner) (d : DeviceLane) → tag_of w lane tag ≡ Some (Taken command reads)
-      → IsPlanned o.given command.entry plan → slice_get w.device lane ≡ Some d
-      → Leaves geometry (Some command.guest) w (submitted geometry.mediator lane tag command plan o d w)
-  unfolding written
-  submitted-leaves lane tag command reads plan o d found planned device =
+  submitted-leaves : (lane tag : ℕ) (command : Command) (reads : List ReadDone) (share : Share) (o : Owner) (d : DeviceLane) → tag_of w lane tag ≡ Some (Taken command reads)
+      → IsPlanned o.given command.entry share → slice_get w.device lane ≡ Some d
+      → Leaves geometry (Some command.guest) w (submitted geometry.mediator lane tag command share o d w)
+  unfolding share_written
+  submitted-leaves lane tag command reads share o d found planned device =
       let a = is-at geometry w lane tag (Taken command reads) fine found in
       let before = fine.lanes lane a.l d a.at_lane device in
       let tags = before.positions.tags in
@@ -48,11 +52,11 @@ module _ (host_bytes : ℕ) (geometry : Geometry) (w : World) (laid : IsLaidOut 
       let many = before.queued_count in
       let room : far d.head d.tail < 64 = omega (arith, waiting, many, tags) in
       let lane_below = slice_get-below w.lanes lane a.l a.at_lane in
-      let host = written plan o.given command.entry geometry.mediator lane tag d.tail w.host in
-      let new = Flying command plan (Queued d.tail) in
-      let same = entered-same host_bytes (length w.lanes) geometry laid o.given command.entry plan planned lane tag d.tail tag_below before.positions.tail w.host in
+      let host = share_written share o.given command.entry geometry.mediator lane tag d.tail w.host in
+      let new = Flying command share (Queued d.tail) in
+      let same = entered-same host_bytes (length w.lanes) geometry laid o.given command.entry share planned lane tag d.tail tag_below before.positions.tail w.host in
       let tail_below = before.positions.tail in
-      subst (Leaves geometry (Some command.guest) w) (sym (submitted-is w geometry.mediator lane tag command plan o a.l d a.at_lane device))
+      subst (Leaves geometry (Some command.guest) w) (sym (submitted-is w geometry.mediator lane tag command share o a.l d a.at_lane device))
       (leaves-tag geometry (Some command.guest) w
       (record w { host = host; lanes = set w.lanes lane (tag_changed tag new a.l); device = set w.device lane (rung d) })
       lane tag a.l (tag_changed tag new a.l) d (rung d) (Taken command reads) new a.at_lane device a.at_tag refl refl refl (λ b apart. refl)
@@ -64,9 +68,9 @@ module _ (host_bytes : ℕ) (geometry : Geometry) (w : World) (laid : IsLaidOut 
         ]));
         area = (λ number guest addr given differ s.
             area-left geometry w host lane tag a.l.head a.l d (rung d) number addr fine a.at_lane device
-            (λ at apart below. entered-elsewhere host_bytes (length w.lanes) geometry laid o.given command.entry plan planned lane tag d.tail tag_below before.positions.tail w.host at apart)
+            (λ at apart below. entered-elsewhere host_bytes (length w.lanes) geometry laid o.given command.entry share planned lane tag d.tail tag_below before.positions.tail w.host at apart)
             (λ b x apart b_below here.
-            entered-undisturbed host_bytes (length w.lanes) geometry laid o.given command.entry plan planned lane tag d.tail tag_below
+            entered-undisturbed host_bytes (length w.lanes) geometry laid o.given command.entry share planned lane tag d.tail tag_below
             before.positions.tail w.host b a.l.head d x apart b_below refl
             before.positions.head before.positions.tail room)
             (λ x here.
@@ -78,34 +82,22 @@ module _ (host_bytes : ℕ) (geometry : Geometry) (w : World) (laid : IsLaidOut 
         controllers = (λ n differ. refl);
       }))
 
-  carried-leaves : (plan : Plan) (lane tag : ℕ) (command : Command) (reads : List ReadDone) (o : Owner) (d : DeviceLane) → tag_of w lane tag ≡ Some (Taken command reads)
-      → IsAnswerOr o.given command.entry plan → slice_get w.device lane ≡ Some d
-      → Leaves geometry (Some command.guest) w (carry_out plan geometry.mediator lane tag command o d w)
-  carried-leaves (Answer st) lane tag command reads o d found kind device = ended-leaves host_bytes geometry w laid fine lane tag command reads st found
-  carried-leaves (NoData work) lane tag command reads o d found (Plans planned) device = submitted-leaves lane tag command reads (NoData work) o d found planned device
-  carried-leaves (Direct work) lane tag command reads o d found (Plans planned) device = submitted-leaves lane tag command reads (Direct work) o d found planned device
-  carried-leaves (Bounced work) lane tag command reads o d found (Plans planned) device = submitted-leaves lane tag command reads (Bounced work) o d found planned device
-  carried-leaves (NoData work) lane tag command reads o d found (Answers st same) device = cc
-  carried-leaves (Direct work) lane tag command reads o d found (Answers st same) device = cc
-  carried-leaves (Bounced work) lane tag command reads o d found (Answers st same) device = cc
+  -- a share is carried out in its tag
+  pub carried-leaves : (lane tag : ℕ) (command : Command) (reads : List ReadDone) (share : Share) (o : Owner) → tag_of w lane tag ≡ Some (Taken command reads)
+      → IsPlanned o.given command.entry share → Leaves geometry (Some command.guest) w (carried_out geometry.mediator lane tag command share o w)
+  carried-leaves lane tag command reads share o found planned = by (is_no_command share)
+    where
+      handed : (x : Option DeviceLane) → slice_get w.device lane ≡ x → Leaves geometry (Some command.guest) w (submitted_on x geometry.mediator lane tag command share o w)
+      handed None device = leaves-nothing geometry (Some command.guest) w
+      handed (Some d) device = submitted-leaves lane tag command reads share o d found planned device
 
-  submit-by : (outcome : Outcome Plan) (lane tag : ℕ) (command : Command) (reads : List ReadDone) (o : Owner) (d : DeviceLane) → tag_of w lane tag ≡ Some (Taken command reads)
-      → plan_over o.given command.entry reads ≡ outcome → slice_get w.device lane ≡ Some d
-      → Leaves geometry (Some command.guest) w (submit_by outcome geometry.mediator lane tag command o d w).world
-  submit-by (Wanted addr len) lane tag command reads o d found over device = leaves-nothing geometry (Some command.guest) w
-  submit-by (Settled plan) lane tag command reads o d found over device =
-      carried-leaves plan lane tag command reads o d found (plan_over-is o.given command.entry reads plan over) device
-
-  pub submits-leave : (lane tag : ℕ) → Leaves geometry (guest_of_one (tag_of w lane tag)) w (step geometry (event.Submit lane tag) w).world
-  unfolding step
-  submits-leave lane tag =
-      let nothing = leaves-nothing geometry (guest_of_one (tag_of w lane tag)) w in
-      let P = Leaves geometry (guest_of_one (tag_of w lane tag)) w in
-      taken-walk P w nothing (tag_of w lane tag) _ (λ command reads at.
-      owner-walk P w nothing (owner_of geometry w command.guest) _ (λ o found.
-      device-walk P w nothing (slice_get w.device lane) (λ d. submit_by (plan_over o.given command.entry reads) geometry.mediator lane tag command o d w) (λ d device.
-      of-tag host_bytes geometry w laid fine lane tag (Taken command reads) command.guest _ at refl
-      (submit-by (plan_over o.given command.entry reads) lane tag command reads o d at refl device))))
+      by : (b : Bool) → Leaves geometry (Some command.guest) w (cond b (with_tag lane tag (Ended command (done_with Success) (Some share)) w)
+          (submitted_on (slice_get w.device lane) geometry.mediator lane tag command share o w))
+      by true =
+          tag-leaves geometry (Some command.guest) w lane tag (Taken command reads) (Ended command (done_with Success) (Some share)) found
+          (λ number differ. tag-apart (Some command.guest) number (Taken command reads) refl differ)
+          (λ number differ. tag-apart (Some command.guest) number (Ended command (done_with Success) (Some share)) refl differ)
+      by false = handed (slice_get w.device lane) refl
 
   -- ---- completions
 
@@ -117,8 +109,8 @@ module _ (host_bytes : ℕ) (geometry : Geometry) (w : World) (laid : IsLaidOut 
       let before = fine.lanes lane l d at there in
       let lane_below = slice_get-below w.lanes lane l at in
       let holds = held-flies geometry lane tag w.host l.head d h t (before.tags tag t (Some h) found held) in
-      let was = Flying holds.command holds.plan InDevice in
-      let new = Flying holds.command holds.plan (Answered d.posted) in
+      let was = Flying holds.command holds.share InDevice in
+      let new = Flying holds.command holds.share (Answered d.posted) in
       let flies : slice_get l.tags tag ≡ Some was = found ∙ ap (λ x. Some x) holds.flies in
       let tags = before.positions.tags in
       let waiting = count-fewer (tag_stands waits_for_mediator) l.tags tag was flies refl in
@@ -131,7 +123,7 @@ module _ (host_bytes : ℕ) (geometry : Geometry) (w : World) (laid : IsLaidOut 
       let same = written-same geometry (length w.lanes) lane w.host d bytes sized lane_below before.positions.posted in
       let whose = holds.command.guest in
       of-tag host_bytes geometry w laid fine lane tag was whose _ (ap (λ x. tag_in x tag) at ∙ flies) refl
-      (subst (Leaves geometry (Some whose) w) (sym (stands-is w lane tag l d holds.command holds.plan InDevice (Answered d.posted) memory (completion_posted tag) at there flies))
+      (subst (Leaves geometry (Some whose) w) (sym (stands-is w lane tag l d holds.command holds.share InDevice (Answered d.posted) memory (completion_posted tag) at there flies))
       (leaves-tag geometry (Some whose) w
       (record w { host = memory; lanes = set w.lanes lane (tag_changed tag new l); device = set w.device lane (completion_posted tag d) })
       lane tag l (tag_changed tag new l) d (completion_posted tag d) was new at there flies refl refl refl (λ b apart. held-put d.held tag None b apart)

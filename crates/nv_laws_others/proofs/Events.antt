@@ -17,9 +17,10 @@ use Rattle.nv_world_model.specs.Seat.{Owner, held_in, owner_of, put_back, seat}
 use Rattle.nv_world_model.specs.Step.{acted_by, acted_in, administered_by, administered_in, step}
 use Rattle.nv_world_model.specs.View.{is_tag_of, own_held, own_tag}
 use Rattle.nv_world_model.specs.World.{Lane, Tag, World, tag_in, tag_of}
-use Rattle.nv_world_model.proofs.Seats.{IsOwner, owner_of-is, owner_of-number, slice_get-set-other}
+use Rattle.nv_world_model.proofs.Seats.{IsOwner, owner_of-is, owner_of-number}
+use Rattle.nv_world_model.proofs.Seats.{slice_get-set-other}
 use Rattle.nv_world_model.proofs.SeatSteps.{Changed, IsPlain, NotDone, NotThere, Shown, act-plain}
-use Rattle.nv_laws_sound.specs.Consistent.{IsConsistent}
+use Rattle.nv_laws_sound.specs.Consistent.{IsConsistentOfTags}
 use Rattle.nv_laws_sound.specs.LaidOut.{IsLaidOut}
 use Rattle.nv_laws_sound.proofs.Changes.{put_image-area}
 use Rattle.nv_laws_sound.proofs.Walks.{guest-walk}
@@ -100,7 +101,7 @@ pub not-some : {A : Type 0} (o : Option A) → is_some o ≡ false → o ≡ Non
 not-some None e = refl
 not-some (Some x) e = cc
 
-module _ (host_bytes : ℕ) (geometry : Geometry) (w : World) (laid : IsLaidOut host_bytes (length w.lanes) geometry) (fine : IsConsistent geometry w) where
+module _ (host_bytes : ℕ) (geometry : Geometry) (w : World) (laid : IsLaidOut host_bytes (length w.lanes) geometry) (fine : IsConsistentOfTags geometry w) where
   outside-image : (o : Owner) (at : ℕ) → slice_get geometry.guests o.number ≡ Some o.given → in_image_of (given_to (Some o.number) geometry) at ≡ false
       → guest_of (regions_of o.given) at ≡ None
   outside-image o at given out =

@@ -8,18 +8,20 @@ use Rattle.nv_world_model.specs.declared.event.Event.TheVariants as event
 use Rattle.nv_model.specs.declared.reply.Reply.TheVariants as reply
 use Rattle.nv_world_model.specs.Contained.{Contained, LeavesOthers, RaisesOne, owner}
 use Rattle.nv_world_model.specs.Geometry.{Geometry, Guest}
-use Rattle.nv_world_model.specs.SetUp.{SetUp, refusal_of, world_at_start}
+use Rattle.nv_world_model.specs.SetUp.{SetUp, refusal_of}
 use Rattle.nv_world_model.specs.Step.{kept_block, replay, replied, step}
 use Rattle.nv_world_model.specs.World.{World, opening_lane, opening_world}
-use Rattle.nv_world_model.proofs.Replies.{step-answers}
+use Rattle.nv_world_model.specs.SetUp.{world_at_start}
+use Rattle.nv_laws_others.proofs.Replies.{step-answers}
 use Rattle.nv_laws_sound.specs.Consistent.{IsConsistent}
 use Rattle.nv_laws_sound.specs.LaidOut.{IsLaidOut}
 use Rattle.nv_laws_sound.proofs.LaidOuts.{laid-out}
 use Rattle.nv_laws_sound.proofs.Openings.{opening-consistent}
 use Rattle.nv_laws_sound.proofs.Steps.{replay-consistent, replay-lanes}
 use Rattle.nv_laws_others.specs.Leaving.{Leaves}
-use Rattle.nv_laws_others.proofs.DeviceEvents.{device_fails-leave, device_posts-leave, keeps-leave, submits-leave}
+use Rattle.nv_laws_others.proofs.DeviceEvents.{device_fails-leave, device_posts-leave, keeps-leave}
 use Rattle.nv_laws_others.proofs.Events.{acts-leave, admins-leave}
+use Rattle.nv_laws_others.proofs.HandedEvents.{submits-leave}
 use Rattle.nv_laws_others.proofs.Leaving.{leaves-others}
 use Rattle.nv_laws_others.proofs.RingEvents.{device_takes-leave, reaps-leave}
 use Rattle.nv_laws_others.proofs.TagEvents.{give_ups-leave, lists-leave, posts-leave, takes-leave}
@@ -28,24 +30,24 @@ use Rattle.nv_laws_others.proofs.UnitEvents.{moves-leave}
 module _ (host_bytes : ℕ) (geometry : Geometry) where
   pub each-leaves : (w : World) (e : Event) → IsLaidOut host_bytes (length w.lanes) geometry → IsConsistent geometry w
       → Leaves geometry (owner e w) w (step geometry e w).world
-  each-leaves w (event.Guest number a) laid fine = acts-leave host_bytes geometry w laid fine number a
-  each-leaves w (event.Admin number) laid fine = admins-leave host_bytes geometry w laid fine number
-  each-leaves w (event.Take number queue lane) laid fine = takes-leave host_bytes geometry w laid fine number queue lane
-  each-leaves w (event.List lane tag addr len) laid fine = lists-leave host_bytes geometry w laid fine lane tag addr len
-  each-leaves w (event.Submit lane tag) laid fine = submits-leave host_bytes geometry w laid fine lane tag
-  each-leaves w (event.GiveUp lane tag) laid fine = give_ups-leave host_bytes geometry w laid fine lane tag
-  each-leaves w (event.DevTake lane) laid fine = device_takes-leave host_bytes geometry w laid fine lane
-  each-leaves w (event.DevMove lane slot number) laid fine = moves-leave host_bytes geometry w laid fine lane slot number
-  each-leaves w (event.DevPost lane slot) laid fine = device_posts-leave host_bytes geometry w laid fine lane slot
-  each-leaves w (event.DevFail lane slot st) laid fine = device_fails-leave host_bytes geometry w laid fine lane slot st
-  each-leaves w (event.Keep block) laid fine = keeps-leave host_bytes geometry w laid fine block
-  each-leaves w (event.Reap lane) laid fine = reaps-leave host_bytes geometry w laid fine lane
-  each-leaves w (event.Post lane tag) laid fine = posts-leave host_bytes geometry w laid fine lane tag
+  each-leaves w (event.Guest number a) laid fine = acts-leave host_bytes geometry w laid fine.of_tags number a
+  each-leaves w (event.Admin number) laid fine = admins-leave host_bytes geometry w laid fine.of_tags number
+  each-leaves w (event.Take number queue lane) laid fine = takes-leave host_bytes geometry w laid fine.of_tags number queue lane
+  each-leaves w (event.List lane tag addr len) laid fine = lists-leave host_bytes geometry w laid fine.of_tags lane tag addr len
+  each-leaves w (event.Submit lane tag) laid fine = submits-leave host_bytes geometry w laid fine.of_tags fine.groups lane tag
+  each-leaves w (event.GiveUp lane tag) laid fine = give_ups-leave host_bytes geometry w laid fine.of_tags lane tag fine.groups
+  each-leaves w (event.DevTake lane) laid fine = device_takes-leave host_bytes geometry w laid fine.of_tags lane
+  each-leaves w (event.DevMove lane slot number) laid fine = moves-leave host_bytes geometry w laid fine.of_tags lane slot number
+  each-leaves w (event.DevPost lane slot) laid fine = device_posts-leave host_bytes geometry w laid fine.of_tags lane slot
+  each-leaves w (event.DevFail lane slot st) laid fine = device_fails-leave host_bytes geometry w laid fine.of_tags lane slot st
+  each-leaves w (event.Keep block) laid fine = keeps-leave host_bytes geometry w laid fine.of_tags block
+  each-leaves w (event.Reap lane) laid fine = reaps-leave host_bytes geometry w laid fine.of_tags lane
+  each-leaves w (event.Post lane tag) laid fine = posts-leave host_bytes geometry w laid fine.of_tags lane tag fine.groups
 
   pub each-leaves-others : (w : World) (e : Event) → IsLaidOut host_bytes (length w.lanes) geometry → IsConsistent geometry w
       → LeavesOthers geometry (owner e w) w (step geometry e w).world
   each-leaves-others w e laid fine =
-      leaves-others host_bytes geometry _ laid (owner e w) w (step geometry e w).world refl fine (each-leaves w e laid fine)
+      leaves-others host_bytes geometry _ laid (owner e w) w (step geometry e w).world refl fine.of_tags (each-leaves w e laid fine)
 
 pub leaves-others-since : (s : SetUp) (events : List Event) (e : Event) → refusal_of s ≡ None
     → ((number : ℕ) (guest : Guest) → slice_get s.geometry.guests number ≡ Some guest → IsSound guest.memory_map)

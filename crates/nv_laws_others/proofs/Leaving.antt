@@ -1,5 +1,6 @@
 -- What leaves all but the owner's alone leaves every other guest's view.
-use Rattle.std.proofs.Common.{◌≡◌, ℕ, ◌+◌, ◌<◌, ◌≤◌, ◌⊎◌, inl, inr, true, false, ◌==◌, nat_le, nat_lt, length, slice_get, Option, Some, None, is_some, arith}
+use Rattle.std.proofs.Common.{◌≡◌, ℕ, ◌+◌, ◌<◌, ◌≤◌, ◌⊎◌, inl, inr, true, false, ◌==◌, nat_le, nat_lt, length, slice_get}
+use Rattle.std.proofs.Common.{Option, Some, None, is_some, arith}
 use Rattle.std.proofs.Common.{refl, sym, ap, ◌∙◌, eqb-true, leb-true, ltb-true, subst}
 use Rattle.std.specs.Prelude.{◌≢◌}
 use Rattle.std.proofs.lemmas.Bool.{cases_eq, cases_lt, le-leb, lt-ltb, ne_eqb}
@@ -14,7 +15,7 @@ use Rattle.nv_world_model.specs.Device.{DeviceLane, Held}
 use Rattle.nv_world_model.specs.Geometry.{Geometry, Guest, regions_of}
 use Rattle.nv_world_model.specs.View.{is_tag_of}
 use Rattle.nv_world_model.specs.World.{Answered, Ended, Flying, Free, InDevice, Lane, Queued, Tag, Taken, World, tag_in, tag_of}
-use Rattle.nv_laws_sound.specs.Consistent.{IsBetween, IsConsistent, IsTag}
+use Rattle.nv_laws_sound.specs.Consistent.{IsBetween, IsConsistentOfTags, IsTag}
 use Rattle.nv_laws_sound.specs.LaidOut.{IsLaidOut}
 use Rattle.nv_laws_sound.proofs.Lists.{slice_get-below}
 use Rattle.nv_laws_sound.proofs.Namespaces.{place-own}
@@ -80,7 +81,7 @@ module _ (host_bytes : ℕ) (geometry : Geometry) (lanes : ℕ) (laid : IsLaidOu
       let there = guest_of-host (regions_of guest) addr at (laid.given number guest given).sound.apart is in
       leaves.bytes at (image-apart whose number guest at addr given differ there) (area-apart w number guest at addr sized given there)
 
-  pub leaves-others : (whose : Option ℕ) (w z : World) → length w.lanes ≡ lanes → IsConsistent geometry w → Leaves geometry whose w z
+  pub leaves-others : (whose : Option ℕ) (w z : World) → length w.lanes ≡ lanes → IsConsistentOfTags geometry w → Leaves geometry whose w z
       → LeavesOthers geometry whose w z
   unfolding image
   leaves-others whose w z sized is leaves =
@@ -108,19 +109,19 @@ between-queued : (geometry : Geometry) (lane tag at : ℕ) (host : ℕ → ℕ) 
     → IsTag geometry lane tag host head d held t → tag_stands (is_queued_at at) t ≡ true → IsBetween d.head d.tail at
 between-queued geometry lane tag at host head d held Free is e = cc
 between-queued geometry lane tag at host head d held (Taken command reads) is e = cc
-between-queued geometry lane tag at host head d held (Flying command plan (Queued slot)) is e = subst (IsBetween d.head d.tail) (eqb-true slot at e) is.stands.0.slot
-between-queued geometry lane tag at host head d held (Flying command plan InDevice) is e = cc
-between-queued geometry lane tag at host head d held (Flying command plan (Answered slot)) is e = cc
-between-queued geometry lane tag at host head d held (Ended command st plan) is e = cc
+between-queued geometry lane tag at host head d held (Flying command share (Queued slot)) is e = subst (IsBetween d.head d.tail) (eqb-true slot at e) is.stands.0.slot
+between-queued geometry lane tag at host head d held (Flying command share InDevice) is e = cc
+between-queued geometry lane tag at host head d held (Flying command share (Answered slot)) is e = cc
+between-queued geometry lane tag at host head d held (Ended command st share) is e = cc
 
 between-answered : (geometry : Geometry) (lane tag at : ℕ) (host : ℕ → ℕ) (head : ℕ) (d : DeviceLane) (held : Option Held) (t : Tag)
     → IsTag geometry lane tag host head d held t → tag_stands (is_answered_at at) t ≡ true → IsBetween head d.posted at
 between-answered geometry lane tag at host head d held Free is e = cc
 between-answered geometry lane tag at host head d held (Taken command reads) is e = cc
-between-answered geometry lane tag at host head d held (Flying command plan (Queued slot)) is e = cc
-between-answered geometry lane tag at host head d held (Flying command plan InDevice) is e = cc
-between-answered geometry lane tag at host head d held (Flying command plan (Answered slot)) is e = subst (IsBetween head d.posted) (eqb-true slot at e) is.stands.0.slot
-between-answered geometry lane tag at host head d held (Ended command st plan) is e = cc
+between-answered geometry lane tag at host head d held (Flying command share (Queued slot)) is e = cc
+between-answered geometry lane tag at host head d held (Flying command share InDevice) is e = cc
+between-answered geometry lane tag at host head d held (Flying command share (Answered slot)) is e = subst (IsBetween head d.posted) (eqb-true slot at e) is.stands.0.slot
+between-answered geometry lane tag at host head d held (Ended command st share) is e = cc
 
 -- they lie in the tag's lane
 pub record LiesInLane (mediator lane lanes tag addr : ℕ) : Type 0 where
@@ -129,7 +130,7 @@ pub record LiesInLane (mediator lane lanes tag addr : ℕ) : Type 0 where
   pub low : lane_start mediator lane ≤ addr
   pub high : addr < lane_start mediator (lane + 1)
 
-pub bytes-in-lane : (geometry : Geometry) (w : World) (lane tag addr : ℕ) (t : Tag) → IsConsistent geometry w → tag_of w lane tag ≡ Some t
+pub bytes-in-lane : (geometry : Geometry) (w : World) (lane tag addr : ℕ) (t : Tag) → IsConsistentOfTags geometry w → tag_of w lane tag ≡ Some t
     → IsBytes geometry.mediator lane tag t addr → LiesInLane geometry.mediator lane (length w.lanes) tag addr
 bytes-in-lane geometry w lane tag addr t is there bytes =
     let a = is-at geometry w lane tag t is there in
@@ -178,7 +179,7 @@ outside-area geometry w at out =
     inside-is from inside = rw (le-leb geometry.mediator at from, lt-ltb at (lane_start geometry.mediator (length w.lanes)) inside) refl
 
 -- where one lane is written, and in it nothing of other tags, the bytes of those are as they were
-pub bytes-elsewhere : (geometry : Geometry) (w : World) (other : ℕ → ℕ) (lane tag now : ℕ) (l : Lane) (d e : DeviceLane) → IsConsistent geometry w
+pub bytes-elsewhere : (geometry : Geometry) (w : World) (other : ℕ → ℕ) (lane tag now : ℕ) (l : Lane) (d e : DeviceLane) → IsConsistentOfTags geometry w
     → slice_get w.lanes lane ≡ Some l → slice_get w.device lane ≡ Some d
     → ((at : ℕ) → (at == lane) ≡ false → at < length w.lanes → SameInLane w.host other geometry.mediator at)
     → ((b : ℕ) (x : Tag) → (b == tag) ≡ false → b < tag_count → slice_get l.tags b ≡ Some x → IsUndisturbed geometry.mediator lane b w.host other l.head now d e x)
@@ -199,7 +200,7 @@ bytes-elsewhere geometry w other lane tag now l d e fine at there elsewhere undi
     by_lane lies (inr away) = elsewhere a (ne_eqb a lane away) lies.below addr lies.low lies.high
 
 -- so what is shown to others is as it was
-pub area-left : (geometry : Geometry) (w : World) (other : ℕ → ℕ) (lane tag now : ℕ) (l : Lane) (d e : DeviceLane) (number addr : ℕ) → IsConsistent geometry w
+pub area-left : (geometry : Geometry) (w : World) (other : ℕ → ℕ) (lane tag now : ℕ) (l : Lane) (d e : DeviceLane) (number addr : ℕ) → IsConsistentOfTags geometry w
     → slice_get w.lanes lane ≡ Some l → slice_get w.device lane ≡ Some d
     → ((at : ℕ) → (at == lane) ≡ false → at < length w.lanes → SameInLane w.host other geometry.mediator at)
     → ((b : ℕ) (x : Tag) → (b == tag) ≡ false → b < tag_count → slice_get l.tags b ≡ Some x → IsUndisturbed geometry.mediator lane b w.host other l.head now d e x)

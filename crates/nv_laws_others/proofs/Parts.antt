@@ -7,7 +7,7 @@ use Rattle.nv_world_model.specs.Seat.{held_by, held_in}
 use Rattle.nv_world_model.specs.View.{guest_of_tag, is_tag_of, own_held, own_tag}
 use Rattle.nv_world_model.specs.World.{Ended, Flying, Free, Lane, Tag, Taken, tag_in}
 use Rattle.nv_world_model.proofs.Seats.{slice_get-set, slice_get-set-other}
-use Rattle.nv_laws_sound.proofs.Commands.{tag-elsewhere, tag-here}
+use Rattle.nv_laws_others.proofs.OneTag.{tag-elsewhere, tag-here}
 
 -- ---- whose a tag is
 
@@ -15,8 +15,8 @@ use Rattle.nv_laws_sound.proofs.Commands.{tag-elsewhere, tag-here}
 pub tag-apart : (whose : Option ℕ) (number : ℕ) (t : Tag) → guest_of_tag t ≡ whose → whose ≢ Some number → is_tag_of number (Some t) ≡ false
 tag-apart whose number Free is differ = refl
 tag-apart whose number (Taken command reads) is differ = ne_eqb command.guest number (λ same. differ (sym is ∙ ap (λ n. Some n) same))
-tag-apart whose number (Flying command plan standing) is differ = ne_eqb command.guest number (λ same. differ (sym is ∙ ap (λ n. Some n) same))
-tag-apart whose number (Ended command st plan) is differ = ne_eqb command.guest number (λ same. differ (sym is ∙ ap (λ n. Some n) same))
+tag-apart whose number (Flying command share standing) is differ = ne_eqb command.guest number (λ same. differ (sym is ∙ ap (λ n. Some n) same))
+tag-apart whose number (Ended command st share) is differ = ne_eqb command.guest number (λ same. differ (sym is ∙ ap (λ n. Some n) same))
 
 -- ---- one tag changed
 

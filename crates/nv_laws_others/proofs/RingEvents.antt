@@ -1,10 +1,12 @@
 -- What the device's takes and the mediator's reaping leave: their owner is the guest of the one tag whose slot is next.
-use Rattle.std.proofs.Common.{◌≡◌, ℕ, zero, suc, Bool, true, false, cond, List, [], ◌∷◌, length, set, slice_get, Option, Some, arith, refl, sym, ap, ◌∙◌, subst}
+use Rattle.std.proofs.Common.{◌≡◌, ℕ, zero, suc, Bool, true, false, cond, List, [], ◌∷◌, length, set, slice_get, Option, Some, arith, refl}
+use Rattle.std.proofs.Common.{sym, ap, ◌∙◌, subst}
 use Rattle.std.proofs.lemmas.Bool.{eqb-false}
 use Rattle.nv_entry.specs.Completion.{status_of}
 use Rattle.nv_model.specs.Queue.{is_empty, next_slot}
 use Rattle.nv_world_model.specs.declared.event.Event.TheVariants as event
-use Rattle.nv_world_model.specs.Area.{entry_of, ring_size}
+use Rattle.nv_world_model.specs.Area.{ring_size}
+use Rattle.nv_world_model.specs.ShareArea.{share_entry}
 use Rattle.nv_world_model.specs.Contained.{front_guest, guest_standing, is_answered_at, is_queued_at, next_guest, tag_stands}
 use Rattle.nv_world_model.specs.Device.{DeviceLane, Held, front_entry, held_of}
 use Rattle.nv_world_model.specs.Geometry.{Geometry}
@@ -12,7 +14,7 @@ use Rattle.nv_world_model.specs.Seat.{completion_at}
 use Rattle.nv_world_model.specs.Step.{completion_read, device_take, device_took, ended_at, passed_on, reap, reaped, step}
 use Rattle.nv_world_model.specs.View.{guest_of_tag}
 use Rattle.nv_world_model.specs.World.{Answered, Ended, Flying, InDevice, Lane, Standing, Tag, World, tag_changed, tag_of, with_lane}
-use Rattle.nv_laws_sound.specs.Consistent.{IsConsistent}
+use Rattle.nv_laws_sound.specs.Consistent.{IsConsistentOfTags}
 use Rattle.nv_laws_sound.specs.LaidOut.{IsLaidOut}
 use Rattle.nv_laws_sound.proofs.Lists.{set-same, slice_get-below, slice_get-there, some-same}
 use Rattle.nv_laws_sound.proofs.ReapEvents.{answered-at, ended-is}
@@ -42,7 +44,7 @@ standing-guest test (x ∷ tags) (suc place) t at stands one =
       | false ↦ λ none. rest
     ]) refl
 
-module _ (host_bytes : ℕ) (geometry : Geometry) (w : World) (laid : IsLaidOut host_bytes (length w.lanes) geometry) (fine : IsConsistent geometry w) where
+module _ (host_bytes : ℕ) (geometry : Geometry) (w : World) (laid : IsLaidOut host_bytes (length w.lanes) geometry) (fine : IsConsistentOfTags geometry w) where
   -- nothing but lanes has changed
   rest-lanes : (whose : Option ℕ) (lanes : List Lane) (devices : List DeviceLane) → LeavesRest geometry whose w (record w { lanes = lanes; device = devices })
   rest-lanes whose lanes devices =
@@ -58,8 +60,8 @@ module _ (host_bytes : ℕ) (geometry : Geometry) (w : World) (laid : IsLaidOut 
       let tags = before.positions.tags in
       let among = slice_get-below l.tags tag t found in
       let a = queued-at geometry lane tag d.head w.host l.head d held t (before.tags tag t held found under) next in
-      let entry = entry_of a.plan a.guest a.command.entry geometry.mediator lane tag in
-      let new = Flying a.command a.plan InDevice in
+      let entry = share_entry a.share a.guest.namespace a.guest a.command.entry geometry.mediator lane tag in
+      let new = Flying a.command a.share InDevice in
       let own : guest_of_tag t ≡ Some a.command.guest = ap guest_of_tag a.flies in
       let behind = record d { head = next_slot ring_size d.head; held = set d.held tag (Some (held_of entry w.host)) } in
       took-world (Leaves geometry (guest_of_tag t) w) geometry w lane tag l d held t a (omega (arith, tags, among)) at there found
@@ -106,13 +108,13 @@ module _ (host_bytes : ℕ) (geometry : Geometry) (w : World) (laid : IsLaidOut 
   reaped-leaves lane tag l d held t at there found under next =
       let before = fine.lanes lane l d at there in
       let a = answered-at geometry lane tag l.head w.host l.head d held t (before.tags tag t held found under) next in
-      let flies : slice_get l.tags tag ≡ Some (Flying a.command a.plan (Answered l.head)) = found ∙ ap (λ x. Some x) a.flies in
+      let flies : slice_get l.tags tag ≡ Some (Flying a.command a.share (Answered l.head)) = found ∙ ap (λ x. Some x) a.flies in
       let st = status_of (completion_at geometry w lane l.head) in
-      let new = Ended a.command (passed_on st) (Some a.plan) in
+      let new = Ended a.command (passed_on st) (Some a.share) in
       let now = tag_changed tag new (completion_read l) in
       let own : guest_of_tag t ≡ Some a.command.guest = ap guest_of_tag a.flies in
       subst (λ n. Leaves geometry (guest_of_tag t) w (ended_at (tag_of w lane n) st lane n (with_lane lane completion_read w))) (sym a.identifier)
-      (subst (Leaves geometry (guest_of_tag t) w) (sym (ended-is w lane tag l a.command a.plan (Answered l.head) st at flies))
+      (subst (Leaves geometry (guest_of_tag t) w) (sym (ended-is w lane tag l a.command a.share (Answered l.head) st at flies))
       (leaves-tag geometry (guest_of_tag t) w (record w { lanes = set w.lanes lane now }) lane tag l now d d t new at there found refl refl (sym (set-same w.device lane d there)) (λ b apart. refl)
       (λ number differ. tag-apart (guest_of_tag t) number t refl differ) (λ number differ. tag-apart (guest_of_tag t) number new (sym own) differ)
       (rest-lanes (guest_of_tag t) (set w.lanes lane now) w.device)))

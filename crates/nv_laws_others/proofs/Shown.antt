@@ -1,29 +1,30 @@
 -- Where bytes that are shown to a guest lie.
-use Rattle.std.proofs.Common.{◌≡◌, ℕ, zero, suc, ◌+◌, ◌*◌, ◌%◌, ◌<◌, ◌≤◌, ◌⊎◌, inl, inr, Bool, true, false, cond, not, ◌&&◌, ◌||◌, ◌==◌, nat_le, nat_lt, List}
-use Rattle.std.proofs.Common.{[], ◌∷◌, ◌++◌, filter, flat_map, length, map, slice_get, Option, Some, None, arith, refl, sym, ap, ◌∙◌, eq-eqb, eqb-true}
+use Rattle.std.proofs.Common.{◌≡◌, ℕ, zero, suc, ◌+◌, ◌*◌, ◌%◌, ◌<◌, ◌≤◌, ◌⊎◌, inl, inr, Bool, true, false, cond, not}
+use Rattle.std.proofs.Common.{◌&&◌, ◌||◌, ◌==◌, nat_le, nat_lt, List}
+use Rattle.std.proofs.Common.{[], ◌∷◌, ◌++◌, filter, flat_map, length, map, slice_get, Option, Some, None, arith, refl, sym, ap, ◌∙◌}
+use Rattle.std.proofs.Common.{eq-eqb, eqb-true}
 use Rattle.std.proofs.Common.{leb-true, ltb-true, subst}
 use Rattle.std.specs.List.{enumerate_from, list_any, range_with_len}
-use Rattle.std.proofs.lemmas.List.FromFn.{length-range_with_len}
 use Rattle.nv_entry.specs.Completion.{status_of}
 use Rattle.nv_entry.specs.Status.{StatusField}
-use Rattle.nv_mem.specs.GuestMap.{mapped}
 use Rattle.nv_mem.specs.Places.{total_len}
-use Rattle.nv_model.specs.Judge.{Clear, Form, Keep, Manage, MoveBlock, Transfer, WorkUnit, count_of, form_is_read, form_of, form_transfer_len, form_units, is_read, lbas_of, move_units}
+use Rattle.nv_model.specs.Judge.{Clear, Form, Keep, Manage, Transfer, Work, form_is_read, form_of, is_read}
 use Rattle.nv_model.specs.Limits.{block, most_bytes, page}
 use Rattle.nv_model.specs.Queue.{cqe_size, sqe_size}
-use Rattle.nv_model.proofs.AnyAnswers.{end-short, end-sound}
 use Rattle.nv_model.proofs.Endings.{and-true}
 use Rattle.nv_world_model.specs.Area.{addresses_of, bounce_page, completion_slot, list_page, prps_of, submission_slot}
 use Rattle.nv_world_model.specs.Device.{DeviceLane, Held}
-use Rattle.nv_world_model.specs.Geometry.{Geometry, Guest, regions_of, shape_of}
-use Rattle.nv_world_model.specs.Plan.{Plan}
+use Rattle.nv_world_model.specs.Geometry.{Geometry, Guest}
+use Rattle.nv_world_model.specs.Share.{Share}
 use Rattle.nv_world_model.specs.Seat.{completion_at, held_in}
 use Rattle.nv_world_model.specs.Step.{is_success}
-use Rattle.nv_world_model.specs.View.{Span, guest_of_tag, is_tag_of, lies_in, list_shown, moved_shown, own_shown, read_shown, result_shown, shown, slot_shown, source_shown, tag_shown, units_shown}
+use Rattle.nv_world_model.specs.View.{Span, guest_of_tag, is_tag_of, lies_in, list_shown, moved_shown, own_shown, read_shown, result_shown, shown}
+use Rattle.nv_world_model.specs.View.{slot_shown, source_shown, tag_shown, units_shown}
 use Rattle.nv_world_model.specs.World.{Answered, Command, Ended, Flying, Free, InDevice, Queued, Standing, Tag, Taken, World, tag_in, tag_of}
-use Rattle.nv_laws_sound.specs.Consistent.{IsConsistent, IsPlanned, IsTag}
+use Rattle.nv_laws_sound.specs.Consistent.{IsConsistentOfTags, IsPlanned, IsTag}
 use Rattle.nv_laws_sound.specs.LaidOut.{IsLaidOut}
-use Rattle.nv_laws_sound.proofs.PlanSizes.{planned-kinds, used-few, addresses-nameable}
+use Rattle.nv_laws_sound.proofs.OwnWork.{own-of, own_len}
+use Rattle.nv_laws_sound.proofs.PlanSizes.{addresses-nameable, own-few, own_work, planned-kinds, used-few}
 use Rattle.nv_laws_sound.proofs.Retags.{is-at, tag-is}
 use Rattle.nv_laws_sound.proofs.Lists.{some-same}
 use Rattle.nv_laws_others.specs.Leaving.{InCompletion, InEntry, InPages, IsBytes, IsShownAt}
@@ -100,15 +101,6 @@ in-units addr bounce (suc n) from left e =
 
 -- ---- the spans of a plan
 
--- a unit for each block
-length-numbered : (from : ℕ) (lbas : List ℕ) → length (map (λ p. MoveBlock p.0 p.1) (enumerate_from from lbas)) ≡ length lbas
-length-numbered from [] = refl
-length-numbered from (lba ∷ lbas) = let rest = length-numbered (from + 1) lbas in omega (arith, rest)
-
-pub length-moves : (lbas : List ℕ) → length (move_units lbas) ≡ length lbas
-unfolding move_units
-length-moves lbas = length-numbered 0 lbas
-
 module _ (mediator lane tag : ℕ) (aligned : mediator % page ≡ 0) (addr : ℕ) where
   abbrev list : ℕ
   list = list_page mediator lane tag
@@ -120,77 +112,71 @@ module _ (mediator lane tag : ℕ) (aligned : mediator % page ≡ 0) (addr : ℕ
   in-bounce : (t : Tag) → bounce ≤ addr → addr < bounce + most_bytes → IsBytes mediator lane tag t addr
   in-bounce t low high = InPages (omega (arith, low)) (omega (arith, high))
 
-  -- the units of a Read are as many as its blocks
-  pub units-few : (form : Form) (entry : List ℕ) (blocks : ℕ) (ranges : List (List ℕ)) (units : List WorkUnit) → form_is_read form ≡ true
-      → units ≡ form_units form blocks entry ranges → block * length units ≡ form_transfer_len form entry
-  units-few (Transfer dest) entry blocks ranges units reads is =
-      ap (λ us. block * length us) is
-      ∙ ap (λ n. block * n) (length-moves (lbas_of entry) ∙ length-range_with_len _ (count_of entry))
-  units-few Clear entry blocks ranges units reads is = cc
-  units-few Manage entry blocks ranges units reads is = cc
-  units-few Keep entry blocks ranges units reads is = cc
+  -- a Read's own bytes are those of its units
+  pub units-few : (form : Form) (own : Work) → form_is_read form ≡ true → block * length own.units ≡ own_len form own
+  units-few (Transfer dest) own reads = refl
+  units-few Clear own reads = cc
+  units-few Manage own reads = cc
+  units-few Keep own reads = cc
 
-  module _ (guest : Guest) (entry : List ℕ) (plan : Plan) (is : IsPlanned guest entry plan) (t : Tag) where
-    total-few : total_len is.work.pieces ≤ most_bytes
-    total-few =
-        let short = end-short (mapped (regions_of guest)) guest.limit (shape_of guest).blocks entry is.work is.verdict in
-        let total = (end-sound (mapped (regions_of guest)) guest.limit (shape_of guest).blocks entry is.work is.verdict).total in
-        rw total short
-
-    in-list : list_any (in_span addr) (list_shown plan guest list bounce) ≡ true → IsBytes mediator lane tag t addr
+  module _ (guest : Guest) (entry : List ℕ) (share : Share) (is : IsPlanned guest entry share) (t : Tag) where
+    in-list : list_any (in_span addr) (list_shown share.plan guest list bounce) ≡ true → IsBytes mediator lane tag t addr
     in-list e =
-        let named = addresses-nameable guest entry plan bounce (omega (arith, aligned)) is in
-        let few = used-few list (addresses_of plan guest bounce) named.fit named.few in
-        let both = in-one addr list (8 * (prps_of plan guest list bounce).used) e in
+        let named = addresses-nameable guest entry share bounce (omega (arith, aligned)) is in
+        let few = used-few list (addresses_of share.plan guest bounce) named.fit named.few in
+        let both = in-one addr list (8 * (prps_of share.plan guest list bounce).used) e in
         let high = both.1 in
         InPages both.0 (omega (arith, high, few))
 
-    in-source : list_any (in_span addr) (source_shown plan bounce) ≡ true → IsBytes mediator lane tag t addr
+    in-source : list_any (in_span addr) (source_shown share.plan bounce) ≡ true → IsBytes mediator lane tag t addr
     in-source =
-        planned-kinds (λ p. list_any (in_span addr) (source_shown p bounce) ≡ true → IsBytes mediator lane tag t addr) guest entry plan is
+        planned-kinds (λ p. list_any (in_span addr) (source_shown p bounce) ≡ true → IsBytes mediator lane tag t addr) guest entry share is
         (λ e. cc) (λ fits e. cc)
         (λ e.
-        (let shown = any-not_chosen (in_span addr) (is_read is.work.opcode) ((bounce, total_len is.work.pieces) ∷ []) e in
-        let both = in-one addr bounce (total_len is.work.pieces) shown.1 in
-        let few = total-few in
+        (let own : Work = own_work guest entry share is in
+        let shown = any-not_chosen (in_span addr) (is_read own.opcode) ((bounce, total_len own.pieces) ∷ []) e in
+        let both = in-one addr bounce (total_len own.pieces) shown.1 in
+        let few = own-few guest entry share is in
         let high = both.1 in
         in-bounce t both.0 (omega (arith, high, few))))
 
-    in-read : (left : List ℕ) → list_any (in_span addr) (units_shown plan left bounce) ≡ true → IsBytes mediator lane tag t addr
+    in-read : (left : List ℕ) → list_any (in_span addr) (units_shown share.plan left bounce) ≡ true → IsBytes mediator lane tag t addr
     in-read left =
-        planned-kinds (λ p. list_any (in_span addr) (units_shown p left bounce) ≡ true → IsBytes mediator lane tag t addr) guest entry plan is
+        planned-kinds (λ p. list_any (in_span addr) (units_shown p left bounce) ≡ true → IsBytes mediator lane tag t addr) guest entry share is
         (λ e. cc) (λ fits e. cc)
         (λ e.
-        (let sound = end-sound (mapped (regions_of guest)) guest.limit (shape_of guest).blocks entry is.work is.verdict in
-        let short = end-short (mapped (regions_of guest)) guest.limit (shape_of guest).blocks entry is.work is.verdict in
-        let chosen = any-chosen (in_span addr) (is_read is.work.opcode) _ e in
-        let both = in-units addr bounce (length is.work.units) 0 left chosen.1 in
-        let few = units-few (form_of is.work.opcode) entry (shape_of guest).blocks is.work.ranges is.work.units chosen.0 sound.units in
+        (let part = own-of guest entry share is in
+        let own : Work = own_work guest entry share is in
+        let few = own-few guest entry share is in
+        let total = part.total in
+        let chosen = any-chosen (in_span addr) (is_read own.opcode) _ e in
+        let both = in-units addr bounce (length own.units) 0 left chosen.1 in
+        let units = units-few (form_of is.work.opcode) own (sym (ap is_read part.opcode) ∙ chosen.0) in
         let high = both.1 in
-        in-bounce t both.0 (omega (arith, high, few, short))))
+        in-bounce t both.0 (omega (arith, high, few, total, units))))
 
-    in-result : (st : StatusField) → list_any (in_span addr) (result_shown st plan bounce) ≡ true → IsBytes mediator lane tag t addr
-    in-result st e = in-read [] (any-chosen (in_span addr) (is_success st) (units_shown plan [] bounce) e).1
+    in-result : (st : StatusField) → list_any (in_span addr) (result_shown st share.plan bounce) ≡ true → IsBytes mediator lane tag t addr
+    in-result st e = in-read [] (any-chosen (in_span addr) (is_success st) (units_shown share.plan [] bounce) e).1
 
-    in-moved : (h : Option Held) → list_any (in_span addr) (moved_shown h plan bounce) ≡ true → IsBytes mediator lane tag t addr
+    in-moved : (h : Option Held) → list_any (in_span addr) (moved_shown h share.plan bounce) ≡ true → IsBytes mediator lane tag t addr
     in-moved None e = cc
     in-moved (Some h) e = in-read h.left e
 
-    in-read_shown : (standing : Standing) (h : Option Held) (status_at : ℕ → StatusField) → list_any (in_span addr) (read_shown standing plan h status_at bounce) ≡ true
+    in-read_shown : (standing : Standing) (h : Option Held) (status_at : ℕ → StatusField) → list_any (in_span addr) (read_shown standing share.plan h status_at bounce) ≡ true
         → IsBytes mediator lane tag t addr
     in-read_shown (Queued at) h status_at e = cc
     in-read_shown InDevice h status_at e = in-moved h e
     in-read_shown (Answered at) h status_at e = in-result (status_at at) e
 
   -- the slot of a command that was handed on
-  in-slot : (command : Command) (plan : Plan) (standing : Standing) → list_any (in_span addr) (slot_shown standing mediator lane) ≡ true
-      → IsBytes mediator lane tag (Flying command plan standing) addr
-  in-slot command plan (Queued at) e =
+  in-slot : (command : Command) (share : Share) (standing : Standing) → list_any (in_span addr) (slot_shown standing mediator lane) ≡ true
+      → IsBytes mediator lane tag (Flying command share standing) addr
+  in-slot command share (Queued at) e =
       let both = in-one addr (submission_slot mediator lane at) sqe_size e in
       let high = both.1 in
       InEntry at (eq-eqb at at refl) both.0 (omega (arith, high))
-  in-slot command plan InDevice e = cc
-  in-slot command plan (Answered at) e =
+  in-slot command share InDevice e = cc
+  in-slot command share (Answered at) e =
       let both = in-one addr (completion_slot mediator lane at) cqe_size e in
       let high = both.1 in
       InCompletion at (eq-eqb at at refl) both.0 (omega (arith, high))
@@ -203,28 +189,28 @@ tag-bytes : (geometry : Geometry) (lane tag : ℕ) (host : ℕ → ℕ) (head : 
     → list_any (in_span addr) (tag_shown t given h status_at geometry.mediator lane tag) ≡ true → IsBytes geometry.mediator lane tag t addr
 tag-bytes geometry lane tag host head d held Free addr h status_at given aligned is whose e = cc
 tag-bytes geometry lane tag host head d held (Taken command reads) addr h status_at given aligned is whose e = cc
-tag-bytes geometry lane tag host head d held (Flying command plan standing) addr h status_at given aligned is whose e =
+tag-bytes geometry lane tag host head d held (Flying command share standing) addr h status_at given aligned is whose e =
     let same : is.guest ≡ given = some-same is.guest given (sym is.is.given ∙ whose command refl) in
-    let planned : IsPlanned given command.entry plan = subst (λ g. IsPlanned g command.entry plan) same is.planned in
+    let planned : IsPlanned given command.entry share = subst (λ g. IsPlanned g command.entry share) same is.planned in
     let list = list_page geometry.mediator lane tag in
     let bounce = bounce_page geometry.mediator lane tag in
     let slot = slot_shown standing geometry.mediator lane in
-    let listed = list_shown plan given list bounce in
-    let source = source_shown plan bounce in
-    elim (any-append (in_span addr) (slot ++ listed ++ source) (read_shown standing plan h status_at bounce) e) [
-      | inr read ↦ in-read_shown geometry.mediator lane tag aligned addr given command.entry plan planned (Flying command plan standing) standing h status_at read
+    let listed = list_shown share.plan given list bounce in
+    let source = source_shown share.plan bounce in
+    elim (any-append (in_span addr) (slot ++ listed ++ source) (read_shown standing share.plan h status_at bounce) e) [
+      | inr read ↦ in-read_shown geometry.mediator lane tag aligned addr given command.entry share planned (Flying command share standing) standing h status_at read
       | inl front ↦ elim (any-append (in_span addr) (slot ++ listed) source front) [
-        | inr of_source ↦ in-source geometry.mediator lane tag aligned addr given command.entry plan planned (Flying command plan standing) of_source
+        | inr of_source ↦ in-source geometry.mediator lane tag aligned addr given command.entry share planned (Flying command share standing) of_source
         | inl start ↦ elim (any-append (in_span addr) slot listed start) [
-          | inl of_slot ↦ in-slot geometry.mediator lane tag aligned addr command plan standing of_slot
-          | inr of_list ↦ in-list geometry.mediator lane tag aligned addr given command.entry plan planned (Flying command plan standing) of_list
+          | inl of_slot ↦ in-slot geometry.mediator lane tag aligned addr command share standing of_slot
+          | inr of_list ↦ in-list geometry.mediator lane tag aligned addr given command.entry share planned (Flying command share standing) of_list
         ]
       ]
     ]
 tag-bytes geometry lane tag host head d held (Ended command st None) addr h status_at given aligned is whose e = cc
-tag-bytes geometry lane tag host head d held (Ended command st (Some plan)) addr h status_at given aligned is whose e =
+tag-bytes geometry lane tag host head d held (Ended command st (Some share)) addr h status_at given aligned is whose e =
     let same : is.guest ≡ given = some-same is.guest given (sym is.is.given ∙ whose command refl) in
-    in-result geometry.mediator lane tag aligned addr given command.entry plan (subst (λ g. IsPlanned g command.entry plan) same is.planned) (Ended command st (Some plan)) st e
+    in-result geometry.mediator lane tag aligned addr given command.entry share (subst (λ g. IsPlanned g command.entry share) same is.planned) (Ended command st (Some share)) st e
 
 -- ---- a guest
 
@@ -232,11 +218,11 @@ tag-bytes geometry lane tag host head d held (Ended command st (Some plan)) addr
 pub own-guest : (number : ℕ) (t : Tag) → is_tag_of number (Some t) ≡ true → guest_of_tag t ≡ Some number
 own-guest number Free e = cc
 own-guest number (Taken command reads) e = ap (λ n. Some n) (eqb-true command.guest number e)
-own-guest number (Flying command plan standing) e = ap (λ n. Some n) (eqb-true command.guest number e)
-own-guest number (Ended command st plan) e = ap (λ n. Some n) (eqb-true command.guest number e)
+own-guest number (Flying command share standing) e = ap (λ n. Some n) (eqb-true command.guest number e)
+own-guest number (Ended command st share) e = ap (λ n. Some n) (eqb-true command.guest number e)
 
 pub shown-at : (host_bytes : ℕ) (geometry : Geometry) (w : World) (number : ℕ) (guest : Guest) (addr : ℕ)
-    → IsLaidOut host_bytes (length w.lanes) geometry → IsConsistent geometry w → slice_get geometry.guests number ≡ Some guest
+    → IsLaidOut host_bytes (length w.lanes) geometry → IsConsistentOfTags geometry w → slice_get geometry.guests number ≡ Some guest
     → lies_in (shown number guest geometry w) addr ≡ true → IsShownAt number geometry w addr
 unfolding shown
 shown-at host_bytes geometry w number guest addr laid is given e =

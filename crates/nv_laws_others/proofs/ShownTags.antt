@@ -1,5 +1,6 @@
 -- What is shown to a guest is what is shown of its tags, one by one.
-use Rattle.std.proofs.Common.{◌≡◌, ℕ, zero, suc, ◌+◌, Bool, true, false, cond, ◌||◌, List, [], ◌∷◌, ◌++◌, flat_map, slice_get, Option, Some, None, arith, refl, sym, ap, ◌∙◌, subst, eq-eqb}
+use Rattle.std.proofs.Common.{◌≡◌, ℕ, zero, suc, ◌+◌, Bool, true, false, cond, ◌||◌, List, [], ◌∷◌, ◌++◌, flat_map, slice_get}
+use Rattle.std.proofs.Common.{Option, Some, None, arith, refl, sym, ap, ◌∙◌, subst, eq-eqb}
 use Rattle.std.specs.List.{enumerate_from, list_any}
 use Rattle.nv_entry.specs.Completion.{status_of}
 use Rattle.nv_entry.specs.Status.{StatusField}
@@ -99,13 +100,13 @@ pub spans-same : (t : Tag) (guest : Guest) (held again : Option Held) (f g : ℕ
     → tag_shown t guest held f mediator lane tag ≡ tag_shown t guest again g mediator lane tag
 spans-same Free guest held again f g mediator lane tag same statuses = refl
 spans-same (Taken command reads) guest held again f g mediator lane tag same statuses = refl
-spans-same (Flying command plan (Queued at)) guest held again f g mediator lane tag same statuses = refl
-spans-same (Flying command plan InDevice) guest held again f g mediator lane tag same statuses =
+spans-same (Flying command share (Queued at)) guest held again f g mediator lane tag same statuses = refl
+spans-same (Flying command share InDevice) guest held again f g mediator lane tag same statuses =
     ap (λ h.
-    slot_shown InDevice mediator lane ++ list_shown plan guest (list_page mediator lane tag) (bounce_page mediator lane tag)
-    ++ source_shown plan (bounce_page mediator lane tag) ++ moved_shown h plan (bounce_page mediator lane tag)) same
-spans-same (Flying command plan (Answered at)) guest held again f g mediator lane tag same statuses =
+    slot_shown InDevice mediator lane ++ list_shown share.plan guest (list_page mediator lane tag) (bounce_page mediator lane tag)
+    ++ source_shown share.plan (bounce_page mediator lane tag) ++ moved_shown h share.plan (bounce_page mediator lane tag)) same
+spans-same (Flying command share (Answered at)) guest held again f g mediator lane tag same statuses =
     ap (λ st.
-    slot_shown (Answered at) mediator lane ++ list_shown plan guest (list_page mediator lane tag) (bounce_page mediator lane tag)
-    ++ source_shown plan (bounce_page mediator lane tag) ++ result_shown st plan (bounce_page mediator lane tag)) (statuses at (eq-eqb at at refl))
-spans-same (Ended command st plan) guest held again f g mediator lane tag same statuses = refl
+    slot_shown (Answered at) mediator lane ++ list_shown share.plan guest (list_page mediator lane tag) (bounce_page mediator lane tag)
+    ++ source_shown share.plan (bounce_page mediator lane tag) ++ result_shown st share.plan (bounce_page mediator lane tag)) (statuses at (eq-eqb at at refl))
+spans-same (Ended command st share) guest held again f g mediator lane tag same statuses = refl

@@ -1,5 +1,6 @@
 -- What a unit that moves leaves.
-use Rattle.std.proofs.Common.{◌≡◌, ℕ, ◌<◌, inl, inr, true, false, ◌==◌, All, length, set, slice_get, Some, None, arith, refl, sym, ap, ◌∙◌, subst}
+use Rattle.std.proofs.Common.{◌≡◌, ℕ, ◌<◌, inl, inr, true, false, ◌==◌, All, length, set, slice_get, Some, None, arith, refl, sym, ap}
+use Rattle.std.proofs.Common.{◌∙◌, subst}
 use Rattle.std.specs.List.{list_any}
 use Rattle.nv_mem.specs.GuestMap.{guest_of}
 use Rattle.nv_mem.specs.Places.{At}
@@ -12,7 +13,7 @@ use Rattle.nv_world_model.specs.Geometry.{Geometry, regions_of}
 use Rattle.nv_world_model.specs.Step.{device_move, device_moved, step}
 use Rattle.nv_world_model.specs.View.{is_tag_of}
 use Rattle.nv_world_model.specs.World.{Flying, InDevice, Lane, Tag, World, changed_at, tag_in}
-use Rattle.nv_laws_sound.specs.Consistent.{IsConsistent}
+use Rattle.nv_laws_sound.specs.Consistent.{IsConsistentOfTags}
 use Rattle.nv_laws_sound.specs.LaidOut.{IsLaidOut}
 use Rattle.nv_laws_sound.proofs.Lists.{set-same, slice_get-below, slice_get-there, some-same}
 use Rattle.nv_laws_sound.proofs.MoveEvents.{held-flies, moved-elsewhere, moved-undisturbed, unit-apart}
@@ -25,7 +26,7 @@ use Rattle.nv_laws_others.proofs.MoveEvents.{unit-stays}
 use Rattle.nv_laws_others.proofs.Parts.{held-put, tag-apart}
 use Rattle.nv_laws_others.proofs.TagEvents.{of-tag}
 
-module _ (host_bytes : ℕ) (geometry : Geometry) (w : World) (laid : IsLaidOut host_bytes (length w.lanes) geometry) (fine : IsConsistent geometry w) where
+module _ (host_bytes : ℕ) (geometry : Geometry) (w : World) (laid : IsLaidOut host_bytes (length w.lanes) geometry) (fine : IsConsistentOfTags geometry w) where
   moved-leaves : (lane tag number : ℕ) (l : Lane) (d : DeviceLane) (h : Held) (t : Tag) → slice_get w.lanes lane ≡ Some l → slice_get w.device lane ≡ Some d
       → slice_get l.tags tag ≡ Some t → slice_get d.held tag ≡ Some (Some h) → list_any (λ k. k == number) h.left ≡ true
       → Leaves geometry (guest_of_one (tag_in (slice_get w.lanes lane) tag)) w (device_moved geometry.disk_blocks lane tag number h w)
@@ -37,7 +38,7 @@ module _ (host_bytes : ℕ) (geometry : Geometry) (w : World) (laid : IsLaidOut 
       let among = slice_get-below l.tags tag t found in
       let tag_below : tag < tag_count = omega (arith, tags, among) in
       let holds = held-flies geometry lane tag w.host l.head d h t (before.tags tag t (Some h) found held) in
-      let was = Flying holds.command holds.plan InDevice in
+      let was = Flying holds.command holds.share InDevice in
       let flies : slice_get l.tags tag ≡ Some was = found ∙ ap (λ x. Some x) holds.flies in
       let whose = holds.command.guest in
       let given = holds.is.given in
@@ -46,7 +47,7 @@ module _ (host_bytes : ℕ) (geometry : Geometry) (w : World) (laid : IsLaidOut 
       let image_out : (x : ℕ) → in_image_of (given_to (Some whose) geometry) x ≡ false → guest_of (regions_of holds.guest) x ≡ None =
       λ x out. not-some (guest_of (regions_of holds.guest) x) (sym (ap (λ o. in_image_of o x) given) ∙ out) in
       let stays : (x : ℕ) → in_extents_of (given_to (Some whose) geometry) x ≡ false → _ =
-      λ x out. unit-stays host_bytes (length w.lanes) geometry laid whose holds.guest given holds.command.entry holds.plan holds.planned
+      λ x out. unit-stays host_bytes (length w.lanes) geometry laid whose holds.guest given holds.command.entry holds.share holds.planned holds.some
       lane tag h w.host holds.in_device number left x (sym (ap (λ o. in_extents_of o x) given) ∙ out) tag_below w.disk w.kept in
       of-tag host_bytes geometry w laid fine lane tag was whose _ (ap (λ x. tag_in x tag) at ∙ flies) refl
       (leaves-tag geometry (Some whose) w _ lane tag l l d now was was at there flies (sym (set-same l.tags tag was flies)) (sym (set-same w.lanes lane l at))
@@ -57,17 +58,17 @@ module _ (host_bytes : ℕ) (geometry : Geometry) (w : World) (laid : IsLaidOut 
         bytes = (λ x out area.
             sym (unit-apart number geometry.disk_blocks x h w.host w.disk w.kept
             (subst (All (IsAnother (At x))) (sym holds.in_device.places)
-            (addresses-apart holds.guest holds.command.entry holds.plan (bounce_page geometry.mediator lane tag) x (laid.given whose holds.guest given).sound.apart holds.planned (image_out x out)
+            (addresses-apart holds.guest holds.command.entry holds.share (bounce_page geometry.mediator lane tag) x (laid.given whose holds.guest given).sound.apart holds.planned (image_out x out)
             (elim (outside-area geometry w x area) [
               | inl before_area ↦ inl (omega (arith, before_area))
               | inr behind_area ↦ inr (omega (arith, behind_area, lane_below, tag_below))
             ])))));
         area = (λ other guest addr others_given differ s.
             area-left geometry w m.memory lane tag l.head l d (record d { held = set d.held tag (Some (unit_gone number m.differed h)) }) other addr fine at there
-            (moved-elsewhere host_bytes geometry (length w.lanes) lane tag laid lane_below tag_below holds.guest whose given holds.command.entry holds.plan
+            (moved-elsewhere host_bytes geometry (length w.lanes) lane tag laid lane_below tag_below holds.guest whose given holds.command.entry holds.share
             holds.planned h w.host holds.in_device number w.disk w.kept)
             (λ b x apart b_below here.
-            moved-undisturbed host_bytes geometry (length w.lanes) lane tag laid lane_below tag_below holds.guest whose given holds.command.entry holds.plan
+            moved-undisturbed host_bytes geometry (length w.lanes) lane tag laid lane_below tag_below holds.guest whose given holds.command.entry holds.share
             holds.planned h w.host holds.in_device number w.disk w.kept b l.head d
             (set d.held tag (Some (unit_gone number m.differed h))) x apart b_below)
             (λ x here. subst (λ y. is_tag_of other (Some y) ≡ false) (some-same was x (sym flies ∙ here)) (tag-apart (Some whose) other was refl differ))

@@ -4,7 +4,7 @@ use Rattle.nv_entry.specs.Status.{StatusField}
 use Rattle.nv_model.specs.Memory.{stored}
 use Rattle.nv_model.specs.Rows.{by_sgl, data_block}
 use Rattle.nv_world_model.specs.Area.{bounce_page}
-use Rattle.nv_world_model.specs.Rows.{behind, in_device, one_command, set_up}
+use Rattle.nv_world_model.specs.RowsExtents.{behind, in_device, one_command, set_up}
 use Rattle.nv_world_model.specs.World.{World, with_host}
 
 -- a status of type 8, where a completion has three bits for the type

@@ -1,19 +1,23 @@
 -- Completions are posted, read and passed on: what these events keep of the phase tags.
-use Rattle.std.proofs.Common.{◌≡◌, ℕ, ◌<◌, Bool, true, false, cond, ◌&&◌, List, [], ◌∷◌, length, slice_get, Option, Some, None, arith, refl, sym, ap, ◌∙◌, subst}
+use Rattle.std.proofs.Common.{◌≡◌, ℕ, ◌<◌, Bool, true, false, cond, List, [], ◌∷◌, length, slice_get, Option, Some, None, arith, refl, sym, ap, ◌∙◌, subst}
 use Rattle.nv_entry.specs.Completion.{completion}
 use Rattle.nv_entry.specs.Status.{StatusField}
 use Rattle.nv_entry.proofs.CompletionLemmas.{length-completion}
-use Rattle.nv_model.specs.Controller.{Posted, ran_out}
+use Rattle.nv_entry.specs.Submission.{cid_of}
+use Rattle.nv_model.specs.Controller.{Posted, is_enabled, post, ran_out}
 use Rattle.nv_model.specs.Judge.{Work, is_read}
 use Rattle.nv_model.specs.Memory.{image, stored}
-use Rattle.nv_world_model.specs.Area.{completion_slot, queue_pair, tag_count}
+use Rattle.nv_model.specs.declared.reply.Reply.TheVariants as reply
+use Rattle.nv_world_model.specs.Area.{bounce_page, completion_slot, queue_pair, tag_count}
 use Rattle.nv_world_model.specs.Contained.{tag_stands}
 use Rattle.nv_world_model.specs.Device.{DeviceLane, Held, completion_posted, completion_written, held_status, next_phase}
 use Rattle.nv_world_model.specs.Geometry.{Geometry, regions_of}
 use Rattle.nv_world_model.specs.Plan.{Answer, Bounced, Direct, NoData, Plan}
 use Rattle.nv_world_model.specs.Seat.{Owner, put_back}
-use Rattle.nv_world_model.specs.Step.{completion_read, delivered, device_post, device_posted, ended_at, is_success, post_by, posted_to, ran_out_of, reaped, scattered_to}
-use Rattle.nv_world_model.specs.World.{Answered, Ended, Flying, Free, InDevice, Lane, Tag, Taken, World, changed_at, with_controller, with_device, with_host, with_lane}
+use Rattle.nv_world_model.specs.Step.{completion_read, deciding, delivered, delivered_all, delivered_by, delivered_from, device_post, device_posted, ended_at}
+use Rattle.nv_world_model.specs.Step.{is_success, post_all, post_by, posted_to, ran_out_of, reaped, replied, scattered_to}
+use Rattle.nv_world_model.specs.World.{Answered, Command, Ended, Flying, Free, InDevice, Lane, Tag, Taken, World, changed_at, tag_of}
+use Rattle.nv_world_model.specs.World.{with_controller, with_device, with_host, with_lane}
 use Rattle.nv_laws_sound.specs.Consistent.{ArePositions, IsConsistent, waits_for_mediator}
 use Rattle.nv_laws_sound.specs.LaidOut.{IsLaidOut}
 use Rattle.nv_laws_sound.proofs.AnswerEvents.{written-elsewhere}
@@ -22,7 +26,7 @@ use Rattle.nv_laws_sound.proofs.MoveEvents.{held-flies}
 use Rattle.nv_laws_sound.proofs.Rings.{far}
 use Rattle.nv_laws_phases.specs.Phased.{ArePhased, IsPhased}
 use Rattle.nv_laws_phases.proofs.Events.{memory-phased, posted-below}
-use Rattle.nv_laws_phases.proofs.Kept.{phased-ring, phased-standing, phased-tag, ring-of-lane}
+use Rattle.nv_laws_phases.proofs.Kept.{phased-ring, phased-standing, phased-tag, phased-tags, ring-of-lane}
 use Rattle.nv_laws_phases.proofs.Posts.{slot-posted}
 use Rattle.nv_laws_phases.proofs.Rounds.{wanted-read}
 
@@ -36,7 +40,7 @@ module _ (host_bytes : ℕ) (geometry : Geometry) (w : World) (laid : IsLaidOut 
     own : (l : Lane) × (slice_get w.lanes lane ≡ Some l)
     own =
         let among = slice_get-below w.device lane d there in
-        let sides = is.sides in
+        let sides = is.of_tags.sides in
         slice_get-there w.lanes lane (omega (arith, among, sides))
 
     below : lane < length w.lanes
@@ -44,19 +48,19 @@ module _ (host_bytes : ℕ) (geometry : Geometry) (w : World) (laid : IsLaidOut 
 
     small : slot < tag_count
     small =
-        let sized = (is.lanes lane own.0 d own.1 there).positions.held in
+        let sized = (is.of_tags.lanes lane own.0 d own.1 there).positions.held in
         let under = slice_get-below d.held slot (Some h) held in
         omega (arith, sized, under)
 
     -- there is room for a completion: the tag's own is not among those that wait
     room : far own.0.head d.posted < 64
     room =
-        let before = is.lanes lane own.0 d own.1 there in
+        let before = is.of_tags.lanes lane own.0 d own.1 there in
         let tags = before.positions.tags in
         let less = small in
         let t = slice_get-there own.0.tags slot (omega (arith, tags, less)) in
         let holds = held-flies geometry lane slot w.host own.0.head d h t.0 (before.tags slot t.0 (Some h) t.1 held) in
-        let waiting = count-fewer (tag_stands waits_for_mediator) own.0.tags slot (Flying holds.command holds.plan InDevice) (t.1 ∙ ap (λ x. Some x) holds.flies) refl in
+        let waiting = count-fewer (tag_stands waits_for_mediator) own.0.tags slot (Flying holds.command holds.share InDevice) (t.1 ∙ ap (λ x. Some x) holds.flies) refl in
         let many = before.answered_count in
         omega (arith, waiting, many, tags)
 
@@ -76,7 +80,7 @@ module _ (host_bytes : ℕ) (geometry : Geometry) (w : World) (laid : IsLaidOut 
         less = small
 
         positions : ArePositions own.0 d
-        positions = (is.lanes lane own.0 d own.1 there).positions
+        positions = (is.of_tags.lanes lane own.0 d own.1 there).positions
 
         here : own.0 ≡ l
         here = some-same own.0 l (sym own.1 ∙ subst (λ m. slice_get w.lanes m ≡ Some l) same at)
@@ -106,8 +110,8 @@ module _ (host_bytes : ℕ) (geometry : Geometry) (w : World) (laid : IsLaidOut 
   phased-ended None st lane tag z phased = phased
   phased-ended (Some Free) st lane tag z phased = phased
   phased-ended (Some (Taken command reads)) st lane tag z phased = phased
-  phased-ended (Some (Flying command plan before)) st lane tag z phased = phased-tag geometry lane tag _ z phased
-  phased-ended (Some (Ended command before plan)) st lane tag z phased = phased
+  phased-ended (Some (Flying command share before)) st lane tag z phased = phased-tag geometry lane tag _ z phased
+  phased-ended (Some (Ended command before share)) st lane tag z phased = phased
 
   read-at : (lane : ℕ) (l : Lane) (d : DeviceLane) → slice_get w.lanes lane ≡ Some l → slice_get w.device lane ≡ Some d → (l.head ≡ d.posted → ⊥)
       → (n : ℕ) (x : Lane) (y : DeviceLane) → IsThere w.lanes lane (completion_read l) n x → slice_get w.device n ≡ Some y
@@ -126,7 +130,7 @@ module _ (host_bytes : ℕ) (geometry : Geometry) (w : World) (laid : IsLaidOut 
       before = are lane l d at there
 
       positions : ArePositions l d
-      positions = (is.lanes lane l d at there).positions
+      positions = (is.of_tags.lanes lane l d at there).positions
 
       here : d ≡ y
       here = some-same d y (sym there ∙ subst (λ m. slice_get w.device m ≡ Some y) same under)
@@ -148,42 +152,71 @@ module _ (host_bytes : ℕ) (geometry : Geometry) (w : World) (laid : IsLaidOut 
     is_with : z ≡ with_host host w
     phased : ArePhased geometry (with_host host w)
 
-  scattered-hosted : (b : Bool) (bounce : ℕ) (work : Work) (o : Owner) → slice_get geometry.guests o.number ≡ Some o.given
-      → IsHosted (cond b (scattered_to bounce work o w) w)
-  unfolding scattered_to
-  scattered-hosted true bounce work o given =
-      record { host = _; is_with = refl; phased = memory-phased host_bytes geometry w laid is are o w.host _ given are }
-  scattered-hosted false bounce work o given = record { host = w.host; is_with = refl; phased = are }
+  unhosted : IsHosted w
+  unhosted = record { host = w.host; is_with = refl; phased = are }
 
-  delivered-hosted : (plan : Option Plan) (st : StatusField) (bounce : ℕ) (o : Owner) → slice_get geometry.guests o.number ≡ Some o.given
-      → IsHosted (delivered plan st bounce o w)
-  delivered-hosted None st bounce o given = record { host = w.host; is_with = refl; phased = are }
-  delivered-hosted (Some (Answer answer)) st bounce o given = record { host = w.host; is_with = refl; phased = are }
-  delivered-hosted (Some (NoData work)) st bounce o given = record { host = w.host; is_with = refl; phased = are }
-  delivered-hosted (Some (Direct work)) st bounce o given = record { host = w.host; is_with = refl; phased = are }
-  delivered-hosted (Some (Bounced work)) st bounce o given = scattered-hosted (is_read work.opcode && is_success st) bounce work o given
+  module _ (o : Owner) (given : slice_get geometry.guests o.number ≡ Some o.given) where
+    scattered-hosted : (b : Bool) (bounce : ℕ) (work : Work) (z : World) → IsHosted z → IsHosted (cond b (scattered_to bounce work o z) z)
+    unfolding scattered_to
+    scattered-hosted true bounce work z hosted =
+        subst (λ x. IsHosted (scattered_to bounce work o x)) (sym hosted.is_with)
+        (record { host = _; is_with = refl; phased = memory-phased host_bytes geometry w laid is are o hosted.host _ given hosted.phased })
+    scattered-hosted false bounce work z hosted = hosted
 
-  posted_to-phased : (posted : Posted) (lane tag : ℕ) (o : Owner) (z : World) → slice_get geometry.guests o.number ≡ Some o.given → IsHosted z
-      → ArePhased geometry (posted_to posted lane tag o z)
-  unfolding posted_to put_back
-  posted_to-phased posted lane tag o z given hosted =
-      subst (λ x. ArePhased geometry (posted_to posted lane tag o x)) (sym hosted.is_with)
-      (phased-tag geometry lane tag Free (put_back o (stored (image (regions_of o.given) hosted.host) posted.addr posted.entry) posted.controller (with_host hosted.host w))
-      (memory-phased host_bytes geometry w laid is are o hosted.host _ given hosted.phased))
+    share-hosted : (plan : Plan) (bounce : ℕ) (z : World) → IsHosted z → IsHosted (delivered_by plan bounce o z)
+    share-hosted (Answer answer) bounce z hosted = hosted
+    share-hosted (NoData work) bounce z hosted = hosted
+    share-hosted (Direct work) bounce z hosted = hosted
+    share-hosted (Bounced work) bounce z hosted = scattered-hosted (is_read work.opcode) bounce work z hosted
 
-  out-phased : (queue lane tag : ℕ) (o : Owner) (z : World) → IsHosted z → ArePhased geometry (ran_out_of queue lane tag o z)
-  unfolding ran_out_of
-  out-phased queue lane tag o z hosted =
-      subst (λ x. ArePhased geometry (ran_out_of queue lane tag o x)) (sym hosted.is_with)
-      (phased-tag geometry lane tag Free (with_controller o.number (ran_out o.controller queue) (with_host hosted.host w)) hosted.phased)
+    tag-hosted : (t : Option Tag) (bounce : ℕ) (z : World) → IsHosted z → IsHosted (delivered_from t bounce o z)
+    tag-hosted None bounce z hosted = hosted
+    tag-hosted (Some Free) bounce z hosted = hosted
+    tag-hosted (Some (Taken command reads)) bounce z hosted = hosted
+    tag-hosted (Some (Flying command share standing)) bounce z hosted = hosted
+    tag-hosted (Some (Ended command st None)) bounce z hosted = hosted
+    tag-hosted (Some (Ended command st (Some share))) bounce z hosted = share-hosted share.plan bounce z hosted
 
-  pub run_out-phased : (queue lane tag : ℕ) (plan : Option Plan) (st : StatusField) (bounce : ℕ) (o : Owner) → slice_get geometry.guests o.number ≡ Some o.given
-      → ArePhased geometry (ran_out_of queue lane tag o (delivered plan st bounce o w))
-  run_out-phased queue lane tag plan st bounce o given =
-      out-phased queue lane tag o (delivered plan st bounce o w) (delivered-hosted plan st bounce o given)
+    tags-hosted : (lane : ℕ) (tags : List ℕ) (z : World) → IsHosted z → IsHosted (delivered_all geometry.mediator lane tags o z)
+    unfolding delivered_all
+    tags-hosted lane [] z hosted = hosted
+    tags-hosted lane (tag ∷ tags) z hosted =
+        let bounce = bounce_page geometry.mediator lane tag in
+        tags-hosted lane tags (delivered_from (tag_of z lane tag) bounce o z) (tag-hosted (tag_of z lane tag) bounce z hosted)
 
-  pub post-phased : (found : Option Posted) (plan : Option Plan) (st : StatusField) (bounce lane tag : ℕ) (o : Owner)
-      → slice_get geometry.guests o.number ≡ Some o.given → ArePhased geometry (post_by found plan st bounce lane tag o w).world
-  post-phased None plan st bounce lane tag o given = are
-  post-phased (Some posted) plan st bounce lane tag o given =
-      posted_to-phased posted lane tag o (delivered plan st bounce o w) given (delivered-hosted plan st bounce o given)
+    when-hosted : (b : Bool) (lane : ℕ) (tags : List ℕ) → IsHosted (cond b (delivered_all geometry.mediator lane tags o w) w)
+    when-hosted true lane tags = tags-hosted lane tags w unhosted
+    when-hosted false lane tags = unhosted
+
+    posted_to-phased : (posted : Posted) (lane : ℕ) (tags : List ℕ) (z : World) → IsHosted z → ArePhased geometry (posted_to posted lane tags o z)
+    unfolding posted_to put_back
+    posted_to-phased posted lane tags z hosted =
+        subst (λ x. ArePhased geometry (posted_to posted lane tags o x)) (sym hosted.is_with)
+        (phased-tags geometry lane tags Free (put_back o (stored (image (regions_of o.given) hosted.host) posted.addr posted.entry) posted.controller (with_host hosted.host w))
+        (memory-phased host_bytes geometry w laid is are o hosted.host _ given hosted.phased))
+
+    out-phased : (queue lane : ℕ) (tags : List ℕ) (z : World) → IsHosted z → ArePhased geometry (ran_out_of queue lane tags o z)
+    unfolding ran_out_of
+    out-phased queue lane tags z hosted =
+        subst (λ x. ArePhased geometry (ran_out_of queue lane tags o x)) (sym hosted.is_with)
+        (phased-tags geometry lane tags Free (with_controller o.number (ran_out o.controller queue) (with_host hosted.host w)) hosted.phased)
+
+    completed-phased : (found : Option Posted) (st : StatusField) (lane : ℕ) (tags : List ℕ)
+        → ArePhased geometry (post_by found st geometry.mediator lane tags o w).world
+    completed-phased None st lane tags = are
+    completed-phased (Some posted) st lane tags =
+        posted_to-phased posted lane tags (delivered st geometry.mediator lane tags o w) (when-hosted (is_success st) lane tags)
+
+    left_or_out-phased : (enabled : Bool) (found : Option Posted) (st : StatusField) (queue lane : ℕ) (tags : List ℕ)
+        → ArePhased geometry (cond enabled (post_by found st geometry.mediator lane tags o w)
+        (replied reply.Done (ran_out_of queue lane tags o (delivered st geometry.mediator lane tags o w)))).world
+    left_or_out-phased true found st queue lane tags = completed-phased found st lane tags
+    left_or_out-phased false found st queue lane tags =
+        out-phased queue lane tags (delivered st geometry.mediator lane tags o w) (when-hosted (is_success st) lane tags)
+
+    pub post-phased : (sts : Option (List StatusField)) (command : Command) (lane : ℕ) (tags : List ℕ)
+        → ArePhased geometry (post_all sts command geometry.mediator lane tags o w).world
+    post-phased None command lane tags = are
+    post-phased (Some sts) command lane tags =
+        left_or_out-phased (is_enabled o.controller) (post o.controller command.queue 0 (cid_of command.entry) (deciding sts)) (deciding sts)
+        command.queue lane tags

@@ -1,5 +1,5 @@
 -- Each event keeps the phase tags of the completion rings.
-use Rattle.std.proofs.Common.{◌≡◌, ℕ, ◌<◌, ◌⊎◌, inl, inr, List, length, slice_get, Option, Some, None, arith, refl, sym, ◌∙◌, subst}
+use Rattle.std.proofs.Common.{◌≡◌, ℕ, ◌<◌, ◌⊎◌, inl, inr, List, [], ◌∷◌, length, slice_get, Option, Some, None, arith, refl, sym, subst}
 use Rattle.std.specs.Prelude.{◌≢◌}
 use Rattle.std.proofs.lemmas.Bool.{cases_eq, ne_eqb}
 use Rattle.nv_entry.specs.Status.{StatusField}
@@ -8,35 +8,32 @@ use Rattle.nv_model.specs.Admin.{AdminStep, NothingToDo, QueueFull, Stepped}
 use Rattle.nv_model.specs.Controller.{took}
 use Rattle.nv_model.specs.Memory.{put_image}
 use Rattle.nv_model.specs.Private.{Private}
-use Rattle.nv_model.specs.Transcript.{Outcome, ReadDone, Settled, Wanted}
+use Rattle.nv_model.specs.Transcript.{ReadDone}
 use Rattle.nv_model.specs.declared.reply.Reply.{Reply}
 use Rattle.nv_model.specs.declared.reply.Reply.TheVariants as reply
-use Rattle.nv_world_model.specs.Area.{completion_slot, ring_size, tag_count, written}
-use Rattle.nv_world_model.specs.Device.{DeviceLane, Held, device_unit, entry_taken, rung, with_held}
+use Rattle.nv_world_model.specs.Area.{completion_slot, ring_size, tag_count}
+use Rattle.nv_world_model.specs.Device.{DeviceLane, Held, device_unit, entry_taken, with_held}
 use Rattle.nv_world_model.specs.Geometry.{Geometry, regions_of}
-use Rattle.nv_world_model.specs.Plan.{Answer, Bounced, Direct, NoData, Plan, plan_over}
 use Rattle.nv_world_model.specs.Seat.{Owner, put_back, with_memory}
-use Rattle.nv_world_model.specs.Step.{act_put_back, administered_by, carry_out, device_moved, device_took, ended_at_once, free_tag, kept_block, listed}
-use Rattle.nv_world_model.specs.Step.{submit_by, submitted, take_front, take_tag, taken_to}
-use Rattle.nv_world_model.specs.World.{Command, InDevice, Lane, Taken, World, tag_of, with_controller, with_device, with_host}
-use Rattle.nv_laws_sound.specs.Consistent.{IsConsistent, IsPlanned}
+use Rattle.nv_world_model.specs.Share.{tags_of_entry}
+use Rattle.nv_world_model.specs.Step.{act_put_back, administered_by, device_moved, device_took, ended_at_once, entry_at, kept_block, listed}
+use Rattle.nv_world_model.specs.Step.{take_front, take_tags, taken_to}
+use Rattle.nv_world_model.specs.World.{Command, Ended, InDevice, Lane, World, claimed, with_controller, with_host, with_tag}
+use Rattle.nv_laws_sound.specs.Consistent.{IsConsistent}
 use Rattle.nv_laws_sound.specs.LaidOut.{IsLaidOut}
 use Rattle.nv_laws_sound.proofs.Changes.{put_image-area}
-use Rattle.nv_laws_sound.proofs.Lists.{slice_get-below, slice_get-there, some-same}
+use Rattle.nv_laws_sound.proofs.Lists.{slice_get-below, slice_get-there}
 use Rattle.nv_laws_sound.proofs.MoveEvents.{area-same, held-flies, moved-elsewhere}
-use Rattle.nv_laws_sound.proofs.Planned.{Answers, IsAnswerOr, Plans, plan_over-is}
-use Rattle.nv_laws_sound.proofs.Retags.{is-at}
-use Rattle.nv_laws_sound.proofs.SubmitEvents.{entered-elsewhere, entered-same}
 use Rattle.nv_laws_phases.specs.Phased.{ArePhased}
-use Rattle.nv_laws_phases.proofs.Kept.{SameRing, phased-device, phased-host, phased-standing, phased-tag, ring-of-lane}
+use Rattle.nv_laws_phases.proofs.Kept.{SameRing, phased-device, phased-host, phased-standing, phased-tag, phased-tags, ring-of-lane}
 
 -- the slot that is written next is one of the ring
 pub posted-below : (geometry : Geometry) (w : World) → IsConsistent geometry w → (lane : ℕ) (d : DeviceLane) → slice_get w.device lane ≡ Some d → d.posted < ring_size
 posted-below geometry w is lane d there =
     let among = slice_get-below w.device lane d there in
-    let sides = is.sides in
+    let sides = is.of_tags.sides in
     let l = slice_get-there w.lanes lane (omega (arith, among, sides)) in
-    (is.lanes lane l.0 d l.1 there).positions.posted
+    (is.of_tags.lanes lane l.0 d l.1 there).positions.posted
 
 module _ (host_bytes : ℕ) (geometry : Geometry) (w : World) (laid : IsLaidOut host_bytes (length w.lanes) geometry) (is : IsConsistent geometry w)
     (are : ArePhased geometry w) where
@@ -70,71 +67,26 @@ module _ (host_bytes : ℕ) (geometry : Geometry) (w : World) (laid : IsLaidOut 
 
   -- ---- a command is taken, read for and ended
 
-  taken-phased : (addr queue lane tag : ℕ) (o : Owner) → ArePhased geometry (taken_to addr queue lane tag o w)
+  taken-phased : (addr queue lane : ℕ) (tags : List ℕ) (o : Owner) → ArePhased geometry (taken_to addr queue lane tags o w)
   unfolding taken_to
-  taken-phased addr queue lane tag o = phased-tag geometry lane tag _ (with_controller o.number (took o.controller queue) w) are
+  taken-phased addr queue lane tags o = phased-tags geometry lane tags _ (with_controller o.number (took o.controller queue) w) are
 
-  tag-phased : (tag : Option ℕ) (addr queue lane : ℕ) (o : Owner) → ArePhased geometry (take_tag tag addr queue lane o w).world
-  tag-phased None addr queue lane o = are
-  tag-phased (Some tag) addr queue lane o = taken-phased addr queue lane tag o
+  tags-phased : (tags : Option (List ℕ)) (addr queue lane : ℕ) (o : Owner) → ArePhased geometry (take_tags tags addr queue lane o w).world
+  tags-phased None addr queue lane o = are
+  tags-phased (Some tags) addr queue lane o = taken-phased addr queue lane tags o
 
   pub front-phased : (addr : Option ℕ) (queue lane : ℕ) (l : Lane) (o : Owner) → ArePhased geometry (take_front addr queue lane l o w).world
   front-phased None queue lane l o = are
-  front-phased (Some addr) queue lane l o = tag-phased (free_tag l.tags) addr queue lane o
+  front-phased (Some addr) queue lane l o =
+      tags-phased (claimed (tags_of_entry o.given.namespace (entry_at addr o w)) l.tags) addr queue lane o
 
   pub listed-phased : (addr len lane tag : ℕ) (command : Command) (reads : List ReadDone) (o : Owner) → ArePhased geometry (listed addr len lane tag command reads o w).world
   unfolding listed
   listed-phased addr len lane tag command reads o = phased-tag geometry lane tag _ w are
 
-  pub ended-phased : (lane tag : ℕ) (command : Command) (st : StatusField) → ArePhased geometry (ended_at_once lane tag command st w)
-  unfolding ended_at_once
-  ended-phased lane tag command st = phased-tag geometry lane tag _ w are
-
-  -- ---- a command is handed on
-
-  submitted-phased : (lane tag : ℕ) (command : Command) (reads : List ReadDone) (plan : Plan) (o : Owner) (d : DeviceLane)
-      → tag_of w lane tag ≡ Some (Taken command reads) → IsPlanned o.given command.entry plan → slice_get w.device lane ≡ Some d
-      → ArePhased geometry (submitted geometry.mediator lane tag command plan o d w)
-  unfolding submitted written
-  submitted-phased lane tag command reads plan o d found planned device =
-      let a = is-at geometry w lane tag (Taken command reads) is found in
-      let before = is.lanes lane a.l a.d a.at_lane a.at_device in
-      let same : d ≡ a.d = some-same d a.d (sym device ∙ a.at_device) in
-      let tags = before.positions.tags in
-      let among = slice_get-below a.l.tags tag (Taken command reads) a.at_tag in
-      let tag_below : tag < tag_count = omega (arith, tags, among) in
-      let tail_below : d.tail < ring_size = subst (λ (x : DeviceLane). x.tail < ring_size) (sym same) before.positions.tail in
-      let rings : (n : ℕ) → (n ≡ lane) ⊎ (n ≢ lane) → SameRing geometry n w.host (written plan o.given command.entry geometry.mediator lane tag d.tail w.host) =
-      λ n choice. elim choice [
-        | inl here ↦ subst (λ m. SameRing geometry m w.host (written plan o.given command.entry geometry.mediator lane tag d.tail w.host)) (sym here)
-            (entered-same host_bytes (length w.lanes) geometry laid o.given command.entry plan planned lane tag d.tail tag_below tail_below w.host
-            (completion_slot geometry.mediator lane 0) (completion_slot geometry.mediator lane ring_size)
-            (inr (omega (arith, tail_below))) (inl (omega arith)))
-        | inr apart ↦ ring-of-lane geometry n w.host (written plan o.given command.entry geometry.mediator lane tag d.tail w.host)
-            (entered-elsewhere host_bytes (length w.lanes) geometry laid o.given command.entry plan planned lane tag d.tail tag_below tail_below w.host n (ne_eqb n lane apart))
-      ] in
-      phased-tag geometry lane tag _
-      (with_device lane rung (with_host (written plan o.given command.entry geometry.mediator lane tag d.tail w.host) w))
-      (phased-device geometry lane rung (with_host (written plan o.given command.entry geometry.mediator lane tag d.tail w.host) w) (λ x. (refl, refl))
-      (phased-host geometry w (written plan o.given command.entry geometry.mediator lane tag d.tail w.host) (λ n below. rings n (cases_eq n lane)) (posted-below geometry w is) are))
-
-  carried-phased : (plan : Plan) (lane tag : ℕ) (command : Command) (reads : List ReadDone) (o : Owner) (d : DeviceLane)
-      → tag_of w lane tag ≡ Some (Taken command reads) → IsAnswerOr o.given command.entry plan → slice_get w.device lane ≡ Some d
-      → ArePhased geometry (carry_out plan geometry.mediator lane tag command o d w)
-  carried-phased (Answer st) lane tag command reads o d found kind device = ended-phased lane tag command st
-  carried-phased (NoData work) lane tag command reads o d found (Plans planned) device = submitted-phased lane tag command reads (NoData work) o d found planned device
-  carried-phased (Direct work) lane tag command reads o d found (Plans planned) device = submitted-phased lane tag command reads (Direct work) o d found planned device
-  carried-phased (Bounced work) lane tag command reads o d found (Plans planned) device = submitted-phased lane tag command reads (Bounced work) o d found planned device
-  carried-phased (NoData work) lane tag command reads o d found (Answers st same) device = cc
-  carried-phased (Direct work) lane tag command reads o d found (Answers st same) device = cc
-  carried-phased (Bounced work) lane tag command reads o d found (Answers st same) device = cc
-
-  pub submit-phased : (outcome : Outcome Plan) (lane tag : ℕ) (command : Command) (reads : List ReadDone) (o : Owner) (d : DeviceLane)
-      → tag_of w lane tag ≡ Some (Taken command reads) → plan_over o.given command.entry reads ≡ outcome → slice_get w.device lane ≡ Some d
-      → ArePhased geometry (submit_by outcome geometry.mediator lane tag command o d w).world
-  submit-phased (Wanted addr len) lane tag command reads o d found over device = are
-  submit-phased (Settled plan) lane tag command reads o d found over device =
-      carried-phased plan lane tag command reads o d found (plan_over-is o.given command.entry reads plan over) device
+  pub ended-phased : (lane : ℕ) (tags : List ℕ) (command : Command) (st : StatusField) → ArePhased geometry (ended_at_once lane tags command st w)
+  ended-phased lane [] command st = are
+  ended-phased lane (tag ∷ tags) command st = phased-tags geometry lane tags _ (with_tag lane tag (Ended command st None) w) (phased-tag geometry lane tag _ w are)
 
   -- ---- the physical controller takes an entry, and moves a unit
 
@@ -148,9 +100,9 @@ module _ (host_bytes : ℕ) (geometry : Geometry) (w : World) (laid : IsLaidOut 
   unfolding device_moved
   moved-phased lane slot number d h there held =
       let among = slice_get-below w.device lane d there in
-      let sides = is.sides in
+      let sides = is.of_tags.sides in
       let l = slice_get-there w.lanes lane (omega (arith, among, sides)) in
-      let before = is.lanes lane l.0 d l.1 there in
+      let before = is.of_tags.lanes lane l.0 d l.1 there in
       let tags = before.positions.tags in
       let sized = before.positions.held in
       let under = slice_get-below d.held slot (Some h) held in
@@ -162,11 +114,11 @@ module _ (host_bytes : ℕ) (geometry : Geometry) (w : World) (laid : IsLaidOut 
       let rings : (n : ℕ) → n < length w.lanes → (n ≡ lane) ⊎ (n ≢ lane) → SameRing geometry n w.host memory =
       λ n n_below choice. elim choice [
         | inl here ↦ subst (λ m. SameRing geometry m w.host memory) (sym here)
-            (area-same host_bytes geometry (length w.lanes) lane slot laid below slot_below holds.guest holds.command.guest holds.is.given holds.command.entry holds.plan holds.planned h
+            (area-same host_bytes geometry (length w.lanes) lane slot laid below slot_below holds.guest holds.command.guest holds.is.given holds.command.entry holds.share holds.planned h
             w.host holds.in_device number w.disk w.kept (completion_slot geometry.mediator lane 0) (completion_slot geometry.mediator lane ring_size)
             (omega arith) (omega (arith, below)) (inl (omega arith)))
         | inr apart ↦ ring-of-lane geometry n w.host memory
-            (moved-elsewhere host_bytes geometry (length w.lanes) lane slot laid below slot_below holds.guest holds.command.guest holds.is.given holds.command.entry holds.plan holds.planned h
+            (moved-elsewhere host_bytes geometry (length w.lanes) lane slot laid below slot_below holds.guest holds.command.guest holds.is.given holds.command.entry holds.share holds.planned h
             w.host holds.in_device number w.disk w.kept n (ne_eqb n lane apart) n_below)
       ] in
       phased-device geometry lane (with_held slot _) (with_host memory w) (λ x. (refl, refl))

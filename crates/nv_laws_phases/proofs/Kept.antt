@@ -1,12 +1,12 @@
 -- What a change of a tag, of the device's side of a lane, or of the host's bytes outside of the completion rings keeps.
-use Rattle.std.proofs.Common.{◌≡◌, ℕ, ◌+◌, ◌<◌, ◌≤◌, Bool, List, length, slice_get, Option, Some, None, arith, refl, sym, ap, ◌∙◌, subst}
+use Rattle.std.proofs.Common.{◌≡◌, ℕ, ◌+◌, ◌<◌, ◌≤◌, Bool, List, [], ◌∷◌, length, slice_get, Option, Some, None, arith, refl, sym, ap, ◌∙◌, subst}
 use Rattle.nv_entry.specs.Completion.{phase_of}
 use Rattle.nv_model.specs.Queue.{cqe_size}
 use Rattle.nv_world_model.specs.Area.{completion_slot, lane_start, ring_size}
 use Rattle.nv_world_model.specs.Device.{DeviceLane}
 use Rattle.nv_world_model.specs.Geometry.{Geometry}
 use Rattle.nv_world_model.specs.Step.{standing_at}
-use Rattle.nv_world_model.specs.World.{Ended, Flying, Free, Lane, Standing, Tag, Taken, World, changed_at, tag_changed, with_device, with_host, with_tag}
+use Rattle.nv_world_model.specs.World.{Ended, Flying, Free, Lane, Standing, Tag, Taken, World, changed_at, tag_changed, with_device, with_host, with_tag, with_tags}
 use Rattle.nv_laws_sound.specs.Area.{SameBetween, SameInLane}
 use Rattle.nv_laws_sound.proofs.Lists.{IsThere, Put, Was, set-there, slice_get-below}
 use Rattle.nv_laws_sound.proofs.Shows.{bytes_from-between, same-part}
@@ -76,6 +76,12 @@ module _ (geometry : Geometry) where
       let was = changed-one (λ (x y : Lane). (x.head ≡ y.head) × (x.phase ≡ y.phase)) w.lanes lane (tag_changed tag t) (λ x. (refl, refl)) (λ x. (refl, refl)) n l at in
       subst (λ h. IsPhased geometry w.host n h l.phase d.posted d.phase) was.alike.0
       (subst (λ p. IsPhased geometry w.host n was.was.head p d.posted d.phase) was.alike.1 (are n was.was d was.there there))
+
+  -- so are several, one after the other
+  pub phased-tags : (lane : ℕ) (tags : List ℕ) (t : Tag) (w : World) → ArePhased geometry w → ArePhased geometry (with_tags lane tags t w)
+  unfolding with_tags
+  phased-tags lane [] t w are = are
+  phased-tags lane (tag ∷ tags) t w are = phased-tags lane tags t (with_tag lane tag t w) (phased-tag lane tag t w are)
 
   pub phased-standing : (o : Option Tag) (s : Standing) (lane tag : ℕ) (w : World) → ArePhased geometry w → ArePhased geometry (standing_at o s lane tag w)
   phased-standing None s lane tag w are = are

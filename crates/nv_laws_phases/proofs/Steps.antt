@@ -6,34 +6,35 @@ use Rattle.nv_entry.specs.Completion.{phase_of}
 use Rattle.nv_entry.specs.Layout.{bits, dword, number_at}
 use Rattle.nv_entry.specs.Status.{bit}
 use Rattle.nv_entry.specs.StatusCode.{done_with}
-use Rattle.nv_entry.specs.Submission.{cid_of}
 use Rattle.nv_entry.specs.declared.status_code.StatusCode.TheVariants.{InternalError}
 use Rattle.nv_mem.specs.GuestMap.{all_mapped}
 use Rattle.nv_model.specs.Admin.{admin}
-use Rattle.nv_model.specs.Controller.{front, is_enabled, post}
+use Rattle.nv_model.specs.Controller.{front}
 use Rattle.nv_model.specs.Limits.{part_size}
 use Rattle.nv_model.specs.Memory.{bytes_from, image}
 use Rattle.nv_model.specs.Private.{acted}
 use Rattle.nv_model.specs.Queue.{cqe_size, is_empty}
 use Rattle.nv_world_model.specs.declared.event.Event.{Event}
 use Rattle.nv_world_model.specs.declared.event.Event.TheVariants as event
-use Rattle.nv_world_model.specs.Area.{bounce_page, completion_slot}
+use Rattle.nv_world_model.specs.Area.{completion_slot}
 use Rattle.nv_world_model.specs.Device.{opening_device_lane}
 use Rattle.nv_world_model.specs.Geometry.{Geometry, regions_of, shape_of}
 use Rattle.nv_world_model.specs.Plan.{plan_over}
 use Rattle.nv_world_model.specs.Seat.{owner_of, seat}
 use Rattle.nv_world_model.specs.Step.{acted_by, acted_in, administered_in, device_fail, device_move, device_post, device_take, is_io_queue, is_success, list_at}
-use Rattle.nv_world_model.specs.Step.{post_at, reap, replay, step, submit_by, take_from}
-use Rattle.nv_world_model.specs.World.{World, opening_lane, opening_world, tag_of}
+use Rattle.nv_world_model.specs.Step.{post_all, reap, replay, statuses_of, step, submit_by, take_from}
+use Rattle.nv_world_model.specs.World.{World, group, opening_lane, opening_world, tag_of}
 use Rattle.nv_world_model.proofs.Seats.{owner_of-is}
 use Rattle.nv_laws_sound.specs.Consistent.{IsConsistent}
 use Rattle.nv_laws_sound.specs.LaidOut.{IsLaidOut}
 use Rattle.nv_laws_sound.proofs.Lists.{slice_get-replicate}
-use Rattle.nv_laws_sound.proofs.Steps.{lanes-kept, step-consistent}
+use Rattle.nv_laws_sound.proofs.ManyLanes.{lanes-kept}
+use Rattle.nv_laws_sound.proofs.Steps.{step-consistent}
 use Rattle.nv_laws_sound.proofs.Walks.{device-walk, either, ended-walk, guest-walk, held-walk, lane-walk, owner-walk, taken-walk}
 use Rattle.nv_laws_phases.specs.Phased.{ArePhased, IsPhased}
-use Rattle.nv_laws_phases.proofs.Ends.{answered-phased, left-phased, post-phased, reaped-phased, run_out-phased}
-use Rattle.nv_laws_phases.proofs.Events.{act-phased, admin-phased, ended-phased, front-phased, kept-phased, listed-phased, moved-phased, submit-phased, took-phased}
+use Rattle.nv_laws_phases.proofs.Ends.{answered-phased, left-phased, post-phased, reaped-phased}
+use Rattle.nv_laws_phases.proofs.Events.{act-phased, admin-phased, ended-phased, front-phased, kept-phased, listed-phased, moved-phased, took-phased}
+use Rattle.nv_laws_phases.proofs.Handed.{submit-phased}
 
 -- ---- an event
 
@@ -55,19 +56,20 @@ module _ (host_bytes : ℕ) (geometry : Geometry) where
       either (ArePhased geometry) w are (is_io_queue queue) _ _
       (λ so. front-phased host_bytes geometry w laid is are (front o.controller queue) queue lane l o) (λ out. are)))
   step-phased (event.List lane tag addr len) w laid is are =
-      taken-walk (ArePhased geometry) w are (tag_of w lane tag) _ (λ command reads at.
+      taken-walk (ArePhased geometry) w are tag (tag_of w lane tag) _ (λ command reads at leads.
       owner-walk (ArePhased geometry) w are (owner_of geometry w command.guest) (λ o. list_at addr len lane tag command reads o w) (λ o found.
       either (ArePhased geometry) w are (all_mapped (regions_of o.given) addr len) _ _
       (λ there. either (ArePhased geometry) w are (nat_le 1 len && nat_le len part_size) _ _
       (λ fits. listed-phased host_bytes geometry w laid is are addr len lane tag command reads o) (λ out. are)) (λ out. are)))
   step-phased (event.Submit lane tag) w laid is are =
-      taken-walk (ArePhased geometry) w are (tag_of w lane tag) _ (λ command reads at.
+      taken-walk (ArePhased geometry) w are tag (tag_of w lane tag) _ (λ command reads at leads.
       owner-walk (ArePhased geometry) w are (owner_of geometry w command.guest) _ (λ o found.
-      device-walk (ArePhased geometry) w are (slice_get w.device lane) (λ d. submit_by (plan_over o.given command.entry reads) geometry.mediator lane tag command o d w) (λ d there.
-      submit-phased host_bytes geometry w laid is are (plan_over o.given command.entry reads) lane tag command reads o d at refl there)))
+      device-walk (ArePhased geometry) w are (slice_get w.device lane)
+      (λ d. submit_by (plan_over o.given command.entry reads) geometry.mediator lane (group w lane tag) command o w) (λ d there.
+      submit-phased host_bytes geometry w laid is are lane tag command reads o at (plan_over o.given command.entry reads) refl)))
   step-phased (event.GiveUp lane tag) w laid is are =
-      taken-walk (ArePhased geometry) w are (tag_of w lane tag) _ (λ command reads at.
-      ended-phased host_bytes geometry w laid is are lane tag command (done_with InternalError))
+      taken-walk (ArePhased geometry) w are tag (tag_of w lane tag) _ (λ command reads at leads.
+      ended-phased host_bytes geometry w laid is are lane (group w lane tag) command (done_with InternalError))
   step-phased (event.DevTake lane) w laid is are =
       device-walk (ArePhased geometry) w are (slice_get w.device lane) (λ d. device_take geometry.mediator lane d w) (λ d there.
       either (ArePhased geometry) w are (is_empty d.head d.tail) _ _ (λ none. are) (λ some. took-phased host_bytes geometry w laid is are lane _))
@@ -92,13 +94,11 @@ module _ (host_bytes : ℕ) (geometry : Geometry) where
       either (ArePhased geometry) w are (is_empty l.head d.posted) _ _ (λ none. are)
       (λ some. reaped-phased host_bytes geometry w laid is are lane _ l d at there (eqb-false l.head d.posted some))))
   step-phased (event.Post lane tag) w laid is are =
-      ended-walk (ArePhased geometry) w are (tag_of w lane tag) _ (λ command st plan at.
+      ended-walk (ArePhased geometry) w are tag (tag_of w lane tag) _ (λ command st share at leads.
       owner-walk (ArePhased geometry) w are (owner_of geometry w command.guest)
-      (λ o. post_at command st plan (bounce_page geometry.mediator lane tag) lane tag o w) (λ o found.
-      (let given = (owner_of-is geometry w command.guest o found).given in
-      either (ArePhased geometry) w are (is_enabled o.controller) _ _
-      (λ enabled. post-phased host_bytes geometry w laid is are (post o.controller command.queue 0 (cid_of command.entry) st) plan st (bounce_page geometry.mediator lane tag) lane tag o given)
-      (λ fell. run_out-phased host_bytes geometry w laid is are command.queue lane tag plan st (bounce_page geometry.mediator lane tag) o given))))
+      (λ o. post_all (statuses_of lane (group w lane tag) w) command geometry.mediator lane (group w lane tag) o w) (λ o found.
+      post-phased host_bytes geometry w laid is are o (owner_of-is geometry w command.guest o found).given
+      (statuses_of lane (group w lane tag) w) command lane (group w lane tag)))
 
   -- behind any events
   pub replay-phased : (events : List Event) (w : World) → IsLaidOut host_bytes (length w.lanes) geometry → IsConsistent geometry w → ArePhased geometry w

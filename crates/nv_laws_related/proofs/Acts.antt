@@ -1,5 +1,6 @@
 -- The private controller of a guest goes along with the guest's own acts.
-use Rattle.std.proofs.Common.{◌≡◌, ℕ, ◌+◌, Bool, true, false, cond, ◌||◌, ◌==◌, List, [], ◌∷◌, length, set, slice_get, Option, Some, None, is_some, arith, refl, sym, ap, ◌∙◌, eq-eqb, subst}
+use Rattle.std.proofs.Common.{◌≡◌, ℕ, ◌+◌, Bool, true, false, cond, ◌||◌, ◌==◌, List, [], ◌∷◌, length, set, slice_get, Option}
+use Rattle.std.proofs.Common.{Some, None, is_some, arith, refl, sym, ap, ◌∙◌, eq-eqb, subst}
 use Rattle.nv_mem.specs.GuestMap.{everywhere, host_of, mapped}
 use Rattle.nv_model.proofs.Judged.{everywhere-at}
 use Rattle.nv_model.proofs.MemoryAlike.{stored-at}
@@ -17,10 +18,9 @@ use Rattle.nv_world_model.specs.Disciplined.{may_act}
 use Rattle.nv_world_model.specs.Geometry.{Geometry, Guest, regions_of, shape_of}
 use Rattle.nv_world_model.specs.PrivateSteps.{act_of, is_act, with_act}
 use Rattle.nv_world_model.specs.Seat.{Owner, owner_by, owner_of, put_back, seat}
-use Rattle.nv_world_model.specs.Step.{After, acted_by, is_done, step}
+use Rattle.nv_world_model.specs.Step.{After, acted_by, acted_in, for_guest, is_done, step}
 use Rattle.nv_world_model.specs.World.{World}
 use Rattle.nv_world_model.proofs.Seats.{slice_get-set}
-use Rattle.nv_world_model.proofs.SeatSteps.{guest-step}
 use Rattle.nv_laws_related.specs.Following.{GoesAlong, IsDisciplinedAt, IsReached}
 use Rattle.nv_laws_related.specs.Related.{NoneHides, Related}
 use Rattle.nv_laws_related.proofs.Beginning.{not-awaited}
@@ -46,6 +46,12 @@ image-unmapped guest host other at out =
       | None ↦ λ e. refl
       | Some x ↦ λ e. cc
     ]) out
+
+-- the event of a guest that is there
+guest-step : (geometry : Geometry) (number : ℕ) (o : Owner) (a : Act) (w : World) → owner_of geometry w number ≡ Some o
+    → step geometry (event.Guest number a) w ≡ acted_by (acted (shape_of o.given) a (seat geometry o w)) o w
+unfolding step acted_in
+guest-step geometry number o a w e = ap (λ x. for_guest x w (λ p. acted_by (acted (shape_of p.given) a (seat geometry p w)) p w)) e
 
 -- what two replies and two states of an act have in common
 pub record IsSameAct (geometry : Geometry) (number : ℕ) (guest : Guest) (done : After) (q : Acted) : Type 0 where
@@ -77,7 +83,7 @@ module _ (host_bytes : ℕ) (geometry : Geometry) (number : ℕ) (guest : Guest)
   put-related memory behind c untouched same =
       seat-related host_bytes geometry number guest given w reached.laid reached.consistent (put_image (regions_of guest) memory w.host) (set w.controllers number c)
       (λ at out. put_image-elsewhere (regions_of guest) memory w.host at out) p behind c related
-      (tags-untouched number guest w (put_image (regions_of guest) memory w.host) p.memory behind
+      (tags-untouched geometry number guest w reached.consistent.groups (put_image (regions_of guest) memory w.host) p.memory behind
       (λ entry taken at named. (sym (image-behind memory at (untouched entry taken at named).0), sym (untouched entry taken at named).1)))
       (slice_get-set w.controllers number p.controller c related.controller)
       (λ addr there none. same addr there none ∙ sym (image-put_image (regions_of guest) memory w.host addr (reached.laid.given number guest given).sound.apart there))
@@ -125,7 +131,7 @@ module _ (host_bytes : ℕ) (geometry : Geometry) (number : ℕ) (guest : Guest)
             (bytes_from-same p.memory mine addr addr len
             (λ i below.
             related.memory (addr + i) (everywhere-at (shape_of guest).mapped addr len i there below)
-            (not-awaited geometry number guest w p related (addr + i)
+            (not-awaited geometry number guest w reached.consistent p related (addr + i)
             (load-free number guest w p.controller addr len (addr + i) free (omega arith) (omega (arith, below))))));
         related = related;
       }

@@ -1,18 +1,21 @@
 -- What the device answers where it posts the completion of a command all of whose units have moved.
-use Rattle.std.proofs.Common.{◌≡◌, ℕ, ◌^◌, ◌<◌, List, [], Some, sym, ap, ◌∙◌, subst}
+use Rattle.std.proofs.Common.{◌≡◌, ℕ, ◌^◌, ◌<◌, List, [], slice_get, Option, Some, None, refl, sym, ap, ◌∙◌, subst}
+use Rattle.std.specs.List.{filter_map}
 use Rattle.nv_entry.proofs.CompletionLemmas.{length-completion}
 use Rattle.nv_entry.specs.Completion.{completion, status_of}
 use Rattle.nv_entry.specs.Status.{StatusField}
+use Rattle.nv_model.specs.Judge.{Work}
 use Rattle.nv_model.specs.Memory.{bytes_from, stored}
 use Rattle.nv_model.specs.Private.{moved_status}
 use Rattle.nv_model.specs.Queue.{cqe_size}
 use Rattle.nv_world_model.specs.Area.{completion_slot, queue_pair}
 use Rattle.nv_world_model.specs.Device.{DeviceLane, Held, completion_written, held_status}
 use Rattle.nv_world_model.specs.Plan.{Plan}
-use Rattle.nv_world_model.specs.Seat.{ended_progress, held_progress, with_left, work_of}
+use Rattle.nv_world_model.specs.Share.{Share}
+use Rattle.nv_world_model.specs.Seat.{held_rest, numbers_behind, numbers_by, rest, tells_difference, work_of}
 use Rattle.nv_laws_sound.proofs.Shows.{shows-stored}
 use Rattle.nv_laws_related.specs.Related.{IsMovedStatus, NoReadDiffers}
-use Rattle.nv_laws_related.proofs.Statuses.{moved-back, moved-tells}
+use Rattle.nv_laws_related.proofs.Statuses.{moved-back, moved-tells, units_behind-none}
 
 -- the status of a command all of whose units have moved is such a status
 pub held-well : (plan : Plan) (h : Held) → NoReadDiffers plan h.differed → IsMovedStatus plan (held_status h)
@@ -35,9 +38,14 @@ answer-status mediator lane tag h d host below =
     bytes : List ℕ
     bytes = completion 0 d.head (queue_pair lane) tag d.phase (held_status h)
 
--- a command none of whose units is left is as far as one that has ended
-pub none-left-progress : (h : Held) (plan : Plan) (st : StatusField) → h.left ≡ [] → st ≡ held_status h
-    → held_progress (Some h) plan ≡ ended_progress (Some plan) st
-none-left-progress h plan st none is =
-    ap (λ left. with_left (work_of plan) left h.differed) none
-    ∙ sym (ap (with_left (work_of plan) []) (moved-tells h.differed)) ∙ ap (λ s. ended_progress (Some plan) s) (sym is)
+numbers-none : (o : Option Work) (numbers : List ℕ) → numbers_by o numbers [] ≡ []
+numbers-none None numbers = refl
+numbers-none (Some work) numbers = ap (filter_map (slice_get numbers)) (units_behind-none work)
+
+-- what has come of a share none of whose units is left is what its status tells
+pub none-left-rest : (h : Held) (share : Share) (st : StatusField) → h.left ≡ [] → st ≡ held_status h
+    → held_rest (Some h) share ≡ rest [] (tells_difference st)
+none-left-rest h share st none is =
+    ap (λ left. rest (numbers_behind share left) h.differed) none
+    ∙ ap (λ numbers. rest numbers h.differed) (numbers-none (work_of share.plan) share.numbers)
+    ∙ sym (ap (rest []) (ap tells_difference is ∙ moved-tells h.differed))

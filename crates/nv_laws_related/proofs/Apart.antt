@@ -1,5 +1,6 @@
 -- What discipline says of two commands of a guest's: what one names is no destination of another.
-use Rattle.std.proofs.Common.{◌≡◌, ℕ, ◌+◌, ◌<◌, ◌≤◌, inl, inr, Bool, true, false, not, ◌&&◌, ◌||◌, nat_le, nat_lt, List, flat_map, map, slice_get, Some, None, refl, sym, ap, ◌∙◌, leb-true, ltb-true}
+use Rattle.std.proofs.Common.{◌≡◌, ℕ, ◌+◌, ◌<◌, ◌≤◌, inl, inr, Bool, true, false, not, ◌&&◌, ◌||◌, nat_le, nat_lt, List}
+use Rattle.std.proofs.Common.{flat_map, map, slice_get, Some, None, refl, sym, ap, ◌∙◌, leb-true, ltb-true}
 use Rattle.std.specs.List.{enumerate_from, list_any}
 use Rattle.std.proofs.lemmas.Bool.{cases_eq}
 use Rattle.nv_model.proofs.Endings.{and-true}
@@ -9,39 +10,77 @@ use Rattle.nv_model.specs.Memory.{image}
 use Rattle.nv_world_model.specs.Disciplined.{clash, in_order, own_entry, taken_entries}
 use Rattle.nv_world_model.specs.Geometry.{Geometry, Guest, regions_of, shape_of}
 use Rattle.nv_world_model.specs.SetUp.{any_two}
-use Rattle.nv_world_model.specs.World.{Lane, Tag, World, tag_of}
+use Rattle.nv_world_model.specs.World.{Command, Lane, Tag, World, tag_of}
 use Rattle.nv_laws_sound.specs.Consistent.{IsConsistent}
 use Rattle.nv_laws_sound.proofs.Lists.{some-same}
-use Rattle.nv_laws_sound.proofs.Retags.{is-at}
+use Rattle.nv_laws_sound.specs.Groups.{command_of, part_of}
+use Rattle.nv_laws_sound.proofs.CountedActs.{HasLane, lane-of}
+use Rattle.nv_laws_sound.proofs.Folds.{part-tag, tag-part}
 use Rattle.nv_laws_related.proofs.Beginning.{awaits, entry_awaits}
 use Rattle.nv_laws_related.proofs.Disciplines.{commands_of, name-meets, never-both, order-is}
-use Rattle.nv_laws_related.proofs.Named.{any-of}
+use Rattle.nv_laws_related.proofs.Named.{any-of, any-same, any_entry, numbered-at, own-any}
 use Rattle.nv_laws_related.proofs.Undisturbed.{entry_names, names_at}
 use Rattle.nv_laws_related.proofs.Pairs.{Pairs, pairs-at, pairs-behind, pairs-flat, pairs-map, pairs-meet, pairs-within}
 
 -- ---- entries of two tags
 
-module _ (geometry : Geometry) (number : ℕ) (w : World) (fine : IsConsistent geometry w) (p q : List ℕ → Bool) where
-  -- two tags of one lane, or of two, that each have such a command
-  pub tags-pair : (a b c d : ℕ) (t u : Tag) → tag_of w a b ≡ Some t → tag_of w c d ≡ Some u → ((a ≡ c) → (b ≡ d) → ⊥)
-      → list_any p (own_entry number t) ≡ true → list_any q (own_entry number u) ≡ true → Pairs p q (taken_entries number w)
-  unfolding taken_entries
-  tags-pair a b c d t u here there apart one other =
-      let x = is-at geometry w a b t fine here in
-      let y = is-at geometry w c d u fine there in
-      let of_lane : Lane → List (List ℕ) = λ (l : Lane). flat_map (own_entry number) l.tags in
-      elim (cases_eq a c) [
-        | inl same ↦
-            let lanes : y.l ≡ x.l = some-same y.l x.l (sym y.at_lane ∙ ap (slice_get w.lanes) (sym same) ∙ x.at_lane) in
-            pairs-within p q of_lane w.lanes a x.l x.at_lane
-            (pairs-flat p q (own_entry number) x.l.tags
-            (pairs-at (λ z. list_any p (own_entry number z)) (λ z. list_any q (own_entry number z)) x.l.tags b d t u x.at_tag
-            (ap (λ (l : Lane). slice_get l.tags d) (sym lanes) ∙ y.at_tag) (λ also. apart same also) one other))
-        | inr away ↦
-            pairs-flat p q of_lane w.lanes
-            (pairs-at (λ l. list_any p (of_lane l)) (λ l. list_any q (of_lane l)) w.lanes a c x.l y.l x.at_lane y.at_lane away
-            (any-of p (own_entry number) x.l.tags b t x.at_tag one) (any-of q (own_entry number) y.l.tags d u y.at_tag other))
-      ]
+-- a tag that its command goes by has the command's entry
+led-entry : (number tag : ℕ) (p : List ℕ → Bool) (t : Tag) (command : Command) → command_of (part_of t) ≡ Some command → command.leader ≡ tag
+    → list_any p (any_entry number t) ≡ true → list_any p (own_entry number tag t) ≡ true
+led-entry number tag p t command has leads e = ap (list_any p) (own-any number tag t command has leads) ∙ e
+
+-- the tag that a tag's command goes by, in its lane
+record Leads (w : World) (number lane leader : ℕ) (p : List ℕ → Bool) : Type 0 where
+  pub l : Lane
+  pub u : Tag
+  pub at : slice_get w.lanes lane ≡ Some l
+  pub there : slice_get l.tags leader ≡ Some u
+  pub passes : list_any p (own_entry number leader u) ≡ true
+
+module _ (geometry : Geometry) (number : ℕ) (w : World) (fine : IsConsistent geometry w) where
+  leads : (p : List ℕ → Bool) (lane tag : ℕ) (t : Tag) (command : Command) → tag_of w lane tag ≡ Some t → command_of (part_of t) ≡ Some command
+      → list_any p (any_entry number t) ≡ true → Leads w number lane command.leader p
+  leads p lane tag t command there has e =
+      let l : HasLane w lane tag t = lane-of w lane tag t there in
+      let m = fine.groups lane l.l l.at tag (part_of t) command (tag-part l.l.tags tag t l.found) has in
+      let u = part-tag l.l.tags command.leader m.first m.there in
+      let same : command_of (part_of u.t) ≡ Some command = ap command_of u.part_is ∙ m.same in
+      record {
+        l = l.l;
+        u = u.t;
+        at = l.at;
+        there = u.is;
+        passes = led-entry number command.leader p u.t command same refl (ap (list_any p) (any-same number u.t t (same ∙ sym has)) ∙ e);
+      }
+
+  module _ (p q : List ℕ → Bool) where
+    -- two tags that go by themselves
+    leaders-pair : (a b c d : ℕ) (x : Leads w number a b p) (y : Leads w number c d q) → ((a ≡ c) → (b ≡ d) → ⊥) → Pairs p q (taken_entries number w)
+    unfolding taken_entries
+    leaders-pair a b c d x y apart =
+        let entries : ℕ × Tag → List (List ℕ) = λ (t : ℕ × Tag). own_entry number t.0 t.1 in
+        let of_lane : Lane → List (List ℕ) = λ (l : Lane). flat_map entries (enumerate_from 0 l.tags) in
+        elim (cases_eq a c) [
+          | inl same ↦
+              let lanes : y.l ≡ x.l = some-same y.l x.l (sym y.at ∙ ap (slice_get w.lanes) (sym same) ∙ x.at) in
+              pairs-within p q of_lane w.lanes a x.l x.at
+              (pairs-flat p q entries (enumerate_from 0 x.l.tags)
+              (pairs-at (λ z. list_any p (entries z)) (λ z. list_any q (entries z)) (enumerate_from 0 x.l.tags) b d (b, x.u) (d, y.u)
+              (numbered-at x.l.tags b x.u x.there) (numbered-at x.l.tags d y.u (ap (λ (l : Lane). slice_get l.tags d) (sym lanes) ∙ y.there))
+              (λ also. apart same also) x.passes y.passes))
+          | inr away ↦
+              pairs-flat p q of_lane w.lanes
+              (pairs-at (λ l. list_any p (of_lane l)) (λ l. list_any q (of_lane l)) w.lanes a c x.l y.l x.at y.at away
+              (any-of p entries (enumerate_from 0 x.l.tags) b (b, x.u) (numbered-at x.l.tags b x.u x.there) x.passes)
+              (any-of q entries (enumerate_from 0 y.l.tags) d (d, y.u) (numbered-at y.l.tags d y.u y.there) y.passes))
+        ]
+
+    -- tags of two commands, of one lane or of two, that each have such an entry
+    pub tags-pair : (a b c d : ℕ) (t u : Tag) (command other : Command) → tag_of w a b ≡ Some t → tag_of w c d ≡ Some u
+        → command_of (part_of t) ≡ Some command → command_of (part_of u) ≡ Some other → ((a ≡ c) → (command.leader ≡ other.leader) → ⊥)
+        → list_any p (any_entry number t) ≡ true → list_any q (any_entry number u) ≡ true → Pairs p q (taken_entries number w)
+    tags-pair a b c d t u command other here there has have apart one two =
+        leaders-pair a command.leader c other.leader (leads p a b t command here has one) (leads q c d u other there have two) apart
 
 -- ---- a state in order
 
@@ -58,7 +97,8 @@ module _ (number : ℕ) (guest : Guest) (w : World) (c : Controller) where
   none-clash there e =
       let clear = (order-is number guest w None c there e).0 in
       not-not (any_two clash (flat_map (λ named. named) (commands_of number guest w c)))
-      (and-true (not (any_two clash (flat_map (λ named. named) (commands_of number guest w c)))) (not (list_any (λ s. list_any (meets s.0 s.1) (flat_map (λ named. named) (commands_of number guest w c))) (completion_slots c))) clear).0
+      (and-true (not (any_two clash (flat_map (λ named. named) (commands_of number guest w c))))
+      (not (list_any (λ s. list_any (meets s.0 s.1) (flat_map (λ named. named) (commands_of number guest w c))) (completion_slots c))) clear).0
     where
       not-not : (b : Bool) → not b ≡ true → b ≡ false
       not-not true e = cc

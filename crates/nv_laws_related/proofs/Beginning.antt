@@ -1,5 +1,6 @@
 -- Where the world and a guest's private controller begin, and that they agree where they stand for one another.
-use Rattle.std.proofs.Common.{◌≡◌, ℕ, ◌+◌, ◌*◌, ◌/◌, ◌%◌, ◌<◌, ◌≤◌, ◌⊎◌, inl, inr, Bool, true, false, cond, not, ◌&&◌, ◌||◌, ◌==◌, List, [], ◌∷◌, drop, length}
+use Rattle.std.proofs.Common.{◌≡◌, ℕ, ◌+◌, ◌*◌, ◌/◌, ◌%◌, ◌<◌, ◌≤◌, ◌⊎◌, inl, inr, Bool, true, false, cond, not}
+use Rattle.std.proofs.Common.{◌&&◌, ◌||◌, ◌==◌, List, [], ◌∷◌, drop, length}
 use Rattle.std.proofs.Common.{map, replicate, slice_get, Option, Some, None, refl, sym, ap, ◌∙◌, subst}
 use Rattle.std.specs.List.{list_any}
 use Rattle.std.proofs.lemmas.List.{length-replicate}
@@ -18,16 +19,19 @@ use Rattle.nv_model.specs.Private.{Private, numbers_of, start, verdict_in}
 use Rattle.nv_world_model.specs.Agrees.{Agrees, is_awaited}
 use Rattle.nv_world_model.specs.Area.{bounce_page, tag_count}
 use Rattle.nv_world_model.specs.Device.{Held}
-use Rattle.nv_world_model.specs.Disciplined.{own_entry}
+use Rattle.nv_world_model.specs.Share.{Share}
 use Rattle.nv_world_model.specs.Geometry.{Geometry, Guest, regions_of, shape_of}
 use Rattle.nv_world_model.specs.Plan.{Answer, Bounced, Direct, NoData, Plan}
-use Rattle.nv_world_model.specs.Seat.{completion_at, held_in, member_in, members}
-use Rattle.nv_world_model.specs.SetUp.{SetUp, world_at_start}
+use Rattle.nv_world_model.specs.Seat.{Rest, completion_at, held_in, member_in, members, work_of}
+use Rattle.nv_world_model.specs.SetUp.{SetUp}
 use Rattle.nv_world_model.specs.View.{own_held, own_tag}
 use Rattle.nv_world_model.specs.World.{Ended, Flying, Free, Lane, Tag, Taken, World, opening_lane, opening_world, tag_in, tag_of}
+use Rattle.nv_world_model.specs.SetUp.{world_at_start}
 use Rattle.nv_laws_sound.proofs.Lists.{slice_get-below, slice_get-replicate, slice_get-there}
 use Rattle.nv_laws_others.proofs.ShownTags.{any-behind}
-use Rattle.nv_laws_related.proofs.Named.{any-drop, any-one, any-take, place-passes, run-names, taken-among}
+use Rattle.nv_laws_related.proofs.Named.{any-drop, any-one, any-take, any_entry, place-passes, run-names, taken-among}
+use Rattle.nv_laws_related.proofs.Within.{IsFit, IsFitOr, IsFitTag, IsPart, there-fit}
+use Rattle.nv_laws_sound.specs.Consistent.{IsConsistent}
 use Rattle.nv_laws_related.specs.Related.{HasEndedWell, IsTagRelated, IsUnderWay, NoneHides, Related, block_names, ended_hides, hides, is_place_at, left_where, none_left, plan_hides}
 
 -- ---- the start
@@ -52,10 +56,9 @@ unfolding opening_world
 opening-free geometry lanes lane tag =
     lane-free (slice_get (replicate lanes opening_lane) lane) tag (λ l e. slice_get-replicate lanes lane opening_lane l e)
 
-free-no_member : (o : Option Tag) (number : ℕ) (held : Option Held) (status_at : ℕ → StatusField) → (o ≡ None) ⊎ (o ≡ Some Free)
-    → None ≡ member_in o number held status_at
-free-no_member o number held status_at (inl none) = ap (λ x. member_in x number held status_at) (sym none)
-free-no_member o number held status_at (inr free) = ap (λ x. member_in x number held status_at) (sym free)
+free-no_member : (o : Option Tag) (tag number : ℕ) (rests : List Rest) → (o ≡ None) ⊎ (o ≡ Some Free) → None ≡ member_in o tag number rests
+free-no_member o tag number rests (inl none) = ap (λ x. member_in x tag number rests) (sym none)
+free-no_member o tag number rests (inr free) = ap (λ x. member_in x tag number rests) (sym free)
 
 free-related : (o : Option Tag) (number : ℕ) (guest : Guest) (held : Option Held) (status_at : ℕ → StatusField) (bounce : ℕ) (host memory : ℕ → ℕ)
     → (o ≡ None) ⊎ (o ≡ Some Free) → IsTagRelated (own_tag number o) guest held status_at bounce host memory
@@ -85,7 +88,9 @@ opening-related s number guest given =
       blocks = (λ lba offset below. refl);
       marks = (λ lba below. refl);
       memory = (λ addr there shown. no-byte (host_of (regions_of guest) addr));
-      bag = (λ name. free-no_member (tag_of (world_at_start s) (name / tag_count) (name % tag_count)) number _ _ (opening-free s.geometry s.lanes (name / tag_count) (name % tag_count)));
+      bag = (λ name.
+          free-no_member (tag_of (world_at_start s) (name / tag_count) (name % tag_count)) (name % tag_count) number _
+          (opening-free s.geometry s.lanes (name / tag_count) (name % tag_count)));
       tags = (λ lane tag. free-related (tag_of (world_at_start s) lane tag) number guest _ _ _ _ _ (opening-free s.geometry s.lanes lane tag));
     }
 
@@ -108,51 +113,62 @@ verdict-awaits addr v work goes read e =
     ap (λ x. list_any (awaits addr) (verdict_named x)) goes
     ∙ ap (λ b. list_any (awaits addr) (buffer_named (cond b Destination Source) work.pieces)) read ∙ place-passes addr Destination (awaits addr) (run-awaits addr) work.pieces e
 
-pub plan-awaits : (guest : Guest) (entry : List ℕ) (plan : Plan) (left : ℕ → Bool) (bounce : ℕ) (host memory : ℕ → ℕ) (addr : ℕ)
-    → IsUnderWay guest entry plan left bounce host memory → plan_hides plan left addr ≡ true → entry_awaits guest host addr entry ≡ true
-plan-awaits guest entry (Answer st) left bounce host memory addr is e = cc
-plan-awaits guest entry (NoData work) left bounce host memory addr is e = cc
-plan-awaits guest entry (Direct work) left bounce host memory addr is e = cc
-plan-awaits guest entry (Bounced work) left bounce host memory addr is e =
-    let read = and-true (is_read work.opcode) (list_any (λ k. not (left k) && block_names work k addr) (numbers_of work)) e in
-    let one = any-one (λ k. not (left k) && block_names work k addr) (numbers_of work) read.1 in
-    let named = (and-true (not (left one.0)) (block_names work one.0 addr) one.1).1 in
-    any-behind (awaits addr) (map (λ a. named_as ListBytes a.0 a.1) (asked (image (regions_of guest) host) (judge (shape_of guest).mapped (shape_of guest).limit (shape_of guest).blocks entry)))
-    (verdict_named (verdict_in (shape_of guest) (image (regions_of guest) host) entry))
-    (verdict-awaits addr (verdict_in (shape_of guest) (image (regions_of guest) host) entry) work (is.steady work refl) read.0
-    (any-drop (is_place_at addr) (block * one.0) (places_of work.pieces) (any-take (is_place_at addr) block (drop (block * one.0) (places_of work.pieces)) named)))
+pub plan-awaits : (guest : Guest) (entry : List ℕ) (share : Share) (left : ℕ → Bool) (bounce : ℕ) (host memory : ℕ → ℕ) (addr : ℕ)
+    → IsFit share → IsUnderWay guest entry share left bounce host memory → plan_hides share.plan left addr ≡ true → entry_awaits guest host addr entry ≡ true
+plan-awaits guest entry share left bounce host memory addr fit is e = by share.plan refl e
+  where
+    by : (plan : Plan) → share.plan ≡ plan → plan_hides plan left addr ≡ true → entry_awaits guest host addr entry ≡ true
+    by (Answer st) same e = cc
+    by (NoData own) same e = cc
+    by (Direct own) same e = cc
+    by (Bounced own) same e =
+        let read = and-true (is_read own.opcode) (list_any (λ k. not (left k) && block_names own k addr) (numbers_of own)) e in
+        let one = any-one (λ k. not (left k) && block_names own k addr) (numbers_of own) read.1 in
+        let named = (and-true (not (left one.0)) (block_names own one.0 addr) one.1).1 in
+        let part : IsPart share own = fit own (ap work_of same) in
+        any-behind (awaits addr) (map (λ a. named_as ListBytes a.0 a.1) (asked (image (regions_of guest) host) (judge (shape_of guest).mapped (shape_of guest).limit (shape_of guest).blocks entry)))
+        (verdict_named (verdict_in (shape_of guest) (image (regions_of guest) host) entry))
+        (verdict-awaits addr (verdict_in (shape_of guest) (image (regions_of guest) host) entry) part.whole (is.steady part.whole part.is)
+        (sym (ap is_read part.opcode) ∙ read.0)
+        (part.within addr
+        (any-drop (is_place_at addr) (block * one.0) (places_of own.pieces) (any-take (is_place_at addr) block (drop (block * one.0) (places_of own.pieces)) named))))
 
-ended-awaits : (guest : Guest) (entry : List ℕ) (st : StatusField) (plan : Option Plan) (bounce : ℕ) (host memory : ℕ → ℕ) (addr : ℕ)
-    → HasEndedWell plan guest entry st bounce host memory → ended_hides plan addr ≡ true → entry_awaits guest host addr entry ≡ true
-ended-awaits guest entry st None bounce host memory addr is e = cc
-ended-awaits guest entry st (Some plan) bounce host memory addr is e = plan-awaits guest entry plan none_left bounce host memory addr is.0 e
+ended-awaits : (guest : Guest) (entry : List ℕ) (st : StatusField) (share : Option Share) (bounce : ℕ) (host memory : ℕ → ℕ) (addr : ℕ)
+    → IsFitOr share → HasEndedWell share guest entry st bounce host memory → ended_hides share addr ≡ true → entry_awaits guest host addr entry ≡ true
+ended-awaits guest entry st None bounce host memory addr fit is e = cc
+ended-awaits guest entry st (Some share) bounce host memory addr fit is e = plan-awaits guest entry share none_left bounce host memory addr fit is.0 e
 
 module _ (number : ℕ) (guest : Guest) (held : Option Held) (status_at : ℕ → StatusField) (bounce : ℕ) (host memory : ℕ → ℕ) (addr : ℕ) where
   -- a guest's own command, or another's
-  own-awaits : (b : Bool) (t : Tag) (entry : List ℕ) → (hides (Some t) held addr ≡ true → IsTagRelated (Some t) guest held status_at bounce host memory → entry_awaits guest host addr entry ≡ true)
+  own-awaits : (b : Bool) (t : Tag) (entry : List ℕ)
+      → (hides (Some t) held addr ≡ true → IsTagRelated (Some t) guest held status_at bounce host memory → entry_awaits guest host addr entry ≡ true)
       → hides (cond b (Some t) None) held addr ≡ true → IsTagRelated (cond b (Some t) None) guest held status_at bounce host memory
       → list_any (entry_awaits guest host addr) (cond b (entry ∷ []) []) ≡ true
   own-awaits true t entry one e is = ap (λ b. b || false) (one e is)
   own-awaits false t entry one e is = cc
 
-  pub tag-awaits : (t : Tag) → hides (own_tag number (Some t)) held addr ≡ true → IsTagRelated (own_tag number (Some t)) guest held status_at bounce host memory
-      → list_any (entry_awaits guest host addr) (own_entry number t) ≡ true
-  tag-awaits Free e is = cc
-  tag-awaits (Taken command reads) e is = own-awaits (command.guest == number) (Taken command reads) command.entry (λ hid _. (let none : false ≡ true = hid in cc)) e is
-  tag-awaits (Flying command plan standing) e is =
-      own-awaits (command.guest == number) (Flying command plan standing) command.entry
-      (λ hid so. plan-awaits guest command.entry plan (left_where standing held) bounce host memory addr so.0 hid) e is
-  tag-awaits (Ended command st plan) e is =
-      own-awaits (command.guest == number) (Ended command st plan) command.entry (λ hid so. ended-awaits guest command.entry st plan bounce host memory addr so hid) e is
+  pub tag-awaits : (t : Tag) → IsFitTag t → hides (own_tag number (Some t)) held addr ≡ true → IsTagRelated (own_tag number (Some t)) guest held status_at bounce host memory
+      → list_any (entry_awaits guest host addr) (any_entry number t) ≡ true
+  tag-awaits Free fit e is = cc
+  tag-awaits (Taken command reads) fit e is =
+      own-awaits (command.guest == number) (Taken command reads) command.entry (λ hid _. (let none : false ≡ true = hid in cc)) e is
+  tag-awaits (Flying command share standing) fit e is =
+      own-awaits (command.guest == number) (Flying command share standing) command.entry
+      (λ hid so. plan-awaits guest command.entry share (left_where standing held) bounce host memory addr fit so.0 hid) e is
+  tag-awaits (Ended command st share) fit e is =
+      own-awaits (command.guest == number) (Ended command st share) command.entry
+      (λ hid so. ended-awaits guest command.entry st share bounce host memory addr fit so hid) e is
 
-module _ (geometry : Geometry) (number : ℕ) (guest : Guest) (w : World) (p : Private) (related : Related geometry number guest w p) where
+module _ (geometry : Geometry) (number : ℕ) (guest : Guest) (w : World) (fine : IsConsistent geometry w) (p : Private)
+    (related : Related geometry number guest w p) where
   hides-awaited : (addr lane tag : ℕ) (o : Option Tag) (held : Option Held) → tag_of w lane tag ≡ o
       → IsTagRelated (own_tag number o) guest held (λ at. status_of (completion_at geometry w lane at)) (bounce_page geometry.mediator lane tag) w.host p.memory
       → hides (own_tag number o) held addr ≡ true → is_awaited number guest w addr ≡ true
   hides-awaited addr lane tag None held there is e = cc
   hides-awaited addr lane tag (Some t) held there is e =
-      taken-among w number (entry_awaits guest w.host addr) lane tag t there
-      (tag-awaits number guest held (λ at. status_of (completion_at geometry w lane at)) (bounce_page geometry.mediator lane tag) w.host p.memory addr t e is)
+      taken-among geometry w fine.groups number (entry_awaits guest w.host addr) lane tag t there
+      (tag-awaits number guest held (λ at. status_of (completion_at geometry w lane at)) (bounce_page geometry.mediator lane tag) w.host p.memory addr t
+      (there-fit geometry w lane tag t fine.of_tags there) e is)
 
   -- what isn't awaited isn't hidden
   pub not-awaited : (addr : ℕ) → is_awaited number guest w addr ≡ false → NoneHides number w addr

@@ -10,13 +10,14 @@ use Rattle.nv_model.specs.Memory.{image}
 use Rattle.nv_model.specs.declared.act.Act.{Act}
 use Rattle.nv_model.specs.declared.act.Act.TheVariants as act
 use Rattle.nv_world_model.specs.Agrees.{is_awaited}
-use Rattle.nv_world_model.specs.Disciplined.{commands_named, in_order, in_order_by, is_clear, may_act, own_entry, taken_entries}
-use Rattle.nv_world_model.specs.Geometry.{Guest, regions_of, shape_of}
+use Rattle.nv_world_model.specs.Disciplined.{commands_named, in_order, in_order_by, is_clear, may_act, taken_entries}
+use Rattle.nv_world_model.specs.Geometry.{Geometry, Guest, regions_of, shape_of}
+use Rattle.nv_laws_sound.proofs.GroupsKept.{HasGroups}
 use Rattle.nv_world_model.specs.View.{is_tag_of, own_tag}
 use Rattle.nv_world_model.specs.World.{Ended, Flying, Free, Tag, Taken, World, tag_of}
 use Rattle.nv_laws_others.proofs.ShownTags.{any-behind}
 use Rattle.nv_laws_related.proofs.Beginning.{awaits}
-use Rattle.nv_laws_related.proofs.Named.{taken-among}
+use Rattle.nv_laws_related.proofs.Named.{any_entry, taken-among}
 use Rattle.nv_laws_related.proofs.Undisturbed.{IsTagUntouched, IsUntouched, names_at}
 use Rattle.nv_laws_related.proofs.Views.{own-there}
 
@@ -52,27 +53,30 @@ never-both b yes_it no_it = let bad : true ≡ false = sym yes_it ∙ no_it in c
 abbrev pub IsTakenEntry : (number : ℕ) → World → (entry : List ℕ) → Type 0
 IsTakenEntry number w entry = (q : List ℕ → Bool) → q entry ≡ true → list_any q (taken_entries number w) ≡ true
 
+-- so is that of each tag of the guest's
+pub own-taken : (geometry : Geometry) (number : ℕ) (w : World) → HasGroups geometry w.lanes → (lane tag : ℕ) (t : Tag) (entry : List ℕ)
+    → tag_of w lane tag ≡ Some t → any_entry number t ≡ entry ∷ [] → IsTakenEntry number w entry
+own-taken geometry number w are lane tag t entry there is q e =
+    taken-among geometry w are number q lane tag t there (ap (list_any q) is ∙ ap (λ b. b || false) e)
+
+-- what each leaves alone, each of the guest's tags does
+pub tags-untouched : (geometry : Geometry) (number : ℕ) (guest : Guest) (w : World) → HasGroups geometry w.lanes → (other memory behind : ℕ → ℕ)
+    → ((entry : List ℕ) → IsTakenEntry number w entry → IsUntouched guest entry w.host other memory behind)
+    → (lane tag : ℕ) (t : Tag) → own_tag number (tag_of w lane tag) ≡ Some t → IsTagUntouched t guest w.host other memory behind
+tags-untouched geometry number guest w are other memory behind each lane tag t own =
+    let there = own-there number (tag_of w lane tag) t own in
+    by_tag t there.0 there.1
+  where
+    by_tag : (t : Tag) → tag_of w lane tag ≡ Some t → is_tag_of number (Some t) ≡ true → IsTagUntouched t guest w.host other memory behind
+    by_tag Free there mine = tt
+    by_tag (Taken command reads) there mine =
+        each command.entry (own-taken geometry number w are lane tag (Taken command reads) command.entry there (ap (λ b. cond b (command.entry ∷ []) []) mine))
+    by_tag (Flying command share standing) there mine =
+        each command.entry (own-taken geometry number w are lane tag (Flying command share standing) command.entry there (ap (λ b. cond b (command.entry ∷ []) []) mine))
+    by_tag (Ended command st share) there mine =
+        each command.entry (own-taken geometry number w are lane tag (Ended command st share) command.entry there (ap (λ b. cond b (command.entry ∷ []) []) mine))
+
 module _ (number : ℕ) (guest : Guest) (w : World) where
-  pub own-taken : (lane tag : ℕ) (t : Tag) (entry : List ℕ) → tag_of w lane tag ≡ Some t → own_entry number t ≡ entry ∷ [] → IsTakenEntry number w entry
-  own-taken lane tag t entry there is q e =
-      taken-among w number q lane tag t there (ap (list_any q) is ∙ ap (λ b. b || false) e)
-
-  -- what each leaves alone, each of the guest's tags does
-  pub tags-untouched : (other memory behind : ℕ → ℕ) → ((entry : List ℕ) → IsTakenEntry number w entry → IsUntouched guest entry w.host other memory behind)
-      → (lane tag : ℕ) (t : Tag) → own_tag number (tag_of w lane tag) ≡ Some t → IsTagUntouched t guest w.host other memory behind
-  tags-untouched other memory behind each lane tag t own =
-      let there = own-there number (tag_of w lane tag) t own in
-      by_tag t there.0 there.1
-    where
-      by_tag : (t : Tag) → tag_of w lane tag ≡ Some t → is_tag_of number (Some t) ≡ true → IsTagUntouched t guest w.host other memory behind
-      by_tag Free there mine = tt
-      by_tag (Taken command reads) there mine =
-          each command.entry (own-taken lane tag (Taken command reads) command.entry there (ap (λ b. cond b (command.entry ∷ []) []) mine))
-      by_tag (Flying command plan standing) there mine =
-          each command.entry (own-taken lane tag (Flying command plan standing) command.entry there (ap (λ b. cond b (command.entry ∷ []) []) mine))
-      by_tag (Ended command st plan) there mine =
-          each command.entry (own-taken lane tag (Ended command st plan) command.entry there (ap (λ b. cond b (command.entry ∷ []) []) mine))
-
   -- ---- discipline
 
   abbrev pub commands_of : Controller → List (List Named)
@@ -111,7 +115,12 @@ module _ (number : ℕ) (guest : Guest) (w : World) where
       let both = and-true (nat_le n.addr at) (nat_lt at (n.addr + n.len)) e in
       let from = leb-true n.addr at both.0 in
       let to = ltb-true at (n.addr + n.len) both.1 in
-      rw (lt-ltb 0 len (omega (arith, low, high)), lt-ltb 0 n.len (omega (arith, from, to)), lt-ltb addr (n.addr + n.len) (omega (arith, low, to)), lt-ltb n.addr (addr + len) (omega (arith, from, high))) refl
+      rw (
+        lt-ltb 0 len (omega (arith, low, high)),
+        lt-ltb 0 n.len (omega (arith, from, to)),
+        lt-ltb addr (n.addr + n.len) (omega (arith, low, to)),
+        lt-ltb n.addr (addr + len) (omega (arith, from, high)),
+      ) refl
 
   -- a byte that a taken command names isn't stored into
   pub store-apart : (c : Controller) (addr : ℕ) (bytes : List ℕ) (entry : List ℕ) (at : ℕ) → stores_into (commands_of c) (act.Store addr bytes) ≡ false

@@ -14,12 +14,13 @@ use Rattle.nv_world_model.specs.PrivateSteps.{act_of}
 use Rattle.nv_world_model.specs.Step.{is_done, is_telling, step}
 use Rattle.nv_world_model.specs.View.{is_guest}
 use Rattle.nv_world_model.specs.World.{World}
-use Rattle.nv_world_model.proofs.Replies.{step-answers}
+use Rattle.nv_laws_others.proofs.Replies.{step-answers}
 use Rattle.nv_laws_sound.proofs.Lists.{some-same}
 use Rattle.nv_laws_related.specs.Following.{AreRestFollowed, EachEventIsFollowed, GoesAlong, IsDisciplinedAt, IsReached}
 use Rattle.nv_laws_related.specs.Related.{Related}
 use Rattle.nv_laws_related.proofs.Acts.{act-goes}
-use Rattle.nv_laws_related.proofs.Others.{dull-goes, others-go}
+use Rattle.nv_laws_related.proofs.Goings.{dull-goes}
+use Rattle.nv_laws_related.proofs.Others.{others-go}
 use Rattle.nv_laws_related.proofs.Reaps.{reaps-go}
 use Rattle.nv_laws_related.proofs.Tags.{give_ups-go, lists-go}
 use Rattle.nv_laws_related.proofs.Takes.{takes-go}
@@ -57,7 +58,9 @@ module _ (host_bytes : ℕ) (geometry : Geometry) (number : ℕ) (guest : Guest)
       let here : (number == number) ≡ true = eq-eqb number number refl in
       dull-step e refl
       (not-done (step geometry e w).reply (step-answers geometry e w).may
-      (never-and (is_done (step geometry e w).reply) (sym (ap (λ o. is_done (step geometry e w).reply && is_guest number o) own ∙ ap (λ b. is_done (step geometry e w).reply && b) here) ∙ disciplined.not_failed)))
+      (never-and (is_done (step geometry e w).reply)
+      (sym (ap (λ o. is_done (step geometry e w).reply && is_guest number o) own ∙ ap (λ b. is_done (step geometry e w).reply && b) here)
+      ∙ disciplined.not_failed)))
     where
       never-and : (b : Bool) → (b && true) ≡ false → b ≡ false
       never-and true e = cc

@@ -14,18 +14,21 @@ use Rattle.nv_world_model.specs.Contained.{owner}
 use Rattle.nv_world_model.specs.Disciplined.{commands_named, in_order, in_order_by, is_clear, is_disciplined, may_act}
 use Rattle.nv_world_model.specs.Geometry.{Geometry, Guest, shape_of}
 use Rattle.nv_world_model.specs.Headline.{IsPrivateRun, fails, is_failure, none_failed}
-use Rattle.nv_world_model.specs.Log.{IsReplay}
+use Rattle.nv_world_model.specs.Log.{IsReplay, events_of}
 use Rattle.nv_world_model.specs.PrivateSteps.{act_of, private_steps, seen_by, steps_of, with_act}
-use Rattle.nv_world_model.specs.SetUp.{SetUp, refusal_of, world_at_start}
+use Rattle.nv_world_model.specs.SetUp.{SetUp, refusal_of}
 use Rattle.nv_world_model.specs.Step.{is_done, replay, replies, step}
 use Rattle.nv_world_model.specs.View.{is_guest}
 use Rattle.nv_world_model.specs.World.{World, opening_lane, opening_world}
+use Rattle.nv_world_model.specs.SetUp.{world_at_start}
+use Rattle.nv_laws_sound.specs.Consistent.{IsConsistent}
 use Rattle.nv_laws_sound.specs.LaidOut.{IsLaidOut}
-use Rattle.nv_laws_sound.proofs.CountedEvents.{step-counted}
+use Rattle.nv_laws_sound.proofs.CountedSteps.{step-counted}
 use Rattle.nv_laws_sound.proofs.CountedRuns.{opening-counted}
 use Rattle.nv_laws_sound.proofs.LaidOuts.{laid-out}
 use Rattle.nv_laws_sound.proofs.Openings.{opening-consistent}
-use Rattle.nv_laws_sound.proofs.Steps.{lanes-kept, step-consistent}
+use Rattle.nv_laws_sound.proofs.ManyLanes.{lanes-kept}
+use Rattle.nv_laws_sound.proofs.Steps.{replay-consistent, step-consistent}
 use Rattle.nv_laws_related.specs.Following.{EachEventIsFollowed, GoesAlong, IsReached, LogIsFollowed}
 use Rattle.nv_laws_related.specs.Related.{Related}
 use Rattle.nv_laws_related.proofs.Beginning.{opening-related, related-agrees}
@@ -39,7 +42,7 @@ step-reached host_bytes geometry e w is =
     record {
       laid = subst (λ n. IsLaidOut host_bytes n geometry) (sym (lanes-kept geometry w e)) is.laid;
       consistent = step-consistent host_bytes geometry e w is.laid is.consistent;
-      counted = step-counted geometry e w is.consistent is.counted;
+      counted = step-counted host_bytes geometry e w is.laid is.consistent is.counted;
     }
 
 pub start-reached : (s : SetUp) → refusal_of s ≡ None
@@ -148,5 +151,7 @@ private-run s log z number guest none sound given each unfailed disciplined repl
       run = all.run;
       runs = all.runs;
       seen = all.seen;
-      agrees = related-agrees s.geometry number guest z all.run.state all.related;
+      agrees = related-agrees s.geometry number guest z
+          (subst (IsConsistent s.geometry) replayed.end (replay-consistent s.host_bytes s.geometry (events_of log) (world_at_start s) reached.laid reached.consistent))
+          all.run.state all.related;
     }

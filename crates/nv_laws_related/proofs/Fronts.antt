@@ -1,5 +1,6 @@
 -- What discipline says of the front command of a queue: what it names is apart from the destinations of commands that are taken.
-use Rattle.std.proofs.Common.{◌≡◌, ℕ, zero, suc, ◌+◌, ◌*◌, ◌%◌, ◌<◌, ◌≤◌, Bool, true, false, cond, not, ◌&&◌, ◌||◌, ◌==◌, List, [], ◌∷◌, ◌++◌, flat_map, map}
+use Rattle.std.proofs.Common.{◌≡◌, ℕ, zero, suc, ◌+◌, ◌*◌, ◌%◌, ◌<◌, ◌≤◌, Bool, true, false, cond, not, ◌&&◌, ◌||◌}
+use Rattle.std.proofs.Common.{◌==◌, List, [], ◌∷◌, ◌++◌, flat_map, map}
 use Rattle.std.proofs.Common.{slice_get, Option, Some, None, arith, refl, sym, ap, ◌∙◌, subst}
 use Rattle.std.specs.List.{enumerate_from, list_any, range_with_len}
 use Rattle.std.proofs.lemmas.List.Concat.{flat_map-append}
@@ -76,7 +77,13 @@ front_of-is q addr e =
     (elim q.closing as (λ b. q.closing ≡ b → cond b None (cond (q.head == q.tail) None (Some (q.base + sqe_size * q.head))) ≡ Some addr
     → (b ≡ false) × (q.base + sqe_size * q.head ≡ addr)) [
       | true ↦ λ is f. cc
-      | false ↦ λ is f. (refl, (elim (q.head == q.tail) as (λ b. cond b None (Some (q.base + sqe_size * q.head)) ≡ Some addr → q.base + sqe_size * q.head ≡ addr) [ true ↦ λ g. cc | false ↦ λ g. cc ]) f)
+      | false ↦ λ is f. (
+        refl,
+        (elim (q.head == q.tail) as (λ b. cond b None (Some (q.base + sqe_size * q.head)) ≡ Some addr → q.base + sqe_size * q.head ≡ addr) [
+          | true ↦ λ g. cc
+          | false ↦ λ g. cc
+        ]) f,
+      )
     ]) refl e
 
 queue-is : (xs : List (Option SubmissionQueue)) (y addr : ℕ) → front_of (queue_of (slice_get xs y)) ≡ Some addr

@@ -1,5 +1,6 @@
 -- Steps by which blocks become kept.
-use Rattle.std.proofs.Common.{◌≡◌, ℕ, zero, suc, ◌+◌, ◌<◌, ◌≤◌, inl, inr, Bool, true, false, cond, ◌&&◌, ◌||◌, ◌==◌, List, [], ◌∷◌, All, filter, map, Some, arith, refl, sym, ap, ◌∙◌, eq-eqb}
+use Rattle.std.proofs.Common.{◌≡◌, ℕ, zero, suc, ◌+◌, ◌<◌, ◌≤◌, inl, inr, Bool, true, false, cond, ◌&&◌, ◌||◌, ◌==◌}
+use Rattle.std.proofs.Common.{List, [], ◌∷◌, All, filter, map, Some, arith, refl, sym, ap, ◌∙◌, eq-eqb}
 use Rattle.std.specs.List.{list_any, range_with_len}
 use Rattle.std.proofs.lemmas.Bool.{cases_eq, lt-ltb, ne_eqb}
 use Rattle.std.proofs.lemmas.List.Elements.{All-head, All-tail}
@@ -84,6 +85,7 @@ any-filter p (x ∷ xs) at =
     here further_on false is same e =
         further_on ∙ ap (λ c. c && rest) (sym same ∙ is) ∙ sym (ap (λ c. c && ((x == at) || rest)) (sym same ∙ is))
 
-    elsewhere : list_any (λ n. n == at) (filter p xs) ≡ (p at && rest) → (b : Bool) → (x == at) ≡ false → list_any (λ n. n == at) (cond b (x ∷ filter p xs) (filter p xs)) ≡ (p at && ((x == at) || rest))
+    elsewhere : list_any (λ n. n == at) (filter p xs) ≡ (p at && rest) → (b : Bool) → (x == at) ≡ false
+        → list_any (λ n. n == at) (cond b (x ∷ filter p xs) (filter p xs)) ≡ (p at && ((x == at) || rest))
     elsewhere further_on true e = ap (λ c. c || list_any (λ n. n == at) (filter p xs)) e ∙ further_on ∙ sym (ap (λ c. p at && (c || rest)) e)
     elsewhere further_on false e = further_on ∙ sym (ap (λ c. p at && (c || rest)) e)

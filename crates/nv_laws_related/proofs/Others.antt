@@ -1,11 +1,11 @@
 -- The private controller of a guest goes along with the events of others, and with those that keep a block.
-use Rattle.std.proofs.Common.{◌≡◌, ℕ, ◌+◌, ◌<◌, Bool, true, false, cond, ◌&&◌, ◌||◌, ◌==◌, nat_le, nat_lt, List, [], ◌∷◌, All, filter, length, map, slice_get}
+use Rattle.std.proofs.Common.{◌≡◌, ℕ, ◌+◌, ◌<◌, Bool, true, false, cond, ◌&&◌, ◌||◌, ◌==◌, nat_le, nat_lt, List, [], All, filter, length, map, slice_get}
 use Rattle.std.proofs.Common.{Option, Some, None, arith, refl, sym, ap, ◌∙◌}
 use Rattle.std.specs.List.{list_any, range_with_len}
 use Rattle.std.proofs.lemmas.Bool.{lt-ltb, ne_eqb}
-use Rattle.std.proofs.lemmas.List.Elements.{All-cons, All-head, All-nil, All-tail}
+use Rattle.std.proofs.lemmas.List.Elements.{All-nil}
 use Rattle.nv_model.specs.Judge.{form_of}
-use Rattle.nv_model.specs.Private.{KeepStep, Private, Step, run_of}
+use Rattle.nv_model.specs.Private.{KeepStep, Private, Step}
 use Rattle.nv_model.specs.declared.reply.Reply.{Reply}
 use Rattle.nv_model.specs.declared.reply.Reply.TheVariants as reply
 use Rattle.nv_ns.specs.Extents.{blocks_in, place_in}
@@ -14,27 +14,28 @@ use Rattle.nv_world_model.specs.declared.event.Event.TheVariants as event
 use Rattle.nv_world_model.specs.Area.{tag_count}
 use Rattle.nv_world_model.specs.Contained.{guest_of_one, in_extents_of, owner}
 use Rattle.nv_world_model.specs.Device.{DeviceLane, Held}
-use Rattle.nv_world_model.specs.Geometry.{Geometry, Guest, shape_of}
-use Rattle.nv_world_model.specs.Plan.{Plan}
-use Rattle.nv_world_model.specs.PrivateSteps.{act_of, is_act, keeps_all, others_moves, own_moves, steps_done, steps_of, with_act, work_in}
-use Rattle.nv_world_model.specs.Seat.{name_of, work_of}
-use Rattle.nv_world_model.specs.Step.{After, device_move, device_moved, is_done, is_telling, kept_block, replied, step}
+use Rattle.nv_world_model.specs.Geometry.{Geometry, Guest}
+use Rattle.nv_world_model.specs.PrivateSteps.{act_of, keeps_all, others_moves, own_moves, steps_done, work_in}
+use Rattle.nv_world_model.specs.Step.{After, device_move, device_moved, is_telling, kept_block, replied, step}
 use Rattle.nv_world_model.specs.View.{guest_of_tag, is_guest, is_tag_of}
 use Rattle.nv_world_model.specs.World.{Flying, InDevice, Lane, Tag, World, tag_in, tag_of}
-use Rattle.nv_laws_sound.specs.Consistent.{IsPlanned}
 use Rattle.nv_laws_sound.proofs.Lists.{slice_get-below, slice_get-there}
 use Rattle.nv_laws_sound.proofs.MoveEvents.{held-flies}
 use Rattle.nv_laws_sound.proofs.Named.{row-all}
 use Rattle.nv_laws_sound.proofs.Namespaces.{place-disk}
-use Rattle.nv_laws_sound.proofs.PlanSizes.{planned-kinds}
+use Rattle.nv_laws_sound.proofs.OwnWork.{own-of}
+use Rattle.nv_laws_sound.proofs.GroupsKept.{HasGroups}
+use Rattle.nv_laws_sound.proofs.Steps.{step-consistent}
 use Rattle.nv_laws_others.proofs.Every.{each-leaves, each-leaves-others}
 use Rattle.nv_laws_others.proofs.Leaving.{extent-apart}
 use Rattle.nv_laws_related.specs.Following.{GoesAlong, IsReached}
 use Rattle.nv_laws_related.specs.Related.{Related}
-use Rattle.nv_laws_related.proofs.Keeping.{any-filter, keep-run, keep_all, keep_all-is, row-any}
+use Rattle.nv_laws_related.proofs.Keeping.{any-filter, keep_all, keep_all-is, row-any}
 use Rattle.nv_laws_related.proofs.Marks.{RaisesNone, marks-kept}
 use Rattle.nv_laws_related.proofs.UnitMarks.{unit-marks}
 use Rattle.nv_laws_related.proofs.Views.{IsLeft, view-related}
+use Rattle.nv_laws_related.proofs.Within.{planned-own}
+use Rattle.nv_laws_related.proofs.Goings.{and-yes, dull-goes, filter-all, keep-goes, none-goes}
 use Rattle.nv_laws_related.proofs.Ways.{device-way, either-way, held-way}
 
 -- ---- whose an event is
@@ -84,73 +85,6 @@ others-none number guest (event.Keep block) w none apart = absurd none
 others-none number guest (event.Reap lane) w none apart = refl
 others-none number guest (event.Post lane tag) w none apart = tag-none number (tag_of w lane tag) _ apart
 
--- ---- events without a step
-
-either-none : (b : Bool) → ◌≡◌ {A = List Step} (cond b [] []) []
-either-none true = refl
-either-none false = refl
-
-not-telling : (r : Reply) → is_telling r ≡ false → is_done r ≡ false
-not-telling reply.Done dull = dull
-not-telling (reply.Bytes bytes) dull = refl
-not-telling reply.Idle dull = refl
-not-telling reply.Busy dull = refl
-not-telling reply.Held dull = refl
-not-telling reply.Stale dull = refl
-not-telling reply.Unmapped dull = refl
-not-telling reply.Ignored dull = refl
-not-telling reply.NoMemory dull = refl
-
--- what holds of all holds of some of them
-filter-all : (P : ℕ → Type 0) (test : ℕ → Bool) (xs : List ℕ) → All P xs → All P (filter test xs)
-filter-all P test [] each = each
-filter-all P test (x ∷ xs) each =
-    elim (test x) as (λ b. All P (cond b (x ∷ filter test xs) (filter test xs))) [
-      | true ↦ All-cons P x (filter test xs) (All-head P x xs each) (filter-all P test xs (All-tail P x xs each))
-      | false ↦ filter-all P test xs (All-tail P x xs each)
-    ]
-
-and-yes : (b : Bool) → (b && true) ≡ b
-and-yes true = refl
-and-yes false = refl
-
-module _ (geometry : Geometry) (number : ℕ) (guest : Guest) (e : Event) (w : World) (p : Private) (no_act : act_of number e ≡ None) where
-  -- no step is made
-  pub quiet-goes : (done : After) → steps_of number guest w e done.reply ≡ [] → Related geometry number guest done.world p
-      → GoesAlong geometry number guest e w p done
-  unfolding run_of
-  quiet-goes done none related =
-      record {
-        run = record { state = p; seen = [] };
-        runs = ap (λ steps. run_of (shape_of guest) steps p) none;
-        seen = sym (ap (λ a. with_act a done.reply []) no_act);
-        related = related;
-      }
-
-  pub none-goes : (done : After) → steps_done number guest w e ≡ [] → Related geometry number guest done.world p
-      → GoesAlong geometry number guest e w p done
-  none-goes done none related =
-      quiet-goes done (ap (λ steps. cond (is_act (act_of number e) || is_done done.reply) steps []) none ∙ either-none (is_act (act_of number e) || is_done done.reply)) related
-
-  -- a reply that tells of no change
-  pub dull-goes : Related geometry number guest w p → (r : Reply) → is_telling r ≡ false → GoesAlong geometry number guest e w p (replied r w)
-  dull-goes related r dull =
-      quiet-goes (replied r w)
-      (ap (λ a. cond (is_act a || is_done r) (steps_done number guest w e) []) no_act ∙ ap (λ b. cond b (steps_done number guest w e) []) (not-telling r dull))
-      related
-
-  -- blocks become kept
-  pub keep-goes : (lbas : List ℕ) (z : World) → All (λ lba. lba < blocks_in guest.namespace) lbas → steps_done number guest w e ≡ map KeepStep lbas
-      → Related geometry number guest z (record p { kept = keep_all lbas p.kept }) → GoesAlong geometry number guest e w p (replied reply.Done z)
-  keep-goes lbas z each steps related =
-      record {
-        run = record { state = record p { kept = keep_all lbas p.kept }; seen = [] };
-        runs = ap (λ a. run_of (shape_of guest) (cond (is_act a || true) (steps_done number guest w e) []) p) no_act
-            ∙ ap (λ ss. run_of (shape_of guest) ss p) steps ∙ keep-run (shape_of guest) lbas p each;
-        seen = sym (ap (λ a. with_act a reply.Done []) no_act);
-        related = related;
-      }
-
 -- ---- events of others
 
 module _ (host_bytes : ℕ) (geometry : Geometry) (number : ℕ) (guest : Guest) (given : slice_get geometry.guests number ≡ Some guest)
@@ -162,10 +96,13 @@ module _ (host_bytes : ℕ) (geometry : Geometry) (number : ℕ) (guest : Guest)
         area = (λ addr shown. (each-leaves host_bytes geometry w e reached.laid reached.consistent).area number guest addr given apart shown);
       }
 
+  groups-behind : (e : Event) → HasGroups geometry (step geometry e w).world.lanes
+  groups-behind e = (step-consistent host_bytes geometry e w reached.laid reached.consistent).groups
+
   plain-goes : (e : Event) → RaisesNone e → (owner e w ≡ Some number → ⊥) → GoesAlong geometry number guest e w p (step geometry e w)
   plain-goes e none apart =
       none-goes geometry number guest e w p (others-act number e w apart) (step geometry e w) (others-none number guest e w none apart)
-      (view-related geometry number guest w (step geometry e w).world reached.consistent (others-left e apart) p p.kept related
+      (view-related geometry number guest w (step geometry e w).world reached.consistent (groups-behind e) (others-left e apart) p p.kept related
       (λ lba below. related.marks lba below ∙ sym (ap (λ kept. kept (place_in guest.namespace lba)) (marks-kept geometry w e none))))
 
   -- ---- a block that is kept
@@ -187,7 +124,7 @@ module _ (host_bytes : ℕ) (geometry : Geometry) (number : ℕ) (guest : Guest)
       (λ there left.
       keep-goes geometry number guest (event.Keep block) w p refl lbas (kept_block block w)
       (filter-all (λ lba. lba < blocks_in guest.namespace) (λ lba. place_in guest.namespace lba == block) (range_with_len 0 (blocks_in guest.namespace)) all_below) refl
-      (view-related geometry number guest w (kept_block block w) reached.consistent left p (keep_all lbas p.kept) related
+      (view-related geometry number guest w (kept_block block w) reached.consistent reached.consistent.groups left p (keep_all lbas p.kept) related
       (λ lba below.
       kept-there lbas (kept_block block w) lba (place_in guest.namespace lba == block) below
       (any-filter (λ n. place_in guest.namespace n == block) (range_with_len 0 (blocks_in guest.namespace)) lba
@@ -227,9 +164,6 @@ module _ (host_bytes : ℕ) (geometry : Geometry) (number : ℕ) (guest : Guest)
   kept_by-any true lba below = row-any lba 0 (blocks_in guest.namespace) (omega arith) (omega (arith, below))
   kept_by-any false lba below = refl
 
-  work-in : (plan : Plan) (owner : Guest) (entry : List ℕ) (is : IsPlanned owner entry plan) → work_of plan ≡ Some is.work
-  work-in plan owner entry is = planned-kinds (λ p. work_of p ≡ Some is.work) owner entry plan is refl (λ fits. refl) refl
-
   -- the marks of its blocks behind a unit that is another's
   moved-mark : (all k : Bool) (at : ℕ) → at < geometry.disk_blocks → cond all (nat_lt at geometry.disk_blocks || k) k ≡ (all || k)
   moved-mark true k at below = ap (λ b. b || k) (lt-ltb at geometry.disk_blocks below)
@@ -241,26 +175,29 @@ module _ (host_bytes : ℕ) (geometry : Geometry) (number : ℕ) (guest : Guest)
       → GoesAlong geometry number guest (event.DevMove lane tag unit) w p (replied reply.Done (device_moved geometry.disk_blocks lane tag unit h w))
   unfolding device_moved
   moved-goes lane tag unit l d h t at there found held left_one apart left =
-      let before = reached.consistent.lanes lane l d at there in
+      let before = reached.consistent.of_tags.lanes lane l d at there in
       let tags = before.positions.tags in
       let among = slice_get-below l.tags tag t found in
       let tag_below : tag < tag_count = omega (arith, tags, among) in
       let holds = held-flies geometry lane tag w.host l.head d h t (before.tags tag t (Some h) found held) in
-      let was = Flying holds.command holds.plan InDevice in
+      let was = Flying holds.command holds.share InDevice in
       let is : tag_of w lane tag ≡ Some was = ap (λ x. tag_in x tag) at ∙ found ∙ ap (λ x. Some x) holds.flies in
       let whose = holds.command.guest in
       let differ : (Some whose ≡ Some number → ⊥) = λ same. apart (ap guest_of_one is ∙ same) in
       let all = keeps_all (form_of holds.planned.work.opcode) in
       let z = device_moved geometry.disk_blocks lane tag unit h w in
       keep-goes geometry number guest (event.DevMove lane tag unit) w p refl (kept_by all) z (kept_by-below all)
-      (ap (λ b. cond b (own_moves (work_in (tag_of w lane tag)) (name_of lane tag) unit) (others_moves (work_in (tag_of w lane tag)) guest.namespace)) (not-own number (tag_of w lane tag) apart)
+      (ap (λ b. cond b (own_moves (tag_of w lane tag) lane unit) (others_moves (work_in (tag_of w lane tag)) guest.namespace)) (not-own number (tag_of w lane tag) apart)
       ∙ ap (λ o. others_moves (work_in o) guest.namespace) is
-      ∙ ap (λ o. others_moves o guest.namespace) (work-in holds.plan holds.guest holds.command.entry holds.planned) ∙ kept_by-steps all)
-      (view-related geometry number guest w z reached.consistent left p (keep_all (kept_by all) p.kept) related
+      ∙ ap (λ o. others_moves o guest.namespace) (planned-own holds.guest holds.command.entry holds.share holds.planned)
+      ∙ ap (λ code. cond (keeps_all (form_of code)) (map KeepStep (range_with_len 0 (blocks_in guest.namespace))) [])
+      (own-of holds.guest holds.command.entry holds.share holds.planned).opcode
+      ∙ kept_by-steps all)
+      (view-related geometry number guest w z reached.consistent reached.consistent.groups left p (keep_all (kept_by all) p.kept) related
       (λ lba below.
       let out = extent-apart host_bytes geometry (length w.lanes) reached.laid (Some whose) number guest lba given differ below in
       kept-there (kept_by all) z lba all below (kept_by-any all lba below)
-      (unit-marks host_bytes (length w.lanes) geometry reached.laid whose holds.guest holds.is.given holds.command.entry holds.plan holds.planned lane tag h w.host
+      (unit-marks host_bytes (length w.lanes) geometry reached.laid whose holds.guest holds.is.given holds.command.entry holds.share holds.planned holds.some lane tag h w.host
       holds.in_device unit left_one
       (place_in guest.namespace lba) (sym (ap (λ o. in_extents_of o (place_in guest.namespace lba)) holds.is.given) ∙ out)
       tag_below w.disk w.kept
@@ -275,9 +212,9 @@ module _ (host_bytes : ℕ) (geometry : Geometry) (number : ℕ) (guest : Guest)
       held-way P w dull (slice_get d.held slot) (λ h. device_move geometry.disk_blocks lane slot unit h w) (λ h held.
       either-way P w dull (list_any (λ k. k == unit) h.left) _ _ (λ left_one left.
       (let among = slice_get-below w.device lane d there in
-      let sides = reached.consistent.sides in
+      let sides = reached.consistent.of_tags.sides in
       let l = slice_get-there w.lanes lane (omega (arith, among, sides)) in
-      let before = reached.consistent.lanes lane l.0 d l.1 there in
+      let before = reached.consistent.of_tags.lanes lane l.0 d l.1 there in
       let tags = before.positions.tags in
       let sized = before.positions.held in
       let under = slice_get-below d.held slot (Some h) held in

@@ -1,6 +1,6 @@
 -- What is done in a guest's seat, in the world and on its private controller alike, leaves one standing for the other, where it leaves alone what the
 -- guest's commands name.
-use Rattle.std.proofs.Common.{◌≡◌, ℕ, ◌<◌, ◌≤◌, true, List, length, slice_get, Option, Some, None, arith, refl, sym, ◌∙◌, subst}
+use Rattle.std.proofs.Common.{◌≡◌, ℕ, ◌<◌, ◌≤◌, true, List, length, slice_get, Option, Some, None, arith, refl, sym, ◌∙◌}
 use mathlib.Core.Path.{fun_ext}
 use Rattle.nv_mem.proofs.Images.{guest_of-host}
 use Rattle.nv_mem.specs.GuestMap.{guest_of, host_of, mapped}
@@ -10,8 +10,6 @@ use Rattle.nv_model.specs.Private.{Private}
 use Rattle.nv_world_model.specs.Area.{bounce_page, lane_start}
 use Rattle.nv_world_model.specs.Device.{Held}
 use Rattle.nv_world_model.specs.Geometry.{Geometry, Guest, regions_of}
-use Rattle.nv_world_model.specs.Laws.{OnlyInSeat}
-use Rattle.nv_world_model.specs.Seat.{Owner}
 use Rattle.nv_world_model.specs.View.{own_held, own_tag}
 use Rattle.nv_world_model.specs.World.{Tag, World, tag_of}
 use Rattle.nv_laws_sound.specs.Consistent.{IsConsistent}
@@ -20,7 +18,8 @@ use Rattle.nv_laws_others.specs.Leaving.{IsShownAt}
 use Rattle.nv_laws_others.proofs.Leaving.{bytes-in-lane}
 use Rattle.nv_laws_related.specs.Related.{IsTagRelated, NoneHides, Related}
 use Rattle.nv_laws_related.proofs.Undisturbed.{IsTagUntouched, undisturbed}
-use Rattle.nv_laws_related.proofs.Views.{AreTagsLeft, device_of, members-left, own-there, pages-left, status_in, statuses-left, there-short}
+use Rattle.nv_laws_related.proofs.Views.{AreTagsLeft, device_of, members-left, own-there, pages-left, status_in, statuses-left}
+use Rattle.nv_laws_related.proofs.Within.{there-fit}
 
 -- the world with another host and other controllers
 abbrev pub seated : World → (host : ℕ → ℕ) → List Controller → World
@@ -32,7 +31,7 @@ module _ (host_bytes : ℕ) (geometry : Geometry) (number : ℕ) (guest : Guest)
   -- the mediator's area is no guest's
   pub area-left : (addr : ℕ) → IsShownAt number geometry w addr → w.host addr ≡ host addr
   area-left addr s =
-      let lies = bytes-in-lane geometry w s.lane s.tag addr s.t fine s.there s.bytes in
+      let lies = bytes-in-lane geometry w s.lane s.tag addr s.t fine.of_tags s.there s.bytes in
       let below = lies.below in
       let low = lies.low in
       let high = lies.high in
@@ -51,7 +50,7 @@ module _ (host_bytes : ℕ) (geometry : Geometry) (number : ℕ) (guest : Guest)
         undisturbed guest (bounce_page geometry.mediator lane tag) w.host host p.memory memory
         (pages-left geometry number w (seated w host controllers) tags-left lane tag t own) (status_in geometry w lane) (status_in geometry (seated w host controllers) lane) t held
         (λ at stands. statuses-left geometry number w (seated w host controllers) tags-left lane tag at t own stands)
-        (there-short geometry w lane tag t fine (own-there number (tag_of w lane tag) t own).0) (untouched lane tag t own) was
+        (there-fit geometry w lane tag t fine.of_tags (own-there number (tag_of w lane tag) t own).0) (untouched lane tag t own) was
 
     pub seat-related : slice_get controllers number ≡ Some c
         → ((addr : ℕ) → mapped (regions_of guest) addr ≡ true → NoneHides number w addr → memory addr ≡ image (regions_of guest) host addr)
@@ -62,15 +61,10 @@ module _ (host_bytes : ℕ) (geometry : Geometry) (number : ℕ) (guest : Guest)
           blocks = related.blocks;
           marks = related.marks;
           memory = same;
-          bag = (λ name. related.bag name ∙ members-left geometry number w (seated w host controllers) tags-left name);
+          bag = (λ name. related.bag name ∙ members-left geometry number w (seated w host controllers) tags-left fine.groups fine.groups name);
           tags = (λ lane tag.
               tag-seated lane tag (own_tag number (tag_of w lane tag)) (own_held number (tag_of w lane tag) (device_of w lane tag)) refl (related.tags lane tag));
         }
-
--- where nothing else has changed, the world is that
-pub seat-only : (geometry : Geometry) (number : ℕ) (guest : Guest) (o : Owner) (w z : World) (q : Private) → OnlyInSeat o w z
-    → Related geometry number guest (seated w z.host z.controllers) q → Related geometry number guest z q
-seat-only geometry number guest o w z q only related = subst (λ x. Related geometry number guest x q) (sym only.rest) related
 
 -- ---- the mediator's area
 

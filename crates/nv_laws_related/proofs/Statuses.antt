@@ -1,15 +1,16 @@
 -- The statuses of commands all of whose units have moved.
-use Rattle.std.proofs.Common.{◌≡◌, ℕ, ◌^◌, ◌<◌, Bool, true, false, ◌==◌, List, [], ◌∷◌, filter, map, Some, arith, refl, sym, ap, ◌∙◌}
+use Rattle.std.proofs.Common.{◌≡◌, ℕ, ◌^◌, ◌<◌, Bool, true, false, cond, ◌||◌, ◌==◌, List, [], ◌∷◌, All, filter, map, Some, arith, refl, sym, ap, ◌∙◌}
 use Rattle.std.specs.List.{enumerate_from, list_any}
+use Rattle.std.proofs.lemmas.List.Elements.{All-head, All-tail}
 use Rattle.nv_entry.proofs.CompletionLemmas.{bit-lt}
 use Rattle.nv_entry.specs.Completion.{completion, dnr_of, sc_of, sct_of, status_of}
 use Rattle.nv_entry.specs.Layout.{bits, bytes_of_dwords, dword, number_at}
 use Rattle.nv_entry.specs.Status.{StatusField, bit, status}
 use Rattle.nv_model.specs.Judge.{Work, form_of}
-use Rattle.nv_model.specs.Private.{AtWork, Progress, ending, moved_status}
+use Rattle.nv_model.specs.Private.{AtWork, Progress, ending, moved_status, numbers_of}
 use Rattle.nv_world_model.specs.Plan.{Plan}
-use Rattle.nv_world_model.specs.Seat.{ended_progress, form_numbers, tells_difference, units_behind, with_left, work_of}
-use Rattle.nv_world_model.specs.Step.{passed_on}
+use Rattle.nv_world_model.specs.Seat.{Rest, form_numbers, rest, tells_difference, units_behind, work_progress}
+use Rattle.nv_world_model.specs.Step.{deciding, is_success, passed_on}
 use Rattle.nv_laws_related.specs.Related.{IsMovedStatus}
 
 -- where none of the device's units is left no unit is
@@ -35,15 +36,48 @@ pub passed_on-moved : (plan : Plan) (st : StatusField) → IsMovedStatus plan st
 passed_on-moved plan st is =
     ap passed_on is.status ∙ passed_on-by (tells_difference st) ∙ sym is.status
 
--- and its command has ended with it
-pub moved-ends : (plan : Plan) (work : Work) (st : StatusField) → work_of plan ≡ Some work → IsMovedStatus plan st
-    → ending (ended_progress (Some plan) st) ≡ Some st
-moved-ends plan work st has is =
-    ap (λ o. ending (with_left o [] (tells_difference st))) has
-    ∙ ap (λ us. ending (at_work us)) (units_behind-none work) ∙ ap (λ x. Some x) (sym is.status)
+-- ---- a command's tags together
+
+-- the first that isn't success is that of a Compare which differs, where there is one
+pub deciding-moved : (sts : List StatusField) → All (λ (st : StatusField). st ≡ moved_status (tells_difference st)) sts
+    → deciding sts ≡ moved_status (list_any tells_difference sts)
+deciding-moved [] each = refl
+deciding-moved (st ∷ sts) each =
+    let first = All-head (λ (x : StatusField). x ≡ moved_status (tells_difference x)) st sts each in
+    let rest = deciding-moved sts (All-tail (λ (x : StatusField). x ≡ moved_status (tells_difference x)) st sts each) in
+    ap (λ x. cond (is_success x) (deciding sts) x) first ∙ by (tells_difference st) rest
   where
-    at_work : List ℕ → Progress
-    at_work us = AtWork work us (tells_difference st)
+    by : (d : Bool) → deciding sts ≡ moved_status (list_any tells_difference sts)
+        → cond (is_success (moved_status d)) (deciding sts) (moved_status d) ≡ moved_status (d || list_any tells_difference sts)
+    by true rest = refl
+    by false rest = rest
+
+-- the rest of a share that has ended with a status
+abbrev pub ended_rest : StatusField → Rest
+ended_rest st = rest [] (tells_difference st)
+
+none-left : (sts : List StatusField) (k : ℕ) → list_any (λ (r : Rest). list_any (λ other. other == k) r.left) (map ended_rest sts) ≡ false
+none-left [] k = refl
+none-left (st ∷ sts) k = none-left sts k
+
+filter-none : (test : ℕ → Bool) (ks : List ℕ) → ((k : ℕ) → test k ≡ false) → filter test ks ≡ []
+filter-none test [] none = refl
+filter-none test (k ∷ ks) none = ap (λ b. cond b (k ∷ filter test ks) (filter test ks)) (none k) ∙ filter-none test ks none
+
+differed-same : (sts : List StatusField) → list_any (λ (r : Rest). r.differed) (map ended_rest sts) ≡ list_any tells_difference sts
+differed-same [] = refl
+differed-same (st ∷ sts) = ap (λ b. tells_difference st || b) (differed-same sts)
+
+-- a command all of whose shares have ended so has ended with the status that decides
+pub group-ends : (work : Work) (sts : List StatusField) → All (λ (st : StatusField). st ≡ moved_status (tells_difference st)) sts
+    → ending (work_progress (Some work) (map ended_rest sts)) ≡ Some (deciding sts)
+group-ends work sts each =
+    ap (λ left. ending (at_work left (list_any (λ (r : Rest). r.differed) (map ended_rest sts))))
+    (filter-none (λ k. list_any (λ (r : Rest). list_any (λ other. other == k) r.left) (map ended_rest sts)) (numbers_of work) (none-left sts))
+    ∙ ap (λ differed. ending (at_work [] differed)) (differed-same sts) ∙ ap (λ x. Some x) (sym (deciding-moved sts each))
+  where
+    at_work : List ℕ → Bool → Progress
+    at_work left differed = AtWork work left differed
 
 -- ---- completions
 

@@ -1,10 +1,11 @@
 -- A guest's command is as it was where nothing that it names in the guest's memory changes: not in the world's, and not in the private controller's.
-use Rattle.std.proofs.Common.{◌≡◌, ℕ, ◌+◌, ◌-◌, ◌*◌, Bool, true, false, cond, ◌||◌, List, [], ◌∷◌, All, map, slice_get, Option, Some, None, arith, refl, sym, ap, ◌∙◌, subst}
+use Rattle.std.proofs.Common.{◌≡◌, ℕ, ◌+◌, ◌-◌, ◌*◌, ◌≤◌, Bool, true, false, cond, ◌||◌, List, [], ◌∷◌, All, map}
+use Rattle.std.proofs.Common.{Option, Some, None, arith, refl, sym, ap, ◌∙◌, subst}
 use Rattle.std.specs.Bool.{⊤}
 use Rattle.std.specs.List.{list_any}
 use Rattle.std.proofs.lemmas.List.Elements.{All-cons, All-nil}
 use Rattle.nv_entry.specs.Status.{StatusField}
-use Rattle.nv_mem.specs.Places.{At}
+use Rattle.nv_mem.specs.Places.{At, places_of, total_len}
 use Rattle.nv_model.proofs.Agreeing.{asked-agree, in_memory-agree}
 use Rattle.nv_model.specs.Dialogue.{Dialogue, asked}
 use Rattle.nv_model.specs.Footprint.{Destination, ListBytes, Named, Source, io_named, named_as, names, verdict_named}
@@ -13,19 +14,21 @@ use Rattle.nv_model.specs.Laws.{AgreeAt, AgreeOn}
 use Rattle.nv_model.specs.Limits.{block, most_bytes}
 use Rattle.nv_model.specs.Memory.{image}
 use Rattle.nv_model.specs.Parts.{ShowsAt, ShowsOn}
-use Rattle.nv_model.specs.Private.{places_of_block, verdict_in}
+use Rattle.nv_model.specs.Private.{verdict_in}
 use Rattle.nv_model.specs.Transcript.{ReadDone}
 use Rattle.nv_world_model.specs.Contained.{is_answered_at, tag_stands}
 use Rattle.nv_world_model.specs.Device.{Held}
 use Rattle.nv_world_model.specs.Geometry.{Guest, regions_of, shape_of}
 use Rattle.nv_world_model.specs.Plan.{Answer, Bounced, Direct, NoData, Plan}
+use Rattle.nv_world_model.specs.Share.{Share}
 use Rattle.nv_world_model.specs.Seat.{work_of}
 use Rattle.nv_world_model.specs.World.{Ended, Flying, Free, Tag, Taken}
 use Rattle.nv_laws_sound.specs.Area.{SameBetween}
 use Rattle.nv_laws_others.proofs.ShownTags.{any-behind, any-front}
-use Rattle.nv_laws_related.specs.Related.{AreReadsShown, HasBuffer, HasEndedWell, IsTagRelated, IsUnderWay, left_where, none_left}
+use Rattle.nv_laws_related.specs.Related.{AreReadsShown, HasBuffer, HasEndedWell, IsTagRelated, IsUnderWay, is_place_at, left_where, none_left}
 use Rattle.nv_laws_related.proofs.Named.{block-among, place-passes, run-names}
-use Rattle.nv_laws_related.proofs.Views.{IsShortPlan, IsShortPlanOr, IsShortTag, block-place, status-kept}
+use Rattle.nv_laws_related.proofs.Views.{block-place, status-kept}
+use Rattle.nv_laws_related.proofs.Within.{IsFit, IsFitOr, IsFitTag, IsPart}
 
 -- ---- what a command names
 
@@ -101,41 +104,44 @@ module _ (guest : Guest) (entry : List ℕ) (host other memory behind : ℕ → 
       (reads-agree before after (asked before judging) reads lists-agree was)
 
   -- a byte of its buffer is as it was
-  pub place-kept : (work : Work) (index i addr : ℕ) → verdict_in (shape_of guest) before entry ≡ Go work
-      → slice_get (places_of_block work index) i ≡ Some (At addr) → memory addr ≡ behind addr
-  place-kept work index i addr goes at =
+  pub place-kept : (work : Work) (addr : ℕ) → verdict_in (shape_of guest) before entry ≡ Go work
+      → list_any (is_place_at addr) (places_of work.pieces) ≡ true → memory addr ≡ behind addr
+  place-kept work addr goes among =
       (untouched addr
       (any-behind (names_at addr) (lists_named (asked before judging)) (verdict_named (verdict_in (shape_of guest) before entry))
       (ap (λ v. list_any (names_at addr) (verdict_named v)) goes
       ∙ place-passes addr (cond (is_read work.opcode) Destination Source) (names_at addr) (run-names addr (cond (is_read work.opcode) Destination Source))
-      work.pieces (block-among work index i addr at)))).1
+      work.pieces among))).1
 
   module _ (bounce : ℕ) (pages : SameBetween host other bounce (bounce + most_bytes)) where
-    buffer-untouched : (plan : Plan) (left : ℕ → Bool) → IsShortPlan plan
-        → ((work : Work) → work_of plan ≡ Some work → verdict_in (shape_of guest) before entry ≡ Go work)
+    buffer-untouched : (plan : Plan) (left : ℕ → Bool) → ((own : Work) → work_of plan ≡ Some own → total_len own.pieces ≤ most_bytes)
+        → ((own : Work) (addr : ℕ) → work_of plan ≡ Some own → list_any (is_place_at addr) (places_of own.pieces) ≡ true → memory addr ≡ behind addr)
         → HasBuffer plan left bounce host memory → HasBuffer plan left bounce other behind
-    buffer-untouched (Answer st) left short steady was = tt
-    buffer-untouched (NoData work) left short steady was = tt
-    buffer-untouched (Direct work) left short steady was = tt
-    buffer-untouched (Bounced work) left short steady was =
+    buffer-untouched (Answer st) left short kept was = tt
+    buffer-untouched (NoData work) left short kept was = tt
+    buffer-untouched (Direct work) left short kept was = tt
+    buffer-untouched (Bounced work) left short kept was =
         λ index has i addr at.
         let within = block-place work index i (At addr) at in
         let few = short work refl in
         sym (pages (bounce + block * index + i) (omega arith) (omega (arith, within, few))) ∙ was index has i addr at
-        ∙ place-kept work index i addr (steady work refl) at
+        ∙ kept work addr refl (block-among work index i addr at)
 
-    pub under_way-untouched : (plan : Plan) (left : ℕ → Bool) → IsShortPlan plan → IsUnderWay guest entry plan left bounce host memory
-        → IsUnderWay guest entry plan left bounce other behind
-    under_way-untouched plan left short was =
+    pub under_way-untouched : (share : Share) (left : ℕ → Bool) → IsFit share → IsUnderWay guest entry share left bounce host memory
+        → IsUnderWay guest entry share left bounce other behind
+    under_way-untouched share left fit was =
         record {
           steady = (λ work is. verdict-kept ∙ was.steady work is);
-          buffer = buffer-untouched plan left short was.steady was.buffer;
+          buffer = buffer-untouched share.plan left (λ own is. (fit own is).short)
+              (λ own addr is among.
+              let part : IsPart share own = fit own is in
+              place-kept part.whole addr (was.steady part.whole part.is) (part.within addr among)) was.buffer;
         }
 
-    pub ended-untouched : (plan : Option Plan) (st : StatusField) → IsShortPlanOr plan → HasEndedWell plan guest entry st bounce host memory
-        → HasEndedWell plan guest entry st bounce other behind
-    ended-untouched None st short was = tt
-    ended-untouched (Some plan) st short was = (under_way-untouched plan none_left short was.0, was.1)
+    pub ended-untouched : (share : Option Share) (st : StatusField) → IsFitOr share → HasEndedWell share guest entry st bounce host memory
+        → HasEndedWell share guest entry st bounce other behind
+    ended-untouched None st fit was = tt
+    ended-untouched (Some share) st fit was = (under_way-untouched share none_left fit was.0, was.1)
 
 -- ---- tags
 
@@ -143,19 +149,19 @@ module _ (guest : Guest) (entry : List ℕ) (host other memory behind : ℕ → 
 abbrev pub IsTagUntouched : Tag → Guest → (host other memory behind : ℕ → ℕ) → Type 0
 IsTagUntouched Free guest host other memory behind = ⊤
 IsTagUntouched (Taken command reads) guest host other memory behind = IsUntouched guest command.entry host other memory behind
-IsTagUntouched (Flying command plan standing) guest host other memory behind = IsUntouched guest command.entry host other memory behind
-IsTagUntouched (Ended command st plan) guest host other memory behind = IsUntouched guest command.entry host other memory behind
+IsTagUntouched (Flying command share standing) guest host other memory behind = IsUntouched guest command.entry host other memory behind
+IsTagUntouched (Ended command st share) guest host other memory behind = IsUntouched guest command.entry host other memory behind
 
 module _ (guest : Guest) (bounce : ℕ) (host other memory behind : ℕ → ℕ) (pages : SameBetween host other bounce (bounce + most_bytes))
     (f g : ℕ → StatusField) where
-  pub undisturbed : (t : Tag) (held : Option Held) → ((at : ℕ) → tag_stands (is_answered_at at) t ≡ true → f at ≡ g at) → IsShortTag t
+  pub undisturbed : (t : Tag) (held : Option Held) → ((at : ℕ) → tag_stands (is_answered_at at) t ≡ true → f at ≡ g at) → IsFitTag t
       → IsTagUntouched t guest host other memory behind → IsTagRelated (Some t) guest held f bounce host memory
       → IsTagRelated (Some t) guest held g bounce other behind
-  undisturbed Free held statuses short untouched was = tt
-  undisturbed (Taken command reads) held statuses short untouched was = reads-kept guest command.entry host other memory behind untouched reads was
-  undisturbed (Flying command plan standing) held statuses short untouched was = (
-    under_way-untouched guest command.entry host other memory behind untouched bounce pages plan (left_where standing held) short was.0,
-    status-kept f g command standing plan held statuses was.1,
+  undisturbed Free held statuses fit untouched was = tt
+  undisturbed (Taken command reads) held statuses fit untouched was = reads-kept guest command.entry host other memory behind untouched reads was
+  undisturbed (Flying command share standing) held statuses fit untouched was = (
+    under_way-untouched guest command.entry host other memory behind untouched bounce pages share (left_where standing held) fit was.0,
+    status-kept f g command standing share held statuses was.1,
   )
-  undisturbed (Ended command st plan) held statuses short untouched was =
-      ended-untouched guest command.entry host other memory behind untouched bounce pages plan st short was
+  undisturbed (Ended command st share) held statuses fit untouched was =
+      ended-untouched guest command.entry host other memory behind untouched bounce pages share st fit was

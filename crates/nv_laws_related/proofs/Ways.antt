@@ -1,14 +1,14 @@
 -- The ways through a step: what holds of the world as it is with each reply that tells of no change, and where something is done of what comes of
 -- it, holds of what comes of the step.
-use Rattle.std.proofs.Common.{◌≡◌, Bool, true, false, cond, List, Option, Some, None, refl}
+use Rattle.std.proofs.Common.{◌≡◌, ℕ, ◌==◌, Bool, true, false, cond, List, Option, Some, None, refl}
 use Rattle.nv_entry.specs.Status.{StatusField}
 use Rattle.nv_model.specs.Transcript.{ReadDone}
 use Rattle.nv_model.specs.declared.reply.Reply.{Reply}
 use Rattle.nv_model.specs.declared.reply.Reply.TheVariants as reply
 use Rattle.nv_world_model.specs.Device.{DeviceLane, Held}
-use Rattle.nv_world_model.specs.Plan.{Plan}
+use Rattle.nv_world_model.specs.Share.{Share}
 use Rattle.nv_world_model.specs.Seat.{Owner}
-use Rattle.nv_world_model.specs.Step.{After, for_device, for_ended, for_guest, for_held, for_lane, for_owner, for_taken, is_telling, replied}
+use Rattle.nv_world_model.specs.Step.{After, for_device, for_ended, for_guest, for_held, for_lane, for_leader, for_owner, for_taken, is_telling, replied}
 use Rattle.nv_world_model.specs.World.{Command, Ended, Flying, Free, Lane, Tag, Taken, World}
 
 module _ (P : After → Type 0) (w : World) (dull : (r : Reply) → is_telling r ≡ false → P (replied r w)) where
@@ -33,23 +33,26 @@ module _ (P : After → Type 0) (w : World) (dull : (r : Reply) → is_telling r
   device-way None more rest = dull reply.Ignored refl
   device-way (Some d) more rest = rest d refl
 
-  pub taken-way : (found : Option Tag) (more : Command → List ReadDone → After)
-      → ((command : Command) (reads : List ReadDone) → found ≡ Some (Taken command reads) → P (more command reads))
-      → P (for_taken found w more)
-  taken-way None more rest = dull reply.Ignored refl
-  taken-way (Some Free) more rest = dull reply.Stale refl
-  taken-way (Some (Taken command reads)) more rest = rest command reads refl
-  taken-way (Some (Flying command plan standing)) more rest = dull reply.Stale refl
-  taken-way (Some (Ended command st plan)) more rest = dull reply.Stale refl
+  pub leader-way : (tag : ℕ) (command : Command) (done : After) → ((command.leader == tag) ≡ true → P done) → P (for_leader tag command w done)
+  leader-way tag command done rest = either-way (command.leader == tag) done (replied reply.Stale w) rest (λ other. dull reply.Stale refl)
 
-  pub ended-way : (found : Option Tag) (more : Command → StatusField → Option Plan → After)
-      → ((command : Command) (st : StatusField) (plan : Option Plan) → found ≡ Some (Ended command st plan) → P (more command st plan))
-      → P (for_ended found w more)
-  ended-way None more rest = dull reply.Ignored refl
-  ended-way (Some Free) more rest = dull reply.Stale refl
-  ended-way (Some (Taken command reads)) more rest = dull reply.Stale refl
-  ended-way (Some (Flying command plan standing)) more rest = dull reply.Stale refl
-  ended-way (Some (Ended command st plan)) more rest = rest command st plan refl
+  pub taken-way : (tag : ℕ) (found : Option Tag) (more : Command → List ReadDone → After)
+      → ((command : Command) (reads : List ReadDone) → found ≡ Some (Taken command reads) → (command.leader == tag) ≡ true → P (more command reads))
+      → P (for_taken tag found w more)
+  taken-way tag None more rest = dull reply.Ignored refl
+  taken-way tag (Some Free) more rest = dull reply.Stale refl
+  taken-way tag (Some (Taken command reads)) more rest = leader-way tag command (more command reads) (λ leads. rest command reads refl leads)
+  taken-way tag (Some (Flying command share standing)) more rest = dull reply.Stale refl
+  taken-way tag (Some (Ended command st share)) more rest = dull reply.Stale refl
+
+  pub ended-way : (tag : ℕ) (found : Option Tag) (more : Command → After)
+      → ((command : Command) (st : StatusField) (share : Option Share) → found ≡ Some (Ended command st share) → (command.leader == tag) ≡ true → P (more command))
+      → P (for_ended tag found w more)
+  ended-way tag None more rest = dull reply.Ignored refl
+  ended-way tag (Some Free) more rest = dull reply.Stale refl
+  ended-way tag (Some (Taken command reads)) more rest = dull reply.Stale refl
+  ended-way tag (Some (Flying command share standing)) more rest = dull reply.Stale refl
+  ended-way tag (Some (Ended command st share)) more rest = leader-way tag command (more command) (λ leads. rest command st share refl leads)
 
   pub held-way : (found : Option (Option Held)) (more : Held → After) → ((h : Held) → found ≡ Some (Some h) → P (more h)) → P (for_held found w more)
   held-way None more rest = dull reply.Ignored refl

@@ -1,6 +1,7 @@
--- When a guest's private controller and the world stand for one another. Registers, queues, blocks and commands are the same in both; memory is,
--- but for what a bounced Read has read and not delivered yet, which the private controller has and the guest's memory hasn't. No promise cites
--- it; the laws behind them rest on it (profile).
+-- When a guest's private controller and the world stand for one another. Registers, queues, blocks and commands are the same in both, each
+-- command under the name of the tag that it goes by, with what has come of the shares of all its tags; memory is, but for what a bounced Read
+-- has read and not delivered yet, which the private controller has and the guest's memory hasn't. No promise cites it; the laws behind them rest
+-- on it (profile).
 use Rattle.std.specs.Prelude.{◌≡◌, ℕ, ◌+◌, ◌*◌, ◌<◌, Bool, true, false, not, ◌&&◌, ◌==◌, if◌then◌else◌, List, All, slice_get, Option, Some, None}
 use Rattle.std.specs.Bool.{⊤}
 use Rattle.std.specs.List.{list_any}
@@ -20,13 +21,15 @@ use Rattle.nv_world_model.specs.Area.{bounce_page}
 use Rattle.nv_world_model.specs.Device.{Held}
 use Rattle.nv_world_model.specs.Geometry.{Geometry, Guest, regions_of, shape_of}
 use Rattle.nv_world_model.specs.Plan.{Answer, Bounced, Direct, NoData, Plan}
+use Rattle.nv_world_model.specs.Share.{Share}
 use Rattle.nv_world_model.specs.Seat.{completion_at, held_in, members, tells_difference, work_of}
 use Rattle.nv_world_model.specs.View.{own_held, own_tag}
 use Rattle.nv_world_model.specs.World.{Answered, Ended, Flying, Free, InDevice, Queued, Standing, Tag, Taken, World, tag_of}
 
 -- ---- the units that are left
 
--- whether the unit of a number is left: of a command in the device, of one that waits for it, and of one that it is done with
+-- whether the unit of a number is left of a tag's share, by the share's own numbers: of one in the device, of one that waits for it, and of one
+-- that it is done with
 abbrev pub is_left : Option Held → (number : ℕ) → Bool
 is_left None number = true
 is_left (Some h) number = list_any (λ k. k == number) h.left
@@ -57,17 +60,17 @@ plan_hides (Direct work) left addr = false
 plan_hides (Bounced work) left addr =
     is_read work.opcode && list_any (λ k. not (left k) && block_names work k addr) (numbers_of work)
 
-abbrev pub ended_hides : Option Plan → (addr : ℕ) → Bool
+abbrev pub ended_hides : Option Share → (addr : ℕ) → Bool
 ended_hides None addr = false
-ended_hides (Some plan) addr = plan_hides plan none_left addr
+ended_hides (Some share) addr = plan_hides share.plan none_left addr
 
--- whether the command in a tag hides a byte
+-- whether the share in a tag hides a byte
 abbrev pub hides : Option Tag → Option Held → (addr : ℕ) → Bool
 hides None held addr = false
 hides (Some Free) held addr = false
 hides (Some (Taken command reads)) held addr = false
-hides (Some (Flying command plan standing)) held addr = plan_hides plan (left_where standing held) addr
-hides (Some (Ended command st plan)) held addr = ended_hides plan addr
+hides (Some (Flying command share standing)) held addr = plan_hides share.plan (left_where standing held) addr
+hides (Some (Ended command st share)) held addr = ended_hides share addr
 
 -- ---- bounce pages
 
@@ -92,16 +95,16 @@ HasBuffer (Bounced work) left bounce host memory =
 
 -- ---- tags
 
--- a command that was handed on still has the verdict of which its plan was made, and its bounced bytes are the private controller's
-pub record IsUnderWay (guest : Guest) (entry : List ℕ) (plan : Plan) (left : ℕ → Bool) (bounce : ℕ) (host memory : ℕ → ℕ) : Type 0 where
-  pub steady : (work : Work) → work_of plan ≡ Some work → verdict_in (shape_of guest) (image (regions_of guest) host) entry ≡ Go work
-  pub buffer : HasBuffer plan left bounce host memory
+-- a command that was handed on still has the verdict of which its plan was made, and the bounced bytes of this share are the private controller's
+pub record IsUnderWay (guest : Guest) (entry : List ℕ) (share : Share) (left : ℕ → Bool) (bounce : ℕ) (host memory : ℕ → ℕ) : Type 0 where
+  pub steady : (work : Work) → work_of share.whole ≡ Some work → verdict_in (shape_of guest) (image (regions_of guest) host) entry ≡ Go work
+  pub buffer : HasBuffer share.plan left bounce host memory
 
 -- no Read differs
 abbrev pub NoReadDiffers : Plan → (differed : Bool) → Type 0
 NoReadDiffers plan differed = (work : Work) → work_of plan ≡ Some work → is_read work.opcode ≡ true → differed ≡ false
 
--- a status is that of a command all of whose units have moved: none failed
+-- a status is that of a share all of whose units have moved: none failed
 pub record IsMovedStatus (plan : Plan) (st : StatusField) : Type 0 where
   pub status : st ≡ moved_status (tells_difference st)
   pub no_read : NoReadDiffers plan (tells_difference st)
@@ -118,23 +121,24 @@ AreReadsShown guest entry host reads =
     All (ShowsOn (image (regions_of guest) host)
     (asked (image (regions_of guest) host) (judge (shape_of guest).mapped (shape_of guest).limit (shape_of guest).blocks entry))) reads
 
-abbrev pub HasEndedWell : Option Plan → Guest → (entry : List ℕ) → StatusField → (bounce : ℕ) → (host memory : ℕ → ℕ) → Type 0
+abbrev pub HasEndedWell : Option Share → Guest → (entry : List ℕ) → StatusField → (bounce : ℕ) → (host memory : ℕ → ℕ) → Type 0
 HasEndedWell None guest entry st bounce host memory = ⊤
-HasEndedWell (Some plan) guest entry st bounce host memory = IsUnderWay guest entry plan none_left bounce host memory × IsMovedStatus plan st
+HasEndedWell (Some share) guest entry st bounce host memory =
+    IsUnderWay guest entry share none_left bounce host memory × IsMovedStatus share.plan st
 
 -- a tag of the guest's; `held` is what the device holds of it, `status_at` the status in a slot of the completion ring
 abbrev pub IsTagRelated : Option Tag → Guest → Option Held → (status_at : ℕ → StatusField) → (bounce : ℕ) → (host memory : ℕ → ℕ) → Type 0
 IsTagRelated None guest held status_at bounce host memory = ⊤
 IsTagRelated (Some Free) guest held status_at bounce host memory = ⊤
 IsTagRelated (Some (Taken command reads)) guest held status_at bounce host memory = AreReadsShown guest command.entry host reads
-IsTagRelated (Some (Flying command plan standing)) guest held status_at bounce host memory =
-    IsUnderWay guest command.entry plan (left_where standing held) bounce host memory × StandsWell standing plan held status_at
-IsTagRelated (Some (Ended command st plan)) guest held status_at bounce host memory =
-    HasEndedWell plan guest command.entry st bounce host memory
+IsTagRelated (Some (Flying command share standing)) guest held status_at bounce host memory =
+    IsUnderWay guest command.entry share (left_where standing held) bounce host memory × StandsWell standing share.plan held status_at
+IsTagRelated (Some (Ended command st share)) guest held status_at bounce host memory =
+    HasEndedWell share guest command.entry st bounce host memory
 
 -- ---- the relation
 
--- no command of the guest's hides a byte
+-- no tag of the guest's hides a byte
 abbrev pub NoneHides : (number : ℕ) → World → (addr : ℕ) → Type 0
 NoneHides number w addr =
     (lane tag : ℕ) → hides (own_tag number (tag_of w lane tag)) (own_held number (tag_of w lane tag) (held_in (slice_get w.device lane) tag)) addr ≡ false

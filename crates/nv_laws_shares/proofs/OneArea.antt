@@ -1,4 +1,4 @@
--- What is written for the whole as one share is what is written for the plan.
+-- CDW10 to CDW12 of the whole as one share are by the fields of the entry, and with one extent there is no other share.
 use Rattle.std.proofs.Common.{◌≡◌, ℕ, ◌+◌, ◌-◌, ◌*◌, ◌^◌, Bool, true, false, List, [], ◌∷◌, ◌++◌, length, Some, refl, ap, ◌∙◌, subst, arith}
 use Rattle.std.specs.List.{slice_get}
 use Rattle.nv_entry.specs.Status.{bit}
@@ -9,11 +9,11 @@ use Rattle.nv_model.specs.Judge.{ClearBlock, Clear, Form, Go, Keep, Manage, Move
 use Rattle.nv_model.proofs.Judged.{IsSoundWork}
 use Rattle.nv_model.proofs.Units.{clear_units-at, move_units-at}
 use Rattle.nv_prp.specs.Fits.{places_fit}
-use Rattle.nv_world_model.specs.Area.{bounced_bytes, form_bounced, form_dwords, plan_dwords, two_dwords}
-use Rattle.nv_world_model.specs.Geometry.{Guest}
-use Rattle.nv_world_model.specs.Plan.{Answer, Bounced, Direct, NoData, Plan, go_plan, plan_of, transfer_plan}
+use Rattle.nv_world_model.specs.Area.{two_dwords}
+use Rattle.nv_world_model.specs.Plan.{go_plan, plan_of, transfer_plan}
 use Rattle.nv_world_model.specs.Share.{shares_of, whole_share}
-use Rattle.nv_world_model.specs.ShareArea.{first_lba, form_own_bytes, own_bytes, own_dwords, unit_lba, work_dwords}
+use Rattle.nv_world_model.specs.ShareArea.{first_lba, own_dwords, unit_lba, work_dwords}
+use Rattle.nv_laws_shares.specs.ByEntry.{entry_dwords}
 use Rattle.nv_world_model.proofs.OneExtent.{IsRun, IsRun-clear, IsRun-transfer, shares_of-one}
 
 -- ---- dwords
@@ -34,7 +34,7 @@ run-dwords entry ns work lba run first is =
     ∙ ap (λ (n : ℕ). two_dwords (place_in ns (slba_of entry)) ++ (n + 2 ^ 30 * bit (is_fua entry)) ∷ []) count
 
 form-dwords : (form : Form) (mapped : ℕ → Bool) (entry : List ℕ) (ns : Namespace) (work : Work) → IsSoundWork mapped (blocks_in ns) entry work
-    → form_of work.opcode ≡ form → work_dwords form ns entry work ≡ form_dwords form ns entry
+    → form_of work.opcode ≡ form → work_dwords form ns entry work ≡ entry_dwords form ns entry
 form-dwords (Transfer dest) mapped entry ns work sound form =
     let units = sound.units ∙ ap (λ (f : Form). form_units f (blocks_in ns) entry work.ranges) form in
     let first = first-unit work.units (MoveBlock 0 (slba_of entry + 0)) (ap (λ (us : List WorkUnit). slice_get us 0) units
@@ -53,9 +53,9 @@ form-dwords Keep mapped entry ns work sound form = refl
 
 go-dwords : (form : Form) (regions : List Region) (mapped : ℕ → Bool) (entry : List ℕ) (ns : Namespace) (work : Work)
     → IsSoundWork mapped (blocks_in ns) entry work
-    → own_dwords (go_plan form regions work) ns entry ≡ plan_dwords (go_plan form regions work) ns entry
+    → own_dwords (go_plan form regions work) ns entry ≡ entry_dwords (form_of work.opcode) ns entry
 go-dwords (Transfer dest) regions mapped entry ns work sound =
-    elim (places_fit regions work.pieces) as (λ b. own_dwords (transfer_plan b work) ns entry ≡ plan_dwords (transfer_plan b work) ns entry) [
+    elim (places_fit regions work.pieces) as (λ b. own_dwords (transfer_plan b work) ns entry ≡ entry_dwords (form_of work.opcode) ns entry) [
       | true ↦ form-dwords (form_of work.opcode) mapped entry ns work sound refl
       | false ↦ form-dwords (form_of work.opcode) mapped entry ns work sound refl
     ]
@@ -65,23 +65,8 @@ go-dwords Keep regions mapped entry ns work sound = form-dwords (form_of work.op
 
 pub own_dwords-whole : (regions : List Region) (mapped : ℕ → Bool) (entry : List ℕ) (ns : Namespace) (work : Work)
     → IsSoundWork mapped (blocks_in ns) entry work
-    → own_dwords (plan_of regions (Go work)) ns entry ≡ plan_dwords (plan_of regions (Go work)) ns entry
+    → own_dwords (plan_of regions (Go work)) ns entry ≡ entry_dwords (form_of work.opcode) ns entry
 own_dwords-whole regions mapped entry ns work sound = go-dwords (form_of work.opcode) regions mapped entry ns work sound
-
--- ---- bytes
-
-form-bytes : (form : Form) (guest : Guest) (host : ℕ → ℕ) (work : Work)
-    → form_own_bytes form guest.namespace guest host work ≡ form_bounced form guest host work
-form-bytes (Transfer dest) guest host work = refl
-form-bytes Clear guest host work = refl
-form-bytes Manage guest host work = refl
-form-bytes Keep guest host work = refl
-
-pub own_bytes-plan : (plan : Plan) (guest : Guest) (host : ℕ → ℕ) → own_bytes plan guest.namespace guest host ≡ bounced_bytes plan guest host
-own_bytes-plan (Answer st) guest host = refl
-own_bytes-plan (NoData work) guest host = refl
-own_bytes-plan (Direct work) guest host = refl
-own_bytes-plan (Bounced work) guest host = form-bytes (form_of work.opcode) guest host work
 
 -- ---- one extent
 

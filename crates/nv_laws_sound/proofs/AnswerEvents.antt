@@ -1,5 +1,6 @@
 -- A command in the device is answered: its completion waits in the slot that is written next.
-use Rattle.std.proofs.Common.{◌≡◌, ℕ, ◌+◌, ◌%◌, ◌^◌, ◌<◌, ◌≤◌, ◌⊎◌, inl, inr, Bool, false, ◌==◌, List, [], ◌∷◌, length, set, slice_get, Option, Some, None, arith, refl, sym, ap, ◌∙◌, eq-eqb, subst}
+use Rattle.std.proofs.Common.{◌≡◌, ℕ, ◌+◌, ◌%◌, ◌^◌, ◌<◌, ◌≤◌, ◌⊎◌, inl, inr, Bool, false, ◌==◌, List}
+use Rattle.std.proofs.Common.{[], ◌∷◌, length, set, slice_get, Option, Some, None, arith, refl, sym, ap, ◌∙◌, eq-eqb, subst}
 use Rattle.std.specs.Prelude.{◌≢◌}
 use Rattle.std.proofs.lemmas.Bool.{cases_eq, cases_lt, eqb-false}
 use Rattle.nv_entry.specs.Completion.{cid_of as completed_cid, completion}
@@ -14,13 +15,13 @@ use Rattle.nv_world_model.specs.Area.{completion_slot, lane_start, list_page, qu
 use Rattle.nv_world_model.specs.Contained.{is_answered_at, is_queued_at, tag_stands}
 use Rattle.nv_world_model.specs.Device.{DeviceLane, Held, completion_posted, completion_written, held_status, next_phase}
 use Rattle.nv_world_model.specs.Geometry.{Geometry}
-use Rattle.nv_world_model.specs.Plan.{Plan}
+use Rattle.nv_world_model.specs.Share.{Share}
 use Rattle.nv_world_model.specs.Step.{device_fail, device_post, device_posted, is_success, step}
 use Rattle.nv_world_model.specs.declared.event.Event.TheVariants as event
 use Rattle.nv_world_model.specs.World.{Answered, Command, Flying, InDevice, Lane, Tag, World, tag_changed}
 use Rattle.nv_world_model.proofs.Seats.{slice_get-set}
 use Rattle.nv_laws_sound.specs.Area.{SameBetween, SameInLane}
-use Rattle.nv_laws_sound.specs.Consistent.{IsBetween, IsConsistent, IsLane, IsTag, SomeStands, waits_for_device, waits_for_mediator}
+use Rattle.nv_laws_sound.specs.Consistent.{IsBetween, IsConsistentOfTags, IsLane, IsTag, SomeStands, waits_for_device, waits_for_mediator}
 use Rattle.nv_laws_sound.specs.LaidOut.{IsLaidOut}
 use Rattle.nv_laws_sound.proofs.Changes.{world-lane}
 use Rattle.nv_laws_sound.proofs.Lists.{count-fewer, count-set, length-set, slice_get-below, slice_get-there}
@@ -92,16 +93,16 @@ module _ (geometry : Geometry) (lanes lane : ℕ) (host : ℕ → ℕ) (d : Devi
 
 -- ---- the lane
 
-answered-lane : (geometry : Geometry) (lanes lane tag : ℕ) (host : ℕ → ℕ) (st : StatusField) (l : Lane) (d : DeviceLane) (h : Held) (command : Command) (plan : Plan)
+answered-lane : (geometry : Geometry) (lanes lane tag : ℕ) (host : ℕ → ℕ) (st : StatusField) (l : Lane) (d : DeviceLane) (h : Held) (command : Command) (share : Share)
     → geometry.mediator % page ≡ 0 → lane < lanes → IsLane geometry lane host l d
-    → slice_get l.tags tag ≡ Some (Flying command plan InDevice) → slice_get d.held tag ≡ Some (Some h)
+    → slice_get l.tags tag ≡ Some (Flying command share InDevice) → slice_get d.held tag ≡ Some (Some h)
     → IsLane geometry lane (stored host (completion_slot geometry.mediator lane d.posted) (completion 0 d.head (queue_pair lane) tag d.phase st))
-    (tag_changed tag (Flying command plan (Answered d.posted)) l) (completion_posted tag d)
-answered-lane geometry lanes lane tag host st l d h command plan aligned below is at there =
+    (tag_changed tag (Flying command share (Answered d.posted)) l) (completion_posted tag d)
+answered-lane geometry lanes lane tag host st l d h command share aligned below is at there =
     let tags = is.positions.tags in
-    let among = slice_get-below l.tags tag (Flying command plan InDevice) at in
+    let among = slice_get-below l.tags tag (Flying command share InDevice) at in
     let tag_below : tag < tag_count = omega (arith, tags, among) in
-    let waiting = count-fewer (tag_stands waits_for_mediator) l.tags tag (Flying command plan InDevice) at refl in
+    let waiting = count-fewer (tag_stands waits_for_mediator) l.tags tag (Flying command share InDevice) at refl in
     let many = is.answered_count in
     let room : far l.head d.posted < 64 = omega (arith, waiting, many, tags) in
     let bytes = completion 0 d.head (queue_pair lane) tag d.phase st in
@@ -110,12 +111,13 @@ answered-lane geometry lanes lane tag host st l d h command plan aligned below i
     let memory = stored host slot bytes in
     let now = completion_posted tag d in
     let shown : bytes_from memory slot cqe_size ≡ bytes = subst (λ n. bytes_from memory slot n ≡ bytes) sized (bytes_from-stored host slot bytes) in
-    let was = is.tags tag (Flying command plan InDevice) (Some h) at there in
-    let own : IsTag geometry lane tag memory l.head now None (Flying command plan (Answered d.posted)) =
+    let was = is.tags tag (Flying command share InDevice) (Some h) at there in
+    let own : IsTag geometry lane tag memory l.head now None (Flying command share (Answered d.posted)) =
     record {
       guest = was.guest;
       is = was.is;
       planned = was.planned;
+      some = was.some;
       stands = (
         record {
           slot = between-tail l.head d.posted is.positions.read is.positions.posted room;
@@ -130,63 +132,63 @@ answered-lane geometry lanes lane tag host st l d h command plan aligned below i
         tail = is.positions.tail;
         posted = next-below d.posted is.positions.posted;
         read = is.positions.read;
-        tags = length-set l.tags tag (Flying command plan (Answered d.posted)) ∙ is.positions.tags;
+        tags = length-set l.tags tag (Flying command share (Answered d.posted)) ∙ is.positions.tags;
         held = length-set d.held tag None ∙ is.positions.held;
       };
-      tags = tags-with (λ other o x. IsTag geometry lane other memory l.head now o x) l.tags d.held tag (Flying command plan (Answered d.posted)) None own
+      tags = tags-with (λ other o x. IsTag geometry lane other memory l.head now o x) l.tags d.held tag (Flying command share (Answered d.posted)) None own
           (λ other x o apart here under.
           (let other_among = slice_get-below l.tags other x here in
           tag-kept geometry lane other host memory aligned l.head l.head d now o x
           (answer-undisturbed geometry lanes lane host d bytes sized below is.positions.posted other l.head (set d.held tag None) (next_phase d.posted d.phase) x
           (omega (arith, tags, other_among)) is.positions.read is.positions.head is.positions.tail room)
           (is.tags other x o here under)));
-      queued = (λ place between. stands-kept (is_queued_at place) l.tags tag (Flying command plan InDevice) (Flying command plan (Answered d.posted)) at refl (is.queued place between));
+      queued = (λ place between. stands-kept (is_queued_at place) l.tags tag (Flying command share InDevice) (Flying command share (Answered d.posted)) at refl (is.queued place between));
       answered = (λ place between. answers place between (cases_eq place d.posted) room);
-      queued_count = count-kept waits_for_device l.tags tag (Flying command plan InDevice) (Flying command plan (Answered d.posted)) at refl ∙ is.queued_count;
+      queued_count = count-kept waits_for_device l.tags tag (Flying command share InDevice) (Flying command share (Answered d.posted)) at refl ∙ is.queued_count;
       answered_count =
-          (let changed = count-set (tag_stands waits_for_mediator) l.tags tag (Flying command plan InDevice) (Flying command plan (Answered d.posted)) at in
+          (let changed = count-set (tag_stands waits_for_mediator) l.tags tag (Flying command share InDevice) (Flying command share (Answered d.posted)) at in
           let further = far-more l.head d.posted is.positions.read is.positions.posted room in
           omega (arith, changed, further, many));
     }
   where
     answers : (place : ℕ) → IsBetween l.head (next_slot ring_size d.posted) place → (place ≡ d.posted) ⊎ (place ≢ d.posted) → far l.head d.posted < 64
-        → SomeStands (is_answered_at place) (set l.tags tag (Flying command plan (Answered d.posted)))
+        → SomeStands (is_answered_at place) (set l.tags tag (Flying command share (Answered d.posted)))
     answers place between (inl same) room =
         record {
           tag = tag;
-          there = Flying command plan (Answered d.posted);
-          is = slice_get-set l.tags tag (Flying command plan InDevice) (Flying command plan (Answered d.posted)) at;
+          there = Flying command share (Answered d.posted);
+          is = slice_get-set l.tags tag (Flying command share InDevice) (Flying command share (Answered d.posted)) at;
           stands = eq-eqb d.posted place (sym same);
         }
     answers place between (inr differ) room =
-        stands-kept (is_answered_at place) l.tags tag (Flying command plan InDevice) (Flying command plan (Answered d.posted)) at refl
+        stands-kept (is_answered_at place) l.tags tag (Flying command share InDevice) (Flying command share (Answered d.posted)) at refl
         (is.answered place (between-new l.head d.posted place is.positions.read is.positions.posted room between differ))
 
 -- ---- the events
 
 module _ (host_bytes : ℕ) (geometry : Geometry) where
   device_posted-consistent : (w : World) (lane tag : ℕ) (st : StatusField) (l : Lane) (d : DeviceLane) (h : Held) (t : Tag)
-      → IsLaidOut host_bytes (length w.lanes) geometry → IsConsistent geometry w
+      → IsLaidOut host_bytes (length w.lanes) geometry → IsConsistentOfTags geometry w
       → slice_get w.lanes lane ≡ Some l → slice_get w.device lane ≡ Some d → slice_get l.tags tag ≡ Some t → slice_get d.held tag ≡ Some (Some h)
-      → IsConsistent geometry (device_posted geometry.mediator lane tag st d w)
+      → IsConsistentOfTags geometry (device_posted geometry.mediator lane tag st d w)
   unfolding device_posted completion_written
   device_posted-consistent w lane tag st l d h t laid is at there found held =
       let before = is.lanes lane l d at there in
       let below = slice_get-below w.lanes lane l at in
       let holds = held-flies geometry lane tag w.host l.head d h t (before.tags tag t (Some h) found held) in
-      let flies : slice_get l.tags tag ≡ Some (Flying holds.command holds.plan InDevice) = found ∙ ap (λ x. Some x) holds.flies in
+      let flies : slice_get l.tags tag ≡ Some (Flying holds.command holds.share InDevice) = found ∙ ap (λ x. Some x) holds.flies in
       let bytes = completion 0 d.head (queue_pair lane) tag d.phase st in
       let memory = stored w.host (completion_slot geometry.mediator lane d.posted) bytes in
-      let behind = answered-lane geometry (length w.lanes) lane tag w.host st l d h holds.command holds.plan laid.pages below before flies held in
-      subst (IsConsistent geometry)
-      (sym (stands-is w lane tag l d holds.command holds.plan InDevice (Answered d.posted) memory (completion_posted tag) at there flies))
-      (world-lane geometry w lane memory (tag_changed tag (Flying holds.command holds.plan (Answered d.posted)) l) (completion_posted tag d) laid.pages
+      let behind = answered-lane geometry (length w.lanes) lane tag w.host st l d h holds.command holds.share laid.pages below before flies held in
+      subst (IsConsistentOfTags geometry)
+      (sym (stands-is w lane tag l d holds.command holds.share InDevice (Answered d.posted) memory (completion_posted tag) at there flies))
+      (world-lane geometry w lane memory (tag_changed tag (Flying holds.command holds.share (Answered d.posted)) l) (completion_posted tag d) laid.pages
       (written-elsewhere geometry (length w.lanes) lane w.host d bytes (length-completion 0 d.head (queue_pair lane) tag d.phase st) below before.positions.posted) behind is)
 
   -- where the device holds a command
   held-posted : (w : World) (lane slot : ℕ) (st : StatusField) (d : DeviceLane) (h : Held) → IsLaidOut host_bytes (length w.lanes) geometry
-      → IsConsistent geometry w → slice_get w.device lane ≡ Some d → slice_get d.held slot ≡ Some (Some h)
-      → IsConsistent geometry (device_posted geometry.mediator lane slot st d w)
+      → IsConsistentOfTags geometry w → slice_get w.device lane ≡ Some d → slice_get d.held slot ≡ Some (Some h)
+      → IsConsistentOfTags geometry (device_posted geometry.mediator lane slot st d w)
   held-posted w lane slot st d h laid is there held =
       let among = slice_get-below w.device lane d there in
       let sides = is.sides in
@@ -199,23 +201,23 @@ module _ (host_bytes : ℕ) (geometry : Geometry) where
       device_posted-consistent w lane slot st l.0 d h t.0 laid is l.1 there t.1 held
 
   post-left : (left : List ℕ) (w : World) (lane slot : ℕ) (d : DeviceLane) (h : Held) → IsLaidOut host_bytes (length w.lanes) geometry
-      → IsConsistent geometry w → slice_get w.device lane ≡ Some d → slice_get d.held slot ≡ Some (Some h)
-      → IsConsistent geometry (device_post left geometry.mediator lane slot h d w).world
+      → IsConsistentOfTags geometry w → slice_get w.device lane ≡ Some d → slice_get d.held slot ≡ Some (Some h)
+      → IsConsistentOfTags geometry (device_post left geometry.mediator lane slot h d w).world
   post-left [] w lane slot d h laid is there held = held-posted w lane slot (held_status h) d h laid is there held
   post-left (number ∷ left) w lane slot d h laid is there held = is
 
-  pub device_posts-consistent : (w : World) (lane slot : ℕ) → IsLaidOut host_bytes (length w.lanes) geometry → IsConsistent geometry w
-      → IsConsistent geometry (step geometry (event.DevPost lane slot) w).world
+  pub device_posts-consistent : (w : World) (lane slot : ℕ) → IsLaidOut host_bytes (length w.lanes) geometry → IsConsistentOfTags geometry w
+      → IsConsistentOfTags geometry (step geometry (event.DevPost lane slot) w).world
   unfolding step
   device_posts-consistent w lane slot laid is =
-      device-walk (IsConsistent geometry) w is (slice_get w.device lane) _ (λ d there.
-      held-walk (IsConsistent geometry) w is (slice_get d.held slot) (λ h. device_post h.left geometry.mediator lane slot h d w) (λ h held.
+      device-walk (IsConsistentOfTags geometry) w is (slice_get w.device lane) _ (λ d there.
+      held-walk (IsConsistentOfTags geometry) w is (slice_get d.held slot) (λ h. device_post h.left geometry.mediator lane slot h d w) (λ h held.
       post-left h.left w lane slot d h laid is there held))
 
-  pub device_fails-consistent : (w : World) (lane slot : ℕ) (st : StatusField) → IsLaidOut host_bytes (length w.lanes) geometry → IsConsistent geometry w
-      → IsConsistent geometry (step geometry (event.DevFail lane slot st) w).world
+  pub device_fails-consistent : (w : World) (lane slot : ℕ) (st : StatusField) → IsLaidOut host_bytes (length w.lanes) geometry → IsConsistentOfTags geometry w
+      → IsConsistentOfTags geometry (step geometry (event.DevFail lane slot st) w).world
   unfolding step
   device_fails-consistent w lane slot st laid is =
-      device-walk (IsConsistent geometry) w is (slice_get w.device lane) _ (λ d there.
-      held-walk (IsConsistent geometry) w is (slice_get d.held slot) (λ h. device_fail geometry.mediator lane slot st d w) (λ h held.
-      either (IsConsistent geometry) w is (is_success st) _ _ (λ good. is) (λ bad. held-posted w lane slot st d h laid is there held)))
+      device-walk (IsConsistentOfTags geometry) w is (slice_get w.device lane) _ (λ d there.
+      held-walk (IsConsistentOfTags geometry) w is (slice_get d.held slot) (λ h. device_fail geometry.mediator lane slot st d w) (λ h held.
+      either (IsConsistentOfTags geometry) w is (is_success st) _ _ (λ good. is) (λ bad. held-posted w lane slot st d h laid is there held)))

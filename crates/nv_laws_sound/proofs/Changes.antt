@@ -12,7 +12,7 @@ use Rattle.nv_world_model.specs.Device.{DeviceLane}
 use Rattle.nv_world_model.specs.Geometry.{Geometry, Guest, regions_of}
 use Rattle.nv_world_model.specs.World.{Lane, Tag, World, with_controller, with_host}
 use Rattle.nv_laws_sound.specs.Area.{SameInLane}
-use Rattle.nv_laws_sound.specs.Consistent.{IsConsistent, IsLane}
+use Rattle.nv_laws_sound.specs.Consistent.{IsConsistentOfTags, IsLane}
 use Rattle.nv_laws_sound.specs.LaidOut.{IsLaidOut}
 use Rattle.nv_laws_sound.proofs.Lists.{IsThere, Put, Was, length-set, set-there, slice_get-below, some-same}
 use Rattle.nv_laws_sound.proofs.Shows.{same-part}
@@ -60,7 +60,7 @@ put_image-area host_bytes lanes geometry number guest memory host lane laid give
 -- the host changes, and no byte of any lane does
 pub host-consistent : (geometry : Geometry) (w : World) (other : ℕ → ℕ) → geometry.mediator % page ≡ 0
     → ((lane : ℕ) → lane < length w.lanes → SameInLane w.host other geometry.mediator lane)
-    → IsConsistent geometry w → IsConsistent geometry (with_host other w)
+    → IsConsistentOfTags geometry w → IsConsistentOfTags geometry (with_host other w)
 host-consistent geometry w other aligned same is =
     record {
       sides = is.sides;
@@ -72,7 +72,7 @@ host-consistent geometry w other aligned same is =
 
 -- each controller's queues are in place behind a change of one
 queues-put : (geometry : Geometry) (w : World) (number : ℕ) (guest : Guest) (c : Controller)
-    → slice_get geometry.guests number ≡ Some guest → QueuesInPlace (mapped (regions_of guest)) c → IsConsistent geometry w
+    → slice_get geometry.guests number ≡ Some guest → QueuesInPlace (mapped (regions_of guest)) c → IsConsistentOfTags geometry w
     → (other : ℕ) (g : Guest) (x : Controller) → slice_get geometry.guests other ≡ Some g → IsThere w.controllers number c other x
     → QueuesInPlace (mapped (regions_of g)) x
 queues-put geometry w number guest c given there is other g x has (Put same put) =
@@ -84,7 +84,7 @@ queues-put geometry w number guest c given there is other g x has (Was apart at)
 -- a guest's controller changes, and its queues are in its memory
 pub controller-consistent : (geometry : Geometry) (w : World) (number : ℕ) (guest : Guest) (c : Controller)
     → slice_get geometry.guests number ≡ Some guest → QueuesInPlace (mapped (regions_of guest)) c
-    → IsConsistent geometry w → IsConsistent geometry (with_controller number c w)
+    → IsConsistentOfTags geometry w → IsConsistentOfTags geometry (with_controller number c w)
 controller-consistent geometry w number guest c given there is =
     record {
       sides = is.sides;
@@ -98,8 +98,8 @@ controller-consistent geometry w number guest c given there is =
 -- one lane, the device's side of it, and the host change, the host in no byte of another lane
 pub world-lane : (geometry : Geometry) (w : World) (lane : ℕ) (other : ℕ → ℕ) (l : Lane) (d : DeviceLane) → geometry.mediator % page ≡ 0
     → ((at : ℕ) → (at == lane) ≡ false → at < length w.lanes → SameInLane w.host other geometry.mediator at)
-    → IsLane geometry lane other l d → IsConsistent geometry w
-    → IsConsistent geometry (record w { host = other; lanes = set w.lanes lane l; device = set w.device lane d })
+    → IsLane geometry lane other l d → IsConsistentOfTags geometry w
+    → IsConsistentOfTags geometry (record w { host = other; lanes = set w.lanes lane l; device = set w.device lane d })
 world-lane geometry w lane other l d aligned same now is =
     record {
       sides = length-set w.lanes lane l ∙ is.sides ∙ sym (length-set w.device lane d);

@@ -37,48 +37,48 @@ module _ (lanes : List Lane) (lane tag : ℕ) (l now : Lane) (t new : Tag) (at :
       ]
 
   -- where it has the same command, each has
-  same-by : (number a b : ℕ) → command_in (Some new) number ≡ command_in (Some t) number
+  same-by : (number a b : ℕ) → command_in (Some new) tag number ≡ command_in (Some t) tag number
       → (a ≡ lane) ⊎ (a ≡ lane → ⊥) → (b ≡ tag) ⊎ (b ≡ tag → ⊥)
-      → command_in (tag_in (slice_get (set lanes lane now) a) b) number ≡ command_in (tag_in (slice_get lanes a) b) number
+      → command_in (tag_in (slice_get (set lanes lane now) a) b) b number ≡ command_in (tag_in (slice_get lanes a) b) b number
   same-by number a b same (inl here) (inl there) =
-      subst (λ x. command_in (tag_in (slice_get (set lanes lane now) x) b) number ≡ command_in (tag_in (slice_get lanes x) b) number) (sym here)
-      (subst (λ x. command_in (tag_in (slice_get (set lanes lane now) lane) x) number ≡ command_in (tag_in (slice_get lanes lane) x) number) (sym there)
-      (ap (λ o. command_in o number) tag-here ∙ same ∙ sym (ap (λ o. command_in o number) (ap (λ o. tag_in o tag) at ∙ found))))
-  same-by number a b same (inl here) (inr other) = ap (λ o. command_in o number) (tag-elsewhere a b (λ _ there. other there))
-  same-by number a b same (inr other) any = ap (λ o. command_in o number) (tag-elsewhere a b (λ here _. other here))
+      subst (λ x. command_in (tag_in (slice_get (set lanes lane now) x) b) b number ≡ command_in (tag_in (slice_get lanes x) b) b number) (sym here)
+      (subst (λ x. command_in (tag_in (slice_get (set lanes lane now) lane) x) x number ≡ command_in (tag_in (slice_get lanes lane) x) x number) (sym there)
+      (ap (λ o. command_in o tag number) tag-here ∙ same ∙ sym (ap (λ o. command_in o tag number) (ap (λ o. tag_in o tag) at ∙ found))))
+  same-by number a b same (inl here) (inr other) = ap (λ o. command_in o b number) (tag-elsewhere a b (λ _ there. other there))
+  same-by number a b same (inr other) any = ap (λ o. command_in o b number) (tag-elsewhere a b (λ here _. other here))
 
   pub same-commands : (w z : World) (number : ℕ) → w.lanes ≡ lanes → z.lanes ≡ set lanes lane now
-      → command_in (Some new) number ≡ command_in (Some t) number → commands z number ≡ commands w number
+      → command_in (Some new) tag number ≡ command_in (Some t) tag number → commands z number ≡ commands w number
   unfolding commands
   same-commands w z number was is same =
       fun_ext (λ name.
-      ap (λ ls. command_in (tag_in (slice_get ls (name / tag_count)) (name % tag_count)) number) is
+      ap (λ ls. command_in (tag_in (slice_get ls (name / tag_count)) (name % tag_count)) (name % tag_count) number) is
       ∙ same-by number (name / tag_count) (name % tag_count) same (cases_eq (name / tag_count) lane) (cases_eq (name % tag_count) tag)
-      ∙ sym (ap (λ ls. command_in (tag_in (slice_get ls (name / tag_count)) (name % tag_count)) number) was))
+      ∙ sym (ap (λ ls. command_in (tag_in (slice_get ls (name / tag_count)) (name % tag_count)) (name % tag_count) number) was))
 
   -- otherwise the tag's name has the new one
   put-by : (number name : ℕ) → tag < tag_count → (name ≡ name_of lane tag) ⊎ (name ≡ name_of lane tag → ⊥) → (bag : Bag)
-      → ((n : ℕ) → bag n ≡ command_in (tag_in (slice_get lanes (n / tag_count)) (n % tag_count)) number)
-      → command_in (tag_in (slice_get (set lanes lane now) (name / tag_count)) (name % tag_count)) number ≡ put bag (name_of lane tag) (command_in (Some new) number) name
+      → ((n : ℕ) → bag n ≡ command_in (tag_in (slice_get lanes (n / tag_count)) (n % tag_count)) (n % tag_count) number)
+      → command_in (tag_in (slice_get (set lanes lane now) (name / tag_count)) (name % tag_count)) (name % tag_count) number ≡ put bag (name_of lane tag) (command_in (Some new) tag number) name
   put-by number name below (inl same) bag was =
       let in_lane : name / tag_count ≡ lane = omega (arith, same, below) in
       let in_tag : name % tag_count ≡ tag = omega (arith, same, below) in
-      ap (λ a. command_in (tag_in (slice_get (set lanes lane now) a) (name % tag_count)) number) in_lane
-      ∙ ap (λ b. command_in (tag_in (slice_get (set lanes lane now) lane) b) number) in_tag
-      ∙ ap (λ o. command_in o number) tag-here
-      ∙ sym (ap (λ n. put bag (name_of lane tag) (command_in (Some new) number) n) same ∙ put-here bag (name_of lane tag) (command_in (Some new) number))
+      ap (λ a. command_in (tag_in (slice_get (set lanes lane now) a) (name % tag_count)) (name % tag_count) number) in_lane
+      ∙ ap (λ b. command_in (tag_in (slice_get (set lanes lane now) lane) b) b number) in_tag
+      ∙ ap (λ o. command_in o tag number) tag-here
+      ∙ sym (ap (λ n. put bag (name_of lane tag) (command_in (Some new) tag number) n) same ∙ put-here bag (name_of lane tag) (command_in (Some new) tag number))
   put-by number name below (inr other) bag was =
-      ap (λ o. command_in o number) (tag-elsewhere (name / tag_count) (name % tag_count) (λ here there. other (omega (arith, here, there))))
-      ∙ sym (was name) ∙ sym (put-elsewhere bag (name_of lane tag) (command_in (Some new) number) name other)
+      ap (λ o. command_in o (name % tag_count) number) (tag-elsewhere (name / tag_count) (name % tag_count) (λ here there. other (omega (arith, here, there))))
+      ∙ sym (was name) ∙ sym (put-elsewhere bag (name_of lane tag) (command_in (Some new) tag number) name other)
 
   pub put-commands : (w z : World) (number : ℕ) → tag < tag_count → w.lanes ≡ lanes → z.lanes ≡ set lanes lane now
-      → commands z number ≡ put (commands w number) (name_of lane tag) (command_in (Some new) number)
+      → commands z number ≡ put (commands w number) (name_of lane tag) (command_in (Some new) tag number)
   unfolding commands
   put-commands w z number below was is =
       fun_ext (λ name.
-      ap (λ ls. command_in (tag_in (slice_get ls (name / tag_count)) (name % tag_count)) number) is
+      ap (λ ls. command_in (tag_in (slice_get ls (name / tag_count)) (name % tag_count)) (name % tag_count) number) is
       ∙ put-by number name below (cases_eq name (name_of lane tag)) (commands w number)
-      (λ n. ap (λ ls. command_in (tag_in (slice_get ls (n / tag_count)) (n % tag_count)) number) was))
+      (λ n. ap (λ ls. command_in (tag_in (slice_get ls (n / tag_count)) (n % tag_count)) (n % tag_count) number) was))
 
 -- ---- worlds with the same commands
 

@@ -13,20 +13,21 @@ use Rattle.nv_world_model.specs.World.{Free, Lane, Tag, World, opening_lane, ope
 use Rattle.nv_laws_sound.specs.Consistent.{IsConsistent}
 use Rattle.nv_laws_sound.specs.Counted.{IsCounted, command_in, commands}
 use Rattle.nv_laws_sound.specs.LaidOut.{IsLaidOut}
-use Rattle.nv_laws_sound.proofs.CountedEvents.{step-counted}
+use Rattle.nv_laws_sound.proofs.CountedSteps.{step-counted}
 use Rattle.nv_laws_sound.proofs.Lists.{slice_get-replicate}
-use Rattle.nv_laws_sound.proofs.Steps.{lanes-kept, step-consistent}
+use Rattle.nv_laws_sound.proofs.ManyLanes.{lanes-kept}
+use Rattle.nv_laws_sound.proofs.Steps.{step-consistent}
 
 -- no command is there where tags are free
-free-none : (o : Option Tag) (number : ℕ) → ((t : Tag) → o ≡ Some t → Free ≡ t) → command_in o number ≡ None
-free-none None number each = refl
-free-none (Some t) number each = sym (ap (λ x. command_in (Some x) number) (each t refl))
+free-none : (o : Option Tag) (tag number : ℕ) → ((t : Tag) → o ≡ Some t → Free ≡ t) → command_in o tag number ≡ None
+free-none None tag number each = refl
+free-none (Some t) tag number each = sym (ap (λ x. command_in (Some x) tag number) (each t refl))
 
-lane-none : (o : Option Lane) (tag number : ℕ) → ((l : Lane) → o ≡ Some l → opening_lane ≡ l) → command_in (tag_in o tag) number ≡ None
+lane-none : (o : Option Lane) (tag number : ℕ) → ((l : Lane) → o ≡ Some l → opening_lane ≡ l) → command_in (tag_in o tag) tag number ≡ None
 lane-none None tag number each = refl
 lane-none (Some l) tag number each =
-    subst (λ x. command_in (slice_get x.tags tag) number ≡ None) (each l refl)
-    (free-none (slice_get (replicate tag_count Free) tag) number (λ t at. slice_get-replicate tag_count tag Free t at))
+    subst (λ x. command_in (slice_get x.tags tag) tag number ≡ None) (each l refl)
+    (free-none (slice_get (replicate tag_count Free) tag) tag number (λ t at. slice_get-replicate tag_count tag Free t at))
 
 opening-none : (geometry : Geometry) (lanes number : ℕ) → commands (opening_world geometry lanes) number ≡ no_commands
 unfolding commands opening_world
@@ -56,4 +57,4 @@ replay-counted host_bytes geometry [] w laid fine is = is
 replay-counted host_bytes geometry (e ∷ events) w laid fine is =
     replay-counted host_bytes geometry events (step geometry e w).world
     (subst (λ n. IsLaidOut host_bytes n geometry) (sym (lanes-kept geometry w e)) laid) (step-consistent host_bytes geometry e w laid fine)
-    (step-counted geometry e w fine is)
+    (step-counted host_bytes geometry e w laid fine is)

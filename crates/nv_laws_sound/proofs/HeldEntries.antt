@@ -1,4 +1,4 @@
--- What the device makes of a physical entry: it finds the host addresses of the plan's transfer.
+-- What the device makes of a physical entry: it finds the host addresses of the share's transfer.
 use Rattle.std.proofs.Common.{◌≡◌, ℕ, ◌+◌, ◌-◌, ◌%◌, ◌^◌, ◌<◌, ◌≤◌, true, false, cond, ◌==◌, List, [], ◌∷◌, All, drop, flat_map, length, map, replicate}
 use Rattle.std.proofs.Common.{slice_get, slice_index, take, Some, arith, refl, sym, ap, ◌∙◌, subst}
 use Rattle.std.specs.List.{list_all, range_with_len}
@@ -13,7 +13,7 @@ use Rattle.nv_entry.specs.Submission.{opcode_of, prp1_of, prp2_of}
 use Rattle.nv_mem.specs.GuestMap.{mapped}
 use Rattle.nv_mem.specs.Places.{At, places_of, total_len}
 use Rattle.nv_mem.proofs.Images.{host_of-inside}
-use Rattle.nv_model.specs.Judge.{Clear, Form, Keep, Manage, Transfer, form_has_buffer, form_of, form_transfer_len, has_buffer, transfer_len}
+use Rattle.nv_model.specs.Judge.{Clear, Form, Keep, Manage, Transfer, Work, form_has_buffer, form_of, form_transfer_len, has_buffer, transfer_len}
 use Rattle.nv_model.specs.Limits.{most_bytes, page}
 use Rattle.nv_model.specs.Memory.{bytes_from}
 use Rattle.nv_model.specs.Reading.{Faulty, Reading, Spells, TooLong}
@@ -22,21 +22,25 @@ use Rattle.nv_model.proofs.Endings.{and-true}
 use Rattle.nv_model.specs.Dialogue.{in_memory}
 use Rattle.nv_model.specs.Prp.{read_prp}
 use Rattle.nv_prp.specs.Built.{HoldsList, HoldsNumbers, SpellsAddresses, built, entries_of, listed, padded, prp2_by, reading_of, starts_page}
-use Rattle.nv_prp.specs.Fits.{fit_prp, host_addresses, is_run}
+use Rattle.nv_prp.specs.Fits.{fit_prp, host_addresses, is_run, places_fit}
 use Rattle.nv_prp.proofs.Builds.{fit-row}
 use Rattle.nv_prp.proofs.HostRuns.{length-mapped_runs}
 use Rattle.nv_prp.proofs.Spelling.{built-same, built-spells}
-use Rattle.nv_world_model.specs.Area.{addresses_of, bounce_page, entry_of, form_dwords, list_bytes, list_page, physical_entry, plan_dwords, prps_of, tag_count}
+use Rattle.nv_world_model.specs.Area.{addresses_of, bounce_page, list_bytes, list_page, physical_entry, prps_of, tag_count}
 use Rattle.nv_mem.specs.declared.piece.Piece.{Piece}
 use Rattle.nv_world_model.specs.Device.{Held, form_unit_count, held_of, host_pieces, pieces_named, pieces_spelled, unit_count}
 use Rattle.nv_world_model.specs.Geometry.{Geometry, Guest, regions_of, shape_of}
 use Rattle.nv_world_model.specs.Plan.{Bounced, Direct, NoData, Plan}
+use Rattle.nv_world_model.specs.Share.{Share}
+use Rattle.nv_world_model.specs.ShareArea.{own_dwords, share_entry, work_dwords}
+use Rattle.nv_world_model.specs.ShareArea.{is_no_command}
 use Rattle.nv_laws_sound.specs.Area.{Shows}
 use Rattle.nv_laws_sound.specs.Consistent.{IsPlanned}
 use Rattle.nv_laws_sound.specs.LaidOut.{IsLaidOut}
-use Rattle.nv_laws_sound.proofs.EntryFields.{entry-opcode, entry-prps, form-back}
+use Rattle.nv_laws_sound.proofs.EntryFields.{entry-opcode, entry-prps, form-back, own_units}
 use Rattle.nv_laws_sound.proofs.Named.{hosts-all, row-all}
-use Rattle.nv_laws_sound.proofs.PlanSizes.{planned-by, planned-kinds}
+use Rattle.nv_laws_sound.proofs.OwnWork.{own-of, own_len}
+use Rattle.nv_laws_sound.proofs.PlanSizes.{HasCount, own-counts, own-few, own_work, planned-by, planned-kinds}
 use Rattle.nv_laws_sound.proofs.Shows.{shows-append}
 
 -- ---- addresses
@@ -45,33 +49,32 @@ use Rattle.nv_laws_sound.proofs.Shows.{shows-append}
 abbrev Fits64 : ℕ → Type 0
 Fits64 number = number < 2 ^ 64
 
--- the addresses of a plan lie in the host
-pub addresses-below : (host_bytes lanes : ℕ) (geometry : Geometry) (owner : ℕ) (guest : Guest) (entry : List ℕ) (plan : Plan) (lane tag : ℕ)
+-- the addresses of a share lie in the host
+pub addresses-below : (host_bytes lanes : ℕ) (geometry : Geometry) (owner : ℕ) (guest : Guest) (entry : List ℕ) (share : Share) (lane tag : ℕ)
     → IsLaidOut host_bytes lanes geometry → slice_get geometry.guests owner ≡ Some guest → lane < lanes → tag < tag_count
-    → IsPlanned guest entry plan → All (λ a. a < host_bytes) (addresses_of plan guest (bounce_page geometry.mediator lane tag))
-addresses-below host_bytes lanes geometry owner guest entry plan lane tag laid given below tag_below is =
-    let short = end-short (mapped (regions_of guest)) guest.limit (shape_of guest).blocks entry is.work is.verdict in
-    let total = (end-sound (mapped (regions_of guest)) guest.limit (shape_of guest).blocks entry is.work is.verdict).total in
-    let few : total_len is.work.pieces ≤ most_bytes = rw total short in
+    → IsPlanned guest entry share → All (λ a. a < host_bytes) (addresses_of share.plan guest (bounce_page geometry.mediator lane tag))
+addresses-below host_bytes lanes geometry owner guest entry share lane tag laid given below tag_below is =
+    let own : Work = own_work guest entry share is in
+    let few : total_len own.pieces ≤ most_bytes = own-few guest entry share is in
     let bounce = bounce_page geometry.mediator lane tag in
     let whose = laid.given owner guest given in
     let area = laid.area in
     let length = whose.host in
-    planned-kinds (λ p. All (λ a. a < host_bytes) (addresses_of p guest bounce)) guest entry plan is
+    planned-kinds (λ p. All (λ a. a < host_bytes) (addresses_of p guest bounce)) guest entry share is
     (All-nil (λ a. a < host_bytes))
-    (λ fits. hosts-all (λ a. a < host_bytes) (regions_of guest) (places_of is.work.pieces) (λ addr host found.
+    (λ fits. hosts-all (λ a. a < host_bytes) (regions_of guest) (places_of own.pieces) (λ addr host found.
     (let within = host_of-inside guest.memory_map.host_len (regions_of guest) addr host whose.sound.inside found in
     omega (arith, within, length))))
-    (row-all (λ a. a < host_bytes) bounce (total_len is.work.pieces) (λ at low high. omega (arith, high, few, area, below, tag_below)))
+    (row-all (λ a. a < host_bytes) bounce (total_len own.pieces) (λ at low high. omega (arith, high, few, area, below, tag_below)))
 
 -- so they have 64 bits at most
-addresses-fit : (host_bytes lanes : ℕ) (geometry : Geometry) (owner : ℕ) (guest : Guest) (entry : List ℕ) (plan : Plan) (lane tag : ℕ)
+addresses-fit : (host_bytes lanes : ℕ) (geometry : Geometry) (owner : ℕ) (guest : Guest) (entry : List ℕ) (share : Share) (lane tag : ℕ)
     → IsLaidOut host_bytes lanes geometry → slice_get geometry.guests owner ≡ Some guest → lane < lanes → tag < tag_count
-    → IsPlanned guest entry plan → All Fits64 (addresses_of plan guest (bounce_page geometry.mediator lane tag))
-addresses-fit host_bytes lanes geometry owner guest entry plan lane tag laid given below tag_below is =
+    → IsPlanned guest entry share → All Fits64 (addresses_of share.plan guest (bounce_page geometry.mediator lane tag))
+addresses-fit host_bytes lanes geometry owner guest entry share lane tag laid given below tag_below is =
     let small = laid.few in
-    All-weaker (λ a. a < host_bytes) Fits64 (λ a inside. omega (arith, inside, small)) (addresses_of plan guest (bounce_page geometry.mediator lane tag))
-    (addresses-below host_bytes lanes geometry owner guest entry plan lane tag laid given below tag_below is)
+    All-weaker (λ a. a < host_bytes) Fits64 (λ a inside. omega (arith, inside, small)) (addresses_of share.plan guest (bounce_page geometry.mediator lane tag))
+    (addresses-below host_bytes lanes geometry owner guest entry share lane tag laid given below tag_below is)
 
 first-fits : (addresses : List ℕ) → All Fits64 addresses → slice_index addresses 0 < 2 ^ 64
 first-fits [] each = omega arith
@@ -167,35 +170,57 @@ some-places n entry memory some =
     ap (λ b. places_of (cond b [] (pieces_named n entry memory))) (ne_eqb n 0 (λ none. absurd (omega (arith, none, some))))
 
 -- a command without a buffer transfers nothing, and one with a buffer something
-form-nothing : (form : Form) (entry : List ℕ) → form_has_buffer form ≡ false → form_transfer_len form entry ≡ 0
-form-nothing (Transfer dest) entry e = cc
-form-nothing Clear entry e = refl
-form-nothing Manage entry e = cc
-form-nothing Keep entry e = refl
+form-nothing : (form : Form) (own : Work) → form_has_buffer form ≡ false → own_len form own ≡ 0
+form-nothing (Transfer dest) own e = cc
+form-nothing Clear own e = refl
+form-nothing Manage own e = cc
+form-nothing Keep own e = refl
 
-form-something : (form : Form) (entry : List ℕ) → form_has_buffer form ≡ true → 0 < form_transfer_len form entry
-form-something (Transfer dest) entry e = omega arith
-form-something Clear entry e = cc
-form-something Manage entry e = omega arith
-form-something Keep entry e = cc
+own-something : (form : Form) (own : Work) → form_has_buffer form ≡ true → HasCount form own → 0 < own_len form own
+own-something (Transfer dest) own e has = let some = has.0 in omega (arith, some)
+own-something Clear own e has = cc
+own-something Manage own e has = let some = has.0 in omega (arith, some)
+own-something Keep own e has = cc
 
 module _ (host_bytes lanes : ℕ) (geometry : Geometry) (laid : IsLaidOut host_bytes lanes geometry) (owner : ℕ) (guest : Guest)
     (given : slice_get geometry.guests owner ≡ Some guest) (lane tag : ℕ) (below : lane < lanes) (tag_below : tag < tag_count)
-    (entry : List ℕ) (plan : Plan) (is : IsPlanned guest entry plan) (host : ℕ → ℕ) where
+    (entry : List ℕ) (share : Share) (is : IsPlanned guest entry share) (some : is_no_command share ≡ false) (host : ℕ → ℕ) where
   abbrev list : ℕ
   list = list_page geometry.mediator lane tag
 
   abbrev bounce : ℕ
   bounce = bounce_page geometry.mediator lane tag
 
-  -- the physical entry of a plan
+  -- its own work
+  abbrev own : Work
+  own = own_work guest entry share is
+
+  abbrev form : Form
+  form = form_of is.work.opcode
+
+  -- the physical entry of a share with that plan
+  abbrev planned : Plan → Share
+  planned p = record share { plan = p }
+
   abbrev physical : Plan → List ℕ
-  physical p = entry_of p guest entry geometry.mediator lane tag
+  physical p = share_entry (planned p) guest.namespace guest entry geometry.mediator lane tag
+
+  short : own_len form own ≤ most_bytes
+  short =
+      let less = (own-of guest entry share is).short in
+      let most = end-short (mapped (regions_of guest)) guest.limit (shape_of guest).blocks entry is.work is.verdict in
+      omega (arith, less, most)
+
+  counts : HasCount form own
+  counts = own-counts guest entry share is some
+
+  total : total_len own.pieces ≡ own_len form own
+  total = (own-of guest entry share is).total
 
   -- the opcode of each is the work's
   pub physical-opcode : (p : Plan) → io_opcode (opcode_of (physical p)) ≡ Some is.work.opcode
   physical-opcode p =
-      ap io_opcode (entry-opcode p guest entry geometry.mediator lane tag tag_below)
+      ap io_opcode (entry-opcode (planned p) guest entry geometry.mediator lane tag tag_below)
       ∙ (end-sound (mapped (regions_of guest)) guest.limit (shape_of guest).blocks entry is.work is.verdict).opcode
 
   -- what the device reads of it
@@ -207,80 +232,84 @@ module _ (host_bytes lanes : ℕ) (geometry : Geometry) (laid : IsLaidOut host_b
   reads-nothing p none empty =
       ap (λ n. places_of (cond (n == 0) [] (pieces_named n (physical p) host))) none ∙ ap (map At) (sym empty)
 
-  reads-some : (p : Plan) → transfer_len is.work.opcode (physical p) ≡ transfer_len is.work.opcode entry → has_buffer is.work.opcode ≡ true
-      → fit_prp (addresses_of p guest bounce) ≡ true → length (addresses_of p guest bounce) ≡ transfer_len is.work.opcode entry
+  reads-some : (p : Plan) → transfer_len is.work.opcode (physical p) ≡ own_len form own → has_buffer is.work.opcode ≡ true
+      → fit_prp (addresses_of p guest bounce) ≡ true → length (addresses_of p guest bounce) ≡ own_len form own
       → All Fits64 (addresses_of p guest bounce)
       → Shows host list (list_bytes (prps_of p guest list bounce)) → Reads p
   reads-some p same buffer fit count each shown =
-      let short = end-short (mapped (regions_of guest)) guest.limit (shape_of guest).blocks entry is.work is.verdict in
-      let some = form-something (form_of is.work.opcode) entry buffer in
+      let any = own-something form own buffer counts in
       let area = laid.area in
       let small = laid.few in
       let pages = laid.pages in
       let within : list < 2 ^ 64 = omega (arith, area, small, below, tag_below) in
       let prps = prps-fit list (addresses_of p guest bounce) within each in
-      let fields = entry-prps p guest entry geometry.mediator lane tag prps.0 prps.1 in
+      let fields = entry-prps (planned p) guest entry geometry.mediator lane tag prps.0 prps.1 in
       ap (λ n. places_of (cond (n == 0) [] (pieces_named n (physical p) host))) same
-      ∙ some-places (transfer_len is.work.opcode entry) (physical p) host some
-      ∙ named-places host list (transfer_len is.work.opcode entry) (addresses_of p guest bounce) (physical p) fit count short (omega (arith, pages))
+      ∙ some-places (own_len form own) (physical p) host any
+      ∙ named-places host list (own_len form own) (addresses_of p guest bounce) (physical p) fit count short (omega (arith, pages))
       (holds-list host list (addresses_of p guest bounce) each shown) fields.0 fields.1
 
-  -- the entry of a command's form has its lengths
-  form-lengths : (p : Plan) → plan_dwords p guest.namespace entry ≡ form_dwords (form_of is.work.opcode) guest.namespace entry
-      → (transfer_len is.work.opcode (physical p) ≡ transfer_len is.work.opcode entry)
-      × (form_unit_count (form_of is.work.opcode) (physical p) ≡ form_unit_count (form_of is.work.opcode) entry)
+  -- the entry of a work's form has its lengths
+  form-lengths : (p : Plan) → own_dwords p guest.namespace entry ≡ work_dwords (form_of own.opcode) guest.namespace entry own
+      → (transfer_len is.work.opcode (physical p) ≡ own_len form own) × (form_unit_count form (physical p) ≡ own_units form own)
   form-lengths p same =
-      let as_built : physical p ≡ physical_entry (opcode_of entry) tag (prps_of p guest list bounce) (form_dwords (form_of is.work.opcode) guest.namespace entry) =
-      ap (physical_entry (opcode_of entry) tag (prps_of p guest list bounce)) same in
-      let back = form-back (form_of is.work.opcode) (opcode_of entry) tag (prps_of p guest list bounce) guest.namespace entry in
-      (ap (λ e. form_transfer_len (form_of is.work.opcode) e) as_built ∙ back.0, ap (λ e. form_unit_count (form_of is.work.opcode) e) as_built ∙ back.1)
+      let formed : own_dwords p guest.namespace entry ≡ work_dwords form guest.namespace entry own =
+      same ∙ ap (λ o. work_dwords (form_of o) guest.namespace entry own) (own-of guest entry share is).opcode in
+      let as_built : physical p ≡ physical_entry (opcode_of entry) tag (prps_of p guest list bounce) (work_dwords form guest.namespace entry own) =
+      ap (physical_entry (opcode_of entry) tag (prps_of p guest list bounce)) formed in
+      let back = form-back form (opcode_of entry) tag (prps_of p guest list bounce) guest.namespace entry own counts in
+      (ap (λ e. form_transfer_len form e) as_built ∙ back.0, ap (λ e. form_unit_count form e) as_built ∙ back.1)
 
-  pub plan-lengths : (transfer_len is.work.opcode (physical plan) ≡ transfer_len is.work.opcode entry)
-      × (form_unit_count (form_of is.work.opcode) (physical plan) ≡ form_unit_count (form_of is.work.opcode) entry)
+  pub plan-lengths : (transfer_len is.work.opcode (physical share.plan) ≡ own_len form own)
+      × (form_unit_count form (physical share.plan) ≡ own_units form own)
   plan-lengths =
-      planned-kinds (λ p. (transfer_len is.work.opcode (physical p) ≡ transfer_len is.work.opcode entry)
-      × (form_unit_count (form_of is.work.opcode) (physical p) ≡ form_unit_count (form_of is.work.opcode) entry)) guest entry plan is
-      (form-lengths (NoData is.work) refl) (λ fits. form-lengths (Direct is.work) refl) (form-lengths (Bounced is.work) refl)
+      planned-kinds (λ p. (transfer_len is.work.opcode (physical p) ≡ own_len form own)
+      × (form_unit_count form (physical p) ≡ own_units form own)) guest entry share is
+      (form-lengths (NoData own) refl) (λ fits. form-lengths (Direct own) refl) (form-lengths (Bounced own) refl)
 
-  -- its PRP1 and PRP2 are the plan's
-  pub plan-prps : (prp1_of (physical plan) ≡ (prps_of plan guest list bounce).prp1) × (prp2_of (physical plan) ≡ (prps_of plan guest list bounce).prp2)
+  -- its PRP1 and PRP2 are the share's
+  pub plan-prps : (prp1_of (physical share.plan) ≡ (prps_of share.plan guest list bounce).prp1)
+      × (prp2_of (physical share.plan) ≡ (prps_of share.plan guest list bounce).prp2)
   plan-prps =
       let area = laid.area in
       let small = laid.few in
       let within : list < 2 ^ 64 = omega (arith, area, small, below, tag_below) in
-      let prps = prps-fit list (addresses_of plan guest bounce) within
-      (addresses-fit host_bytes lanes geometry owner guest entry plan lane tag laid given below tag_below is) in
-      entry-prps plan guest entry geometry.mediator lane tag prps.0 prps.1
+      let prps = prps-fit list (addresses_of share.plan guest bounce) within
+      (addresses-fit host_bytes lanes geometry owner guest entry share lane tag laid given below tag_below is) in
+      entry-prps share guest entry geometry.mediator lane tag prps.0 prps.1
 
-  -- a command with a buffer has an address for each of its bytes
-  pub plan-counts : has_buffer is.work.opcode ≡ true → length (addresses_of plan guest bounce) ≡ transfer_len is.work.opcode entry
+  -- a direct transfer has an address for each of its bytes
+  direct-counts : list_all is_run own.pieces ≡ true → length (host_addresses (regions_of guest) own.pieces) ≡ own_len form own
+  direct-counts runs = length-mapped_runs (regions_of guest) own.pieces (own-of guest entry share is).mapped_each runs ∙ total
+
+  runs-and-fit : places_fit (regions_of guest) own.pieces ≡ true
+      → (list_all is_run own.pieces ≡ true) × (fit_prp (host_addresses (regions_of guest) own.pieces) ≡ true)
+  runs-and-fit fits = and-true (list_all is_run own.pieces) (fit_prp (host_addresses (regions_of guest) own.pieces)) fits
+
+  -- and so has any with a buffer
+  pub plan-counts : has_buffer is.work.opcode ≡ true → length (addresses_of share.plan guest bounce) ≡ own_len form own
   plan-counts has =
-      let sound = end-sound (mapped (regions_of guest)) guest.limit (shape_of guest).blocks entry is.work is.verdict in
-      planned-by (λ p. length (addresses_of p guest bounce) ≡ transfer_len is.work.opcode entry) guest entry plan is
+      planned-by (λ p. length (addresses_of p guest bounce) ≡ own_len form own) guest entry share is
       (λ none. (let bad : true ≡ false = sym has ∙ none in cc))
-      (λ buffer fits.
-      (let both = and-true (list_all is_run is.work.pieces) (fit_prp (host_addresses (regions_of guest) is.work.pieces)) fits in
-      length-mapped_runs (regions_of guest) is.work.pieces sound.mapped_each both.0 ∙ sound.total))
-      (λ buffer. length-range_with_len bounce (total_len is.work.pieces) ∙ sound.total)
+      (λ buffer fits. direct-counts (runs-and-fit fits).0)
+      (λ buffer. length-range_with_len bounce (total_len own.pieces) ∙ total)
 
-  -- the device finds the plan's addresses
-  pub plan-reads : Shows host list (list_bytes (prps_of plan guest list bounce)) → Reads plan
+  -- the device finds the share's addresses
+  pub plan-reads : Shows host list (list_bytes (prps_of share.plan guest list bounce)) → Reads share.plan
   plan-reads =
-      let sound = end-sound (mapped (regions_of guest)) guest.limit (shape_of guest).blocks entry is.work is.verdict in
-      planned-by (λ p. All Fits64 (addresses_of p guest bounce) → Shows host list (list_bytes (prps_of p guest list bounce)) → Reads p) guest entry plan is
-      (λ none each shown. reads-nothing (NoData is.work) ((form-lengths (NoData is.work) refl).0 ∙ form-nothing (form_of is.work.opcode) entry none) refl)
+      planned-by (λ p. All Fits64 (addresses_of p guest bounce) → Shows host list (list_bytes (prps_of p guest list bounce)) → Reads p) guest entry share is
+      (λ none each shown. reads-nothing (NoData own) ((form-lengths (NoData own) refl).0 ∙ form-nothing form own none) refl)
       (λ buffer fits each shown.
-      (let both = and-true (list_all is_run is.work.pieces) (fit_prp (host_addresses (regions_of guest) is.work.pieces)) fits in
-      reads-some (Direct is.work) (form-lengths (Direct is.work) refl).0 buffer both.1
-      (length-mapped_runs (regions_of guest) is.work.pieces sound.mapped_each both.0 ∙ sound.total) each shown))
+      (let both = runs-and-fit fits in
+      reads-some (Direct own) (form-lengths (Direct own) refl).0 buffer both.1 (direct-counts both.0) each shown))
       (λ buffer each shown.
-      (let some = form-something (form_of is.work.opcode) entry buffer in
-      let total = sound.total in
+      (let any = own-something form own buffer counts in
+      let all = total in
       let pages = laid.pages in
-      reads-some (Bounced is.work) (form-lengths (Bounced is.work) refl).0 buffer
-      (fit-row bounce (total_len is.work.pieces) (omega (arith, total, some)) (omega (arith, pages)))
-      (length-range_with_len bounce (total_len is.work.pieces) ∙ total) each shown))
-      (addresses-fit host_bytes lanes geometry owner guest entry plan lane tag laid given below tag_below is)
+      reads-some (Bounced own) (form-lengths (Bounced own) refl).0 buffer
+      (fit-row bounce (total_len own.pieces) (omega (arith, all, any)) (omega (arith, pages)))
+      (length-range_with_len bounce (total_len own.pieces) ∙ total) each shown))
+      (addresses-fit host_bytes lanes geometry owner guest entry share lane tag laid given below tag_below is)
 
   -- ---- the same in two memories in which the list stands
 
@@ -293,77 +322,77 @@ module _ (host_bytes lanes : ℕ) (geometry : Geometry) (laid : IsLaidOut host_b
   same-nothing other p none =
       ap (λ n. cond (n == 0) [] (pieces_named n (physical p) host)) none ∙ sym (ap (λ n. cond (n == 0) [] (pieces_named n (physical p) other)) none)
 
-  same-some : (other : ℕ → ℕ) (p : Plan) → transfer_len is.work.opcode (physical p) ≡ transfer_len is.work.opcode entry
-      → fit_prp (addresses_of p guest bounce) ≡ true → length (addresses_of p guest bounce) ≡ transfer_len is.work.opcode entry
+  same-some : (other : ℕ → ℕ) (p : Plan) → transfer_len is.work.opcode (physical p) ≡ own_len form own
+      → fit_prp (addresses_of p guest bounce) ≡ true → length (addresses_of p guest bounce) ≡ own_len form own
       → All Fits64 (addresses_of p guest bounce)
       → Shows host list (list_bytes (prps_of p guest list bounce)) → Shows other list (list_bytes (prps_of p guest list bounce)) → ReadsSame other p
   same-some other p same fit count each shown also =
-      let short = end-short (mapped (regions_of guest)) guest.limit (shape_of guest).blocks entry is.work is.verdict in
       let area = laid.area in
       let small = laid.few in
       let pages = laid.pages in
       let within : list < 2 ^ 64 = omega (arith, area, small, below, tag_below) in
       let prps = prps-fit list (addresses_of p guest bounce) within each in
-      let fields = entry-prps p guest entry geometry.mediator lane tag prps.0 prps.1 in
-      let n = transfer_len is.work.opcode entry in
+      let fields = entry-prps (planned p) guest entry geometry.mediator lane tag prps.0 prps.1 in
+      let n = own_len form own in
       ap (λ k. cond (k == 0) [] (pieces_named k (physical p) host)) same
       ∙ ap (λ ps. cond (n == 0) [] ps)
       (named-same host other list n (addresses_of p guest bounce) (physical p) fit count short (omega (arith, pages))
       (holds-list host list (addresses_of p guest bounce) each shown) (holds-list other list (addresses_of p guest bounce) each also) fields.0 fields.1)
       ∙ sym (ap (λ k. cond (k == 0) [] (pieces_named k (physical p) other)) same)
 
-  plan-same : (other : ℕ → ℕ) → Shows host list (list_bytes (prps_of plan guest list bounce)) → Shows other list (list_bytes (prps_of plan guest list bounce))
-      → ReadsSame other plan
+  plan-same : (other : ℕ → ℕ) → Shows host list (list_bytes (prps_of share.plan guest list bounce))
+      → Shows other list (list_bytes (prps_of share.plan guest list bounce)) → ReadsSame other share.plan
   plan-same other =
-      let sound = end-sound (mapped (regions_of guest)) guest.limit (shape_of guest).blocks entry is.work is.verdict in
       planned-by (λ p. All Fits64 (addresses_of p guest bounce) → Shows host list (list_bytes (prps_of p guest list bounce))
-      → Shows other list (list_bytes (prps_of p guest list bounce)) → ReadsSame other p) guest entry plan is
-      (λ none each shown also. same-nothing other (NoData is.work) ((form-lengths (NoData is.work) refl).0 ∙ form-nothing (form_of is.work.opcode) entry none))
+      → Shows other list (list_bytes (prps_of p guest list bounce)) → ReadsSame other p) guest entry share is
+      (λ none each shown also. same-nothing other (NoData own) ((form-lengths (NoData own) refl).0 ∙ form-nothing form own none))
       (λ buffer fits each shown also.
-      (let both = and-true (list_all is_run is.work.pieces) (fit_prp (host_addresses (regions_of guest) is.work.pieces)) fits in
-      same-some other (Direct is.work) (form-lengths (Direct is.work) refl).0 both.1
-      (length-mapped_runs (regions_of guest) is.work.pieces sound.mapped_each both.0 ∙ sound.total) each shown also))
+      (let both = runs-and-fit fits in
+      same-some other (Direct own) (form-lengths (Direct own) refl).0 both.1 (direct-counts both.0) each shown also))
       (λ buffer each shown also.
-      (let some = form-something (form_of is.work.opcode) entry buffer in
-      let total = sound.total in
+      (let any = own-something form own buffer counts in
+      let all = total in
       let pages = laid.pages in
-      same-some other (Bounced is.work) (form-lengths (Bounced is.work) refl).0
-      (fit-row bounce (total_len is.work.pieces) (omega (arith, total, some)) (omega (arith, pages)))
-      (length-range_with_len bounce (total_len is.work.pieces) ∙ total) each shown also))
-      (addresses-fit host_bytes lanes geometry owner guest entry plan lane tag laid given below tag_below is)
+      same-some other (Bounced own) (form-lengths (Bounced own) refl).0
+      (fit-row bounce (total_len own.pieces) (omega (arith, all, any)) (omega (arith, pages)))
+      (length-range_with_len bounce (total_len own.pieces) ∙ total) each shown also))
+      (addresses-fit host_bytes lanes geometry owner guest entry share lane tag laid given below tag_below is)
 
-  pub held-same : (other : ℕ → ℕ) → Shows host list (list_bytes (prps_of plan guest list bounce)) → Shows other list (list_bytes (prps_of plan guest list bounce))
-      → held_of (physical plan) host ≡ held_of (physical plan) other
+  pub held-same : (other : ℕ → ℕ) → Shows host list (list_bytes (prps_of share.plan guest list bounce))
+      → Shows other list (list_bytes (prps_of share.plan guest list bounce)) → held_of (physical share.plan) host ≡ held_of (physical share.plan) other
   unfolding held_of
   held-same other shown also =
       ap (λ (ps : List Piece).
       let h : Held = record {
-        entry = physical plan;
+        entry = physical share.plan;
         pieces = ps;
-        left = range_with_len 0 (unit_count (io_opcode (opcode_of (physical plan))) (physical plan));
+        left = range_with_len 0 (unit_count (io_opcode (opcode_of (physical share.plan))) (physical share.plan));
         differed = false;
       } in
       h)
-      (ap (λ o. host_pieces o (physical plan) host) (physical-opcode plan) ∙ plan-same other shown also
-      ∙ sym (ap (λ o. host_pieces o (physical plan) other) (physical-opcode plan)))
+      (ap (λ o. host_pieces o (physical share.plan) host) (physical-opcode share.plan) ∙ plan-same other shown also
+      ∙ sym (ap (λ o. host_pieces o (physical share.plan) other) (physical-opcode share.plan)))
 
   -- so it holds the command with them
-  pub held-places : Shows host list (list_bytes (prps_of plan guest list bounce))
-      → places_of (held_of (physical plan) host).pieces ≡ map At (addresses_of plan guest bounce)
+  pub held-places : Shows host list (list_bytes (prps_of share.plan guest list bounce))
+      → places_of (held_of (physical share.plan) host).pieces ≡ map At (addresses_of share.plan guest bounce)
   unfolding held_of
   held-places shown =
-      ap (λ o. places_of (host_pieces o (physical plan) host)) (physical-opcode plan) ∙ plan-reads shown
+      ap (λ o. places_of (host_pieces o (physical share.plan) host)) (physical-opcode share.plan) ∙ plan-reads shown
 
   -- and with all its units
-  pub held-all : (held_of (physical plan) host).left ≡ range_with_len 0 (form_unit_count (form_of is.work.opcode) entry)
+  pub held-all : (held_of (physical share.plan) host).left ≡ range_with_len 0 (own_units form own)
   unfolding held_of
-  held-all = ap (range_with_len 0) (ap (λ o. unit_count o (physical plan)) (physical-opcode plan) ∙ plan-lengths.1)
+  held-all = ap (range_with_len 0) (ap (λ o. unit_count o (physical share.plan)) (physical-opcode share.plan) ∙ plan-lengths.1)
 
-  pub held-left : All (λ k. k < unit_count (io_opcode (opcode_of entry)) entry) (held_of (physical plan) host).left
+  pub held-left : All (λ k. k < unit_count (io_opcode (opcode_of entry)) (physical share.plan)) (held_of (physical share.plan) host).left
   unfolding held_of
   held-left =
-      let same : unit_count (io_opcode (opcode_of (physical plan))) (physical plan) ≡ unit_count (io_opcode (opcode_of entry)) entry =
-      ap (λ o. unit_count o (physical plan)) (physical-opcode plan) ∙ plan-lengths.1
-      ∙ sym (ap (λ o. unit_count o entry) (end-sound (mapped (regions_of guest)) guest.limit (shape_of guest).blocks entry is.work is.verdict).opcode) in
-      row-all (λ k. k < unit_count (io_opcode (opcode_of entry)) entry) 0 (unit_count (io_opcode (opcode_of (physical plan))) (physical plan))
+      let same : unit_count (io_opcode (opcode_of (physical share.plan))) (physical share.plan)
+      ≡ unit_count (io_opcode (opcode_of entry)) (physical share.plan) =
+      ap (λ o. unit_count o (physical share.plan)) (physical-opcode share.plan)
+      ∙ sym (ap (λ o. unit_count o (physical share.plan))
+      (end-sound (mapped (regions_of guest)) guest.limit (shape_of guest).blocks entry is.work is.verdict).opcode) in
+      row-all (λ k. k < unit_count (io_opcode (opcode_of entry)) (physical share.plan)) 0
+      (unit_count (io_opcode (opcode_of (physical share.plan))) (physical share.plan))
       (λ at low high. omega (arith, high, same))

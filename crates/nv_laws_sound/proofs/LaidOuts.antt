@@ -12,9 +12,10 @@ use Rattle.nv_mem.proofs.Memory.{guest_of-clear, hosts_meet-image}
 use Rattle.nv_model.specs.Limits.{page}
 use Rattle.nv_model.proofs.Endings.{and-true, not-false}
 use Rattle.nv_ns.specs.BlockRange.{Extent}
+use Rattle.nv_ns.specs.Extents.{most_extents}
 use Rattle.nv_world_model.specs.Geometry.{Guest, regions_of}
 use Rattle.nv_world_model.specs.SetUp.{Refusal, SetUp, all_extents, any_two, area_bytes, between, blocks_meet, extent_fits, guest_fits}
-use Rattle.nv_world_model.specs.SetUp.{host_fits, maps_meet, meets_area, most_disk_blocks, most_given, most_guests, most_host_bytes}
+use Rattle.nv_world_model.specs.SetUp.{host_fits, maps_meet, meets_area, most_disk_blocks, most_guests, most_host_bytes}
 use Rattle.nv_world_model.specs.SetUp.{most_lanes, most_limit, most_regions, refusal_of, sizes_fit}
 use Rattle.nv_world_model.specs.View.{in_extents}
 use Rattle.nv_laws_sound.specs.LaidOut.{AreApart, IsGiven, IsLaidOut}
@@ -120,7 +121,7 @@ all_five false b c d e all = cc
 -- what is tested of a guest
 record IsFitting (s : SetUp) (g : Guest) : Type 0 where
   pub host : g.memory_map.host_len ≡ s.host_bytes
-  pub count : (1 ≤ length g.namespace) × (length g.namespace ≤ most_given)
+  pub count : (1 ≤ length g.namespace) × (length g.namespace ≤ most_extents)
   pub extents : list_all (extent_fits s) g.namespace ≡ true
   pub limit : (1 ≤ g.limit) × (g.limit ≤ most_limit)
 
@@ -132,13 +133,13 @@ fitting : (s : SetUp) (g : Guest) → guest_fits s g ≡ true → IsFitting s g
 fitting s g fits =
     let host = g.memory_map.host_len == s.host_bytes in
     let regions = nat_le (length (regions_of g)) most_regions in
-    let count = between 1 most_given (length g.namespace) in
+    let count = between 1 most_extents (length g.namespace) in
     let disk = list_all (extent_fits s) g.namespace in
     let limit = between 1 most_limit g.limit in
     let each = all_five host regions count disk limit fits in
     record {
       host = eqb-true g.memory_map.host_len s.host_bytes each.0;
-      count = between-both 1 most_given (length g.namespace) each.1.1.0;
+      count = between-both 1 most_extents (length g.namespace) each.1.1.0;
       extents = each.1.1.1.0;
       limit = between-both 1 most_limit g.limit each.1.1.1.1;
     }
@@ -160,7 +161,8 @@ guest-given s number g is at fits sound =
     record {
       sound = sound;
       host = tested.host;
-      one = omega (arith, least, most);
+      some = omega (arith, least);
+      few = omega (arith, most);
       some_blocks = λ e among. (extent-fits s g e fits among).0;
       on_disk = λ e among. (extent-fits s g e fits among).1;
       apart = extents-apart g.namespace (two-one (λ (h : Guest). h.namespace) blocks_meet s.geometry.guests number g is.ranges at);

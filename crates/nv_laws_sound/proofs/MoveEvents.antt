@@ -1,5 +1,6 @@
 -- A unit of a command in the device moves: its bytes go to its guest's memory or to its own bounce pages, and no others change.
-use Rattle.std.proofs.Common.{◌≡◌, ℕ, ◌+◌, ◌%◌, ◌<◌, ◌≤◌, ◌⊎◌, inl, inr, Bool, true, false, not, ◌==◌, List, [], All, length, set, slice_get, Option, Some, None, arith, refl, sym, ap, ◌∙◌, subst}
+use Rattle.std.proofs.Common.{◌≡◌, ℕ, ◌+◌, ◌%◌, ◌<◌, ◌≤◌, ◌⊎◌, inl, inr, Bool, true, false, not, ◌==◌}
+use Rattle.std.proofs.Common.{List, [], All, length, set, slice_get, Option, Some, None, arith, refl, sym, ap, ◌∙◌, subst}
 use Rattle.std.specs.Prelude.{◌≢◌}
 use Rattle.std.specs.List.{list_any}
 use Rattle.std.proofs.lemmas.Bool.{cases_eq, cases_lt, eqb-false}
@@ -20,16 +21,19 @@ use Rattle.nv_world_model.specs.declared.event.Event.TheVariants as event
 use Rattle.nv_world_model.specs.Area.{bounce_page, completion_slot, lane_start, list_bytes, list_page, prps_of, submission_slot, tag_count}
 use Rattle.nv_world_model.specs.Device.{DeviceLane, Held, device_unit, form_moves, moved_by, unit_count, unit_gone, with_held}
 use Rattle.nv_world_model.specs.Geometry.{Geometry, Guest, regions_of, shape_of}
-use Rattle.nv_world_model.specs.Plan.{Plan}
+use Rattle.nv_world_model.specs.Share.{Share}
+use Rattle.nv_world_model.specs.ShareArea.{share_entry}
+use Rattle.nv_world_model.specs.ShareArea.{is_no_command}
 use Rattle.nv_world_model.specs.Step.{device_move, device_moved, step}
 use Rattle.nv_world_model.specs.World.{Answered, Command, Ended, Flying, Free, InDevice, Lane, Queued, Tag, Taken, World, changed_at}
 use Rattle.nv_laws_sound.specs.Area.{SameBetween, SameInLane, Shows, ranges_of, form_ranges}
-use Rattle.nv_laws_sound.specs.Consistent.{HasPages, IsCommand, IsConsistent, IsInDevice, IsLane, IsPlanned, IsTag}
+use Rattle.nv_laws_sound.specs.Consistent.{HasPages, IsCommand, IsConsistentOfTags, IsInDevice, IsLane, IsPlanned, IsTag}
 use Rattle.nv_laws_sound.specs.LaidOut.{IsLaidOut}
 use Rattle.nv_laws_sound.proofs.Changes.{world-lane}
 use Rattle.nv_laws_sound.proofs.EntryFields.{entry-opcode}
 use Rattle.nv_laws_sound.proofs.Lists.{length-set, set-same, slice_get-below, slice_get-there}
 use Rattle.nv_laws_sound.proofs.Named.{addresses-apart}
+use Rattle.nv_laws_sound.proofs.OwnWork.{own-of}
 use Rattle.nv_laws_sound.proofs.PlanSizes.{list-short, planned-kinds}
 use Rattle.nv_laws_sound.proofs.Retags.{tags-with}
 use Rattle.nv_laws_sound.proofs.Shows.{shows-between, shows-nothing}
@@ -73,16 +77,18 @@ no_ranges Clear guest work e = refl
 no_ranges Manage guest work e = cc
 no_ranges Keep guest work e = refl
 
-read-no_ranges : (guest : Guest) (entry : List ℕ) (plan : Plan) (is : IsPlanned guest entry plan) → is_read is.work.opcode ≡ true
-    → ranges_of plan guest ≡ []
-read-no_ranges guest entry plan is reads =
-    planned-kinds (λ p. ranges_of p guest ≡ []) guest entry plan is refl (λ fits. refl) (no_ranges (form_of is.work.opcode) guest is.work reads)
+read-no_ranges : (guest : Guest) (entry : List ℕ) (share : Share) (is : IsPlanned guest entry share) → is_read is.work.opcode ≡ true
+    → ranges_of share.plan guest ≡ []
+read-no_ranges guest entry share is reads =
+    let part = own-of guest entry share is in
+    planned-kinds (λ p. ranges_of p guest ≡ []) guest entry share is refl (λ fits. refl)
+    (no_ranges (form_of part.own.opcode) guest part.own (ap is_read part.opcode ∙ reads))
 
 -- ---- a unit of a command in the device
 
 module _ (host_bytes : ℕ) (geometry : Geometry) (lanes lane tag : ℕ) (laid : IsLaidOut host_bytes lanes geometry) (below : lane < lanes)
-    (tag_below : tag < tag_count) (guest : Guest) (owner : ℕ) (given : slice_get geometry.guests owner ≡ Some guest) (entry : List ℕ) (plan : Plan)
-    (planned : IsPlanned guest entry plan) (h : Held) (host : ℕ → ℕ) (is : IsInDevice geometry guest entry plan lane tag host h)
+    (tag_below : tag < tag_count) (guest : Guest) (owner : ℕ) (given : slice_get geometry.guests owner ≡ Some guest) (entry : List ℕ) (share : Share)
+    (planned : IsPlanned guest entry share) (h : Held) (host : ℕ → ℕ) (is : IsInDevice geometry guest entry share lane tag host h)
     (number : ℕ) (disk : ℕ → ℕ → ℕ) (kept : ℕ → Bool) where
   -- what lies in the area, but not in the tag's bounce pages, is as it was
   pub area-same : (from to : ℕ) → geometry.mediator ≤ from → to ≤ lane_start geometry.mediator lanes
@@ -90,7 +96,7 @@ module _ (host_bytes : ℕ) (geometry : Geometry) (lanes lane tag : ℕ) (laid :
       → SameBetween host (device_unit number geometry.disk_blocks h host disk kept).memory from to
   area-same from to low high away at over under =
       let outside : guest_of (regions_of guest) at ≡ None = laid.outside owner guest at given (omega (arith, low, over)) (omega (arith, high, under)) in
-      let apart = addresses-apart guest entry plan (bounce_page geometry.mediator lane tag) at (laid.given owner guest given).sound.apart planned outside (beyond away) in
+      let apart = addresses-apart guest entry share (bounce_page geometry.mediator lane tag) at (laid.given owner guest given).sound.apart planned outside (beyond away) in
       sym (unit-apart number geometry.disk_blocks at h host disk kept (subst (All (IsAnother (At at))) (sym is.places) apart))
     where
       beyond : (to ≤ bounce_page geometry.mediator lane tag) ⊎ (bounce_page geometry.mediator lane tag + most_bytes ≤ from)
@@ -101,11 +107,11 @@ module _ (host_bytes : ℕ) (geometry : Geometry) (lanes lane tag : ℕ) (laid :
   -- the command's opcode
   pub held-opcode : io_opcode (opcode_of h.entry) ≡ Some planned.work.opcode
   held-opcode =
-      ap (λ e. io_opcode (opcode_of e)) is.entry_is ∙ ap io_opcode (entry-opcode plan guest entry geometry.mediator lane tag tag_below)
+      ap (λ e. io_opcode (opcode_of e)) is.entry_is ∙ ap io_opcode (entry-opcode share guest entry geometry.mediator lane tag tag_below)
       ∙ (end-sound (mapped (regions_of guest)) guest.limit (shape_of guest).blocks entry planned.work planned.verdict).opcode
 
   -- the list and the ranges stand
-  moved-pages : HasPages geometry guest plan lane tag (device_unit number geometry.disk_blocks h host disk kept).memory
+  moved-pages : HasPages geometry guest share lane tag (device_unit number geometry.disk_blocks h host disk kept).memory
   moved-pages =
       record {
         list =
@@ -113,19 +119,19 @@ module _ (host_bytes : ℕ) (geometry : Geometry) (lanes lane tag : ℕ) (laid :
             let bounce = bounce_page geometry.mediator lane tag in
             let pages = laid.pages in
             let aligned : bounce % 4 ≡ 0 = omega (arith, pages) in
-            let short = list-short guest entry plan list bounce aligned planned in
-            shows-between host (device_unit number geometry.disk_blocks h host disk kept).memory list bounce list (list_bytes (prps_of plan guest list bounce))
+            let short = list-short guest entry share list bounce aligned planned in
+            shows-between host (device_unit number geometry.disk_blocks h host disk kept).memory list bounce list (list_bytes (prps_of share.plan guest list bounce))
             (area-same list bounce (omega arith) (omega (arith, below, tag_below)) (inl (omega arith))) (omega arith) (omega (arith, short)) is.pages.list);
         ranges = moved-ranges (is_read planned.work.opcode) refl;
       }
     where
       moved-ranges : (b : Bool) → is_read planned.work.opcode ≡ b
-          → Shows (device_unit number geometry.disk_blocks h host disk kept).memory (bounce_page geometry.mediator lane tag) (ranges_of plan guest)
+          → Shows (device_unit number geometry.disk_blocks h host disk kept).memory (bounce_page geometry.mediator lane tag) (ranges_of share.plan guest)
       moved-ranges true reads =
           subst (Shows (device_unit number geometry.disk_blocks h host disk kept).memory (bounce_page geometry.mediator lane tag))
-          (sym (read-no_ranges guest entry plan planned reads)) (shows-nothing _ (bounce_page geometry.mediator lane tag))
+          (sym (read-no_ranges guest entry share planned reads)) (shows-nothing _ (bounce_page geometry.mediator lane tag))
       moved-ranges false other =
-          subst (λ m. Shows m (bounce_page geometry.mediator lane tag) (ranges_of plan guest))
+          subst (λ m. Shows m (bounce_page geometry.mediator lane tag) (ranges_of share.plan guest))
           (sym (unit-same number geometry.disk_blocks h host disk kept planned.work.opcode held-opcode other)) is.pages.ranges
 
   -- another tag's pages, and slots of the rings, are as they were
@@ -172,12 +178,13 @@ module _ (host_bytes : ℕ) (geometry : Geometry) (lanes lane tag : ℕ) (laid :
           more (inr differ) most = omega (arith, most, differ, tag_below)
 
   -- the command is in the device, with one unit less
-  moved-in_device : (differed : Bool) → IsInDevice geometry guest entry plan lane tag (device_unit number geometry.disk_blocks h host disk kept).memory (unit_gone number differed h)
+  moved-in_device : (differed : Bool) → IsInDevice geometry guest entry share lane tag (device_unit number geometry.disk_blocks h host disk kept).memory (unit_gone number differed h)
   moved-in_device differed =
       record {
         entry_is = is.entry_is;
         places = is.places;
-        left = All-filter (λ k. not (k == number)) (λ k. k < unit_count (io_opcode (opcode_of entry)) entry) h.left is.left;
+        left = All-filter (λ k. not (k == number))
+            (λ k. k < unit_count (io_opcode (opcode_of entry)) (share_entry share guest.namespace guest entry geometry.mediator lane tag)) h.left is.left;
         pages = moved-pages;
       }
 
@@ -186,22 +193,23 @@ module _ (host_bytes : ℕ) (geometry : Geometry) (lanes lane tag : ℕ) (laid :
 -- it flies, and is in the device
 pub record IsHolding (geometry : Geometry) (lane tag : ℕ) (host : ℕ → ℕ) (h : Held) (t : Tag) : Type 0 where
   pub command : Command
-  pub plan : Plan
-  pub flies : t ≡ Flying command plan InDevice
+  pub share : Share
+  pub flies : t ≡ Flying command share InDevice
   pub guest : Guest
   pub is : IsCommand geometry command guest
-  pub planned : IsPlanned guest command.entry plan
-  pub in_device : IsInDevice geometry guest command.entry plan lane tag host h
+  pub planned : IsPlanned guest command.entry share
+  pub some : is_no_command share ≡ false
+  pub in_device : IsInDevice geometry guest command.entry share lane tag host h
 
 pub held-flies : (geometry : Geometry) (lane tag : ℕ) (host : ℕ → ℕ) (head : ℕ) (d : DeviceLane) (h : Held) (t : Tag)
     → IsTag geometry lane tag host head d (Some h) t → IsHolding geometry lane tag host h t
 held-flies geometry lane tag host head d h Free is = cc
 held-flies geometry lane tag host head d h (Taken command reads) is = let none = is.not_held in cc
-held-flies geometry lane tag host head d h (Flying command plan (Queued at)) is = let none = is.stands.1 in cc
-held-flies geometry lane tag host head d h (Flying command plan InDevice) is =
-    record { command = command; plan = plan; flies = refl; guest = is.guest; is = is.is; planned = is.planned; in_device = is.stands }
-held-flies geometry lane tag host head d h (Flying command plan (Answered at)) is = let none = is.stands.1 in cc
-held-flies geometry lane tag host head d h (Ended command st plan) is = let none = is.not_held in cc
+held-flies geometry lane tag host head d h (Flying command share (Queued at)) is = let none = is.stands.1 in cc
+held-flies geometry lane tag host head d h (Flying command share InDevice) is =
+    record { command = command; share = share; flies = refl; guest = is.guest; is = is.is; planned = is.planned; some = is.some; in_device = is.stands }
+held-flies geometry lane tag host head d h (Flying command share (Answered at)) is = let none = is.stands.1 in cc
+held-flies geometry lane tag host head d h (Ended command st share) is = let none = is.not_held in cc
 
 -- ---- the event
 
@@ -223,8 +231,9 @@ module _ (host_bytes : ℕ) (geometry : Geometry) where
         guest = holds.guest;
         is = holds.is;
         planned = holds.planned;
+        some = holds.some;
         stands =
-            moved-in_device host_bytes geometry lanes lane tag laid below tag_below holds.guest holds.command.guest holds.is.given holds.command.entry holds.plan
+            moved-in_device host_bytes geometry lanes lane tag laid below tag_below holds.guest holds.command.guest holds.is.given holds.command.entry holds.share
             holds.planned h host holds.in_device number disk kept differed;
       }) in
       record {
@@ -244,7 +253,7 @@ module _ (host_bytes : ℕ) (geometry : Geometry) where
             (λ other x o apart here under.
             (let among = slice_get-below l.tags other x here in
             tag-kept geometry lane other host memory laid.pages l.head l.head d now o x
-            (moved-undisturbed host_bytes geometry lanes lane tag laid below tag_below holds.guest holds.command.guest holds.is.given holds.command.entry holds.plan
+            (moved-undisturbed host_bytes geometry lanes lane tag laid below tag_below holds.guest holds.command.guest holds.is.given holds.command.entry holds.share
             holds.planned h host holds.in_device number disk kept other l.head d (set d.held tag (Some (unit_gone number differed h))) x apart (omega (arith, sized, among)))
             (is.tags other x o here under))));
         queued = is.queued;
@@ -254,9 +263,9 @@ module _ (host_bytes : ℕ) (geometry : Geometry) where
       }
 
   device_moved-consistent : (w : World) (lane tag number : ℕ) (l : Lane) (d : DeviceLane) (h : Held) (t : Tag)
-      → IsLaidOut host_bytes (length w.lanes) geometry → IsConsistent geometry w
+      → IsLaidOut host_bytes (length w.lanes) geometry → IsConsistentOfTags geometry w
       → slice_get w.lanes lane ≡ Some l → slice_get w.device lane ≡ Some d → slice_get l.tags tag ≡ Some t → slice_get d.held tag ≡ Some (Some h)
-      → IsConsistent geometry (device_moved geometry.disk_blocks lane tag number h w)
+      → IsConsistentOfTags geometry (device_moved geometry.disk_blocks lane tag number h w)
   unfolding device_moved
   device_moved-consistent w lane tag number l d h t laid is at there found held =
       let m = device_unit number geometry.disk_blocks h w.host w.disk w.kept in
@@ -269,21 +278,21 @@ module _ (host_bytes : ℕ) (geometry : Geometry) where
       let now = with_held tag (Some (unit_gone number m.differed h)) d in
       let behind = moved-lane (length w.lanes) lane tag number w.host w.disk w.kept l d h m.differed t laid below before found held in
       let whole = world-lane geometry w lane m.memory l now laid.pages
-      (moved-elsewhere host_bytes geometry (length w.lanes) lane tag laid below tag_below holds.guest holds.command.guest holds.is.given holds.command.entry holds.plan
+      (moved-elsewhere host_bytes geometry (length w.lanes) lane tag laid below tag_below holds.guest holds.command.guest holds.is.given holds.command.entry holds.share
       holds.planned h w.host holds.in_device number w.disk w.kept) behind is in
       let device : set w.device lane now ≡ changed_at (slice_get w.device lane) lane (with_held tag (Some (unit_gone number m.differed h))) w.device =
       sym (ap (λ o. changed_at o lane (with_held tag (Some (unit_gone number m.differed h))) w.device) there) in
-      subst (λ ds. IsConsistent geometry (record w { host = m.memory; device = ds; disk = m.disk; kept = m.kept })) device
-      (subst (λ ls. IsConsistent geometry (record w { host = m.memory; lanes = ls; device = set w.device lane now; disk = m.disk; kept = m.kept })) (set-same w.lanes lane l at)
+      subst (λ ds. IsConsistentOfTags geometry (record w { host = m.memory; device = ds; disk = m.disk; kept = m.kept })) device
+      (subst (λ ls. IsConsistentOfTags geometry (record w { host = m.memory; lanes = ls; device = set w.device lane now; disk = m.disk; kept = m.kept })) (set-same w.lanes lane l at)
       (blocks-consistent geometry (record w { host = m.memory; lanes = set w.lanes lane l; device = set w.device lane now }) m.disk m.kept whole))
 
-  pub moves-consistent : (w : World) (lane slot number : ℕ) → IsLaidOut host_bytes (length w.lanes) geometry → IsConsistent geometry w
-      → IsConsistent geometry (step geometry (event.DevMove lane slot number) w).world
+  pub moves-consistent : (w : World) (lane slot number : ℕ) → IsLaidOut host_bytes (length w.lanes) geometry → IsConsistentOfTags geometry w
+      → IsConsistentOfTags geometry (step geometry (event.DevMove lane slot number) w).world
   unfolding step
   moves-consistent w lane slot number laid is =
-      device-walk (IsConsistent geometry) w is (slice_get w.device lane) _ (λ d there.
-      held-walk (IsConsistent geometry) w is (slice_get d.held slot) (λ h. device_move geometry.disk_blocks lane slot number h w) (λ h held.
-      either (IsConsistent geometry) w is (list_any (λ k. k == number) h.left) _ _
+      device-walk (IsConsistentOfTags geometry) w is (slice_get w.device lane) _ (λ d there.
+      held-walk (IsConsistentOfTags geometry) w is (slice_get d.held slot) (λ h. device_move geometry.disk_blocks lane slot number h w) (λ h held.
+      either (IsConsistentOfTags geometry) w is (list_any (λ k. k == number) h.left) _ _
       (λ left.
       (let among = slice_get-below w.device lane d there in
       let sides = is.sides in

@@ -1,21 +1,22 @@
--- Which host addresses a plan names: those of its guest's memory, or its tag's bounce pages.
-use Rattle.std.proofs.Common.{◌≡◌, ℕ, zero, suc, ◌+◌, ◌<◌, ◌≤◌, ◌⊎◌, inl, inr, List, [], ◌∷◌, All, flat_map, map, Option, Some, None, option_to_list, arith, refl, sym, ◌∙◌, subst}
+-- Which host addresses a share names: those of its guest's memory, or its tag's bounce pages.
+use Rattle.std.proofs.Common.{◌≡◌, ℕ, zero, suc, ◌+◌, ◌<◌, ◌≤◌, ◌⊎◌, inl, inr, List, []}
+use Rattle.std.proofs.Common.{◌∷◌, All, flat_map, map, Option, Some, None, option_to_list, arith, refl, sym, ◌∙◌, subst}
 use Rattle.std.specs.Prelude.{◌≢◌}
 use Rattle.std.specs.List.{AllPairs, range_with_len}
 use Rattle.std.proofs.lemmas.List.Elements.{All-append, All-cons, All-map, All-nil, All-weaker}
-use Rattle.nv_mem.specs.GuestMap.{IsApart, guest_of, host_of, mapped}
+use Rattle.nv_mem.specs.GuestMap.{IsApart, guest_of, host_of}
 use Rattle.nv_mem.specs.Places.{At, Bucket, Place, places_of, total_len}
 use Rattle.nv_mem.specs.declared.region.Region.{Region}
 use Rattle.nv_mem.proofs.Images.{guest_of-host}
+use Rattle.nv_model.specs.Judge.{Work}
 use Rattle.nv_model.specs.Laws.{IsAnother}
 use Rattle.nv_model.specs.Limits.{most_bytes}
-use Rattle.nv_model.proofs.AnyAnswers.{end-short, end-sound}
 use Rattle.nv_prp.specs.Fits.{host_address, hosts_of}
 use Rattle.nv_world_model.specs.Area.{addresses_of}
-use Rattle.nv_world_model.specs.Geometry.{Guest, regions_of, shape_of}
-use Rattle.nv_world_model.specs.Plan.{Plan}
+use Rattle.nv_world_model.specs.Geometry.{Guest, regions_of}
+use Rattle.nv_world_model.specs.Share.{Share}
 use Rattle.nv_laws_sound.specs.Consistent.{IsPlanned}
-use Rattle.nv_laws_sound.proofs.PlanSizes.{planned-kinds}
+use Rattle.nv_laws_sound.proofs.PlanSizes.{own-few, own_work, planned-kinds}
 
 -- another host address
 abbrev IsNot : (at : ℕ) → ℕ → Type 0
@@ -60,24 +61,23 @@ row-apart : (from len at : ℕ) → (at < from) ⊎ (from + len ≤ at) → All 
 row-apart from len at (inl before) = row-all (IsNot at) from len (λ x low high same. absurd (omega (arith, low, same, before)))
 row-apart from len at (inr behind) = row-all (IsNot at) from len (λ x low high same. absurd (omega (arith, high, same, behind)))
 
--- an address outside of the guest's memory and of the tag's bounce pages is none that a plan names
-pub addresses-apart : (guest : Guest) (entry : List ℕ) (plan : Plan) (bounce at : ℕ) → AllPairs IsApart (regions_of guest)
-    → IsPlanned guest entry plan → guest_of (regions_of guest) at ≡ None → (at < bounce) ⊎ (bounce + most_bytes ≤ at)
-    → All (IsAnother (At at)) (map At (addresses_of plan guest bounce))
-addresses-apart guest entry plan bounce at apart is outside away =
-    let short = end-short (mapped (regions_of guest)) guest.limit (shape_of guest).blocks entry is.work is.verdict in
-    let total = (end-sound (mapped (regions_of guest)) guest.limit (shape_of guest).blocks entry is.work is.verdict).total in
-    let few : total_len is.work.pieces ≤ most_bytes = rw total short in
-    let beyond : (at < bounce) ⊎ (bounce + total_len is.work.pieces ≤ at) = further few away in
-    as_places (addresses_of plan guest bounce)
-    (planned-kinds (λ p. All (IsNot at) (addresses_of p guest bounce)) guest entry plan is
+-- an address outside of the guest's memory and of the tag's bounce pages is none that a share names
+pub addresses-apart : (guest : Guest) (entry : List ℕ) (share : Share) (bounce at : ℕ) → AllPairs IsApart (regions_of guest)
+    → IsPlanned guest entry share → guest_of (regions_of guest) at ≡ None → (at < bounce) ⊎ (bounce + most_bytes ≤ at)
+    → All (IsAnother (At at)) (map At (addresses_of share.plan guest bounce))
+addresses-apart guest entry share bounce at apart is outside away =
+    let own : Work = own_work guest entry share is in
+    let beyond : (at < bounce) ⊎ (bounce + total_len own.pieces ≤ at) = further own (own-few guest entry share is) away in
+    as_places (addresses_of share.plan guest bounce)
+    (planned-kinds (λ p. All (IsNot at) (addresses_of p guest bounce)) guest entry share is
     (All-nil (IsNot at))
-    (λ fits. hosts-apart (regions_of guest) at (places_of is.work.pieces) apart outside)
-    (row-apart bounce (total_len is.work.pieces) at beyond))
+    (λ fits. hosts-apart (regions_of guest) at (places_of own.pieces) apart outside)
+    (row-apart bounce (total_len own.pieces) at beyond))
   where
-    further : total_len is.work.pieces ≤ most_bytes → (at < bounce) ⊎ (bounce + most_bytes ≤ at) → (at < bounce) ⊎ (bounce + total_len is.work.pieces ≤ at)
-    further few (inl before) = inl before
-    further few (inr behind) = inr (omega (arith, few, behind))
+    further : (own : Work) → total_len own.pieces ≤ most_bytes → (at < bounce) ⊎ (bounce + most_bytes ≤ at)
+        → (at < bounce) ⊎ (bounce + total_len own.pieces ≤ at)
+    further own few (inl before) = inl before
+    further own few (inr behind) = inr (omega (arith, few, behind))
 
     at-same : (a b : ℕ) → At a ≡ At b → a ≡ b
     at-same a b e = cc

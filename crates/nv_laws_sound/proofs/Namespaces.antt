@@ -1,8 +1,8 @@
--- Where the blocks of a guest's namespace lie: each in one of its extents, and on the disk. That blocks in a row lie in a row on the disk is
--- said of a namespace of one extent.
+-- Where the blocks of a guest's namespace lie: each in one of its extents, and on the disk.
 use Rattle.std.proofs.Common.{◌≡◌, ℕ, ◌+◌, ◌-◌, ◌*◌, ◌^◌, ◌<◌, ◌≤◌, ◌⊎◌, inl, inr, Bool, true, false, ◌||◌, ◌==◌}
 use Rattle.std.proofs.Common.{List, [], ◌∷◌, All, length, if◌then◌else◌, arith, refl, sym, ap, ◌∙◌}
 use Rattle.std.specs.List.{Contains}
+use Rattle.std.proofs.Math.Nat.{mul-le-mul_right}
 use Rattle.std.proofs.lemmas.Bool.{cases_lt}
 use Rattle.std.proofs.lemmas.Grind.{common_steps}
 use Rattle.std.proofs.lemmas.List.Elements.{All-contains_itself, All-head, All-tail, All-weaker}
@@ -124,33 +124,6 @@ own-ends host_bytes disk_blocks start count guest given own some =
     let last = own-disk host_bytes disk_blocks (start + (count - 1)) guest given (own (count - 1) (omega (arith, some))) in
     omega (arith, some, last)
 
--- ---- a namespace of one extent
-
--- its blocks in a row lie in a row
-pub row : (ns : Namespace) (slba count i : ℕ) → length ns ≡ 1 → slba + count ≤ blocks_in ns → i < count
-    → place_in ns (slba + i) ≡ place_in ns slba + i
-row [] slba count i one fits below = cc
-row (extent ∷ []) slba count i one fits below =
-    let first = place_in-here extent [] slba (omega arith) in
-    let there = place_in-here extent [] (slba + i) (omega arith) in omega (arith, first, there)
-row (extent ∷ more ∷ rest) slba count i one fits below = absurd (omega (arith, one))
-
--- and in the extent
-pub own-row : (ns : Namespace) (slba count : ℕ) → length ns ≡ 1 → slba + count ≤ blocks_in ns → AreOwn ns (place_in ns slba) count
-own-row ns slba count one fits =
-    λ i below. ap (in_extents ns) (sym (row ns slba count i one fits below)) ∙ place-own ns (slba + i) (omega (arith, fits, below))
-
--- a row of a guest's ends on the disk
-pub row-disk : (host_bytes disk_blocks slba count : ℕ) (guest : Guest) → IsGiven host_bytes disk_blocks guest
-    → slba + count ≤ blocks_in guest.namespace → place_in guest.namespace slba + count ≤ disk_blocks
-row-disk host_bytes disk_blocks slba count guest given fits =
-    elim (cases_lt 0 count) [
-      | inl some ↦
-          own-ends host_bytes disk_blocks (place_in guest.namespace slba) count guest given
-          (own-row guest.namespace slba count given.one fits) some
-      | inr none ↦ (let within = place-fits host_bytes disk_blocks slba guest given in omega (arith, none, within))
-    ]
-
 -- ---- ranges
 
 -- a range that fits ends in the namespace
@@ -168,20 +141,6 @@ range_place-some ns range some =
     not-none : (n : ℕ) → 0 < n → (n == 0) ≡ false
     not-none n some = grind (arith, common_steps)
 
--- the blocks of a range lie in a row
-pub range-row : (ns : Namespace) (range : List ℕ) (i : ℕ) → length ns ≡ 1 → range_fits (blocks_in ns) range ≡ true → i < blocks_of range
-    → place_in ns (start_of range + i) ≡ range_place ns range + i
-range-row ns range i one fits below =
-    row ns (start_of range) (blocks_of range) i one (range-within (blocks_in ns) range fits) below
-    ∙ ap (λ n. n + i) (sym (range_place-some ns range (omega (arith, below))))
-
--- and in the extent
-pub own-range : (ns : Namespace) (range : List ℕ) → length ns ≡ 1 → range_fits (blocks_in ns) range ≡ true
-    → AreOwn ns (range_place ns range) (blocks_of range)
-own-range ns range one fits =
-    λ i below. ap (in_extents ns) (sym (range-row ns range i one fits below))
-    ∙ place-own ns (start_of range + i) (let within = range-within (blocks_in ns) range fits in omega (arith, within, below))
-
 -- as many extents as these have at most as many blocks
 blocks-most : (disk_blocks : ℕ) (ns : Namespace) → All (IsOnDisk disk_blocks) ns → blocks_in ns ≤ length ns * disk_blocks
 blocks-most disk_blocks [] each = omega arith
@@ -190,10 +149,12 @@ blocks-most disk_blocks (extent ∷ rest) each =
     let more = blocks-most disk_blocks rest (All-tail (IsOnDisk disk_blocks) extent rest each) in omega (arith, first, more)
 
 -- a guest's blocks are few
-blocks-few : (host_bytes disk_blocks : ℕ) (guest : Guest) → IsGiven host_bytes disk_blocks guest
-    → blocks_in guest.namespace ≤ 1 * disk_blocks
+pub blocks-few : (host_bytes disk_blocks : ℕ) (guest : Guest) → IsGiven host_bytes disk_blocks guest
+    → blocks_in guest.namespace ≤ 8 * disk_blocks
 blocks-few host_bytes disk_blocks guest given =
-    rw given.one at (blocks-most disk_blocks guest.namespace (all-on_disk host_bytes disk_blocks guest given))
+    let most = blocks-most disk_blocks guest.namespace (all-on_disk host_bytes disk_blocks guest given) in
+    let times = mul-le-mul_right disk_blocks given.few in
+    omega (arith, most, times)
 
 first_base-most : (disk_blocks : ℕ) (ns : Namespace) → All (IsOnDisk disk_blocks) ns → first_base ns ≤ disk_blocks
 first_base-most disk_blocks [] each = omega arith
@@ -201,17 +162,21 @@ first_base-most disk_blocks (extent ∷ rest) each =
     let first = All-head (IsOnDisk disk_blocks) extent rest each in omega (arith, first)
 
 -- where a guest's range lies, also one of no blocks, is a number of 64 bits
-pub range_place-fits : (host_bytes disk_blocks : ℕ) (guest : Guest) (range : List ℕ) → IsGiven host_bytes disk_blocks guest
-    → disk_blocks ≤ most_disk_blocks → range_fits (blocks_in guest.namespace) range ≡ true → range_place guest.namespace range < 2 ^ 64
-range_place-fits host_bytes disk_blocks guest range given few fits = at (blocks_of range == 0)
+pub range_place-ends : (host_bytes disk_blocks : ℕ) (guest : Guest) (range : List ℕ) → IsGiven host_bytes disk_blocks guest
+    → disk_blocks ≤ most_disk_blocks → start_of range + blocks_of range ≤ blocks_in guest.namespace → range_place guest.namespace range < 2 ^ 64
+range_place-ends host_bytes disk_blocks guest range given few within = at (blocks_of range == 0)
   where
     at : (none : Bool)
         → (if none then first_base guest.namespace + start_of range else place_in guest.namespace (start_of range)) < 2 ^ 64
     at true =
-        let within = range-within (blocks_in guest.namespace) range fits in
         let first = first_base-most disk_blocks guest.namespace (all-on_disk host_bytes disk_blocks guest given) in
         let most = blocks-few host_bytes disk_blocks guest given in omega (arith, within, first, most, few)
-    at false = (let within = place-fits host_bytes disk_blocks (start_of range) guest given in omega (arith, within, few))
+    at false = (let inside = place-fits host_bytes disk_blocks (start_of range) guest given in omega (arith, inside, few))
+
+pub range_place-fits : (host_bytes disk_blocks : ℕ) (guest : Guest) (range : List ℕ) → IsGiven host_bytes disk_blocks guest
+    → disk_blocks ≤ most_disk_blocks → range_fits (blocks_in guest.namespace) range ≡ true → range_place guest.namespace range < 2 ^ 64
+range_place-fits host_bytes disk_blocks guest range given few fits =
+    range_place-ends host_bytes disk_blocks guest range given few (range-within (blocks_in guest.namespace) range fits)
 
 -- and so few are its blocks that 32 bits hold their number
 pub range-short : (host_bytes disk_blocks : ℕ) (guest : Guest) (range : List ℕ) → IsGiven host_bytes disk_blocks guest
@@ -219,11 +184,3 @@ pub range-short : (host_bytes disk_blocks : ℕ) (guest : Guest) (range : List �
 range-short host_bytes disk_blocks guest range given few fits =
     let within = range-within (blocks_in guest.namespace) range fits in
     let most = blocks-few host_bytes disk_blocks guest given in omega (arith, within, most, few)
-
--- some of its blocks end on the disk
-pub range-disk : (host_bytes disk_blocks : ℕ) (guest : Guest) (range : List ℕ) → IsGiven host_bytes disk_blocks guest
-    → range_fits (blocks_in guest.namespace) range ≡ true → 0 < blocks_of range
-    → range_place guest.namespace range + blocks_of range ≤ disk_blocks
-range-disk host_bytes disk_blocks guest range given fits some =
-    own-ends host_bytes disk_blocks (range_place guest.namespace range) (blocks_of range) guest given
-    (own-range guest.namespace range given.one fits) some

@@ -13,8 +13,8 @@ use Rattle.nv_entry.specs.Submission.{opcode_of, slba_of}
 use Rattle.nv_mem.specs.GuestMap.{mapped}
 use Rattle.nv_mem.specs.Places.{At, addresses, places_of, total_len}
 use Rattle.nv_model.specs.Laws.{IsElsewhere}
-use Rattle.nv_model.specs.Judge.{ClearBlock, LeaveBlock, clear_units, one_range_units, Clear, Form, Keep, Manage, Transfer, count_of, form_has_blocks, form_of}
-use Rattle.nv_model.specs.Judge.{form_transfer_len, has_blocks, range_count_of, range_fits}
+use Rattle.nv_model.specs.Judge.{ClearBlock, LeaveBlock, clear_units, one_range_units, Clear, Form, Keep, Manage, Transfer, Work, count_of, form_has_blocks, form_of}
+use Rattle.nv_model.specs.Judge.{has_blocks}
 use Rattle.nv_model.specs.Memory.{bytes_from, gathered}
 use Rattle.nv_model.proofs.AnyAnswers.{end-sound, end-within}
 use Rattle.nv_model.proofs.Endings.{and-true}
@@ -22,20 +22,25 @@ use Rattle.nv_model.proofs.Judged.{IsSoundWork}
 use Rattle.nv_model.proofs.MemoryLemmas.{gathered-addresses}
 use Rattle.nv_ns.specs.Extents.{Namespace, blocks_in, place_in}
 use Rattle.nv_prp.specs.declared.prps.Prps.{Prps}
-use Rattle.nv_world_model.specs.Area.{addresses_of, bounce_page, entry_of, list_page, prps_of, range_place, translated_range}
+use Rattle.nv_world_model.specs.Area.{addresses_of, bounce_page, list_page, physical_entry, prps_of, range_place, translated_range}
 use Rattle.nv_world_model.specs.Device.{Held, form_unit_count, range_at, unit_count}
 use Rattle.nv_world_model.specs.Geometry.{Geometry, Guest, regions_of, shape_of}
-use Rattle.nv_world_model.specs.Plan.{Bounced, Direct, NoData, Plan, go_plan}
+use Rattle.nv_world_model.specs.Plan.{Bounced, Direct, NoData, go_plan}
+use Rattle.nv_world_model.specs.Share.{Share, with_work}
+use Rattle.nv_world_model.specs.ShareArea.{first_lba, own_dwords, share_entry, work_dwords}
+use Rattle.nv_world_model.specs.ShareArea.{is_no_command}
 use Rattle.nv_world_model.specs.View.{in_extents}
 use Rattle.nv_laws_sound.specs.Area.{Shows, form_ranges, ranges_of}
 use Rattle.nv_laws_sound.specs.Consistent.{IsInDevice, IsPlanned}
 use Rattle.nv_laws_sound.specs.LaidOut.{IsLaidOut}
-use Rattle.nv_laws_sound.proofs.EntryFields.{form-start}
-use Rattle.nv_laws_sound.proofs.LaidOuts.{all-one}
+use Rattle.nv_laws_sound.proofs.EntryFields.{form-back, form-start, own_units}
 use Rattle.nv_laws_sound.proofs.Lists.{slice_get-there}
 use Rattle.nv_laws_sound.proofs.Named.{row-all}
-use Rattle.nv_laws_sound.proofs.Namespaces.{AreOwn, place-fits, place-own, range-row, range-short, range-within, range_place-fits, row}
-use Rattle.nv_laws_sound.proofs.PlanSizes.{planned-kinds}
+use Rattle.nv_laws_sound.proofs.Namespaces.{AreOwn, blocks-few, place-fits, place-own, range_place-ends}
+use Rattle.nv_laws_sound.proofs.Numbers.{all-at}
+use Rattle.nv_laws_sound.proofs.OwnRows.{IsRangeRow}
+use Rattle.nv_laws_sound.proofs.OwnWork.{IsOwn, IsRow, own-of, own_len}
+use Rattle.nv_laws_sound.proofs.PlanSizes.{own-counts, own_work, planned-kinds}
 use Rattle.nv_laws_sound.proofs.Shows.{shows-append}
 
 -- ---- a translated range
@@ -131,9 +136,20 @@ blocks-counted Keep entry has = cc
 -- ---- on the disk
 
 module _ (host_bytes lanes : ℕ) (geometry : Geometry) (laid : IsLaidOut host_bytes lanes geometry) (owner : ℕ) (guest : Guest)
-    (given : slice_get geometry.guests owner ≡ Some guest) (entry : List ℕ) (plan : Plan) (is : IsPlanned guest entry plan) (lane tag : ℕ) where
+    (given : slice_get geometry.guests owner ≡ Some guest) (entry : List ℕ) (share : Share) (is : IsPlanned guest entry share) (lane tag : ℕ) where
   sound : IsSoundWork (mapped (regions_of guest)) (shape_of guest).blocks entry is.work
   sound = end-sound (mapped (regions_of guest)) guest.limit (shape_of guest).blocks entry is.work is.verdict
+
+  -- its physical entry
+  abbrev physical : List ℕ
+  physical = share_entry share guest.namespace guest entry geometry.mediator lane tag
+
+  -- its own work
+  abbrev own : Work
+  own = own_work guest entry share is
+
+  abbrev part : IsOwn guest entry is.work share
+  part = own-of guest entry share is
 
   -- the blocks that a command names are some of the namespace's
   pub blocks-fit : has_blocks is.work.opcode ≡ true
@@ -143,108 +159,129 @@ module _ (host_bytes lanes : ℕ) (geometry : Geometry) (laid : IsLaidOut host_b
       let both = and-true (nat_le (count_of entry) (blocks_in guest.namespace)) (nat_le (slba_of entry) (blocks_in guest.namespace - count_of entry)) within in
       (leb-true (count_of entry) (blocks_in guest.namespace) both.0, leb-true (slba_of entry) (blocks_in guest.namespace - count_of entry) both.1)
 
-  -- its physical entry names them as the disk has them
-  pub entry-starts : has_blocks is.work.opcode ≡ true
-      → slba_of (entry_of plan guest entry geometry.mediator lane tag) ≡ place_in guest.namespace (slba_of entry)
+  -- those of its physical entry are in a row
+  pub entry-row : has_blocks is.work.opcode ≡ true → IsRow guest.namespace (slba_of entry) (count_of entry) own.units
+  entry-row has = part.blocks has
+
+  -- which names them as the disk has them
+  pub entry-starts : has_blocks is.work.opcode ≡ true → slba_of physical ≡ place_in guest.namespace (first_lba own.units)
   entry-starts has =
-      let within = place-fits host_bytes geometry.disk_blocks (slba_of entry) guest (laid.given owner guest given) in
+      let within = place-fits host_bytes geometry.disk_blocks (first_lba own.units) guest (laid.given owner guest given) in
       let few = laid.few_blocks in
       let list = list_page geometry.mediator lane tag in
       let bounce = bounce_page geometry.mediator lane tag in
-      let fits : place_in guest.namespace (slba_of entry) < 2 ^ 64 = omega (arith, within, few) in
-      let started = λ (prps : Prps). form-start (form_of is.work.opcode) (opcode_of entry) tag prps guest.namespace entry has fits in
-      planned-kinds (λ p. slba_of (entry_of p guest entry geometry.mediator lane tag) ≡ place_in guest.namespace (slba_of entry)) guest entry plan is
-      (started (prps_of (NoData is.work) guest list bounce)) (λ direct. started (prps_of (Direct is.work) guest list bounce))
-      (started (prps_of (Bounced is.work) guest list bounce))
+      let fits : place_in guest.namespace (first_lba own.units) < 2 ^ 64 = omega (arith, within, few) in
+      let started = λ (prps : Prps). form-start (form_of own.opcode) (opcode_of entry) tag prps guest.namespace entry own (ap has_blocks part.opcode ∙ has) fits in
+      planned-kinds (λ p. slba_of (physical_entry (opcode_of entry) tag (prps_of p guest list bounce) (own_dwords p guest.namespace entry))
+      ≡ place_in guest.namespace (first_lba own.units)) guest entry share is
+      (started (prps_of (NoData own) guest list bounce)) (λ direct. started (prps_of (Direct own) guest list bounce))
+      (started (prps_of (Bounced own) guest list bounce))
 
   -- each of them is where the guest's lies
-  pub entry-block : has_blocks is.work.opcode ≡ true → (i : ℕ) → i < count_of entry
-      → slba_of (entry_of plan guest entry geometry.mediator lane tag) + i ≡ place_in guest.namespace (slba_of entry + i)
+  pub entry-block : (has : has_blocks is.work.opcode ≡ true) → (i : ℕ) → i < length own.units
+      → slba_of physical + i ≡ place_in guest.namespace (slba_of entry + ((entry-row has).first + i))
+  unfolding entry-row
   entry-block has i below =
-      let fit = blocks-fit has in
-      let some = fit.0 in
-      let most = fit.1 in
-      ap (λ at. at + i) (entry-starts has)
-      ∙ sym (row guest.namespace (slba_of entry) (count_of entry) i (laid.given owner guest given).one (omega (arith, some, most)) below)
+      let row = part.blocks has in
+      let none : slba_of entry + row.first ≡ slba_of entry + (row.first + 0) = omega arith in
+      let first : slba_of physical ≡ row.start + 0 =
+      entry-starts has ∙ ap (place_in guest.namespace) (row.lba ∙ none) ∙ row.row 0 row.some in
+      let back : row.start + 0 + i ≡ row.start + i = omega arith in
+      ap (λ at. at + i) first ∙ back ∙ sym (row.row i below)
 
   -- so they are the guest's
-  pub entry-own : has_blocks is.work.opcode ≡ true
-      → AreOwn guest.namespace (slba_of (entry_of plan guest entry geometry.mediator lane tag)) (count_of entry)
+  pub entry-own : has_blocks is.work.opcode ≡ true → AreOwn guest.namespace (slba_of physical) (length own.units)
   entry-own has =
       let fit = blocks-fit has in
       let some = fit.0 in
       let most = fit.1 in
+      let within = (entry-row has).within in
       λ i below. ap (in_extents guest.namespace) (entry-block has i below)
-      ∙ place-own guest.namespace (slba_of entry + i) (omega (arith, some, most, below))
+      ∙ place-own guest.namespace (slba_of entry + ((entry-row has).first + i)) (omega (arith, some, most, within, below))
 
-  module _ (h : Held) (host : ℕ → ℕ) (in_device : IsInDevice geometry guest entry plan lane tag host h) (number : ℕ)
+  -- a share that is a physical command has as many units as its entry tells
+  pub entry-units : is_no_command share ≡ false → form_unit_count (form_of is.work.opcode) physical ≡ own_units (form_of is.work.opcode) own
+  entry-units some =
+      let list = list_page geometry.mediator lane tag in
+      let bounce = bounce_page geometry.mediator lane tag in
+      let counts = own-counts guest entry share is some in
+      let formed = ap (λ o. work_dwords (form_of o) guest.namespace entry own) part.opcode in
+      let back = λ (prps : Prps). ap (λ ds. form_unit_count (form_of is.work.opcode) (physical_entry (opcode_of entry) tag prps ds)) formed
+      ∙ (form-back (form_of is.work.opcode) (opcode_of entry) tag prps guest.namespace entry own counts).1 in
+      planned-kinds (λ p. form_unit_count (form_of is.work.opcode) (physical_entry (opcode_of entry) tag (prps_of p guest list bounce)
+      (own_dwords p guest.namespace entry)) ≡ own_units (form_of is.work.opcode) own) guest entry share is
+      (back (prps_of (NoData own) guest list bounce)) (λ direct. back (prps_of (Direct own) guest list bounce)) (back (prps_of (Bounced own) guest list bounce))
+
+  module _ (some : is_no_command share ≡ false) (h : Held) (host : ℕ → ℕ) (in_device : IsInDevice geometry guest entry share lane tag host h) (number : ℕ)
       (left : list_any (λ k. k == number) h.left ≡ true) where
-    -- a unit that is left is one of the command's
-    pub unit-below : number < form_unit_count (form_of is.work.opcode) entry
+    -- a unit that is left is one of the share's
+    pub unit-below : number < own_units (form_of is.work.opcode) own
     unit-below =
-        among (λ k. k < form_unit_count (form_of is.work.opcode) entry) number h.left
-        (subst (λ o. All (λ k. k < unit_count o entry) h.left) sound.opcode in_device.left) left
+        subst (λ n. number < n) (entry-units some)
+        (among (λ k. k < form_unit_count (form_of is.work.opcode) physical) number h.left
+        (subst (λ o. All (λ k. k < unit_count o physical) h.left) sound.opcode in_device.left) left)
 
-    -- the guest's range behind it, where it has one
-    pub range-there : form_of is.work.opcode ≡ Manage → (range : List ℕ) × (slice_get is.work.ranges number ≡ Some range)
+    -- its range behind it, where it has one
+    pub range-there : form_of is.work.opcode ≡ Manage → (range : List ℕ) × (slice_get own.ranges number ≡ Some range)
     range-there form =
-        let few : number < range_count_of entry = subst (λ f. number < form_unit_count f entry) form unit-below in
-        let many : length is.work.ranges ≡ range_count_of entry = sound.counted form in
-        slice_get-there is.work.ranges number (omega (arith, few, many))
+        let few : number < length own.ranges = subst (λ f. number < own_units f own) form unit-below in
+        slice_get-there own.ranges number few
 
-    -- which is one of the namespace
-    pub range-tested : (range : List ℕ) → slice_get is.work.ranges number ≡ Some range → range_fits (blocks_in guest.namespace) range ≡ true
-    range-tested range found = all-one (range_fits (shape_of guest).blocks) is.work.ranges number range sound.fit found
+    -- which lies in a row
+    pub range-lies : form_of is.work.opcode ≡ Manage → (range : List ℕ) → slice_get own.ranges number ≡ Some range → IsRangeRow guest.namespace range
+    range-lies form range found =
+        let most = blocks-few host_bytes geometry.disk_blocks guest (laid.given owner guest given) in
+        let few = laid.few_blocks in
+        all-at (IsRangeRow guest.namespace) own.ranges number range (part.rows form (omega (arith, most, few))) found
 
     -- the device reads it as the disk has it
-    pub range-read : form_of is.work.opcode ≡ Manage → (range : List ℕ) → slice_get is.work.ranges number ≡ Some range
+    pub range-read : form_of is.work.opcode ≡ Manage → (range : List ℕ) → slice_get own.ranges number ≡ Some range
         → range_at number h.pieces host ≡ translated_range guest.namespace range
     range-read form range found =
-        let few : number < range_count_of entry = subst (λ f. number < form_unit_count f entry) form unit-below in
-        let bounced : plan ≡ Bounced is.work = is.plan_is ∙ ap (λ f. go_plan f (regions_of guest) is.work) form in
+        let few : number < length own.ranges = subst (λ f. number < own_units f own) form unit-below in
+        let bounced : share.plan ≡ Bounced own =
+        part.plan_is ∙ ap (λ p. with_work p own) (is.whole_is ∙ ap (λ f. go_plan f (regions_of guest) is.work) form) in
         let bounce = bounce_page geometry.mediator lane tag in
-        let ranges_shown : Shows host bounce (flat_map (translated_range guest.namespace) is.work.ranges) =
-        subst (λ f. Shows host bounce (form_ranges f guest is.work)) form
+        let ranges_shown : Shows host bounce (flat_map (translated_range guest.namespace) own.ranges) =
+        subst (λ f. Shows host bounce (form_ranges f guest own)) (ap form_of part.opcode ∙ form)
         (subst (λ p. Shows host bounce (ranges_of p guest)) bounced in_device.pages.ranges) in
-        let places : places_of h.pieces ≡ map At (range_with_len bounce (total_len is.work.pieces)) =
+        let places : places_of h.pieces ≡ map At (range_with_len bounce (total_len own.pieces)) =
         in_device.places ∙ ap (λ p. map At (addresses_of p guest bounce)) bounced in
-        let total : total_len is.work.pieces ≡ 16 * range_count_of entry = sound.total ∙ ap (λ f. form_transfer_len f entry) form in
-        let rest : ℕ = 16 * range_count_of entry - (16 * number + 16) in
-        let split : total_len is.work.pieces ≡ 16 * number + (16 + rest) = omega (arith, total, few) in
+        let total : total_len own.pieces ≡ 16 * length own.ranges = part.total ∙ ap (λ f. own_len f own) form in
+        let rest : ℕ = 16 * length own.ranges - (16 * number + 16) in
+        let split : total_len own.pieces ≡ 16 * number + (16 + rest) = omega (arith, total, few) in
         ap (λ ps. gathered host (take 16 (drop (16 * number) ps))) (places ∙ ap (λ n. map At (range_with_len bounce n)) split)
         ∙ row-bytes host bounce (16 * number) rest
-        ∙ shown-range guest.namespace host is.work.ranges number bounce range found ranges_shown
+        ∙ shown-range guest.namespace host own.ranges number bounce range found ranges_shown
 
     -- so what it has of it is the range's place on the disk, and its length
-    pub range-fields : form_of is.work.opcode ≡ Manage → (range : List ℕ) → slice_get is.work.ranges number ≡ Some range
+    pub range-fields : form_of is.work.opcode ≡ Manage → (range : List ℕ) → slice_get own.ranges number ≡ Some range
         → (start_of (range_at number h.pieces host) ≡ range_place guest.namespace range)
         × (blocks_of (range_at number h.pieces host) ≡ blocks_of range)
     range-fields form range found =
-        let fits = range-tested range found in
+        let within = (range-lies form range found).within in
         let is_given = laid.given owner guest given in
+        let most = blocks-few host_bytes geometry.disk_blocks guest is_given in
+        let few = laid.few_blocks in
         let read = range-read form range found in (
           ap start_of read
-              ∙ translated-start guest.namespace range
-              (range_place-fits host_bytes geometry.disk_blocks guest range is_given laid.few_blocks fits),
-          ap blocks_of read
-              ∙ translated-blocks guest.namespace range
-              (range-short host_bytes geometry.disk_blocks guest range is_given laid.few_blocks fits),
+              ∙ translated-start guest.namespace range (range_place-ends host_bytes geometry.disk_blocks guest range is_given few within),
+          ap blocks_of read ∙ translated-blocks guest.namespace range (omega (arith, within, most, few)),
         )
 
     -- each of its blocks is where the guest's lies
-    pub range-block : form_of is.work.opcode ≡ Manage → (range : List ℕ) → slice_get is.work.ranges number ≡ Some range
+    pub range-block : form_of is.work.opcode ≡ Manage → (range : List ℕ) → slice_get own.ranges number ≡ Some range
         → (i : ℕ) → i < blocks_of range
         → start_of (range_at number h.pieces host) + i ≡ place_in guest.namespace (start_of range + i)
     range-block form range found i below =
-        ap (λ at. at + i) (range-fields form range found).0
-        ∙ sym (range-row guest.namespace range i (laid.given owner guest given).one (range-tested range found) below)
+        ap (λ at. at + i) (range-fields form range found).0 ∙ sym ((range-lies form range found).row i below)
 
     -- so they are the guest's
     pub range-own : form_of is.work.opcode ≡ Manage
         → AreOwn guest.namespace (start_of (range_at number h.pieces host)) (blocks_of (range_at number h.pieces host))
     range-own form =
         let range = range-there form in
-        let within = range-within (blocks_in guest.namespace) range.0 (range-tested range.0 range.1) in
+        let within = (range-lies form range.0 range.1).within in
         subst (AreOwn guest.namespace (start_of (range_at number h.pieces host))) (sym (range-fields form range.0 range.1).1)
         (λ i below. ap (in_extents guest.namespace) (range-block form range.0 range.1 i below)
         ∙ place-own guest.namespace (start_of range.0 + i) (omega (arith, within, below)))

@@ -1,5 +1,5 @@
 -- The world at the start.
-use Rattle.std.proofs.Common.{◌≡◌, ℕ, zero, suc, Bool, cond, length, replicate, Option, None, arith, refl, sym, ◌∙◌, subst}
+use Rattle.std.proofs.Common.{◌≡◌, ℕ, zero, suc, Bool, cond, length, replicate, slice_get, Option, Some, None, arith, refl, sym, ap, ◌∙◌, subst}
 use Rattle.std.proofs.lemmas.List.{length-replicate}
 use Rattle.std.proofs.lemmas.List.Sums.{sum_by-cons}
 use Rattle.nv_mem.specs.GuestMap.{mapped}
@@ -11,8 +11,11 @@ use Rattle.nv_world_model.specs.Area.{tag_count}
 use Rattle.nv_world_model.specs.Contained.{tag_stands}
 use Rattle.nv_world_model.specs.Device.{DeviceLane, Held, opening_device_lane}
 use Rattle.nv_world_model.specs.Geometry.{Geometry, regions_of}
-use Rattle.nv_world_model.specs.World.{Free, Standing, Tag, opening_lane, opening_world}
-use Rattle.nv_laws_sound.specs.Consistent.{IsBetween, IsConsistent, IsLane, IsTag, standing_count, waits_for_device, waits_for_mediator}
+use Rattle.nv_world_model.specs.World.{Free, Lane, Standing, Tag, opening_lane, opening_world}
+use Rattle.nv_laws_sound.specs.Consistent.{IsBetween, IsConsistent, IsConsistentOfTags, IsLane, IsTag, standing_count, waits_for_device, waits_for_mediator}
+use Rattle.nv_laws_sound.specs.Groups.{NoPart, command_of, part_of, parts_of}
+use Rattle.nv_laws_sound.proofs.Folds.{part-tag}
+use Rattle.nv_laws_sound.proofs.GroupsKept.{HasGroups}
 use Rattle.nv_laws_sound.proofs.Lists.{slice_get-replicate}
 
 -- no free tag stands anywhere
@@ -43,9 +46,18 @@ lane-opening geometry lane host =
       answered_count = standing_count-free waits_for_mediator tag_count;
     }
 
-pub opening-consistent : (geometry : Geometry) (lanes : ℕ) → IsConsistent geometry (opening_world geometry lanes)
+-- no tag has a command
+opening-groups : (geometry : Geometry) (lanes : ℕ) → HasGroups geometry (replicate lanes opening_lane)
+opening-groups geometry lanes lane l at tag part command there has =
+    let free : slice_get (parts_of (replicate tag_count Free)) tag ≡ Some part =
+    ap (λ (x : Lane). slice_get (parts_of x.tags) tag) (slice_get-replicate lanes lane opening_lane l at) ∙ there in
+    let t = part-tag (replicate tag_count Free) tag part free in
+    let none : NoPart ≡ part = ap part_of (slice_get-replicate tag_count tag Free t.t t.is) ∙ t.part_is in
+    let bad : None ≡ Some command = ap command_of none ∙ has in cc
+
+opening-of_tags : (geometry : Geometry) (lanes : ℕ) → IsConsistentOfTags geometry (opening_world geometry lanes)
 unfolding opening_world
-opening-consistent geometry lanes =
+opening-of_tags geometry lanes =
     record {
       sides = length-replicate lanes opening_lane ∙ sym (length-replicate lanes opening_device_lane);
       controllers = length-replicate (length geometry.guests) opening;
@@ -58,3 +70,7 @@ opening-consistent geometry lanes =
           (QueuesHave-opening (mapped (regions_of guest)) (IsSubmissionInPlace (mapped (regions_of guest))) (IsCompletionInPlace (mapped (regions_of guest)))
           (IsKept-in_place (mapped (regions_of guest)))));
     }
+
+pub opening-consistent : (geometry : Geometry) (lanes : ℕ) → IsConsistent geometry (opening_world geometry lanes)
+unfolding opening_world
+opening-consistent geometry lanes = record { of_tags = opening-of_tags geometry lanes; groups = opening-groups geometry lanes }

@@ -6,10 +6,10 @@ use Rattle.nv_world_model.specs.Contained.{is_answered_at, is_queued_at, tag_sta
 use Rattle.nv_world_model.specs.Device.{DeviceLane, Held}
 use Rattle.nv_world_model.specs.Geometry.{Geometry}
 use Rattle.nv_world_model.specs.World.{Command, Flying, Lane, Standing, Tag, World, changed_at, tag_changed, tag_in, tag_of, with_device, with_host, with_tag}
-use Rattle.nv_world_model.specs.Plan.{Plan}
+use Rattle.nv_world_model.specs.Share.{Share}
 use Rattle.nv_world_model.specs.Step.{standing_at, stands}
 use Rattle.nv_world_model.proofs.Seats.{slice_get-set-other}
-use Rattle.nv_laws_sound.specs.Consistent.{IsConsistent, IsLane, IsTag, SomeStands, standing_count, waits_for_device, waits_for_mediator}
+use Rattle.nv_laws_sound.specs.Consistent.{IsConsistentOfTags, IsLane, IsTag, SomeStands, standing_count, waits_for_device, waits_for_mediator}
 use Rattle.nv_laws_sound.proofs.Lists.{IsThere, Put, Was, count-set, length-set, set-same, set-there, slice_get-below, slice_get-there, some-same}
 use Rattle.nv_laws_sound.proofs.Changes.{world-lane}
 
@@ -25,7 +25,7 @@ pub record IsAt (w : World) (lane tag : ℕ) (t : Tag) : Type 0 where
   pub at_tag : slice_get l.tags tag ≡ Some t
   pub at_held : slice_get d.held tag ≡ Some held
 
-is-at-lane : (geometry : Geometry) (w : World) (lane tag : ℕ) (t : Tag) (l : Lane) (d : DeviceLane) → IsConsistent geometry w
+is-at-lane : (geometry : Geometry) (w : World) (lane tag : ℕ) (t : Tag) (l : Lane) (d : DeviceLane) → IsConsistentOfTags geometry w
     → slice_get w.lanes lane ≡ Some l → slice_get w.device lane ≡ Some d → slice_get l.tags tag ≡ Some t → IsAt w lane tag t
 is-at-lane geometry w lane tag t l d is at there found =
     let positions = (is.lanes lane l d at there).positions in
@@ -35,7 +35,7 @@ is-at-lane geometry w lane tag t l d is at there found =
     let under = slice_get-there d.held tag (omega (arith, sized, holds, below)) in
     record { l = l; d = d; held = under.0; at_lane = at; at_device = there; at_tag = found; at_held = under.1 }
 
-pub is-at : (geometry : Geometry) (w : World) (lane tag : ℕ) (t : Tag) → IsConsistent geometry w → tag_of w lane tag ≡ Some t → IsAt w lane tag t
+pub is-at : (geometry : Geometry) (w : World) (lane tag : ℕ) (t : Tag) → IsConsistentOfTags geometry w → tag_of w lane tag ≡ Some t → IsAt w lane tag t
 is-at geometry w lane tag t is found =
     (elim (slice_get w.lanes lane) as (λ o. slice_get w.lanes lane ≡ o → tag_in o tag ≡ Some t → IsAt w lane tag t) [
       | None ↦ λ at there. cc
@@ -47,7 +47,7 @@ is-at geometry w lane tag t is found =
     ]) refl found
 
 -- the tag is as the lane says
-pub tag-is : (geometry : Geometry) (w : World) (lane tag : ℕ) (t : Tag) → IsConsistent geometry w → (a : IsAt w lane tag t)
+pub tag-is : (geometry : Geometry) (w : World) (lane tag : ℕ) (t : Tag) → IsConsistentOfTags geometry w → (a : IsAt w lane tag t)
     → IsTag geometry lane tag w.host a.l.head a.d a.held t
 tag-is geometry w lane tag t is a = (is.lanes lane a.l a.d a.at_lane a.at_device).tags tag t a.held a.at_tag a.at_held
 
@@ -128,26 +128,26 @@ pub with_tag-is : (lane tag : ℕ) (now : Tag) (w : World) (l : Lane) → slice_
     → with_tag lane tag now w ≡ record w { lanes = set w.lanes lane (tag_changed tag now l) }
 with_tag-is lane tag now w l at = ap (λ o. record w { lanes = changed_at o lane (tag_changed tag now) w.lanes }) at
 
-pub retagged : (geometry : Geometry) (lane tag : ℕ) (w : World) (t now : Tag) → geometry.mediator % page ≡ 0 → IsConsistent geometry w
+pub retagged : (geometry : Geometry) (lane tag : ℕ) (w : World) (t now : Tag) → geometry.mediator % page ≡ 0 → IsConsistentOfTags geometry w
     → (a : IsAt w lane tag t) → StandsNowhere t → StandsNowhere now → IsTag geometry lane tag w.host a.l.head a.d a.held now
-    → IsConsistent geometry (with_tag lane tag now w)
+    → IsConsistentOfTags geometry (with_tag lane tag now w)
 retagged geometry lane tag w t now aligned is a was nowhere new =
     let there = is.lanes lane a.l a.d a.at_lane a.at_device in
     let lanes = lane-retagged geometry lane tag w.host a.l a.d t now a.held there a.at_tag a.at_held was nowhere new in
     let whole = world-lane geometry w lane w.host (tag_changed tag now a.l) a.d aligned (λ at apart below x low high. refl) lanes is in
-    subst (IsConsistent geometry) (sym (with_tag-is lane tag now w a.l a.at_lane))
-    (subst (λ ds. IsConsistent geometry (record w { lanes = set w.lanes lane (tag_changed tag now a.l); device = ds })) (set-same w.device lane a.d a.at_device) whole)
+    subst (IsConsistentOfTags geometry) (sym (with_tag-is lane tag now w a.l a.at_lane))
+    (subst (λ ds. IsConsistentOfTags geometry (record w { lanes = set w.lanes lane (tag_changed tag now a.l); device = ds })) (set-same w.device lane a.d a.at_device) whole)
 
 -- ---- the world with one lane, the device's side of it, and the host changed
 
 -- a tag that was handed on stands elsewhere, and the device's side of its lane and the host change
-pub stands-is : (w : World) (lane tag : ℕ) (l : Lane) (d : DeviceLane) (command : Command) (plan : Plan) (before s : Standing) (host : ℕ → ℕ) (change : DeviceLane → DeviceLane)
-    → slice_get w.lanes lane ≡ Some l → slice_get w.device lane ≡ Some d → slice_get l.tags tag ≡ Some (Flying command plan before)
+pub stands-is : (w : World) (lane tag : ℕ) (l : Lane) (d : DeviceLane) (command : Command) (share : Share) (before s : Standing) (host : ℕ → ℕ) (change : DeviceLane → DeviceLane)
+    → slice_get w.lanes lane ≡ Some l → slice_get w.device lane ≡ Some d → slice_get l.tags tag ≡ Some (Flying command share before)
     → stands s lane tag (with_device lane change (with_host host w))
-    ≡ record w { host = host; lanes = set w.lanes lane (tag_changed tag (Flying command plan s) l); device = set w.device lane (change d) }
-stands-is w lane tag l d command plan before s host change at there found =
+    ≡ record w { host = host; lanes = set w.lanes lane (tag_changed tag (Flying command share s) l); device = set w.device lane (change d) }
+stands-is w lane tag l d command share before s host change at there found =
     let z = with_device lane change (with_host host w) in
-    let here : tag_of w lane tag ≡ Some (Flying command plan before) = ap (λ o. tag_in o tag) at ∙ found in
+    let here : tag_of w lane tag ≡ Some (Flying command share before) = ap (λ o. tag_in o tag) at ∙ found in
     ap (λ o. standing_at o s lane tag z) here
-    ∙ ap (λ o. record z { lanes = changed_at o lane (tag_changed tag (Flying command plan s)) w.lanes }) at
-    ∙ ap (λ o. record w { host = host; lanes = set w.lanes lane (tag_changed tag (Flying command plan s) l); device = changed_at o lane change w.device }) there
+    ∙ ap (λ o. record z { lanes = changed_at o lane (tag_changed tag (Flying command share s)) w.lanes }) at
+    ∙ ap (λ o. record w { host = host; lanes = set w.lanes lane (tag_changed tag (Flying command share s) l); device = changed_at o lane change w.device }) there

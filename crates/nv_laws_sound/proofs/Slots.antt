@@ -9,7 +9,7 @@ use Rattle.nv_world_model.specs.Contained.{is_answered_at, is_queued_at, tag_sta
 use Rattle.nv_world_model.specs.Device.{DeviceLane, Held}
 use Rattle.nv_world_model.specs.Geometry.{Geometry}
 use Rattle.nv_world_model.specs.World.{Lane, Tag, World}
-use Rattle.nv_laws_sound.specs.Consistent.{IsConsistent, IsLane, waits_for_device, waits_for_mediator}
+use Rattle.nv_laws_sound.specs.Consistent.{IsConsistentOfTags, IsLane, waits_for_device, waits_for_mediator}
 use Rattle.nv_laws_sound.proofs.EntryFields.{entry-cid}
 use Rattle.nv_laws_sound.proofs.Lists.{count-fewer, slice_get-below, slice_get-there}
 use Rattle.nv_laws_sound.proofs.ReapEvents.{answered-at}
@@ -66,9 +66,9 @@ module _ (geometry : Geometry) (lane : ℕ) (host : ℕ → ℕ) (l : Lane) (d :
       let holds = held-under other u there in
       let a = queued-at geometry lane one at host l.head d held.0 t (is.tags one t held.0 here held.1) stands in
       let b = queued-at geometry lane other at host l.head d holds.0 u (is.tags other u holds.0 there holds.1) also in
-      sym (entry-cid a.plan a.guest a.command.entry geometry.mediator lane one (omega (arith, first, tags)))
+      sym (entry-cid a.share a.guest a.command.entry geometry.mediator lane one (omega (arith, first, tags)))
       ∙ ap cid_of (sym a.entry_is ∙ b.entry_is)
-      ∙ entry-cid b.plan b.guest b.command.entry geometry.mediator lane other (omega (arith, second, tags))
+      ∙ entry-cid b.share b.guest b.command.entry geometry.mediator lane other (omega (arith, second, tags))
 
   pub completion-one : (at one other : ℕ) (t u : Tag) → slice_get l.tags one ≡ Some t → slice_get l.tags other ≡ Some u
       → tag_stands (is_answered_at at) t ≡ true → tag_stands (is_answered_at at) u ≡ true → one ≡ other
@@ -80,7 +80,7 @@ module _ (geometry : Geometry) (lane : ℕ) (host : ℕ → ℕ) (l : Lane) (d :
       sym a.identifier ∙ b.identifier
 
 -- the device's side of a lane that is there
-pub device-there : (geometry : Geometry) (w : World) (lane : ℕ) (l : Lane) → IsConsistent geometry w → slice_get w.lanes lane ≡ Some l
+pub device-there : (geometry : Geometry) (w : World) (lane : ℕ) (l : Lane) → IsConsistentOfTags geometry w → slice_get w.lanes lane ≡ Some l
     → (d : DeviceLane) × (slice_get w.device lane ≡ Some d)
 device-there geometry w lane l is at =
     let below = slice_get-below w.lanes lane l at in

@@ -1,11 +1,12 @@
 -- The ways through a step: what holds of the world as it is, and where something is done of the world behind, holds behind the step.
-use Rattle.std.proofs.Common.{◌≡◌, Bool, true, false, cond, List, Option, Some, None, refl}
+use Rattle.std.proofs.Common.{◌≡◌, ℕ, Bool, true, false, cond, ◌==◌, List, Option, Some, None, refl, eqb-true}
 use Rattle.nv_entry.specs.Status.{StatusField}
 use Rattle.nv_model.specs.Transcript.{ReadDone}
+use Rattle.nv_model.specs.declared.reply.Reply.TheVariants as reply
 use Rattle.nv_world_model.specs.Device.{DeviceLane, Held}
-use Rattle.nv_world_model.specs.Plan.{Plan}
+use Rattle.nv_world_model.specs.Share.{Share}
 use Rattle.nv_world_model.specs.Seat.{Owner}
-use Rattle.nv_world_model.specs.Step.{After, for_device, for_ended, for_guest, for_held, for_lane, for_owner, for_taken}
+use Rattle.nv_world_model.specs.Step.{After, for_device, for_ended, for_guest, for_held, for_lane, for_leader, for_owner, for_taken, replied}
 use Rattle.nv_world_model.specs.World.{Command, Ended, Flying, Free, Lane, Tag, Taken, World}
 
 module _ (P : World → Type 0) (w : World) (holds : P w) where
@@ -30,23 +31,28 @@ module _ (P : World → Type 0) (w : World) (holds : P w) where
   device-walk None more rest = holds
   device-walk (Some d) more rest = rest d refl
 
-  pub taken-walk : (found : Option Tag) (more : Command → List ReadDone → After)
-      → ((command : Command) (reads : List ReadDone) → found ≡ Some (Taken command reads) → P (more command reads).world)
-      → P (for_taken found w more).world
-  taken-walk None more rest = holds
-  taken-walk (Some Free) more rest = holds
-  taken-walk (Some (Taken command reads)) more rest = rest command reads refl
-  taken-walk (Some (Flying command plan standing)) more rest = holds
-  taken-walk (Some (Ended command st plan)) more rest = holds
+  -- a command is found by the tag that it goes by alone
+  leader-walk : (tag : ℕ) (command : Command) (done : After) → (command.leader ≡ tag → P done.world) → P (for_leader tag command w done).world
+  leader-walk tag command done rest =
+      either (command.leader == tag) done (replied reply.Stale w) (λ same. rest (eqb-true command.leader tag same)) (λ other. holds)
 
-  pub ended-walk : (found : Option Tag) (more : Command → StatusField → Option Plan → After)
-      → ((command : Command) (st : StatusField) (plan : Option Plan) → found ≡ Some (Ended command st plan) → P (more command st plan).world)
-      → P (for_ended found w more).world
-  ended-walk None more rest = holds
-  ended-walk (Some Free) more rest = holds
-  ended-walk (Some (Taken command reads)) more rest = holds
-  ended-walk (Some (Flying command plan standing)) more rest = holds
-  ended-walk (Some (Ended command st plan)) more rest = rest command st plan refl
+  pub taken-walk : (tag : ℕ) (found : Option Tag) (more : Command → List ReadDone → After)
+      → ((command : Command) (reads : List ReadDone) → found ≡ Some (Taken command reads) → command.leader ≡ tag → P (more command reads).world)
+      → P (for_taken tag found w more).world
+  taken-walk tag None more rest = holds
+  taken-walk tag (Some Free) more rest = holds
+  taken-walk tag (Some (Taken command reads)) more rest = leader-walk tag command (more command reads) (λ leads. rest command reads refl leads)
+  taken-walk tag (Some (Flying command share standing)) more rest = holds
+  taken-walk tag (Some (Ended command st share)) more rest = holds
+
+  pub ended-walk : (tag : ℕ) (found : Option Tag) (more : Command → After)
+      → ((command : Command) (st : StatusField) (share : Option Share) → found ≡ Some (Ended command st share) → command.leader ≡ tag
+      → P (more command).world) → P (for_ended tag found w more).world
+  ended-walk tag None more rest = holds
+  ended-walk tag (Some Free) more rest = holds
+  ended-walk tag (Some (Taken command reads)) more rest = holds
+  ended-walk tag (Some (Flying command share standing)) more rest = holds
+  ended-walk tag (Some (Ended command st share)) more rest = leader-walk tag command (more command) (λ leads. rest command st share refl leads)
 
   pub held-walk : (found : Option (Option Held)) (more : Held → After) → ((h : Held) → found ≡ Some (Some h) → P (more h).world)
       → P (for_held found w more).world

@@ -5,18 +5,20 @@ use Rattle.std.specs.List.{Contains}
 use Rattle.nv_mem.specs.GuestMap.{IsSound, guest_of}
 use Rattle.nv_ns.specs.BlockRange.{Extent}
 use Rattle.nv_ns.specs.Extents as extents
+use Rattle.nv_ns.specs.Extents.{most_extents}
 use Rattle.nv_model.specs.Limits.{page}
 use Rattle.nv_world_model.specs.Area.{lane_start}
 use Rattle.nv_world_model.specs.Geometry.{Geometry, Guest, regions_of}
 use Rattle.nv_world_model.specs.SetUp.{most_disk_blocks}
 use Rattle.nv_world_model.specs.View.{in_extents}
 
--- a guest's map is sound and made for this host; it has one extent; and each of its extents has blocks, which are on the disk, and no block
--- in common with another
+-- a guest's map is sound and made for this host; it has one to eight extents; and each of its extents has blocks, which are on the disk, and
+-- no block in common with another
 pub record IsGiven (host_bytes disk_blocks : ℕ) (guest : Guest) : Type 0 where
   pub sound : IsSound guest.memory_map
   pub host : guest.memory_map.host_len ≡ host_bytes
-  pub one : length guest.namespace ≡ 1
+  pub some : 0 < length guest.namespace
+  pub few : length guest.namespace ≤ most_extents
   pub some_blocks : (extent : Extent) → Contains guest.namespace extent → 0 < extent.blocks
   pub on_disk : (extent : Extent) → Contains guest.namespace extent → extent.base + extent.blocks ≤ disk_blocks
   pub apart : extents.AreApart guest.namespace

@@ -1,4 +1,5 @@
 pub mod LaidOut
 pub mod Area
+pub mod Groups
 pub mod Consistent
 pub mod Counted

@@ -1,19 +1,17 @@
 -- What stands in a bounced Read's pages is what its units gave to the guest's own memory, until it is delivered.
-use Rattle.std.proofs.Common.{◌≡◌, ℕ, ◌+◌, ◌-◌, ◌*◌, ◌<◌, ◌≤◌, ◌⊎◌, inl, inr, true, List, All, drop, length, take, arith, sym, ap, ◌∙◌, subst}
+use Rattle.std.proofs.Common.{◌≡◌, ℕ, ◌+◌, ◌-◌, ◌*◌, ◌<◌, ◌≤◌, ◌⊎◌, inl, inr, true, List, All, drop, length, take}
+use Rattle.std.proofs.Common.{arith, sym, ap, ◌∙◌, subst}
 use Rattle.std.specs.List.{AllPairs}
 use Rattle.std.proofs.lemmas.Bool.{cases_eq, cases_lt}
 use Rattle.std.proofs.lemmas.List.{drop-map, drop_at, length-drop, length-take, take-map, take_at}
 use Rattle.nv_mem.specs.GuestMap.{IsApart, mapped}
 use Rattle.nv_mem.specs.Places.{At, Place, addresses, places_of, total_len}
 use Rattle.nv_mem.proofs.PlaceLists.{length-places_of}
-use Rattle.std.proofs.Common.{Bool, Some, cond, ◌&&◌}
-use Rattle.nv_entry.specs.Status.{StatusField}
-use Rattle.nv_entry.specs.Submission.{slba_of}
-use Rattle.nv_model.proofs.AnyAnswers.{end-sound}
-use Rattle.nv_model.proofs.Units.{length-move_units}
-use Rattle.nv_world_model.specs.Plan.{Bounced, Plan}
-use Rattle.nv_laws_sound.specs.Consistent.{IsPlanned}
-use Rattle.nv_model.specs.Judge.{Transfer, Work, count_of, form_of, form_transfer_len, form_units, is_read}
+use Rattle.std.proofs.Common.{Bool, cond}
+use Rattle.nv_world_model.specs.Plan.{Bounced}
+use Rattle.nv_world_model.specs.Share.{Share}
+use Rattle.nv_laws_sound.proofs.OwnWork.{own_len}
+use Rattle.nv_model.specs.Judge.{Transfer, Work, form_of, is_read}
 use Rattle.nv_model.specs.Laws.{IsAnother}
 use Rattle.nv_model.specs.Limits.{block}
 use Rattle.nv_model.specs.Memory.{byte_at_place, bytes_from, gathered, image, scattered, stored}
@@ -21,11 +19,12 @@ use Rattle.nv_model.specs.Private.{places_of_block}
 use Rattle.nv_model.proofs.MemoryLemmas.{bytes_from-append, bytes_from-same, bytes_from-stored, scattered-addresses, stored-outside}
 use Rattle.nv_model.proofs.PutImages.{image-put_image}
 use Rattle.nv_model.proofs.Shown.{length-bytes_from}
-use Rattle.nv_world_model.specs.Geometry.{Guest, regions_of, shape_of}
+use Rattle.nv_world_model.specs.Geometry.{Guest, regions_of}
 use Rattle.nv_world_model.specs.Seat.{Owner}
-use Rattle.nv_world_model.specs.Step.{delivered, is_success, scattered_to}
+use Rattle.nv_world_model.specs.Step.{delivered_by, scattered_to}
 use Rattle.nv_world_model.specs.World.{World}
 use Rattle.nv_laws_units.specs.Places.{HasAt, NameNoneTwice}
+use Rattle.nv_laws_units.proofs.OwnShares.{IsOwnShare}
 use Rattle.nv_laws_units.proofs.Has.{delivered-same, has-blocks, has-kept, has-scattered, others-kept}
 
 -- ---- a unit moves
@@ -115,19 +114,13 @@ source-block memory host places from index stands within =
 
 -- ---- how many units
 
--- a transfer has a block of bytes for each of its units
-pub transfer-count : (guest : Guest) (entry : List ℕ) (plan : Plan) (is : IsPlanned guest entry plan) (dest : Bool) → form_of is.work.opcode ≡ Transfer dest
-    → total_len is.work.pieces ≡ block * length is.work.units
-transfer-count guest entry plan is dest form =
-    let sound = end-sound (mapped (regions_of guest)) guest.limit (shape_of guest).blocks entry is.work is.verdict in
-    let units : length is.work.units ≡ count_of entry =
-    ap length (sound.units ∙ ap (λ f. form_units f (shape_of guest).blocks entry is.work.ranges) form) ∙ length-move_units (slba_of entry) (count_of entry) in
-    sound.total ∙ ap (λ f. form_transfer_len f entry) form ∙ ap (λ n. block * n) (sym units)
+-- a share's transfer has a block of bytes for each of its units
+pub transfer-count : (guest : Guest) (entry : List ℕ) (share : Share) (work : Work) (is : IsOwnShare guest entry share work) (dest : Bool)
+    → form_of work.opcode ≡ Transfer dest → total_len work.pieces ≡ block * length work.units
+transfer-count guest entry share work is dest form = is.total ∙ ap (λ f. own_len f work) form
 
 -- ---- when it is delivered
 
-pub delivered-when : (o : Owner) (work : Work) (w : World) (bounce : ℕ) (st : StatusField) → is_read work.opcode ≡ true → is_success st ≡ true
-    → delivered (Some (Bounced work)) st bounce o w ≡ scattered_to bounce work o w
-delivered-when o work w bounce st reads success =
-    ap (λ b. cond (b && is_success st) (scattered_to bounce work o w) w) reads
-    ∙ ap (λ b. cond b (scattered_to bounce work o w) w) success
+pub delivered-when : (o : Owner) (work : Work) (w : World) (bounce : ℕ) → is_read work.opcode ≡ true
+    → delivered_by (Bounced work) bounce o w ≡ scattered_to bounce work o w
+delivered-when o work w bounce reads = ap (λ b. cond b (scattered_to bounce work o w) w) reads

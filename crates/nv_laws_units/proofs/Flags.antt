@@ -1,12 +1,13 @@
 -- What is read back of a physical entry's flags; and that a command's work has its FUA bit.
-use Rattle.std.proofs.Common.{◌≡◌, ℕ, ◌+◌, ◌*◌, ◌/◌, ◌%◌, ◌^◌, ◌<◌, Bool, true, false, ◌&&◌, ◌==◌, cond, List, [], ◌∷◌, ◌++◌, Option, Some, None, arith, refl, ap, ◌∙◌, mod-lt}
+use Rattle.std.proofs.Common.{◌≡◌, ℕ, ◌+◌, ◌-◌, ◌*◌, length, ◌/◌, ◌%◌, ◌^◌, ◌<◌, Bool, true, false, ◌&&◌}
+use Rattle.std.proofs.Common.{◌==◌, cond, List, [], ◌∷◌, ◌++◌, Option, Some, None, arith, refl, ap, ◌∙◌, mod-lt}
 use Rattle.std.specs.Bool.{⊤}
 use Rattle.std.specs.List.{list_all}
 use Rattle.nv_entry.specs.Layout.{bits, bytes_of_dwords, dword, number_at}
 use Rattle.nv_entry.specs.Opcode.{io_opcode}
 use Rattle.nv_entry.specs.Status.{bit}
 use Rattle.nv_entry.specs.StatusCode.{refused_with}
-use Rattle.nv_entry.specs.Submission.{deallocate_of, nlb_of, nr_of, opcode_of}
+use Rattle.nv_entry.specs.Submission.{deallocate_of, opcode_of}
 use Rattle.nv_entry.specs.declared.opcode.IoOpcode.{IoOpcode}
 use Rattle.nv_entry.specs.declared.status_code.StatusCode.{StatusCode}
 use Rattle.nv_entry.specs.declared.status_code.StatusCode.TheVariants.{LbaOutOfRange}
@@ -21,8 +22,10 @@ use Rattle.nv_model.proofs.Endings.{EndsIn, EndsIn-and_then, EndsIn-any, EndsIn-
 use Rattle.nv_model.proofs.Judged.{IfGo}
 use Rattle.nv_ns.specs.Extents.{Namespace}
 use Rattle.nv_prp.specs.declared.prps.Prps.{Prps}
-use Rattle.nv_world_model.specs.Area.{form_dwords, physical_entry, two_dwords}
+use Rattle.nv_world_model.specs.Area.{physical_entry, two_dwords}
+use Rattle.nv_world_model.specs.ShareArea.{work_dwords}
 use Rattle.nv_laws_sound.proofs.EntryFields.{dword-there}
+use Rattle.nv_laws_sound.proofs.PlanSizes.{HasCount}
 
 -- ---- the flags of an entry
 
@@ -31,10 +34,6 @@ last-dwords : (opcode tag : ℕ) (prps : Prps) (a b c : ℕ) → (dword (physica
     × (dword (physical_entry opcode tag prps (a ∷ b ∷ c ∷ [])) 12 ≡ dword (bytes_of_dwords (c ∷ [])) 0)
 unfolding physical_entry dword number_at bytes_of_dwords
 last-dwords opcode tag prps a b c = (refl, refl)
-
-nlb_of-below : (entry : List ℕ) → nlb_of entry < 65536
-unfolding bits
-nlb_of-below entry = mod-lt (dword entry 12 / 2 ^ 0) (omega arith)
 
 deallocate_of-below : (entry : List ℕ) → deallocate_of entry < 2
 unfolding bits
@@ -57,30 +56,33 @@ bit-set : (flag : Bool) → (bit flag == 1) ≡ flag
 bit-set true = refl
 bit-set false = refl
 
-fua-back : (opcode tag : ℕ) (prps : Prps) (entry : List ℕ) (at : ℕ)
-    → is_fua (physical_entry opcode tag prps (two_dwords at ++ (nlb_of entry + 2 ^ 30 * bit (is_fua entry)) ∷ [])) ≡ is_fua entry
-fua-back opcode tag prps entry at =
-    let below = nlb_of-below entry in
+fua-back : (opcode tag : ℕ) (prps : Prps) (nlb at : ℕ) (flag : Bool) → nlb < 65536
+    → is_fua (physical_entry opcode tag prps (two_dwords at ++ (nlb + 2 ^ 30 * bit flag) ∷ [])) ≡ flag
+fua-back opcode tag prps nlb at flag below =
     ap {B = Bool} (λ d. bits d 30 30 == 1)
-    ((last-dwords opcode tag prps (at % 2 ^ 32) (at / 2 ^ 32) (nlb_of entry + 2 ^ 30 * bit (is_fua entry))).1
-    ∙ dword-there ((nlb_of entry + 2 ^ 30 * bit (is_fua entry)) ∷ []) 0 _ refl (flag-fits (nlb_of entry) (is_fua entry) below))
-    ∙ ap (λ n. n == 1) (flag-part (nlb_of entry) (is_fua entry) below) ∙ bit-set (is_fua entry)
+    ((last-dwords opcode tag prps (at % 2 ^ 32) (at / 2 ^ 32) (nlb + 2 ^ 30 * bit flag)).1
+    ∙ dword-there ((nlb + 2 ^ 30 * bit flag) ∷ []) 0 _ refl (flag-fits nlb flag below))
+    ∙ ap (λ n. n == 1) (flag-part nlb flag below) ∙ bit-set flag
 
--- a command of that form that has blocks keeps them as the guest's does
-pub form-fua : (form : Form) (opcode tag : ℕ) (prps : Prps) (ns : Namespace) (entry : List ℕ) → form_has_blocks form ≡ true
-    → is_fua (physical_entry opcode tag prps (form_dwords form ns entry)) ≡ is_fua entry
-form-fua (Transfer dest) opcode tag prps ns entry has = fua-back opcode tag prps entry _
-form-fua Clear opcode tag prps ns entry has = fua-back opcode tag prps entry _
-form-fua Manage opcode tag prps ns entry has = cc
-form-fua Keep opcode tag prps ns entry has = cc
+-- a share of a command of that form that has blocks keeps them as the guest's does
+pub form-fua : (form : Form) (opcode tag : ℕ) (prps : Prps) (ns : Namespace) (entry : List ℕ) (own : Work) → form_has_blocks form ≡ true
+    → HasCount form own → is_fua (physical_entry opcode tag prps (work_dwords form ns entry own)) ≡ is_fua entry
+form-fua (Transfer dest) opcode tag prps ns entry own has count =
+    let some = count.0 in
+    let few = count.1 in fua-back opcode tag prps (length own.units - 1) _ (is_fua entry) (omega (arith, some, few))
+form-fua Clear opcode tag prps ns entry own has count =
+    let some = count.0 in
+    let few = count.1 in fua-back opcode tag prps (length own.units - 1) _ (is_fua entry) (omega (arith, some, few))
+form-fua Manage opcode tag prps ns entry own has count = cc
+form-fua Keep opcode tag prps ns entry own has count = cc
 
 -- and one that names ranges deallocates them where the guest's does
-pub manage-deallocates : (opcode tag : ℕ) (prps : Prps) (ns : Namespace) (entry : List ℕ)
-    → deallocates (physical_entry opcode tag prps (form_dwords Manage ns entry)) ≡ deallocates entry
-manage-deallocates opcode tag prps ns entry =
+pub manage-deallocates : (opcode tag : ℕ) (prps : Prps) (ns : Namespace) (entry : List ℕ) (own : Work)
+    → deallocates (physical_entry opcode tag prps (work_dwords Manage ns entry own)) ≡ deallocates entry
+manage-deallocates opcode tag prps ns entry own =
     let below = deallocate_of-below entry in
     ap {B = Bool} (λ d. bits d 2 2 == 1)
-    ((last-dwords opcode tag prps (nr_of entry) (4 * deallocate_of entry) 0).0
+    ((last-dwords opcode tag prps (length own.ranges - 1) (4 * deallocate_of entry) 0).0
     ∙ dword-there ((4 * deallocate_of entry) ∷ []) 0 (4 * deallocate_of entry) refl (omega (arith, below)))
     ∙ ap (λ n. n == 1) (deallocate-part (deallocate_of entry) below)
 

@@ -1,5 +1,6 @@
 -- Bytes that a memory has at places.
-use Rattle.std.proofs.Common.{◌≡◌, ℕ, zero, suc, ◌+◌, ◌*◌, ◌<◌, ◌≤◌, ◌⊎◌, inl, inr, List, [], ◌∷◌, ◌++◌, All, drop, get_or, length, take, arith, refl, sym, ap, ◌∙◌, subst}
+use Rattle.std.proofs.Common.{◌≡◌, ℕ, zero, suc, ◌+◌, ◌*◌, ◌<◌, ◌≤◌, ◌⊎◌, inl, inr, List, [], ◌∷◌, ◌++◌}
+use Rattle.std.proofs.Common.{All, drop, get_or, length, take, arith, refl, sym, ap, ◌∙◌, subst}
 use Rattle.std.proofs.lemmas.Bool.{cases_eq, cases_lt}
 use Rattle.std.proofs.lemmas.List.{drop-drop, get_or_default, get_or-drop, get_or-take, length-drop, length-take, take-append-drop}
 use Rattle.std.proofs.lemmas.List.Elements.{All-cons, All-head, All-nil, All-tail, All-weaker}
@@ -127,30 +128,30 @@ once-any places i j d once apart first second =
     less most other = elim (cases_eq i j) [ inl same ↦ absurd (other same) | inr differ ↦ omega (arith, most, differ) ]
 
 -- a place of a block is one of the whole
-part-within : (places : List Place) (from k : ℕ) → k < length (take block (drop from places)) → (k < block) × (from + k < length places)
-part-within places from k small =
-    let taken = length-take block (drop from places) in
+part-within : (len : ℕ) (places : List Place) (from k : ℕ) → k < length (take len (drop from places)) → (k < len) × (from + k < length places)
+part-within len places from k small =
+    let taken = length-take len (drop from places) in
     let dropped = length-drop from places in
     (omega (arith, taken, small), omega (arith, taken, dropped, small))
 
--- where the whole names none twice, a block does not
-pub once-part : (places : List Place) (from : ℕ) → NameNoneTwice places → NameNoneTwice (take block (drop from places))
-once-part places from once i j d order below =
-    let first = part-within places from i (omega (arith, order, below)) in
-    let second = part-within places from j below in
+-- where the whole names none twice, a part of it does not
+pub once-part : (len : ℕ) (places : List Place) (from : ℕ) → NameNoneTwice places → NameNoneTwice (take len (drop from places))
+once-part len places from once i j d order below =
+    let first = part-within len places from i (omega (arith, order, below)) in
+    let second = part-within len places from j below in
     let named = once (from + i) (from + j) d (omega (arith, order)) second.1 in
-    let here : get_or (take block (drop from places)) i d ≡ get_or places (from + i) d =
-    get_or-take block (drop from places) i d first.0 ∙ get_or-drop from places i d in
-    let there : get_or (take block (drop from places)) j d ≡ get_or places (from + j) d =
-    get_or-take block (drop from places) j d second.0 ∙ get_or-drop from places j d in
+    let here : get_or (take len (drop from places)) i d ≡ get_or places (from + i) d =
+    get_or-take len (drop from places) i d first.0 ∙ get_or-drop from places i d in
+    let there : get_or (take len (drop from places)) j d ≡ get_or places (from + j) d =
+    get_or-take len (drop from places) j d second.0 ∙ get_or-drop from places j d in
     λ addr one two. named addr (sym here ∙ one) (sym there ∙ two)
 
 -- a place of one block is none of another's
 pub once-blocks : (places : List Place) (index other : ℕ) → NameNoneTwice places → (index ≡ other → ⊥)
     → All (λ p. All (IsElse p) (take block (drop (block * other) places))) (take block (drop (block * index) places))
 once-blocks places index other once apart i d below j e under =
-    let first = part-within places (block * index) i below in
-    let second = part-within places (block * other) j under in
+    let first = part-within block places (block * index) i below in
+    let second = part-within block places (block * other) j under in
     let named = once-any places (block * index + i) (block * other + j) d once (λ same. differ first.0 second.0 same (cases_lt index other)) first.1 second.1 in
     let here : get_or (take block (drop (block * index) places)) i d ≡ get_or places (block * index + i) d =
     get_or-take block (drop (block * index) places) i d first.0 ∙ get_or-drop (block * index) places i d in

@@ -1,10 +1,11 @@
--- A guest's memory in the host behind a unit of its command: a direct Read's block is at its places, and a bounced one changes nothing there.
-use Rattle.std.proofs.Common.{◌≡◌, ℕ, ◌+◌, ◌-◌, ◌*◌, ◌<◌, ◌≤◌, Bool, true, List, All, drop, map, slice_get, take, Some, None, arith, sym, ap, ◌∙◌, subst}
+-- A guest's memory in the host behind a unit of a share of its command: a direct Read's block is at its places, and a bounced one changes nothing there.
+use Rattle.std.proofs.Common.{◌≡◌, ℕ, ◌+◌, ◌-◌, ◌*◌, ◌<◌, ◌≤◌, Bool, true, List, All, drop, map, slice_get, take, Some}
+use Rattle.std.proofs.Common.{None, arith, sym, ap, ◌∙◌, subst}
 use Rattle.std.specs.List.{list_all, range_with_len}
 use Rattle.std.proofs.lemmas.List.{take-map}
 use Rattle.std.proofs.lemmas.List.Elements.{All-map}
 use Rattle.std.proofs.lemmas.List.FromFn.{take-map-range_with_len}
-use Rattle.nv_mem.specs.GuestMap.{guest_of, host_of, mapped}
+use Rattle.nv_mem.specs.GuestMap.{guest_of, host_of}
 use Rattle.nv_mem.specs.Places.{At, addresses, places_of, total_len}
 use Rattle.nv_mem.proofs.Images.{guest_of-host}
 use Rattle.nv_model.specs.Judge.{Work}
@@ -12,54 +13,52 @@ use Rattle.nv_model.specs.Laws.{IsAnother}
 use Rattle.nv_model.specs.Limits.{block, most_bytes}
 use Rattle.nv_model.specs.Memory.{bytes_from, gathered, image, scattered}
 use Rattle.nv_model.specs.Private.{places_of_block}
-use Rattle.nv_model.proofs.AnyAnswers.{end-short, end-sound}
 use Rattle.nv_model.proofs.Endings.{and-true}
 use Rattle.nv_model.proofs.MemoryLemmas.{gathered-addresses}
 use Rattle.nv_prp.specs.Fits.{fit_prp, host_addresses, is_run, places_fit}
 use Rattle.nv_world_model.specs.Area.{addresses_of, bounce_page, tag_count}
 use Rattle.nv_world_model.specs.Device.{Held, device_unit}
-use Rattle.nv_world_model.specs.Geometry.{Geometry, Guest, regions_of, shape_of}
+use Rattle.nv_world_model.specs.Geometry.{Geometry, Guest, regions_of}
 use Rattle.nv_world_model.specs.Plan.{Bounced, Direct, Plan}
-use Rattle.nv_laws_sound.specs.Consistent.{IsInDevice, IsPlanned}
+use Rattle.nv_world_model.specs.Share.{Share}
+use Rattle.nv_laws_sound.specs.Consistent.{IsInDevice}
 use Rattle.nv_laws_sound.specs.LaidOut.{IsLaidOut}
 use Rattle.nv_laws_sound.proofs.MoveEvents.{unit-apart}
 use Rattle.nv_laws_sound.proofs.Named.{row-all}
 use Rattle.nv_laws_sound.proofs.OnDisk.{drop-row}
-use Rattle.nv_laws_sound.proofs.PlanSizes.{planned-kinds}
 use Rattle.nv_laws_units.specs.Places.{LieAt}
 use Rattle.nv_laws_units.specs.Units.{addresses_of_block}
+use Rattle.nv_laws_units.proofs.OwnShares.{IsOwnShare}
 use Rattle.nv_laws_units.proofs.Lies.{gathered-lie, image-same, image-scattered, lie-drop, lie-pieces, lie-take}
 
 -- ---- a direct transfer
 
 -- its places fit PRP
-direct-fits : (guest : Guest) (entry : List ℕ) (plan : Plan) (is : IsPlanned guest entry plan) → plan ≡ Direct is.work
-    → places_fit (regions_of guest) is.work.pieces ≡ true
-direct-fits guest entry plan is =
-    planned-kinds (λ p. p ≡ Direct is.work → places_fit (regions_of guest) is.work.pieces ≡ true) guest entry plan is
-    (λ e. cc) (λ fits e. fits) (λ e. cc)
+direct-fits : (guest : Guest) (entry : List ℕ) (share : Share) (part : Work) (is : IsOwnShare guest entry share part) → share.plan ≡ Direct part
+    → places_fit (regions_of guest) part.pieces ≡ true
+direct-fits guest entry share part is =
+    is.kinds (λ p. p ≡ Direct part → places_fit (regions_of guest) part.pieces ≡ true) (λ e. cc) (λ fits e. fits) (λ e. cc)
 
 -- so a block's places lie at its addresses
-pub block-lies : (guest : Guest) (entry : List ℕ) (plan : Plan) (is : IsPlanned guest entry plan) (number : ℕ) → plan ≡ Direct is.work
-    → LieAt (regions_of guest) (places_of_block is.work number) (take block (drop (block * number) (host_addresses (regions_of guest) is.work.pieces)))
-block-lies guest entry plan is number direct =
-    let sound = end-sound (mapped (regions_of guest)) guest.limit (shape_of guest).blocks entry is.work is.verdict in
-    let fits = and-true (list_all is_run is.work.pieces) (fit_prp (host_addresses (regions_of guest) is.work.pieces)) (direct-fits guest entry plan is direct) in
-    lie-take (regions_of guest) block (drop (block * number) (places_of is.work.pieces)) (drop (block * number) (host_addresses (regions_of guest) is.work.pieces))
-    (lie-drop (regions_of guest) (block * number) (places_of is.work.pieces) (host_addresses (regions_of guest) is.work.pieces)
-    (lie-pieces (regions_of guest) is.work.pieces sound.mapped_each fits.0))
+pub block-lies : (guest : Guest) (entry : List ℕ) (share : Share) (part : Work) (is : IsOwnShare guest entry share part) (number : ℕ) → share.plan ≡ Direct part
+    → LieAt (regions_of guest) (places_of_block part number) (take block (drop (block * number) (host_addresses (regions_of guest) part.pieces)))
+block-lies guest entry share part is number direct =
+    let fits = and-true (list_all is_run part.pieces) (fit_prp (host_addresses (regions_of guest) part.pieces)) (direct-fits guest entry share part is direct) in
+    lie-take (regions_of guest) block (drop (block * number) (places_of part.pieces)) (drop (block * number) (host_addresses (regions_of guest) part.pieces))
+    (lie-drop (regions_of guest) (block * number) (places_of part.pieces) (host_addresses (regions_of guest) part.pieces)
+    (lie-pieces (regions_of guest) part.pieces is.mapped_each fits.0))
 
 direct-addresses : (guest : Guest) (work : Work) (plan : Plan) (bounce number : ℕ) → plan ≡ Direct work
     → addresses_of_block plan guest bounce number ≡ map At (take block (drop (block * number) (host_addresses (regions_of guest) work.pieces)))
 direct-addresses guest work plan bounce number direct = ap (λ p. addresses_of_block p guest bounce number) direct
 
 -- the guest's memory has at a block's places what the host has at its addresses
-pub direct-source : (guest : Guest) (entry : List ℕ) (plan : Plan) (is : IsPlanned guest entry plan) (host : ℕ → ℕ) (bounce number : ℕ) → plan ≡ Direct is.work
-    → gathered (image (regions_of guest) host) (places_of_block is.work number) ≡ gathered host (addresses_of_block plan guest bounce number)
-direct-source guest entry plan is host bounce number direct =
-    gathered-lie (regions_of guest) host (places_of_block is.work number) (take block (drop (block * number) (host_addresses (regions_of guest) is.work.pieces)))
-    (block-lies guest entry plan is number direct)
-    ∙ sym (ap (gathered host) (direct-addresses guest is.work plan bounce number direct))
+pub direct-source : (guest : Guest) (entry : List ℕ) (share : Share) (part : Work) (is : IsOwnShare guest entry share part) (host : ℕ → ℕ) (bounce number : ℕ) → share.plan ≡ Direct part
+    → gathered (image (regions_of guest) host) (places_of_block part number) ≡ gathered host (addresses_of_block share.plan guest bounce number)
+direct-source guest entry share part is host bounce number direct =
+    gathered-lie (regions_of guest) host (places_of_block part number) (take block (drop (block * number) (host_addresses (regions_of guest) part.pieces)))
+    (block-lies guest entry share part is number direct)
+    ∙ sym (ap (gathered host) (direct-addresses guest part share.plan bounce number direct))
 
 -- ---- a bounced transfer
 
@@ -88,29 +87,27 @@ bounced-source guest work plan host bounce number bounced within =
     ap (gathered host) (bounced-addresses guest work plan bounce number bounced within) ∙ gathered-addresses host (bounce + block * number) block
 
 module _ (host_bytes lanes : ℕ) (geometry : Geometry) (laid : IsLaidOut host_bytes lanes geometry) (owner : ℕ) (guest : Guest)
-    (given : slice_get geometry.guests owner ≡ Some guest) (entry : List ℕ) (plan : Plan) (is : IsPlanned guest entry plan) (lane tag : ℕ)
-    (lane_below : lane < lanes) (tag_below : tag < tag_count) (h : Held) (host : ℕ → ℕ) (in_device : IsInDevice geometry guest entry plan lane tag host h) where
+    (given : slice_get geometry.guests owner ≡ Some guest) (entry : List ℕ) (share : Share) (part : Work) (is : IsOwnShare guest entry share part) (lane tag : ℕ)
+    (lane_below : lane < lanes) (tag_below : tag < tag_count) (h : Held) (host : ℕ → ℕ) (in_device : IsInDevice geometry guest entry share lane tag host h) where
   abbrev bounce : ℕ
   bounce = bounce_page geometry.mediator lane tag
 
   -- a direct Read's block reaches its places
-  pub direct-read : (number : ℕ) (bytes : List ℕ) → plan ≡ Direct is.work
-      → image (regions_of guest) (scattered host (addresses_of_block plan guest bounce number) bytes)
-      ≡ scattered (image (regions_of guest) host) (places_of_block is.work number) bytes
+  pub direct-read : (number : ℕ) (bytes : List ℕ) → share.plan ≡ Direct part
+      → image (regions_of guest) (scattered host (addresses_of_block share.plan guest bounce number) bytes)
+      ≡ scattered (image (regions_of guest) host) (places_of_block part number) bytes
   direct-read number bytes direct =
-      ap (λ ps. image (regions_of guest) (scattered host ps bytes)) (direct-addresses guest is.work plan bounce number direct)
-      ∙ image-scattered (regions_of guest) (laid.given owner guest given).sound.apart host (places_of_block is.work number)
-      (take block (drop (block * number) (host_addresses (regions_of guest) is.work.pieces))) bytes (block-lies guest entry plan is number direct)
+      ap (λ ps. image (regions_of guest) (scattered host ps bytes)) (direct-addresses guest part share.plan bounce number direct)
+      ∙ image-scattered (regions_of guest) (laid.given owner guest given).sound.apart host (places_of_block part number)
+      (take block (drop (block * number) (host_addresses (regions_of guest) part.pieces))) bytes (block-lies guest entry share part is number direct)
 
   -- no byte of the guest's memory is in the bounce pages
-  bounce-apart : (addr at : ℕ) → host_of (regions_of guest) addr ≡ Some at → All (IsAnother (At at)) (map At (range_with_len bounce (total_len is.work.pieces)))
+  bounce-apart : (addr at : ℕ) → host_of (regions_of guest) addr ≡ Some at → All (IsAnother (At at)) (map At (range_with_len bounce (total_len part.pieces)))
   bounce-apart addr at lies =
-      let short = end-short (mapped (regions_of guest)) guest.limit (shape_of guest).blocks entry is.work is.verdict in
-      let total = (end-sound (mapped (regions_of guest)) guest.limit (shape_of guest).blocks entry is.work is.verdict).total in
-      let few : total_len is.work.pieces ≤ most_bytes = omega (arith, total, short) in
+      let few : total_len part.pieces ≤ most_bytes = is.few in
       let there = guest_of-host (regions_of guest) addr at (laid.given owner guest given).sound.apart lies in
-      All-map (IsAnother (At at)) At (range_with_len bounce (total_len is.work.pieces))
-      (row-all (λ x. IsAnother (At at) (At x)) bounce (total_len is.work.pieces) (λ x low high same.
+      All-map (IsAnother (At at)) At (range_with_len bounce (total_len part.pieces))
+      (row-all (λ x. IsAnother (At at) (At x)) bounce (total_len part.pieces) (λ x low high same.
       (let outside : guest_of (regions_of guest) x ≡ None =
       laid.outside owner guest x given (omega (arith, low)) (omega (arith, high, few, lane_below, tag_below)) in
       let both : Some addr ≡ None = sym there ∙ ap (guest_of (regions_of guest)) (sym (at-same x at same)) ∙ outside in
@@ -120,7 +117,7 @@ module _ (host_bytes lanes : ℕ) (geometry : Geometry) (laid : IsLaidOut host_b
       at-same a b e = cc
 
   -- so a bounced command's unit leaves that memory as it was
-  pub bounced-image : (number : ℕ) (disk : ℕ → ℕ → ℕ) (kept : ℕ → Bool) → plan ≡ Bounced is.work
+  pub bounced-image : (number : ℕ) (disk : ℕ → ℕ → ℕ) (kept : ℕ → Bool) → share.plan ≡ Bounced part
       → image (regions_of guest) (device_unit number geometry.disk_blocks h host disk kept).memory ≡ image (regions_of guest) host
   bounced-image number disk kept bounced =
       image-same (regions_of guest) host (device_unit number geometry.disk_blocks h host disk kept).memory (λ addr at lies.

@@ -1,5 +1,6 @@
 -- Bytes of a guest's memory where they lie in the host.
-use Rattle.std.proofs.Common.{◌≡◌, ℕ, zero, suc, ◌+◌, ◌-◌, ◌<◌, true, List, [], ◌∷◌, ◌++◌, All, drop, map, slice_index, take, Option, Some, None, is_some}
+use Rattle.std.proofs.Common.{◌≡◌, ℕ, zero, suc, ◌+◌, ◌-◌, ◌<◌, true, List, [], ◌∷◌, ◌++◌, All, drop, map, slice_index}
+use Rattle.std.proofs.Common.{take, Option, Some, None, is_some}
 use Rattle.std.proofs.Common.{option_to_list, arith, refl, sym, ap, ◌∙◌, inl, inr}
 use Rattle.std.specs.List.{AllPairs, list_all}
 use Rattle.std.proofs.lemmas.Bool.{cases_eq}

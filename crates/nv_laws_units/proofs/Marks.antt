@@ -1,6 +1,7 @@
 -- What others' units, and blocks that become kept, do to a guest's marks.
-use Rattle.std.proofs.Common.{◌≡◌, ℕ, zero, suc, ◌+◌, ◌<◌, ◌≤◌, ◌⊎◌, inl, inr, Bool, true, false, ◌||◌, ◌&&◌, ◌==◌, cond, nat_lt}
-use Rattle.std.proofs.Common.{List, [], ◌∷◌, All, filter, map, slice_get, Some, arith, refl, sym, ap, ◌∙◌, eq-eqb, subst}
+use Rattle.std.proofs.Common.{◌≡◌, ℕ, zero, suc, ◌+◌, ◌<◌, ◌≤◌, ◌⊎◌, inl, inr, Bool, true, false, ◌||◌, ◌&&◌}
+use Rattle.std.proofs.Common.{◌==◌, cond, nat_lt}
+use Rattle.std.proofs.Common.{List, [], ◌∷◌, All, filter, length, map, slice_get, Some, arith, refl, sym, ap, ◌∙◌, eq-eqb, subst}
 use Rattle.std.specs.Prelude.{◌≢◌}
 use Rattle.std.specs.List.{list_any, range_with_len}
 use Rattle.std.proofs.lemmas.Bool.{cases_eq, ne_eqb}
@@ -9,28 +10,29 @@ use Rattle.std.proofs.lemmas.List.Elements.{All-cons, All-filter, All-head, All-
 use Rattle.nv_entry.specs.Opcode.{io_opcode}
 use Rattle.nv_entry.specs.Range.{blocks_of, start_of}
 use Rattle.nv_entry.specs.Submission.{opcode_of, slba_of}
-use Rattle.nv_mem.specs.GuestMap.{mapped}
 use Rattle.nv_model.specs.Carried.{block_work, units_moved}
 use Rattle.nv_model.specs.Judge.{Clear, ClearBlock, Form, Keep, Manage, MoveBlock, Transfer, Work}
-use Rattle.nv_model.specs.Judge.{count_of, deallocates, form_has_blocks, form_of, has_blocks, is_fua, one_range_units}
+use Rattle.nv_model.specs.Judge.{deallocates, form_has_blocks, form_of, has_blocks, is_fua, one_range_units}
 use Rattle.nv_model.specs.Laws.{IsElsewhere}
 use Rattle.nv_model.specs.Private.{KeepStep, Moved, Private, Shape, marked, run_of, step}
-use Rattle.nv_model.proofs.AnyAnswers.{end-sound}
 use Rattle.nv_model.proofs.UnitsElsewhere.{IsSame, units-elsewhere}
 use Rattle.nv_ns.specs.Extents.{blocks_in, place_in}
 use Rattle.nv_world_model.specs.Area.{tag_count}
-use Rattle.nv_world_model.specs.Device.{Held, device_unit, form_moves, form_unit_count, moved_by, range_at}
-use Rattle.nv_world_model.specs.Geometry.{Geometry, Guest, regions_of, shape_of}
-use Rattle.nv_world_model.specs.Plan.{Plan}
+use Rattle.nv_world_model.specs.Device.{Held, device_unit, form_moves, moved_by, range_at}
+use Rattle.nv_world_model.specs.Geometry.{Geometry, Guest, shape_of}
+use Rattle.nv_world_model.specs.Share.{Share}
 use Rattle.nv_world_model.specs.PrivateSteps.{keeps, keeps_all, others_moves}
 use Rattle.nv_world_model.specs.View.{in_extents}
-use Rattle.nv_laws_sound.specs.Consistent.{IsInDevice, IsPlanned}
+use Rattle.nv_laws_sound.specs.Consistent.{IsInDevice}
 use Rattle.nv_laws_sound.specs.LaidOut.{IsLaidOut}
-use Rattle.nv_laws_sound.proofs.EntryFields.{entry-opcode}
 use Rattle.nv_laws_sound.proofs.Named.{row-all}
 use Rattle.nv_laws_sound.proofs.Namespaces.{AreOwn, own-away, place-disk, place-own}
-use Rattle.nv_laws_sound.proofs.OnDisk.{entry-own, range-elsewhere, range-own, unit-below}
+use Rattle.nv_laws_sound.proofs.OnDisk.{range-elsewhere}
+use Rattle.nv_laws_sound.proofs.PlanSizes.{HasCount}
 use Rattle.nv_laws_units.specs.Marks.{RunsToMarks, SameMarks}
+use Rattle.nv_laws_units.proofs.Moving as moving
+use Rattle.nv_laws_units.proofs.OwnDisk.{entry-own, range-own, unit-below_blocks}
+use Rattle.nv_laws_units.proofs.OwnShares.{IsOwnShare}
 
 -- ---- blocks that become kept on the guest's own controller
 
@@ -129,43 +131,42 @@ keep-marks guest p whole block same =
 -- ---- another's unit
 
 module _ (host_bytes lanes : ℕ) (geometry : Geometry) (laid : IsLaidOut host_bytes lanes geometry) (owner : ℕ) (guest : Guest)
-    (given : slice_get geometry.guests owner ≡ Some guest) (entry : List ℕ) (plan : Plan) (is : IsPlanned guest entry plan) (lane tag : ℕ)
-    (tag_below : tag < tag_count) (h : Held) (host : ℕ → ℕ) (in_device : IsInDevice geometry guest entry plan lane tag host h) (number : ℕ)
+    (given : slice_get geometry.guests owner ≡ Some guest) (entry : List ℕ) (share : Share) (part : Work) (is : IsOwnShare guest entry share part)
+    (count : HasCount (form_of part.opcode) part) (lane tag : ℕ)
+    (tag_below : tag < tag_count) (h : Held) (host : ℕ → ℕ) (in_device : IsInDevice geometry guest entry share lane tag host h) (number : ℕ)
     (left : list_any (λ k. k == number) h.left ≡ true) where
-  opcode-is : io_opcode (opcode_of h.entry) ≡ Some is.work.opcode
-  opcode-is =
-      ap (λ e. io_opcode (opcode_of e)) in_device.entry_is ∙ ap io_opcode (entry-opcode plan guest entry geometry.mediator lane tag tag_below)
-      ∙ (end-sound (mapped (regions_of guest)) guest.limit (shape_of guest).blocks entry is.work is.verdict).opcode
+  opcode-is : io_opcode (opcode_of h.entry) ≡ Some part.opcode
+  opcode-is = moving.opcode-is host_bytes lanes geometry laid owner guest given entry share part is count lane tag tag_below h host in_device number left
 
-  below : number < form_unit_count (form_of is.work.opcode) entry
-  below = unit-below host_bytes lanes geometry laid owner guest given entry plan is lane tag h host in_device number left
+  below-blocks : has_blocks part.opcode ≡ true → number < length part.units
+  below-blocks = unit-below_blocks host_bytes lanes geometry laid owner guest given entry share part is count lane tag h host in_device number left
 
-  first-own : has_blocks is.work.opcode ≡ true → AreOwn guest.namespace (slba_of h.entry) (count_of entry)
+  first-own : has_blocks part.opcode ≡ true → AreOwn guest.namespace (slba_of h.entry) (length part.units)
   first-own has =
-      subst (λ e. AreOwn guest.namespace (slba_of e) (count_of entry)) (sym in_device.entry_is)
-      (entry-own host_bytes lanes geometry laid owner guest given entry plan is lane tag has)
+      subst (λ e. AreOwn guest.namespace (slba_of e) (length part.units)) (sym in_device.entry_is)
+      (entry-own host_bytes lanes geometry laid owner guest given entry share part is count lane tag has)
 
-  one-elsewhere : (at : ℕ) → in_extents guest.namespace at ≡ false → has_blocks is.work.opcode ≡ true → number < count_of entry
+  one-elsewhere : (at : ℕ) → in_extents guest.namespace at ≡ false → has_blocks part.opcode ≡ true → number < length part.units
       → slba_of h.entry + number ≢ at
-  one-elsewhere at away has few same = off (own-away guest.namespace (slba_of h.entry) (count_of entry) at (first-own has) away)
+  one-elsewhere at away has few same = off (own-away guest.namespace (slba_of h.entry) (length part.units) at (first-own has) away)
     where
-      off : (at < slba_of h.entry) ⊎ (slba_of h.entry + count_of entry ≤ at) → ⊥
+      off : (at < slba_of h.entry) ⊎ (slba_of h.entry + length part.units ≤ at) → ⊥
       off (inl before) = absurd (omega (arith, before, same))
       off (inr behind) = absurd (omega (arith, behind, same, few))
 
-  form-same : (form : Form) → form_of is.work.opcode ≡ form → keeps_all form ≡ false → (at : ℕ)
+  form-same : (form : Form) → form_of part.opcode ≡ form → keeps_all form ≡ false → (at : ℕ)
       → in_extents guest.namespace at ≡ false → (work : Work) (m : Moved) → m.memory ≡ host
       → IsSame at m (units_moved (form_moves form number geometry.disk_blocks h m.memory) work m)
   form-same (Transfer dest) form some at away work m same =
-      let few : number < count_of entry = subst (λ f. number < form_unit_count f entry) form below in
+      let few : number < length part.units = below-blocks (ap form_has_blocks form) in
       units-elsewhere (MoveBlock number (slba_of h.entry + number) ∷ []) work at m
       (All-cons (IsElsewhere at) (MoveBlock number (slba_of h.entry + number)) [] (one-elsewhere at away (ap form_has_blocks form) few) (All-nil (IsElsewhere at)))
   form-same Clear form some at away work m same =
-      let few : number < count_of entry = subst (λ f. number < form_unit_count f entry) form below in
+      let few : number < length part.units = below-blocks (ap form_has_blocks form) in
       units-elsewhere (ClearBlock (slba_of h.entry + number) (is_fua h.entry) ∷ []) work at m
       (All-cons (IsElsewhere at) (ClearBlock (slba_of h.entry + number) (is_fua h.entry)) [] (one-elsewhere at away (ap form_has_blocks form) few) (All-nil (IsElsewhere at)))
   form-same Manage form some at away work m same =
-      let own = range-own host_bytes lanes geometry laid owner guest given entry plan is lane tag h host in_device number left form in
+      let own = range-own host_bytes lanes geometry laid owner guest given entry share part is count lane tag h host in_device number left form in
       units-elsewhere (one_range_units (deallocates h.entry) (range_at number h.pieces m.memory)) work at m
       (subst (λ memory. All (IsElsewhere at) (one_range_units (deallocates h.entry) (range_at number h.pieces memory))) (sym same)
       (range-elsewhere at (deallocates h.entry) (range_at number h.pieces host)
@@ -173,17 +174,17 @@ module _ (host_bytes lanes : ℕ) (geometry : Geometry) (laid : IsLaidOut host_b
   form-same Keep form some at away work m same = cc
 
   -- a unit that is no Flush's leaves a block that isn't its guest's, and its mark
-  pub unit-leaves : keeps_all (form_of is.work.opcode) ≡ false → (at : ℕ) → in_extents guest.namespace at ≡ false
+  pub unit-leaves : keeps_all (form_of part.opcode) ≡ false → (at : ℕ) → in_extents guest.namespace at ≡ false
       → (disk : ℕ → ℕ → ℕ) (kept : ℕ → Bool)
       → IsSame at (record { memory = host; disk = disk; kept = kept; differed = h.differed }) (device_unit number geometry.disk_blocks h host disk kept)
   unfolding device_unit
   unit-leaves some at away disk kept =
       let m : Moved = record { memory = host; disk = disk; kept = kept; differed = h.differed } in
       subst (λ o. IsSame at m (moved_by o number geometry.disk_blocks h m)) (sym opcode-is)
-      (form-same (form_of is.work.opcode) refl some at away (block_work is.work.opcode h.pieces (has_blocks is.work.opcode && is_fua h.entry)) m refl)
+      (form-same (form_of part.opcode) refl some at away (block_work part.opcode h.pieces (has_blocks part.opcode && is_fua h.entry)) m refl)
 
   -- and a Flush's makes every block of the disk kept
-  flush-keeps : (form : Form) → form_of is.work.opcode ≡ form → keeps_all form ≡ true → (at : ℕ) → at < geometry.disk_blocks → (work : Work) (m : Moved)
+  flush-keeps : (form : Form) → form_of part.opcode ≡ form → keeps_all form ≡ true → (at : ℕ) → at < geometry.disk_blocks → (work : Work) (m : Moved)
       → (units_moved (form_moves form number geometry.disk_blocks h m.memory) work m).kept at ≡ true
   unfolding units_moved
   flush-keeps (Transfer dest) form all at within work m = cc
@@ -201,21 +202,21 @@ module _ (host_bytes lanes : ℕ) (geometry : Geometry) (laid : IsLaidOut host_b
   flush-writes_nothing Manage all at work m = cc
   flush-writes_nothing Keep all at work m = refl
 
-  unit-writes_nothing : keeps_all (form_of is.work.opcode) ≡ true → (at : ℕ) (disk : ℕ → ℕ → ℕ) (kept : ℕ → Bool)
+  unit-writes_nothing : keeps_all (form_of part.opcode) ≡ true → (at : ℕ) (disk : ℕ → ℕ → ℕ) (kept : ℕ → Bool)
       → (device_unit number geometry.disk_blocks h host disk kept).disk at ≡ disk at
   unfolding device_unit
   unit-writes_nothing all at disk kept =
       let m : Moved = record { memory = host; disk = disk; kept = kept; differed = h.differed } in
       ap (λ o. (moved_by o number geometry.disk_blocks h m).disk at) opcode-is
-      ∙ flush-writes_nothing (form_of is.work.opcode) all at (block_work is.work.opcode h.pieces (has_blocks is.work.opcode && is_fua h.entry)) m
+      ∙ flush-writes_nothing (form_of part.opcode) all at (block_work part.opcode h.pieces (has_blocks part.opcode && is_fua h.entry)) m
 
-  pub unit-keeps : keeps_all (form_of is.work.opcode) ≡ true → (at : ℕ) → at < geometry.disk_blocks → (disk : ℕ → ℕ → ℕ) (kept : ℕ → Bool)
+  pub unit-keeps : keeps_all (form_of part.opcode) ≡ true → (at : ℕ) → at < geometry.disk_blocks → (disk : ℕ → ℕ → ℕ) (kept : ℕ → Bool)
       → (device_unit number geometry.disk_blocks h host disk kept).kept at ≡ true
   unfolding device_unit
   unit-keeps all at within disk kept =
       let m : Moved = record { memory = host; disk = disk; kept = kept; differed = h.differed } in
       ap (λ o. (moved_by o number geometry.disk_blocks h m).kept at) opcode-is
-      ∙ flush-keeps (form_of is.work.opcode) refl all at within (block_work is.work.opcode h.pieces (has_blocks is.work.opcode && is_fua h.entry)) m
+      ∙ flush-keeps (form_of part.opcode) refl all at within (block_work part.opcode h.pieces (has_blocks part.opcode && is_fua h.entry)) m
 
   -- ---- another guest's marks
 
@@ -227,10 +228,10 @@ module _ (host_bytes lanes : ℕ) (geometry : Geometry) (laid : IsLaidOut host_b
         (place-own guest_too.namespace lba within)
 
     pub other-marks : (p : Private) → SameMarks guest_too.namespace p.kept kept
-        → RunsToMarks guest_too (others_moves (Some is.work) guest_too.namespace) p (device_unit number geometry.disk_blocks h host disk kept).kept
-    other-marks p same = by_form (keeps_all (form_of is.work.opcode)) refl
+        → RunsToMarks guest_too (others_moves (Some part) guest_too.namespace) p (device_unit number geometry.disk_blocks h host disk kept).kept
+    other-marks p same = by_form (keeps_all (form_of part.opcode)) refl
       where
-        by_form : (b : Bool) → keeps_all (form_of is.work.opcode) ≡ b
+        by_form : (b : Bool) → keeps_all (form_of part.opcode) ≡ b
             → RunsToMarks guest_too (cond b (map KeepStep (range_with_len 0 (blocks_in guest_too.namespace))) []) p (device_unit number geometry.disk_blocks h host disk kept).kept
         by_form true all =
             (let blocks = blocks_in guest_too.namespace in
@@ -254,7 +255,7 @@ module _ (host_bytes lanes : ℕ) (geometry : Geometry) (laid : IsLaidOut host_b
     pub other-bytes : (lba : ℕ) → lba < blocks_in guest_too.namespace
         → (device_unit number geometry.disk_blocks h host disk kept).disk (place_in guest_too.namespace lba) ≡ disk (place_in guest_too.namespace lba)
     other-bytes lba within =
-        (elim (keeps_all (form_of is.work.opcode)) as (λ b. keeps_all (form_of is.work.opcode) ≡ b
+        (elim (keeps_all (form_of part.opcode)) as (λ b. keeps_all (form_of part.opcode) ≡ b
         → (device_unit number geometry.disk_blocks h host disk kept).disk (place_in guest_too.namespace lba) ≡ disk (place_in guest_too.namespace lba)) [
           | true ↦ λ all. unit-writes_nothing all (place_in guest_too.namespace lba) disk kept
           | false ↦ λ some. (unit-leaves some (place_in guest_too.namespace lba) (away-from lba within) disk kept).bytes

@@ -1,16 +1,17 @@
--- Which units of a guest's command a unit of the device's stands for: one of its own, or of a range all its blocks'.
-use Rattle.std.proofs.Common.{◌≡◌, ℕ, zero, suc, ◌+◌, ◌<◌, Bool, true, false, ◌||◌, ◌==◌, cond, List, [], ◌∷◌, ◌++◌, filter, flat_map, length, map, replicate}
+-- Which units of a share's own work a unit of the device's stands for: one of its own, or of a range all its blocks'.
+use Rattle.std.proofs.Common.{◌≡◌, ℕ, zero, suc, ◌+◌, ◌<◌, Bool, true, false, ◌||◌, ◌==◌, cond, List, [], ◌∷◌, ◌++◌}
+use Rattle.std.proofs.Common.{filter, flat_map, length, map, replicate}
 use Rattle.std.proofs.Common.{slice_get, Option, Some, option_to_list, arith, refl, sym, ap, ◌∙◌, append-nil, eq-eqb, length-append}
 use Rattle.std.specs.List.{enumerate_from, list_any, range_with_len}
 use Rattle.std.proofs.lemmas.Bool.{ne_eqb}
 use Rattle.std.proofs.lemmas.List.{length-map, length-replicate}
 use Rattle.std.proofs.lemmas.List.FromFn.{length-range_with_len}
 use Rattle.nv_entry.specs.Range.{blocks_of, start_of}
-use Rattle.nv_model.specs.Judge.{Clear, Form, Keep, LeaveBlock, Manage, Transfer, Work, WorkUnit, deallocates, form_of, form_units, one_range_units, range_units}
+use Rattle.nv_model.specs.Judge.{Clear, Form, Keep, LeaveBlock, Manage, Transfer, Work, WorkUnit, form_of, one_range_units, range_units}
 use Rattle.nv_model.specs.Private.{numbers_of}
 use Rattle.nv_model.proofs.Units.{length-clear_units}
 use Rattle.nv_world_model.specs.Seat.{form_numbers, units_behind}
-use Rattle.nv_laws_units.specs.Units.{own_units}
+use Rattle.nv_laws_units.specs.Units.{part_units}
 
 -- ---- units that have a number
 
@@ -51,7 +52,7 @@ units-chosen number get from (n ∷ numbers) (unit ∷ units) same each =
     by_test false first rest = rest
 
 own-chosen : (work : Work) (number : ℕ) → length (form_numbers (form_of work.opcode) work) ≡ length work.units
-    → own_units work number ≡ chosen number (form_numbers (form_of work.opcode) work) work.units
+    → part_units work number ≡ chosen number (form_numbers (form_of work.opcode) work) work.units
 unfolding units_behind
 own-chosen work number same =
     units-chosen number (slice_get work.units) 0 (form_numbers (form_of work.opcode) work) work.units same
@@ -85,7 +86,7 @@ chosen-row from (suc k) (unit ∷ units) it found =
 
 -- a unit of a command whose units are the device's stands for itself
 pub own-one : (work : Work) (number : ℕ) (unit : WorkUnit) → form_numbers (form_of work.opcode) work ≡ numbers_of work → slice_get work.units number ≡ Some unit
-    → own_units work number ≡ unit ∷ []
+    → part_units work number ≡ unit ∷ []
 own-one work number unit numbered found =
     let none : number ≡ 0 + number = omega arith in
     own-chosen work number (ap length numbered ∙ length-range_with_len 0 (length work.units))
@@ -184,7 +185,7 @@ ranges-one deallocate from (suc k) (first ∷ ranges) range found =
 
 -- a range of a Dataset Management stands for all its blocks' units
 pub own-range : (work : Work) (number : ℕ) (deallocate : Bool) (range : List ℕ) → form_numbers (form_of work.opcode) work ≡ range_numbers 0 work.ranges
-    → work.units ≡ range_units deallocate work.ranges → slice_get work.ranges number ≡ Some range → own_units work number ≡ one_range_units deallocate range
+    → work.units ≡ range_units deallocate work.ranges → slice_get work.ranges number ≡ Some range → part_units work number ≡ one_range_units deallocate range
 unfolding range_units
 own-range work number deallocate range numbered units found =
     let none : number ≡ 0 + number = omega arith in
@@ -194,10 +195,13 @@ own-range work number deallocate range numbered units found =
     ∙ ranges-one deallocate 0 number work.ranges range found
 
 -- as many numbers as units
-pub numbers-counted : (form : Form) (work : Work) (blocks : ℕ) (entry : List ℕ) → work.units ≡ form_units form blocks entry work.ranges
-    → length (form_numbers form work) ≡ length work.units
+pub counted-row : (form : Form) (work : Work) → (form ≡ Manage → ⊥) → length (form_numbers form work) ≡ length work.units
+counted-row (Transfer dest) work other = length-range_with_len 0 (length work.units)
+counted-row Clear work other = length-range_with_len 0 (length work.units)
+counted-row Manage work other = absurd (other refl)
+counted-row Keep work other = length-range_with_len 0 (length work.units)
+
+pub counted-ranges : (work : Work) (deallocate : Bool) → work.units ≡ range_units deallocate work.ranges
+    → length (form_numbers Manage work) ≡ length work.units
 unfolding range_units
-numbers-counted (Transfer dest) work blocks entry units = length-range_with_len 0 (length work.units)
-numbers-counted Clear work blocks entry units = length-range_with_len 0 (length work.units)
-numbers-counted Manage work blocks entry units = length-range_numbers (deallocates entry) 0 work.ranges ∙ sym (ap length units)
-numbers-counted Keep work blocks entry units = length-range_with_len 0 (length work.units)
+counted-ranges work deallocate units = length-range_numbers deallocate 0 work.ranges ∙ sym (ap length units)

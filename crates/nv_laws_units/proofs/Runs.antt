@@ -1,31 +1,30 @@
--- The steps that a device's unit stands for are a run of the guest's private controller.
-use Rattle.std.proofs.Common.{◌≡◌, ℕ, suc, ◌+◌, ◌<◌, Bool, true, false, not, ◌||◌, ◌==◌, cond, List, [], ◌∷◌, All, filter, flat_map, length, map, slice_get}
+-- Units that move one after the other are a run of the guest's private controller.
+use Rattle.std.proofs.Common.{◌≡◌, ℕ, suc, ◌+◌, ◌<◌, Bool, true, false, not, ◌||◌, ◌==◌, cond, List, [], ◌∷◌, All}
+use Rattle.std.proofs.Common.{filter, flat_map, length, map, slice_get}
 use Rattle.std.proofs.Common.{Some, None, option_to_list, arith, refl, sym, ap, ◌∙◌, eq-eqb, eqb-true, subst}
 use Rattle.std.specs.List.{enumerate_from, list_any}
 use Rattle.std.specs.Bool.{⊤}
 use Rattle.std.proofs.lemmas.Bool.{ne_eqb}
 use Rattle.std.proofs.lemmas.List.Elements.{All-cons, All-head, All-nil, All-tail}
 use Rattle.nv_model.specs.Carried.{at_work, moved_on, units_moved}
-use Rattle.nv_model.specs.Judge.{Work, form_of}
+use Rattle.nv_model.specs.Judge.{Work}
 use Rattle.nv_model.specs.Private.{MoveStep, Moved, Private, Shape, Taken, others, run_of, unit_left}
 use Rattle.nv_model.proofs.CarriedOut.{step-move}
 use Rattle.nv_laws_sound.proofs.Lists.{slice_get-there}
-use Rattle.nv_world_model.specs.Seat.{form_numbers, units_behind}
-use Rattle.nv_laws_units.specs.Units.{own_units}
 
 -- ---- numbers that go
 
 -- the numbers but for these
-without : List ℕ → List ℕ → List ℕ
+unfoldable pub without : List ℕ → List ℕ → List ℕ
 without [] left = left
 without (number ∷ numbers) left = without numbers (others number left)
 
 -- numbers that grow
-abbrev Grow : List ℕ → Type 0
+abbrev pub Grow : List ℕ → Type 0
 Grow [] = ⊤
 Grow (number ∷ numbers) = All (λ k. number < k) numbers × Grow numbers
 
-abbrev is_among : (number : ℕ) → List ℕ → Bool
+abbrev pub is_among : (number : ℕ) → List ℕ → Bool
 is_among number left = list_any (λ k. k == number) left
 
 -- a number that goes leaves the others
@@ -65,7 +64,7 @@ without-first first (number ∷ numbers) left above =
 -- ---- a run
 
 -- units that are left move one after the other
-moves-run : (shape : Shape) (name : ℕ) (t : Taken) (work : Work) (p : Private) (numbers left : List ℕ) (m : Moved) → Grow numbers
+pub moves-run : (shape : Shape) (name : ℕ) (t : Taken) (work : Work) (p : Private) (numbers left : List ℕ) (m : Moved) → Grow numbers
     → All (λ k. is_among k left ≡ true) numbers → All (λ k. k < length work.units) numbers
     → run_of shape (map (MoveStep name) numbers) (at_work name t work left m p)
     ≡ Some (record {
@@ -119,7 +118,7 @@ places-above left least from (n ∷ numbers) less =
     by_test true rest = All-cons (λ k. least < k) from (places_of_those left (from + 1) numbers) less rest
     by_test false rest = rest
 
-places-grow : (left : List ℕ) (from : ℕ) (numbers : List ℕ) → Grow (places_of_those left from numbers)
+pub places-grow : (left : List ℕ) (from : ℕ) (numbers : List ℕ) → Grow (places_of_those left from numbers)
 places-grow left from [] = tt
 places-grow left from (n ∷ numbers) =
     subst Grow (sym (places-first left from n numbers)) (by_test (is_among n left) (places-grow left (from + 1) numbers))
@@ -128,7 +127,7 @@ places-grow left from (n ∷ numbers) =
     by_test true rest = (places-above left from (from + 1) numbers (omega arith), rest)
     by_test false rest = rest
 
-places-below : (left : List ℕ) (from : ℕ) (numbers : List ℕ) → All (λ k. k < from + length numbers) (places_of_those left from numbers)
+pub places-below : (left : List ℕ) (from : ℕ) (numbers : List ℕ) → All (λ k. k < from + length numbers) (places_of_those left from numbers)
 places-below left from [] = All-nil (λ k. k < from + 0)
 places-below left from (n ∷ numbers) =
     let next : from + 1 + length numbers ≡ from + suc (length numbers) = omega arith in
@@ -141,7 +140,7 @@ places-below left from (n ∷ numbers) =
     by_test false rest = rest
 
 -- those of one number are among those of more
-one-among : (left : List ℕ) (number from : ℕ) (numbers : List ℕ) → is_among number left ≡ true
+pub one-among : (left : List ℕ) (number from : ℕ) (numbers : List ℕ) → is_among number left ≡ true
     → All (λ k. is_among k (places_of_those left from numbers) ≡ true) (places_of_those (number ∷ []) from numbers)
 one-among left number from [] there = All-nil (λ k. is_among k [] ≡ true)
 one-among left number from (n ∷ numbers) there =
@@ -173,7 +172,7 @@ one-among left number from (n ∷ numbers) there =
     by_test false is rest = rest
 
 -- and the others are those of the other numbers
-places-without : (left : List ℕ) (number from : ℕ) (numbers : List ℕ)
+pub places-without : (left : List ℕ) (number from : ℕ) (numbers : List ℕ)
     → without (places_of_those (number ∷ []) from numbers) (places_of_those left from numbers) ≡ places_of_those (others number left) from numbers
 unfolding without
 places-without left number from [] = refl
@@ -212,18 +211,3 @@ places-without left number from (n ∷ numbers) =
       where
         differ : (number == n) ≡ false → n ≡ number → ⊥
         differ apart same = let both : true ≡ false = sym (eq-eqb number n (sym same)) ∙ apart in cc
-
--- ---- the steps of a unit
-
--- where the command is at work with these of the device's units left, of which this is one, its steps are a run; behind it the others are left
-pub own-run : (shape : Shape) (name : ℕ) (t : Taken) (work : Work) (p : Private) (unit : ℕ) (left : List ℕ) (m : Moved)
-    → length (form_numbers (form_of work.opcode) work) ≡ length work.units → is_among unit left ≡ true
-    → run_of shape (map (MoveStep name) (units_behind work (unit ∷ []))) (at_work name t work (units_behind work left) m p)
-    ≡ Some (record { state = at_work name t work (units_behind work (others unit left)) (units_moved (own_units work unit) work m) p; seen = [] })
-unfolding units_behind
-own-run shape name t work p unit left m count there =
-    let numbers = form_numbers (form_of work.opcode) work in
-    moves-run shape name t work p (places_of_those (unit ∷ []) 0 numbers) (places_of_those left 0 numbers) m
-    (places-grow (unit ∷ []) 0 numbers) (one-among left unit 0 numbers there)
-    (subst (λ n. All (λ k. k < n) (places_of_those (unit ∷ []) 0 numbers)) (omega (arith, count)) (places-below (unit ∷ []) 0 numbers))
-    ∙ ap (λ ks. Some (record { state = at_work name t work ks (units_moved (own_units work unit) work m) p; seen = [] })) (places-without left unit 0 numbers)

@@ -6,8 +6,10 @@ use Rattle.nv_entry.specs.Status.{StatusField}
 use Rattle.nv_entry.specs.Submission.{cid_of}
 use Rattle.nv_mem.specs.GuestMap.{all_mapped}
 use Rattle.nv_model.specs.Admin.{AdminStep, NothingToDo, QueueFull, Stepped, admin}
-use Rattle.nv_model.specs.Controller.{Posted, front, is_enabled}
-use Rattle.nv_model.specs.Memory.{image}
+use Rattle.nv_entry.specs.StatusCode.{done_with}
+use Rattle.nv_entry.specs.declared.status_code.StatusCode.TheVariants.{Success}
+use Rattle.nv_model.specs.Controller.{Posted, front, is_enabled, ran_out, took}
+use Rattle.nv_model.specs.Memory.{image, stored}
 use Rattle.nv_model.specs.Judge.{is_read}
 use Rattle.nv_model.specs.Limits.{part_size}
 use Rattle.nv_model.specs.Private.{Private, acted}
@@ -18,11 +20,21 @@ use Rattle.nv_model.specs.declared.reply.Reply.TheVariants as reply
 use Rattle.nv_world_model.specs.declared.event.Event.{Event}
 use Rattle.nv_world_model.specs.declared.event.Event.TheVariants as event
 use Rattle.nv_world_model.specs.Device.{DeviceLane, Held, completion_posted, completion_written, entry_taken}
+use Rattle.nv_world_model.specs.Area.{bounce_page}
 use Rattle.nv_world_model.specs.Geometry.{Geometry, regions_of, shape_of}
+use Rattle.nv_world_model.specs.Share.{Share, tags_of_entry}
+use Rattle.nv_world_model.specs.ShareArea.{is_no_command}
 use Rattle.nv_world_model.specs.Plan.{Answer, Bounced, Direct, NoData, Plan, plan_over}
 use Rattle.nv_world_model.specs.Seat.{Owner, owner_of, put_back, seat}
-use Rattle.nv_world_model.specs.Step.{act_put_back, acted_in, administered_by, administered_in, carry_out, completion_read, delivered, device_fail, device_post, device_posted, device_take, device_took, ended_at, ended_at_once, free_tag, is_io_queue, is_success, list_at, listed, post_at, post_by, posted_to, ran_out_of, reap, reaped, scattered_to, standing_at, step, submit_by, submitted, take_from, take_front, take_tag, taken_to}
-use Rattle.nv_world_model.specs.World.{Answered, Command, Ended, Flying, Free, InDevice, Lane, Standing, Tag, Taken, World, tag_of, with_device, with_host, with_lane}
+use Rattle.nv_world_model.specs.Step.{act_put_back, acted_in, administered_by, administered_in, carried_out, carry_out, completion_read, delivered}
+use Rattle.nv_world_model.specs.Step.{delivered_all, delivered_by, delivered_from}
+use Rattle.nv_world_model.specs.Step.{device_fail, device_post, device_posted, device_take, device_took, ended_at, ended_at_once, handed_on}
+use Rattle.nv_world_model.specs.Step.{is_io_queue, is_success}
+use Rattle.nv_world_model.specs.Step.{entry_at, list_at, listed, post_all, post_at, post_by, posted_to, ran_out_of, reap, reaped, scattered_to}
+use Rattle.nv_world_model.specs.Step.{standing_at, statuses_of, step}
+use Rattle.nv_world_model.specs.Step.{submit_by, submitted, submitted_on, take_from, take_front, take_tags, taken_to}
+use Rattle.nv_world_model.specs.World.{Answered, Command, Ended, Flying, Free, InDevice, Lane, Standing, Tag, Taken, World}
+use Rattle.nv_world_model.specs.World.{claimed, group, tag_of, with_controller, with_device, with_host, with_lane, with_tag, with_tags}
 use Rattle.nv_laws_sound.proofs.Walks.{device-walk, either, ended-walk, guest-walk, held-walk, lane-walk, owner-walk, taken-walk}
 use Rattle.nv_laws_units.specs.Marks.{HasSameDisk, touches_blocks}
 
@@ -64,14 +76,21 @@ module _ (w : World) where
 
   -- ---- a command is taken, listed, and handed on
 
-  tag-same : (found : Option ℕ) (addr queue lane : ℕ) (o : Owner) → P (take_tag found addr queue lane o w).world
+  -- tags that change
+  tags-same : (lane : ℕ) (tags : List ℕ) (t : Tag) (z : World) → P z → P (with_tags lane tags t z)
+  unfolding with_tags
+  tags-same lane [] t z same = same
+  tags-same lane (tag ∷ tags) t z same = tags-same lane tags t (with_tag lane tag t z) (record { bytes = same.bytes; marks = same.marks })
+
+  tag-same : (found : Option (List ℕ)) (addr queue lane : ℕ) (o : Owner) → P (take_tags found addr queue lane o w).world
   unfolding taken_to
   tag-same None addr queue lane o = here
-  tag-same (Some tag) addr queue lane o = record { bytes = refl; marks = refl }
+  tag-same (Some tags) addr queue lane o =
+      tags-same lane tags _ (with_controller o.number (took o.controller queue) w) (record { bytes = refl; marks = refl })
 
   front-same : (found : Option ℕ) (queue lane : ℕ) (l : Lane) (o : Owner) → P (take_front found queue lane l o w).world
   front-same None queue lane l o = here
-  front-same (Some addr) queue lane l o = tag-same (free_tag l.tags) addr queue lane o
+  front-same (Some addr) queue lane l o = tag-same (claimed (tags_of_entry o.given.namespace (entry_at addr o w)) l.tags) addr queue lane o
 
   take-same : (queue lane : ℕ) (l : Lane) (o : Owner) → P (take_from queue lane l o w).world
   take-same queue lane l o =
@@ -83,21 +102,45 @@ module _ (w : World) where
       either P w here (all_mapped (regions_of o.given) addr len) _ _
       (λ _. either P w here (nat_le 1 len && nat_le len part_size) _ _ (λ _. record { bytes = refl; marks = refl }) (λ _. here)) (λ _. here)
 
-  carry-same : (plan : Plan) (mediator lane tag : ℕ) (command : Command) (o : Owner) (d : DeviceLane) → P (carry_out plan mediator lane tag command o d w)
-  unfolding ended_at_once submitted
-  carry-same (Answer st) mediator lane tag command o d = record { bytes = refl; marks = refl }
-  carry-same (NoData work) mediator lane tag command o d = record { bytes = refl; marks = refl }
-  carry-same (Direct work) mediator lane tag command o d = record { bytes = refl; marks = refl }
-  carry-same (Bounced work) mediator lane tag command o d = record { bytes = refl; marks = refl }
+  -- a share is handed on, or ends with success at once
+  on-same : (found : Option DeviceLane) (mediator lane tag : ℕ) (command : Command) (share : Share) (o : Owner) (z : World) → P z
+      → P (submitted_on found mediator lane tag command share o z)
+  unfolding submitted
+  on-same None mediator lane tag command share o z same = same
+  on-same (Some d) mediator lane tag command share o z same = record { bytes = same.bytes; marks = same.marks }
 
-  submit-same : (outcome : Outcome Plan) (mediator lane tag : ℕ) (command : Command) (o : Owner) (d : DeviceLane)
-      → P (submit_by outcome mediator lane tag command o d w).world
-  submit-same (Wanted addr len) mediator lane tag command o d = here
-  submit-same (Settled plan) mediator lane tag command o d = carry-same plan mediator lane tag command o d
+  out-same : (mediator lane tag : ℕ) (command : Command) (share : Share) (o : Owner) (z : World) → P z
+      → P (carried_out mediator lane tag command share o z)
+  out-same mediator lane tag command share o z same =
+      elim (is_no_command share) as (λ b. P (cond b (with_tag lane tag (Ended command (done_with Success) (Some share)) z)
+      (submitted_on (slice_get z.device lane) mediator lane tag command share o z))) [
+        | true ↦ record { bytes = same.bytes; marks = same.marks }
+        | false ↦ on-same (slice_get z.device lane) mediator lane tag command share o z same
+      ]
 
-  given_up-same : (lane tag : ℕ) (command : Command) (st : StatusField) → P (ended_at_once lane tag command st w)
-  unfolding ended_at_once
-  given_up-same lane tag command st = record { bytes = refl; marks = refl }
+  handed-same : (mediator lane : ℕ) (tags : List ℕ) (shares : List Share) (command : Command) (o : Owner) (z : World) → P z
+      → P (handed_on mediator lane tags shares command o z)
+  unfolding handed_on
+  handed-same mediator lane [] shares command o z same = same
+  handed-same mediator lane (tag ∷ tags) [] command o z same = same
+  handed-same mediator lane (tag ∷ tags) (share ∷ shares) command o z same =
+      handed-same mediator lane tags shares command o (carried_out mediator lane tag command share o z) (out-same mediator lane tag command share o z same)
+
+  given_up-same : (lane : ℕ) (tags : List ℕ) (command : Command) (st : StatusField) → P (ended_at_once lane tags command st w)
+  given_up-same lane [] command st = here
+  given_up-same lane (tag ∷ tags) command st =
+      tags-same lane tags (Ended command (done_with Success) None) (with_tag lane tag (Ended command st None) w) (record { bytes = refl; marks = refl })
+
+  carry-same : (plan : Plan) (mediator lane : ℕ) (tags : List ℕ) (command : Command) (o : Owner) → P (carry_out plan mediator lane tags command o w)
+  carry-same (Answer st) mediator lane tags command o = given_up-same lane tags command st
+  carry-same (NoData work) mediator lane tags command o = handed-same mediator lane tags _ command o w here
+  carry-same (Direct work) mediator lane tags command o = handed-same mediator lane tags _ command o w here
+  carry-same (Bounced work) mediator lane tags command o = handed-same mediator lane tags _ command o w here
+
+  submit-same : (outcome : Outcome Plan) (mediator lane : ℕ) (tags : List ℕ) (command : Command) (o : Owner)
+      → P (submit_by outcome mediator lane tags command o w).world
+  submit-same (Wanted addr len) mediator lane tags command o = here
+  submit-same (Settled plan) mediator lane tags command o = carry-same plan mediator lane tags command o
 
   -- ---- the device takes and posts
 
@@ -105,8 +148,8 @@ module _ (w : World) where
   stands-same None standing lane tag z same = same
   stands-same (Some Free) standing lane tag z same = same
   stands-same (Some (Taken command reads)) standing lane tag z same = same
-  stands-same (Some (Flying command plan before)) standing lane tag z same = record { bytes = same.bytes; marks = same.marks }
-  stands-same (Some (Ended command st plan)) standing lane tag z same = same
+  stands-same (Some (Flying command share before)) standing lane tag z same = record { bytes = same.bytes; marks = same.marks }
+  stands-same (Some (Ended command st share)) standing lane tag z same = same
 
   took-same : (lane : ℕ) (entry : List ℕ) → P (device_took lane entry w)
   unfolding device_took
@@ -136,8 +179,8 @@ module _ (w : World) where
   ended-same None st lane tag z same = same
   ended-same (Some Free) st lane tag z same = same
   ended-same (Some (Taken command reads)) st lane tag z same = same
-  ended-same (Some (Flying command plan standing)) st lane tag z same = record { bytes = same.bytes; marks = same.marks }
-  ended-same (Some (Ended command before plan)) st lane tag z same = same
+  ended-same (Some (Flying command share standing)) st lane tag z same = record { bytes = same.bytes; marks = same.marks }
+  ended-same (Some (Ended command before share)) st lane tag z same = same
 
   reaped-same : (lane : ℕ) (completion : List ℕ) → P (reaped lane completion w)
   unfolding reaped
@@ -147,34 +190,66 @@ module _ (w : World) where
   reap-same : (geometry : Geometry) (number : ℕ) (l : Lane) (d : DeviceLane) → P (reap geometry number l d w).world
   reap-same geometry number l d = either P w here (is_empty l.head d.posted) _ _ (λ _. here) (λ _. reaped-same number _)
 
-  delivered-same : (plan : Option Plan) (st : StatusField) (bounce : ℕ) (o : Owner) → P (delivered plan st bounce o w)
+  by-same : (plan : Plan) (bounce : ℕ) (o : Owner) (z : World) → P z → P (delivered_by plan bounce o z)
   unfolding scattered_to
-  delivered-same None st bounce o = here
-  delivered-same (Some (Answer answer)) st bounce o = here
-  delivered-same (Some (NoData work)) st bounce o = here
-  delivered-same (Some (Direct work)) st bounce o = here
-  delivered-same (Some (Bounced work)) st bounce o =
-      elim (is_read work.opcode && is_success st) as (λ b. P (cond b (scattered_to bounce work o w) w)) [
-        | true ↦ record { bytes = refl; marks = refl }
+  by-same (Answer answer) bounce o z same = same
+  by-same (NoData work) bounce o z same = same
+  by-same (Direct work) bounce o z same = same
+  by-same (Bounced work) bounce o z same =
+      elim (is_read work.opcode) as (λ b. P (cond b (scattered_to bounce work o z) z)) [
+        | true ↦ record { bytes = same.bytes; marks = same.marks }
+        | false ↦ same
+      ]
+
+  from-same : (found : Option Tag) (bounce : ℕ) (o : Owner) (z : World) → P z → P (delivered_from found bounce o z)
+  from-same None bounce o z same = same
+  from-same (Some Free) bounce o z same = same
+  from-same (Some (Taken command reads)) bounce o z same = same
+  from-same (Some (Flying command share standing)) bounce o z same = same
+  from-same (Some (Ended command st None)) bounce o z same = same
+  from-same (Some (Ended command st (Some share))) bounce o z same = by-same share.plan bounce o z same
+
+  all-same : (mediator lane : ℕ) (tags : List ℕ) (o : Owner) (z : World) → P z → P (delivered_all mediator lane tags o z)
+  unfolding delivered_all
+  all-same mediator lane [] o z same = same
+  all-same mediator lane (tag ∷ tags) o z same =
+      all-same mediator lane tags o (delivered_from (tag_of z lane tag) (bounce_page mediator lane tag) o z)
+      (from-same (tag_of z lane tag) (bounce_page mediator lane tag) o z same)
+
+  delivered-same : (st : StatusField) (mediator lane : ℕ) (tags : List ℕ) (o : Owner) → P (delivered st mediator lane tags o w)
+  delivered-same st mediator lane tags o =
+      elim (is_success st) as (λ b. P (cond b (delivered_all mediator lane tags o w) w)) [
+        | true ↦ all-same mediator lane tags o w here
         | false ↦ here
       ]
 
-  posted-same : (posted : Posted) (lane tag : ℕ) (o : Owner) (z : World) → P z → P (posted_to posted lane tag o z)
+  posted-same : (posted : Posted) (lane : ℕ) (tags : List ℕ) (o : Owner) (z : World) → P z → P (posted_to posted lane tags o z)
   unfolding posted_to put_back
-  posted-same posted lane tag o z same = record { bytes = same.bytes; marks = same.marks }
+  posted-same posted lane tags o z same =
+      tags-same lane tags Free (put_back o (stored (image (regions_of o.given) z.host) posted.addr posted.entry) posted.controller z)
+      (record { bytes = same.bytes; marks = same.marks })
 
-  ran_out-same : (queue lane tag : ℕ) (o : Owner) (z : World) → P z → P (ran_out_of queue lane tag o z)
+  ran_out-same : (queue lane : ℕ) (tags : List ℕ) (o : Owner) (z : World) → P z → P (ran_out_of queue lane tags o z)
   unfolding ran_out_of
-  ran_out-same queue lane tag o z same = record { bytes = same.bytes; marks = same.marks }
+  ran_out-same queue lane tags o z same =
+      tags-same lane tags Free (with_controller o.number (ran_out o.controller queue) z) (record { bytes = same.bytes; marks = same.marks })
 
-  post_by-same : (found : Option Posted) (plan : Option Plan) (st : StatusField) (bounce lane tag : ℕ) (o : Owner) → P (post_by found plan st bounce lane tag o w).world
-  post_by-same None plan st bounce lane tag o = here
-  post_by-same (Some posted) plan st bounce lane tag o = posted-same posted lane tag o (delivered plan st bounce o w) (delivered-same plan st bounce o)
+  post_by-same : (found : Option Posted) (st : StatusField) (mediator lane : ℕ) (tags : List ℕ) (o : Owner)
+      → P (post_by found st mediator lane tags o w).world
+  post_by-same None st mediator lane tags o = here
+  post_by-same (Some posted) st mediator lane tags o =
+      posted-same posted lane tags o (delivered st mediator lane tags o w) (delivered-same st mediator lane tags o)
 
-  post-same : (command : Command) (st : StatusField) (plan : Option Plan) (bounce lane tag : ℕ) (o : Owner) → P (post_at command st plan bounce lane tag o w).world
-  post-same command st plan bounce lane tag o =
-      either P w here (is_enabled o.controller) _ _ (λ _. post_by-same _ plan st bounce lane tag o)
-      (λ _. ran_out-same command.queue lane tag o (delivered plan st bounce o w) (delivered-same plan st bounce o))
+  post-same : (command : Command) (st : StatusField) (mediator lane : ℕ) (tags : List ℕ) (o : Owner)
+      → P (post_at command st mediator lane tags o w).world
+  post-same command st mediator lane tags o =
+      either P w here (is_enabled o.controller) _ _ (λ _. post_by-same _ st mediator lane tags o)
+      (λ _. ran_out-same command.queue lane tags o (delivered st mediator lane tags o w) (delivered-same st mediator lane tags o))
+
+  post_all-same : (sts : Option (List StatusField)) (command : Command) (mediator lane : ℕ) (tags : List ℕ) (o : Owner)
+      → P (post_all sts command mediator lane tags o w).world
+  post_all-same None command mediator lane tags o = here
+  post_all-same (Some sts) command mediator lane tags o = post-same command _ mediator lane tags o
 
   -- ---- every event but those two
 
@@ -185,14 +260,14 @@ module _ (w : World) where
   step-same geometry (event.Take guest queue lane) none =
       guest-walk P w here (owner_of geometry w guest) _ (λ o found. lane-walk P w here (slice_get w.lanes lane) _ (λ l at. take-same queue lane l o))
   step-same geometry (event.List lane tag addr len) none =
-      taken-walk P w here (tag_of w lane tag) _ (λ command reads at.
+      taken-walk P w here tag (tag_of w lane tag) _ (λ command reads at leads.
       owner-walk P w here (owner_of geometry w command.guest) _ (λ o found. list-same addr len lane tag command reads o))
   step-same geometry (event.Submit lane tag) none =
-      taken-walk P w here (tag_of w lane tag) _ (λ command reads at.
+      taken-walk P w here tag (tag_of w lane tag) _ (λ command reads at leads.
       owner-walk P w here (owner_of geometry w command.guest) _ (λ o found.
-      device-walk P w here (slice_get w.device lane) _ (λ d there. submit-same (plan_over o.given command.entry reads) geometry.mediator lane tag command o d)))
+      device-walk P w here (slice_get w.device lane) _ (λ d there. submit-same (plan_over o.given command.entry reads) geometry.mediator lane (group w lane tag) command o)))
   step-same geometry (event.GiveUp lane tag) none =
-      taken-walk P w here (tag_of w lane tag) _ (λ command reads at. given_up-same lane tag command _)
+      taken-walk P w here tag (tag_of w lane tag) _ (λ command reads at leads. given_up-same lane (group w lane tag) command _)
   step-same geometry (event.DevTake lane) none =
       device-walk P w here (slice_get w.device lane) _ (λ d there. device_take-same geometry.mediator lane d)
   step-same geometry (event.DevMove lane slot number) none = cc
@@ -207,5 +282,5 @@ module _ (w : World) where
       lane-walk P w here (slice_get w.lanes lane) _ (λ l at.
       device-walk P w here (slice_get w.device lane) _ (λ d there. reap-same geometry lane l d))
   step-same geometry (event.Post lane tag) none =
-      ended-walk P w here (tag_of w lane tag) _ (λ command st plan at.
-      owner-walk P w here (owner_of geometry w command.guest) _ (λ o found. post-same command st plan _ lane tag o))
+      ended-walk P w here tag (tag_of w lane tag) _ (λ command st share at leads.
+      owner-walk P w here (owner_of geometry w command.guest) _ (λ o found. post_all-same (statuses_of lane (group w lane tag) w) command geometry.mediator lane (group w lane tag) o))

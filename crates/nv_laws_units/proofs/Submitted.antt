@@ -1,25 +1,27 @@
--- A command that is handed on: its plan is that of its verdict in the memory that its reads show, and its source stands in the bounce pages.
+-- A command that is handed on: its plan is that of its verdict in the memory that its reads show, and a share's source stands in its bounce pages.
 use Rattle.std.proofs.Common.{◌≡◌, ℕ, ◌+◌, ◌<◌, inr, false, List, [], All, length, arith, refl, sym, ap, ◌∙◌}
 use Rattle.nv_mem.specs.GuestMap.{mapped}
 use Rattle.nv_mem.specs.Places.{places_of, total_len}
 use Rattle.nv_mem.proofs.PlaceLists.{length-places_of}
 use Rattle.nv_model.specs.Dialogue.{asked, in_memory}
-use Rattle.nv_model.specs.Judge.{Transfer, Verdict, form_of, judge}
+use Rattle.nv_model.specs.Judge.{Transfer, Verdict, Work, form_of, judge}
 use Rattle.nv_model.specs.Memory.{bytes_from, gathered, image, stored}
 use Rattle.nv_model.specs.Parts.{ShowsOn}
 use Rattle.nv_model.specs.Private.{verdict_in}
 use Rattle.nv_model.specs.Transcript.{Outcome, ReadDone, Settled, Wanted, in_transcript}
-use Rattle.nv_model.proofs.AnyAnswers.{end-short, end-sound}
 use Rattle.nv_model.proofs.InParts.{judge-in_parts}
 use Rattle.nv_model.proofs.MemoryLemmas.{length-gathered}
 use Rattle.nv_model.proofs.Shown.{reads_met-all, settled-in_memory}
-use Rattle.nv_world_model.specs.Area.{bounce_page, bounced_bytes, entry_of, form_bounced, list_bytes, list_page, prps_of, ring_size, source_bytes, submission_slot, written}
+use Rattle.nv_world_model.specs.Area.{bounce_page, list_bytes, list_page, prps_of, ring_size, source_bytes, submission_slot}
 use Rattle.nv_world_model.specs.Geometry.{Geometry, Guest, regions_of, shape_of}
 use Rattle.nv_world_model.specs.Plan.{Bounced, Plan, plan_of, plan_over, planned}
+use Rattle.nv_world_model.specs.Share.{Share}
+use Rattle.nv_world_model.specs.ShareArea.{form_own_bytes, own_bytes, share_entry}
+use Rattle.nv_world_model.specs.ShareArea.{share_written}
 use Rattle.nv_laws_sound.specs.Area.{Shows}
-use Rattle.nv_laws_sound.specs.Consistent.{IsPlanned}
 use Rattle.nv_laws_sound.proofs.PlanSizes.{entry-length}
 use Rattle.nv_laws_sound.proofs.Shows.{same-stored, shows-between, shows-stored}
+use Rattle.nv_laws_units.proofs.OwnShares.{IsOwnShare}
 
 -- ---- the verdict
 
@@ -45,27 +47,28 @@ plan-shown guest entry reads plan memory settled shown =
 
 -- ---- the source
 
--- a bounced source stands in its tag's pages as the guest's memory has it
-pub source-written : (geometry : Geometry) (guest : Guest) (entry : List ℕ) (plan : Plan) (is : IsPlanned guest entry plan) (lane tag slot : ℕ) (host : ℕ → ℕ)
-    → slot < ring_size → plan ≡ Bounced is.work → form_of is.work.opcode ≡ Transfer false
-    → bytes_from (written plan guest entry geometry.mediator lane tag slot host) (bounce_page geometry.mediator lane tag) (total_len is.work.pieces)
-    ≡ gathered (image (regions_of guest) host) (places_of is.work.pieces)
-unfolding written
-source-written geometry guest entry plan is lane tag slot host slot_below bounced form =
+-- a share's bounced source stands in its tag's pages as the guest's memory has it
+pub source-written : (geometry : Geometry) (guest : Guest) (entry : List ℕ) (share : Share) (part : Work) (is : IsOwnShare guest entry share part)
+    (lane tag slot : ℕ) (host : ℕ → ℕ) → slot < ring_size → share.plan ≡ Bounced part → form_of part.opcode ≡ Transfer false
+    → bytes_from (share_written share guest entry geometry.mediator lane tag slot host) (bounce_page geometry.mediator lane tag) (total_len part.pieces)
+    ≡ gathered (image (regions_of guest) host) (places_of part.pieces)
+unfolding share_written
+source-written geometry guest entry share part is lane tag slot host slot_below bounced form =
     let list = list_page geometry.mediator lane tag in
     let bounce = bounce_page geometry.mediator lane tag in
     let at = submission_slot geometry.mediator lane slot in
-    let listed = stored host list (list_bytes (prps_of plan guest list bounce)) in
-    let paged = stored listed bounce (bounced_bytes plan guest host) in
-    let source : bounced_bytes plan guest host ≡ source_bytes guest host is.work =
-    ap (λ p. bounced_bytes p guest host) bounced ∙ ap (λ f. form_bounced f guest host is.work) form in
-    let count : length (bounced_bytes plan guest host) ≡ total_len is.work.pieces =
-    ap length source ∙ length-gathered (image (regions_of guest) host) (places_of is.work.pieces) ∙ length-places_of is.work.pieces in
-    let short = end-short (mapped (regions_of guest)) guest.limit (shape_of guest).blocks entry is.work is.verdict in
-    let total = (end-sound (mapped (regions_of guest)) guest.limit (shape_of guest).blocks entry is.work is.verdict).total in
-    let sized = entry-length plan guest entry geometry.mediator lane tag in
-    let stands : Shows (stored paged at (entry_of plan guest entry geometry.mediator lane tag)) bounce (bounced_bytes plan guest host) =
-    shows-between paged (stored paged at (entry_of plan guest entry geometry.mediator lane tag)) bounce (list_page geometry.mediator lane (tag + 1)) bounce (bounced_bytes plan guest host)
-    (same-stored paged bounce (list_page geometry.mediator lane (tag + 1)) at (entry_of plan guest entry geometry.mediator lane tag) (inr (omega (arith, sized, slot_below))))
-    (omega arith) (omega (arith, count, total, short)) (shows-stored listed bounce (bounced_bytes plan guest host)) in
-    ap (bytes_from (stored paged at (entry_of plan guest entry geometry.mediator lane tag)) bounce) (sym count) ∙ stands ∙ source
+    let written = share_entry share guest.namespace guest entry geometry.mediator lane tag in
+    let bytes = own_bytes share.plan guest.namespace guest host in
+    let listed = stored host list (list_bytes (prps_of share.plan guest list bounce)) in
+    let paged = stored listed bounce bytes in
+    let source : bytes ≡ source_bytes guest host part =
+    ap (λ p. own_bytes p guest.namespace guest host) bounced ∙ ap (λ f. form_own_bytes f guest.namespace guest host part) form in
+    let count : length bytes ≡ total_len part.pieces =
+    ap length source ∙ length-gathered (image (regions_of guest) host) (places_of part.pieces) ∙ length-places_of part.pieces in
+    let few = is.few in
+    let sized = entry-length share guest entry geometry.mediator lane tag in
+    let stands : Shows (stored paged at written) bounce bytes =
+    shows-between paged (stored paged at written) bounce (list_page geometry.mediator lane (tag + 1)) bounce bytes
+    (same-stored paged bounce (list_page geometry.mediator lane (tag + 1)) at written (inr (omega (arith, sized, slot_below))))
+    (omega arith) (omega (arith, count, few)) (shows-stored listed bounce bytes) in
+    ap (bytes_from (stored paged at written) bounce) (sym count) ∙ stands ∙ source

@@ -1,3 +1,4 @@
 pub mod Units
 pub mod Places
 pub mod Marks
+pub mod Delivered

@@ -1,7 +1,9 @@
--- What a unit of a guest's command in the device is to its private controller: the units of the command that the
--- device's unit stands for, and where a block's bytes lie in the host; and when the guest's own blocks are those of
+-- What a unit of a share of a guest's command in the device is to its private controller: the units of the command that
+-- the device's unit stands for, and where a block's bytes lie in the host; and when the guest's own blocks are those of
 -- the disk (profile).
-use Rattle.std.specs.Prelude.{◌≡◌, ℕ, ◌*◌, ◌<◌, Bool, List, [], ◌∷◌, drop, flat_map, length, map, option_to_list, slice_get, take, Some}
+use Rattle.std.specs.Prelude.{◌≡◌, ℕ, ◌*◌, ◌<◌, ◌==◌, not, Bool, List, [], ◌∷◌, drop, filter, flat_map, length, map}
+use Rattle.std.specs.Prelude.{option_to_list, slice_get, take, Some}
+use Rattle.std.specs.List.{list_any}
 use Rattle.nv_mem.specs.Places.{At, Place}
 use Rattle.nv_model.specs.Judge.{Work, WorkUnit}
 use Rattle.nv_model.specs.Limits.{block}
@@ -12,14 +14,24 @@ use Rattle.nv_world_model.specs.Area.{addresses_of}
 use Rattle.nv_world_model.specs.Device.{Held}
 use Rattle.nv_world_model.specs.Geometry.{Geometry, Guest}
 use Rattle.nv_world_model.specs.Plan.{Plan}
-use Rattle.nv_world_model.specs.Seat.{held_in, units_behind, work_of}
+use Rattle.nv_world_model.specs.Share.{Share}
+use Rattle.nv_world_model.specs.Seat.{held_in, numbers_behind, units_behind, work_of}
 use Rattle.nv_world_model.specs.World.{Command, Flying, InDevice, World, tag_of}
 
 -- ---- a unit
 
--- the units of a guest's command that a unit of the device's stands for, in their order
-abbrev pub own_units : Work → (number : ℕ) → List WorkUnit
-own_units work number = flat_map (λ k. option_to_list (slice_get work.units k)) (units_behind work (number ∷ []))
+-- the units of a work that a unit of the device's stands for, in their order
+abbrev pub part_units : Work → (number : ℕ) → List WorkUnit
+part_units work number = flat_map (λ k. option_to_list (slice_get work.units k)) (units_behind work (number ∷ []))
+
+-- the units of a guest's command that a unit of the device's stands for where the device has a share of it, in their order
+abbrev pub own_units : Work → Share → (number : ℕ) → List WorkUnit
+own_units whole share number =
+    flat_map (λ k. option_to_list (slice_get whole.units k)) (numbers_behind share (number ∷ []))
+
+-- the numbers of these that are none of those
+abbrev pub left_without : (gone left : List ℕ) → List ℕ
+left_without gone left = filter (λ k. not (list_any (λ n. n == k) gone)) left
 
 -- where the bytes of a block of a plan's transfer lie in the host, in their order
 abbrev pub addresses_of_block : Plan → Guest → (bounce index : ℕ) → List Place
@@ -45,15 +57,16 @@ whole_of w differed = record { memory = w.host; disk = w.disk; kept = w.kept; di
 abbrev pub own_of : Private → (differed : Bool) → Moved
 own_of p differed = record { memory = p.memory; disk = p.disk; kept = p.kept; differed = differed }
 
--- a guest's command that goes with this work is in the device, in that tag
-pub record IsHeld (geometry : Geometry) (w : World) (number : ℕ) (guest : Guest) (lane tag : ℕ) (plan : Plan)
-    (work : Work) (h : Held) : Type 0 where
+-- a share of a guest's command is in the device, in that tag: the command goes with the first work, of which the share has the other
+pub record IsHeld (geometry : Geometry) (w : World) (number : ℕ) (guest : Guest) (lane tag : ℕ) (share : Share)
+    (whole work : Work) (h : Held) : Type 0 where
   pub command : Command
   pub own : command.guest ≡ number
   pub given : slice_get geometry.guests number ≡ Some guest
-  pub flies : tag_of w lane tag ≡ Some (Flying command plan InDevice)
+  pub flies : tag_of w lane tag ≡ Some (Flying command share InDevice)
   pub held : held_in (slice_get w.device lane) tag ≡ Some h
-  pub goes : work_of plan ≡ Some work
+  pub goes : work_of share.whole ≡ Some whole
+  pub part : work_of share.plan ≡ Some work
 
 -- ---- bytes
 

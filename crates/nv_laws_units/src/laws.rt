@@ -3,5 +3,6 @@
 pub mod delivering;
 pub mod imaging;
 pub mod moving;
+pub mod progressing;
 pub mod sparing;
 pub mod submitting;

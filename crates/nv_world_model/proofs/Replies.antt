@@ -1,5 +1,6 @@
 -- Which replies the parts of a step have, and that one that tells of no change comes with none.
-use Rattle.std.proofs.Common.{◌≡◌, ℕ, ◌+◌, Bool, true, false, cond, ◌&&◌, ◌==◌, nat_le, inl, inr, List, [], ◌∷◌, length, slice_get, Option, Some, None, refl}
+use Rattle.std.proofs.Common.{◌≡◌, ℕ, ◌+◌, Bool, true, false, cond, ◌&&◌, ◌==◌, nat_le, inl, inr, List, [], ◌∷◌, length}
+use Rattle.std.proofs.Common.{slice_get, Option, Some, None, refl}
 use Rattle.nv_entry.specs.Status.{StatusField}
 use Rattle.nv_model.specs.Admin.{AdminStep, NothingToDo, QueueFull, Stepped, admin}
 use Rattle.nv_entry.specs.Layout.{number_bytes}
@@ -17,12 +18,13 @@ use Rattle.nv_world_model.specs.Geometry.{Geometry, regions_of, shape_of}
 use Rattle.nv_world_model.specs.Laws.{IsAmong, IsBytesOr, MayAnswer, MayAnswerAct}
 use Rattle.nv_world_model.specs.Plan.{Plan, plan_over}
 use Rattle.nv_world_model.specs.Seat.{Owner, completion_at, owner_of, put_back, seat}
-use Rattle.nv_world_model.specs.Step.{After, act_put_back, acted_by, acted_in, administered_by, administered_in, carry_out, delivered, device_moved}
+use Rattle.nv_world_model.specs.Step.{After, act_put_back, acted_by, acted_in, administered_by, administered_in, carry_out, deciding, delivered}
+use Rattle.nv_world_model.specs.Step.{device_moved, entry_at}
 use Rattle.nv_world_model.specs.Step.{device_post, device_posted, device_took, ended_at_once, for_device, for_ended, for_guest, for_held, for_lane, for_owner}
-use Rattle.nv_world_model.specs.Step.{for_taken, free_tag, is_io_queue, is_success, is_telling, kept_block, list_at, listed, post_at, post_by, posted_to}
-use Rattle.nv_world_model.specs.Step.{ran_out_of, reaped, replied, step, submit_by, take_front, take_tag, taken_to}
-use Rattle.nv_world_model.specs.World.{Command, Ended, Flying, Free, Lane, Tag, Taken, World, tag_of}
-use Rattle.nv_world_model.specs.Area.{bounce_page}
+use Rattle.nv_world_model.specs.Step.{for_leader, for_taken, is_io_queue, is_success, is_telling, kept_block, list_at, listed, post_all, post_by, posted_to}
+use Rattle.nv_world_model.specs.Step.{ran_out_of, reaped, replied, statuses_of, step, submit_by, take_front, take_tags, taken_to}
+use Rattle.nv_world_model.specs.World.{Command, Ended, Flying, Free, Lane, Tag, Taken, World, claimed, group, tag_of}
+use Rattle.nv_world_model.specs.Share.{tags_of_entry}
 use Rattle.nv_world_model.specs.declared.event.Event.{Event}
 use Rattle.nv_world_model.specs.declared.event.Event.TheVariants as event
 use Rattle.nv_model.specs.Limits.{part_size}
@@ -72,19 +74,25 @@ module _ (May : Reply → Type 0) (w : World) where
   held-answers (Some None) more ignored idle rest = nothing reply.Idle idle
   held-answers (Some (Some h)) more ignored idle rest = rest h
 
-  pub taken-answers : (t : Option Tag) (more : Command → List ReadDone → After) → May reply.Ignored → May reply.Stale → ((c : Command) (reads : List ReadDone) → IsAnswer May w (more c reads)) → IsAnswer May w (for_taken t w more)
-  taken-answers None more ignored stale rest = nothing reply.Ignored ignored
-  taken-answers (Some Free) more ignored stale rest = nothing reply.Stale stale
-  taken-answers (Some (Taken c reads)) more ignored stale rest = rest c reads
-  taken-answers (Some (Flying c plan standing)) more ignored stale rest = nothing reply.Stale stale
-  taken-answers (Some (Ended c st plan)) more ignored stale rest = nothing reply.Stale stale
+  -- a command is found by the tag that it goes by alone
+  leader-answers : (tag : ℕ) (c : Command) (after : After) → May reply.Stale → IsAnswer May w after → IsAnswer May w (for_leader tag c w after)
+  leader-answers tag c after stale is = either (c.leader == tag) after (replied reply.Stale w) is (nothing reply.Stale stale)
 
-  pub ended-answers : (t : Option Tag) (more : Command → StatusField → Option Plan → After) → May reply.Ignored → May reply.Stale → ((c : Command) (st : StatusField) (plan : Option Plan) → IsAnswer May w (more c st plan)) → IsAnswer May w (for_ended t w more)
-  ended-answers None more ignored stale rest = nothing reply.Ignored ignored
-  ended-answers (Some Free) more ignored stale rest = nothing reply.Stale stale
-  ended-answers (Some (Taken c reads)) more ignored stale rest = nothing reply.Stale stale
-  ended-answers (Some (Flying c plan standing)) more ignored stale rest = nothing reply.Stale stale
-  ended-answers (Some (Ended c st plan)) more ignored stale rest = rest c st plan
+  pub taken-answers : (tag : ℕ) (t : Option Tag) (more : Command → List ReadDone → After) → May reply.Ignored → May reply.Stale
+      → ((c : Command) (reads : List ReadDone) → IsAnswer May w (more c reads)) → IsAnswer May w (for_taken tag t w more)
+  taken-answers tag None more ignored stale rest = nothing reply.Ignored ignored
+  taken-answers tag (Some Free) more ignored stale rest = nothing reply.Stale stale
+  taken-answers tag (Some (Taken c reads)) more ignored stale rest = leader-answers tag c (more c reads) stale (rest c reads)
+  taken-answers tag (Some (Flying c share standing)) more ignored stale rest = nothing reply.Stale stale
+  taken-answers tag (Some (Ended c st share)) more ignored stale rest = nothing reply.Stale stale
+
+  pub ended-answers : (tag : ℕ) (t : Option Tag) (more : Command → After) → May reply.Ignored → May reply.Stale → ((c : Command) → IsAnswer May w (more c))
+      → IsAnswer May w (for_ended tag t w more)
+  ended-answers tag None more ignored stale rest = nothing reply.Ignored ignored
+  ended-answers tag (Some Free) more ignored stale rest = nothing reply.Stale stale
+  ended-answers tag (Some (Taken c reads)) more ignored stale rest = nothing reply.Stale stale
+  ended-answers tag (Some (Flying c share standing)) more ignored stale rest = nothing reply.Stale stale
+  ended-answers tag (Some (Ended c st share)) more ignored stale rest = leader-answers tag c (more c) stale (rest c)
 
 -- ---- by event
 
@@ -108,7 +116,8 @@ controlled-answers : (a : Act) (c : Option Controller) (p : Private) → MayAnsw
 controlled-answers a None p done ignored = ignored
 controlled-answers a (Some c) p done ignored = done
 
-register-answers : (a : Act) (value : Option ℕ) (p : Private) → MayAnswerAct a reply.Ignored → ((bytes : List ℕ) → MayAnswerAct a (reply.Bytes bytes)) → MayAnswerAct a (register_replied value p).reply
+register-answers : (a : Act) (value : Option ℕ) (p : Private) → MayAnswerAct a reply.Ignored → ((bytes : List ℕ) → MayAnswerAct a (reply.Bytes bytes))
+    → MayAnswerAct a (register_replied value p).reply
 register-answers a None p ignored some = ignored
 register-answers a (Some value) p ignored some = some (number_bytes 4 value)
 
@@ -130,7 +139,8 @@ acted-answers shape (act.Doorbell offset value) p =
 acted_by-answers : (a : Act) (x : Acted) (o : Owner) (w : World) → MayAnswerAct a x.reply → IsAnswer (MayAnswerAct a) w (acted_by x o w)
 acted_by-answers a x o w may = act-answers a x.reply x.state o w may
 
-administered-answers : (May : Reply → Type 0) (w : World) (done_may : May reply.Done) (idle : May reply.Idle) (held : May reply.Held) (x : AdminStep) (o : Owner) → IsAnswer May w (administered_by x o w)
+administered-answers : (May : Reply → Type 0) (w : World) (done_may : May reply.Done) (idle : May reply.Idle) (held : May reply.Held) (x : AdminStep) (o : Owner)
+    → IsAnswer May w (administered_by x o w)
 administered-answers May w done_may idle held NothingToDo o = nothing May w reply.Idle idle
 administered-answers May w done_may idle held QueueFull o = nothing May w reply.Held held
 administered-answers May w done_may idle held (Stepped c memory) o = done May w (put_back o memory c w) done_may
@@ -139,13 +149,14 @@ administered-answers May w done_may idle held (Stepped c memory) o = done May w 
 abbrev MayTake : Reply → Type 0
 MayTake r = IsAmong (reply.Done ∷ reply.Idle ∷ reply.Busy ∷ reply.Ignored ∷ []) r
 
-take_tag-answers : (tag : Option ℕ) (addr queue lane : ℕ) (o : Owner) (w : World) → IsAnswer MayTake w (take_tag tag addr queue lane o w)
-take_tag-answers None addr queue lane o w = nothing MayTake w reply.Busy (inr (inr (inl refl)))
-take_tag-answers (Some tag) addr queue lane o w = done MayTake w (taken_to addr queue lane tag o w) (inl refl)
+take_tags-answers : (tags : Option (List ℕ)) (addr queue lane : ℕ) (o : Owner) (w : World) → IsAnswer MayTake w (take_tags tags addr queue lane o w)
+take_tags-answers None addr queue lane o w = nothing MayTake w reply.Busy (inr (inr (inl refl)))
+take_tags-answers (Some tags) addr queue lane o w = done MayTake w (taken_to addr queue lane tags o w) (inl refl)
 
 take_front-answers : (front : Option ℕ) (queue number : ℕ) (l : Lane) (o : Owner) (w : World) → IsAnswer MayTake w (take_front front queue number l o w)
 take_front-answers None queue number l o w = nothing MayTake w reply.Idle (inr (inl refl))
-take_front-answers (Some addr) queue number l o w = take_tag-answers (free_tag l.tags) addr queue number o w
+take_front-answers (Some addr) queue number l o w =
+    take_tags-answers (claimed (tags_of_entry o.given.namespace (entry_at addr o w)) l.tags) addr queue number o w
 
 -- what is done with a tag
 abbrev MayList : Reply → Type 0
@@ -165,9 +176,10 @@ list_at-answers addr len lane tag c reads o w =
 abbrev MaySubmit : Reply → Type 0
 MaySubmit r = IsAmong (reply.Done ∷ reply.Stale ∷ reply.Ignored ∷ []) r
 
-submit-answers : (outcome : Outcome Plan) (mediator lane tag : ℕ) (c : Command) (o : Owner) (d : DeviceLane) (w : World) → IsAnswer MaySubmit w (submit_by outcome mediator lane tag c o d w)
-submit-answers (Wanted addr len) mediator lane tag c o d w = nothing MaySubmit w reply.Stale (inr (inl refl))
-submit-answers (Settled plan) mediator lane tag c o d w = done MaySubmit w (carry_out plan mediator lane tag c o d w) (inl refl)
+submit-answers : (outcome : Outcome Plan) (mediator lane : ℕ) (tags : List ℕ) (c : Command) (o : Owner) (w : World)
+    → IsAnswer MaySubmit w (submit_by outcome mediator lane tags c o w)
+submit-answers (Wanted addr len) mediator lane tags c o w = nothing MaySubmit w reply.Stale (inr (inl refl))
+submit-answers (Settled plan) mediator lane tags c o w = done MaySubmit w (carry_out plan mediator lane tags c o w) (inl refl)
 
 -- what the physical controller does
 abbrev MayMove : Reply → Type 0
@@ -181,16 +193,19 @@ device_post-answers (number ∷ left) mediator lane slot h d w = nothing MayMove
 abbrev MayPost : Reply → Type 0
 MayPost r = IsAmong (reply.Done ∷ reply.Stale ∷ reply.Held ∷ reply.Ignored ∷ []) r
 
-post_by-answers : (posted : Option Posted) (plan : Option Plan) (st : StatusField) (bounce lane tag : ℕ) (o : Owner) (w : World) → IsAnswer MayPost w (post_by posted plan st bounce lane tag o w)
-post_by-answers None plan st bounce lane tag o w = nothing MayPost w reply.Held (inr (inr (inl refl)))
-post_by-answers (Some posted) plan st bounce lane tag o w =
-    done MayPost w (posted_to posted lane tag o (delivered plan st bounce o w)) (inl refl)
+post_by-answers : (posted : Option Posted) (st : StatusField) (mediator lane : ℕ) (tags : List ℕ) (o : Owner) (w : World)
+    → IsAnswer MayPost w (post_by posted st mediator lane tags o w)
+post_by-answers None st mediator lane tags o w = nothing MayPost w reply.Held (inr (inr (inl refl)))
+post_by-answers (Some posted) st mediator lane tags o w =
+    done MayPost w (posted_to posted lane tags o (delivered st mediator lane tags o w)) (inl refl)
 
-post_at-answers : (c : Command) (st : StatusField) (plan : Option Plan) (bounce lane tag : ℕ) (o : Owner) (w : World) → IsAnswer MayPost w (post_at c st plan bounce lane tag o w)
-post_at-answers c st plan bounce lane tag o w =
+post_all-answers : (sts : Option (List StatusField)) (c : Command) (mediator lane : ℕ) (tags : List ℕ) (o : Owner) (w : World)
+    → IsAnswer MayPost w (post_all sts c mediator lane tags o w)
+post_all-answers None c mediator lane tags o w = nothing MayPost w reply.Stale (inr (inl refl))
+post_all-answers (Some sts) c mediator lane tags o w =
     either MayPost w (is_enabled o.controller) _ _
-    (post_by-answers (post o.controller c.queue 0 (cid_of c.entry) st) plan st bounce lane tag o w)
-    (done MayPost w (ran_out_of c.queue lane tag o (delivered plan st bounce o w)) (inl refl))
+    (post_by-answers (post o.controller c.queue 0 (cid_of c.entry) (deciding sts)) (deciding sts) mediator lane tags o w)
+    (done MayPost w (ran_out_of c.queue lane tags o (delivered (deciding sts) mediator lane tags o w)) (inl refl))
 
 -- each event answers as it may
 pub step-answers : (geometry : Geometry) (e : Event) (w : World) → IsAnswer (MayAnswer e) w (step geometry e w)
@@ -215,17 +230,17 @@ step-answers geometry (event.Take guest queue lane) w =
     (λ l. either MayTake w (is_io_queue queue) _ _ (take_front-answers (front o.controller queue) queue lane l o w)
     (nothing MayTake w reply.Ignored (inr (inr (inr (inl refl)))))))
 step-answers geometry (event.List lane tag addr len) w =
-    taken-answers MayList w (tag_of w lane tag) _ (inr (inr (inr (inl refl)))) (inr (inl refl))
+    taken-answers MayList w tag (tag_of w lane tag) _ (inr (inr (inr (inl refl)))) (inr (inl refl))
     (λ c reads. owner-answers MayList w (owner_of geometry w c.guest) _ (inr (inl refl))
     (λ o. list_at-answers addr len lane tag c reads o w))
 step-answers geometry (event.Submit lane tag) w =
-    taken-answers MaySubmit w (tag_of w lane tag) _ (inr (inr (inl refl))) (inr (inl refl))
+    taken-answers MaySubmit w tag (tag_of w lane tag) _ (inr (inr (inl refl))) (inr (inl refl))
     (λ c reads. owner-answers MaySubmit w (owner_of geometry w c.guest) _ (inr (inl refl))
     (λ o. device-answers MaySubmit w (slice_get w.device lane) _ (inr (inr (inl refl)))
-    (λ d. submit-answers (plan_over o.given c.entry reads) geometry.mediator lane tag c o d w)))
+    (λ d. submit-answers (plan_over o.given c.entry reads) geometry.mediator lane (group w lane tag) c o w)))
 step-answers geometry (event.GiveUp lane tag) w =
-    taken-answers MaySubmit w (tag_of w lane tag) _ (inr (inr (inl refl))) (inr (inl refl))
-    (λ c reads. done MaySubmit w (ended_at_once lane tag c (done_with InternalError) w) (inl refl))
+    taken-answers MaySubmit w tag (tag_of w lane tag) _ (inr (inr (inl refl))) (inr (inl refl))
+    (λ c reads. done MaySubmit w (ended_at_once lane (group w lane tag) c (done_with InternalError) w) (inl refl))
 step-answers geometry (event.DevTake lane) w =
     device-answers MayMove w (slice_get w.device lane) _ (inr (inr (inl refl)))
     (λ d. either MayMove w (is_empty d.head d.tail) _ _ (nothing MayMove w reply.Idle (inr (inl refl)))
@@ -253,6 +268,6 @@ step-answers geometry (event.Reap lane) w =
     (λ d. either MayMove w (is_empty l.head d.posted) _ _ (nothing MayMove w reply.Idle (inr (inl refl)))
     (done MayMove w (reaped lane (completion_at geometry w lane l.head) w) (inl refl))))
 step-answers geometry (event.Post lane tag) w =
-    ended-answers MayPost w (tag_of w lane tag) _ (inr (inr (inr (inl refl)))) (inr (inl refl))
-    (λ c st plan. owner-answers MayPost w (owner_of geometry w c.guest) _ (inr (inl refl))
-    (λ o. post_at-answers c st plan (bounce_page geometry.mediator lane tag) lane tag o w))
+    ended-answers MayPost w tag (tag_of w lane tag) _ (inr (inr (inr (inl refl)))) (inr (inl refl))
+    (λ c. owner-answers MayPost w (owner_of geometry w c.guest) _ (inr (inl refl))
+    (λ o. post_all-answers (statuses_of lane (group w lane tag) w) c geometry.mediator lane (group w lane tag) o w))

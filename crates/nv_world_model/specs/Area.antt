@@ -1,18 +1,16 @@
 -- The mediator's own area of the host's memory: each lane's submission ring, completion ring, list pages and bounce
--- pages; and what it writes there for the physical controller. The layout is the project's own (profile); the
--- physical entries are Base Specification 2.0, "Submission Queue Entry", and NVM Command Set Specification 1.0, "NVM
--- Command Set Commands".
+-- pages; and what a physical command transfers, and its entry. The layout is the project's own (profile); the physical
+-- entries are Base Specification 2.0, "Submission Queue Entry", and NVM Command Set Specification 1.0, "NVM Command Set
+-- Commands". What stands there of a share is `ShareArea`.
 use Rattle.std.specs.Prelude.{ℕ, ◌+◌, ◌*◌, ◌/◌, ◌%◌, ◌^◌, if◌then◌else◌, ◌==◌, List, [], ◌∷◌, ◌++◌, flat_map, take}
 use Rattle.std.specs.List.{range_with_len}
 use Rattle.nv_entry.specs.Layout.{bytes_of_dwords, number_bytes}
 use Rattle.nv_entry.specs.Range.{blocks_of, start_of}
-use Rattle.nv_entry.specs.Status.{bit}
-use Rattle.nv_entry.specs.Submission.{deallocate_of, nlb_of, nr_of, opcode_of, slba_of}
 use Rattle.nv_mem.specs.Places.{places_of, total_len}
 use Rattle.nv_ns.specs.Extents.{Namespace, place_in}
-use Rattle.nv_model.specs.Judge.{Clear, Form, Keep, Manage, Transfer, Work, form_of, is_fua}
+use Rattle.nv_model.specs.Judge.{Work}
 use Rattle.nv_model.specs.Limits.{page}
-use Rattle.nv_model.specs.Memory.{gathered, image, stored}
+use Rattle.nv_model.specs.Memory.{gathered, image}
 use Rattle.nv_model.specs.Queue.{cqe_size, sqe_size}
 use Rattle.nv_prp.specs.Built.{built}
 use Rattle.nv_prp.specs.Fits.{host_addresses}
@@ -93,33 +91,11 @@ translated_range ns range =
 abbrev pub source_bytes : Guest → (host : ℕ → ℕ) → Work → List ℕ
 source_bytes guest host work = gathered (image (regions_of guest) host) (places_of work.pieces)
 
--- what stands in the bounce pages once a command of that form is submitted: a source, or the ranges
-abbrev pub form_bounced : Form → Guest → (host : ℕ → ℕ) → Work → List ℕ
-form_bounced (Transfer dest) guest host work = if dest then [] else source_bytes guest host work
-form_bounced Clear guest host work = []
-form_bounced Manage guest host work = flat_map (translated_range guest.namespace) work.ranges
-form_bounced Keep guest host work = []
-
-abbrev pub bounced_bytes : Plan → Guest → (host : ℕ → ℕ) → List ℕ
-bounced_bytes (Answer st) guest host = []
-bounced_bytes (NoData work) guest host = []
-bounced_bytes (Direct work) guest host = []
-bounced_bytes (Bounced work) guest host = form_bounced (form_of work.opcode) guest host work
-
 -- ---- the physical entry
 
 -- the dwords of a number of 64 bits
 abbrev pub two_dwords : ℕ → List ℕ
 two_dwords number = (number % 2 ^ 32) ∷ (number / 2 ^ 32) ∷ []
-
--- CDW10 to CDW12 of a command of that form: the block on the disk with NLB and FUA; or NR and deallocate
-abbrev pub form_dwords : Form → Namespace → (entry : List ℕ) → List ℕ
-form_dwords (Transfer dest) ns entry =
-    two_dwords (place_in ns (slba_of entry)) ++ (nlb_of entry + 2 ^ 30 * bit (is_fua entry)) ∷ []
-form_dwords Clear ns entry =
-    two_dwords (place_in ns (slba_of entry)) ++ (nlb_of entry + 2 ^ 30 * bit (is_fua entry)) ∷ []
-form_dwords Manage ns entry = nr_of entry ∷ (4 * deallocate_of entry) ∷ 0 ∷ []
-form_dwords Keep ns entry = 0 ∷ 0 ∷ 0 ∷ []
 
 -- the 64 bytes: the guest's opcode, FUSE and PSDT 0, the tag as command identifier, namespace 1, the PRPs, and CDW10
 -- to CDW12
@@ -128,27 +104,3 @@ physical_entry opcode tag prps dwords =
     bytes_of_dwords (
     (opcode + 2 ^ 16 * tag) ∷ 1 ∷ 0 ∷ 0 ∷ 0 ∷ 0 ∷ two_dwords prps.prp1 ++ two_dwords prps.prp2 ++ dwords ++ 0 ∷ 0 ∷ 0 ∷ []
     )
-
--- the form of the work of a plan
-abbrev pub plan_dwords : Plan → Namespace → (entry : List ℕ) → List ℕ
-plan_dwords (Answer st) ns entry = form_dwords Keep ns entry
-plan_dwords (NoData work) ns entry = form_dwords (form_of work.opcode) ns entry
-plan_dwords (Direct work) ns entry = form_dwords (form_of work.opcode) ns entry
-plan_dwords (Bounced work) ns entry = form_dwords (form_of work.opcode) ns entry
-
--- the physical entry of a plan for a guest's command in that tag
-abbrev pub entry_of : Plan → Guest → (entry : List ℕ) → (mediator lane tag : ℕ) → List ℕ
-entry_of plan guest entry mediator lane tag =
-    physical_entry (opcode_of entry) tag
-    (prps_of plan guest (list_page mediator lane tag) (bounce_page mediator lane tag)) (plan_dwords plan guest.namespace entry)
-
--- ---- a submission
-
--- the host's memory with the list in its page, the source or the ranges in the bounce pages, and the physical entry
--- in that slot
-unfoldable pub written : Plan → Guest → (entry : List ℕ) → (mediator lane tag slot : ℕ) → (host : ℕ → ℕ) → ℕ → ℕ
-written plan guest entry mediator lane tag slot host =
-    (let listed = stored host (list_page mediator lane tag)
-    (list_bytes (prps_of plan guest (list_page mediator lane tag) (bounce_page mediator lane tag))) in
-    let bounced = stored listed (bounce_page mediator lane tag) (bounced_bytes plan guest host) in
-    stored bounced (submission_slot mediator lane slot) (entry_of plan guest entry mediator lane tag))

@@ -33,8 +33,8 @@ is_answered_at slot (Answered at) = at == slot
 abbrev pub tag_stands : (Standing → Bool) → Tag → Bool
 tag_stands test Free = false
 tag_stands test (Taken command reads) = false
-tag_stands test (Flying command plan standing) = test standing
-tag_stands test (Ended command st plan) = false
+tag_stands test (Flying command share standing) = test standing
+tag_stands test (Ended command st share) = false
 
 -- the guest of the first tag that stands so
 unfoldable pub guest_standing : (Standing → Bool) → List Tag → Option ℕ

@@ -7,9 +7,8 @@ use Rattle.nv_model.specs.Queue.{sqe_size}
 use Rattle.nv_world_model.specs.Area.{tag_count}
 use Rattle.nv_world_model.specs.Device.{DeviceLane}
 use Rattle.nv_world_model.specs.Geometry.{Geometry, Guest}
-use Rattle.nv_world_model.specs.Step.{is_free}
 use Rattle.nv_world_model.specs.View.{in_extents, in_image, is_tag_of, lies_in, own_held, shown}
-use Rattle.nv_world_model.specs.World.{Command, Lane, Tag, Taken, World, tag_of}
+use Rattle.nv_world_model.specs.World.{Command, Lane, Tag, Taken, World, is_free, tag_of}
 
 -- a command of nobody's, which goes by no tag
 abbrev pub nobodys : (nobody : ℕ) → Command

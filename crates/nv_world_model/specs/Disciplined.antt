@@ -3,7 +3,7 @@
 -- host finds in a buffer before the command's completion, and forbids it to change an outstanding command's entry and
 -- data (Base Specification 2.0, "Memory-based Transport Queue Model", "Submission Queue Entry").
 use Rattle.std.specs.Prelude.{ℕ, Bool, true, not, ◌&&◌, ◌||◌, ◌==◌, if◌then◌else◌, List, [], ◌∷◌, flat_map, slice_get, Option, Some, None}
-use Rattle.std.specs.List.{list_any}
+use Rattle.std.specs.List.{enumerate_from, list_any}
 use Rattle.nv_model.specs.Controller.{Controller}
 use Rattle.nv_model.specs.Footprint.{Named, completion_slots, footprints, is_destination, loads_from_destination, meets, stores_into}
 use Rattle.nv_model.specs.Memory.{image}
@@ -17,19 +17,19 @@ use Rattle.nv_world_model.specs.World.{Command, Ended, Flying, Free, Tag, Taken,
 
 -- ---- what is outstanding
 
--- the entry of a guest's command
-abbrev pub entry_in : (number : ℕ) → Command → List (List ℕ)
-entry_in number command = if command.guest == number then command.entry ∷ [] else []
+-- the entry of a guest's command, under the tag that it goes by alone
+abbrev pub entry_in : (number tag : ℕ) → Command → List (List ℕ)
+entry_in number tag command = if command.guest == number && command.leader == tag then command.entry ∷ [] else []
 
-abbrev pub own_entry : (number : ℕ) → Tag → List (List ℕ)
-own_entry number Free = []
-own_entry number (Taken command reads) = entry_in number command
-own_entry number (Flying command plan standing) = entry_in number command
-own_entry number (Ended command st plan) = entry_in number command
+abbrev pub own_entry : (number tag : ℕ) → Tag → List (List ℕ)
+own_entry number tag Free = []
+own_entry number tag (Taken command reads) = entry_in number tag command
+own_entry number tag (Flying command share standing) = entry_in number tag command
+own_entry number tag (Ended command st share) = entry_in number tag command
 
 -- the entries of a guest's commands that are taken, and neither completed nor run out
 unfoldable pub taken_entries : (number : ℕ) → World → List (List ℕ)
-taken_entries number w = flat_map (λ l. flat_map (own_entry number) l.tags) w.lanes
+taken_entries number w = flat_map (λ l. flat_map (λ t. own_entry number t.0 t.1) (enumerate_from 0 l.tags)) w.lanes
 
 -- the bytes that a guest's outstanding commands name in its memory as it is, a list for each command
 abbrev pub commands_named : (number : ℕ) → Guest → World → Controller → List (List Named)

@@ -19,7 +19,7 @@ use Rattle.nv_world_model.specs.World.{World}
 
 -- ---- no command of a guest failed
 
--- whether the physical controller fails a command by this event
+-- whether the physical controller fails a physical command by this event
 abbrev pub is_failure : Event → Bool
 is_failure (event.Guest guest a) = false
 is_failure (event.Admin guest) = false
@@ -35,11 +35,11 @@ is_failure (event.Keep block) = false
 is_failure (event.Reap lane) = false
 is_failure (event.Post lane tag) = false
 
--- whether an event of the log fails a command of that guest
+-- whether an event of the log fails a physical command of that guest's
 abbrev pub fails : (number : ℕ) → Logged → World → Bool
 fails number l w = is_failure l.event && is_done l.reply && is_guest number (owner l.event w)
 
--- along a log, from that world on, the physical controller fails no command of that guest; others' may fail
+-- along a log, from that world on, the physical controller fails no physical command of that guest's; others' may fail
 unfoldable pub none_failed : Geometry → (number : ℕ) → List Logged → World → Bool
 none_failed geometry number [] w = true
 none_failed geometry number (l ∷ log) w =

@@ -27,3 +27,4 @@ pub mod RowsSmall
 pub mod RowsWrong
 pub mod RowsAlone
 pub mod RowsShares
+pub mod RowsExtents

@@ -1,5 +1,5 @@
 -- Which steps of a guest's private controller each event of the world stands for: the guest's acts and its admin
--- queue's steps are its own; a command is taken, judged, given up and completed by the events of its tag; its units move
+-- queue's steps are its own; a command is taken, judged, given up and completed by the events of the tag that it goes by; its units move
 -- where the device's do; and marks rise where any event raises them (profile).
 use Rattle.std.specs.Prelude.{ℕ, Bool, true, false, ◌||◌, ◌==◌, if◌then◌else◌, List, [], ◌∷◌, ◌++◌, filter, map, slice_get, Option, Some, None}
 use Rattle.std.specs.List.{range_with_len}
@@ -13,10 +13,10 @@ use Rattle.nv_world_model.specs.declared.event.Event.{Event}
 use Rattle.nv_world_model.specs.declared.event.Event.TheVariants as event
 use Rattle.nv_world_model.specs.declared.logged.Logged.{Logged}
 use Rattle.nv_world_model.specs.Geometry.{Geometry, Guest}
-use Rattle.nv_world_model.specs.Seat.{name_of, units_behind, work_of}
-use Rattle.nv_world_model.specs.Step.{free_tag, is_done, step}
+use Rattle.nv_world_model.specs.Seat.{name_of, numbers_behind, work_of}
+use Rattle.nv_world_model.specs.Step.{is_done, step}
 use Rattle.nv_world_model.specs.View.{is_tag_of}
-use Rattle.nv_world_model.specs.World.{Ended, Flying, Free, Lane, Tag, Taken, World, tag_of}
+use Rattle.nv_world_model.specs.World.{Ended, Flying, Free, Lane, Tag, Taken, World, is_free, tag_of, tags_where}
 
 -- ---- acts
 
@@ -47,14 +47,14 @@ seen_by number (l ∷ log) = with_act (act_of number l.event) l.reply (seen_by n
 
 -- ---- commands
 
--- a command is taken under the name of the lowest free tag
-abbrev pub taken_as : Option ℕ → (queue lane : ℕ) → List Step
-taken_as None queue lane = []
-taken_as (Some tag) queue lane = TakeStep queue (name_of lane tag) ∷ []
+-- a command is taken under the name of the lowest free tag, whatever more it takes
+abbrev pub taken_as : List ℕ → (queue lane : ℕ) → List Step
+taken_as [] queue lane = []
+taken_as (tag ∷ tags) queue lane = TakeStep queue (name_of lane tag) ∷ []
 
 abbrev pub takes : Option Lane → (queue lane : ℕ) → List Step
 takes None queue lane = []
-takes (Some l) queue lane = taken_as (free_tag l.tags) queue lane
+takes (Some l) queue lane = taken_as (tags_where is_free l.tags) queue lane
 
 -- an ended command is completed, or runs out after a reset
 abbrev pub leaves : Option Controller → (name : ℕ) → List Step
@@ -63,18 +63,23 @@ leaves (Some c) name = if is_enabled c then PostStep name ∷ [] else RunOutStep
 
 -- ---- units
 
--- the work of a command that was handed on
+-- a unit of the guest's own command, in the tag of one of its parts: the whole's unit of that number, and of a range
+-- each of its blocks
+abbrev pub own_moves : Option Tag → (lane unit : ℕ) → List Step
+own_moves None lane unit = []
+own_moves (Some Free) lane unit = []
+own_moves (Some (Taken command reads)) lane unit = []
+own_moves (Some (Flying command share standing)) lane unit =
+    map (MoveStep (name_of lane command.leader)) (numbers_behind share (unit ∷ []))
+own_moves (Some (Ended command st share)) lane unit = []
+
+-- the work of a part that was handed on
 abbrev pub work_in : Option Tag → Option Work
 work_in None = None
 work_in (Some Free) = None
 work_in (Some (Taken command reads)) = None
-work_in (Some (Flying command plan standing)) = work_of plan
-work_in (Some (Ended command st plan)) = None
-
--- a unit of the guest's own command: the same unit, and of a range each of its blocks
-abbrev pub own_moves : Option Work → (name unit : ℕ) → List Step
-own_moves None name unit = []
-own_moves (Some work) name unit = map (MoveStep name) (units_behind work (unit ∷ []))
+work_in (Some (Flying command share standing)) = work_of share.plan
+work_in (Some (Ended command st share)) = None
 
 -- whether a command of that form keeps all blocks of the disk
 abbrev pub keeps_all : Form → Bool
@@ -108,7 +113,7 @@ steps_done number guest w (event.GiveUp lane tag) =
     if is_tag_of number (tag_of w lane tag) then GiveUpStep (name_of lane tag) ∷ [] else []
 steps_done number guest w (event.DevTake lane) = []
 steps_done number guest w (event.DevMove lane slot unit) =
-    if is_tag_of number (tag_of w lane slot) then own_moves (work_in (tag_of w lane slot)) (name_of lane slot) unit
+    if is_tag_of number (tag_of w lane slot) then own_moves (tag_of w lane slot) lane unit
     else others_moves (work_in (tag_of w lane slot)) guest.namespace
 steps_done number guest w (event.DevPost lane slot) = []
 steps_done number guest w (event.DevFail lane slot st) = []

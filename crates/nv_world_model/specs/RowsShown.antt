@@ -15,7 +15,7 @@ use Rattle.nv_world_model.specs.declared.event.Event.TheVariants as event
 use Rattle.nv_world_model.specs.CutDown.{cut}
 use Rattle.nv_world_model.specs.Device.{Held}
 use Rattle.nv_world_model.specs.Geometry.{Guest}
-use Rattle.nv_world_model.specs.Plan.{Direct}
+use Rattle.nv_world_model.specs.Plan.{Direct, Plan}
 use Rattle.nv_world_model.specs.Rows.{behind, controller_with, guest_at, one_command, set_up, two_commands}
 use Rattle.nv_world_model.specs.SetUp.{Refusal, SetUp, refusal_of}
 use Rattle.nv_world_model.specs.View.{SharedNumbers, Span, shown}
@@ -59,17 +59,21 @@ both_in_device =
 abbrev pub cut_to_first : World
 cut_to_first = cut 0 first_guest set_up both_in_device
 
--- the tag of the first guest's command there
-abbrev pub first_flying : Tag
-first_flying =
-    Flying (record { guest = 0; queue = 1; entry = first_example; leader = 0 })
-    (Direct (record {
+-- the plan of the first guest's command there, and its tag: its one share is the whole
+abbrev pub first_plan : Plan
+first_plan =
+    Direct (record {
       opcode = opcode.Read;
       pieces = piece.Run 0x3000 512 ∷ [];
       ranges = [];
       units = MoveBlock 0 5 ∷ [];
       fua = false;
-    })) InDevice
+    })
+
+abbrev pub first_flying : Tag
+first_flying =
+    Flying (record { guest = 0; queue = 1; entry = first_example; leader = 0 })
+    (record { whole = first_plan; plan = first_plan; numbers = 0 ∷ [] }) InDevice
 
 -- where the bytes of a command in the device lie
 abbrev pub held_pieces : Option Held → List Piece
@@ -118,6 +122,10 @@ guests_refused guests = refused 0x1000000 1 0x400000 guests
 -- so many blocks of the disk from this one on
 abbrev pub extent_at : (base blocks : ℕ) → Extent
 extent_at base blocks = record { base = base; blocks = blocks }
+
+-- so many extents of a block each, every other block from this one on
+abbrev pub extents_from : (base count : ℕ) → List Extent
+extents_from base count = map (λ n. extent_at (base + 2 * n) 1) (range_with_len 0 count)
 
 -- so many guests of one page and one block each, one behind the other
 abbrev pub small_guests : (count : ℕ) → List Guest

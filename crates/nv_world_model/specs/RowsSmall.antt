@@ -18,6 +18,7 @@ use Rattle.nv_world_model.specs.Device.{Held}
 use Rattle.nv_world_model.specs.Geometry.{Geometry, Guest}
 use Rattle.nv_world_model.specs.Plan.{NoData}
 use Rattle.nv_world_model.specs.Rows.{numbered}
+use Rattle.nv_world_model.specs.Share.{Share}
 use Rattle.nv_world_model.specs.Step.{replay}
 use Rattle.nv_world_model.specs.World.{Answered, Command, Flying, Free, InDevice, Standing, Taken, World}
 
@@ -109,6 +110,10 @@ clear_of guest tag = record { guest = guest; queue = 1; entry = clear_one; leade
 abbrev pub clear_work : Work
 clear_work = record { opcode = opcode.WriteZeroes; pieces = []; ranges = []; units = ClearBlock 0 false ∷ []; fua = false }
 
+-- its one share, which is the whole
+abbrev pub clear_share : Share
+clear_share = record { whole = NoData clear_work; plan = NoData clear_work; numbers = 0 ∷ [] }
+
 -- the physical entry of the first guest's, and its physical completion
 abbrev pub clear_entry : List ℕ
 clear_entry = physical_entry 0x08 1 (record { prp1 = 0; prp2 = 0; list = replicate 32 0; used = 0 }) (2 ∷ 0 ∷ 0 ∷ [])
@@ -135,7 +140,7 @@ small_device standing held posted host =
       kept = marked (λ _. false) 2 false;
       device = record { head = 1; tail = 1; posted = posted; phase = true; held = None ∷ held ∷ [] } ∷ [];
       lanes =
-          record { head = 0; phase = true; tags = Taken (clear_of 1 0) [] ∷ Flying (clear_of 0 1) (NoData clear_work) standing ∷ [] } ∷ [];
+          record { head = 0; phase = true; tags = Taken (clear_of 1 0) [] ∷ Flying (clear_of 0 1) clear_share standing ∷ [] } ∷ [];
       controllers = small_took ∷ small_took ∷ [];
     }
 

@@ -1,5 +1,5 @@
 -- Worked examples: steps that are wrong, each of which would let a guest be seen or changed by another
-use Rattle.std.specs.Prelude.{ℕ, ◌==◌, List, [], ◌∷◌, ◌++◌, map, true, not, ◌&&◌, if◌then◌else◌, slice_get}
+use Rattle.std.specs.Prelude.{ℕ, ◌==◌, List, [], ◌∷◌, ◌++◌, map, true, not, ◌&&◌, if◌then◌else◌, slice_get, Option, Some, None}
 use Rattle.nv_entry.specs.Status.{StatusField}
 use Rattle.nv_entry.specs.StatusCode.{done_with}
 use Rattle.nv_entry.specs.Submission.{cid_of}
@@ -12,23 +12,28 @@ use Rattle.nv_model.specs.Memory.{stored}
 use Rattle.nv_model.specs.Rows.{block_range, by_sgl, data_block, first_example, manage}
 use Rattle.nv_world_model.specs.declared.event.Event.{Event}
 use Rattle.nv_world_model.specs.declared.event.Event.TheVariants as event
-use Rattle.nv_world_model.specs.Area.{bounce_page}
 use Rattle.nv_world_model.specs.Geometry.{Geometry}
 use Rattle.nv_world_model.specs.Plan.{plan_over}
 use Rattle.nv_world_model.specs.Rows.{behind, guest_at, holding, in_device, moves, one_command, one_command_on, set_up, world_with}
 use Rattle.nv_world_model.specs.Seat.{Owner, owner_of}
-use Rattle.nv_world_model.specs.Step.{After, for_device, for_ended, for_owner, for_taken, post_by, replay, replied, submit_by}
-use Rattle.nv_world_model.specs.World.{World, tag_of, with_host}
+use Rattle.nv_world_model.specs.Step.{After, deciding, for_device, for_ended, for_owner, for_taken, post_by, replay, replied, statuses_of, submit_by}
+use Rattle.nv_world_model.specs.World.{World, group, tag_of, with_host}
 
 -- ---- a failed Read is delivered
+
+-- the status of a command all of whose tags have ended
+abbrev pub for_statuses : Option (List StatusField) → World → (StatusField → After) → After
+for_statuses None w more = replied reply.Stale w
+for_statuses (Some sts) w more = more (deciding sts)
 
 -- a Post that delivers the bytes of a bounced Read whatever its status
 abbrev pub delivered_anyway : (geometry : Geometry) (lane tag : ℕ) → World → After
 delivered_anyway geometry lane tag w =
-    for_ended (tag_of w lane tag) w (λ command st plan.
+    for_ended tag (tag_of w lane tag) w (λ command.
     for_owner (owner_of geometry w command.guest) w (λ o.
-    post_by (post o.controller command.queue 0 (cid_of command.entry) st) plan (done_with Success)
-    (bounce_page geometry.mediator lane tag) lane tag o w))
+    (let tags = group w lane tag in
+    for_statuses (statuses_of lane tags w) w (λ st.
+    post_by (post o.controller command.queue 0 (cid_of command.entry) st) (done_with Success) geometry.mediator lane tags o w))))
 
 -- Data Transfer Error
 abbrev pub data_transfer_error : StatusField
@@ -57,10 +62,11 @@ old_bytes_left =
 -- a Post whose completion is put in this guest's queue, whoever's command it is
 abbrev pub posted_astray : (geometry : Geometry) (guest lane tag : ℕ) → World → After
 posted_astray geometry guest lane tag w =
-    for_ended (tag_of w lane tag) w (λ command st plan.
+    for_ended tag (tag_of w lane tag) w (λ command.
     for_owner (owner_of geometry w guest) w (λ o.
-    post_by (post o.controller command.queue 0 (cid_of command.entry) st) plan st
-    (bounce_page geometry.mediator lane tag) lane tag o w))
+    (let tags = group w lane tag in
+    for_statuses (statuses_of lane tags w) w (λ st.
+    post_by (post o.controller command.queue 0 (cid_of command.entry) st) st geometry.mediator lane tags o w))))
 
 -- a Read of the first guest that has ended
 abbrev pub read_ended : World
@@ -79,10 +85,10 @@ as_if_at_zero o = record o { given = record o.given { namespace = map (λ (e : E
 -- a Submit that adds no base to the guest's blocks: neither to those of the entry, nor to those of its ranges
 abbrev pub submitted_untranslated : (geometry : Geometry) (lane tag : ℕ) → World → After
 submitted_untranslated geometry lane tag w =
-    for_taken (tag_of w lane tag) w (λ command reads.
+    for_taken tag (tag_of w lane tag) w (λ command reads.
     for_owner (owner_of geometry w command.guest) w (λ o.
     for_device (slice_get w.device lane) w (λ d.
-    submit_by (plan_over o.given command.entry reads) geometry.mediator lane tag command (as_if_at_zero o) d w)))
+    submit_by (plan_over o.given command.entry reads) geometry.mediator lane (group w lane tag) command (as_if_at_zero o) w)))
 
 -- the first guest's command is taken, its lists are read by these events, it is handed on so, and the device has it
 abbrev pub untranslated : (reads : List Event) → World → World

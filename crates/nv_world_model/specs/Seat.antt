@@ -1,7 +1,7 @@
 -- A guest's seat: what of the world is its private controller. What is done for a guest is done in its seat, as the
 -- private controller does it, and put back (profile).
 use Rattle.std.specs.Prelude.{ℕ, ◌+◌, ◌*◌, ◌/◌, ◌%◌, ◌&&◌, ◌==◌, if◌then◌else◌, Bool, false, List, [], filter, flat_map, map, replicate, slice_get, Option, Some, None}
-use Rattle.std.specs.List.{enumerate_from, list_any}
+use Rattle.std.specs.List.{enumerate_from, filter_map, list_any}
 use Rattle.nv_entry.specs.Completion.{status_of}
 use Rattle.nv_entry.specs.Range.{blocks_of}
 use Rattle.nv_entry.specs.Status.{StatusField}
@@ -15,7 +15,9 @@ use Rattle.nv_world_model.specs.Area.{completion_slot, tag_count}
 use Rattle.nv_world_model.specs.Device.{DeviceLane, Held}
 use Rattle.nv_world_model.specs.Geometry.{Geometry, Guest, regions_of}
 use Rattle.nv_world_model.specs.Plan.{Answer, Bounced, Direct, NoData, Plan}
-use Rattle.nv_world_model.specs.World.{Answered, Command, Ended, Flying, Free, InDevice, Queued, Standing, Tag, Taken, World, tag_of, with_controller, with_host}
+use Rattle.nv_world_model.specs.Share.{Share}
+use Rattle.nv_world_model.specs.World.{Answered, Command, Ended, Flying, Free, InDevice, Queued, Standing, Tag, Taken, World}
+use Rattle.nv_world_model.specs.World.{group, tag_of, with_controller, with_host}
 
 -- ---- whose seat
 
@@ -57,49 +59,81 @@ work_of (NoData work) = Some work
 work_of (Direct work) = Some work
 work_of (Bounced work) = Some work
 
--- a command at work with these of the device's units left, or one none of which has moved
-abbrev pub with_left : Option Work → (left : List ℕ) → (differed : Bool) → Progress
-with_left None left differed = Unjudged
-with_left (Some work) left differed = AtWork work (units_behind work left) differed
+-- of a share's units that the device has left, by the device's numbers, the numbers in the whole
+abbrev pub numbers_by : Option Work → (numbers left : List ℕ) → List ℕ
+numbers_by None numbers left = []
+numbers_by (Some work) numbers left = filter_map (slice_get numbers) (units_behind work left)
 
-abbrev pub unmoved : Option Work → Progress
-unmoved None = Unjudged
-unmoved (Some work) = AtWork work (numbers_of work) false
+abbrev pub numbers_behind : Share → (left : List ℕ) → List ℕ
+numbers_behind share left = numbers_by (work_of share.plan) share.numbers left
 
--- a command that the device holds
-abbrev pub held_progress : Option Held → Plan → Progress
-held_progress None plan = Unjudged
-held_progress (Some h) plan = with_left (work_of plan) h.left h.differed
+-- ---- how far a tag is
 
 -- whether a status tells that a Compare differed: Compare Failure
 abbrev pub tells_difference : StatusField → Bool
 tells_difference st = st.sct == 2 && st.sc == 0x85
 
--- a command with that status: all its units have moved, where it was handed on
-abbrev pub ended_progress : Option Plan → StatusField → Progress
-ended_progress None st = EndedWith st
-ended_progress (Some plan) st = with_left (work_of plan) [] (tells_difference st)
+-- what has come of the units of a tag's share: the numbers of those that are left, and whether a Compare has differed
+pub record Rest : Type 0 where
+  pub left : List ℕ
+  pub differed : Bool
 
--- how far a command is that was handed on, by where it stands; `held` is the device's, `status_at` the status in a
--- slot of the completion ring
-abbrev pub flying_progress : Standing → Plan → Option Held → (status_at : ℕ → StatusField) → Progress
-flying_progress (Queued slot) plan held status_at = unmoved (work_of plan)
-flying_progress InDevice plan held status_at = held_progress held plan
-flying_progress (Answered slot) plan held status_at = ended_progress (Some plan) (status_at slot)
+abbrev pub rest : (left : List ℕ) → (differed : Bool) → Rest
+rest left differed = record { left = left; differed = differed }
+
+-- of a share that the device holds
+abbrev pub held_rest : Option Held → Share → Rest
+held_rest None share = rest [] false
+held_rest (Some h) share = rest (numbers_behind share h.left) h.differed
+
+-- of a share that was handed on, by where it stands; `held` is the device's, `status_at` the status in a slot of the
+-- completion ring
+abbrev pub flying_rest : Standing → Share → Option Held → (status_at : ℕ → StatusField) → Rest
+flying_rest (Queued slot) share held status_at = rest share.numbers false
+flying_rest InDevice share held status_at = held_rest held share
+flying_rest (Answered slot) share held status_at = rest [] (tells_difference (status_at slot))
+
+abbrev pub tag_rest : Option Tag → Option Held → (status_at : ℕ → StatusField) → Rest
+tag_rest None held status_at = rest [] false
+tag_rest (Some Free) held status_at = rest [] false
+tag_rest (Some (Taken command reads)) held status_at = rest [] false
+tag_rest (Some (Flying command share standing)) held status_at = flying_rest standing share held status_at
+tag_rest (Some (Ended command st share)) held status_at = rest [] (tells_difference st)
+
+-- ---- how far a command is
+
+-- the whole work with those units left, in its order, that some tag has left; a Compare has differed where one of them
+-- tells so
+abbrev pub work_progress : Option Work → List Rest → Progress
+work_progress None rests = Unjudged
+work_progress (Some work) rests =
+    AtWork work (filter (λ k. list_any (λ (r : Rest). list_any (λ other. other == k) r.left) rests) (numbers_of work))
+    (list_any (λ (r : Rest). r.differed) rests)
+
+-- a command none of whose units were handed on has ended with that status
+abbrev pub ended_progress : Option Share → StatusField → List Rest → Progress
+ended_progress None st rests = EndedWith st
+ended_progress (Some share) st rests = work_progress (work_of share.whole) rests
 
 -- the command as the guest's private controller has it, where it is that guest's
 abbrev pub member_of : (number : ℕ) → Command → Progress → Option Member
 member_of number command progress =
     if command.guest == number then Some (record { queue = command.queue; entry = command.entry; progress = progress }) else None
 
--- the guest's command in a tag
-abbrev pub member_in : Option Tag → (number : ℕ) → Option Held → (status_at : ℕ → StatusField) → Option Member
-member_in None number held status_at = None
-member_in (Some Free) number held status_at = None
-member_in (Some (Taken command reads)) number held status_at = member_of number command Unjudged
-member_in (Some (Flying command plan standing)) number held status_at =
-    member_of number command (flying_progress standing plan held status_at)
-member_in (Some (Ended command st plan)) number held status_at = member_of number command (ended_progress plan st)
+-- where the command goes by that tag
+abbrev pub member_by : (tag number : ℕ) → Command → Progress → Option Member
+member_by tag number command progress =
+    if command.leader == tag then member_of number command progress else None
+
+-- the guest's command that goes by a tag, of which these are the rests in all its tags
+abbrev pub member_in : Option Tag → (tag number : ℕ) → List Rest → Option Member
+member_in None tag number rests = None
+member_in (Some Free) tag number rests = None
+member_in (Some (Taken command reads)) tag number rests = member_by tag number command Unjudged
+member_in (Some (Flying command share standing)) tag number rests =
+    member_by tag number command (work_progress (work_of share.whole) rests)
+member_in (Some (Ended command st share)) tag number rests =
+    member_by tag number command (ended_progress share st rests)
 
 -- what the device holds under an identifier
 abbrev pub held_by : Option (Option Held) → Option Held
@@ -114,16 +148,23 @@ held_in (Some d) identifier = held_by (slice_get d.held identifier)
 abbrev pub completion_at : Geometry → World → (lane at : ℕ) → List ℕ
 completion_at geometry w lane at = bytes_from w.host (completion_slot geometry.mediator lane at) cqe_size
 
--- the name of the command in a tag
+-- the name of the command that goes by a tag
 abbrev pub name_of : (lane tag : ℕ) → ℕ
 name_of lane tag = tag_count * lane + tag
+
+-- what has come of a tag's share, and of those of all tags of a command
+unfoldable pub rest_at : Geometry → World → (lane tag : ℕ) → Rest
+rest_at geometry w lane tag =
+    tag_rest (tag_of w lane tag) (held_in (slice_get w.device lane) tag) (λ at. status_of (completion_at geometry w lane at))
+
+unfoldable pub rests_of : Geometry → World → (lane leader : ℕ) → List Rest
+rests_of geometry w lane leader = map (rest_at geometry w lane) (group w lane leader)
 
 -- a guest's taken commands by their names
 unfoldable pub members : Geometry → World → (number : ℕ) → Bag
 members geometry w number name =
-    member_in (tag_of w (name / tag_count) (name % tag_count)) number
-    (held_in (slice_get w.device (name / tag_count)) (name % tag_count))
-    (λ at. status_of (completion_at geometry w (name / tag_count) at))
+    (let lane = name / tag_count in
+    let tag = name % tag_count in member_in (tag_of w lane tag) tag number (rests_of geometry w lane tag))
 
 -- ---- the seat
 

@@ -3,6 +3,7 @@ use Rattle.std.specs.Prelude.{ℕ, ◌+◌, ◌*◌, ◌%◌, Bool, false, not, 
 use Rattle.std.specs.List.{list_all, list_any}
 use Rattle.nv_mem.specs.GuestMap.{hosts_meet, span_met, spans_meet}
 use Rattle.nv_ns.specs.BlockRange.{Extent}
+use Rattle.nv_ns.specs.Extents.{most_extents}
 use Rattle.nv_model.specs.Limits.{page}
 use Rattle.nv_world_model.specs.Area.{lane_pages}
 use Rattle.nv_world_model.specs.Geometry.{Geometry, Guest, regions_of}
@@ -37,10 +38,6 @@ most_host_bytes = 1073741824
 
 abbrev pub most_disk_blocks : ℕ
 most_disk_blocks = 2097152
-
--- the most extents that a guest may be given: each of its commands is one physical command, which names blocks in a row
-abbrev pub most_given : ℕ
-most_given = 1
 
 -- the most descriptors of a list that a guest may be given
 abbrev pub most_limit : ℕ
@@ -87,12 +84,12 @@ host_fits s =
 abbrev pub extent_fits : SetUp → Extent → Bool
 extent_fits s e = nat_le 1 e.blocks && nat_le (e.base + e.blocks) s.geometry.disk_blocks
 
--- whether a guest has a map that was made for this host, of not too many regions, extents that fit, as many as may be,
--- and a limit that may be
+-- whether a guest has a map that was made for this host, of not too many regions, extents that fit, as many as a
+-- namespace may have, and a limit that may be
 abbrev pub guest_fits : SetUp → Guest → Bool
 guest_fits s g =
     g.memory_map.host_len == s.host_bytes && nat_le (length (regions_of g)) most_regions
-    && between 1 most_given (length g.namespace) && list_all (extent_fits s) g.namespace
+    && between 1 most_extents (length g.namespace) && list_all (extent_fits s) g.namespace
     && between 1 most_limit g.limit
 
 -- whether all sizes may be

@@ -1,11 +1,13 @@
--- What the mediator writes for the physical controller of a share: CDW10 to CDW12 by its own units and ranges, and its ranges as the disk has
--- them. With one extent they are those of `Area`, by the entry (NVM Command Set Specification 1.0, "NVM Command Set Commands"; profile).
-use Rattle.std.specs.Prelude.{ℕ, ◌+◌, ◌-◌, ◌*◌, ◌^◌, if◌then◌else◌, List, [], ◌∷◌, ◌++◌, flat_map, length}
+-- What the mediator writes for the physical controller of a share: its list, its source or its ranges as the disk has them, and its physical
+-- entry, with CDW10 to CDW12 by its own units and ranges (NVM Command Set Specification 1.0, "NVM Command Set Commands"; profile).
+use Rattle.std.specs.Prelude.{ℕ, ◌+◌, ◌-◌, ◌*◌, ◌^◌, ◌==◌, Bool, false, if◌then◌else◌, List, [], ◌∷◌, ◌++◌, flat_map, length}
 use Rattle.nv_entry.specs.Status.{bit}
 use Rattle.nv_entry.specs.Submission.{deallocate_of, opcode_of}
 use Rattle.nv_ns.specs.Extents.{Namespace, place_in}
 use Rattle.nv_model.specs.Judge.{ClearBlock, Clear, Form, KeepAll, Keep, LeaveBlock, Manage, MoveBlock, Transfer, Work, WorkUnit, form_of, is_fua}
-use Rattle.nv_world_model.specs.Area.{bounce_page, list_page, physical_entry, prps_of, source_bytes, translated_range, two_dwords}
+use Rattle.nv_model.specs.Memory.{stored}
+use Rattle.nv_world_model.specs.Area.{bounce_page, list_bytes, list_page, physical_entry, prps_of, source_bytes, submission_slot}
+use Rattle.nv_world_model.specs.Area.{translated_range, two_dwords}
 use Rattle.nv_world_model.specs.Geometry.{Guest}
 use Rattle.nv_world_model.specs.Plan.{Answer, Bounced, Direct, NoData, Plan}
 use Rattle.nv_world_model.specs.Share.{Share}
@@ -54,3 +56,28 @@ abbrev pub share_entry : Share → Namespace → Guest → (entry : List ℕ) �
 share_entry share ns guest entry mediator lane tag =
     physical_entry (opcode_of entry) tag (prps_of share.plan guest (list_page mediator lane tag) (bounce_page mediator lane tag))
     (own_dwords share.plan ns entry)
+
+-- whether a work of that form has nothing for the physical controller: it manages no range
+abbrev pub is_no_work : Form → Work → Bool
+is_no_work (Transfer dest) work = false
+is_no_work Clear work = false
+is_no_work Manage work = length work.ranges == 0
+is_no_work Keep work = false
+
+abbrev pub is_no_plan : Plan → Bool
+is_no_plan (Answer st) = false
+is_no_plan (NoData work) = is_no_work (form_of work.opcode) work
+is_no_plan (Direct work) = is_no_work (form_of work.opcode) work
+is_no_plan (Bounced work) = is_no_work (form_of work.opcode) work
+
+abbrev pub is_no_command : Share → Bool
+is_no_command share = is_no_plan share.plan
+
+-- the host's memory with a share's list in its tag's page, its source or ranges in the bounce pages, and its physical
+-- entry in that slot
+unfoldable pub share_written : Share → Guest → (entry : List ℕ) → (mediator lane tag slot : ℕ) → (host : ℕ → ℕ) → ℕ → ℕ
+share_written share guest entry mediator lane tag slot host =
+    (let listed = stored host (list_page mediator lane tag)
+    (list_bytes (prps_of share.plan guest (list_page mediator lane tag) (bounce_page mediator lane tag))) in
+    let bounced = stored listed (bounce_page mediator lane tag) (own_bytes share.plan guest.namespace guest host) in
+    stored bounced (submission_slot mediator lane slot) (share_entry share guest.namespace guest entry mediator lane tag))

@@ -2,7 +2,7 @@
 -- that can't be is ignored before all else; of the other replies that apply the first in the event's rule stands; and
 -- a reply that tells of no change leaves the world as it was (profile).
 use Rattle.std.specs.Prelude.{ℕ, ◌+◌, Bool, true, false, ◌&&◌, ◌==◌, nat_le, if◌then◌else◌, List, [], ◌∷◌, ◌++◌, slice_get, Option, Some, None}
-use Rattle.std.specs.List.{list_any, position}
+use Rattle.std.specs.List.{list_any}
 use Rattle.nv_entry.specs.Completion.{cid_of as completed_cid, status_of}
 use Rattle.nv_entry.specs.Status.{StatusField}
 use Rattle.nv_entry.specs.StatusCode.{done_with}
@@ -23,13 +23,15 @@ use Rattle.nv_model.specs.Queue.{is_empty, next_slot, sqe_size}
 use Rattle.nv_model.specs.Transcript.{Outcome, ReadDone, Settled, Wanted}
 use Rattle.nv_world_model.specs.declared.event.Event.{Event}
 use Rattle.nv_world_model.specs.declared.event.Event.TheVariants as event
-use Rattle.nv_world_model.specs.Area.{bounce_page, ring_size, written}
+use Rattle.nv_world_model.specs.Area.{bounce_page, ring_size}
 use Rattle.nv_world_model.specs.Device.{DeviceLane, Held, completion_posted, completion_written, device_unit, entry_taken, front_entry, held_status, next_phase, rung, unit_gone, with_held}
 use Rattle.nv_world_model.specs.Geometry.{Geometry, regions_of, shape_of}
 use Rattle.nv_world_model.specs.Plan.{Answer, Bounced, Direct, NoData, Plan, plan_over}
 use Rattle.nv_world_model.specs.Seat.{Owner, completion_at, owner_of, put_back, seat, with_memory}
-use Rattle.nv_world_model.specs.World.{Answered, Command, Ended, Flying, Free, InDevice, Lane, Queued, Standing, Tag, Taken, World, tag_of, with_controller}
-use Rattle.nv_world_model.specs.World.{with_device, with_host, with_lane, with_tag}
+use Rattle.nv_world_model.specs.Share.{Share, shares_of, tags_of_entry}
+use Rattle.nv_world_model.specs.ShareArea.{is_no_command, share_written}
+use Rattle.nv_world_model.specs.World.{Answered, Command, Ended, Flying, Free, InDevice, Lane, Queued, Standing, Tag, Taken, World}
+use Rattle.nv_world_model.specs.World.{claimed, group, lowest, tag_of, with_controller, with_device, with_host, with_lane, with_tag, with_tags}
 
 -- the world behind an event, and the reply
 pub record After : Type 0 where
@@ -61,21 +63,25 @@ abbrev pub for_device : Option DeviceLane → World → (DeviceLane → After) �
 for_device None w more = replied reply.Ignored w
 for_device (Some d) w more = more d
 
--- a tag that is Taken
-abbrev pub for_taken : Option Tag → World → (Command → List ReadDone → After) → After
-for_taken None w more = replied reply.Ignored w
-for_taken (Some Free) w more = replied reply.Stale w
-for_taken (Some (Taken command reads)) w more = more command reads
-for_taken (Some (Flying command plan standing)) w more = replied reply.Stale w
-for_taken (Some (Ended command st plan)) w more = replied reply.Stale w
+-- a command goes by this tag: by another it is at no point
+abbrev pub for_leader : (tag : ℕ) → Command → World → After → After
+for_leader tag command w done = if command.leader == tag then done else replied reply.Stale w
 
--- a tag that is Ended
-abbrev pub for_ended : Option Tag → World → (Command → StatusField → Option Plan → After) → After
-for_ended None w more = replied reply.Ignored w
-for_ended (Some Free) w more = replied reply.Stale w
-for_ended (Some (Taken command reads)) w more = replied reply.Stale w
-for_ended (Some (Flying command plan standing)) w more = replied reply.Stale w
-for_ended (Some (Ended command st plan)) w more = more command st plan
+-- a command that is Taken, by the tag that it goes by
+abbrev pub for_taken : (tag : ℕ) → Option Tag → World → (Command → List ReadDone → After) → After
+for_taken tag None w more = replied reply.Ignored w
+for_taken tag (Some Free) w more = replied reply.Stale w
+for_taken tag (Some (Taken command reads)) w more = for_leader tag command w (more command reads)
+for_taken tag (Some (Flying command share standing)) w more = replied reply.Stale w
+for_taken tag (Some (Ended command st share)) w more = replied reply.Stale w
+
+-- a command whose first part is Ended, by the tag that it goes by
+abbrev pub for_ended : (tag : ℕ) → Option Tag → World → (Command → After) → After
+for_ended tag None w more = replied reply.Ignored w
+for_ended tag (Some Free) w more = replied reply.Stale w
+for_ended tag (Some (Taken command reads)) w more = replied reply.Stale w
+for_ended tag (Some (Flying command share standing)) w more = replied reply.Stale w
+for_ended tag (Some (Ended command st share)) w more = for_leader tag command w (more command)
 
 -- a slot whose command is in the device
 abbrev pub for_held : Option (Option Held) → World → (Held → After) → After
@@ -117,30 +123,25 @@ administered_in o w =
 
 -- ---- Take
 
-abbrev pub is_free : Tag → Bool
-is_free Free = true
-is_free (Taken command reads) = false
-is_free (Flying command plan standing) = false
-is_free (Ended command st plan) = false
+-- the entry at that guest address
+abbrev pub entry_at : (addr : ℕ) → Owner → World → List ℕ
+entry_at addr o w = bytes_from (image (regions_of o.given) w.host) addr sqe_size
 
--- the lowest free tag
-abbrev pub free_tag : List Tag → Option ℕ
-free_tag tags = position is_free tags
+-- it gets these tags, of which it goes by the lowest, and the queue's head moves on
+unfoldable pub taken_to : (addr queue lane : ℕ) → (tags : List ℕ) → Owner → World → World
+taken_to addr queue lane tags o w =
+    (let command : Command = record { guest = o.number; queue = queue; entry = entry_at addr o w; leader = lowest tags } in
+    with_tags lane tags (Taken command []) (with_controller o.number (took o.controller queue) w))
 
--- the entry at that guest address gets a tag, and the queue's head moves on
-unfoldable pub taken_to : (addr queue lane tag : ℕ) → Owner → World → World
-taken_to addr queue lane tag o w =
-    (let entry = bytes_from (image (regions_of o.given) w.host) addr sqe_size in
-    with_tag lane tag (Taken (record { guest = o.number; queue = queue; entry = entry; leader = tag }) [])
-    (with_controller o.number (took o.controller queue) w))
+abbrev pub take_tags : Option (List ℕ) → (addr queue lane : ℕ) → Owner → World → After
+take_tags None addr queue lane o w = replied reply.Busy w
+take_tags (Some tags) addr queue lane o w = replied reply.Done (taken_to addr queue lane tags o w)
 
-abbrev pub take_tag : Option ℕ → (addr queue lane : ℕ) → Owner → World → After
-take_tag None addr queue lane o w = replied reply.Busy w
-take_tag (Some tag) addr queue lane o w = replied reply.Done (taken_to addr queue lane tag o w)
-
+-- as many tags as the command may become physical commands, the lowest that are free, or none
 abbrev pub take_front : Option ℕ → (queue number : ℕ) → Lane → Owner → World → After
 take_front None queue number lane o w = replied reply.Idle w
-take_front (Some addr) queue number lane o w = take_tag (free_tag lane.tags) addr queue number o w
+take_front (Some addr) queue number lane o w =
+    take_tags (claimed (tags_of_entry o.given.namespace (entry_at addr o w)) lane.tags) addr queue number o w
 
 -- I/O queues are numbered from 1
 abbrev pub is_io_queue : (queue : ℕ) → Bool
@@ -166,27 +167,51 @@ list_at addr len lane tag command reads o w =
 
 -- ---- Submit and GiveUp
 
--- the command ends without a physical one
-unfoldable pub ended_at_once : (lane tag : ℕ) → Command → StatusField → World → World
-ended_at_once lane tag command st w = with_tag lane tag (Ended command st None) w
+-- the command ends without a physical one: with that status in the tag that it goes by, which is the first of these,
+-- and with success in its others
+abbrev pub ended_at_once : (lane : ℕ) → (tags : List ℕ) → Command → StatusField → World → World
+ended_at_once lane [] command st w = w
+ended_at_once lane (tag ∷ tags) command st w =
+    with_tags lane tags (Ended command (done_with Success) None) (with_tag lane tag (Ended command st None) w)
 
--- list, source or ranges, and physical entry are written, and the doorbell is rung
-unfoldable pub submitted : (mediator lane tag : ℕ) → Command → Plan → Owner → DeviceLane → World → World
-submitted mediator lane tag command plan o d w =
-    with_tag lane tag (Flying command plan (Queued d.tail))
-    (with_device lane rung (with_host (written plan o.given command.entry mediator lane tag d.tail w.host) w))
+-- list, source or ranges, and physical entry of a share are written, and the doorbell is rung
+unfoldable pub submitted : (mediator lane tag : ℕ) → Command → Share → Owner → DeviceLane → World → World
+submitted mediator lane tag command share o d w =
+    with_tag lane tag (Flying command share (Queued d.tail))
+    (with_device lane rung (with_host (share_written share o.given command.entry mediator lane tag d.tail w.host) w))
 
-abbrev pub carry_out : Plan → (mediator lane tag : ℕ) → Command → Owner → DeviceLane → World → World
-carry_out (Answer st) mediator lane tag command o d w = ended_at_once lane tag command st w
-carry_out (NoData work) mediator lane tag command o d w = submitted mediator lane tag command (NoData work) o d w
-carry_out (Direct work) mediator lane tag command o d w = submitted mediator lane tag command (Direct work) o d w
-carry_out (Bounced work) mediator lane tag command o d w = submitted mediator lane tag command (Bounced work) o d w
+abbrev pub submitted_on : Option DeviceLane → (mediator lane tag : ℕ) → Command → Share → Owner → World → World
+submitted_on None mediator lane tag command share o w = w
+submitted_on (Some d) mediator lane tag command share o w = submitted mediator lane tag command share o d w
+
+-- a share without a range of its Dataset Management is no physical command: it has ended
+abbrev pub carried_out : (mediator lane tag : ℕ) → Command → Share → Owner → World → World
+carried_out mediator lane tag command share o w =
+    if is_no_command share then with_tag lane tag (Ended command (done_with Success) (Some share)) w
+    else submitted_on (slice_get w.device lane) mediator lane tag command share o w
+
+-- the shares in order, each in its tag
+unfoldable pub handed_on : (mediator lane : ℕ) → (tags : List ℕ) → List Share → Command → Owner → World → World
+handed_on mediator lane [] shares command o w = w
+handed_on mediator lane (tag ∷ tags) [] command o w = w
+handed_on mediator lane (tag ∷ tags) (share ∷ shares) command o w =
+    handed_on mediator lane tags shares command o (carried_out mediator lane tag command share o w)
+
+-- an answer, or the shares of a plan
+abbrev pub carry_out : Plan → (mediator lane : ℕ) → (tags : List ℕ) → Command → Owner → World → World
+carry_out (Answer st) mediator lane tags command o w = ended_at_once lane tags command st w
+carry_out (NoData work) mediator lane tags command o w =
+    handed_on mediator lane tags (shares_of o.given.namespace command.entry (NoData work)) command o w
+carry_out (Direct work) mediator lane tags command o w =
+    handed_on mediator lane tags (shares_of o.given.namespace command.entry (Direct work)) command o w
+carry_out (Bounced work) mediator lane tags command o w =
+    handed_on mediator lane tags (shares_of o.given.namespace command.entry (Bounced work)) command o w
 
 -- a plan that wants more is no plan yet
-abbrev pub submit_by : Outcome Plan → (mediator lane tag : ℕ) → Command → Owner → DeviceLane → World → After
-submit_by (Wanted addr len) mediator lane tag command o d w = replied reply.Stale w
-submit_by (Settled plan) mediator lane tag command o d w =
-    replied reply.Done (carry_out plan mediator lane tag command o d w)
+abbrev pub submit_by : Outcome Plan → (mediator lane : ℕ) → (tags : List ℕ) → Command → Owner → World → After
+submit_by (Wanted addr len) mediator lane tags command o w = replied reply.Stale w
+submit_by (Settled plan) mediator lane tags command o w =
+    replied reply.Done (carry_out plan mediator lane tags command o w)
 
 -- ---- the physical controller
 
@@ -195,8 +220,8 @@ abbrev pub standing_at : Option Tag → Standing → (lane tag : ℕ) → World 
 standing_at None standing lane tag w = w
 standing_at (Some Free) standing lane tag w = w
 standing_at (Some (Taken command reads)) standing lane tag w = w
-standing_at (Some (Flying command plan before)) standing lane tag w = with_tag lane tag (Flying command plan standing) w
-standing_at (Some (Ended command st plan)) standing lane tag w = w
+standing_at (Some (Flying command share before)) standing lane tag w = with_tag lane tag (Flying command share standing) w
+standing_at (Some (Ended command st share)) standing lane tag w = w
 
 abbrev pub stands : Standing → (lane tag : ℕ) → World → World
 stands standing lane tag w = standing_at (tag_of w lane tag) standing lane tag w
@@ -264,8 +289,8 @@ abbrev pub ended_at : Option Tag → StatusField → (lane tag : ℕ) → World 
 ended_at None st lane tag w = w
 ended_at (Some Free) st lane tag w = w
 ended_at (Some (Taken command reads)) st lane tag w = w
-ended_at (Some (Flying command plan standing)) st lane tag w = with_tag lane tag (Ended command (passed_on st) (Some plan)) w
-ended_at (Some (Ended command before plan)) st lane tag w = w
+ended_at (Some (Flying command share standing)) st lane tag w = with_tag lane tag (Ended command (passed_on st) (Some share)) w
+ended_at (Some (Ended command before share)) st lane tag w = w
 
 -- the mediator's side of a lane behind one more completion
 abbrev pub completion_read : Lane → Lane
@@ -284,41 +309,85 @@ reap geometry number lane d w =
 
 -- ---- Post
 
--- the bytes of a bounced Read that succeeded reach the guest, place by place in order
+-- the bytes of a bounced Read, as far as they are this share's, reach the guest, place by place in order
 unfoldable pub scattered_to : (bounce : ℕ) → Work → Owner → World → World
 scattered_to bounce work o w =
     (let bytes = bytes_from w.host bounce (total_len work.pieces) in
     with_memory o (scattered (image (regions_of o.given) w.host) (places_of work.pieces) bytes) w)
 
-abbrev pub delivered : Option Plan → StatusField → (bounce : ℕ) → Owner → World → World
-delivered None st bounce o w = w
-delivered (Some (Answer answer)) st bounce o w = w
-delivered (Some (NoData work)) st bounce o w = w
-delivered (Some (Direct work)) st bounce o w = w
-delivered (Some (Bounced work)) st bounce o w =
-    if is_read work.opcode && is_success st then scattered_to bounce work o w else w
+abbrev pub delivered_by : Plan → (bounce : ℕ) → Owner → World → World
+delivered_by (Answer answer) bounce o w = w
+delivered_by (NoData work) bounce o w = w
+delivered_by (Direct work) bounce o w = w
+delivered_by (Bounced work) bounce o w = if is_read work.opcode then scattered_to bounce work o w else w
 
--- the completion stands in the guest's queue, and the tag is free
-unfoldable pub posted_to : Posted → (lane tag : ℕ) → Owner → World → World
-posted_to posted lane tag o w =
-    with_tag lane tag Free
+abbrev pub delivered_from : Option Tag → (bounce : ℕ) → Owner → World → World
+delivered_from None bounce o w = w
+delivered_from (Some Free) bounce o w = w
+delivered_from (Some (Taken command reads)) bounce o w = w
+delivered_from (Some (Flying command share standing)) bounce o w = w
+delivered_from (Some (Ended command st None)) bounce o w = w
+delivered_from (Some (Ended command st (Some share))) bounce o w = delivered_by share.plan bounce o w
+
+-- tag by tag in order
+unfoldable pub delivered_all : (mediator lane : ℕ) → (tags : List ℕ) → Owner → World → World
+delivered_all mediator lane [] o w = w
+delivered_all mediator lane (tag ∷ tags) o w =
+    delivered_all mediator lane tags o (delivered_from (tag_of w lane tag) (bounce_page mediator lane tag) o w)
+
+-- only where the command succeeded
+abbrev pub delivered : StatusField → (mediator lane : ℕ) → (tags : List ℕ) → Owner → World → World
+delivered st mediator lane tags o w = if is_success st then delivered_all mediator lane tags o w else w
+
+-- the completion stands in the guest's queue, and the tags are free
+unfoldable pub posted_to : Posted → (lane : ℕ) → (tags : List ℕ) → Owner → World → World
+posted_to posted lane tags o w =
+    with_tags lane tags Free
     (put_back o (stored (image (regions_of o.given) w.host) posted.addr posted.entry) posted.controller w)
 
--- the command has run out after a reset, and the tag is free
-unfoldable pub ran_out_of : (queue lane tag : ℕ) → Owner → World → World
-ran_out_of queue lane tag o w = with_tag lane tag Free (with_controller o.number (ran_out o.controller queue) w)
+-- the command has run out after a reset, and the tags are free
+unfoldable pub ran_out_of : (queue lane : ℕ) → (tags : List ℕ) → Owner → World → World
+ran_out_of queue lane tags o w = with_tags lane tags Free (with_controller o.number (ran_out o.controller queue) w)
 
 -- where the completion queue is full nothing is delivered either
-abbrev pub post_by : Option Posted → Option Plan → StatusField → (bounce lane tag : ℕ) → Owner → World → After
-post_by None plan st bounce lane tag o w = replied reply.Held w
-post_by (Some posted) plan st bounce lane tag o w =
-    replied reply.Done (posted_to posted lane tag o (delivered plan st bounce o w))
+abbrev pub post_by : Option Posted → StatusField → (mediator lane : ℕ) → (tags : List ℕ) → Owner → World → After
+post_by None st mediator lane tags o w = replied reply.Held w
+post_by (Some posted) st mediator lane tags o w =
+    replied reply.Done (posted_to posted lane tags o (delivered st mediator lane tags o w))
 
-abbrev pub post_at : Command → StatusField → Option Plan → (bounce lane tag : ℕ) → Owner → World → After
-post_at command st plan bounce lane tag o w =
+abbrev pub post_at : Command → StatusField → (mediator lane : ℕ) → (tags : List ℕ) → Owner → World → After
+post_at command st mediator lane tags o w =
     if is_enabled o.controller
-    then post_by (post o.controller command.queue 0 (cid_of command.entry) st) plan st bounce lane tag o w
-    else replied reply.Done (ran_out_of command.queue lane tag o (delivered plan st bounce o w))
+    then post_by (post o.controller command.queue 0 (cid_of command.entry) st) st mediator lane tags o w
+    else replied reply.Done (ran_out_of command.queue lane tags o (delivered st mediator lane tags o w))
+
+-- the status of a tag that has ended
+abbrev pub ended_status : Option Tag → Option StatusField
+ended_status None = None
+ended_status (Some Free) = None
+ended_status (Some (Taken command reads)) = None
+ended_status (Some (Flying command share standing)) = None
+ended_status (Some (Ended command st share)) = Some st
+
+-- those of tags that have all ended, in order
+abbrev pub status_before : Option StatusField → Option (List StatusField) → Option (List StatusField)
+status_before None sts = None
+status_before (Some st) None = None
+status_before (Some st) (Some sts) = Some (st ∷ sts)
+
+unfoldable pub statuses_of : (lane : ℕ) → (tags : List ℕ) → World → Option (List StatusField)
+statuses_of lane [] w = Some []
+statuses_of lane (tag ∷ tags) w = status_before (ended_status (tag_of w lane tag)) (statuses_of lane tags w)
+
+-- the first that isn't success decides
+abbrev pub deciding : List StatusField → StatusField
+deciding [] = done_with Success
+deciding (st ∷ sts) = if is_success st then deciding sts else st
+
+-- a command some tag of which has not ended is not at this point yet
+abbrev pub post_all : Option (List StatusField) → Command → (mediator lane : ℕ) → (tags : List ℕ) → Owner → World → After
+post_all None command mediator lane tags o w = replied reply.Stale w
+post_all (Some sts) command mediator lane tags o w = post_at command (deciding sts) mediator lane tags o w
 
 -- ---- the step
 
@@ -330,16 +399,16 @@ step geometry (event.Take guest queue lane) w =
     for_guest (owner_of geometry w guest) w (λ o.
     for_lane (slice_get w.lanes lane) w (λ l. take_from queue lane l o w))
 step geometry (event.List lane tag addr len) w =
-    for_taken (tag_of w lane tag) w (λ command reads.
+    for_taken tag (tag_of w lane tag) w (λ command reads.
     for_owner (owner_of geometry w command.guest) w (λ o. list_at addr len lane tag command reads o w))
 step geometry (event.Submit lane tag) w =
-    for_taken (tag_of w lane tag) w (λ command reads.
+    for_taken tag (tag_of w lane tag) w (λ command reads.
     for_owner (owner_of geometry w command.guest) w (λ o.
     for_device (slice_get w.device lane) w (λ d.
-    submit_by (plan_over o.given command.entry reads) geometry.mediator lane tag command o d w)))
+    submit_by (plan_over o.given command.entry reads) geometry.mediator lane (group w lane tag) command o w)))
 step geometry (event.GiveUp lane tag) w =
-    for_taken (tag_of w lane tag) w (λ command reads.
-    replied reply.Done (ended_at_once lane tag command (done_with InternalError) w))
+    for_taken tag (tag_of w lane tag) w (λ command reads.
+    replied reply.Done (ended_at_once lane (group w lane tag) command (done_with InternalError) w))
 step geometry (event.DevTake lane) w =
     for_device (slice_get w.device lane) w (λ d. device_take geometry.mediator lane d w)
 step geometry (event.DevMove lane slot number) w =
@@ -356,9 +425,10 @@ step geometry (event.Reap lane) w =
     for_lane (slice_get w.lanes lane) w (λ l.
     for_device (slice_get w.device lane) w (λ d. reap geometry lane l d w))
 step geometry (event.Post lane tag) w =
-    for_ended (tag_of w lane tag) w (λ command st plan.
+    for_ended tag (tag_of w lane tag) w (λ command.
     for_owner (owner_of geometry w command.guest) w (λ o.
-    post_at command st plan (bounce_page geometry.mediator lane tag) lane tag o w))
+    (let tags = group w lane tag in
+    post_all (statuses_of lane tags w) command geometry.mediator lane tags o w)))
 
 -- ---- logs
 

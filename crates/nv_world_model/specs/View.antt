@@ -17,8 +17,9 @@ use Rattle.nv_world_model.specs.Geometry.{Geometry, Guest, regions_of}
 use Rattle.nv_world_model.specs.Plan.{Answer, Bounced, Direct, NoData, Plan}
 use Rattle.nv_mem.specs.GuestMap.{guest_of}
 use Rattle.nv_world_model.specs.Seat.{completion_at, held_in}
-use Rattle.nv_world_model.specs.Step.{is_free, is_success}
-use Rattle.nv_world_model.specs.World.{Answered, Ended, Flying, Free, InDevice, Lane, Queued, Standing, Tag, Taken, World, tag_of}
+use Rattle.nv_world_model.specs.Step.{is_success}
+use Rattle.nv_world_model.specs.Share.{Share}
+use Rattle.nv_world_model.specs.World.{Answered, Ended, Flying, Free, InDevice, Lane, Queued, Standing, Tag, Taken, World, is_free, tag_of}
 
 -- ---- whose a tag is
 
@@ -26,8 +27,8 @@ use Rattle.nv_world_model.specs.World.{Answered, Ended, Flying, Free, InDevice, 
 abbrev pub guest_of_tag : Tag → Option ℕ
 guest_of_tag Free = None
 guest_of_tag (Taken command reads) = Some command.guest
-guest_of_tag (Flying command plan standing) = Some command.guest
-guest_of_tag (Ended command st plan) = Some command.guest
+guest_of_tag (Flying command share standing) = Some command.guest
+guest_of_tag (Ended command st share) = Some command.guest
 
 abbrev pub is_guest : (number : ℕ) → Option ℕ → Bool
 is_guest number None = false
@@ -79,7 +80,7 @@ units_shown (Bounced work) left bounce =
     (filter (λ k. not (list_any (λ other. other == k) left)) (range_with_len 0 (length work.units)))
     else []
 
--- all of them where the command succeeded, and none where it failed
+-- all of them where the part succeeded, and none where it failed
 abbrev pub result_shown : StatusField → Plan → (bounce : ℕ) → List Span
 result_shown st plan bounce = if is_success st then units_shown plan [] bounce else []
 
@@ -94,21 +95,21 @@ read_shown (Queued at) plan held status_at bounce = []
 read_shown InDevice plan held status_at bounce = moved_shown held plan bounce
 read_shown (Answered at) plan held status_at bounce = result_shown (status_at at) plan bounce
 
-abbrev pub ended_shown : Option Plan → StatusField → (bounce : ℕ) → List Span
+abbrev pub ended_shown : Option Share → StatusField → (bounce : ℕ) → List Span
 ended_shown None st bounce = []
-ended_shown (Some plan) st bounce = result_shown st plan bounce
+ended_shown (Some share) st bounce = result_shown st share.plan bounce
 
 -- what is shown of a tag of that guest
 abbrev pub tag_shown : Tag → Guest → Option Held → (status_at : ℕ → StatusField) → (mediator lane tag : ℕ) → List Span
 tag_shown Free guest held status_at mediator lane tag = []
 tag_shown (Taken command reads) guest held status_at mediator lane tag = []
-tag_shown (Flying command plan standing) guest held status_at mediator lane tag =
+tag_shown (Flying command share standing) guest held status_at mediator lane tag =
     slot_shown standing mediator lane
-    ++ list_shown plan guest (list_page mediator lane tag) (bounce_page mediator lane tag)
-    ++ source_shown plan (bounce_page mediator lane tag)
-    ++ read_shown standing plan held status_at (bounce_page mediator lane tag)
-tag_shown (Ended command st plan) guest held status_at mediator lane tag =
-    ended_shown plan st (bounce_page mediator lane tag)
+    ++ list_shown share.plan guest (list_page mediator lane tag) (bounce_page mediator lane tag)
+    ++ source_shown share.plan (bounce_page mediator lane tag)
+    ++ read_shown standing share.plan held status_at (bounce_page mediator lane tag)
+tag_shown (Ended command st share) guest held status_at mediator lane tag =
+    ended_shown share st (bounce_page mediator lane tag)
 
 -- the same of a guest's own tags of a lane
 abbrev pub own_shown : (number : ℕ) → Guest → Geometry → World → (lane : ℕ) → ℕ × Tag → List Span

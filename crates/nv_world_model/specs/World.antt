@@ -1,13 +1,15 @@
 -- The mediator's world: the host's memory and the disk, the physical controller, the tags of each lane, and each
--- guest's controller. What is not the physical controller's is the project's own (profile).
-use Rattle.std.specs.Prelude.{ℕ, Bool, true, false, List, length, replicate, slice_get, slice_set, Option, Some, None}
+-- guest's controller. A guest's command is several physical commands where its namespace has several extents: each has
+-- a tag, and they go by the lowest of these. What is not the physical controller's is the project's own (profile).
+use Rattle.std.specs.Prelude.{ℕ, ◌==◌, Bool, true, false, List, [], ◌∷◌, filter, length, map, nat_le, replicate, slice_get, slice_set, take, Option, Some, None, if◌then◌else◌}
+use Rattle.std.specs.List.{enumerate_from}
 use Rattle.nv_entry.specs.Status.{StatusField}
 use Rattle.nv_model.specs.Controller.{Controller, opening}
 use Rattle.nv_model.specs.Transcript.{ReadDone}
 use Rattle.nv_world_model.specs.Area.{tag_count}
 use Rattle.nv_world_model.specs.Device.{DeviceLane, opening_device_lane}
 use Rattle.nv_world_model.specs.Geometry.{Geometry}
-use Rattle.nv_world_model.specs.Plan.{Plan}
+use Rattle.nv_world_model.specs.Share.{Share}
 
 -- ---- the state
 
@@ -18,7 +20,7 @@ pub record Command : Type 0 where
   pub entry : List ℕ
   pub leader : ℕ
 
--- where a command that was handed on stands: in a slot of the submission ring, in the device, or in a slot of the
+-- where a physical command that was handed on stands: in a slot of the submission ring, in the device, or in a slot of the
 -- completion ring
 pub data Standing : Type 0 where
   Queued : (slot : ℕ) → Standing
@@ -28,12 +30,12 @@ pub data Standing : Type 0 where
 -- a tag of a lane
 pub data Tag : Type 0 where
   Free : Tag
-  -- a command that has no plan yet, and the reads of its lists
+  -- a command that has no plan yet, and the reads of its lists, which are kept in the tag that it goes by
   Taken : Command → (reads : List ReadDone) → Tag
-  -- a command that was handed on
-  Flying : Command → Plan → Standing → Tag
-  -- a command that has ended with a status, and its plan where it was handed on
-  Ended : Command → StatusField → Option Plan → Tag
+  -- a command that was handed on, and what this tag's physical command does of it
+  Flying : Command → Share → Standing → Tag
+  -- a command whose part has ended with a status, and that part where it was handed on
+  Ended : Command → StatusField → Option Share → Tag
 
 -- the mediator's side of a lane: the slot of the completion ring that is read next, the phase tag that it wants
 -- there, and the tags
@@ -103,3 +105,53 @@ with_tag lane tag t w = with_lane lane (tag_changed tag t) w
 
 abbrev pub with_controller : (guest : ℕ) → Controller → World → World
 with_controller guest c w = record w { controllers = slice_set w.controllers guest c }
+
+-- one tag after the other becomes what a command of that tag is
+unfoldable pub with_tags : (lane : ℕ) → (tags : List ℕ) → Tag → World → World
+with_tags lane [] t w = w
+with_tags lane (tag ∷ tags) t w = with_tags lane tags t (with_tag lane tag t w)
+
+-- ---- groups
+
+-- whether no command has a tag
+abbrev pub is_free : Tag → Bool
+is_free Free = true
+is_free (Taken command reads) = false
+is_free (Flying command share standing) = false
+is_free (Ended command st share) = false
+
+-- the tag that the command of a tag goes by
+abbrev pub leader_of : Tag → Option ℕ
+leader_of Free = None
+leader_of (Taken command reads) = Some command.leader
+leader_of (Flying command share standing) = Some command.leader
+leader_of (Ended command st share) = Some command.leader
+
+-- whether a tag's command goes by that one
+abbrev pub goes_by : (leader : ℕ) → Option ℕ → Bool
+goes_by leader None = false
+goes_by leader (Some other) = other == leader
+
+-- the tags that meet a test, by number, the lowest first
+abbrev pub tags_where : (Tag → Bool) → List Tag → List ℕ
+tags_where test tags = map (λ t. t.0) (filter (λ t. test t.1) (enumerate_from 0 tags))
+
+-- the tags of a command: all that go by its leader, in order
+abbrev pub group_in : Option Lane → (leader : ℕ) → List ℕ
+group_in None leader = []
+group_in (Some lane) leader = tags_where (λ t. goes_by leader (leader_of t)) lane.tags
+
+unfoldable pub group : World → (lane leader : ℕ) → List ℕ
+group w lane leader = group_in (slice_get w.lanes lane) leader
+
+-- the lowest free tags, so many of them, where as many are free
+abbrev pub first_of : (count : ℕ) → List ℕ → Option (List ℕ)
+first_of count free = if nat_le count (length free) then Some (take count free) else None
+
+unfoldable pub claimed : (count : ℕ) → List Tag → Option (List ℕ)
+claimed count tags = first_of count (tags_where is_free tags)
+
+-- the first of claimed tags, by which their command goes
+abbrev pub lowest : List ℕ → ℕ
+lowest [] = 0
+lowest (tag ∷ tags) = tag

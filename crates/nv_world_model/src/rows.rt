@@ -5,6 +5,7 @@ pub mod answers;
 pub mod commands;
 pub mod contained;
 pub mod disciplined;
+pub mod extents;
 pub mod failing;
 pub mod going;
 pub mod lists;

@@ -1,4 +1,4 @@
-//! What a guest's command goes through without a step of its private controller's: it is taken into the device, and answered.
+//! What a physical command of a guest's goes through without a step of its private controller's: it is taken into the device, and answered.
 
 ghost use Rattle.std.specs.Prelude.{◌≡◌, ℕ, Some, slice_get};
 ghost use Rattle.nv_model.specs.Private.{Private};
@@ -10,7 +10,7 @@ ghost use Rattle.nv_world_model.specs.World.{World};
 ghost use Rattle.nv_laws_related.specs.Following.{GoesAlong, IsReached};
 ghost use Rattle.nv_laws_related.specs.Related.{Related};
 
-/// The private controller goes along where the device takes the guest's command: all its units are left.
+/// The private controller goes along where the device takes a share of the guest's command: all its units are left.
 pub fn takes_are_followed()
     ensures { (host_bytes : ℕ) (geometry : Geometry) (number : ℕ) (guest : Guest) (w : World) (p : Private) (lane : ℕ) →
         slice_get geometry.guests number ≡ Some guest → IsReached host_bytes geometry w → Related geometry number guest w p →

@@ -9,13 +9,15 @@ ghost use Rattle.nv_world_model.specs.View.{IsAlike};
 ghost use Rattle.nv_world_model.specs.World.{World};
 ghost use Rattle.nv_laws_sound.specs.Consistent.{IsConsistent};
 ghost use Rattle.nv_laws_sound.specs.LaidOut.{IsLaidOut};
-ghost use Rattle.nv_laws_others.specs.Alike.{HasFittingStatus, HoldsNothingFree};
+ghost use Rattle.nv_laws_others.specs.Alike.{GoesByItsOwn, HasFittingStatus, HoldsNothingFree};
 
 /// Two worlds that look alike to an event's owner look alike to it behind the event. One of them is consistent, as each world is that events lead
-/// to; of the other nothing is asked but that the device holds nothing under a free tag, so it may be the world cut down to the owner's view.
+/// to; of the other nothing is asked but that the device holds nothing under a free tag, and that what goes by a tag of the owner's is the owner's,
+/// so it may be the world cut down to the owner's view.
 pub fn events_keep_worlds_alike()
     ensures { (host_bytes : ℕ) (geometry : Geometry) (w z : World) (number : ℕ) (guest : Guest) (e : Event) →
-        IsLaidOut host_bytes (length w.lanes) geometry → IsConsistent geometry w → HoldsNothingFree z → slice_get geometry.guests number ≡ Some guest →
+        IsLaidOut host_bytes (length w.lanes) geometry → IsConsistent geometry w → HoldsNothingFree z →
+        GoesByItsOwn number z → slice_get geometry.guests number ≡ Some guest →
         IsAlike number guest geometry w z → HasFittingStatus e → owner e w ≡ Some number →
         IsAlike number guest geometry (step geometry e w).world (step geometry e z).world }
 {}

@@ -1,7 +1,7 @@
 //! Why the status of a failure has to fit a completion.
 
 ghost use Rattle.nv_world_model.specs.Contained.{Contained};
-ghost use Rattle.nv_world_model.specs.Rows.{set_up};
+ghost use Rattle.nv_world_model.specs.RowsExtents.{set_up};
 ghost use Rattle.nv_world_model.specs.declared.event.Event.TheVariants as event;
 ghost use Rattle.nv_laws_others.specs.Unfitting.{left_over, type_eight};
 

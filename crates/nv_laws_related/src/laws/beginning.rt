@@ -4,8 +4,10 @@ ghost use Rattle.std.specs.Prelude.{◌≡◌, ℕ, Some, slice_get};
 ghost use Rattle.nv_model.specs.Private.{Private, start};
 ghost use Rattle.nv_world_model.specs.Agrees.{Agrees};
 ghost use Rattle.nv_world_model.specs.Geometry.{Geometry, Guest};
-ghost use Rattle.nv_world_model.specs.SetUp.{SetUp, world_at_start};
+ghost use Rattle.nv_world_model.specs.SetUp.{SetUp};
 ghost use Rattle.nv_world_model.specs.World.{World};
+ghost use Rattle.nv_world_model.specs.SetUp.{world_at_start};
+ghost use Rattle.nv_laws_sound.specs.Consistent.{IsConsistent};
 ghost use Rattle.nv_laws_related.specs.Related.{Related};
 
 /// At the start they stand for one another.
@@ -14,8 +16,9 @@ pub fn they_begin_alike()
         Related s.geometry number guest (world_at_start s) start }
 {}
 
-/// Where they stand for one another they agree in all that the guest can look at.
+/// Where they stand for one another, in a world that events lead to, they agree in all that the guest can look at.
 pub fn what_stands_for_it_agrees()
     ensures { (geometry : Geometry) (number : ℕ) (guest : Guest) (w : World) (p : Private) →
-        slice_get geometry.guests number ≡ Some guest → Related geometry number guest w p → Agrees number guest w p }
+        slice_get geometry.guests number ≡ Some guest → IsConsistent geometry w → Related geometry number guest w p →
+        Agrees number guest w p }
 {}

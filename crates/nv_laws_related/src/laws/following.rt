@@ -8,8 +8,9 @@ ghost use Rattle.nv_world_model.specs.Disciplined.{is_disciplined};
 ghost use Rattle.nv_world_model.specs.Geometry.{Geometry, Guest};
 ghost use Rattle.nv_world_model.specs.Headline.{IsPrivateRun, none_failed};
 ghost use Rattle.nv_world_model.specs.Log.{IsReplay};
-ghost use Rattle.nv_world_model.specs.SetUp.{SetUp, refusal_of, world_at_start};
+ghost use Rattle.nv_world_model.specs.SetUp.{SetUp, refusal_of};
 ghost use Rattle.nv_world_model.specs.World.{World};
+ghost use Rattle.nv_world_model.specs.SetUp.{world_at_start};
 ghost use Rattle.nv_laws_related.specs.Following.{AreRestFollowed, EachEventIsFollowed, IsReached, LogIsFollowed};
 ghost use Rattle.nv_laws_related.specs.Related.{Related};
 

@@ -11,7 +11,7 @@ ghost use Rattle.nv_laws_related.specs.Following.{GoesAlong, IsReached};
 ghost use Rattle.nv_laws_related.specs.Related.{Related};
 
 /// The private controller of a guest goes along where a list of the guest's is read, which stands for no step of it, and where a command of the guest
-/// is given up.
+/// is given up, whatever tags it has.
 pub fn lists_and_give_ups_are_followed()
     ensures lists { (host_bytes : ℕ) (geometry : Geometry) (number lane tag addr len : ℕ) (guest : Guest) (w : World) (p : Private) →
         slice_get geometry.guests number ≡ Some guest → IsReached host_bytes geometry w → Related geometry number guest w p →
@@ -23,7 +23,8 @@ pub fn lists_and_give_ups_are_followed()
         GoesAlong geometry number guest (event.GiveUp lane tag) w p (step geometry (event.GiveUp lane tag) w) }
 {}
 
-/// So it does, without a step, where the mediator reads a completion of the guest's: none of its commands has failed, so the status is passed on as it is.
+/// So it does, without a step, where the mediator reads a completion of the guest's: none of its commands has failed, so the status of that share is
+/// passed on as it is, and of the command's units it leaves none, as it did before.
 pub fn reaps_are_followed()
     ensures { (host_bytes : ℕ) (geometry : Geometry) (number lane : ℕ) (guest : Guest) (w : World) (p : Private) →
         slice_get geometry.guests number ≡ Some guest → IsReached host_bytes geometry w → Related geometry number guest w p →

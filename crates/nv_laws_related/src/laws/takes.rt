@@ -10,7 +10,7 @@ ghost use Rattle.nv_laws_related.specs.Following.{GoesAlong, IsDisciplinedAt, Is
 ghost use Rattle.nv_laws_related.specs.Related.{Related};
 
 /// The private controller of a disciplined guest goes along with each take of a command of the guest's: it takes the same 64 bytes, under the name of the
-/// lowest free tag.
+/// lowest of the tags that are claimed; the others have no name.
 pub fn takes_are_followed()
     ensures { (host_bytes : ℕ) (geometry : Geometry) (number queue lane : ℕ) (guest : Guest) (w : World) (p : Private) →
         slice_get geometry.guests number ≡ Some guest → IsReached host_bytes geometry w → Related geometry number guest w p →

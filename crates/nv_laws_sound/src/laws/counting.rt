@@ -3,20 +3,21 @@
 ghost use Rattle.std.specs.Prelude.{◌≡◌, ℕ, List, Some, None, length, slice_get};
 ghost use Rattle.nv_mem.specs.GuestMap.{IsSound};
 ghost use Rattle.nv_world_model.specs.Geometry.{Geometry, Guest};
-ghost use Rattle.nv_world_model.specs.SetUp.{SetUp, refusal_of, world_at_start};
+ghost use Rattle.nv_world_model.specs.SetUp.{SetUp, refusal_of};
 ghost use Rattle.nv_world_model.specs.Step.{replay, step};
 ghost use Rattle.nv_world_model.specs.World.{World};
+ghost use Rattle.nv_world_model.specs.SetUp.{world_at_start};
 ghost use Rattle.nv_world_model.specs.declared.event.Event.{Event};
 ghost use Rattle.nv_laws_sound.specs.Consistent.{IsConsistent};
 ghost use Rattle.nv_laws_sound.specs.Counted.{IsCounted};
 ghost use Rattle.nv_laws_sound.specs.LaidOut.{IsLaidOut};
 
-/// Each guest's controller counts that guest's commands in all tags of all lanes, by the queue that they were taken from, and its queues,
-/// RDY and waiting deletion go with the counts, as they do along every run of the private controller.
+/// Each guest's controller counts that guest's commands in all lanes, each once, in the tag that it goes by, by the queue that they were taken
+/// from, and its queues, RDY and waiting deletion go with the counts, as they do along every run of the private controller.
 pub fn controllers_count_their_commands()
     ensures start { (s : SetUp) → IsCounted s.geometry (world_at_start s) }
-    ensures step { (geometry : Geometry) (e : Event) (w : World) → IsConsistent geometry w → IsCounted geometry w →
-        IsCounted geometry (step geometry e w).world }
+    ensures step { (host_bytes : ℕ) (geometry : Geometry) (e : Event) (w : World) → IsLaidOut host_bytes (length w.lanes) geometry →
+        IsConsistent geometry w → IsCounted geometry w → IsCounted geometry (step geometry e w).world }
     ensures events { (host_bytes : ℕ) (geometry : Geometry) (events : List Event) (w : World) →
         IsLaidOut host_bytes (length w.lanes) geometry → IsConsistent geometry w → IsCounted geometry w → IsCounted geometry (replay geometry events w) }
     ensures from_start { (s : SetUp) (events : List Event) → refusal_of s ≡ None →

@@ -7,7 +7,7 @@ ghost use Rattle.nv_world_model.specs.Area.{ring_size, tag_count};
 ghost use Rattle.nv_world_model.specs.Contained.{is_answered_at, is_queued_at, tag_stands};
 ghost use Rattle.nv_world_model.specs.Device.{DeviceLane};
 ghost use Rattle.nv_world_model.specs.Geometry.{Geometry};
-ghost use Rattle.nv_world_model.specs.Plan.{Plan};
+ghost use Rattle.nv_world_model.specs.Share.{Share};
 ghost use Rattle.nv_world_model.specs.World.{Command, InDevice, Flying, Lane, Tag, Taken, World};
 ghost use Rattle.nv_laws_sound.specs.Consistent.{IsConsistent};
 
@@ -21,9 +21,9 @@ pub fn no_ring_overflows()
     ensures room_for_an_entry { (geometry : Geometry) (w : World) (lane tag : ℕ) (l : Lane) (d : DeviceLane) (command : Command) (reads : List ReadDone) →
         IsConsistent geometry w → slice_get w.lanes lane ≡ Some l → slice_get w.device lane ≡ Some d → slice_get l.tags tag ≡ Some (Taken command reads) →
         is_full ring_size d.head d.tail ≡ false }
-    ensures room_for_a_completion { (geometry : Geometry) (w : World) (lane tag : ℕ) (l : Lane) (d : DeviceLane) (command : Command) (plan : Plan) →
+    ensures room_for_a_completion { (geometry : Geometry) (w : World) (lane tag : ℕ) (l : Lane) (d : DeviceLane) (command : Command) (share : Share) →
         IsConsistent geometry w → slice_get w.lanes lane ≡ Some l → slice_get w.device lane ≡ Some d →
-        slice_get l.tags tag ≡ Some (Flying command plan InDevice) → is_full ring_size l.head d.posted ≡ false }
+        slice_get l.tags tag ≡ Some (Flying command share InDevice) → is_full ring_size l.head d.posted ≡ false }
 {}
 
 /// A slot of a ring is that of one tag.

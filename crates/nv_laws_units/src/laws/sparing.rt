@@ -7,7 +7,7 @@ ghost use Rattle.nv_model.specs.Private.{Private};
 ghost use Rattle.nv_ns.specs.Extents.{blocks_in, place_in};
 ghost use Rattle.nv_world_model.specs.Device.{Held, device_unit};
 ghost use Rattle.nv_world_model.specs.Geometry.{Geometry, Guest};
-ghost use Rattle.nv_world_model.specs.Plan.{Plan};
+ghost use Rattle.nv_world_model.specs.Share.{Share};
 ghost use Rattle.nv_world_model.specs.PrivateSteps.{keeps, others_moves, steps_of};
 ghost use Rattle.nv_world_model.specs.Step.{kept_block, step};
 ghost use Rattle.nv_world_model.specs.World.{World};
@@ -22,24 +22,23 @@ ghost use Rattle.nv_laws_units.specs.Units.{IsHeld};
 /// Another guest's unit leaves the bytes of a guest's blocks, and the steps that it stands for on the guest's private
 /// controller (a Flush's makes each block kept, any other is none) give its marks exactly.
 pub fn anothers_unit_raises_marks_at_most()
-    ensures steps { (geometry : Geometry) (w : World) (owner : ℕ) (held : Guest) (lane tag : ℕ) (plan : Plan)
-        (work : Work) (h : Held)
-        (unit number : ℕ) (guest : Guest) → IsHeld geometry w owner held lane tag plan work h → number ≢ owner →
+    ensures steps { (geometry : Geometry) (w : World) (owner : ℕ) (held : Guest) (lane tag : ℕ) (share : Share) (whole work : Work) (h : Held)
+        (unit number : ℕ) (guest : Guest) → IsHeld geometry w owner held lane tag share whole work h → number ≢ owner →
         steps_of number guest w (event.DevMove lane tag unit) reply.Done ≡ others_moves (Some work) guest.namespace }
     ensures marks { (host_bytes : ℕ) (geometry : Geometry) (w : World) (owner : ℕ) (held : Guest) (lane tag : ℕ)
-        (plan : Plan) (work : Work)
+        (share : Share) (whole work : Work)
         (h : Held) (unit number : ℕ) (guest : Guest) (p : Private) →
         IsLaidOut host_bytes (length w.lanes) geometry → IsConsistent geometry w →
-        IsHeld geometry w owner held lane tag plan work h →
+        IsHeld geometry w owner held lane tag share whole work h →
         list_any (λ k. k == unit) h.left ≡ true → slice_get geometry.guests number ≡ Some guest → number ≢ owner →
         SameMarks guest.namespace p.kept w.kept →
         RunsToMarks guest (others_moves (Some work) guest.namespace) p
         (device_unit unit geometry.disk_blocks h w.host w.disk w.kept).kept }
     ensures bytes { (host_bytes : ℕ) (geometry : Geometry) (w : World) (owner : ℕ) (held : Guest) (lane tag : ℕ)
-        (plan : Plan) (work : Work)
+        (share : Share) (whole work : Work)
         (h : Held) (unit number : ℕ) (guest : Guest) (lba offset : ℕ) →
         IsLaidOut host_bytes (length w.lanes) geometry → IsConsistent geometry w →
-        IsHeld geometry w owner held lane tag plan work h →
+        IsHeld geometry w owner held lane tag share whole work h →
         list_any (λ k. k == unit) h.left ≡ true → slice_get geometry.guests number ≡ Some guest → number ≢ owner →
         lba < blocks_in guest.namespace →
         (device_unit unit geometry.disk_blocks h w.host w.disk w.kept).disk

@@ -1,6 +1,6 @@
 //! What is done for a guest is in its seat exactly what its private controller does, and nothing is done elsewhere.
 
-ghost use Rattle.std.specs.Prelude.{◌≡◌, ℕ, ◌<◌, true, false, List, length, slice_get, Option, Some, None};
+ghost use Rattle.std.specs.Prelude.{◌≡◌, ℕ, ◌<◌, true, false, List, ◌∷◌, length, slice_get, Option, Some, None};
 ghost use Rattle.nv_entry.specs.Status.{StatusField};
 ghost use Rattle.nv_entry.specs.Submission.{cid_of};
 ghost use Rattle.nv_mem.specs.GuestMap.{IsSound};
@@ -9,13 +9,13 @@ ghost use Rattle.nv_model.specs.Private.{AdminQueueStep, PostStep, RunOutStep, T
 ghost use Rattle.nv_model.specs.declared.act.Act.{Act};
 ghost use Rattle.nv_model.specs.declared.reply.Reply.TheVariants as reply;
 ghost use Rattle.nv_world_model.specs.declared.event.Event.TheVariants as event;
-ghost use Rattle.nv_world_model.specs.Area.{bounce_page, tag_count};
+ghost use Rattle.nv_world_model.specs.Area.{tag_count};
 ghost use Rattle.nv_world_model.specs.Geometry.{Geometry, regions_of, shape_of};
 ghost use Rattle.nv_world_model.specs.Laws.{IsSeatOf, LeadsTo, OnlyInSeat};
-ghost use Rattle.nv_world_model.specs.Plan.{Plan};
-ghost use Rattle.nv_world_model.specs.Seat.{Owner, ended_progress, name_of, owner_of, seat};
-ghost use Rattle.nv_world_model.specs.Step.{delivered, free_tag, is_done, step, taken_to};
-ghost use Rattle.nv_world_model.specs.World.{Command, Ended, Lane, World, tag_of};
+ghost use Rattle.nv_world_model.specs.Seat.{Owner, ended_progress, name_of, owner_of, rests_of, seat};
+ghost use Rattle.nv_world_model.specs.Share.{Share, tags_of_entry};
+ghost use Rattle.nv_world_model.specs.Step.{deciding, delivered, entry_at, is_done, statuses_of, step, taken_to};
+ghost use Rattle.nv_world_model.specs.World.{Command, Ended, Lane, World, claimed, group, is_free, tag_of, tags_where};
 
 /// An act has the private controller's reply, and leads to its state.
 pub fn an_act_is_the_private_controllers()
@@ -42,32 +42,36 @@ pub fn an_admin_step_is_the_private_controllers()
 
 /// A take is the private controller's, under the name of the lowest free tag.
 pub fn a_take_is_the_private_controllers()
-    ensures done { (geometry : Geometry) (number queue lane tag : ℕ) (o : Owner) (l : Lane) (w : World) → owner_of geometry w number ≡ Some o →
-        slice_get w.lanes lane ≡ Some l → length l.tags ≡ tag_count → free_tag l.tags ≡ Some tag →
-        (step geometry (event.Take number queue lane) w).reply ≡ reply.Done →
+    ensures done { (geometry : Geometry) (number queue lane tag : ℕ) (more : List ℕ) (o : Owner) (l : Lane) (w : World) →
+        owner_of geometry w number ≡ Some o → slice_get w.lanes lane ≡ Some l → length l.tags ≡ tag_count →
+        tags_where is_free l.tags ≡ tag ∷ more → (step geometry (event.Take number queue lane) w).reply ≡ reply.Done →
         LeadsTo geometry o (TakeStep queue (name_of lane tag)) w (step geometry (event.Take number queue lane) w).world }
-    ensures only { (geometry : Geometry) (number queue lane tag : ℕ) (o : Owner) (l : Lane) (w : World) → owner_of geometry w number ≡ Some o →
-        slice_get w.lanes lane ≡ Some l → free_tag l.tags ≡ Some tag →
+    ensures only { (geometry : Geometry) (number queue lane : ℕ) (o : Owner) (l : Lane) (w : World) →
+        owner_of geometry w number ≡ Some o → slice_get w.lanes lane ≡ Some l →
         (step geometry (event.Take number queue lane) w).reply ≡ reply.Done →
-        (addr : ℕ) × ((front o.controller queue ≡ Some addr)
-        × ((step geometry (event.Take number queue lane) w).world ≡ taken_to addr queue lane tag o w)) }
+        (addr : ℕ) × (tags : List ℕ) × (front o.controller queue ≡ Some addr)
+        × (claimed (tags_of_entry o.given.namespace (entry_at addr o w)) l.tags ≡ Some tags)
+        × ((step geometry (event.Take number queue lane) w).world ≡ taken_to addr queue lane tags o w) }
 {}
 
-/// A post is the private controller's, behind the delivery of a bounced Read; so is a run-out, after EN fell.
+/// A post is the private controller's, behind the delivery of all parts of a bounced Read; so is a run-out, after EN fell.
 pub fn a_post_is_the_private_controllers()
-    ensures posted { (geometry : Geometry) (lane tag : ℕ) (command : Command) (st : StatusField) (plan : Option Plan) (o : Owner) (w : World) →
-        tag_of w lane tag ≡ Some (Ended command st plan) → tag < tag_count → owner_of geometry w command.guest ≡ Some o →
-        IsSound o.given.memory_map → ending (ended_progress plan st) ≡ Some st → is_enabled o.controller ≡ true →
+    ensures posted { (geometry : Geometry) (lane tag : ℕ) (command : Command) (st : StatusField) (share : Option Share) (sts : List StatusField)
+        (o : Owner) (w : World) → tag_of w lane tag ≡ Some (Ended command st share) → tag < tag_count →
+        owner_of geometry w command.guest ≡ Some o → IsSound o.given.memory_map → statuses_of lane (group w lane tag) w ≡ Some sts →
+        ending (ended_progress share st (rests_of geometry w lane tag)) ≡ Some (deciding sts) → is_enabled o.controller ≡ true →
         (step geometry (event.Post lane tag) w).reply ≡ reply.Done →
-        LeadsTo geometry o (PostStep (name_of lane tag)) (delivered plan st (bounce_page geometry.mediator lane tag) o w)
+        LeadsTo geometry o (PostStep (name_of lane tag)) (delivered (deciding sts) geometry.mediator lane (group w lane tag) o w)
         (step geometry (event.Post lane tag) w).world }
-    ensures ran_out { (geometry : Geometry) (lane tag : ℕ) (command : Command) (st : StatusField) (plan : Option Plan) (o : Owner) (w : World) →
-        tag_of w lane tag ≡ Some (Ended command st plan) → tag < tag_count → owner_of geometry w command.guest ≡ Some o →
-        IsSound o.given.memory_map → ending (ended_progress plan st) ≡ Some st → is_enabled o.controller ≡ false →
-        LeadsTo geometry o (RunOutStep (name_of lane tag)) (delivered plan st (bounce_page geometry.mediator lane tag) o w)
+    ensures ran_out { (geometry : Geometry) (lane tag : ℕ) (command : Command) (st : StatusField) (share : Option Share) (sts : List StatusField)
+        (o : Owner) (w : World) → tag_of w lane tag ≡ Some (Ended command st share) → command.leader ≡ tag → tag < tag_count →
+        owner_of geometry w command.guest ≡ Some o → IsSound o.given.memory_map → statuses_of lane (group w lane tag) w ≡ Some sts →
+        ending (ended_progress share st (rests_of geometry w lane tag)) ≡ Some (deciding sts) → is_enabled o.controller ≡ false →
+        LeadsTo geometry o (RunOutStep (name_of lane tag)) (delivered (deciding sts) geometry.mediator lane (group w lane tag) o w)
         (step geometry (event.Post lane tag) w).world }
-    ensures held { (geometry : Geometry) (lane tag : ℕ) (command : Command) (st : StatusField) (plan : Option Plan) (o : Owner) (w : World) →
-        tag_of w lane tag ≡ Some (Ended command st plan) → owner_of geometry w command.guest ≡ Some o →
+    ensures held { (geometry : Geometry) (lane tag : ℕ) (command : Command) (st : StatusField) (share : Option Share) (o : Owner) (w : World) →
+        tag_of w lane tag ≡ Some (Ended command st share) → owner_of geometry w command.guest ≡ Some o →
         (step geometry (event.Post lane tag) w).reply ≡ reply.Held →
-        (is_enabled o.controller ≡ true) × (post o.controller command.queue 0 (cid_of command.entry) st ≡ None) }
+        (sts : List StatusField) × (statuses_of lane (group w lane tag) w ≡ Some sts) × (is_enabled o.controller ≡ true)
+        × (post o.controller command.queue 0 (cid_of command.entry) (deciding sts) ≡ None) }
 {}

@@ -2,7 +2,7 @@
 
 ghost use Rattle.std.specs.Prelude.{◌≡◌, [], ◌∷◌, ◌++◌, Some, None};
 ghost use Rattle.nv_world_model.specs.Rows.{guest_at};
-ghost use Rattle.nv_world_model.specs.RowsShown.{disk_refused, extent_at, first_guest, guest_of, guest_of_regions, guest_with_limit, guests_refused};
+ghost use Rattle.nv_world_model.specs.RowsShown.{disk_refused, extent_at, extents_from, first_guest, guest_of, guest_of_regions, guest_with_limit, guests_refused};
 ghost use Rattle.nv_world_model.specs.RowsShown.{refused, refused_of_another_host, second_guest, small_guests};
 ghost use Rattle.nv_world_model.specs.SetUp.{BadSize, MapsMeet, RangesMeet, TooManyGuests};
 
@@ -69,8 +69,18 @@ pub fn examples()
     ensures extents_of_a_guest_that_meet { guests_refused (guest_of 0x100000 (extent_at 1000 32 ∷ extent_at 1031 8 ∷ []) ∷ []) ≡ Some RangesMeet }
     // A guest's third extent lies in another guest's first.
     ensures extents_of_guests_that_meet { guests_refused (first_guest ∷ guest_of 0x200000 (extent_at 2000 1 ∷ extent_at 2100 1 ∷ extent_at 1063 1 ∷ []) ∷ []) ≡ Some RangesMeet }
-    // Two extents that are apart.
-    ensures more_extents_than_one { guests_refused (guest_of 0x100000 (extent_at 1000 32 ∷ extent_at 3000 32 ∷ []) ∷ []) ≡ Some BadSize }
+    // Two extents that are apart, the second before the first on the disk.
+    ensures extents_that_are_apart { guests_refused (guest_of 0x100000 (extent_at 3000 32 ∷ extent_at 1000 32 ∷ []) ∷ []) ≡ None }
+    // Two in a row.
+    ensures extents_in_a_row { guests_refused (guest_of 0x100000 (extent_at 1000 32 ∷ extent_at 1032 32 ∷ []) ∷ []) ≡ None }
+    // A second extent without blocks.
+    ensures an_extent_without_blocks { guests_refused (guest_of 0x100000 (extent_at 1000 32 ∷ extent_at 3000 0 ∷ []) ∷ []) ≡ Some BadSize }
+    // A second extent that leaves the disk.
+    ensures an_extent_that_leaves_the_disk { guests_refused (guest_of 0x100000 (extent_at 1000 32 ∷ extent_at 4095 2 ∷ []) ∷ []) ≡ Some BadSize }
+    // The most extents.
+    ensures the_most_extents { guests_refused (guest_of 0x100000 (extents_from 1000 8) ∷ []) ≡ None }
+    // One more.
+    ensures too_many_extents { guests_refused (guest_of 0x100000 (extents_from 1000 9) ∷ []) ≡ Some BadSize }
     // A guest with the most regions.
     ensures the_most_regions { guests_refused (guest_of_regions 64 ∷ []) ≡ None }
     // One more.

@@ -5,8 +5,9 @@ use Rattle.nv_ns.specs.Extents.{place_in}
 use Rattle.nv_model.specs.Controller.{Controller}
 use Rattle.nv_model.specs.Private.{Run, Step, run_of, start}
 use Rattle.nv_world_model.specs.Geometry.{regions_of, shape_of}
+use Rattle.nv_examples.specs.Stepping.{behind_run, seen_along}
 use Rattle.nv_examples.specs.Guests.{first}
-use Rattle.nv_examples.specs.StoryRun.{behind_run, seen_along, story_end, story_private, story_run}
+use Rattle.nv_examples.specs.StoryRun.{story_end, story_private, story_run}
 use Rattle.nv_examples.proofs.StoryEnd.{same-memory}
 use Rattle.nv_examples.proofs.StoryFacts.{block-0, block-1, can-be-made, controller-private, controller-world, disk-2, disk-3, disk_marks, marks, seen-logged, the-steps}
 use Rattle.nv_examples.proofs.story.the_promise.Goals as goal

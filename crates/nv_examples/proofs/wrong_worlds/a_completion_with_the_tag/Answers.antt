@@ -17,50 +17,55 @@ use Rattle.nv_model.specs.Admin.{admin_command, admin}
 use Rattle.nv_prp.specs.Fits.{hosts_of, fit_behind}
 use Rattle.nv_prp.specs.Built.{built}
 use Rattle.nv_world_model.specs.Plan.{plan_over}
-use Rattle.nv_world_model.specs.Area.{physical_entry, written}
+use Rattle.nv_world_model.specs.Area.{physical_entry}
 use Rattle.nv_world_model.specs.Device.{held_of, device_unit, completion_written}
-use Rattle.nv_world_model.specs.Seat.{units_behind, members, seat, put_back}
-use Rattle.nv_world_model.specs.Step.{acted_in, administered_in, taken_to, listed, ended_at_once, submitted, device_took, device_moved, device_posted}
-use Rattle.nv_world_model.specs.Step.{kept_block, reaped, scattered_to, posted_to, ran_out_of, step, replay, replies}
-use Rattle.nv_world_model.specs.World.{opening_world}
+use Rattle.nv_world_model.specs.ShareArea.{share_written}
+use Rattle.nv_world_model.specs.Seat.{members, put_back, rest_at, rests_of, seat, units_behind}
+use Rattle.nv_world_model.specs.Step.{acted_in, administered_in, delivered_all, device_moved, device_posted, device_took, handed_on, kept_block, listed}
+use Rattle.nv_world_model.specs.Step.{posted_to, ran_out_of, reaped, replay, replies, scattered_to, statuses_of, step, submitted, taken_to}
+use Rattle.nv_world_model.specs.World.{claimed, group, opening_world, with_tags}
 use Rattle.nv_world_model.specs.SetUp.{refusal_of}
 use Rattle.nv_world_model.specs.Headline.{none_failed}
 use Rattle.nv_world_model.specs.Disciplined.{is_disciplined, taken_entries}
 use Rattle.nv_world_model.specs.PrivateSteps.{private_steps, seen_by}
+use Rattle.std.proofs.lemmas.Bool.{eqb-false}
+use Rattle.nv_examples.specs.Stepping.{disciplined_by, logged_by, replay_by, steps_by}
 use Rattle.nv_examples.specs.Logs.{logged}
 use Rattle.nv_world_model.specs.Geometry.{shape_of}
 use Rattle.nv_examples.specs.Breaches.{last_byte}
-use Rattle.nv_examples.specs.WrongWorlds.{tag_as_identifier, flush_told, disciplined_by, logged_by, replay_by, steps_by}
+use Rattle.nv_examples.specs.WrongWorlds.{tag_as_identifier, flush_told}
 use Rattle.nv_examples.specs.Guests.{first, opened}
-use Rattle.nv_examples.proofs.Refuting.{other-seen, three-zero}
+use Rattle.nv_examples.proofs.Refuting.{other-seen}
 use Rattle.nv_examples.proofs.wrong_worlds.a_completion_with_the_tag.Goals as goal
 
 pub returns-clause-disciplined : goal.returns-clause-disciplined
-unfolding number_at dword qword bits bytes_of_dwords completion everywhere addresses bytes_from gathered image put_image scattered stored in_memory and_then
-    asked first_read in_transcript read_array read_sgl read_entries read_source ranges_in move_units clear_units range_units judge units_moved opening register
-    reg_write doorbell front took post ran_out differs start private_step run_of footprints completion_slots stores_into loads_from_destination admin_command
-    admin hosts_of fit_behind built plan_over physical_entry written held_of device_unit completion_written units_behind members seat put_back acted_in
-    administered_in taken_to listed ended_at_once submitted device_took device_moved device_posted kept_block reaped scattered_to posted_to ran_out_of step
-    replay replies opening_world refusal_of none_failed is_disciplined taken_entries private_steps seen_by logged disciplined_by last_byte logged_by replay_by
-    steps_by
+unfolding number_at dword qword bits bytes_of_dwords completion everywhere addresses bytes_from gathered image put_image scattered stored in_memory
+    and_then asked first_read in_transcript read_array read_sgl read_entries read_source ranges_in move_units clear_units range_units judge units_moved
+    opening register reg_write doorbell front took post ran_out differs start private_step run_of footprints completion_slots stores_into
+    loads_from_destination admin_command admin hosts_of fit_behind built plan_over physical_entry held_of device_unit completion_written share_written
+    with_tags group claimed units_behind rest_at rests_of members seat put_back acted_in administered_in taken_to listed submitted handed_on device_took
+    device_moved device_posted kept_block reaped scattered_to delivered_all posted_to ran_out_of statuses_of step replay replies opening_world refusal_of
+    none_failed is_disciplined taken_entries private_steps seen_by logged disciplined_by last_byte logged_by replay_by steps_by
 returns-clause-disciplined c = refl
 
 pub returns-clause-its_own_step : goal.returns-clause-its_own_step
-unfolding number_at dword qword bits bytes_of_dwords completion everywhere addresses bytes_from gathered image put_image scattered stored in_memory and_then
-    asked first_read in_transcript read_array read_sgl read_entries read_source ranges_in move_units clear_units range_units judge units_moved opening register
-    reg_write doorbell front took post ran_out differs start private_step run_of footprints completion_slots stores_into loads_from_destination admin_command
-    admin hosts_of fit_behind built plan_over physical_entry written held_of device_unit completion_written units_behind members seat put_back acted_in
-    administered_in taken_to listed ended_at_once submitted device_took device_moved device_posted kept_block reaped scattered_to posted_to ran_out_of step
-    replay replies opening_world refusal_of none_failed is_disciplined taken_entries private_steps seen_by logged disciplined_by last_byte logged_by replay_by
-    steps_by
+unfolding number_at dword qword bits bytes_of_dwords completion everywhere addresses bytes_from gathered image put_image scattered stored in_memory
+    and_then asked first_read in_transcript read_array read_sgl read_entries read_source ranges_in move_units clear_units range_units judge units_moved
+    opening register reg_write doorbell front took post ran_out differs start private_step run_of footprints completion_slots stores_into
+    loads_from_destination admin_command admin hosts_of fit_behind built plan_over physical_entry held_of device_unit completion_written share_written
+    with_tags group claimed units_behind rest_at rests_of members seat put_back acted_in administered_in taken_to listed submitted handed_on device_took
+    device_moved device_posted kept_block reaped scattered_to delivered_all posted_to ran_out_of statuses_of step replay replies opening_world refusal_of
+    none_failed is_disciplined taken_entries private_steps seen_by logged disciplined_by last_byte logged_by replay_by steps_by
 returns-clause-its_own_step c = refl
 
 pub returns-clause-it_is_not_followed : goal.returns-clause-it_is_not_followed
-unfolding number_at dword qword bits bytes_of_dwords completion everywhere addresses bytes_from gathered image put_image scattered stored in_memory and_then
-    asked first_read in_transcript read_array read_sgl read_entries read_source ranges_in move_units clear_units range_units judge units_moved opening register
-    reg_write doorbell front took post ran_out differs start private_step run_of footprints completion_slots stores_into loads_from_destination admin_command
-    admin hosts_of fit_behind built plan_over physical_entry written held_of device_unit completion_written units_behind members seat put_back acted_in
-    administered_in taken_to listed ended_at_once submitted device_took device_moved device_posted kept_block reaped scattered_to posted_to ran_out_of step
-    replay replies opening_world refusal_of none_failed is_disciplined taken_entries private_steps seen_by logged disciplined_by last_byte logged_by replay_by
-    steps_by
-returns-clause-it_is_not_followed c f = other-seen last_byte (run_of (shape_of first) (steps_by tag_as_identifier flush_told opened) start) f.run (seen_by 0 (logged_by tag_as_identifier flush_told opened)) 3 0 refl refl three-zero f.runs f.seen
+unfolding number_at dword qword bits bytes_of_dwords completion everywhere addresses bytes_from gathered image put_image scattered stored in_memory
+    and_then asked first_read in_transcript read_array read_sgl read_entries read_source ranges_in move_units clear_units range_units judge units_moved
+    opening register reg_write doorbell front took post ran_out differs start private_step run_of footprints completion_slots stores_into
+    loads_from_destination admin_command admin hosts_of fit_behind built plan_over physical_entry held_of device_unit completion_written share_written
+    with_tags group claimed units_behind rest_at rests_of members seat put_back acted_in administered_in taken_to listed submitted handed_on device_took
+    device_moved device_posted kept_block reaped scattered_to delivered_all posted_to ran_out_of statuses_of step replay replies opening_world refusal_of
+    none_failed is_disciplined taken_entries private_steps seen_by logged disciplined_by last_byte logged_by replay_by steps_by
+returns-clause-it_is_not_followed c f =
+    other-seen last_byte (run_of (shape_of first) (steps_by first tag_as_identifier flush_told opened) start)
+    f.run (seen_by 0 (logged_by tag_as_identifier flush_told opened)) 3 0 refl refl (eqb-false 3 0 refl) f.runs f.seen

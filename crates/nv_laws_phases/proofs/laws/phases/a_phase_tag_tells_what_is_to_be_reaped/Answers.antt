@@ -18,4 +18,4 @@ returns c = λ s events lane l d none sound at there.
     let is = replay-consistent s.host_bytes s.geometry events (world_at_start s) laid (opening-consistent s.geometry s.lanes) in
     let are = replay-phased s.host_bytes s.geometry events (world_at_start s) laid (opening-consistent s.geometry s.lanes) (opening-phased s.geometry s.lanes) in
     slot-tells s.geometry (replay s.geometry events (world_at_start s)).host lane l.head l.phase d.posted d.phase
-    (is.lanes lane l d at there).positions.read (are lane l d at there)
+    (is.of_tags.lanes lane l d at there).positions.read (are lane l d at there)

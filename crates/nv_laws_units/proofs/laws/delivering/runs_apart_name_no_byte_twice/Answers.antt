@@ -2,6 +2,7 @@ use Rattle.std.proofs.Common.{◌*◌}
 use Rattle.nv_mem.specs.Places.{places_of}
 use Rattle.nv_model.specs.Limits.{block}
 use Rattle.nv_laws_units.proofs.Has.{once-part}
+use Rattle.nv_laws_units.proofs.SharePlaces.{share-once}
 use Rattle.nv_laws_units.proofs.Once.{destination-once}
 use Rattle.nv_laws_units.proofs.laws.delivering.runs_apart_name_no_byte_twice.Goals as goal
 
@@ -9,4 +10,7 @@ pub returns-clause-whole : goal.returns-clause-whole
 returns-clause-whole c = destination-once
 
 pub returns-clause-part : goal.returns-clause-part
-returns-clause-part c work unit once = once-part (places_of work.pieces) (block * unit) once
+returns-clause-part c work unit once = once-part block (places_of work.pieces) (block * unit) once
+
+pub returns-clause-share : goal.returns-clause-share
+returns-clause-share c guest entry share is work goes = share-once guest entry share is work goes

@@ -5,6 +5,6 @@ pub returns-clause-done : goal.returns-clause-done
 returns-clause-done c = take-leads
 
 pub returns-clause-only : goal.returns-clause-only
-returns-clause-only c = λ geometry number queue lane tag o l w e there found is_done.
-    let taken = (take-is geometry number queue lane tag o l w e there found is_done).1 in
-    (taken.addr, (taken.front, taken.world))
+returns-clause-only c =
+    (λ geometry number queue lane o l w owns there is_done. (let taken = (take-is geometry number queue lane o l w owns there is_done).1 in
+    (taken.addr, taken.tags, taken.front, taken.lowest, taken.world)))

@@ -17,11 +17,14 @@ use Rattle.nv_model.specs.Private.{differs}
 use Rattle.nv_prp.specs.Fits.{hosts_of, fit_behind}
 use Rattle.nv_prp.specs.Built.{built}
 use Rattle.nv_world_model.specs.Plan.{plan_over}
-use Rattle.nv_world_model.specs.Area.{physical_entry, written}
+use Rattle.nv_world_model.specs.Area.{physical_entry}
 use Rattle.nv_world_model.specs.Device.{held_of, device_unit, completion_written}
-use Rattle.nv_world_model.specs.Seat.{units_behind, members, seat, put_back}
-use Rattle.nv_world_model.specs.Step.{acted_in, administered_in, taken_to, listed, ended_at_once, submitted, device_took, device_moved, device_posted}
-use Rattle.nv_world_model.specs.Step.{kept_block, reaped, scattered_to, posted_to, ran_out_of, step, replay, replies}
+use Rattle.nv_world_model.specs.ShareArea.{share_written}
+use Rattle.nv_world_model.specs.World.{with_tags, group, claimed}
+use Rattle.nv_world_model.specs.Seat.{units_behind, rest_at, rests_of, members, seat, put_back}
+use Rattle.nv_world_model.specs.Step.{acted_in, administered_in, taken_to, listed, submitted, handed_on, device_took, device_moved}
+use Rattle.nv_world_model.specs.Step.{device_posted, kept_block, reaped, scattered_to, delivered_all, posted_to, ran_out_of, statuses_of}
+use Rattle.nv_world_model.specs.Step.{step, replay, replies}
 use Rattle.nv_model.specs.Admin.{admin_command, admin}
 use Rattle.nv_world_model.specs.CutDown.{cut}
 use Rattle.nv_world_model.specs.Contained.{guest_standing}
@@ -65,126 +68,140 @@ ring_phase s = (first_ring s).phase
 
 -- its last byte
 pub returns-clause-memory : goal.returns-clause-memory
-unfolding number_at dword qword bits bytes_of_dwords completion everywhere addresses bytes_from stored gathered scattered image in_memory and_then first_read
-    in_transcript read_array read_sgl read_entries read_source ranges_in move_units clear_units range_units judge units_moved opening register reg_write
-    doorbell front took post ran_out differs hosts_of fit_behind built plan_over physical_entry written held_of device_unit completion_written put_image
-    units_behind members seat put_back acted_in administered_in taken_to listed ended_at_once submitted device_took device_moved device_posted kept_block reaped
-    scattered_to posted_to ran_out_of step replay replies admin_command admin cut shown shared_numbers guest_standing
+unfolding number_at dword qword bits bytes_of_dwords completion everywhere addresses bytes_from stored gathered scattered image in_memory and_then
+    first_read in_transcript read_array read_sgl read_entries read_source ranges_in move_units clear_units range_units judge units_moved opening register
+    reg_write doorbell front took post ran_out differs hosts_of fit_behind built plan_over physical_entry held_of device_unit completion_written
+    share_written with_tags group claimed put_image units_behind rest_at rests_of members seat put_back acted_in administered_in taken_to listed submitted
+    handed_on device_took device_moved device_posted kept_block reaped scattered_to delivered_all posted_to ran_out_of statuses_of step replay replies
+    admin_command admin cut shown shared_numbers guest_standing
 returns-clause-memory c contained = (let bad : ◌≡◌ {A = ℕ} 9 0 = (contained.own 0 first_guest refl refl).alike.view.memory 0x1ffff in absurd (omega arith))
 
 -- a byte of its block 63
 pub returns-clause-blocks : goal.returns-clause-blocks
-unfolding number_at dword qword bits bytes_of_dwords completion everywhere addresses bytes_from stored gathered scattered image in_memory and_then first_read
-    in_transcript read_array read_sgl read_entries read_source ranges_in move_units clear_units range_units judge units_moved opening register reg_write
-    doorbell front took post ran_out differs hosts_of fit_behind built plan_over physical_entry written held_of device_unit completion_written put_image
-    units_behind members seat put_back acted_in administered_in taken_to listed ended_at_once submitted device_took device_moved device_posted kept_block reaped
-    scattered_to posted_to ran_out_of step replay replies admin_command admin cut shown shared_numbers guest_standing
+unfolding number_at dword qword bits bytes_of_dwords completion everywhere addresses bytes_from stored gathered scattered image in_memory and_then
+    first_read in_transcript read_array read_sgl read_entries read_source ranges_in move_units clear_units range_units judge units_moved opening register
+    reg_write doorbell front took post ran_out differs hosts_of fit_behind built plan_over physical_entry held_of device_unit completion_written
+    share_written with_tags group claimed put_image units_behind rest_at rests_of members seat put_back acted_in administered_in taken_to listed submitted
+    handed_on device_took device_moved device_posted kept_block reaped scattered_to delivered_all posted_to ran_out_of statuses_of step replay replies
+    admin_command admin cut shown shared_numbers guest_standing
 returns-clause-blocks c contained = (let bad : ◌≡◌ {A = ℕ} 0 0x27 = (contained.own 0 first_guest refl refl).alike.view.blocks 63 0 (omega arith) in absurd (omega arith))
 
 -- that mark
 pub returns-clause-marks : goal.returns-clause-marks
-unfolding number_at dword qword bits bytes_of_dwords completion everywhere addresses bytes_from stored gathered scattered image in_memory and_then first_read
-    in_transcript read_array read_sgl read_entries read_source ranges_in move_units clear_units range_units judge units_moved opening register reg_write
-    doorbell front took post ran_out differs hosts_of fit_behind built plan_over physical_entry written held_of device_unit completion_written put_image
-    units_behind members seat put_back acted_in administered_in taken_to listed ended_at_once submitted device_took device_moved device_posted kept_block reaped
-    scattered_to posted_to ran_out_of step replay replies admin_command admin cut shown shared_numbers guest_standing
+unfolding number_at dword qword bits bytes_of_dwords completion everywhere addresses bytes_from stored gathered scattered image in_memory and_then
+    first_read in_transcript read_array read_sgl read_entries read_source ranges_in move_units clear_units range_units judge units_moved opening register
+    reg_write doorbell front took post ran_out differs hosts_of fit_behind built plan_over physical_entry held_of device_unit completion_written
+    share_written with_tags group claimed put_image units_behind rest_at rests_of members seat put_back acted_in administered_in taken_to listed submitted
+    handed_on device_took device_moved device_posted kept_block reaped scattered_to delivered_all posted_to ran_out_of statuses_of step replay replies
+    admin_command admin cut shown shared_numbers guest_standing
 returns-clause-marks c contained = (let bad : ◌≡◌ {A = Bool} false true = (contained.own 0 first_guest refl refl).alike.marks 63 (omega arith) in absurd (cc))
 
 -- RDY
 pub returns-clause-controller : goal.returns-clause-controller
-unfolding number_at dword qword bits bytes_of_dwords completion everywhere addresses bytes_from stored gathered scattered image in_memory and_then first_read
-    in_transcript read_array read_sgl read_entries read_source ranges_in move_units clear_units range_units judge units_moved opening register reg_write
-    doorbell front took post ran_out differs hosts_of fit_behind built plan_over physical_entry written held_of device_unit completion_written put_image
-    units_behind members seat put_back acted_in administered_in taken_to listed ended_at_once submitted device_took device_moved device_posted kept_block reaped
-    scattered_to posted_to ran_out_of step replay replies admin_command admin cut shown shared_numbers guest_standing
+unfolding number_at dword qword bits bytes_of_dwords completion everywhere addresses bytes_from stored gathered scattered image in_memory and_then
+    first_read in_transcript read_array read_sgl read_entries read_source ranges_in move_units clear_units range_units judge units_moved opening register
+    reg_write doorbell front took post ran_out differs hosts_of fit_behind built plan_over physical_entry held_of device_unit completion_written
+    share_written with_tags group claimed put_image units_behind rest_at rests_of members seat put_back acted_in administered_in taken_to listed submitted
+    handed_on device_took device_moved device_posted kept_block reaped scattered_to delivered_all posted_to ran_out_of statuses_of step replay replies
+    admin_command admin cut shown shared_numbers guest_standing
 returns-clause-controller c contained = (let bad : ◌≡◌ {A = Bool} false true = ap is_ready (contained.own 0 first_guest refl refl).alike.view.controller in absurd (cc))
 
 -- whether there is an own tag
 pub returns-clause-tags : goal.returns-clause-tags
-unfolding number_at dword qword bits bytes_of_dwords completion everywhere addresses bytes_from stored gathered scattered image in_memory and_then first_read
-    in_transcript read_array read_sgl read_entries read_source ranges_in move_units clear_units range_units judge units_moved opening register reg_write
-    doorbell front took post ran_out differs hosts_of fit_behind built plan_over physical_entry written held_of device_unit completion_written put_image
-    units_behind members seat put_back acted_in administered_in taken_to listed ended_at_once submitted device_took device_moved device_posted kept_block reaped
-    scattered_to posted_to ran_out_of step replay replies admin_command admin cut shown shared_numbers guest_standing
+unfolding number_at dword qword bits bytes_of_dwords completion everywhere addresses bytes_from stored gathered scattered image in_memory and_then
+    first_read in_transcript read_array read_sgl read_entries read_source ranges_in move_units clear_units range_units judge units_moved opening register
+    reg_write doorbell front took post ran_out differs hosts_of fit_behind built plan_over physical_entry held_of device_unit completion_written
+    share_written with_tags group claimed put_image units_behind rest_at rests_of members seat put_back acted_in administered_in taken_to listed submitted
+    handed_on device_took device_moved device_posted kept_block reaped scattered_to delivered_all posted_to ran_out_of statuses_of step replay replies
+    admin_command admin cut shown shared_numbers guest_standing
 returns-clause-tags c contained = (let bad : ◌≡◌ {A = Bool} false true = ap is_some ((contained.own 0 first_guest refl refl).alike.view.tags 0 0) in absurd (cc))
 
 -- whether there is an own command
 pub returns-clause-held : goal.returns-clause-held
-unfolding number_at dword qword bits bytes_of_dwords completion everywhere addresses bytes_from stored gathered scattered image in_memory and_then first_read
-    in_transcript read_array read_sgl read_entries read_source ranges_in move_units clear_units range_units judge units_moved opening register reg_write
-    doorbell front took post ran_out differs hosts_of fit_behind built plan_over physical_entry written held_of device_unit completion_written put_image
-    units_behind members seat put_back acted_in administered_in taken_to listed ended_at_once submitted device_took device_moved device_posted kept_block reaped
-    scattered_to posted_to ran_out_of step replay replies admin_command admin cut shown shared_numbers guest_standing
+unfolding number_at dword qword bits bytes_of_dwords completion everywhere addresses bytes_from stored gathered scattered image in_memory and_then
+    first_read in_transcript read_array read_sgl read_entries read_source ranges_in move_units clear_units range_units judge units_moved opening register
+    reg_write doorbell front took post ran_out differs hosts_of fit_behind built plan_over physical_entry held_of device_unit completion_written
+    share_written with_tags group claimed put_image units_behind rest_at rests_of members seat put_back acted_in administered_in taken_to listed submitted
+    handed_on device_took device_moved device_posted kept_block reaped scattered_to delivered_all posted_to ran_out_of statuses_of step replay replies
+    admin_command admin cut shown shared_numbers guest_standing
 returns-clause-held c contained = (let bad : ◌≡◌ {A = Bool} false true = ap is_some ((contained.own 0 first_guest refl refl).alike.view.held 0 0) in absurd (cc))
 
 -- the last byte of the slot
 pub returns-clause-area : goal.returns-clause-area
-unfolding number_at dword qword bits bytes_of_dwords completion everywhere addresses bytes_from stored gathered scattered image in_memory and_then first_read
-    in_transcript read_array read_sgl read_entries read_source ranges_in move_units clear_units range_units judge units_moved opening register reg_write
-    doorbell front took post ran_out differs hosts_of fit_behind built plan_over physical_entry written held_of device_unit completion_written put_image
-    units_behind members seat put_back acted_in administered_in taken_to listed ended_at_once submitted device_took device_moved device_posted kept_block reaped
-    scattered_to posted_to ran_out_of step replay replies admin_command admin cut shown shared_numbers guest_standing
+unfolding number_at dword qword bits bytes_of_dwords completion everywhere addresses bytes_from stored gathered scattered image in_memory and_then
+    first_read in_transcript read_array read_sgl read_entries read_source ranges_in move_units clear_units range_units judge units_moved opening register
+    reg_write doorbell front took post ran_out differs hosts_of fit_behind built plan_over physical_entry held_of device_unit completion_written
+    share_written with_tags group claimed put_image units_behind rest_at rests_of members seat put_back acted_in administered_in taken_to listed submitted
+    handed_on device_took device_moved device_posted kept_block reaped scattered_to delivered_all posted_to ran_out_of statuses_of step replay replies
+    admin_command admin cut shown shared_numbers guest_standing
 returns-clause-area c contained = (let bad : ◌≡◌ {A = ℕ} 9 0 = (contained.own 0 first_guest refl refl).alike.view.area 0x40003f refl in absurd (omega arith))
 
 -- that number
 pub returns-clause-lane_head : goal.returns-clause-lane_head
-unfolding number_at dword qword bits bytes_of_dwords completion everywhere addresses bytes_from stored gathered scattered image in_memory and_then first_read
-    in_transcript read_array read_sgl read_entries read_source ranges_in move_units clear_units range_units judge units_moved opening register reg_write
-    doorbell front took post ran_out differs hosts_of fit_behind built plan_over physical_entry written held_of device_unit completion_written put_image
-    units_behind members seat put_back acted_in administered_in taken_to listed ended_at_once submitted device_took device_moved device_posted kept_block reaped
-    scattered_to posted_to ran_out_of step replay replies admin_command admin cut shown shared_numbers guest_standing
+unfolding number_at dword qword bits bytes_of_dwords completion everywhere addresses bytes_from stored gathered scattered image in_memory and_then
+    first_read in_transcript read_array read_sgl read_entries read_source ranges_in move_units clear_units range_units judge units_moved opening register
+    reg_write doorbell front took post ran_out differs hosts_of fit_behind built plan_over physical_entry held_of device_unit completion_written
+    share_written with_tags group claimed put_image units_behind rest_at rests_of members seat put_back acted_in administered_in taken_to listed submitted
+    handed_on device_took device_moved device_posted kept_block reaped scattered_to delivered_all posted_to ran_out_of statuses_of step replay replies
+    admin_command admin cut shown shared_numbers guest_standing
 returns-clause-lane_head c contained = (let bad : ◌≡◌ {A = ℕ} 1 0 = ap lane_head (contained.own 0 first_guest refl refl).alike.shared in absurd (omega arith))
 
 -- that phase tag
 pub returns-clause-lane_phase : goal.returns-clause-lane_phase
-unfolding number_at dword qword bits bytes_of_dwords completion everywhere addresses bytes_from stored gathered scattered image in_memory and_then first_read
-    in_transcript read_array read_sgl read_entries read_source ranges_in move_units clear_units range_units judge units_moved opening register reg_write
-    doorbell front took post ran_out differs hosts_of fit_behind built plan_over physical_entry written held_of device_unit completion_written put_image
-    units_behind members seat put_back acted_in administered_in taken_to listed ended_at_once submitted device_took device_moved device_posted kept_block reaped
-    scattered_to posted_to ran_out_of step replay replies admin_command admin cut shown shared_numbers guest_standing
+unfolding number_at dword qword bits bytes_of_dwords completion everywhere addresses bytes_from stored gathered scattered image in_memory and_then
+    first_read in_transcript read_array read_sgl read_entries read_source ranges_in move_units clear_units range_units judge units_moved opening register
+    reg_write doorbell front took post ran_out differs hosts_of fit_behind built plan_over physical_entry held_of device_unit completion_written
+    share_written with_tags group claimed put_image units_behind rest_at rests_of members seat put_back acted_in administered_in taken_to listed submitted
+    handed_on device_took device_moved device_posted kept_block reaped scattered_to delivered_all posted_to ran_out_of statuses_of step replay replies
+    admin_command admin cut shown shared_numbers guest_standing
 returns-clause-lane_phase c contained = (let bad : ◌≡◌ {A = Bool} false true = ap lane_phase (contained.own 0 first_guest refl refl).alike.shared in absurd (cc))
 
 -- whether tag 1 is free
 pub returns-clause-free_tags : goal.returns-clause-free_tags
-unfolding number_at dword qword bits bytes_of_dwords completion everywhere addresses bytes_from stored gathered scattered image in_memory and_then first_read
-    in_transcript read_array read_sgl read_entries read_source ranges_in move_units clear_units range_units judge units_moved opening register reg_write
-    doorbell front took post ran_out differs hosts_of fit_behind built plan_over physical_entry written held_of device_unit completion_written put_image
-    units_behind members seat put_back acted_in administered_in taken_to listed ended_at_once submitted device_took device_moved device_posted kept_block reaped
-    scattered_to posted_to ran_out_of step replay replies admin_command admin cut shown shared_numbers guest_standing
+unfolding number_at dword qword bits bytes_of_dwords completion everywhere addresses bytes_from stored gathered scattered image in_memory and_then
+    first_read in_transcript read_array read_sgl read_entries read_source ranges_in move_units clear_units range_units judge units_moved opening register
+    reg_write doorbell front took post ran_out differs hosts_of fit_behind built plan_over physical_entry held_of device_unit completion_written
+    share_written with_tags group claimed put_image units_behind rest_at rests_of members seat put_back acted_in administered_in taken_to listed submitted
+    handed_on device_took device_moved device_posted kept_block reaped scattered_to delivered_all posted_to ran_out_of statuses_of step replay replies
+    admin_command admin cut shown shared_numbers guest_standing
 returns-clause-free_tags c contained = (let bad : ◌≡◌ {A = Bool} true false = ap second_free (contained.own 0 first_guest refl refl).alike.shared in absurd (cc))
 
 -- that number
 pub returns-clause-ring_head : goal.returns-clause-ring_head
-unfolding number_at dword qword bits bytes_of_dwords completion everywhere addresses bytes_from stored gathered scattered image in_memory and_then first_read
-    in_transcript read_array read_sgl read_entries read_source ranges_in move_units clear_units range_units judge units_moved opening register reg_write
-    doorbell front took post ran_out differs hosts_of fit_behind built plan_over physical_entry written held_of device_unit completion_written put_image
-    units_behind members seat put_back acted_in administered_in taken_to listed ended_at_once submitted device_took device_moved device_posted kept_block reaped
-    scattered_to posted_to ran_out_of step replay replies admin_command admin cut shown shared_numbers guest_standing
+unfolding number_at dword qword bits bytes_of_dwords completion everywhere addresses bytes_from stored gathered scattered image in_memory and_then
+    first_read in_transcript read_array read_sgl read_entries read_source ranges_in move_units clear_units range_units judge units_moved opening register
+    reg_write doorbell front took post ran_out differs hosts_of fit_behind built plan_over physical_entry held_of device_unit completion_written
+    share_written with_tags group claimed put_image units_behind rest_at rests_of members seat put_back acted_in administered_in taken_to listed submitted
+    handed_on device_took device_moved device_posted kept_block reaped scattered_to delivered_all posted_to ran_out_of statuses_of step replay replies
+    admin_command admin cut shown shared_numbers guest_standing
 returns-clause-ring_head c contained = (let bad : ◌≡◌ {A = ℕ} 1 2 = ap ring_head (contained.own 0 first_guest refl refl).alike.shared in absurd (omega arith))
 
 -- that number
 pub returns-clause-ring_tail : goal.returns-clause-ring_tail
-unfolding number_at dword qword bits bytes_of_dwords completion everywhere addresses bytes_from stored gathered scattered image in_memory and_then first_read
-    in_transcript read_array read_sgl read_entries read_source ranges_in move_units clear_units range_units judge units_moved opening register reg_write
-    doorbell front took post ran_out differs hosts_of fit_behind built plan_over physical_entry written held_of device_unit completion_written put_image
-    units_behind members seat put_back acted_in administered_in taken_to listed ended_at_once submitted device_took device_moved device_posted kept_block reaped
-    scattered_to posted_to ran_out_of step replay replies admin_command admin cut shown shared_numbers guest_standing
+unfolding number_at dword qword bits bytes_of_dwords completion everywhere addresses bytes_from stored gathered scattered image in_memory and_then
+    first_read in_transcript read_array read_sgl read_entries read_source ranges_in move_units clear_units range_units judge units_moved opening register
+    reg_write doorbell front took post ran_out differs hosts_of fit_behind built plan_over physical_entry held_of device_unit completion_written
+    share_written with_tags group claimed put_image units_behind rest_at rests_of members seat put_back acted_in administered_in taken_to listed submitted
+    handed_on device_took device_moved device_posted kept_block reaped scattered_to delivered_all posted_to ran_out_of statuses_of step replay replies
+    admin_command admin cut shown shared_numbers guest_standing
 returns-clause-ring_tail c contained = (let bad : ◌≡◌ {A = ℕ} 1 2 = ap ring_tail (contained.own 0 first_guest refl refl).alike.shared in absurd (omega arith))
 
 -- that number
 pub returns-clause-ring_posted : goal.returns-clause-ring_posted
-unfolding number_at dword qword bits bytes_of_dwords completion everywhere addresses bytes_from stored gathered scattered image in_memory and_then first_read
-    in_transcript read_array read_sgl read_entries read_source ranges_in move_units clear_units range_units judge units_moved opening register reg_write
-    doorbell front took post ran_out differs hosts_of fit_behind built plan_over physical_entry written held_of device_unit completion_written put_image
-    units_behind members seat put_back acted_in administered_in taken_to listed ended_at_once submitted device_took device_moved device_posted kept_block reaped
-    scattered_to posted_to ran_out_of step replay replies admin_command admin cut shown shared_numbers guest_standing
+unfolding number_at dword qword bits bytes_of_dwords completion everywhere addresses bytes_from stored gathered scattered image in_memory and_then
+    first_read in_transcript read_array read_sgl read_entries read_source ranges_in move_units clear_units range_units judge units_moved opening register
+    reg_write doorbell front took post ran_out differs hosts_of fit_behind built plan_over physical_entry held_of device_unit completion_written
+    share_written with_tags group claimed put_image units_behind rest_at rests_of members seat put_back acted_in administered_in taken_to listed submitted
+    handed_on device_took device_moved device_posted kept_block reaped scattered_to delivered_all posted_to ran_out_of statuses_of step replay replies
+    admin_command admin cut shown shared_numbers guest_standing
 returns-clause-ring_posted c contained = (let bad : ◌≡◌ {A = ℕ} 1 0 = ap ring_posted (contained.own 0 first_guest refl refl).alike.shared in absurd (omega arith))
 
 -- that phase tag
 pub returns-clause-ring_phase : goal.returns-clause-ring_phase
-unfolding number_at dword qword bits bytes_of_dwords completion everywhere addresses bytes_from stored gathered scattered image in_memory and_then first_read
-    in_transcript read_array read_sgl read_entries read_source ranges_in move_units clear_units range_units judge units_moved opening register reg_write
-    doorbell front took post ran_out differs hosts_of fit_behind built plan_over physical_entry written held_of device_unit completion_written put_image
-    units_behind members seat put_back acted_in administered_in taken_to listed ended_at_once submitted device_took device_moved device_posted kept_block reaped
-    scattered_to posted_to ran_out_of step replay replies admin_command admin cut shown shared_numbers guest_standing
+unfolding number_at dword qword bits bytes_of_dwords completion everywhere addresses bytes_from stored gathered scattered image in_memory and_then
+    first_read in_transcript read_array read_sgl read_entries read_source ranges_in move_units clear_units range_units judge units_moved opening register
+    reg_write doorbell front took post ran_out differs hosts_of fit_behind built plan_over physical_entry held_of device_unit completion_written
+    share_written with_tags group claimed put_image units_behind rest_at rests_of members seat put_back acted_in administered_in taken_to listed submitted
+    handed_on device_took device_moved device_posted kept_block reaped scattered_to delivered_all posted_to ran_out_of statuses_of step replay replies
+    admin_command admin cut shown shared_numbers guest_standing
 returns-clause-ring_phase c contained = (let bad : ◌≡◌ {A = Bool} false true = ap ring_phase (contained.own 0 first_guest refl refl).alike.shared in absurd (cc))

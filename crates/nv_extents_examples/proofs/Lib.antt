@@ -1,0 +1,3 @@
+pub mod StoryFacts
+pub mod StoryHosts
+pub mod StoryEnd

@@ -1,9 +1,0 @@
-pub mod Guests
-pub mod Logs
-pub mod Story
-pub mod StoryRun
-pub mod Events
-pub mod WrongWorlds
-pub mod SecondStory
-pub mod SecondRun
-pub mod Edges

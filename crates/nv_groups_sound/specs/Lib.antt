@@ -1,5 +1,0 @@
-pub mod LaidOut
-pub mod Area
-pub mod Groups
-pub mod Consistent
-pub mod Counted

@@ -1,0 +1,135 @@
+use Rattle.std.proofs.Common.{refl}
+use Rattle.nv_entry.specs.Layout.{number_at, dword, qword, bits, bytes_of_dwords}
+use Rattle.nv_entry.specs.Completion.{completion}
+use Rattle.nv_mem.specs.GuestMap.{everywhere}
+use Rattle.nv_mem.specs.Places.{addresses}
+use Rattle.nv_model.specs.Memory.{bytes_from, gathered, image, put_image, scattered, stored}
+use Rattle.nv_model.specs.Dialogue.{in_memory, and_then}
+use Rattle.nv_model.specs.Transcript.{first_read, in_transcript}
+use Rattle.nv_model.specs.Sgl.{read_array, read_sgl}
+use Rattle.nv_model.specs.Prp.{read_entries}
+use Rattle.nv_model.specs.Judge.{read_source, ranges_in, move_units, clear_units, range_units, judge}
+use Rattle.nv_model.specs.Carried.{units_moved}
+use Rattle.nv_model.specs.Controller.{opening, register, reg_write, doorbell, front, took, post, ran_out}
+use Rattle.nv_model.specs.Private.{differs}
+use Rattle.nv_prp.specs.Fits.{hosts_of, fit_behind}
+use Rattle.nv_prp.specs.Built.{built}
+use Rattle.nv_world_model.specs.Plan.{plan_over}
+use Rattle.nv_world_model.specs.Area.{physical_entry}
+use Rattle.nv_world_model.specs.Device.{held_of, device_unit, completion_written}
+use Rattle.nv_world_model.specs.ShareArea.{share_written}
+use Rattle.nv_world_model.specs.World.{with_tags, group, claimed}
+use Rattle.nv_world_model.specs.Seat.{units_behind, rest_at, rests_of, members, seat, put_back}
+use Rattle.nv_world_model.specs.Step.{acted_in, administered_in, taken_to, listed, submitted, handed_on, device_took, device_moved}
+use Rattle.nv_world_model.specs.Step.{device_posted, kept_block, reaped, scattered_to, delivered_all, posted_to, ran_out_of, statuses_of}
+use Rattle.nv_world_model.specs.Step.{step, replay, replies}
+use Rattle.nv_world_model.specs.Disciplined.{taken_entries}
+use Rattle.nv_world_model.proofs.rows.extents.completing.examples.Goals as goal
+
+pub returns-clause-it_waits_for_all : goal.returns-clause-it_waits_for_all
+unfolding number_at dword qword bits bytes_of_dwords completion everywhere addresses bytes_from gathered image put_image scattered stored in_memory
+    and_then first_read in_transcript read_array read_sgl read_entries read_source ranges_in move_units clear_units range_units judge units_moved
+    opening register reg_write doorbell front took post ran_out differs hosts_of fit_behind built plan_over physical_entry held_of device_unit
+    completion_written share_written with_tags group claimed units_behind rest_at rests_of members seat put_back acted_in administered_in taken_to
+    listed submitted handed_on device_took device_moved device_posted kept_block reaped scattered_to delivered_all posted_to ran_out_of statuses_of
+    step replay replies taken_entries
+returns-clause-it_waits_for_all c = refl
+
+pub returns-clause-both_blocks_came : goal.returns-clause-both_blocks_came
+unfolding number_at dword qword bits bytes_of_dwords completion everywhere addresses bytes_from gathered image put_image scattered stored in_memory
+    and_then first_read in_transcript read_array read_sgl read_entries read_source ranges_in move_units clear_units range_units judge units_moved
+    opening register reg_write doorbell front took post ran_out differs hosts_of fit_behind built plan_over physical_entry held_of device_unit
+    completion_written share_written with_tags group claimed units_behind rest_at rests_of members seat put_back acted_in administered_in taken_to
+    listed submitted handed_on device_took device_moved device_posted kept_block reaped scattered_to delivered_all posted_to ran_out_of statuses_of
+    step replay replies taken_entries
+returns-clause-both_blocks_came c = refl
+
+pub returns-clause-none_is_free_before : goal.returns-clause-none_is_free_before
+unfolding number_at dword qword bits bytes_of_dwords completion everywhere addresses bytes_from gathered image put_image scattered stored in_memory
+    and_then first_read in_transcript read_array read_sgl read_entries read_source ranges_in move_units clear_units range_units judge units_moved
+    opening register reg_write doorbell front took post ran_out differs hosts_of fit_behind built plan_over physical_entry held_of device_unit
+    completion_written share_written with_tags group claimed units_behind rest_at rests_of members seat put_back acted_in administered_in taken_to
+    listed submitted handed_on device_took device_moved device_posted kept_block reaped scattered_to delivered_all posted_to ran_out_of statuses_of
+    step replay replies taken_entries
+returns-clause-none_is_free_before c = refl
+
+pub returns-clause-all_are_free_behind : goal.returns-clause-all_are_free_behind
+unfolding number_at dword qword bits bytes_of_dwords completion everywhere addresses bytes_from gathered image put_image scattered stored in_memory
+    and_then first_read in_transcript read_array read_sgl read_entries read_source ranges_in move_units clear_units range_units judge units_moved
+    opening register reg_write doorbell front took post ran_out differs hosts_of fit_behind built plan_over physical_entry held_of device_unit
+    completion_written share_written with_tags group claimed units_behind rest_at rests_of members seat put_back acted_in administered_in taken_to
+    listed submitted handed_on device_took device_moved device_posted kept_block reaped scattered_to delivered_all posted_to ran_out_of statuses_of
+    step replay replies taken_entries
+returns-clause-all_are_free_behind c = refl
+
+pub returns-clause-nothing_came_yet : goal.returns-clause-nothing_came_yet
+unfolding number_at dword qword bits bytes_of_dwords completion everywhere addresses bytes_from gathered image put_image scattered stored in_memory
+    and_then first_read in_transcript read_array read_sgl read_entries read_source ranges_in move_units clear_units range_units judge units_moved
+    opening register reg_write doorbell front took post ran_out differs hosts_of fit_behind built plan_over physical_entry held_of device_unit
+    completion_written share_written with_tags group claimed units_behind rest_at rests_of members seat put_back acted_in administered_in taken_to
+    listed submitted handed_on device_took device_moved device_posted kept_block reaped scattered_to delivered_all posted_to ran_out_of statuses_of
+    step replay replies taken_entries
+returns-clause-nothing_came_yet c = refl
+
+pub returns-clause-it_came_at_the_end : goal.returns-clause-it_came_at_the_end
+unfolding number_at dword qword bits bytes_of_dwords completion everywhere addresses bytes_from gathered image put_image scattered stored in_memory
+    and_then first_read in_transcript read_array read_sgl read_entries read_source ranges_in move_units clear_units range_units judge units_moved
+    opening register reg_write doorbell front took post ran_out differs hosts_of fit_behind built plan_over physical_entry held_of device_unit
+    completion_written share_written with_tags group claimed units_behind rest_at rests_of members seat put_back acted_in administered_in taken_to
+    listed submitted handed_on device_took device_moved device_posted kept_block reaped scattered_to delivered_all posted_to ran_out_of statuses_of
+    step replay replies taken_entries
+returns-clause-it_came_at_the_end c = refl
+
+pub returns-clause-the_first_fails : goal.returns-clause-the_first_fails
+unfolding number_at dword qword bits bytes_of_dwords completion everywhere addresses bytes_from gathered image put_image scattered stored in_memory
+    and_then first_read in_transcript read_array read_sgl read_entries read_source ranges_in move_units clear_units range_units judge units_moved
+    opening register reg_write doorbell front took post ran_out differs hosts_of fit_behind built plan_over physical_entry held_of device_unit
+    completion_written share_written with_tags group claimed units_behind rest_at rests_of members seat put_back acted_in administered_in taken_to
+    listed submitted handed_on device_took device_moved device_posted kept_block reaped scattered_to delivered_all posted_to ran_out_of statuses_of
+    step replay replies taken_entries
+returns-clause-the_first_fails c = refl
+
+pub returns-clause-the_last_fails : goal.returns-clause-the_last_fails
+unfolding number_at dword qword bits bytes_of_dwords completion everywhere addresses bytes_from gathered image put_image scattered stored in_memory
+    and_then first_read in_transcript read_array read_sgl read_entries read_source ranges_in move_units clear_units range_units judge units_moved
+    opening register reg_write doorbell front took post ran_out differs hosts_of fit_behind built plan_over physical_entry held_of device_unit
+    completion_written share_written with_tags group claimed units_behind rest_at rests_of members seat put_back acted_in administered_in taken_to
+    listed submitted handed_on device_took device_moved device_posted kept_block reaped scattered_to delivered_all posted_to ran_out_of statuses_of
+    step replay replies taken_entries
+returns-clause-the_last_fails c = refl
+
+pub returns-clause-the_first_decides : goal.returns-clause-the_first_decides
+unfolding number_at dword qword bits bytes_of_dwords completion everywhere addresses bytes_from gathered image put_image scattered stored in_memory
+    and_then first_read in_transcript read_array read_sgl read_entries read_source ranges_in move_units clear_units range_units judge units_moved
+    opening register reg_write doorbell front took post ran_out differs hosts_of fit_behind built plan_over physical_entry held_of device_unit
+    completion_written share_written with_tags group claimed units_behind rest_at rests_of members seat put_back acted_in administered_in taken_to
+    listed submitted handed_on device_took device_moved device_posted kept_block reaped scattered_to delivered_all posted_to ran_out_of statuses_of
+    step replay replies taken_entries
+returns-clause-the_first_decides c = refl
+
+pub returns-clause-a_compare_that_differs : goal.returns-clause-a_compare_that_differs
+unfolding number_at dword qword bits bytes_of_dwords completion everywhere addresses bytes_from gathered image put_image scattered stored in_memory
+    and_then first_read in_transcript read_array read_sgl read_entries read_source ranges_in move_units clear_units range_units judge units_moved
+    opening register reg_write doorbell front took post ran_out differs hosts_of fit_behind built plan_over physical_entry held_of device_unit
+    completion_written share_written with_tags group claimed units_behind rest_at rests_of members seat put_back acted_in administered_in taken_to
+    listed submitted handed_on device_took device_moved device_posted kept_block reaped scattered_to delivered_all posted_to ran_out_of statuses_of
+    step replay replies taken_entries
+returns-clause-a_compare_that_differs c = refl
+
+pub returns-clause-it_runs_out : goal.returns-clause-it_runs_out
+unfolding number_at dword qword bits bytes_of_dwords completion everywhere addresses bytes_from gathered image put_image scattered stored in_memory
+    and_then first_read in_transcript read_array read_sgl read_entries read_source ranges_in move_units clear_units range_units judge units_moved
+    opening register reg_write doorbell front took post ran_out differs hosts_of fit_behind built plan_over physical_entry held_of device_unit
+    completion_written share_written with_tags group claimed units_behind rest_at rests_of members seat put_back acted_in administered_in taken_to
+    listed submitted handed_on device_took device_moved device_posted kept_block reaped scattered_to delivered_all posted_to ran_out_of statuses_of
+    step replay replies taken_entries
+returns-clause-it_runs_out c = refl
+
+pub returns-clause-and_frees_its_tags : goal.returns-clause-and_frees_its_tags
+unfolding number_at dword qword bits bytes_of_dwords completion everywhere addresses bytes_from gathered image put_image scattered stored in_memory
+    and_then first_read in_transcript read_array read_sgl read_entries read_source ranges_in move_units clear_units range_units judge units_moved
+    opening register reg_write doorbell front took post ran_out differs hosts_of fit_behind built plan_over physical_entry held_of device_unit
+    completion_written share_written with_tags group claimed units_behind rest_at rests_of members seat put_back acted_in administered_in taken_to
+    listed submitted handed_on device_took device_moved device_posted kept_block reaped scattered_to delivered_all posted_to ran_out_of statuses_of
+    step replay replies taken_entries
+returns-clause-and_frees_its_tags c = refl

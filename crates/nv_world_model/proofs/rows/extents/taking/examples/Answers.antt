@@ -1,0 +1,117 @@
+use Rattle.std.proofs.Common.{refl}
+use Rattle.nv_entry.specs.Layout.{number_at, dword, qword, bits, bytes_of_dwords}
+use Rattle.nv_entry.specs.Completion.{completion}
+use Rattle.nv_mem.specs.GuestMap.{everywhere}
+use Rattle.nv_mem.specs.Places.{addresses}
+use Rattle.nv_model.specs.Memory.{bytes_from, gathered, image, put_image, scattered, stored}
+use Rattle.nv_model.specs.Dialogue.{in_memory, and_then}
+use Rattle.nv_model.specs.Transcript.{first_read, in_transcript}
+use Rattle.nv_model.specs.Sgl.{read_array, read_sgl}
+use Rattle.nv_model.specs.Prp.{read_entries}
+use Rattle.nv_model.specs.Judge.{read_source, ranges_in, move_units, clear_units, range_units, judge}
+use Rattle.nv_model.specs.Carried.{units_moved}
+use Rattle.nv_model.specs.Controller.{opening, register, reg_write, doorbell, front, took, post, ran_out}
+use Rattle.nv_model.specs.Private.{differs}
+use Rattle.nv_prp.specs.Fits.{hosts_of, fit_behind}
+use Rattle.nv_prp.specs.Built.{built}
+use Rattle.nv_world_model.specs.Plan.{plan_over}
+use Rattle.nv_world_model.specs.Area.{physical_entry}
+use Rattle.nv_world_model.specs.Device.{held_of, device_unit, completion_written}
+use Rattle.nv_world_model.specs.ShareArea.{share_written}
+use Rattle.nv_world_model.specs.World.{with_tags, group, claimed}
+use Rattle.nv_world_model.specs.Seat.{units_behind, rest_at, rests_of, members, seat, put_back}
+use Rattle.nv_world_model.specs.Step.{acted_in, administered_in, taken_to, listed, submitted, handed_on, device_took, device_moved}
+use Rattle.nv_world_model.specs.Step.{device_posted, kept_block, reaped, scattered_to, delivered_all, posted_to, ran_out_of, statuses_of}
+use Rattle.nv_world_model.specs.Step.{step, replay, replies}
+use Rattle.nv_world_model.specs.Disciplined.{taken_entries}
+use Rattle.nv_world_model.proofs.rows.extents.taking.examples.Goals as goal
+
+pub returns-clause-two_extents : goal.returns-clause-two_extents
+unfolding number_at dword qword bits bytes_of_dwords completion everywhere addresses bytes_from gathered image put_image scattered stored in_memory
+    and_then first_read in_transcript read_array read_sgl read_entries read_source ranges_in move_units clear_units range_units judge units_moved
+    opening register reg_write doorbell front took post ran_out differs hosts_of fit_behind built plan_over physical_entry held_of device_unit
+    completion_written share_written with_tags group claimed units_behind rest_at rests_of members seat put_back acted_in administered_in taken_to
+    listed submitted handed_on device_took device_moved device_posted kept_block reaped scattered_to delivered_all posted_to ran_out_of statuses_of
+    step replay replies taken_entries
+returns-clause-two_extents c = refl
+
+pub returns-clause-one_extent : goal.returns-clause-one_extent
+unfolding number_at dword qword bits bytes_of_dwords completion everywhere addresses bytes_from gathered image put_image scattered stored in_memory
+    and_then first_read in_transcript read_array read_sgl read_entries read_source ranges_in move_units clear_units range_units judge units_moved
+    opening register reg_write doorbell front took post ran_out differs hosts_of fit_behind built plan_over physical_entry held_of device_unit
+    completion_written share_written with_tags group claimed units_behind rest_at rests_of members seat put_back acted_in administered_in taken_to
+    listed submitted handed_on device_took device_moved device_posted kept_block reaped scattered_to delivered_all posted_to ran_out_of statuses_of
+    step replay replies taken_entries
+returns-clause-one_extent c = refl
+
+pub returns-clause-a_flush : goal.returns-clause-a_flush
+unfolding number_at dword qword bits bytes_of_dwords completion everywhere addresses bytes_from gathered image put_image scattered stored in_memory
+    and_then first_read in_transcript read_array read_sgl read_entries read_source ranges_in move_units clear_units range_units judge units_moved
+    opening register reg_write doorbell front took post ran_out differs hosts_of fit_behind built plan_over physical_entry held_of device_unit
+    completion_written share_written with_tags group claimed units_behind rest_at rests_of members seat put_back acted_in administered_in taken_to
+    listed submitted handed_on device_took device_moved device_posted kept_block reaped scattered_to delivered_all posted_to ran_out_of statuses_of
+    step replay replies taken_entries
+returns-clause-a_flush c = refl
+
+pub returns-clause-a_refused_command : goal.returns-clause-a_refused_command
+unfolding number_at dword qword bits bytes_of_dwords completion everywhere addresses bytes_from gathered image put_image scattered stored in_memory
+    and_then first_read in_transcript read_array read_sgl read_entries read_source ranges_in move_units clear_units range_units judge units_moved
+    opening register reg_write doorbell front took post ran_out differs hosts_of fit_behind built plan_over physical_entry held_of device_unit
+    completion_written share_written with_tags group claimed units_behind rest_at rests_of members seat put_back acted_in administered_in taken_to
+    listed submitted handed_on device_took device_moved device_posted kept_block reaped scattered_to delivered_all posted_to ran_out_of statuses_of
+    step replay replies taken_entries
+returns-clause-a_refused_command c = refl
+
+pub returns-clause-the_lowest_free : goal.returns-clause-the_lowest_free
+unfolding number_at dword qword bits bytes_of_dwords completion everywhere addresses bytes_from gathered image put_image scattered stored in_memory
+    and_then first_read in_transcript read_array read_sgl read_entries read_source ranges_in move_units clear_units range_units judge units_moved
+    opening register reg_write doorbell front took post ran_out differs hosts_of fit_behind built plan_over physical_entry held_of device_unit
+    completion_written share_written with_tags group claimed units_behind rest_at rests_of members seat put_back acted_in administered_in taken_to
+    listed submitted handed_on device_took device_moved device_posted kept_block reaped scattered_to delivered_all posted_to ran_out_of statuses_of
+    step replay replies taken_entries
+returns-clause-the_lowest_free c = refl
+
+pub returns-clause-no_more_than_it_wants : goal.returns-clause-no_more_than_it_wants
+unfolding number_at dword qword bits bytes_of_dwords completion everywhere addresses bytes_from gathered image put_image scattered stored in_memory
+    and_then first_read in_transcript read_array read_sgl read_entries read_source ranges_in move_units clear_units range_units judge units_moved
+    opening register reg_write doorbell front took post ran_out differs hosts_of fit_behind built plan_over physical_entry held_of device_unit
+    completion_written share_written with_tags group claimed units_behind rest_at rests_of members seat put_back acted_in administered_in taken_to
+    listed submitted handed_on device_took device_moved device_posted kept_block reaped scattered_to delivered_all posted_to ran_out_of statuses_of
+    step replay replies taken_entries
+returns-clause-no_more_than_it_wants c = refl
+
+pub returns-clause-one_is_too_few : goal.returns-clause-one_is_too_few
+unfolding number_at dword qword bits bytes_of_dwords completion everywhere addresses bytes_from gathered image put_image scattered stored in_memory
+    and_then first_read in_transcript read_array read_sgl read_entries read_source ranges_in move_units clear_units range_units judge units_moved
+    opening register reg_write doorbell front took post ran_out differs hosts_of fit_behind built plan_over physical_entry held_of device_unit
+    completion_written share_written with_tags group claimed units_behind rest_at rests_of members seat put_back acted_in administered_in taken_to
+    listed submitted handed_on device_took device_moved device_posted kept_block reaped scattered_to delivered_all posted_to ran_out_of statuses_of
+    step replay replies taken_entries
+returns-clause-one_is_too_few c = refl
+
+pub returns-clause-one_is_enough : goal.returns-clause-one_is_enough
+unfolding number_at dword qword bits bytes_of_dwords completion everywhere addresses bytes_from gathered image put_image scattered stored in_memory
+    and_then first_read in_transcript read_array read_sgl read_entries read_source ranges_in move_units clear_units range_units judge units_moved
+    opening register reg_write doorbell front took post ran_out differs hosts_of fit_behind built plan_over physical_entry held_of device_unit
+    completion_written share_written with_tags group claimed units_behind rest_at rests_of members seat put_back acted_in administered_in taken_to
+    listed submitted handed_on device_took device_moved device_posted kept_block reaped scattered_to delivered_all posted_to ran_out_of statuses_of
+    step replay replies taken_entries
+returns-clause-one_is_enough c = refl
+
+pub returns-clause-the_next_guest : goal.returns-clause-the_next_guest
+unfolding number_at dword qword bits bytes_of_dwords completion everywhere addresses bytes_from gathered image put_image scattered stored in_memory
+    and_then first_read in_transcript read_array read_sgl read_entries read_source ranges_in move_units clear_units range_units judge units_moved
+    opening register reg_write doorbell front took post ran_out differs hosts_of fit_behind built plan_over physical_entry held_of device_unit
+    completion_written share_written with_tags group claimed units_behind rest_at rests_of members seat put_back acted_in administered_in taken_to
+    listed submitted handed_on device_took device_moved device_posted kept_block reaped scattered_to delivered_all posted_to ran_out_of statuses_of
+    step replay replies taken_entries
+returns-clause-the_next_guest c = refl
+
+pub returns-clause-by_its_lowest_alone : goal.returns-clause-by_its_lowest_alone
+unfolding number_at dword qword bits bytes_of_dwords completion everywhere addresses bytes_from gathered image put_image scattered stored in_memory
+    and_then first_read in_transcript read_array read_sgl read_entries read_source ranges_in move_units clear_units range_units judge units_moved
+    opening register reg_write doorbell front took post ran_out differs hosts_of fit_behind built plan_over physical_entry held_of device_unit
+    completion_written share_written with_tags group claimed units_behind rest_at rests_of members seat put_back acted_in administered_in taken_to
+    listed submitted handed_on device_took device_moved device_posted kept_block reaped scattered_to delivered_all posted_to ran_out_of statuses_of
+    step replay replies taken_entries
+returns-clause-by_its_lowest_alone c = refl
