@@ -1,11 +1,11 @@
 //! A guest of 20000h bytes of memory, which lie in the host from 100000h on, and of 64 blocks, which lie on the disk from block
-//! 1,000 on; and what comes of its commands.
+//! 1,000 on or in extents of its own; and what comes of its commands.
 
 use nv_entry::{Sqe, StatusCode};
 use nv_mem::{Bytes, GuestMap, NoMemory, Piece, Region};
 use nv_model::limits::MOST_DESCRIPTORS;
 use nv_ns::{Extent, VirtualNs};
-use nv_plan::{Job, PlanKind, Planned, ReadDone, Transcript, make_plan};
+use nv_plan::{Job, Plan, PlanKind, Planned, ReadDone, Transcript, make_plan};
 use std::alloc::{Allocator, Global};
 use std::process::Abort;
 use std::test::Fail;
@@ -44,7 +44,8 @@ const READ: [u32; 16] = [
     0,
 ];
 
-/// What is to come of a job: more is wanted, so many bytes at that address; or a plan of that kind with these places.
+/// What is to come of a job: more is wanted, so many bytes at that address; or a plan of that kind, in
+/// one part with these places.
 #[derive(Clone, Copy)]
 pub enum Expected {
     Need(u64, u64),
@@ -55,11 +56,12 @@ pub enum Expected {
     TooLong,
 }
 
-/// A guest's memory and its map.
+/// A guest's memory, its map and its namespace.
 #[derive(Drop)]
 pub struct Guest {
     pub memory: Vec<u8>,
     pub map: GuestMap,
+    pub ns: VirtualNs,
 }
 
 fn store(memory: &mut [u8], at: usize, bytes: &[u8]) {
@@ -73,7 +75,11 @@ impl Guest {
     pub fn mapped(alloc: Global, regions: &[Region]) -> Result<Self, Fail> {
         let memory = vec![in alloc; 0u8; 0x20000]?;
         let map = GuestMap::new(0x100_0000, Vec::from_slice(alloc, regions)?)?;
-        Ok(Guest { memory, map })
+        Ok(Guest {
+            memory,
+            map,
+            ns: range(),
+        })
     }
 
     /// The guest.
@@ -162,13 +168,31 @@ impl Guest {
 
     /// What comes of a job, under the usual limit on descriptors.
     pub fn plan<A: Allocator + Clone>(&self, heap: A, alloc: Global, job: Job) -> Planned {
-        make_plan(heap, alloc, job, &self.map, &range(), MOST_DESCRIPTORS)
+        make_plan(heap, alloc, job, &self.map, &self.ns, MOST_DESCRIPTORS)
     }
 }
 
 /// The guest's blocks.
 pub fn range() -> VirtualNs {
     VirtualNs::of(Extent::new(1000, 64))
+}
+
+// An extent: where it begins on the disk, and how many blocks it has.
+fn extent(rt: &impl Abort, at: (u64, u64)) -> Extent {
+    let (base, blocks) = at;
+    assert!(rt; Extent::fits(base, blocks));
+    Extent::new(base, blocks)
+}
+
+/// The namespace of these extents: where each begins on the disk, and how many blocks it has.
+pub fn joined(rt: &impl Abort, first: (u64, u64), others: &[(u64, u64)]) -> VirtualNs {
+    let mut ns = VirtualNs::of(extent(rt, first));
+    for other in others {
+        let next = extent(rt, *other);
+        assert!(rt; ns.fits_behind(next));
+        ns.push(next);
+    }
+    ns
 }
 
 /// The command with these dwords changed.
@@ -208,6 +232,14 @@ impl Expected {
     }
 }
 
+// Whether a plan is one physical command with these places, or none where it answers.
+fn is_whole(plan: &Plan, places: &[Piece]) -> bool {
+    match plan.kind() {
+        PlanKind::Answer(_status) => plan.parts() == 0,
+        _ => plan.parts() == 1 && plan.part_places(0) == places,
+    }
+}
+
 /// Whether that came of a job.
 pub fn is_expected(planned: &Planned, expected: &Expected) -> bool {
     match planned {
@@ -216,7 +248,7 @@ pub fn is_expected(planned: &Planned, expected: &Expected) -> bool {
             _ => false,
         },
         Planned::Plan(plan) => {
-            expected.kind() == Some(plan.kind()) && plan.places().pieces() == expected.places()
+            expected.kind() == Some(plan.kind()) && is_whole(plan, expected.places())
         }
         Planned::NoMemory(_job) => false,
     }

@@ -7,6 +7,8 @@ mod answers;
 #[cfg(test)]
 mod guest;
 #[cfg(test)]
+mod parts;
+#[cfg(test)]
 mod plans;
 #[cfg(test)]
 mod ranges;

@@ -1,8 +1,7 @@
 //! Dataset Management.
 use crate::guest::{Changes, Expected, Guest, command, is_expected};
 use nv_entry::StatusCode;
-use nv_mem::Piece;
-use nv_plan::{PlanKind, Planned};
+use nv_plan::{Plan, PlanKind, Planned};
 use std::alloc::Global;
 use std::process::Abort;
 use std::test::Fail;
@@ -23,17 +22,27 @@ const PARTED: Changes = &[
 /// A deallocation of 256 ranges by a Data Block of 4,096 bytes at 3000h.
 const MOST: Changes = &[(0, 0x0007_4009), (8, 4096), (10, 255), (11, 4)];
 
+/// Whether a part of a plan has these ranges, and as many bytes as they take up.
+pub fn has_part_ranges(plan: &Plan, part: u8, ranges: &[[u8; 16]]) -> bool {
+    if part >= plan.parts() {
+        return false;
+    }
+    let told = plan.part_ranges(part);
+    plan.part_len(part) / 16 == ranges.len() as u64
+        && told.len() == ranges.len()
+        && told
+            .iter()
+            .zip(ranges)
+            .all(|(range, bytes)| range.bytes() == *bytes)
+}
+
 // Whether a plan bounces these ranges.
 fn has_ranges(planned: &Planned, ranges: &[[u8; 16]]) -> bool {
     match planned {
         Planned::Plan(plan) => {
             plan.kind() == PlanKind::Bounced
-                && plan.ranges().len() == ranges.len()
-                && plan
-                    .ranges()
-                    .iter()
-                    .zip(ranges)
-                    .all(|(range, bytes)| range.bytes() == *bytes)
+                && plan.parts() == 1
+                && has_part_ranges(plan, 0, ranges)
         }
         _ => false,
     }
@@ -113,10 +122,7 @@ fn check_last(rt: &impl Abort, alloc: Global, last: (u64, u32, bool)) -> Result<
     let job = guest.job(alloc, command(rt, MOST), &[(0x3000, 4096)])?;
     let planned = guest.plan(alloc, alloc, job);
     let expected = if fits {
-        Expected::Bounced(&[Piece::Run {
-            addr: 0x3000,
-            len: 4096,
-        }])
+        Expected::Bounced(&[])
     } else {
         Expected::Refused(StatusCode::LbaOutOfRange)
     };

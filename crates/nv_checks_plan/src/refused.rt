@@ -1,5 +1,5 @@
 //! Memory that is refused: each allocation of the heap in turn, and then the same call again.
-use crate::guest::{Changes, DATA, Expected, Guest, LAST, Row, command, is_expected};
+use crate::guest::{Changes, DATA, Guest, LAST, Row, command, joined};
 use nv_mem::{NoMemory, Piece};
 use nv_plan::{Job, Planned};
 use nv_refusing::Refusing;
@@ -7,21 +7,44 @@ use std::alloc::Global;
 use std::process::Abort;
 use std::test::Fail;
 
-/// A Read by a Segment of two descriptors at 6000h that leads to a Last Segment of one.
-const CHAIN: Changes = &[(6, 0x6000), (8, 32), (9, 0x2000_0000)];
+/// A Read of two blocks by a Segment of two descriptors at 6000h that leads to a Last Segment of one.
+const CHAIN: Changes = &[(6, 0x6000), (8, 32), (9, 0x2000_0000), (12, 1)];
 
-const ROWS: &[Row] = &[(0x6010, LAST, 0x7000, 16), (0x7000, DATA, 0x3000, 512)];
+const ROWS: &[Row] = &[(0x6010, LAST, 0x7000, 16), (0x7000, DATA, 0x3000, 1024)];
 
 const READS: &[(u64, u64)] = &[(0x6000, 32), (0x7000, 16)];
 
 const PLACES: &[Piece] = &[Piece::Run {
     addr: 0x3000,
+    len: 1024,
+}];
+
+const FIRST_HALF: &[Piece] = &[Piece::Run {
+    addr: 0x3000,
+    len: 512,
+}];
+
+const SECOND_HALF: &[Piece] = &[Piece::Run {
+    addr: 0x3200,
     len: 512,
 }];
 
 // Whether a job is as it was handed in.
 fn is_as_it_was(job: &Job) -> bool {
     (job.lane, job.tag, job.guest) == (1, 9, 3) && job.reads.reads().len() == READS.len()
+}
+
+// Whether the whole list came to one part, or to two where a join lies within it.
+fn is_planned(planned: &Planned) -> bool {
+    match planned {
+        Planned::Plan(plan) => {
+            plan.parts() == 1 && plan.part_places(0) == PLACES
+                || plan.parts() == 2
+                    && plan.part_places(0) == FIRST_HALF
+                    && plan.part_places(1) == SECOND_HALF
+        }
+        _ => false,
+    }
 }
 
 // Plans with that allocation of the heap refused, and then again: whether it came to a refusal, with the job as it was, and to the
@@ -43,7 +66,7 @@ fn refused_once(
         Planned::NoMemory(job) => {
             let is_back = is_as_it_was(&job);
             let again = guest.plan(heap, alloc, job);
-            Some(is_back && is_expected(&again, &Expected::Direct(PLACES)))
+            Some(is_back && is_planned(&again))
         }
         _ => Some(false),
     }
@@ -70,9 +93,11 @@ fn refusals(
 #[test]
 fn each_allocation_refused_in_turn(rt: HostRuntime) -> Result<(), Fail> {
     let alloc = rt.alloc();
-    let guest = Guest::with(alloc, ROWS)?;
+    let mut guest = Guest::with(alloc, ROWS)?;
     let heap = Refusing::new(alloc);
     // the own descriptor takes one block of memory, and each array two
+    assert_eq!(rt; refusals(&rt, &heap, alloc, &guest)?, Some(5));
+    guest.ns = joined(&rt, (1000, 6), &[(5000, 58)]);
     assert_eq!(rt; refusals(&rt, &heap, alloc, &guest)?, Some(5));
     Ok(())
 }

@@ -1,5 +1,13 @@
+pub mod SomeBytes
+pub mod CutPlaces
+pub mod MetRanges
 pub mod ReadsTaken
 pub mod ListReads
 pub mod RangeReads
 pub mod PlanCases
-pub mod PlanLaws
+pub mod PlanFollows
+pub mod MadeShares
+pub mod OwnParts
+pub mod SourceRuns
+pub mod PartLaws
+pub mod RangesLie

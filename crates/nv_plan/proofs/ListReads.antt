@@ -1,5 +1,5 @@
 -- A list that is read from a transcript
-use Rattle.std.proofs.Common.{◌≡◌, ℕ, ◌-◌, ◌≤◌, List, Ok, Err, Some, None, sym, ap, subst, ◌∙◌}
+use Rattle.std.proofs.Common.{◌≡◌, ℕ, ◌-◌, ◌≤◌, All, List, Ok, Err, Some, None, sym, ap, subst, ◌∙◌}
 use Rattle.nv_entry.specs.Status.{StatusField}
 use Rattle.nv_entry.specs.StatusCode.{done_with, refused_with}
 use Rattle.nv_entry.specs.Submission.{prp1_of, prp2_of, sgl_of}
@@ -20,14 +20,18 @@ use Rattle.nv_model.specs.Transcript.{ReadDone, Settled as Ended, fed, first_rea
 use Rattle.nv_model.specs.Want.{want_of}
 use Rattle.nv_model.specs.declared.want.Want.TheVariants as want
 use Rattle.nv_model.proofs.AskedOften.{read_prp-often, read_sgl-often}
-use Rattle.nv_model.proofs.ListsFed.{AreSpelled, IsListAhead, IsListAhead-done, IsListAhead-more, IsListAhead-start, judged-done, judged-fault, judged-met, judged-too_long, judged-wanted}
+use Rattle.nv_model.proofs.Endings.{EndsIn, OfPieces}
+use Rattle.nv_model.proofs.ListsFed.{AreSpelled, EndsIn-fed, IsListAhead, IsListAhead-done, IsListAhead-more, IsListAhead-start, judged-done, judged-fault, judged-met, judged-too_long, judged-wanted}
 use Rattle.nv_model.proofs.Shown.{first_read-length}
 use Rattle.nv_plan.specs.Listed.{IsJudgedAs, list_of, verdict_over}
+use Rattle.nv_plan.specs.Parts.{HasBytes}
 use Rattle.nv_plan.specs.declared.outcome.Outcome.TheVariants.{Wanted, Settled}
+use Rattle.nv_plan.proofs.SomeBytes.{list-bytes}
 
 -- what a loop over the parts of a list keeps: of the list with all reads, this is still read, over these reads
 pub record IsReading (regions : List Region) (n : ℕ) (need : Need) (list : Dialogue Reading) (all : List ReadDone) (entry : List ℕ) (d : Dialogue Reading) (reads : List ReadDone) : Type 0 where
   pub ahead : IsListAhead (mapped regions) n need.dest need.bytes d
+  pub bytes : EndsIn (OfPieces (λ pieces. All HasBytes pieces)) d
   pub judged : (blocks : ℕ) (opcode : IoOpcode) → verdict_over d reads blocks entry opcode ≡ verdict_over list all blocks entry opcode
 
 -- a reserved data pointer is refused
@@ -54,6 +58,7 @@ IsReading-start_prp regions limit need all entry d prp1 prp2 len dialogue same_p
       ahead =
           subst (IsListAhead (mapped regions) 1023 need.dest need.bytes) (sym is)
           (IsListAhead-start (mapped regions) 1023 limit Prp need.dest need.bytes entry (read_prp-often (mapped regions) (prp1_of entry) (prp2_of entry) need.bytes most));
+      bytes = subst (EndsIn (OfPieces (λ pieces. All HasBytes pieces))) (sym is) (list-bytes Prp (mapped regions) need.dest limit need.bytes entry);
       judged = λ blocks opcode. ap (λ (x : Dialogue Reading). verdict_over x all blocks entry opcode) is;
     }
 
@@ -71,6 +76,7 @@ IsReading-start_sgl regions limit need all entry d own len dialogue same_own sam
       ahead =
           subst (IsListAhead (mapped regions) (limit - 1) need.dest need.bytes) (sym is)
           (IsListAhead-start (mapped regions) (limit - 1) limit Sgl need.dest need.bytes entry (read_sgl-often (mapped regions) need.dest limit (sgl_of entry)));
+      bytes = subst (EndsIn (OfPieces (λ pieces. All HasBytes pieces))) (sym is) (list-bytes Sgl (mapped regions) need.dest limit need.bytes entry);
       judged = λ blocks opcode. ap (λ (x : Dialogue Reading). verdict_over x all blocks entry opcode) is;
     }
 
@@ -83,6 +89,9 @@ IsReading-more regions n need list all entry d reads addr len bytes next behind 
     let many = first_read-length addr len reads (bytes, behind) found in
     record {
       ahead = subst (IsListAhead (mapped regions) n need.dest need.bytes) (sym goes_on) (IsListAhead-more (mapped regions) n need.dest need.bytes d addr len bytes so_far.ahead wanted many);
+      bytes =
+          subst (EndsIn (OfPieces (λ pieces. All HasBytes pieces))) (sym goes_on)
+          (EndsIn-fed (OfPieces (λ pieces. All HasBytes pieces)) d bytes so_far.bytes);
       judged = λ blocks opcode.
           ap (λ (x : Dialogue Reading). verdict_over x behind blocks entry opcode) goes_on
           ∙ sym (judged-met (mapped regions) n need.dest need.bytes blocks entry opcode d addr len reads bytes behind so_far.ahead wanted found)
@@ -124,6 +133,8 @@ IsReading-done regions n need list all entry d reads pieces so_far is = λ block
 
 pub IsReading-spelled : (regions : List Region) (n : ℕ) (need : Need) (list : Dialogue Reading) (all : List ReadDone) (entry : List ℕ) (d : Dialogue Reading) (reads : List ReadDone) (pieces : List Piece)
     → IsReading regions n need list all entry d reads
-    → d ≡ End (Spells pieces) → AreSpelled (mapped regions) need.dest need.bytes pieces
-IsReading-spelled regions n need list all entry d reads pieces so_far is =
-    IsListAhead-done (mapped regions) n need.dest need.bytes d pieces so_far.ahead is
+    → d ≡ End (Spells pieces) → AreSpelled (mapped regions) need.dest need.bytes pieces × All HasBytes pieces
+IsReading-spelled regions n need list all entry d reads pieces so_far is = (
+  IsListAhead-done (mapped regions) n need.dest need.bytes d pieces so_far.ahead is,
+  subst (EndsIn (OfPieces (λ ps. All HasBytes ps))) is so_far.bytes,
+)

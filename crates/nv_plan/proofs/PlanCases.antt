@@ -1,11 +1,12 @@
 -- What a plan says, by what its command's fields and list say
-use Rattle.std.proofs.Common.{◌≡◌, ℕ, ◌*◌, ◌/◌, ◌<◌, ◌≤◌, Bool, true, false, ◌⊎◌, inl, inr, List, [], Result, Ok, Err, Some, None, length, map, arith, refl, sym, ap, subst, ◌∙◌}
-use Rattle.std.specs.List.{list_all}
+use Rattle.std.proofs.Common.{◌≡◌, ℕ, ◌*◌, ◌/◌, ◌<◌, ◌≤◌, Bool, true, false, ◌⊎◌, inl, inr, All, List, [], ◌∷◌, Option, Result, Ok, Err, Some, None, length, map, replicate, arith, refl, sym, ap, subst, ◌∙◌}
+use Rattle.std.specs.List.{enumerate_from, list_all}
 use Rattle.nv_entry.specs.Opcode.{data_pointer, io_opcode}
 use Rattle.nv_entry.specs.Status.{StatusField}
-use Rattle.nv_entry.specs.Submission.{opcode_of, psdt_of}
+use Rattle.nv_entry.specs.Submission.{opcode_of, psdt_of, slba_of}
 use Rattle.nv_entry.specs.declared.opcode.IoOpcode.{IoOpcode}
 use Rattle.nv_entry.specs.declared.opcode.IoOpcode.TheVariants.{Flush, Write, Read, Compare, WriteZeroes, DatasetManagement}
+use Rattle.nv_entry.specs.declared.status_code.StatusCode.{StatusCode}
 use Rattle.nv_judge.specs.Need.{field_verdict, need_of}
 use Rattle.nv_judge.specs.Ranges.{ranges_verdict}
 use Rattle.nv_judge.specs.declared.need.Need.{Need}
@@ -13,7 +14,7 @@ use Rattle.nv_judge.proofs.FieldLemmas.{count-at_most, field_verdict-err, field_
 use Rattle.nv_judge.proofs.RangeLemmas.{ranges-leave}
 use Rattle.nv_mem.specs.declared.piece.Piece.{Piece}
 use Rattle.nv_mem.specs.declared.region.Region.{Region}
-use Rattle.nv_model.specs.Judge.{Go, Refuse, Transfer, Verdict, count_of, field_refusal, form_has_buffer, form_of, has_blocks, has_buffer, judge_ranges}
+use Rattle.nv_model.specs.Judge.{Go, Refuse, Transfer, Verdict, Work, count_of, field_refusal, form_has_buffer, form_of, has_blocks, has_buffer, judge_ranges}
 use Rattle.nv_model.specs.Judge.{judge_reading, range_count_of, range_fits, ranges_in, transfer_len, work_of}
 use Rattle.nv_model.specs.Reading.{Spells}
 use Rattle.nv_model.specs.Transcript.{Outcome as Come, ReadDone, Settled as Ended, Wanted as Asked, in_transcript}
@@ -21,18 +22,21 @@ use Rattle.nv_model.proofs.InParts.{ranges-short}
 use Rattle.nv_model.proofs.ListsFed.{AreSpelled}
 use Rattle.nv_mem.specs.GuestMap.{mapped}
 use Rattle.nv_model.proofs.JudgeCases.{judge-listed, judge-refused, judge-unlisted, judge_ranges-fits, judge_ranges-refused}
-use Rattle.nv_ns.specs.Extents.{Namespace, blocks_in}
+use Rattle.nv_ns.specs.Extents.{Cut, Namespace, Placed, blocks_in, cuts, placed}
 use Rattle.nv_prp.specs.Fits.{places_fit}
-use Rattle.nv_world_model.specs.Area.{translated_range}
 use Rattle.nv_world_model.specs.Geometry.{Guest, regions_of, shape_of}
-use Rattle.nv_world_model.specs.Plan.{Answer, Plan, plan_of, plan_over, planned, transfer_plan}
+use Rattle.nv_world_model.specs.Plan.{Answer, Bounced, Direct, NoData, Plan, plan_of, plan_over, planned, transfer_plan}
+use Rattle.nv_world_model.specs.Share.{block_share, form_tags, range_share, tags_by, tags_of_entry}
 use Rattle.nv_plan.specs.Drawn.{plan_of_list}
 use Rattle.nv_plan.specs.Listed.{HasLen, IsFetched, IsJudgedAs, IsSpelled, judged_list, list_of, made_of, verdict_over}
-use Rattle.nv_plan.specs.Outline.{Outline, outline_of, outlined}
+use Rattle.nv_plan.specs.Outline.{Outline, Portion, outline_of, outlined, portion_of}
+use Rattle.nv_plan.specs.Parts.{HasBytes}
+use Rattle.nv_plan.specs.Told.{portion_cut, portion_met}
 use Rattle.nv_plan.specs.declared.kind.PlanKind.{PlanKind}
 use Rattle.nv_plan.specs.declared.kind.PlanKind.TheVariants as kind
 use Rattle.nv_plan.specs.declared.outcome.Outcome.{Outcome}
 use Rattle.nv_plan.specs.declared.outcome.Outcome.TheVariants.{Wanted, Settled}
+use Rattle.nv_plan.proofs.MetRanges.{portions_from}
 
 -- ---- by the fields
 
@@ -73,21 +77,52 @@ never-unknown given entry need fine unknown =
     not_none : (a : IoOpcode) → None ≡ Some a → ⊥
     not_none a e = (cc)
 
+-- ---- how many tags it takes
+
+-- one, where the fields refuse it
+pub tags-refused : (ns : Namespace) (entry : List ℕ) (st : StatusField) → field_verdict (blocks_in ns) entry ≡ Err st → tags_of_entry ns entry ≡ 1
+tags-refused ns entry st refused =
+    let by = field_verdict-err (blocks_in ns) entry st refused in
+    ap (λ (o : Option StatusCode). tags_by o (io_opcode (opcode_of entry)) ns entry) by.1
+
+-- else as many as its form says
+pub tags-known : (ns : Namespace) (entry : List ℕ) (opcode : IoOpcode) → field_refusal (blocks_in ns) entry ≡ None
+    → io_opcode (opcode_of entry) ≡ Some opcode → tags_of_entry ns entry ≡ form_tags (form_of opcode) ns entry
+tags-known ns entry opcode fine known =
+    ap (λ (o : Option StatusCode). tags_by o (io_opcode (opcode_of entry)) ns entry) fine ∙ ap (λ (o : Option IoOpcode). tags_by None o ns entry) known
+
+-- no bytes and no ranges
+abbrev pub nothing : Portion
+nothing = record { places = []; ranges = [] }
+
+-- a command that moves no data has nothing of them
+bare-cuts : (ns : Namespace) (work : Work) (parts : List Cut)
+    → map (portion_of ns) (map (block_share (NoData work) work) parts) ≡ replicate (length parts) nothing
+bare-cuts ns work [] = refl
+bare-cuts ns work (cut ∷ rest) = ap (λ (ps : List Portion). nothing ∷ ps) (bare-cuts ns work rest)
+
+-- ---- what becomes of it
+
 -- one without a buffer moves no data
 pub plan_over-no_data : (given : Guest) (entry : List ℕ) (reads : List ReadDone) (opcode : IoOpcode) (need : Need)
     → IsKnown given entry opcode need → has_buffer opcode ≡ false
-    → outlined given.namespace (plan_over given entry reads) ≡ Ended (record { kind = kind.NoData; places = []; ranges = [] })
+    → outlined given.namespace entry (plan_over given entry reads)
+    ≡ Ended (record { kind = kind.NoData; portions = replicate (tags_of_entry given.namespace entry) nothing })
 unfolding plan_over in_transcript
 plan_over-no_data given entry reads opcode need is buffer =
-    ap (λ d. outlined given.namespace (planned (regions_of given) (in_transcript d [] reads)))
+    ap (λ d. outlined given.namespace entry (planned (regions_of given) (in_transcript d [] reads)))
     (judge-unlisted (shape_of given).mapped given.limit (blocks_in given.namespace) entry opcode is.unrefused is.known buffer)
     ∙ by_opcode opcode buffer
+    ∙ ap (λ (n : ℕ). Ended (record { kind = kind.NoData; portions = replicate n nothing }))
+    (sym (tags-known given.namespace entry opcode is.unrefused is.known))
   where
     by_opcode : (o : IoOpcode) → has_buffer o ≡ false
-        → outlined given.namespace (Ended (plan_of (regions_of given) (Go (work_of (blocks_in given.namespace) o entry [] []))))
-        ≡ Ended (record { kind = kind.NoData; places = []; ranges = [] })
+        → outlined given.namespace entry (Ended (plan_of (regions_of given) (Go (work_of (blocks_in given.namespace) o entry [] []))))
+        ≡ Ended (record { kind = kind.NoData; portions = replicate (form_tags (form_of o) given.namespace entry) nothing })
     by_opcode Flush none = refl
-    by_opcode WriteZeroes none = refl
+    by_opcode WriteZeroes none =
+        ap (λ (ps : List Portion). Ended (record { kind = kind.NoData; portions = ps }))
+        (bare-cuts given.namespace (work_of (blocks_in given.namespace) WriteZeroes entry [] []) (cuts given.namespace (slba_of entry) (count_of entry)))
     by_opcode Read none = (cc)
     by_opcode Write none = (cc)
     by_opcode Compare none = (cc)
@@ -146,7 +181,8 @@ ranges-some entry need needs =
 
 -- places that were spelled
 pub spelled-places : (listed : Outcome (Result (List Piece) StatusField)) (regions : List Region) (need : Need) (pieces : List Piece)
-    → IsSpelled listed regions need → listed ≡ Settled (Ok pieces) → AreSpelled (mapped regions) need.dest need.bytes pieces
+    → IsSpelled listed regions need → listed ≡ Settled (Ok pieces)
+    → AreSpelled (mapped regions) need.dest need.bytes pieces × All HasBytes pieces
 spelled-places listed regions need pieces spelled is =
     subst (λ (l : Outcome (Result (List Piece) StatusField)). IsSpelled l regions need) is spelled
 
@@ -163,44 +199,83 @@ planned-list given opcode entry reads behind listed need judged needs =
 pub list-wanted : (given : Guest) (opcode : IoOpcode) (entry : List ℕ) (reads behind : List ReadDone) (listed : Outcome (Result (List Piece) StatusField)) (need : Need) (addr len : ℕ)
     → IsJudgedAs listed behind (list_of (data_pointer (psdt_of entry)) (regions_of given) given.limit need entry) reads entry
     → need ≡ need_of entry opcode → listed ≡ Wanted addr len
-    → Asked addr len ≡ outlined given.namespace (plan_of_list given opcode entry reads)
+    → Asked addr len ≡ outlined given.namespace entry (plan_of_list given opcode entry reads)
 list-wanted given opcode entry reads behind listed need addr len judged needs is =
-    ap (λ (l : Outcome (Result (List Piece) StatusField)). outlined given.namespace (planned (regions_of given) (judged_list l behind (blocks_in given.namespace) entry opcode))) (sym is)
-    ∙ ap (outlined given.namespace) (planned-list given opcode entry reads behind listed need judged needs)
+    ap (λ (l : Outcome (Result (List Piece) StatusField)). outlined given.namespace entry (planned (regions_of given) (judged_list l behind (blocks_in given.namespace) entry opcode))) (sym is)
+    ∙ ap (outlined given.namespace entry) (planned-list given opcode entry reads behind listed need judged needs)
 
 -- it is refused
 pub list-refused : (given : Guest) (opcode : IoOpcode) (entry : List ℕ) (reads behind : List ReadDone) (listed : Outcome (Result (List Piece) StatusField)) (need : Need) (st : StatusField)
     → IsJudgedAs listed behind (list_of (data_pointer (psdt_of entry)) (regions_of given) given.limit need entry) reads entry
     → need ≡ need_of entry opcode → listed ≡ Settled (Err st)
-    → Ended (record { kind = kind.Answer st; places = []; ranges = [] }) ≡ outlined given.namespace (plan_of_list given opcode entry reads)
+    → Ended (record { kind = kind.Answer st; portions = [] }) ≡ outlined given.namespace entry (plan_of_list given opcode entry reads)
 list-refused given opcode entry reads behind listed need st judged needs is =
-    ap (λ (l : Outcome (Result (List Piece) StatusField)). outlined given.namespace (planned (regions_of given) (judged_list l behind (blocks_in given.namespace) entry opcode))) (sym is)
-    ∙ ap (outlined given.namespace) (planned-list given opcode entry reads behind listed need judged needs)
+    ap (λ (l : Outcome (Result (List Piece) StatusField)). outlined given.namespace entry (planned (regions_of given) (judged_list l behind (blocks_in given.namespace) entry opcode))) (sym is)
+    ∙ ap (outlined given.namespace entry) (planned-list given opcode entry reads behind listed need judged needs)
 
 -- it spells the places of a transfer
 abbrev pub kind_by : Bool → PlanKind
 kind_by true = kind.Direct
 kind_by false = kind.Bounced
 
+-- the portions of a transfer's cuts
+abbrev pub portions_cut : Namespace → (entry : List ℕ) → List Piece → List Portion
+portions_cut ns entry pieces = map (portion_cut pieces) (cuts ns (slba_of entry) (count_of entry))
+
+cut-portions : (ns : Namespace) (plan : Plan) (work : Work) (parts : List Cut)
+    → ((cut : Cut) → portion_of ns (block_share plan work cut) ≡ portion_cut work.pieces cut)
+    → map (portion_of ns) (map (block_share plan work) parts) ≡ map (portion_cut work.pieces) parts
+cut-portions ns plan work [] each = refl
+cut-portions ns plan work (cut ∷ rest) each =
+    ap (λ (p : Portion). p ∷ map (portion_of ns) (map (block_share plan work) rest)) (each cut)
+    ∙ ap (λ (ps : List Portion). portion_cut work.pieces cut ∷ ps) (cut-portions ns plan work rest each)
+
+abbrev told : PlanKind → List Portion → Outline
+told k portions = record { kind = k; portions = portions }
+
+direct-portions : (ns : Namespace) (entry : List ℕ) (work : Work)
+    → ((cut : Cut) → portion_of ns (block_share (Direct work) work cut) ≡ portion_cut work.pieces cut)
+    → told kind.Direct (map (portion_of ns) (map (block_share (Direct work) work) (cuts ns (slba_of entry) (count_of entry))))
+    ≡ told kind.Direct (portions_cut ns entry work.pieces)
+direct-portions ns entry work each =
+    ap (told kind.Direct)
+    (cut-portions ns (Direct work) work (cuts ns (slba_of entry) (count_of entry)) each)
+
+bounced-portions : (ns : Namespace) (entry : List ℕ) (work : Work)
+    → ((cut : Cut) → portion_of ns (block_share (Bounced work) work cut) ≡ portion_cut work.pieces cut)
+    → told kind.Bounced (map (portion_of ns) (map (block_share (Bounced work) work) (cuts ns (slba_of entry) (count_of entry))))
+    ≡ told kind.Bounced (portions_cut ns entry work.pieces)
+bounced-portions ns entry work each =
+    ap (told kind.Bounced)
+    (cut-portions ns (Bounced work) work (cuts ns (slba_of entry) (count_of entry)) each)
+
+transfer-portions : (ns : Namespace) (blocks : ℕ) (opcode : IoOpcode) (dest : Bool) (entry : List ℕ) (pieces : List Piece) (fit : Bool)
+    → form_of opcode ≡ Transfer dest
+    → told (kind_by fit) (portions_cut ns entry pieces)
+    ≡ outline_of ns entry (transfer_plan fit (work_of blocks opcode entry pieces []))
+transfer-portions ns blocks Flush dest entry pieces fit form = absurd (cc)
+transfer-portions ns blocks WriteZeroes dest entry pieces fit form = absurd (cc)
+transfer-portions ns blocks DatasetManagement dest entry pieces fit form = absurd (cc)
+transfer-portions ns blocks Read dest entry pieces true form = sym (direct-portions ns entry (work_of blocks Read entry pieces []) (λ cut. refl))
+transfer-portions ns blocks Read dest entry pieces false form = sym (bounced-portions ns entry (work_of blocks Read entry pieces []) (λ cut. refl))
+transfer-portions ns blocks Write dest entry pieces true form = sym (direct-portions ns entry (work_of blocks Write entry pieces []) (λ cut. refl))
+transfer-portions ns blocks Write dest entry pieces false form = sym (bounced-portions ns entry (work_of blocks Write entry pieces []) (λ cut. refl))
+transfer-portions ns blocks Compare dest entry pieces true form = sym (direct-portions ns entry (work_of blocks Compare entry pieces []) (λ cut. refl))
+transfer-portions ns blocks Compare dest entry pieces false form = sym (bounced-portions ns entry (work_of blocks Compare entry pieces []) (λ cut. refl))
+
 transfer-outline : (given : Guest) (opcode : IoOpcode) (dest : Bool) (entry : List ℕ) (behind : List ReadDone) (pieces : List Piece) (fit : Bool)
     → form_of opcode ≡ Transfer dest → fit ≡ places_fit (regions_of given) pieces
-    → Ended (record { kind = kind_by fit; places = pieces; ranges = [] })
-    ≡ outlined given.namespace (planned (regions_of given) (in_transcript (judge_reading (blocks_in given.namespace) entry opcode (Spells pieces)) [] behind))
+    → Ended (record { kind = kind_by fit; portions = portions_cut given.namespace entry pieces })
+    ≡ outlined given.namespace entry (planned (regions_of given) (in_transcript (judge_reading (blocks_in given.namespace) entry opcode (Spells pieces)) [] behind))
 unfolding in_transcript
 transfer-outline given opcode dest entry behind pieces fit form fits =
-    by_fit fit
-    ∙ ap (λ (b : Bool). outlined given.namespace (Ended (transfer_plan b (work_of (blocks_in given.namespace) opcode entry pieces [])))) fits
+    ap Ended (transfer-portions given.namespace (blocks_in given.namespace) opcode dest entry pieces fit form)
+    ∙ ap (λ (b : Bool). outlined given.namespace entry (Ended (transfer_plan b (work_of (blocks_in given.namespace) opcode entry pieces [])))) fits
     ∙ by_opcode opcode dest form
   where
-    by_fit : (b : Bool)
-        → Ended (record { kind = kind_by b; places = pieces; ranges = [] })
-        ≡ outlined given.namespace (Ended (transfer_plan b (work_of (blocks_in given.namespace) opcode entry pieces [])))
-    by_fit true = refl
-    by_fit false = refl
-
     by_opcode : (o : IoOpcode) (d : Bool) → form_of o ≡ Transfer d
-        → outlined given.namespace (Ended (transfer_plan (places_fit (regions_of given) pieces) (work_of (blocks_in given.namespace) o entry pieces [])))
-        ≡ outlined given.namespace (planned (regions_of given) (in_transcript (judge_reading (blocks_in given.namespace) entry o (Spells pieces)) [] behind))
+        → outlined given.namespace entry (Ended (transfer_plan (places_fit (regions_of given) pieces) (work_of (blocks_in given.namespace) o entry pieces [])))
+        ≡ outlined given.namespace entry (planned (regions_of given) (in_transcript (judge_reading (blocks_in given.namespace) entry o (Spells pieces)) [] behind))
     by_opcode Flush d e = (cc)
     by_opcode WriteZeroes d e = (cc)
     by_opcode Read d e = refl
@@ -212,11 +287,12 @@ pub list-transfers : (given : Guest) (opcode : IoOpcode) (dest : Bool) (entry : 
     → IsJudgedAs listed behind (list_of (data_pointer (psdt_of entry)) (regions_of given) given.limit need entry) reads entry
     → form_of opcode ≡ Transfer dest → need ≡ need_of entry opcode → listed ≡ Settled (Ok pieces)
     → fit ≡ places_fit (regions_of given) pieces
-    → Ended (record { kind = kind_by fit; places = pieces; ranges = [] }) ≡ outlined given.namespace (plan_of_list given opcode entry reads)
+    → Ended (record { kind = kind_by fit; portions = portions_cut given.namespace entry pieces })
+    ≡ outlined given.namespace entry (plan_of_list given opcode entry reads)
 list-transfers given opcode dest entry reads behind listed need pieces fit judged form needs is fits =
     transfer-outline given opcode dest entry behind pieces fit form fits
-    ∙ ap (λ (l : Outcome (Result (List Piece) StatusField)). outlined given.namespace (planned (regions_of given) (judged_list l behind (blocks_in given.namespace) entry opcode))) (sym is)
-    ∙ ap (outlined given.namespace) (planned-list given opcode entry reads behind listed need judged needs)
+    ∙ ap (λ (l : Outcome (Result (List Piece) StatusField)). outlined given.namespace entry (planned (regions_of given) (judged_list l behind (blocks_in given.namespace) entry opcode))) (sym is)
+    ∙ ap (outlined given.namespace entry) (planned-list given opcode entry reads behind listed need judged needs)
 
 -- ---- Dataset Management
 
@@ -224,22 +300,22 @@ list-transfers given opcode dest entry reads behind listed need pieces fit judge
 pub list-manages : (given : Guest) (entry : List ℕ) (reads behind : List ReadDone) (listed : Outcome (Result (List Piece) StatusField)) (need : Need) (pieces : List Piece) (fetched : Outcome (List ℕ))
     → IsJudgedAs listed behind (list_of (data_pointer (psdt_of entry)) (regions_of given) given.limit need entry) reads entry
     → need ≡ need_of entry DatasetManagement → listed ≡ Settled (Ok pieces) → IsFetched fetched pieces behind
-    → outlined given.namespace (planned (regions_of given) (made_of fetched (λ bytes. judge_ranges (blocks_in given.namespace) DatasetManagement entry pieces (ranges_in (range_count_of entry) bytes))))
-    ≡ outlined given.namespace (plan_of_list given DatasetManagement entry reads)
+    → outlined given.namespace entry (planned (regions_of given) (made_of fetched (λ bytes. judge_ranges (blocks_in given.namespace) DatasetManagement entry pieces (ranges_in (range_count_of entry) bytes))))
+    ≡ outlined given.namespace entry (plan_of_list given DatasetManagement entry reads)
 list-manages given entry reads behind listed need pieces fetched judged needs is shows =
-    ap (λ v. outlined given.namespace (planned (regions_of given) v))
+    ap (λ v. outlined given.namespace entry (planned (regions_of given) v))
     (shows (λ bytes. judge_ranges (blocks_in given.namespace) DatasetManagement entry pieces (ranges_in (range_count_of entry) bytes)))
-    ∙ ap (λ (l : Outcome (Result (List Piece) StatusField)). outlined given.namespace (planned (regions_of given) (judged_list l behind (blocks_in given.namespace) entry DatasetManagement))) (sym is)
-    ∙ ap (outlined given.namespace) (planned-list given DatasetManagement entry reads behind listed need judged needs)
+    ∙ ap (λ (l : Outcome (Result (List Piece) StatusField)). outlined given.namespace entry (planned (regions_of given) (judged_list l behind (blocks_in given.namespace) entry DatasetManagement))) (sym is)
+    ∙ ap (outlined given.namespace entry) (planned-list given DatasetManagement entry reads behind listed need judged needs)
 
 -- some of the bytes are wanted
 pub ranges-wanted : (given : Guest) (entry : List ℕ) (reads behind : List ReadDone) (listed : Outcome (Result (List Piece) StatusField)) (need : Need) (pieces : List Piece) (fetched : Outcome (List ℕ)) (addr len : ℕ)
     → IsJudgedAs listed behind (list_of (data_pointer (psdt_of entry)) (regions_of given) given.limit need entry) reads entry
     → need ≡ need_of entry DatasetManagement → listed ≡ Settled (Ok pieces) → IsFetched fetched pieces behind
     → fetched ≡ Wanted addr len
-    → Asked addr len ≡ outlined given.namespace (plan_of_list given DatasetManagement entry reads)
+    → Asked addr len ≡ outlined given.namespace entry (plan_of_list given DatasetManagement entry reads)
 ranges-wanted given entry reads behind listed need pieces fetched addr len judged needs is shows wanted =
-    ap (λ (o : Outcome (List ℕ)). outlined given.namespace (planned (regions_of given) (made_of o (λ bytes. judge_ranges (blocks_in given.namespace) DatasetManagement entry pieces (ranges_in (range_count_of entry) bytes))))) (sym wanted)
+    ap (λ (o : Outcome (List ℕ)). outlined given.namespace entry (planned (regions_of given) (made_of o (λ bytes. judge_ranges (blocks_in given.namespace) DatasetManagement entry pieces (ranges_in (range_count_of entry) bytes))))) (sym wanted)
     ∙ list-manages given entry reads behind listed need pieces fetched judged needs is shows
 
 -- all of them were fetched
@@ -247,14 +323,14 @@ pub ranges-fetched : (given : Guest) (entry : List ℕ) (reads behind : List Rea
     → IsJudgedAs listed behind (list_of (data_pointer (psdt_of entry)) (regions_of given) given.limit need entry) reads entry
     → need ≡ need_of entry DatasetManagement → listed ≡ Settled (Ok pieces) → IsFetched fetched pieces behind
     → fetched ≡ Settled bytes → length bytes ≡ need.bytes
-    → outline ≡ outline_of given.namespace (plan_of (regions_of given) (judge_ranges (blocks_in given.namespace) DatasetManagement entry pieces (ranges_in (length bytes / 16) bytes)))
-    → Ended outline ≡ outlined given.namespace (plan_of_list given DatasetManagement entry reads)
+    → outline ≡ outline_of given.namespace entry (plan_of (regions_of given) (judge_ranges (blocks_in given.namespace) DatasetManagement entry pieces (ranges_in (length bytes / 16) bytes)))
+    → Ended outline ≡ outlined given.namespace entry (plan_of_list given DatasetManagement entry reads)
 ranges-fetched given entry reads behind listed need pieces fetched bytes outline judged needs is shows came whole says =
     let many = (ranges-some entry need needs).0 in
     let count : length bytes / 16 ≡ range_count_of entry = omega arith in
     ap Ended says
-    ∙ ap (λ (n : ℕ). Ended (outline_of given.namespace (plan_of (regions_of given) (judge_ranges (blocks_in given.namespace) DatasetManagement entry pieces (ranges_in n bytes))))) count
-    ∙ ap (λ (o : Outcome (List ℕ)). outlined given.namespace (planned (regions_of given) (made_of o (λ b. judge_ranges (blocks_in given.namespace) DatasetManagement entry pieces (ranges_in (range_count_of entry) b))))) (sym came)
+    ∙ ap (λ (n : ℕ). Ended (outline_of given.namespace entry (plan_of (regions_of given) (judge_ranges (blocks_in given.namespace) DatasetManagement entry pieces (ranges_in n bytes))))) count
+    ∙ ap (λ (o : Outcome (List ℕ)). outlined given.namespace entry (planned (regions_of given) (made_of o (λ b. judge_ranges (blocks_in given.namespace) DatasetManagement entry pieces (ranges_in (range_count_of entry) b))))) (sym came)
     ∙ list-manages given entry reads behind listed need pieces fetched judged needs is shows
 
 -- as many as were asked for
@@ -265,21 +341,30 @@ fetched-len fetched n bytes has came = subst (λ (o : Outcome (List ℕ)). HasLe
 -- what one says whose ranges are refused
 pub ranged-refused : (ns : Namespace) (regions : List Region) (entry : List ℕ) (pieces : List Piece) (bytes : List ℕ) (st : StatusField)
     → ranges_verdict (blocks_in ns) bytes ≡ Err st
-    → record { kind = kind.Answer st; places = []; ranges = [] }
-    ≡ outline_of ns (plan_of regions (judge_ranges (blocks_in ns) DatasetManagement entry pieces (ranges_in (length bytes / 16) bytes)))
+    → told (kind.Answer st) []
+    ≡ outline_of ns entry (plan_of regions (judge_ranges (blocks_in ns) DatasetManagement entry pieces (ranges_in (length bytes / 16) bytes)))
 ranged-refused ns regions entry pieces bytes st refused =
     let leave = ranges-leave (blocks_in ns) bytes st refused in
-    sym (ap (λ (v : Verdict). outline_of ns (plan_of regions v)) (judge_ranges-refused (blocks_in ns) DatasetManagement entry pieces (ranges_in (length bytes / 16) bytes) leave.0 ∙ ap Refuse (sym leave.1)))
+    sym (ap (λ (v : Verdict). outline_of ns entry (plan_of regions v)) (judge_ranges-refused (blocks_in ns) DatasetManagement entry pieces (ranges_in (length bytes / 16) bytes) leave.0 ∙ ap Refuse (sym leave.1)))
+
+met-portions : (ns : Namespace) (plan : Plan) (work : Work) (ats : List (ℕ × Placed))
+    → ((p : ℕ × Placed) → portion_of ns (range_share plan work p.0 p.1) ≡ portion_met ns work.ranges p.0 p.1)
+    → map (portion_of ns) (map (λ (p : ℕ × Placed). range_share plan work p.0 p.1) ats) ≡ map (λ (p : ℕ × Placed). portion_met ns work.ranges p.0 p.1) ats
+met-portions ns plan work [] each = refl
+met-portions ns plan work (p ∷ rest) each =
+    ap (λ (q : Portion). q ∷ map (portion_of ns) (map (λ (x : ℕ × Placed). range_share plan work x.0 x.1) rest)) (each p)
+    ∙ ap (λ (qs : List Portion). portion_met ns work.ranges p.0 p.1 ∷ qs) (met-portions ns plan work rest each)
 
 -- and one whose ranges all fit
-pub ranged-fits : (ns : Namespace) (regions : List Region) (entry : List ℕ) (pieces : List Piece) (bytes : List ℕ) (ranges : List (List ℕ))
+pub ranged-fits : (ns : Namespace) (regions : List Region) (entry : List ℕ) (pieces : List Piece) (bytes : List ℕ)
     → list_all (range_fits (blocks_in ns)) (ranges_in (length bytes / 16) bytes) ≡ true
-    → ranges ≡ map (translated_range ns) (ranges_in (length bytes / 16) bytes)
-    → record { kind = kind.Bounced; places = pieces; ranges = ranges }
-    ≡ outline_of ns (plan_of regions (judge_ranges (blocks_in ns) DatasetManagement entry pieces (ranges_in (length bytes / 16) bytes)))
-ranged-fits ns regions entry pieces bytes ranges fit are =
-    ap (λ (rs : List (List ℕ)). record { kind = kind.Bounced; places = pieces; ranges = rs }) are
-    ∙ sym (ap (λ (v : Verdict). outline_of ns (plan_of regions v)) (judge_ranges-fits (blocks_in ns) DatasetManagement entry pieces (ranges_in (length bytes / 16) bytes) fit))
+    → told kind.Bounced (portions_from ns (ranges_in (length bytes / 16) bytes) 0 (placed 0 ns))
+    ≡ outline_of ns entry (plan_of regions (judge_ranges (blocks_in ns) DatasetManagement entry pieces (ranges_in (length bytes / 16) bytes)))
+ranged-fits ns regions entry pieces bytes fit =
+    let work : Work = work_of (blocks_in ns) DatasetManagement entry pieces (ranges_in (length bytes / 16) bytes) in
+    ap (told kind.Bounced)
+    (sym (met-portions ns (Bounced work) work (enumerate_from 0 (placed 0 ns)) (λ p. refl)))
+    ∙ sym (ap (λ (v : Verdict). outline_of ns entry (plan_of regions v)) (judge_ranges-fits (blocks_in ns) DatasetManagement entry pieces (ranges_in (length bytes / 16) bytes) fit))
 
 -- ---- the whole
 
@@ -294,13 +379,13 @@ pub transfer-buffer : (opcode : IoOpcode) (dest : Bool) → form_of opcode ≡ T
 transfer-buffer opcode dest form = ap form_has_buffer form
 
 -- what is wanted is what the definition wants
-pub outlined-wanted : (ns : Namespace) (outcome : Come Plan) (addr len : ℕ) → Asked addr len ≡ outlined ns outcome
+pub outlined-wanted : (ns : Namespace) (entry : List ℕ) (outcome : Come Plan) (addr len : ℕ) → Asked addr len ≡ outlined ns entry outcome
     → outcome ≡ Asked addr len
-outlined-wanted ns (Asked at n) addr len e = (cc)
-outlined-wanted ns (Ended plan) addr len e = (cc)
+outlined-wanted ns entry (Asked at n) addr len e = (cc)
+outlined-wanted ns entry (Ended plan) addr len e = (cc)
 
 -- and what is settled says what the definition's plan says
-pub outlined-settled : (ns : Namespace) (outcome : Come Plan) (outline : Outline) → Ended outline ≡ outlined ns outcome
-    → (plan : Plan) × ((outcome ≡ Ended plan) × (outline ≡ outline_of ns plan))
-outlined-settled ns (Asked at n) outline e = (cc)
-outlined-settled ns (Ended plan) outline e = (plan, (refl, (cc)))
+pub outlined-settled : (ns : Namespace) (entry : List ℕ) (outcome : Come Plan) (outline : Outline) → Ended outline ≡ outlined ns entry outcome
+    → (plan : Plan) × ((outcome ≡ Ended plan) × (outline ≡ outline_of ns entry plan))
+outlined-settled ns entry (Asked at n) outline e = (cc)
+outlined-settled ns entry (Ended plan) outline e = (plan, (refl, (cc)))

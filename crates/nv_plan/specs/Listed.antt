@@ -1,5 +1,5 @@
 -- Words of private functions: what is read of a command's list from a transcript, and what is judged of it.
-use Rattle.std.specs.Prelude.{◌≡◌, ℕ, List, [], length, Result, Ok, Err}
+use Rattle.std.specs.Prelude.{◌≡◌, ℕ, All, List, [], length, Result, Ok, Err}
 use Rattle.std.specs.Bool.{⊤}
 use Rattle.nv_entry.specs.Status.{StatusField}
 use Rattle.nv_entry.specs.declared.data_pointer.DataPointer.{DataPointer}
@@ -13,6 +13,7 @@ use Rattle.nv_model.specs.Judge.{Refuse, Verdict, judge_reading, read_by, read_s
 use Rattle.nv_model.specs.Reading.{Reading, Spells}
 use Rattle.nv_model.specs.Transcript.{Outcome as Come, ReadDone, Settled as Ended, Wanted as Asked, in_transcript}
 use Rattle.nv_model.proofs.ListsFed.{AreSpelled}
+use Rattle.nv_plan.specs.Parts.{HasBytes}
 use Rattle.nv_plan.specs.declared.outcome.Outcome.{Outcome}
 use Rattle.nv_plan.specs.declared.outcome.Outcome.TheVariants.{Wanted, Settled}
 
@@ -37,11 +38,11 @@ abbrev pub IsJudgedAs : Outcome (Result (List Piece) StatusField) → (behind : 
 IsJudgedAs listed behind list reads entry =
     (blocks : ℕ) (opcode : IoOpcode) → judged_list listed behind blocks entry opcode ≡ verdict_over list reads blocks entry opcode
 
--- places that were spelled are mapped, of the transfer's length, and runs where it is a source
+-- places that were spelled are mapped, of the transfer's length, and runs where it is a source; each has bytes
 abbrev pub IsSpelled : Outcome (Result (List Piece) StatusField) → List Region → Need → Type 0
 IsSpelled (Wanted addr len) regions need = ⊤
 IsSpelled (Settled (Err st)) regions need = ⊤
-IsSpelled (Settled (Ok pieces)) regions need = AreSpelled (mapped regions) need.dest need.bytes pieces
+IsSpelled (Settled (Ok pieces)) regions need = AreSpelled (mapped regions) need.dest need.bytes pieces × All HasBytes pieces
 
 -- ---- the bytes of a source
 

@@ -15,5 +15,5 @@ abbrev pub IsPlanned : Planned → Job → Guest → Type 0
 IsPlanned (planned.Need back addr len) job given = (back ≡ job) × (outcome_of given job ≡ Wanted addr len)
 IsPlanned (planned.Plan made) job given =
     (plan : Plan) × ((outcome_of given job ≡ Settled plan)
-    × (made ≡ record { job = job; given = given; outline = outline_of given.namespace plan }))
+    × (made ≡ record { job = job; given = given; outline = outline_of given.namespace job.sqe plan }))
 IsPlanned (planned.NoMemory back) job given = back ≡ job

@@ -1,25 +1,27 @@
 //! What a plan comes to, as functions that do nothing: each contract is a law.
 
-ghost use Rattle.std.specs.Prelude.{◌≡◌, ℕ, ◌%◌, Bool, true, false, IsTrue, List, [], ◌++◌, All, Some, length, map};
+ghost use Rattle.std.specs.Prelude.{◌≡◌, ℕ, ◌*◌, ◌^◌, ◌<◌, ◌≤◌, ◌%◌, Bool, true, false, IsTrue, List, [], ◌++◌, All, Some, length};
 ghost use Rattle.std.specs.List.{list_all};
-ghost use Rattle.nv_entry.specs.Opcode.{io_opcode};
+ghost use Rattle.nv_entry.specs.Range.{blocks_of};
 ghost use Rattle.nv_entry.specs.Status.{StatusField};
-ghost use Rattle.nv_entry.specs.Submission.{opcode_of};
-ghost use Rattle.nv_entry.specs.declared.opcode.IoOpcode.{IoOpcode};
 ghost use Rattle.nv_mem.specs.GuestMap.{mapped};
-ghost use Rattle.nv_mem.specs.Places.{total_len};
-ghost use Rattle.nv_model.specs.Judge.{Transfer, form_of, range_fits, transfer_len};
+ghost use Rattle.nv_mem.specs.Places.{places_of, total_len};
+ghost use Rattle.nv_model.specs.Judge.{Manage, Transfer, Work, form_of, range_fits};
 ghost use Rattle.nv_model.specs.Laws.{IsMappedPiece};
-ghost use Rattle.nv_model.specs.Limits.{page};
+ghost use Rattle.nv_model.specs.Limits.{block, most_bytes, page, range_size};
 ghost use Rattle.nv_model.specs.Transcript.{ReadDone};
+ghost use Rattle.nv_model.proofs.RunPieces.{IsRunPiece};
 ghost use Rattle.nv_ns.specs.Extents.{blocks_in, is_namespace};
 ghost use Rattle.nv_prp.specs.Built.{HoldsList, SpellsAddresses, built, reading_of};
 ghost use Rattle.nv_prp.specs.Fits.{host_addresses, places_fit};
-ghost use Rattle.nv_world_model.specs.Area.{translated_range};
 ghost use Rattle.nv_world_model.specs.Geometry.{regions_of};
+ghost use Rattle.nv_world_model.specs.Plan.{Answer, Bounced, Direct};
+ghost use Rattle.nv_world_model.specs.Seat.{work_of};
+ghost use Rattle.nv_world_model.specs.Share.{Share, tags_of_entry};
 ghost use Rattle.nv_plan.specs.Laws.{LiesIn};
-ghost use Rattle.nv_plan.specs.Made.{IsJobsPlan, MadePlan};
-ghost use Rattle.nv_plan.specs.declared.kind.PlanKind.TheVariants as kind;
+ghost use Rattle.nv_plan.specs.Made.{IsJobsPlan, MadePlan, plan_made, share_made, shares_made};
+ghost use Rattle.nv_plan.specs.Outline.{kind_of};
+ghost use Rattle.nv_plan.specs.Parts.{len_in, places_in, ranges_of};
 
 /// A plan follows from the command, what was read of its lists and what the guest was given, alone; and what is read then changes
 /// nothing.
@@ -30,38 +32,63 @@ pub fn a_plan_follows_from_its_job()
         p.job.sqe ≡ q.job.sqe → p.job.reads ++ more ≡ q.job.reads → p.given ≡ q.given → p.outline ≡ q.outline }
 {}
 
-/// The places of a plan are mapped, and where it has a transfer they are as long. Where it moves no data or answers there are none.
-pub fn places_are_mapped_and_as_long_as_the_transfer()
-    ensures mapped { (p : MadePlan) → IsJobsPlan p → All (IsMappedPiece (mapped (regions_of p.given))) p.outline.places }
-    ensures direct { (p : MadePlan) (opcode : IoOpcode) → IsJobsPlan p → io_opcode (opcode_of p.job.sqe) ≡ Some opcode →
-        p.outline.kind ≡ kind.Direct → total_len p.outline.places ≡ transfer_len opcode p.job.sqe }
-    ensures bounced { (p : MadePlan) (opcode : IoOpcode) → IsJobsPlan p → io_opcode (opcode_of p.job.sqe) ≡ Some opcode →
-        p.outline.kind ≡ kind.Bounced → total_len p.outline.places ≡ transfer_len opcode p.job.sqe }
-    ensures no_data { (p : MadePlan) → IsJobsPlan p → p.outline.kind ≡ kind.NoData → p.outline.places ≡ [] }
-    ensures answer { (p : MadePlan) (st : StatusField) → IsJobsPlan p → p.outline.kind ≡ kind.Answer st → p.outline.places ≡ [] }
+/// What is done with each part is what is done with the whole.
+pub fn each_part_is_of_the_plans_kind()
+    ensures whole { (p : MadePlan) → IsJobsPlan p → p.outline.kind ≡ kind_of (plan_made p) }
+    ensures part { (p : MadePlan) (part : ℕ) (share : Share) → share_made part p ≡ Some share → kind_of share.plan ≡ kind_of (plan_made p) }
+    ensures of_whole { (p : MadePlan) (part : ℕ) (share : Share) → share_made part p ≡ Some share → share.whole ≡ plan_made p }
 {}
 
-/// A transfer of blocks is direct exactly where its host addresses fit PRP. Each of its bytes has one then, and what is built for them
-/// spells exactly these.
+/// A command that goes has a part for each tag that it takes; one that is answered has none.
+pub fn a_part_for_each_tag()
+    ensures tags { (p : MadePlan) (work : Work) → IsJobsPlan p → work_of (plan_made p) ≡ Some work →
+        length (shares_made p) ≡ tags_of_entry p.given.namespace p.job.sqe }
+    ensures answer { (p : MadePlan) (st : StatusField) → plan_made p ≡ Answer st → shares_made p ≡ [] }
+    ensures most { (p : MadePlan) → IsJobsPlan p → IsTrue (is_namespace p.given.namespace) → length (shares_made p) ≤ 8 }
+{}
+
+/// The places of a part are mapped, and name its bytes in their order; those of a source are runs. A part of a transfer of blocks has as
+/// many bytes as its blocks, one at least, and a part of a Dataset Management as many as its ranges take up; neither has more than a
+/// transfer may have.
+pub fn places_are_mapped_and_as_long_as_the_transfer()
+    ensures mapped { (p : MadePlan) (part : ℕ) (share : Share) → IsJobsPlan p → share_made part p ≡ Some share →
+        All (IsMappedPiece (mapped (regions_of p.given))) (places_in share.plan) }
+    ensures source { (p : MadePlan) (part : ℕ) (share : Share) (work : Work) → IsJobsPlan p → share_made part p ≡ Some share →
+        work_of share.plan ≡ Some work → form_of work.opcode ≡ Transfer false → All IsRunPiece (places_in share.plan) }
+    ensures places { (p : MadePlan) (part : ℕ) (share : Share) (work : Work) (dest : Bool) → IsJobsPlan p → share_made part p ≡ Some share →
+        work_of share.plan ≡ Some work → form_of work.opcode ≡ Transfer dest → places_of (places_in share.plan) ≡ places_of work.pieces }
+    ensures blocks { (p : MadePlan) (part : ℕ) (share : Share) (work : Work) (dest : Bool) → IsJobsPlan p → share_made part p ≡ Some share →
+        work_of share.plan ≡ Some work → form_of work.opcode ≡ Transfer dest →
+        (total_len work.pieces ≡ block * length work.units) × (0 < total_len work.pieces) }
+    ensures ranges { (p : MadePlan) (part : ℕ) (share : Share) (work : Work) → IsJobsPlan p → share_made part p ≡ Some share →
+        work_of share.plan ≡ Some work → form_of work.opcode ≡ Manage → total_len work.pieces ≡ range_size * length work.ranges }
+    ensures most { (p : MadePlan) (part : ℕ) (share : Share) → IsJobsPlan p → share_made part p ≡ Some share → len_in share.plan ≤ most_bytes }
+{}
+
+/// A transfer of blocks is direct exactly where its host addresses fit PRP. Those of each part fit then, too: each of its bytes has one, and
+/// what is built for them spells exactly these.
 pub fn direct_addresses_fit_and_spell_the_image()
-    ensures fit { (p : MadePlan) → IsJobsPlan p → p.outline.kind ≡ kind.Direct → places_fit (regions_of p.given) p.outline.places ≡ true }
-    ensures bounced { (p : MadePlan) (opcode : IoOpcode) (dest : Bool) → IsJobsPlan p →
-        io_opcode (opcode_of p.job.sqe) ≡ Some opcode → form_of opcode ≡ Transfer dest →
-        p.outline.kind ≡ kind.Bounced → places_fit (regions_of p.given) p.outline.places ≡ false }
-    ensures addresses { (p : MadePlan) → IsJobsPlan p → p.outline.kind ≡ kind.Direct →
-        length (host_addresses (regions_of p.given) p.outline.places) ≡ total_len p.outline.places }
-    ensures spelled { (p : MadePlan) (memory : ℕ → ℕ) (list_page : ℕ) → IsJobsPlan p → p.outline.kind ≡ kind.Direct →
-        let addresses = host_addresses (regions_of p.given) p.outline.places in
+    ensures fit { (p : MadePlan) (part : ℕ) (share : Share) (work : Work) → IsJobsPlan p → share_made part p ≡ Some share →
+        share.plan ≡ Direct work → places_fit (regions_of p.given) (places_in share.plan) ≡ true }
+    ensures bounced { (p : MadePlan) (work : Work) (dest : Bool) → IsJobsPlan p → plan_made p ≡ Bounced work →
+        form_of work.opcode ≡ Transfer dest → places_fit (regions_of p.given) work.pieces ≡ false }
+    ensures addresses { (p : MadePlan) (part : ℕ) (share : Share) (work : Work) → IsJobsPlan p → share_made part p ≡ Some share →
+        share.plan ≡ Direct work → length (host_addresses (regions_of p.given) (places_in share.plan)) ≡ total_len work.pieces }
+    ensures spelled { (p : MadePlan) (part : ℕ) (share : Share) (work : Work) (memory : ℕ → ℕ) (list_page : ℕ) →
+        IsJobsPlan p → share_made part p ≡ Some share → share.plan ≡ Direct work →
+        let addresses = host_addresses (regions_of p.given) (places_in share.plan) in
         list_page % page ≡ 0 → HoldsList memory list_page (built list_page addresses) →
         SpellsAddresses addresses (reading_of memory (built list_page addresses) (length addresses)) }
 {}
 
-/// The ranges of a plan are ranges that lie in the guest's namespace, translated; so they lie in its blocks on the disk, where that is one
-/// extent, and a range outside of it is never in a plan.
+/// The ranges of a plan lie in the guest's namespace. So on the disk each range of a part lies in one extent, where their lengths are
+/// numbers of 32 bits, as those of bytes are, or the namespace is one extent: a range outside of it is never in a plan.
 pub fn ranges_lie_in_the_namespace()
-    ensures translated { (p : MadePlan) → IsJobsPlan p →
-        (ranges : List (List ℕ)) × ((list_all (range_fits (blocks_in p.given.namespace)) ranges ≡ true)
-        × (p.outline.ranges ≡ map (translated_range p.given.namespace) ranges)) }
-    ensures inside { (p : MadePlan) → IsJobsPlan p → IsTrue (is_namespace p.given.namespace) → length p.given.namespace ≡ 1 →
-        All (LiesIn p.given.namespace) p.outline.ranges }
+    ensures fit { (p : MadePlan) (work : Work) → IsJobsPlan p → work_of (plan_made p) ≡ Some work →
+        list_all (range_fits (blocks_in p.given.namespace)) work.ranges ≡ true }
+    ensures inside { (p : MadePlan) (part : ℕ) (share : Share) → IsJobsPlan p → IsTrue (is_namespace p.given.namespace) →
+        length p.given.namespace ≡ 1 → share_made part p ≡ Some share → All (LiesIn p.given.namespace) (ranges_of p.given.namespace share.plan) }
+    ensures apart { (p : MadePlan) (part : ℕ) (share : Share) (work : Work) → IsJobsPlan p → IsTrue (is_namespace p.given.namespace) →
+        share_made part p ≡ Some share → work_of (plan_made p) ≡ Some work → All (λ range. blocks_of range < 2 ^ 32) work.ranges →
+        All (LiesIn p.given.namespace) (ranges_of p.given.namespace share.plan) }
 {}

@@ -6,17 +6,21 @@
 //! - A [`Plan`] carries its job, the guest's map and namespace and the limit on descriptors, and its type keeps that it is what the
 //!   definition says of these. So a plan may be made anywhere, without a lock, and whoever takes it compares these four with what
 //!   stands now, and need not know who made it.
-//! - [`laws`] states what the definition comes to: a plan follows from its job and what the guest was given; its places are mapped and
-//!   as long as the transfer; what is direct can be named by PRP, and spells exactly those addresses; and the ranges of a plan lie in
-//!   the guest's namespace.
+//! - A plan is one physical command for each share of it. [`Plan::parts`] says how many, and of each part the plan tells its places,
+//!   its ranges, how many bytes it transfers and its blocks on the disk. [`tags_wanted`] says how many a command is before it is planned.
+//! - [`laws`] states what the definition comes to: a plan follows from its job and what the guest was given; the places of a part are
+//!   mapped and as long as its transfer; what is direct can be named by PRP, and spells exactly those addresses; and the ranges of a
+//!   plan lie in the guest's namespace.
 //!
 //! What is read of an SGL lives in an allocator of the caller's choice, and a plan in `Global`; where memory is refused, the job comes
-//! back as it was. A list is gone through once, and so is the transcript. A transfer through one descriptor takes three blocks of
-//! memory: for the descriptor, the places and the copy of the map. Each array of descriptors takes two more, and a Dataset Management
-//! two, for its bytes and its ranges.
+//! back as it was. A list is gone through once, and so is the transcript; once more for each part, where there are several. A transfer
+//! in one part through one descriptor takes three blocks of memory: for the descriptor, the places and the copy of the map. Each array
+//! of descriptors takes two more, and a Dataset Management two, for its bytes and its ranges. Of several parts each takes memory for its
+//! own places or ranges, and all but the first one block.
 #![tactic(auto)]
 
 mod copies;
+mod cutting;
 mod given;
 mod job;
 mod kind;
@@ -27,7 +31,10 @@ mod outline;
 mod plan;
 mod planned;
 mod planning;
+mod portion;
+mod portions;
 mod ranges;
+mod tags;
 mod transcript;
 
 pub use job::Job;
@@ -35,4 +42,5 @@ pub use kind::PlanKind;
 pub use plan::Plan;
 pub use planned::Planned;
 pub use planning::make_plan;
+pub use tags::tags_wanted;
 pub use transcript::{ReadDone, Transcript};

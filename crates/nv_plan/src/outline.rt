@@ -1,20 +1,19 @@
 //! What a plan says.
 
-ghost use Rattle.std.specs.Prelude.{◌≡◌, []};
+ghost use Rattle.std.specs.Prelude.{◌≡◌, ◌<◌, [], ◌∷◌, Some, length, slice_get};
 ghost use Rattle.nv_plan.specs.declared.kind.PlanKind.TheVariants as kind;
 
 use crate::kind::PlanKind;
-use nv_entry::{Range, Status};
-use nv_mem::Places;
-use std::alloc::Global;
+use crate::portion::Portion;
+use crate::portions::Portions;
+use nv_entry::Status;
 use std::marker::Model;
 
-/// What is done with a command, where its bytes lie, and its ranges as the disk has them.
+/// What is done with a command, and what each of its physical commands has of it.
 #[derive(Debug, Drop)]
 pub(crate) struct Outline {
     kind: PlanKind,
-    places: Places,
-    ranges: Vec<Range>,
+    portions: Portions,
 }
 
 impl Model for Outline {
@@ -22,44 +21,22 @@ impl Model for Outline {
 
     ghost Value = { Outline };
 
-    ghost view = { λ o. record { kind = o.kind; places = o.places; ranges = o.ranges.items } };
+    ghost view = { λ o. record { kind = o.kind; portions = o.portions } };
 }
 
 impl Outline {
     /// The command ends with this status.
-    pub(crate) fn answer(alloc: Global, status: Status) -> Self
-        ensures { result ≡ record { kind = kind.Answer status; places = []; ranges = [] } }
+    pub(crate) fn answer(status: Status) -> Self
+        ensures { result ≡ record { kind = kind.Answer status; portions = [] } }
     {
-        Outline::transfer(alloc, PlanKind::Answer(status), Places::new(alloc))
+        Outline::new(PlanKind::Answer(status), Portions::none())
     }
 
-    /// A physical command that moves no bytes to or from memory.
-    pub(crate) fn no_data(alloc: Global) -> Self
-        ensures { result ≡ record { kind = kind.NoData; places = []; ranges = [] } }
+    /// A command of that kind with these portions.
+    pub(crate) fn new(kind: PlanKind, portions: Portions) -> Self
+        ensures { result ≡ record { kind = kind; portions = portions } }
     {
-        Outline::transfer(alloc, PlanKind::NoData, Places::new(alloc))
-    }
-
-    /// A command of that kind with these places and no ranges.
-    pub(crate) fn transfer(alloc: Global, kind: PlanKind, places: Places) -> Self
-        ensures { result ≡ record { kind = kind; places = places; ranges = [] } }
-    {
-        Outline {
-            kind,
-            places,
-            ranges: Vec::new(alloc),
-        }
-    }
-
-    /// A Dataset Management whose ranges lie at these places, and are these on the disk.
-    pub(crate) fn ranged(places: Places, ranges: Vec<Range>) -> Self
-        ensures { result ≡ record { kind = kind.Bounced; places = places; ranges = ranges.items } }
-    {
-        Outline {
-            kind: PlanKind::Bounced,
-            places,
-            ranges,
-        }
+        Outline { kind, portions }
     }
 
     /// What is done.
@@ -69,17 +46,18 @@ impl Outline {
         self.kind
     }
 
-    /// Where its bytes lie.
-    pub(crate) fn places(&self) -> &Places
-        ensures { result.now ≡ self.now.places }
+    /// How many physical commands there are.
+    pub(crate) fn len(&self) -> usize
+        ensures { result ≡ length self.now.portions }
     {
-        &self.places
+        self.portions.len()
     }
 
-    /// Its ranges.
-    pub(crate) fn ranges(&self) -> &[Range]
-        ensures { result.now ≡ self.now.ranges }
+    /// What the physical command of this number has, from 0.
+    pub(crate) fn portion(&self, part: usize) -> &Portion
+        requires { part < length self.now.portions }
+        ensures { slice_get self.now.portions part ≡ Some result.now }
     {
-        &self.ranges
+        self.portions.get(part)
     }
 }

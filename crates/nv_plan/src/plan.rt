@@ -1,14 +1,27 @@
 //! A plan: what is done with a command, and what that was made of.
 
-ghost use Rattle.std.specs.Prelude.{◌≡◌};
-ghost use Rattle.nv_plan.specs.Made.{IsJobsPlan};
+ghost use Rattle.std.specs.Prelude.{◌≡◌, ◌<◌, ◌≤◌, ◌^◌, Some, length, true};
+ghost use Rattle.nv_entry.specs.Opcode.{io_opcode};
+ghost use Rattle.nv_entry.specs.Submission.{opcode_of};
+ghost use Rattle.nv_entry.specs.declared.opcode.IoOpcode.{IoOpcode};
+ghost use Rattle.nv_model.specs.Judge.{Work, has_blocks};
+ghost use Rattle.nv_model.specs.Limits.{most_bytes};
+ghost use Rattle.nv_ns.specs.Extents.{place_in};
+ghost use Rattle.nv_plan.specs.Made.{IsJobsPlan, plan_made, share_made, shares_made};
+ghost use Rattle.nv_plan.specs.Outline.{kind_of};
+ghost use Rattle.nv_plan.specs.Parts.{len_in, places_in, ranges_of};
+ghost use Rattle.nv_world_model.specs.Seat.{work_of};
+ghost use Rattle.nv_world_model.specs.Share.{Share};
+ghost use Rattle.nv_world_model.specs.ShareArea.{first_lba};
 
 use crate::job::Job;
 use crate::kind::PlanKind;
 use crate::outline::Outline;
-use nv_entry::Range;
-use nv_mem::{GuestMap, Places};
-use nv_ns::VirtualNs;
+use crate::tags::parts_of;
+use nv_entry::{IoOpcode, Range};
+use nv_mem::{GuestMap, Piece};
+use nv_model::limits::{BLOCK_SIZE, RANGE_SIZE};
+use nv_ns::{Part, VirtualNs};
 use std::marker::Model;
 
 /// What is done with a command. A plan carries its job, the guest's map and namespace and the limit on descriptors that it was made
@@ -83,26 +96,75 @@ impl Plan {
     /// What is done with the command.
     pub fn kind(&self) -> PlanKind
         ensures value { result ≡ self.now.outline.kind }
+        ensures made { result ≡ kind_of (plan_made self.now) }
         ensures is_plan { IsJobsPlan self.now }
     {
         self.outline.kind()
     }
 
-    /// Where the command's bytes lie in the guest's memory, as its list named them. There are none where it moves no data or
-    /// is answered.
-    pub fn places(&self) -> &Places
-        ensures value { result.now ≡ self.now.outline.places }
+    /// How many physical commands the command is: one for each share of its plan, and none where it is answered.
+    pub fn parts(&self) -> u8
+        ensures value { result ≡ length (shares_made self.now) }
+        ensures most { result ≤ 8 }
         ensures is_plan { IsJobsPlan self.now }
     {
-        self.outline.places()
+        // A namespace has at most eight extents.
+        let _extents = self.ns.len();
+        self.outline.len() as u8
     }
 
-    /// The ranges of a Dataset Management as the disk has them, in order: attributes 0, the guest's length, and the disk's
-    /// starting block. Other commands have none.
-    pub fn ranges(&self) -> &[Range]
-        ensures value { result.now ≡ self.now.outline.ranges }
+    /// Where the bytes of a part of a Read, Write or Compare lie in the guest's memory, as its list named them, in pieces that have bytes.
+    /// Other commands have none.
+    pub fn part_places(&self, part: u8) -> &[Piece]
+        requires { part < length (shares_made self.now) }
+        ensures value { (share : Share) → share_made part self.now ≡ Some share → result.now ≡ places_in share.plan }
         ensures is_plan { IsJobsPlan self.now }
     {
-        self.outline.ranges()
+        self.outline.portion(usize::from(part)).places()
+    }
+
+    /// The ranges of a part of a Dataset Management as the disk has them, in order: attributes 0, the length, and the disk's starting
+    /// block. Other commands have none.
+    pub fn part_ranges(&self, part: u8) -> &[Range]
+        requires { part < length (shares_made self.now) }
+        ensures value { (share : Share) → share_made part self.now ≡ Some share →
+            result.now ≡ ranges_of self.now.given.namespace share.plan }
+        ensures is_plan { IsJobsPlan self.now }
+    {
+        self.outline.portion(usize::from(part)).ranges()
+    }
+
+    /// How many bytes a part transfers.
+    pub fn part_len(&self, part: u8) -> u64
+        requires { part < length (shares_made self.now) }
+        ensures value { (share : Share) → share_made part self.now ≡ Some share → result ≡ len_in share.plan }
+        ensures most { result ≤ most_bytes }
+        ensures is_plan { IsJobsPlan self.now }
+    {
+        let Some(opcode) = self.job.sqe.io_opcode() else {
+            unreachable!()
+        };
+        match opcode {
+            IoOpcode::Read | IoOpcode::Write | IoOpcode::Compare => {
+                BLOCK_SIZE as u64 * self.part_blocks(part).count()
+            }
+            IoOpcode::DatasetManagement => RANGE_SIZE as u64 * self.part_ranges(part).len() as u64,
+            IoOpcode::Flush | IoOpcode::WriteZeroes => 0,
+        }
+    }
+
+    /// The blocks of a part on the disk, of a Read, Write, Compare or Write Zeroes.
+    pub fn part_blocks(&self, part: u8) -> Part
+        requires part { part < length (shares_made self.now) }
+        requires blocks { (opcode : IoOpcode) → io_opcode (opcode_of self.now.job.sqe) ≡ Some opcode → has_blocks opcode ≡ true }
+        ensures value { (share : Share) (work : Work) → share_made part self.now ≡ Some share → work_of share.plan ≡ Some work →
+            (result.start ≡ place_in self.now.given.namespace (first_lba work.units)) × (result.count ≡ length work.units) }
+        ensures most { result.count ≤ 2 ^ 16 }
+        ensures is_plan { IsJobsPlan self.now }
+    {
+        match parts_of(&self.job.sqe, &self.ns).get(usize::from(part)) {
+            Some(part) => part,
+            None => unreachable!(),
+        }
     }
 }

@@ -1,24 +1,28 @@
 //! The ranges of a Dataset Management: their bytes, and where they lie on the disk.
 
-ghost use Rattle.std.specs.Prelude.{◌≡◌, ◌+◌, ◌%◌, ◌/◌, ◌≤◌, ◌==◌, ◌++◌, if◌then◌else◌, All, IfOk, List, ℕ, [], length, map, true};
-ghost use Rattle.std.specs.List.{list_all};
+ghost use Rattle.std.specs.Prelude.{◌≡◌, ◌≤◌, ◌/◌, ◌++◌, All, IfOk, ℕ, Some, length, map, slice_get, true};
+ghost use Rattle.std.specs.List.{enumerate_from, list_all};
+ghost use Rattle.std.specs.Option.{option_map};
 ghost use Rattle.nv_entry.specs.Layout.{number_bytes};
 ghost use Rattle.nv_mem.specs.Places.{total_len};
 ghost use Rattle.nv_model.specs.Judge.{range_fits, ranges_in};
 ghost use Rattle.nv_model.specs.Limits.{part_size, range_size};
 ghost use Rattle.nv_model.proofs.RunPieces.{IsRunPiece};
-ghost use Rattle.nv_ns.specs.BlockRange.{in_namespace};
-ghost use Rattle.nv_ns.specs.Extents.{blocks_in, place_in};
+ghost use Rattle.nv_ns.specs.Extents.{Placed, blocks_in, placed};
 ghost use Rattle.nv_plan.specs.Listed.{HasLen, IsFetched};
-ghost use Rattle.nv_world_model.specs.Area.{first_base, translated_range};
+ghost use Rattle.nv_plan.specs.Told.{portion_met, standing};
+ghost use Rattle.nv_world_model.specs.Area.{translated_range};
+ghost use Rattle.nv_world_model.specs.Share.{range_in, ranges_met};
 
 use crate::outcome::Outcome;
+use crate::portion::Portion;
+use crate::portions::Portions;
 use crate::transcript::ReadsLeft;
 use byteorder::{ByteOrder, LittleEndian};
 use nv_entry::Range;
 use nv_mem::{Bytes, NoMemory, Piece, Places};
 use nv_model::limits::RANGE_SIZE;
-use nv_ns::VirtualNs;
+use nv_ns::{Extent, Part, VirtualNs};
 use std::alloc::Global;
 
 /// The bytes of a source of `len` bytes, as the transcript shows them, run by run. The reads that it wants are taken.
@@ -48,48 +52,88 @@ pub(crate) fn fetch(
     Ok(Outcome::Settled(fetched))
 }
 
-/// The ranges in these bytes, as the disk has them. Each lies in the namespace.
-pub(crate) fn translated(
+/// An extent as it stands in its namespace: its number, and how many blocks of the namespace come before its own.
+#[derive(Debug, Drop)]
+struct Standing {
+    number: usize,
+    before: u64,
+    extent: Extent,
+}
+
+/// What each extent of a namespace has of the ranges in these bytes. Each range lies in the namespace.
+pub(crate) fn portions_met(
     alloc: Global,
     bytes: &[u8],
     ns: &VirtualNs,
+) -> Result<Portions, NoMemory>
+    requires fit { list_all (range_fits (blocks_in ns.now)) (ranges_in (length bytes.now / range_size) bytes.now) ≡ true }
+    ensures { IfOk result (λ portions. portions ≡
+        map (λ (p : ℕ × Placed). portion_met ns.now (ranges_in (length bytes.now / range_size) bytes.now) p.0 p.1) (enumerate_from 0 (placed 0 ns.now))) }
+{
+    let mut portions = Portions::none();
+    let mut before = 0;
+    for (number, extent) in ns.as_slice().iter().enumerate() {
+        let at = Standing {
+            number,
+            before,
+            extent: *extent,
+        };
+        let ranges = ranges_met(alloc, bytes, ns, &at)?;
+        portions.push(alloc, Portion::ranged(alloc, ranges))?;
+        before += extent.blocks();
+    }
+    Ok(portions)
+}
+
+// What an extent has of the ranges in these bytes, as the disk has them.
+fn ranges_met(
+    alloc: Global,
+    bytes: &[u8],
+    ns: &VirtualNs,
+    at: &Standing,
 ) -> Result<Vec<Range>, NoMemory>
     requires fit { list_all (range_fits (blocks_in ns.now)) (ranges_in (length bytes.now / range_size) bytes.now) ≡ true }
-    ensures { IfOk result (λ ranges.
-        ranges.items ≡ map (translated_range ns.now) (ranges_in (length bytes.now / range_size) bytes.now)) }
+    requires there { slice_get (placed 0 ns.now) at.now.number ≡ Some (standing at.now) }
+    ensures { IfOk result (λ ranges. ranges.items ≡
+        map (translated_range ns.now) (ranges_met at.now.number (standing at.now) (ranges_in (length bytes.now / range_size) bytes.now))) }
 {
     let mut ranges = Vec::with_capacity(alloc, bytes.len() / RANGE_SIZE)?;
     let mut rest = bytes;
     while let Some((range, more)) = rest.split_first_chunk::<RANGE_SIZE>() {
-        let range = Range::of(range);
-        let blocks = range.blocks();
-        let start = place(ns, range.start(), blocks);
-        ranges.push(Range::of(&range_bytes(blocks, start)))?;
+        if let Some(part) = range_met(ns, at, Range::of(range)) {
+            ranges.push(part)?;
+        }
         rest = more;
     }
     Ok(ranges)
 }
 
-// The disk's block at which a range of the namespace starts; one of no blocks as far behind the first extent's base as it starts.
-fn place(ns: &VirtualNs, start: u64, blocks: u32) -> u64
-    requires fits { in_namespace start blocks (blocks_in ns.now) ≡ true }
-    ensures { result ≡ (if blocks == 0 then first_base ns.now + start else place_in ns.now start) }
+// What an extent has of a range of the namespace, as the disk has it: the first extent has each of no blocks.
+fn range_met(ns: &VirtualNs, at: &Standing, range: Range) -> Option<Range>
+    requires fits { range_fits (blocks_in ns.now) range ≡ true }
+    requires there { slice_get (placed 0 ns.now) at.now.number ≡ Some (standing at.now) }
+    ensures { result ≡ option_map (translated_range ns.now) (range_in at.now.number (standing at.now) range) }
 {
-    let Some(parts) = ns.translate(start, u64::from(blocks)) else {
-        unreachable!()
-    };
-    match parts.get(0) {
-        Some(part) => part.start(),
-        None => ns.as_slice()[0].base() + start,
+    // The blocks of a namespace, and the places behind its extents, have numbers of 64 bits.
+    let _extents = ns.as_slice();
+    let start = range.start();
+    let blocks = range.blocks();
+    if blocks == 0 {
+        if at.number > 0 {
+            return None;
+        }
+        return Some(disk_range(at.extent.base() + start, 0));
     }
+    let part = Part::of(at.extent, at.before, start, u64::from(blocks))?;
+    Some(disk_range(part.start(), part.count() as u32))
 }
 
-// The bytes of a range without attributes.
-fn range_bytes(blocks: u32, start: u64) -> [u8; 16]
+// A range of the disk's blocks without attributes.
+fn disk_range(start: u64, blocks: u32) -> Range
     ensures { result ≡ number_bytes 4 0 ++ number_bytes 4 blocks ++ number_bytes 8 start }
 {
     let mut bytes = [0; 16];
     LittleEndian::write_u32(&mut bytes[4..], blocks);
     LittleEndian::write_u64(&mut bytes[8..], start);
-    bytes
+    Range::of(&bytes)
 }

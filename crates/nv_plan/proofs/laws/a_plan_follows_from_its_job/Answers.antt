@@ -1,4 +1,4 @@
-use Rattle.nv_plan.proofs.PlanLaws.{IsJobsPlan-further, IsJobsPlan-same}
+use Rattle.nv_plan.proofs.PlanFollows.{IsJobsPlan-further, IsJobsPlan-same}
 use Rattle.nv_plan.proofs.laws.a_plan_follows_from_its_job.Goals as goal
 
 pub returns-clause-same : goal.returns-clause-same

@@ -21,7 +21,7 @@ pub fetch-requires-clause-short : goal.fetch-requires-clause-short
 fetch-requires-clause-short g c =
     let some = ranges-some c.args.sqe.now c.args.need c.requires.need in
     let few = some.1.1 in
-    let total = (spelled-places c.in_ok-addr.field-0 c.args.self.now.map.now.regions c.args.need c.in-Settled-Ok.places c.in_ok-addr.ensures.spelled (c.in-Settled-Ok.is ∙ ap settled c.in-Settled-Ok.field-0-is)).of_len.total in
+    let total = (spelled-places c.in_ok-addr.field-0 c.args.self.now.map.now.regions c.args.need c.in-Settled-Ok.places c.in_ok-addr.ensures.spelled (c.in-Settled-Ok.is ∙ ap settled c.in-Settled-Ok.field-0-is)).0.of_len.total in
     omega arith
 
 pub returns-in-Wanted : goal.returns-in-Wanted
@@ -40,11 +40,11 @@ returns-in-Wanted-2 g c =
     ranges-wanted (given_of c.args.self.now) c.args.sqe.now c.args.reads.now c.read_list.new.reads c.in_ok-addr.field-0 c.args.need c.in-Settled-Ok.places c.in_ok-addr-in-Settled-Ok.field-0 c.in-Wanted-2.addr c.in-Wanted-2.len
     c.in_ok-addr.ensures.judged c.requires.need (c.in-Settled-Ok.is ∙ ap settled c.in-Settled-Ok.field-0-is) c.in_ok-addr-in-Settled-Ok.ensures.fetched c.in-Wanted-2.is
 
-pub returns-in_ok-ranged-in-Settled : goal.returns-in_ok-ranged-in-Settled
-returns-in_ok-ranged-in-Settled g c =
+pub returns : goal.returns
+returns g c =
     let whole = fetched-len c.in_ok-addr-in-Settled-Ok.field-0 (total_len c.in-Settled-Ok.places) c.in-Settled.bytes c.in_ok-addr-in-Settled-Ok.ensures.whole c.in-Settled.is in
-    let total = (spelled-places c.in_ok-addr.field-0 c.args.self.now.map.now.regions c.args.need c.in-Settled-Ok.places c.in_ok-addr.ensures.spelled (c.in-Settled-Ok.is ∙ ap settled c.in-Settled-Ok.field-0-is)).of_len.total in
+    let total = (spelled-places c.in_ok-addr.field-0 c.args.self.now.map.now.regions c.args.need c.in-Settled-Ok.places c.in_ok-addr.ensures.spelled (c.in-Settled-Ok.is ∙ ap settled c.in-Settled-Ok.field-0-is)).0.of_len.total in
     ranges-fetched (given_of c.args.self.now) c.args.sqe.now c.args.reads.now c.read_list.new.reads c.in_ok-addr.field-0 c.args.need c.in-Settled-Ok.places c.in_ok-addr-in-Settled-Ok.field-0 c.in-Settled.bytes c.in_ok-ranged-in-Settled.field-0
     c.in_ok-addr.ensures.judged c.requires.need (c.in-Settled-Ok.is ∙ ap settled c.in-Settled-Ok.field-0-is) c.in_ok-addr-in-Settled-Ok.ensures.fetched c.in-Settled.is (whole ∙ total)
-    (c.in_ok-ranged-in-Settled.ensures c.args.sqe.now
-    ∙ ap (λ (b : List ℕ). outline_of c.args.self.now.ns.now (plan_of c.args.self.now.map.now.regions (judge_ranges (blocks_in c.args.self.now.ns.now) DatasetManagement c.args.sqe.now c.in-Settled-Ok.places (ranges_in (length b / 16) b)))) c.as_slice.ensures)
+    (c.in_ok-ranged-in-Settled.ensures c.args.sqe.now c.in-Settled-Ok.places
+    ∙ ap (λ (b : List ℕ). outline_of c.args.self.now.ns.now c.args.sqe.now (plan_of c.args.self.now.map.now.regions (judge_ranges (blocks_in c.args.self.now.ns.now) DatasetManagement c.args.sqe.now c.in-Settled-Ok.places (ranges_in (length b / 16) b)))) c.as_slice.ensures)

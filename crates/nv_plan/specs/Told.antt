@@ -1,0 +1,39 @@
+-- Words of private functions: portions as they are kept, and what they are cut out of.
+use Rattle.std.specs.Prelude.{ℕ, ◌+◌, ◌*◌, ◌^◌, ◌<◌, List, [], ◌∷◌, filter, map}
+use Rattle.std.specs.Bool.{⊤}
+use Rattle.nv_mem.specs.declared.piece.Piece.{Piece}
+use Rattle.nv_mem.specs.declared.piece.Piece.TheVariants as piece
+use Rattle.nv_model.specs.Limits.{block}
+use Rattle.nv_ns.specs.Extents.{Cut, Namespace, Placed}
+use Rattle.nv_plan.specs.Outline.{Portion}
+use Rattle.nv_plan.specs.Parts.{has_bytes}
+use Rattle.nv_plan.specs.declared.portions.Kept.{Kept}
+use Rattle.nv_plan.specs.declared.portions.Kept.TheVariants as kept
+use Rattle.nv_plan.specs.declared.ranges.Standing.{Standing}
+use Rattle.nv_world_model.specs.Area.{translated_range}
+use Rattle.nv_world_model.specs.Share.{cut_pieces, ranges_met}
+
+abbrev pub portions_of : Kept → List Portion
+portions_of kept.None = []
+portions_of (kept.Some first rest) = first ∷ rest.items
+
+-- `len` bytes of a buffer behind its first `skip`, in pieces that have bytes
+abbrev pub cut_places : (skip len : ℕ) → List Piece → List Piece
+cut_places skip len pieces = filter has_bytes (cut_pieces skip len pieces)
+
+-- the addresses of a run fit in 64 bits
+abbrev pub IsAddressed : Piece → Type 0
+IsAddressed (piece.Run addr len) = (i : ℕ) → i < len → addr + i < 2 ^ 64
+IsAddressed (piece.Bucket len) = ⊤
+
+-- what a cut of a transfer's blocks has of its places
+abbrev pub portion_cut : List Piece → Cut → Portion
+portion_cut pieces cut = record { places = cut_places (block * cut.first) (block * cut.count) pieces; ranges = [] }
+
+-- what an extent has of these ranges
+abbrev pub portion_met : Namespace → (ranges : List (List ℕ)) → (number : ℕ) → Placed → Portion
+portion_met ns ranges number at = record { places = []; ranges = map (translated_range ns) (ranges_met number at ranges) }
+
+-- an extent as it stands in its namespace
+abbrev pub standing : Standing → Placed
+standing s = record { before = s.before; extent = s.extent }

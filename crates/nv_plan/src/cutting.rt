@@ -1,0 +1,80 @@
+//! Places that are cut into those of several physical commands.
+
+ghost use Rattle.std.specs.Prelude.{◌≡◌, ◌+◌, ◌-◌, ◌<◌, ◌≤◌, ◌^◌, All, IfOk, map};
+ghost use Rattle.nv_mem.specs.Places.{piece_len};
+ghost use Rattle.nv_ns.specs.Extents.{Cut};
+ghost use Rattle.nv_plan.specs.Told.{IsAddressed, cut_places, portion_cut};
+ghost use Rattle.nv_world_model.specs.Share.{cut_piece};
+
+use crate::portion::Portion;
+use crate::portions::Portions;
+use nv_mem::{NoMemory, Piece, Places};
+use nv_model::limits::BLOCK_SIZE;
+use nv_ns::Part;
+use std::alloc::Global;
+
+/// What each part of a transfer's blocks has of its places.
+pub(crate) fn cut_up(alloc: Global, pieces: &[Piece], parts: &[Part]) -> Result<Portions, NoMemory>
+    requires small { All (λ (cut : Cut). cut.first + cut.count ≤ 2 ^ 16) parts.now }
+    requires addressed { All IsAddressed pieces.now }
+    ensures { IfOk result (λ portions. portions ≡ map (portion_cut pieces.now) parts.now) }
+{
+    let mut portions = Portions::none();
+    for part in parts {
+        let skip = BLOCK_SIZE as u64 * part.first();
+        let len = BLOCK_SIZE as u64 * part.count();
+        let places = cut_out(alloc, pieces, skip, len)?;
+        portions.push(alloc, Portion::placed(alloc, places))?;
+    }
+    Ok(portions)
+}
+
+// `len` bytes of a buffer behind its first `skip`.
+fn cut_out(alloc: Global, pieces: &[Piece], skip: u64, len: u64) -> Result<Places, NoMemory>
+    requires { All IsAddressed pieces.now }
+    ensures { IfOk result (λ places. places ≡ cut_places skip len pieces.now) }
+{
+    let mut places = Places::new(alloc);
+    let mut ahead = skip;
+    let mut left = len;
+    let mut rest = pieces;
+    while let Some((piece, behind)) = rest.split_first() {
+        if left == 0 {
+            return Ok(places);
+        }
+        let size = len_of(*piece);
+        let here = size.saturating_sub(ahead).min(left);
+        if here > 0 {
+            places.push(cut(*piece, ahead, here))?;
+        }
+        left -= here;
+        ahead = ahead.saturating_sub(size);
+        rest = behind;
+    }
+    Ok(places)
+}
+
+// How many bytes a piece names.
+fn len_of(piece: Piece) -> u64
+    ensures { result ≡ piece_len piece }
+{
+    match piece {
+        Piece::Run { addr: _, len } | Piece::Bucket { len } => len,
+    }
+}
+
+// So many bytes of a piece behind its first `skip`.
+fn cut(piece: Piece, skip: u64, len: u64) -> Piece
+    requires some { skip < piece_len piece }
+    requires fits { len ≤ piece_len piece - skip }
+    requires addressed { IsAddressed piece }
+    ensures { result ≡ cut_piece skip len piece }
+{
+    match piece {
+        Piece::Run { addr, len: _ } => Piece::Run {
+            addr: addr + skip,
+            len,
+        },
+        Piece::Bucket { len: _ } => Piece::Bucket { len },
+    }
+}
