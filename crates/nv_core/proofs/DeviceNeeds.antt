@@ -16,9 +16,10 @@ use Rattle.nv_model.specs.Queue.{is_empty}
 use Rattle.nv_moves.specs.Buffer.{AreBelow}
 use Rattle.nv_moves.specs.Flat.{byte_of_block}
 use Rattle.nv_moves.specs.Marks.{mark_of}
-use Rattle.nv_world_model.specs.Area.{entry_of, tag_count}
+use Rattle.nv_world_model.specs.Area.{tag_count}
 use Rattle.nv_world_model.specs.Device.{DeviceLane, Held, front_entry, range_at}
 use Rattle.nv_world_model.specs.Geometry.{Geometry}
+use Rattle.nv_world_model.specs.ShareArea.{share_entry}
 use Rattle.nv_world_model.specs.World.{Lane, Tag}
 use Rattle.nv_laws_sound.proofs.EntryFields.{entry-cid}
 use Rattle.nv_laws_sound.proofs.Lists.{slice_get-below, slice_get-there, some-same}
@@ -43,7 +44,7 @@ some-there (y ∷ ys) (suc i) x e = some-there ys i x e
 pub holds-area : (geometry : Geometry) (s : State) → IsOf geometry s → HoldsArea (length s.host) s.device
 holds-area geometry s is =
     let at = is.mediator in
-    let sides = is.consistent.sides in
+    let sides = is.consistent.of_tags.sides in
     let area = is.laid_out.area in
     omega (arith, at, sides, area)
 
@@ -58,7 +59,7 @@ pub record HasSides (s : State) (lane : ℕ) : Type 0 where
 
 pub has-sides : (geometry : Geometry) (s : State) (lane : ℕ) → IsOf geometry s → lane < length s.device.lanes → HasSides s lane
 has-sides geometry s lane is below =
-    let sides = is.consistent.sides in
+    let sides = is.consistent.of_tags.sides in
     let d = slice_get-there s.device.lanes lane below in
     let l = slice_get-there s.lanes lane (omega (arith, sides, below)) in
     record {
@@ -84,7 +85,7 @@ pub holding-at : (geometry : Geometry) (s : State) (lane slot : ℕ) (h : Held) 
     → held_at s.device lane slot ≡ Some h → IsHoldingAt geometry s lane slot h
 holding-at geometry s lane slot h is below held =
     let sides = has-sides geometry s lane is below in
-    let lane_is = is.consistent.lanes lane sides.l sides.d sides.at_lane sides.at_device in
+    let lane_is = is.consistent.of_tags.lanes lane sides.l sides.d sides.at_lane sides.at_device in
     let at_held = some-there sides.d.held slot h (sym (ap (λ (d : DeviceLane). get_or d.held slot None) sides.seen) ∙ held) in
     let among = slice_get-below sides.d.held slot (Some h) at_held in
     let helds = lane_is.positions.held in
@@ -109,12 +110,12 @@ held-moves geometry s lane slot number h is a left =
     record {
       bytes =
           subst (AreBelow (length s.host)) (sym b.in_device.places)
-          (places-below n geometry s.host laid b.command.guest b.guest b.is.given lane slot a.sides.below a.slot_below b.command.entry b.plan b.planned);
+          (places-below n geometry s.host laid b.command.guest b.guest b.is.given lane slot a.sides.below a.slot_below b.command.entry b.share b.planned);
       range = λ dataset deallocate some.
-          (let opcode = held-opcode (length s.host) geometry n lane slot laid a.sides.below a.slot_below b.guest b.command.guest b.is.given b.command.entry b.plan
+          (let opcode = held-opcode (length s.host) geometry n lane slot laid a.sides.below a.slot_below b.guest b.command.guest b.is.given b.command.entry b.share
           b.planned h (byte_in s.host) b.in_device number (byte_of_block s.device.disk) (mark_of s.device.kept) in
           let form = ap form_of (some-same b.planned.work.opcode DatasetManagement (sym opcode ∙ dataset)) in
-          let own = range-own (length s.host) n geometry laid b.command.guest b.guest b.is.given b.command.entry b.plan b.planned lane slot h (byte_in s.host)
+          let own = range-own (length s.host) n geometry laid b.command.guest b.guest b.is.given b.command.entry b.share b.planned lane slot b.some h (byte_in s.host)
           b.in_device number left form in
           let range = range_at number h.pieces (byte_in s.host) in
           let ends = own-ends (length s.host) geometry.disk_blocks (start_of range) (blocks_of range) b.guest
@@ -143,7 +144,7 @@ pub record IsNext (geometry : Geometry) (s : State) (lane : ℕ) : Type 0 where
   pub at_held : slice_get sides.d.held tag ≡ Some held
   pub next : IsQueuedAt geometry lane tag sides.d.head (byte_in s.host) held t
   pub tag_below : tag < tag_count
-  pub front_is : front_of lane s.host s.device ≡ entry_of next.plan next.guest next.command.entry geometry.mediator lane tag
+  pub front_is : front_of lane s.host s.device ≡ share_entry next.share next.guest.namespace next.guest next.command.entry geometry.mediator lane tag
   pub cid_is : cid_of (front_of lane s.host s.device) ≡ tag
 
 waits-apart : (head tail : ℕ) → not (is_empty head tail) ≡ true → head ≡ tail → ⊥
@@ -153,7 +154,7 @@ waits-apart head tail waits same =
 -- its bytes are those of the tag's entry
 next-front : (geometry : Geometry) (s : State) (lane tag : ℕ) (sides : HasSides s lane) (held : Option Held) (t : Tag) → IsOf geometry s
     → (next : IsQueuedAt geometry lane tag sides.d.head (byte_in s.host) held t)
-    → front_of lane s.host s.device ≡ entry_of next.plan next.guest next.command.entry geometry.mediator lane tag
+    → front_of lane s.host s.device ≡ share_entry next.share next.guest.namespace next.guest next.command.entry geometry.mediator lane tag
 next-front geometry s lane tag sides held t is next =
     let at : front_of lane s.host s.device ≡ front_entry geometry.mediator lane (lane_of s.device lane) (byte_in s.host) =
     ap (λ (m : ℕ). front_entry m lane (lane_of s.device lane) (byte_in s.host)) is.mediator in
@@ -165,7 +166,7 @@ next-front geometry s lane tag sides held t is next =
 next-cid : (geometry : Geometry) (s : State) (lane tag : ℕ) (sides : HasSides s lane) (held : Option Held) (t : Tag) → IsOf geometry s
     → IsQueuedAt geometry lane tag sides.d.head (byte_in s.host) held t → tag < tag_count → cid_of (front_of lane s.host s.device) ≡ tag
 next-cid geometry s lane tag sides held t is next below =
-    ap cid_of (next-front geometry s lane tag sides held t is next) ∙ entry-cid next.plan next.guest next.command.entry geometry.mediator lane tag below
+    ap cid_of (next-front geometry s lane tag sides held t is next) ∙ entry-cid next.share next.guest next.command.entry geometry.mediator lane tag below
 
 pub next-at : (geometry : Geometry) (s : State) (lane : ℕ) → IsOf geometry s → lane < length s.device.lanes → waits lane s.device ≡ true
     → IsNext geometry s lane
@@ -173,7 +174,7 @@ next-at geometry s lane is below waiting =
     let sides = has-sides geometry s lane is below in
     let l = sides.l in
     let d = sides.d in
-    let lane_is = is.consistent.lanes lane l d sides.at_lane sides.at_device in
+    let lane_is = is.consistent.of_tags.lanes lane l d sides.at_lane sides.at_device in
     let apart = waits-apart d.head d.tail (sym (ap (λ (x : DeviceLane). not (is_empty x.head x.tail)) sides.seen) ∙ waiting) in
     let some = lane_is.queued d.head (between-head d.head d.tail lane_is.positions.head lane_is.positions.tail
     (far-some d.head d.tail lane_is.positions.head lane_is.positions.tail apart)) in
@@ -206,5 +207,5 @@ may-take geometry s lane is below waiting =
     ap (held_at s.device lane) a.cid_is ∙ ap (λ (x : DeviceLane). get_or x.held a.tag None) a.sides.seen
     ∙ get_or_from_slice_get a.sides.d.held a.tag a.held None a.at_held ∙ b.not_held in
     subst (IsTakeable (length s.device.disk) s.host (held_at s.device lane (cid_of (front_of lane s.host s.device)))) (sym a.front_is)
-    (entry-takeable (length s.lanes) geometry s.host is.laid_out b.command.guest b.guest b.is.given lane a.tag a.sides.below a.tag_below b.command.entry b.plan b.planned
+    (entry-takeable (length s.lanes) geometry s.host is.laid_out b.command.guest b.guest b.is.given lane a.tag a.sides.below a.tag_below b.command.entry b.share b.planned b.some
     (length s.device.disk) (held_at s.device lane (cid_of (front_of lane s.host s.device))) (sym is.blocks) free b.pages.list)

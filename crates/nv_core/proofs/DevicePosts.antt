@@ -21,7 +21,7 @@ use Rattle.nv_tags.specs.declared.state.TagState.TheVariants as state
 use Rattle.nv_world_model.specs.Area.{tag_count}
 use Rattle.nv_world_model.specs.Device.{DeviceLane, Held, completion_posted, completion_written, held_status}
 use Rattle.nv_world_model.specs.Geometry.{Geometry}
-use Rattle.nv_world_model.specs.Plan.{Plan}
+use Rattle.nv_world_model.specs.Share.{Share}
 use Rattle.nv_world_model.specs.Step.{After, device_fail, device_post, device_posted, is_success, replied, step}
 use Rattle.nv_world_model.specs.World.{Answered, Command, Flying, InDevice, Lane, Standing, Tag, World, tag_changed}
 use Rattle.nv_world_model.specs.declared.event.Event.TheVariants as event
@@ -33,14 +33,14 @@ use Rattle.nv_laws_sound.proofs.Retags.{stands-is}
 pub lane-looked : (lanes : List Lane) (lane i : ℕ) (l x : Lane) → slice_get lanes lane ≡ Some x → i ≡ lane → l ≡ get_or lanes i l → l ≡ x
 lane-looked lanes lane i l x found at is = is ∙ ap (λ (k : ℕ). get_or lanes k l) at ∙ get_or_from_slice_get lanes lane x l found
 
--- a tag's command stands there now, whatever its command and its plan are
+-- a tag's command stands there now, whatever its command and its share are
 abbrev pub StandsNow : (tag : ℕ) → Standing → (l new : Lane) → Type 0
-StandsNow tag standing l new = (command : Command) (plan : Plan) (before : Standing) → slice_get l.tags tag ≡ Some (Flying command plan before)
-    → new ≡ tag_changed tag (Flying command plan standing) l
+StandsNow tag standing l new = (command : Command) (share : Share) (before : Standing) → slice_get l.tags tag ≡ Some (Flying command share before)
+    → new ≡ tag_changed tag (Flying command share standing) l
 
 module _ (geometry : Geometry) (s : State) (lane slot : ℕ) (h : Held) (a : IsHoldingAt geometry s lane slot h) where
   -- its tag flies
-  flies : slice_get a.sides.l.tags slot ≡ Some (Flying a.holds.command a.holds.plan InDevice)
+  flies : slice_get a.sides.l.tags slot ≡ Some (Flying a.holds.command a.holds.share InDevice)
   flies = a.at_tag ∙ ap (λ (t : Tag). Some t) a.holds.flies
 
   pub held-flying : (i : ℕ) (l : Lane) → i ≡ lane → l ≡ get_or s.lanes i l → state_in (slice_get l.tags slot) ≡ Some state.Flying
@@ -50,11 +50,11 @@ module _ (geometry : Geometry) (s : State) (lane slot : ℕ) (h : Held) (a : IsH
   -- the lane with the tag answered
   answered-lane : (posted i : ℕ) (l l_new : Lane) → posted ≡ (lane_of s.device lane).posted → i ≡ lane → l ≡ get_or s.lanes i l
       → StandsNow slot (Answered posted) l l_new
-      → l_new ≡ tag_changed slot (Flying a.holds.command a.holds.plan (Answered a.sides.d.posted)) a.sides.l
+      → l_new ≡ tag_changed slot (Flying a.holds.command a.holds.share (Answered a.sides.d.posted)) a.sides.l
   answered-lane posted i l l_new was at is new =
       let looked = lane-looked s.lanes lane i l a.sides.l a.sides.at_lane at is in
-      let standing : Standing → Lane → Lane = λ st x. tag_changed slot (Flying a.holds.command a.holds.plan st) x in
-      new a.holds.command a.holds.plan InDevice (ap (λ (x : Lane). slice_get x.tags slot) looked ∙ flies)
+      let standing : Standing → Lane → Lane = λ st x. tag_changed slot (Flying a.holds.command a.holds.share st) x in
+      new a.holds.command a.holds.share InDevice (ap (λ (x : Lane). slice_get x.tags slot) looked ∙ flies)
       ∙ ap (standing (Answered posted)) looked
       ∙ ap (λ (n : ℕ). standing (Answered n) a.sides.l) (was ∙ ap (λ (d : DeviceLane). d.posted) a.sides.seen)
 
@@ -69,7 +69,7 @@ module _ (geometry : Geometry) (s : State) (lane slot : ℕ) (h : Held) (a : IsH
       let w = world_of s in
       let d = a.sides.d in
       let written = completion_written geometry.mediator lane slot st d (byte_in s.host) in
-      let answered = tag_changed slot (Flying a.holds.command a.holds.plan (Answered d.posted)) a.sides.l in
+      let answered = tag_changed slot (Flying a.holds.command a.holds.share (Answered d.posted)) a.sides.l in
       let behind : World = record w { host = written; lanes = set s.lanes lane answered; device = set s.device.lanes lane (completion_posted slot d) } in
       same-world (world_of (record s { host = host; device = device; lanes = set s.lanes i l_new })) behind
       (p.host
@@ -80,7 +80,7 @@ module _ (geometry : Geometry) (s : State) (lane slot : ℕ) (h : Held) (a : IsH
       (ap (λ (q : Physical). q.lanes) p.device ∙ ap (λ (x : DeviceLane). set s.device.lanes lane (completion_posted slot x)) a.sides.seen)
       (ap (λ (k : ℕ). set s.lanes k l_new) at ∙ ap (λ (x : Lane). set s.lanes lane x) (answered-lane posted i l l_new was at is new))
       refl
-      ∙ sym (stands-is w lane slot a.sides.l d a.holds.command a.holds.plan InDevice (Answered d.posted) written (completion_posted slot) a.sides.at_lane a.sides.at_device flies)
+      ∙ sym (stands-is w lane slot a.sides.l d a.holds.command a.holds.share InDevice (Answered d.posted) written (completion_posted slot) a.sides.at_lane a.sides.at_device flies)
 
 -- ---- the events
 

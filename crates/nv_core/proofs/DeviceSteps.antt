@@ -59,7 +59,7 @@ module _ (geometry : Geometry) (s : State) (is : IsOf geometry s) (lane slot : �
       by_slot there past =
           let below : lane < length s.device.lanes = grind (arith, nat_tests) in
           let sides = has-sides geometry s lane is below in
-          let sized = (is.consistent.lanes lane sides.l sides.d sides.at_lane sides.at_device).positions.held in
+          let sized = (is.consistent.of_tags.lanes lane sides.l sides.d sides.at_lane sides.at_device).positions.held in
           let least : tag_count ≤ slot = grind (arith, nat_tests) in
           ap (λ (o : Option DeviceLane). for_device o (world_of s) (λ d. for_held (slice_get d.held slot) (world_of s) (λ h. more h d))) sides.at_device
           ∙ ap (λ (o : Option (Option Held)). for_held o (world_of s) (λ h. more h sides.d)) (slice_get_past sides.d.held slot (omega (arith, sized, least)))
@@ -77,7 +77,7 @@ module _ (geometry : Geometry) (s : State) (is : IsOf geometry s) (lane slot : �
       → held_event more lane slot (world_of s) ≡ replied reply.Idle (world_of s)
   none-held below slot_below none =
       let sides = has-sides geometry s lane is below in
-      let sized = (is.consistent.lanes lane sides.l sides.d sides.at_lane sides.at_device).positions.held in
+      let sized = (is.consistent.of_tags.lanes lane sides.l sides.d sides.at_lane sides.at_device).positions.held in
       ap (λ (o : Option DeviceLane). for_device o (world_of s) (λ d. for_held (slice_get d.held slot) (world_of s) (λ h. more h d))) sides.at_device
       ∙ ap (λ (o : Option (Option Held)). for_held o (world_of s) (λ h. more h sides.d))
       (empty sides.d.held slot (omega (arith, sized, slot_below)) (sym (ap (λ (d : DeviceLane). get_or d.held slot None) sides.seen) ∙ none))

@@ -16,9 +16,10 @@ use Rattle.nv_model.specs.declared.reply.Reply.TheVariants as reply
 use Rattle.nv_moves.specs.Flat.{byte_of_block}
 use Rattle.nv_moves.specs.Marks.{mark_of}
 use Rattle.nv_tags.specs.declared.state.TagState.TheVariants as state
-use Rattle.nv_world_model.specs.Area.{entry_of, ring_size}
+use Rattle.nv_world_model.specs.Area.{ring_size}
 use Rattle.nv_world_model.specs.Device.{DeviceLane, entry_taken, front_entry, held_of}
 use Rattle.nv_world_model.specs.Geometry.{Geometry}
+use Rattle.nv_world_model.specs.ShareArea.{share_entry}
 use Rattle.nv_world_model.specs.Step.{After, device_take, device_took, for_device, replied, step}
 use Rattle.nv_world_model.specs.World.{Flying, InDevice, Lane, Queued, Tag, World, tag_changed}
 use Rattle.nv_world_model.specs.declared.event.Event.TheVariants as event
@@ -71,7 +72,7 @@ module _ (geometry : Geometry) (s : State) (is : IsOf geometry s) (lane : ℕ) w
   take-idle below none = record { after = sym (take-by false (has-sides geometry s lane is below) none); size = same-size s }
 
   module _ (a : IsNext geometry s lane) where
-    queued : slice_get a.sides.l.tags a.tag ≡ Some (Flying a.next.command a.next.plan (Queued a.sides.d.head))
+    queued : slice_get a.sides.l.tags a.tag ≡ Some (Flying a.next.command a.next.share (Queued a.sides.d.head))
     queued = a.at_tag ∙ ap (λ (t : Tag). Some t) a.next.flies
 
     pub next-flying : (i tag : ℕ) (l : Lane) → i ≡ lane → tag ≡ a.tag → l ≡ get_or s.lanes i l → state_in (slice_get l.tags tag) ≡ Some state.Flying
@@ -81,23 +82,23 @@ module _ (geometry : Geometry) (s : State) (is : IsOf geometry s) (lane : ℕ) w
 
     -- the lane with the tag in the device
     device-lane : (i tag : ℕ) (l l_new : Lane) → i ≡ lane → tag ≡ a.tag → l ≡ get_or s.lanes i l → StandsNow tag InDevice l l_new
-        → l_new ≡ tag_changed a.tag (Flying a.next.command a.next.plan InDevice) a.sides.l
+        → l_new ≡ tag_changed a.tag (Flying a.next.command a.next.share InDevice) a.sides.l
     device-lane i tag l l_new at tag_is looked new =
         let same = lane-looked s.lanes lane i l a.sides.l a.sides.at_lane at looked in
-        let flying : Tag = Flying a.next.command a.next.plan InDevice in
-        new a.next.command a.next.plan (Queued a.sides.d.head)
+        let flying : Tag = Flying a.next.command a.next.share InDevice in
+        new a.next.command a.next.share (Queued a.sides.d.head)
         (ap (λ (x : Lane). slice_get x.tags tag) same ∙ ap (λ (n : ℕ). slice_get a.sides.l.tags n) tag_is ∙ queued)
         ∙ ap (tag_changed tag flying) same ∙ ap (λ (n : ℕ). tag_changed n flying a.sides.l) tag_is
 
     abbrev physical : List ℕ
-    physical = entry_of a.next.plan a.next.guest a.next.command.entry geometry.mediator lane a.tag
+    physical = share_entry a.next.share a.next.guest.namespace a.next.guest a.next.command.entry geometry.mediator lane a.tag
 
     -- the device's side of it
     taken-lane : entry_taken (front_of lane s.host s.device) (byte_in s.host) (lane_of s.device lane)
         ≡ record a.sides.d { head = next_slot ring_size a.sides.d.head; held = set a.sides.d.held a.tag (Some (held_of physical (byte_in s.host))) }
     taken-lane =
         let d = a.sides.d in
-        let cid : cid_of physical ≡ a.tag = entry-cid a.next.plan a.next.guest a.next.command.entry geometry.mediator lane a.tag a.tag_below in
+        let cid : cid_of physical ≡ a.tag = entry-cid a.next.share a.next.guest a.next.command.entry geometry.mediator lane a.tag a.tag_below in
         ap (λ (x : DeviceLane). entry_taken (front_of lane s.host s.device) (byte_in s.host) x) a.sides.seen
         ∙ ap (λ (e : List ℕ). entry_taken e (byte_in s.host) d) a.front_is
         ∙ ap (λ (n : ℕ). let x : DeviceLane = record d { head = next_slot ring_size d.head; held = set d.held n (Some (held_of physical (byte_in s.host))) } in x) cid
@@ -111,7 +112,7 @@ module _ (geometry : Geometry) (s : State) (is : IsOf geometry s) (lane : ℕ) w
         let is_taken : device ≡ with_lane lane (entry_taken (front_of lane s.host s.device) (byte_in s.host) (lane_of s.device lane)) s.device =
         done ∙ ap (λ (b : Bool). cond b (with_lane lane (entry_taken (front_of lane s.host s.device) (byte_in s.host) (lane_of s.device lane)) s.device) s.device) waiting in
         let behind : World = record w {
-          lanes = set s.lanes lane (tag_changed a.tag (Flying a.next.command a.next.plan InDevice) a.sides.l);
+          lanes = set s.lanes lane (tag_changed a.tag (Flying a.next.command a.next.share InDevice) a.sides.l);
           device = set s.device.lanes lane (record d { head = next_slot ring_size d.head; held = set d.held a.tag (Some (held_of physical (byte_in s.host))) });
         } in
         let new_world : World = world_of (record s { device = device; lanes = set s.lanes i l_new }) in

@@ -1,33 +1,40 @@
 -- Which events are due, by what is looked at.
-use Rattle.std.proofs.Common.{◌≡◌, ℕ, ◌<◌, Bool, true, false, cond, not, ◌&&◌, ◌==◌, List, [], ◌∷◌, get_or, length, slice_get, Option, Some, None, is_some, refl, sym, ap, ◌∙◌, arith}
+use Rattle.std.proofs.Common.{◌≡◌, ℕ, ◌<◌, Bool, true, false, cond, not, ◌&&◌, ◌==◌, List, [], ◌∷◌, get_or, length, slice_get, Option, Some, None, is_some}
+use Rattle.std.proofs.Common.{refl, sym, ap, ◌∙◌, arith}
 use Rattle.std.specs.List.{list_any}
 use Rattle.nv_admin.specs.Event.{is_stepped}
+use Rattle.nv_core.specs.Groups.{statuses_in}
 use Rattle.nv_core.specs.State.{IsOf, IsStep, State, world_of}
+use Rattle.nv_core.specs.Tags.{unended, unled}
+use Rattle.nv_core.specs.Take.{is_front_takeable}
 use Rattle.nv_core.proofs.DeviceNeeds.{has-sides, holding-at}
 use Rattle.nv_core.proofs.DeviceSteps.{after, none-held, some-held}
+use Rattle.nv_core.proofs.GroupWorlds.{IsEndedHere, ended-found, ended-step, group-lane, looked-up, not-ended, statuses-lane}
 use Rattle.nv_core.proofs.Placed.{admin-there, owner, owner-there}
-use Rattle.nv_core.proofs.Posts.{IsEndedHere}
 use Rattle.nv_core.proofs.Reaps.{slice_get-or}
-use Rattle.nv_core.proofs.Takes.{looked-up}
+use Rattle.nv_core.proofs.Takes.{take-step}
 use Rattle.nv_device.specs.Physical.{has_ended, has_left, held_at, is_over, lane_of, no_lane}
 use Rattle.nv_device.specs.Taking.{waits}
 use Rattle.nv_entry.specs.Status.{StatusField}
 use Rattle.nv_entry.specs.Submission.{cid_of}
+use Rattle.nv_laws_sound.proofs.Lists.{some-same}
 use Rattle.nv_mem.specs.GuestMap.{mapped}
 use Rattle.nv_model.specs.Admin.{AdminStep, NothingToDo, QueueFull, Stepped, admin}
 use Rattle.nv_model.specs.Controller.{Controller, Posted, front, is_enabled, post}
-use Rattle.nv_model.specs.Memory.{image}
-use Rattle.nv_model.specs.Queue.{is_empty}
+use Rattle.nv_model.specs.Memory.{byte_in, bytes_from, image}
+use Rattle.nv_model.specs.Queue.{is_empty, sqe_size}
 use Rattle.nv_model.specs.declared.reply.Reply.{Reply}
 use Rattle.nv_model.specs.declared.reply.Reply.TheVariants as reply
-use Rattle.nv_world_model.proofs.SeatTags.{take-step}
-use Rattle.nv_world_model.specs.Area.{bounce_page, tag_count}
+use Rattle.nv_ns.specs.Extents.{Namespace}
+use Rattle.nv_world_model.proofs.TagCounts.{tags_of_entry-some}
+use Rattle.nv_world_model.specs.Area.{tag_count}
 use Rattle.nv_world_model.specs.Device.{DeviceLane, Held}
 use Rattle.nv_world_model.specs.Geometry.{Geometry, Guest, regions_of, shape_of}
-use Rattle.nv_world_model.specs.Seat.{Owner, owner_of}
-use Rattle.nv_world_model.specs.Step.{After, administered_by, device_move, device_post, device_take, due, for_device, for_ended, for_lane, for_owner, free_tag}
-use Rattle.nv_world_model.specs.Step.{is_done, is_due_kind, is_io_queue, post_at, post_by, reap, replied, step, take_from, take_front}
-use Rattle.nv_world_model.specs.World.{Lane, Tag, World, tag_in}
+use Rattle.nv_world_model.specs.Seat.{Owner, owner_by, owner_of}
+use Rattle.nv_world_model.specs.Share.{tags_of_entry}
+use Rattle.nv_world_model.specs.Step.{After, administered_by, deciding, device_move, device_post, device_take, due, for_device, for_lane, for_owner}
+use Rattle.nv_world_model.specs.Step.{is_done, is_due_kind, is_io_queue, post_all, post_by, reap, replied, statuses_of, step, take_from, take_front, take_tags}
+use Rattle.nv_world_model.specs.World.{Command, Ended, Flying, Free, Lane, Tag, Taken, World, claimed, group, group_in, tag_of}
 use Rattle.nv_world_model.specs.declared.event.Event.{Event}
 use Rattle.nv_world_model.specs.declared.event.Event.TheVariants as event
 
@@ -111,7 +118,7 @@ reap-due geometry s is lane i l at below has =
     let w = world_of s in
     let d = lane_of s.device lane in
     let found = looked-up s.lanes lane i l at below has in
-    let there : slice_get s.device.lanes lane ≡ Some d = slice_get-or s.device.lanes lane no_lane (let sides = is.consistent.sides in omega arith) in
+    let there : slice_get s.device.lanes lane ≡ Some d = slice_get-or s.device.lanes lane no_lane (let sides = is.consistent.of_tags.sides in omega arith) in
     due-by geometry (event.Reap lane) w (reap geometry lane l d w)
     (ap (λ (x : Option Lane). for_lane x w (λ k. for_device (slice_get w.device lane) w (λ e. reap geometry lane k e w))) found
     ∙ ap (λ (x : Option DeviceLane). for_device x w (λ e. reap geometry lane l e w)) there)
@@ -122,51 +129,136 @@ reap-due geometry s is lane i l at below has =
 module _ (geometry : Geometry) (s : State) (number queue lane : ℕ) (guest : Guest) (c : Controller) (l : Lane)
     (there : slice_get geometry.guests number ≡ Some guest) (found : slice_get s.controllers number ≡ Some c)
     (found_lane : slice_get s.lanes lane ≡ Some l) where
-  fronted : (f t : Option ℕ) → free_tag l.tags ≡ t
-      → is_done (take_front f queue lane l (owner number guest c) (world_of s)).reply ≡ (is_some f && is_some t)
-  fronted None t e = refl
-  fronted (Some addr) t e = tagged t e
-    where
-      tagged : (t : Option ℕ) → free_tag l.tags ≡ t → is_done (take_front (Some addr) queue lane l (owner number guest c) (world_of s)).reply ≡ is_some t
-      tagged None e = rw e refl
-      tagged (Some tag) e = rw e refl
+  tagged : (t : Option (List ℕ)) (addr : ℕ) → is_done (take_tags t addr queue lane (owner number guest c) (world_of s)).reply ≡ is_some t
+  tagged None addr = refl
+  tagged (Some tags) addr = refl
 
-  pub take-due : is_io_queue queue ≡ true → due geometry (event.Take number queue lane) (world_of s) ≡ (is_some (front c queue) && is_some (free_tag l.tags))
+  fronted : (f : Option ℕ) → is_done (take_front f queue lane l (owner number guest c) (world_of s)).reply
+      ≡ is_front_takeable f guest.namespace (image (regions_of guest) (byte_in s.host)) l.tags
+  fronted None = refl
+  fronted (Some addr) = tagged (claimed (tags_of_entry guest.namespace (bytes_from (image (regions_of guest) (byte_in s.host)) addr sqe_size)) l.tags) addr
+
+  pub take-due : is_io_queue queue ≡ true → due geometry (event.Take number queue lane) (world_of s)
+      ≡ is_front_takeable (front c queue) guest.namespace (image (regions_of guest) (byte_in s.host)) l.tags
   take-due e =
       let w = world_of s in
       let o = owner number guest c in
       due-by geometry (event.Take number queue lane) w (take_from queue lane l o w)
       (take-step geometry number queue lane o l w (owner-there geometry w number guest c there found) found_lane)
       ∙ ap (λ (b : Bool). is_done (cond b (take_front (front c queue) queue lane l o w) (replied reply.Ignored w)).reply) e
-      ∙ fronted (front c queue) (free_tag l.tags) refl
+      ∙ fronted (front c queue)
+
+-- where a guest has one extent, a command wants one tag
+pub one-takeable : (ns : Namespace) (f : Option ℕ) (memory : ℕ → ℕ) (tags : List Tag) → length ns ≡ 1
+    → (is_some f && is_some (claimed 1 tags)) ≡ is_front_takeable f ns memory tags
+one-takeable ns None memory tags one = refl
+one-takeable ns (Some addr) memory tags one =
+    let entry = bytes_from memory addr sqe_size in
+    let few = tags_of_entry-some ns entry (omega (arith, one)) in
+    let count : 1 ≡ tags_of_entry ns entry = omega (arith, one, few) in
+    ap (λ (n : ℕ). is_some (claimed n tags)) count
 
 -- ---- Post
 
-module _ (geometry : Geometry) (s : State) (lane tag : ℕ) (st : StatusField) (t : IsEndedHere s.lanes lane tag st) (guest : Guest) (c : Controller)
-    (there : slice_get geometry.guests t.command.guest ≡ Some guest) (found : slice_get s.controllers t.command.guest ≡ Some c) where
-  abbrev at_post : Owner → After
-  at_post o = post_at t.command st t.plan (bounce_page geometry.mediator lane tag) lane tag o (world_of s)
+-- what is told of an option
+pub none-by : {X : Type 0} (o : Option X) (b : Bool) → b ≡ is_some o → b ≡ false → o ≡ None
+none-by None b is e = refl
+none-by (Some x) b is e = let bad : true ≡ false = sym is ∙ e in cc
 
-  posted : (f : Option Posted) (o : Owner) → is_done (post_by f t.plan st (bounce_page geometry.mediator lane tag) lane tag o (world_of s)).reply ≡ is_some f
-  posted None o = refl
-  posted (Some p) o = refl
+-- what is not ended is not due
+untold : (tag : ℕ) (command : Command) (r : Reply) → unled tag command ≡ Some r → is_done r ≡ false
+untold tag command r e = by (command.leader == tag) e
+  where
+    by : (b : Bool) → cond b None (Some reply.Stale) ≡ Some r → is_done r ≡ false
+    by true e = cc
+    by false e = ap is_done (sym (some-same reply.Stale r e))
 
-  by_enabled : (b : Bool) (x y : After) (r : Bool) → is_done x.reply ≡ r → is_done y.reply ≡ true → is_done (cond b x y).reply ≡ cond b r true
-  by_enabled true x y r e f = e
-  by_enabled false x y r e f = f
+unended-told : (tag : ℕ) (t : Option Tag) (r : Reply) → unended tag t ≡ Some r → is_done r ≡ false
+unended-told tag None r e = ap is_done (sym (some-same reply.Ignored r e))
+unended-told tag (Some Free) r e = ap is_done (sym (some-same reply.Stale r e))
+unended-told tag (Some (Taken command reads)) r e = ap is_done (sym (some-same reply.Stale r e))
+unended-told tag (Some (Flying command share at)) r e = ap is_done (sym (some-same reply.Stale r e))
+unended-told tag (Some (Ended command st share)) r e = untold tag command r e
 
-  pub post-due : due geometry (event.Post lane tag) (world_of s)
-      ≡ cond (is_enabled c) (is_some (post c t.command.queue 0 (cid_of t.command.entry) st)) true
+pub post-not : (geometry : Geometry) (s : State) (lane tag : ℕ) (u : Option Reply) → u ≡ unended tag (tag_of (world_of s) lane tag) → is_some u ≡ true
+    → due geometry (event.Post lane tag) (world_of s) ≡ false
+unfolding step
+post-not geometry s lane tag None is e = cc
+post-not geometry s lane tag (Some r) is e =
+    let w = world_of s in
+    due-by geometry (event.Post lane tag) w (replied r w) (not-ended tag (tag_of w lane tag) r w _ (sym is))
+    ∙ unended-told tag (tag_of w lane tag) r (sym is)
+
+module _ (geometry : Geometry) (s : State) (lane tag i : ℕ) (l : Lane) (t : IsEndedHere s.lanes lane tag) (at : i ≡ lane) (has : l ≡ get_or s.lanes i l)
+    (b : Bool) (told : b ≡ is_some (statuses_in (group_in (Some l) tag) l)) where
+  abbrev at_post : Option (List StatusField) → Owner → After
+  at_post sts o = post_all sts t.command geometry.mediator lane (group (world_of s) lane tag) o (world_of s)
+
+  -- the event of it, by the statuses of its tags
+  post-step : step geometry (event.Post lane tag) (world_of s)
+      ≡ for_owner (owner_of geometry (world_of s) t.command.guest) (world_of s) (at_post (statuses_in (group_in (Some l) tag) l))
   unfolding step
-  post-due =
+  post-step =
       let w = world_of s in
-      let o = owner t.command.guest guest c in
-      due-by geometry (event.Post lane tag) w (at_post o)
-      (ap (λ (x : Option Tag). for_ended x w
-      (λ command st plan. for_owner (owner_of geometry w command.guest) w (λ o. post_at command st plan (bounce_page geometry.mediator lane tag) lane tag o w)))
-      (ap (λ (x : Option Lane). tag_in x tag) t.found ∙ t.there)
-      ∙ ap (λ (x : Option Owner). for_owner x w at_post) (owner-there geometry w t.command.guest guest c there found))
-      ∙ by_enabled (is_enabled c) _ _ _ (posted (post c t.command.queue 0 (cid_of t.command.entry) st) o) refl
+      let found = ended-found s.lanes lane tag t i l at has in
+      ended-step w lane tag t (λ command. for_owner (owner_of geometry w command.guest) w (λ o.
+      (let tags = group w lane tag in post_all (statuses_of lane tags w) command geometry.mediator lane tags o w)))
+      ∙ ap (λ (sts : Option (List StatusField)). for_owner (owner_of geometry w t.command.guest) w (at_post sts))
+      (ap (λ (tags : List ℕ). statuses_of lane tags w) (group-lane w lane tag l found) ∙ statuses-lane lane (group_in (Some l) tag) w l found)
+
+  -- some tag has not ended
+  pub post-waits : b ≡ false → due geometry (event.Post lane tag) (world_of s) ≡ false
+  post-waits none = by (statuses_in (group_in (Some l) tag) l) refl
+    where
+      stale : (o : Option Owner) → is_done (for_owner o (world_of s) (at_post None)).reply ≡ false
+      stale None = refl
+      stale (Some o) = refl
+
+      by : (sts : Option (List StatusField)) → statuses_in (group_in (Some l) tag) l ≡ sts → due geometry (event.Post lane tag) (world_of s) ≡ false
+      by None is =
+          due-by geometry (event.Post lane tag) (world_of s) (for_owner (owner_of geometry (world_of s) t.command.guest) (world_of s) (at_post None))
+          (post-step ∙ ap (λ (sts : Option (List StatusField)). for_owner (owner_of geometry (world_of s) t.command.guest) (world_of s) (at_post sts)) is)
+          ∙ stale (owner_of geometry (world_of s) t.command.guest)
+      by (Some sts) is =
+          let bad : true ≡ false = sym (told ∙ ap is_some is) ∙ none in cc
+
+  -- nobody's command
+  pub post-nobody : slice_get geometry.guests t.command.guest ≡ None → due geometry (event.Post lane tag) (world_of s) ≡ false
+  post-nobody none =
+      let w = world_of s in
+      due-by geometry (event.Post lane tag) w (replied reply.Stale w)
+      (post-step ∙ ap (λ (g : Option Guest). for_owner (owner_by t.command.guest g (slice_get w.controllers t.command.guest)) w
+      (at_post (statuses_in (group_in (Some l) tag) l))) none)
+
+  module _ (guest : Guest) (c : Controller) (there : slice_get geometry.guests t.command.guest ≡ Some guest)
+      (found : slice_get s.controllers t.command.guest ≡ Some c) where
+    posted : (f : Option Posted) (st : StatusField) (tags : List ℕ) (o : Owner) → is_done (post_by f st geometry.mediator lane tags o (world_of s)).reply ≡ is_some f
+    posted None st tags o = refl
+    posted (Some p) st tags o = refl
+
+    by_enabled : (b : Bool) (x y : After) (r : Bool) → is_done x.reply ≡ r → is_done y.reply ≡ true → is_done (cond b x y).reply ≡ cond b r true
+    by_enabled true x y r e f = e
+    by_enabled false x y r e f = f
+
+    -- all have ended
+    pub post-due : b ≡ true → (may : Bool)
+        → ((cid : ℕ) (st : StatusField) → may ≡ cond (is_enabled c) (is_some (post c t.command.queue 0 cid st)) true)
+        → may ≡ due geometry (event.Post lane tag) (world_of s)
+    post-due some may tells = by (statuses_in (group_in (Some l) tag) l) refl
+      where
+        by : (sts : Option (List StatusField)) → statuses_in (group_in (Some l) tag) l ≡ sts → may ≡ due geometry (event.Post lane tag) (world_of s)
+        by None is =
+            let bad : false ≡ true = sym (told ∙ ap is_some is) ∙ some in cc
+        by (Some sts) is =
+            let w = world_of s in
+            let o = owner t.command.guest guest c in
+            let st = deciding sts in
+            tells (cid_of t.command.entry) st
+            ∙ sym (due-by geometry (event.Post lane tag) w (at_post (Some sts) o)
+            (post-step ∙ ap (λ (x : Option Owner). for_owner x w (at_post (statuses_in (group_in (Some l) tag) l)))
+            (owner-there geometry w t.command.guest guest c there found)
+            ∙ ap (λ (x : Option (List StatusField)). at_post x o) is)
+            ∙ by_enabled (is_enabled c) _ _ _ (posted (post c t.command.queue 0 (cid_of t.command.entry) st) st (group w lane tag) o) refl)
 
 -- ---- Admin
 

@@ -3,10 +3,11 @@ use Rattle.std.proofs.Common.{◌≡◌, ℕ, ◌&&◌, Bool, true, false, cond,
 use Rattle.std.proofs.lemmas.Option.{slice_get_within}
 use Rattle.std.specs.Prelude.{nat_le}
 use Rattle.nv_core.specs.State.{IsOf, IsStep, State, world_of}
-use Rattle.nv_core.specs.Tags.{state_in, untaken}
+use Rattle.nv_core.specs.Tags.{untaken}
+use Rattle.nv_core.proofs.GroupWorlds.{IsTakenHere, not-taken, taken-found, taken-step, taken-there}
 use Rattle.nv_core.proofs.Placed.{owner, owner-there, same-size}
-use Rattle.nv_core.proofs.TakenTags.{IsTaken, not-taken, tag-set, taken-lane}
 use Rattle.nv_laws_sound.proofs.Lists.{slice_get-there}
+use Rattle.nv_laws_sound.proofs.Retags.{with_tag-is}
 use Rattle.nv_mem.specs.GuestMap.{everywhere, mapped}
 use Rattle.nv_model.specs.Controller.{Controller}
 use Rattle.nv_model.specs.Limits.{part_size}
@@ -14,29 +15,27 @@ use Rattle.nv_model.specs.Memory.{byte_in, bytes_from, image}
 use Rattle.nv_model.specs.Transcript.{ReadDone}
 use Rattle.nv_model.specs.declared.reply.Reply.{Reply}
 use Rattle.nv_model.specs.declared.reply.Reply.TheVariants as reply
-use Rattle.nv_tags.specs.declared.state.TagState.{TagState}
 use Rattle.nv_world_model.specs.declared.event.Event.TheVariants as event
 use Rattle.nv_world_model.specs.Geometry.{Geometry, Guest, regions_of}
 use Rattle.nv_world_model.specs.Seat.{Owner, owner_by, owner_of}
-use Rattle.nv_world_model.specs.Step.{After, for_owner, for_taken, list_at, listed, replied, step}
-use Rattle.nv_world_model.specs.World.{Command, Lane, Tag, Taken, World, tag_changed, tag_in, tag_of}
+use Rattle.nv_world_model.specs.Step.{After, for_owner, list_at, listed, replied, step}
+use Rattle.nv_world_model.specs.World.{Command, Lane, Tag, Taken, World, tag_changed, tag_of}
 
 module _ (geometry : Geometry) (s old : State) (lane tag addr len : ℕ) where
-  pub list-not : (st : Option TagState) (u : Option Reply) (r : Reply)
-      → st ≡ state_in (tag_of (world_of s) lane tag) → u ≡ untaken st → u ≡ Some r → IsStep geometry (event.List lane tag addr len) s r s
+  pub list-not : (u : Option Reply) (r : Reply) → u ≡ untaken tag (tag_of (world_of s) lane tag) → u ≡ Some r
+      → IsStep geometry (event.List lane tag addr len) s r s
   unfolding step
-  list-not st u r is was e =
-      record { after = sym (not-taken (tag_of (world_of s) lane tag) r (world_of s) _ (ap untaken (sym is) ∙ sym was ∙ e)); size = same-size s }
+  list-not u r is e =
+      record { after = sym (not-taken tag (tag_of (world_of s) lane tag) r (world_of s) _ (sym is ∙ e)); size = same-size s }
 
-  module _ (t : IsTaken s.lanes lane tag) where
+  module _ (t : IsTakenHere s.lanes lane tag) where
     -- the event of a tag that is taken
     list-step : step geometry (event.List lane tag addr len) (world_of s)
         ≡ for_owner (owner_of geometry (world_of s) t.command.guest) (world_of s) (λ o. list_at addr len lane tag t.command t.reads o (world_of s))
     unfolding step
     list-step =
         let w = world_of s in
-        ap (λ (x : Option Tag). for_taken x w (λ command reads. for_owner (owner_of geometry w command.guest) w (λ o. list_at addr len lane tag command reads o w)))
-        (ap (λ (x : Option Lane). tag_in x tag) t.found ∙ t.there)
+        taken-step w lane tag t (λ command reads. for_owner (owner_of geometry w command.guest) w (λ o. list_at addr len lane tag command reads o w))
 
     -- nobody's command
     pub list-nobody : (guest : ℕ) → guest ≡ t.command.guest → slice_get geometry.guests guest ≡ None → IsStep geometry (event.List lane tag addr len) s reply.Stale s
@@ -53,7 +52,7 @@ module _ (geometry : Geometry) (s old : State) (lane tag addr len : ℕ) where
       abbrev pub has : (c : Controller) × (slice_get s.controllers t.command.guest ≡ Some c)
       has =
           let below = slice_get_within geometry.guests t.command.guest guest there in
-          let many = of.consistent.controllers in
+          let many = of.consistent.of_tags.controllers in
           slice_get-there s.controllers t.command.guest (omega arith)
 
       abbrev pub who : Owner
@@ -64,13 +63,20 @@ module _ (geometry : Geometry) (s old : State) (lane tag addr len : ℕ) where
           list-step ∙ ap (λ (x : Option Owner). for_owner x (world_of s) (λ o. list_at addr len lane tag t.command t.reads o (world_of s)))
           (owner-there geometry (world_of s) t.command.guest guest has.0 there has.1)
 
+      -- by its size, and by whether all is mapped
+      abbrev by_size : Bool → After
+      by_size b = cond b (listed addr len lane tag t.command t.reads who (world_of s)) (replied reply.Ignored (world_of s))
+
+      abbrev by_mapped : Bool → After
+      by_mapped b = cond b (by_size (nat_le 1 len && nat_le len part_size)) (replied reply.Unmapped (world_of s))
+
       -- not all mapped
       pub list-unmapped : everywhere (mapped (regions_of guest)) addr len ≡ false → IsStep geometry (event.List lane tag addr len) s reply.Unmapped s
       list-unmapped e =
           record {
             after =
                 sym (list-owned
-                ∙ ap (λ (b : Bool). cond b (cond (nat_le 1 len && nat_le len part_size) (listed addr len lane tag t.command t.reads who (world_of s)) (replied reply.Ignored (world_of s))) (replied reply.Unmapped (world_of s))) e);
+                ∙ ap by_mapped e);
             size = same-size s;
           }
 
@@ -81,8 +87,8 @@ module _ (geometry : Geometry) (s old : State) (lane tag addr len : ℕ) where
           record {
             after =
                 sym (list-owned
-                ∙ ap (λ (b : Bool). cond b (cond (nat_le 1 len && nat_le len part_size) (listed addr len lane tag t.command t.reads who (world_of s)) (replied reply.Ignored (world_of s))) (replied reply.Unmapped (world_of s))) e
-                ∙ ap (λ (b : Bool). cond b (listed addr len lane tag t.command t.reads who (world_of s)) (replied reply.Ignored (world_of s))) sized);
+                ∙ ap by_mapped e
+                ∙ ap by_size sized);
             size = same-size s;
           }
 
@@ -96,9 +102,8 @@ module _ (geometry : Geometry) (s old : State) (lane tag addr len : ℕ) where
       unfolding listed
       list-done i l l_new shown kept same at looked e sized is was new =
           let w = world_of s in
-          let in_lane = taken-lane s.lanes lane tag i l t at looked in
-          let held = subst (λ (k : Lane). slice_get k.tags tag ≡ Some (Taken t.command t.reads)) in_lane t.there in
-          let found = t.found ∙ ap (λ (k : Lane). Some k) in_lane in
+          let held = taken-there s.lanes lane tag t i l at looked in
+          let found = taken-found s.lanes lane tag t i l at looked in
           let bytes = bytes_from (image (regions_of guest) (byte_in s.host)) addr len in
           let joined : List ℕ → Tag = λ bs. Taken t.command (t.reads ++ record { addr = addr; bytes = bs } ∷ []) in
           subst (λ (o : State). IsStep geometry (event.List lane tag addr len) o (reply.Bytes shown) (record s { lanes = set s.lanes i l_new })) same
@@ -108,9 +113,9 @@ module _ (geometry : Geometry) (s old : State) (lane tag addr len : ℕ) where
                 ap (λ (x : List ℕ). let a : After = record { world = record w { lanes = set w.lanes lane l_new }; reply = reply.Bytes x } in a) is
                 ∙ ap (λ (k : Lane). let a : After = record { world = record w { lanes = set w.lanes lane k }; reply = reply.Bytes bytes } in a) (new t.command t.reads held)
                 ∙ ap (λ (x : List ℕ). let a : After = record { world = record w { lanes = set w.lanes lane (tag_changed tag (joined x) l) }; reply = reply.Bytes bytes } in a) was
-                ∙ ap (λ (v : World). let a : After = record { world = v; reply = reply.Bytes bytes } in a) (tag-set w lane tag l (joined bytes) found)
+                ∙ ap (λ (v : World). let a : After = record { world = v; reply = reply.Bytes bytes } in a) (sym (with_tag-is lane tag (joined bytes) w l found))
                 ∙ sym (list-owned
-                ∙ ap (λ (b : Bool). cond b (cond (nat_le 1 len && nat_le len part_size) (listed addr len lane tag t.command t.reads who w) (replied reply.Ignored w)) (replied reply.Unmapped w)) e
-                ∙ ap (λ (b : Bool). cond b (listed addr len lane tag t.command t.reads who w) (replied reply.Ignored w)) sized);
+                ∙ ap by_mapped e
+                ∙ ap by_size sized);
             size = record { host = refl; mediator = refl; blocks = refl };
           }))

@@ -1,5 +1,5 @@
 -- The world at its start, on lists: what lists of one value are as functions.
-use Rattle.std.proofs.Common.{◌≡◌, ℕ, ◌≤◌, inl, inr, Bool, true, false, List, [], get_or, length, replicate, slice_index, arith, refl, sym, subst, ap, ◌∙◌}
+use Rattle.std.proofs.Common.{◌≡◌, ℕ, ◌≤◌, inl, inr, Bool, false, List, [], get_or, length, replicate, slice_index, arith, refl, sym, subst, ap, ◌∙◌}
 use mathlib.Core.Path.{fun_ext}
 use Rattle.std.proofs.lemmas.Bool.{cases_lt}
 use Rattle.std.proofs.lemmas.List.{get_or-replicate, get_or_past, length-replicate}
@@ -11,13 +11,7 @@ use Rattle.nv_model.specs.Memory.{byte_in}
 use Rattle.nv_moves.specs.Flat.{byte_of_block}
 use Rattle.nv_moves.specs.Marks.{mark_of}
 use Rattle.nv_world_model.specs.Geometry.{Geometry}
-use Rattle.nv_core.specs.Tags.{tags_of}
-use Rattle.nv_core.specs.declared.progress.Progress.{Progress}
-use Rattle.nv_core.specs.declared.progress.Progress.TheVariants as progress
-use Rattle.nv_tags.specs.Tags.{Slot}
-use Rattle.nv_tags.specs.Tags as slot
-use Rattle.nv_world_model.specs.Area.{tag_count}
-use Rattle.nv_world_model.specs.World.{Free, Lane, Tag, World, opening_lane, opening_world}
+use Rattle.nv_world_model.specs.World.{Lane, World, opening_lane, opening_world}
 
 -- a list of one value, read where what stands beyond it is that value, too
 reads-one : {X : Type 0} (n i : ℕ) (x : X) → get_or (replicate n x) i x ≡ x
@@ -76,19 +70,6 @@ opening-is geometry host_bytes lanes =
       mediator = refl;
       blocks = length-replicate geometry.disk_blocks (replicate block 0);
     }
-
--- no tag of a lane at its start is used
-pub tags-free : tags_of (replicate 64 slot.Free) (replicate 64 progress.Nothing) ≡ replicate tag_count Free
-unfolding tags_of
-tags-free = refl
-
-pub lane-is : (phase : Bool) (slots : List Slot) (ps : List Progress) → phase ≡ true → slots ≡ replicate tag_count slot.Free
-    → ps ≡ replicate tag_count progress.Nothing → (let l : Lane = record { head = 0; phase = phase; tags = tags_of slots ps } in l) ≡ opening_lane
-lane-is phase slots ps p s q =
-    ap (λ (b : Bool). let l : Lane = record { head = 0; phase = b; tags = tags_of slots ps } in l) p
-    ∙ ap (λ (t : List Slot). let l : Lane = record { head = 0; phase = true; tags = tags_of t ps } in l) s
-    ∙ ap (λ (k : List Progress). let l : Lane = record { head = 0; phase = true; tags = tags_of (replicate tag_count slot.Free) k } in l) q
-    ∙ ap (λ (t : List Tag). let l : Lane = record { head = 0; phase = true; tags = t } in l) tags-free
 
 pub opening-of : (geometry g : Geometry) (host_bytes lanes n : ℕ) (s : State) → g ≡ geometry → s.host ≡ replicate host_bytes 0
     → s.device ≡ opening_physical g.mediator lanes g.disk_blocks → s.lanes ≡ replicate lanes opening_lane

@@ -237,7 +237,7 @@ module _ (geometry : Geometry) (s old : State) (number : ℕ) where
   pub has-controller : (guest : Guest) → IsOf geometry s → slice_get geometry.guests number ≡ Some guest → length s.controllers ≤ number → ⊥
   has-controller guest is there past =
       let below = slice_get_within geometry.guests number guest there in
-      let many = is.consistent.controllers in
+      let many = is.consistent.of_tags.controllers in
       omega arith
 
   -- a guest's map was made for the host
@@ -272,7 +272,7 @@ module _ (geometry : Geometry) (s old : State) (number : ℕ) where
       → c ≡ get_or s.controllers i c → slice_get geometry.guests number ≡ Some guest → m ≡ guest.memory_map → QueuesInPlace (mapped m.regions) c
   in-place i guest c m same is at below has there same_map =
       let here = subst (λ (o : State). IsOf geometry o) (sym same) is in
-      subst (λ (k : Mapping). QueuesInPlace (mapped k.regions) c) (sym same_map) (here.consistent.queues number guest c there (found-at i c at below has))
+      subst (λ (k : Mapping). QueuesInPlace (mapped k.regions) c) (sym same_map) (here.consistent.of_tags.queues number guest c there (found-at i c at below has))
 
   -- the event of the guest's admin queue
   pub admin-done : (i : ℕ) (guest : Guest) (c c_new : Controller) (m : Mapping) (blocks : ℕ) (r : Reply) (host_new : List ℕ)

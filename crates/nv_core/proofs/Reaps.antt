@@ -6,7 +6,7 @@ use Rattle.std.specs.List.{slice_index_or}
 use Rattle.nv_core.specs.State.{IsOf, IsStep, State, world_of}
 use Rattle.nv_core.specs.Tags.{state_in}
 use Rattle.nv_core.proofs.Placed.{same-size}
-use Rattle.nv_core.proofs.Takes.{looked-up}
+use Rattle.nv_core.proofs.GroupWorlds.{looked-up}
 use Rattle.nv_device.specs.Physical.{lane_of, no_lane}
 use Rattle.nv_entry.specs.Completion.{cid_of as completed_cid, status_of}
 use Rattle.nv_entry.specs.Status.{StatusField}
@@ -21,8 +21,8 @@ use Rattle.nv_tags.specs.declared.state.TagState.TheVariants as state
 use Rattle.nv_world_model.specs.Area.{completion_slot, tag_count}
 use Rattle.nv_world_model.specs.Device.{DeviceLane, Held}
 use Rattle.nv_world_model.specs.Geometry.{Geometry}
-use Rattle.nv_world_model.specs.Plan.{Plan}
 use Rattle.nv_world_model.specs.Seat.{completion_at}
+use Rattle.nv_world_model.specs.Share.{Share}
 use Rattle.nv_world_model.specs.Step.{After, completion_read, ended_at, for_device, for_lane, passed_on, reap, reaped, replied, step}
 use Rattle.nv_world_model.specs.World.{Answered, Command, Ended, Flying, Lane, Standing, Tag, World, tag_changed, tag_of, with_lane}
 use Rattle.nv_world_model.specs.declared.event.Event.TheVariants as event
@@ -45,9 +45,9 @@ reap-step geometry lane l d w at there =
 pub record IsNext (geometry : Geometry) (lane : ℕ) (host : ℕ → ℕ) (l : Lane) : Type 0 where
   pub tag : ℕ
   pub command : Command
-  pub plan : Plan
+  pub share : Share
   pub below : tag < tag_count
-  pub flies : slice_get l.tags tag ≡ Some (Flying command plan (Answered l.head))
+  pub flies : slice_get l.tags tag ≡ Some (Flying command share (Answered l.head))
   pub named : completed_cid (bytes_from host (completion_slot geometry.mediator lane l.head) cqe_size) ≡ tag
 
 next-by : (geometry : Geometry) (lane tag : ℕ) (host : ℕ → ℕ) (l : Lane) (held : Option Held) (t : Tag) → IsAnsweredAt geometry lane tag l.head host held t
@@ -56,7 +56,7 @@ next-by geometry lane tag host l held t a there below =
     record {
       tag = tag;
       command = a.command;
-      plan = a.plan;
+      share = a.share;
       below = below;
       flies = there ∙ ap (λ (u : Tag). Some u) a.flies;
       named = a.identifier;
@@ -97,10 +97,10 @@ module _ (geometry : Geometry) (s old : State) (lane : ℕ) (same : s ≡ old) w
     found = looked-up s.lanes lane i l at below has
 
     there : slice_get s.device.lanes lane ≡ Some d
-    there = slice_get-or s.device.lanes lane no_lane (let sides = here.consistent.sides in omega arith)
+    there = slice_get-or s.device.lanes lane no_lane (let sides = here.consistent.of_tags.sides in omega arith)
 
     is : IsLane geometry lane (byte_in s.host) l d
-    is = here.consistent.lanes lane l d found there
+    is = here.consistent.of_tags.lanes lane l d found there
 
     -- the ring is empty
     pub reap-idle : (head posted : ℕ) → head ≡ l.head → posted ≡ d.posted → head ≡ posted
@@ -139,25 +139,25 @@ module _ (geometry : Geometry) (s old : State) (lane : ℕ) (same : s ≡ old) w
         cid-flies = ap (λ (t : ℕ). state_in (slice_get l.tags t)) tag-is ∙ ap state_in next.flies
 
         pub reap-done : (st passed : StatusField) (mid l_new : Lane) → st ≡ status_of completion → passed ≡ passed_on st
-            → ((command : Command) (plan : Plan) (standing : Standing) → slice_get l.tags cid ≡ Some (Flying command plan standing)
-            → mid ≡ tag_changed cid (Ended command passed (Some plan)) l) → l_new ≡ completion_read mid
+            → ((command : Command) (share : Share) (standing : Standing) → slice_get l.tags cid ≡ Some (Flying command share standing)
+            → mid ≡ tag_changed cid (Ended command passed (Some share)) l) → l_new ≡ completion_read mid
             → IsStep geometry (event.Reap lane) old reply.Done (record s { lanes = set s.lanes i l_new })
         unfolding reaped
         reap-done st passed mid l_new told by ends reads =
             let w = world_of s in
             let e : is_empty l.head d.posted ≡ false = ne_eqb l.head d.posted (λ equal. waits (h ∙ equal ∙ sym p)) in
-            let flies : slice_get l.tags cid ≡ Some (Flying next.command next.plan (Answered l.head)) = ap (slice_get l.tags) tag-is ∙ next.flies in
-            let behind : Lane = completion_read (tag_changed cid (Ended next.command (passed_on (status_of completion)) (Some next.plan)) l) in
+            let flies : slice_get l.tags cid ≡ Some (Flying next.command next.share (Answered l.head)) = ap (slice_get l.tags) tag-is ∙ next.flies in
+            let behind : Lane = completion_read (tag_changed cid (Ended next.command (passed_on (status_of completion)) (Some next.share)) l) in
             let lane_is : l_new ≡ behind =
-            reads ∙ ap completion_read (ends next.command next.plan (Answered l.head) flies
-            ∙ ap (λ (x : StatusField). tag_changed cid (Ended next.command x (Some next.plan)) l) (by ∙ ap passed_on told)) in
+            reads ∙ ap completion_read (ends next.command next.share (Answered l.head) flies
+            ∙ ap (λ (x : StatusField). tag_changed cid (Ended next.command x (Some next.share)) l) (by ∙ ap passed_on told)) in
             subst (λ (o : State). IsStep geometry (event.Reap lane) o reply.Done (record s { lanes = set s.lanes i l_new })) same
             (subst (λ (k : ℕ). IsStep geometry (event.Reap lane) s reply.Done (record s { lanes = set s.lanes k l_new })) (sym at)
             (record {
               after =
                   ap (λ (k : Lane). let a : After = record { world = record w { lanes = set w.lanes lane k }; reply = reply.Done } in a) lane_is
                   ∙ ap (λ (v : World). let a : After = record { world = v; reply = reply.Done } in a)
-                  (sym (ended-is w lane cid l next.command next.plan (Answered l.head) (status_of completion) found flies)
+                  (sym (ended-is w lane cid l next.command next.share (Answered l.head) (status_of completion) found flies)
                   ∙ ap (λ (n : ℕ). ended_at (tag_of w lane n) (status_of completion) lane n (with_lane lane completion_read w)) named
                   ∙ ap (λ (bytes : List ℕ). reaped lane bytes w) completion-is)
                   ∙ sym (reap-step geometry lane l d w found there

@@ -1,60 +1,146 @@
 -- A command that was taken, planned, and carried out or put back.
-use Rattle.std.proofs.Common.{◌≡◌, ℕ, List, [], slice_get, Option, Some, None, refl, sym, ap, ◌∙◌, subst}
-use Rattle.nv_core.specs.Submit.{IsCarriedOut, IsJobOf}
-use Rattle.nv_core.specs.Tags.{plan_come, plan_made, state_in}
-use Rattle.nv_device.specs.Physical.{Physical}
+use Rattle.std.proofs.Common.{◌≡◌, ℕ, ◌<◌, ◌⊎◌, inl, inr, List, [], ◌∷◌, length, None, Some, cond, true, false, arith, refl, sym, ap, ◌∙◌, subst}
+use Rattle.nv_core.proofs.MadeParts.{made-whole, whole-of}
+use Rattle.nv_core.proofs.Waits.{moved-group}
+use Rattle.nv_core.specs.Groups.{all_handed, tags_changed}
+use Rattle.nv_core.specs.Submit.{IsCarriedOut, IsGoing, IsJobOf, WaitsForPlan, host_behind, host_handed, lane_behind, lane_handed, tags_behind}
+use Rattle.nv_device.specs.Physical.{Physical, lane_of}
+use Rattle.nv_entry.specs.StatusCode.{done_with}
+use Rattle.nv_entry.specs.declared.status.Status.{Status}
+use Rattle.nv_entry.specs.declared.status_code.StatusCode.TheVariants.{Success}
 use Rattle.nv_laws_sound.proofs.Lists.{set-same, set-set}
+use Rattle.nv_laws_sound.proofs.Planned.{plan_over-is, shares-count}
+use Rattle.nv_model.specs.Queue.{next_slot}
 use Rattle.nv_model.specs.Transcript.{Outcome, ReadDone, Settled}
-use Rattle.nv_plan.specs.Made.{MadePlan, outcome_of}
+use Rattle.nv_ns.specs.Extents.{Namespace}
+use Rattle.nv_plan.specs.Made.{IsJobsPlan, MadePlan, outcome_of, plan_come, plan_made, shares_made}
+use Rattle.nv_plan.specs.Outline.{kind_of}
 use Rattle.nv_plan.specs.declared.job.Job.{Job}
-use Rattle.nv_tags.specs.declared.state.TagState.TheVariants as state
+use Rattle.nv_plan.specs.declared.kind.PlanKind.TheVariants as kind
+use Rattle.nv_world_model.specs.Area.{ring_size}
+use Rattle.nv_world_model.specs.Device.{DeviceLane}
 use Rattle.nv_world_model.specs.Geometry.{Guest}
-use Rattle.nv_world_model.specs.Plan.{Plan, plan_over}
-use Rattle.nv_world_model.specs.World.{Command, Ended, Flying, Free, Lane, Tag, Taken, tag_changed}
-use Rattle.nv_world_model.proofs.Seats.{slice_get-set}
+use Rattle.nv_world_model.specs.Plan.{Answer, Bounced, Direct, NoData, Plan, plan_over}
+use Rattle.nv_world_model.specs.Share.{Share, shares_of, tags_of_entry}
+use Rattle.nv_world_model.specs.ShareArea.{is_no_command}
+use Rattle.nv_world_model.specs.World.{Command, Ended, Flying, Lane, Queued, Tag, Taken, group_in, tag_changed}
 
--- a tag that is taken is a command's
-pub record IsSomeTaken (t : Option Tag) : Type 0 where
-  pub command : Command
-  pub reads : List ReadDone
-  pub there : t ≡ Some (Taken command reads)
+-- ---- by the kind of a plan
 
-pub some-taken : (t : Option Tag) → state_in t ≡ Some state.Taken → IsSomeTaken t
-some-taken None e = cc
-some-taken (Some Free) e = cc
-some-taken (Some (Taken command reads)) e = record { command = command; reads = reads; there = refl }
-some-taken (Some (Flying command plan at)) e = cc
-some-taken (Some (Ended command st plan)) e = cc
+pub kind-answer : (plan : Plan) (st : Status) → kind_of plan ≡ kind.Answer st → plan ≡ Answer st
+kind-answer (Answer s) st e = (let same : s ≡ st = cc in ap Answer same)
+kind-answer (NoData work) st e = cc
+kind-answer (Direct work) st e = cc
+kind-answer (Bounced work) st e = cc
 
-module _ (l moved : Lane) (tag : ℕ) (command : Command) (reads : List ReadDone) (there : slice_get l.tags tag ≡ Some (Taken command reads))
-    (is : moved ≡ tag_changed tag (Taken command []) l) where
-  -- it is taken with its transcript moved out
-  pub moved-there : slice_get moved.tags tag ≡ Some (Taken command [])
-  moved-there = ap (λ (k : Lane). slice_get k.tags tag) is ∙ slice_get-set l.tags tag (Taken command reads) (Taken command []) there
+pub kind-goes : (plan : Plan) → (kind_of plan ≡ kind.NoData) ⊎ ((kind_of plan ≡ kind.Direct) ⊎ (kind_of plan ≡ kind.Bounced)) → IsGoing plan
+kind-goes (Answer st) (inl none) = cc
+kind-goes (Answer st) (inr (inl direct)) = cc
+kind-goes (Answer st) (inr (inr bounced)) = cc
+kind-goes (NoData work) e = tt
+kind-goes (Direct work) e = tt
+kind-goes (Bounced work) e = tt
 
-  pub moved-taken : state_in (slice_get moved.tags tag) ≡ Some state.Taken
-  moved-taken = ap state_in moved-there
+-- ---- behind a plan that goes
 
-  -- a tag that is changed twice
-  pub changed-twice : (t : Tag) → tag_changed tag t moved ≡ tag_changed tag t l
-  changed-twice t =
-      ap (tag_changed tag t) is
-      ∙ ap (λ (ts : List Tag). let k : Lane = record l { tags = ts } in k) (set-set l.tags tag (Taken command []) t)
+pub going-host : (plan : Plan) (tags : List ℕ) (guest : Guest) (entry : List ℕ) (mediator lane : ℕ) (d : DeviceLane) (host : ℕ → ℕ) → IsGoing plan
+    → host_handed tags (shares_of guest.namespace entry plan) guest entry mediator lane d host ≡ host_behind plan tags guest entry mediator lane d host
+going-host (Answer st) tags guest entry mediator lane d host goes = absurd goes
+going-host (NoData work) tags guest entry mediator lane d host goes = refl
+going-host (Direct work) tags guest entry mediator lane d host goes = refl
+going-host (Bounced work) tags guest entry mediator lane d host goes = refl
 
-  -- and with the transcript put back
-  pub put-back : (new : Lane) (back : List ReadDone) → back ≡ reads → new ≡ tag_changed tag (Taken command back) moved → new ≡ l
+pub going-lane : (plan : Plan) (tags : List ℕ) (ns : Namespace) (entry : List ℕ) (d : DeviceLane) → IsGoing plan
+    → lane_handed tags (shares_of ns entry plan) d ≡ lane_behind plan tags ns entry d
+going-lane (Answer st) tags ns entry d goes = absurd goes
+going-lane (NoData work) tags ns entry d goes = refl
+going-lane (Direct work) tags ns entry d goes = refl
+going-lane (Bounced work) tags ns entry d goes = refl
+
+pub going-tags : (plan : Plan) (tags : List ℕ) (ns : Namespace) (command : Command) (at : ℕ) (l : Lane) → IsGoing plan
+    → all_handed tags (shares_of ns command.entry plan) at command l ≡ tags_behind plan tags ns command at l
+going-tags (Answer st) tags ns command at l goes = absurd goes
+going-tags (NoData work) tags ns command at l goes = refl
+going-tags (Direct work) tags ns command at l goes = refl
+going-tags (Bounced work) tags ns command at l goes = refl
+
+-- a plan that goes has shares
+pub shares-some : (p : MadePlan) (n : ℕ) → IsJobsPlan p → IsGoing (plan_made p) → n ≡ tags_of_entry p.given.namespace p.job.sqe → 0 < n
+    → 0 < length (shares_made p)
+shares-some p n is goes many some =
+    let count = shares-count p.given p.job.sqe (plan_made p) (made-whole p is goes) in
+    omega (arith, count, many, some)
+
+pub come-some : (guest : Guest) (entry : List ℕ) (reads : List ReadDone) (plan : Plan) → plan_over guest entry reads ≡ Settled plan
+    → 0 < tags_of_entry guest.namespace entry → IsGoing plan → 0 < length (shares_of guest.namespace entry plan)
+come-some guest entry reads plan come some goes =
+    let count = shares-count guest entry plan (whole-of guest entry plan (plan_over-is guest entry reads plan come) goes) in
+    omega (arith, count, some)
+
+-- ---- a tag that is changed twice
+
+changed-twice : (tag : ℕ) (t now : Tag) (l : Lane) → tag_changed tag now (tag_changed tag t l) ≡ tag_changed tag now l
+changed-twice tag t now l = ap (λ (ts : List Tag). let k : Lane = record l { tags = ts } in k) (set-set l.tags tag t now)
+
+shares-twice : (tag : ℕ) (others : List ℕ) (shares : List Share) (at : ℕ) (command : Command) (t : Tag) (l : Lane) → 0 < length shares
+    → all_handed (tag ∷ others) shares at command (tag_changed tag t l) ≡ all_handed (tag ∷ others) shares at command l
+shares-twice tag others [] at command t l some = absurd (omega (arith, some))
+shares-twice tag others (share ∷ shares) at command t l some =
+    elim (is_no_command share) as (λ b.
+    cond b (all_handed others shares at command (tag_changed tag (Ended command (done_with Success) (Some share)) (tag_changed tag t l)))
+    (all_handed others shares (next_slot ring_size at) command (tag_changed tag (Flying command share (Queued at)) (tag_changed tag t l)))
+    ≡ cond b (all_handed others shares at command (tag_changed tag (Ended command (done_with Success) (Some share)) l))
+    (all_handed others shares (next_slot ring_size at) command (tag_changed tag (Flying command share (Queued at)) l))) [
+      | true ↦ ap (all_handed others shares at command) (changed-twice tag t (Ended command (done_with Success) (Some share)) l)
+      | false ↦ ap (all_handed others shares (next_slot ring_size at) command) (changed-twice tag t (Flying command share (Queued at)) l)
+    ]
+
+plan-twice : (plan : Plan) (tag : ℕ) (others : List ℕ) (ns : Namespace) (at : ℕ) (command : Command) (t : Tag) (l : Lane)
+    → (IsGoing plan → 0 < length (shares_of ns command.entry plan))
+    → tags_behind plan (tag ∷ others) ns command at (tag_changed tag t l) ≡ tags_behind plan (tag ∷ others) ns command at l
+plan-twice (Answer st) tag others ns at command t l some =
+    ap (tags_changed others (Ended command (done_with Success) None)) (changed-twice tag t (Ended command st None) l)
+plan-twice (NoData work) tag others ns at command t l some = shares-twice tag others (shares_of ns command.entry (NoData work)) at command t l (some tt)
+plan-twice (Direct work) tag others ns at command t l some = shares-twice tag others (shares_of ns command.entry (Direct work)) at command t l (some tt)
+plan-twice (Bounced work) tag others ns at command t l some = shares-twice tag others (shares_of ns command.entry (Bounced work)) at command t l (some tt)
+
+-- ---- with the transcript moved out
+
+module _ (ns : Namespace) (l moved : Lane) (tag : ℕ) (waits : WaitsForPlan ns tag l)
+    (is : moved ≡ tag_changed tag (Taken waits.led.command []) l) where
+  -- and put back
+  pub put-back : (new : Lane) (back : List ReadDone) → back ≡ waits.led.reads → new ≡ tag_changed tag (Taken waits.led.command back) moved → new ≡ l
   put-back new back same e =
-      e ∙ ap (λ (rs : List ReadDone). tag_changed tag (Taken command rs) moved) same ∙ changed-twice (Taken command reads)
-      ∙ ap (λ (ts : List Tag). let k : Lane = record l { tags = ts } in k) (set-same l.tags tag (Taken command reads) there)
+      e ∙ ap (λ (rs : List ReadDone). tag_changed tag (Taken waits.led.command rs) moved) same
+      ∙ ap (tag_changed tag (Taken waits.led.command waits.led.reads)) is
+      ∙ changed-twice tag (Taken waits.led.command []) (Taken waits.led.command waits.led.reads) l
+      ∙ ap (λ (ts : List Tag). let k : Lane = record l { tags = ts } in k) (set-same l.tags tag (Taken waits.led.command waits.led.reads) waits.led.is)
 
-  -- what was carried out of it was of the tag as it was
+  -- what was carried out of it was of the tags as they were
   pub carried-on : (plan now : Plan) (guest given : Guest) (mediator lane : ℕ) (host host_new : ℕ → ℕ) (p p_new : Physical) (new : Lane) → plan ≡ now → guest ≡ given
-      → IsCarriedOut plan guest mediator lane tag command host host_new p p_new moved new
-      → IsCarriedOut now given mediator lane tag command host host_new p p_new l new
-  carried-on plan now guest given mediator lane host host_new p p_new new same whose out =
-      subst (λ (q : Plan). IsCarriedOut q given mediator lane tag command host host_new p p_new l new) same
-      (subst (λ (g : Guest). IsCarriedOut plan g mediator lane tag command host host_new p p_new l new) whose
-      (record { memory = out.memory; device = out.device; tags = out.tags ∙ changed-twice _ }))
+      → (IsGoing now → 0 < length (shares_of given.namespace waits.led.command.entry now))
+      → IsCarriedOut plan guest mediator lane (group_in (Some moved) tag) waits.led.command host host_new p p_new moved new
+      → IsCarriedOut now given mediator lane (group_in (Some l) tag) waits.led.command host host_new p p_new l new
+  carried-on plan now guest given mediator lane host host_new p p_new new same whose some out =
+      let command : Command = waits.led.command in
+      let at : ℕ = (lane_of p lane).tail in
+      let own : IsCarriedOut now given mediator lane (group_in (Some moved) tag) command host host_new p p_new moved new =
+      subst (λ (q : Plan). IsCarriedOut q given mediator lane (group_in (Some moved) tag) command host host_new p p_new moved new) same
+      (subst (λ (g : Guest). IsCarriedOut plan g mediator lane (group_in (Some moved) tag) command host host_new p p_new moved new) whose out) in
+      let there : IsCarriedOut now given mediator lane (group_in (Some l) tag) command host host_new p p_new moved new =
+      subst (λ (tags : List ℕ). IsCarriedOut now given mediator lane tags command host host_new p p_new moved new) (moved-group ns l moved tag waits is) own in
+      record {
+        memory = there.memory;
+        device = there.device;
+        tags_are =
+            there.tags_are
+            ∙ ap (λ (tags : List ℕ). tags_behind now tags given.namespace command at moved) waits.first
+            ∙ ap (tags_behind now (tag ∷ waits.others) given.namespace command at) is
+            ∙ plan-twice now tag waits.others given.namespace at command (Taken command []) l some
+            ∙ sym (ap (λ (tags : List ℕ). tags_behind now tags given.namespace command at l) waits.first);
+      }
+
+-- ---- what came of a job
 
 -- what the guest was given, by its parts
 pub given-is : (given : Guest) (g : Guest) → g.memory_map ≡ given.memory_map → g.namespace ≡ given.namespace → g.limit ≡ given.limit → g ≡ given
@@ -76,3 +162,7 @@ outcome-is given g lane tag command reads job o same is e =
 pub made-is : (made : MadePlan) (job : Job) (g : Guest) (plan : Plan) → made.job ≡ job → made.given ≡ g → outcome_of g job ≡ Settled plan → plan_made made ≡ plan
 made-is made job g plan same whose e =
     ap (λ (j : Job). plan_come (outcome_of made.given j)) same ∙ ap (λ (x : Guest). plan_come (outcome_of x job)) whose ∙ ap plan_come e
+
+-- a tag that was taken has one command, and one transcript
+pub one-taken : (c d : Command) (reads more : List ReadDone) → Taken c reads ≡ Taken d more → (c ≡ d) × (reads ≡ more)
+one-taken c d reads more e = (let same : c ≡ d = cc in let other : reads ≡ more = cc in (same, other))

@@ -1,10 +1,11 @@
 pub mod State
 pub mod Tags
+pub mod Groups
+pub mod Handing
 pub mod Seat
-pub mod Take
-pub mod Going
 pub mod Answers
 pub mod Ending
 pub mod Submit
 pub mod Jobs
 pub mod Shown
+pub mod Take

@@ -1,21 +1,32 @@
 //! Whether an event is due: whether it would be done now.
 
-ghost use Rattle.std.specs.Prelude.{◌≡◌, ◌&&◌, ℕ, if◌then◌else◌, is_some, true};
+ghost use Rattle.std.specs.Prelude.{◌≡◌, ℕ, if◌then◌else◌, Option, Some, is_some, length, slice_get, true};
+ghost use Rattle.nv_core.specs.Ending.{IsEnded};
+ghost use Rattle.nv_core.specs.Groups.{statuses_in};
 ghost use Rattle.nv_core.specs.State.{IsOf, world_of};
+ghost use Rattle.nv_core.specs.Take.{is_front_takeable};
 ghost use Rattle.nv_entry.specs.Status.{StatusField};
+ghost use Rattle.nv_mem.specs.GuestMap.{mapped};
 ghost use Rattle.nv_model.specs.Controller.{front, is_enabled, post};
-ghost use Rattle.nv_world_model.specs.Step.{due, free_tag};
+ghost use Rattle.nv_model.specs.Laws.{QueuesInPlace};
+ghost use Rattle.nv_model.specs.Memory.{byte_in, image};
+ghost use Rattle.nv_world_model.specs.Share.{Share};
+ghost use Rattle.nv_world_model.specs.Step.{due};
+ghost use Rattle.nv_world_model.specs.World.{Command, Ended, group_in};
 
 use crate::lane::Lane;
-use crate::layout::Layout;
+use crate::layout::{Given, Layout};
 use crate::state::Core;
 use crate::taking::is_io_queue;
+use nv_mem::Host;
+use nv_plan::tags_wanted;
 use nv_vctl::Vctl;
 use nv_world_model::Event;
 
 impl Core {
     /// Whether an event is one of Admin, Take, DevTake, DevMove, DevPost, Reap and Post and would be done now. Nothing changes, and what it
-    /// costs depends on neither the host nor how many commands are on their way: but for the search of a free tag, nothing is searched.
+    /// costs depends on neither the host nor how many commands are on their way: but for free tags and the tags of one command, nothing is
+    /// searched.
     #[tactic(auto, unfolding(nv_world_model::specs::Step::due))]
     pub fn due(&self, layout: &Layout, event: &Event) -> bool
         requires { IsOf layout.now self.now }
@@ -100,12 +111,12 @@ impl Core {
         ring.head() != self.device.posted(lane)
     }
 
-    // Whether a command of a guest's I/O queue may be taken, and a tag of the lane is free.
+    // Whether a command of a guest's I/O queue may be taken, and as many tags of the lane are free as it wants.
     fn take_due(&self, layout: &Layout, guest: u8, queue: u16, lane: u8) -> bool
         requires { IsOf layout.now self.now }
         ensures { result ≡ due layout.now (Event.Take guest queue lane) (world_of self.now) }
     {
-        let Some(_given) = layout.guest(guest) else {
+        let Some(given) = layout.guest(guest) else {
             return false;
         };
         let number = usize::from(guest);
@@ -121,22 +132,22 @@ impl Core {
         }
         let vctl = &self.controllers[number];
         let ring = &self.lanes[at];
-        is_takeable(queue, vctl, ring)
+        is_takeable(queue, given, &self.host, vctl, ring)
     }
 
-    // Whether the command of a tag has ended, and its guest's controller has room for its completion or is not enabled.
+    // Whether all tags of the command that goes by a tag have ended, and its guest's controller has room for its completion or is not enabled.
     fn post_due(&self, layout: &Layout, lane: u8, tag: u8) -> bool
         requires { IsOf layout.now self.now }
         ensures { result ≡ due layout.now (Event.Post lane tag) (world_of self.now) }
     {
-        let Some(point) = self.state(lane, tag) else {
+        if self.unended(lane, tag).is_some() {
             return false;
-        };
-        let Some(_status) = point.ended() else {
-            return false;
-        };
+        }
         let at = usize::from(lane);
         let ring = &self.lanes[at];
+        if !have_ended(tag, ring) {
+            return false;
+        }
         let claim = ring.ended(tag);
         let guest = claim.guest;
         let Some(_given) = layout.guest(guest) else {
@@ -147,11 +158,30 @@ impl Core {
     }
 }
 
-// Whether a command of a queue may be taken, and a tag is free for it.
-fn is_takeable(queue: u16, vctl: &Vctl, ring: &Lane) -> bool
-    ensures { result ≡ (is_some (front vctl.now queue) && is_some (free_tag ring.now.tags)) }
+// Whether a command of a queue may be taken, and as many tags are free as it wants: one, where the guest has one extent, whatever the command is.
+fn is_takeable(queue: u16, given: &Given, host: &Host, vctl: &Vctl, ring: &Lane) -> bool
+    requires host { given.now.memory_map.host_len ≡ length host.now }
+    requires in_place { QueuesInPlace (mapped given.now.memory_map.regions) vctl.now }
+    ensures { let memory = image given.now.memory_map.regions (byte_in host.now) in
+        result ≡ is_front_takeable (front vctl.now queue) given.now.namespace memory ring.now.tags }
 {
-    vctl.waits(queue) && ring.has_free()
+    if given.ns().len() == 1 {
+        return vctl.waits(queue) && ring.has_free(1);
+    }
+    let Some(entry) = vctl.peek_sqe(queue, given.map(), host) else {
+        return false;
+    };
+    ring.has_free(tags_wanted(&entry, given.ns()))
+}
+
+// Whether all tags of the command that goes by this one have ended.
+fn have_ended(tag: u8, ring: &Lane) -> bool
+    requires ended { IsEnded (slice_get ring.now.tags tag) }
+    requires led { (command : Command) (st : StatusField) (share : Option Share) →
+        slice_get ring.now.tags tag ≡ Some (Ended command st share) → command.leader ≡ tag }
+    ensures { result ≡ is_some (statuses_in (group_in (Some ring.now) tag) ring.now) }
+{
+    ring.outcome(tag).is_some()
 }
 
 // Whether a taken command of a queue may end: with a completion, for which there is room, or without one after a reset.

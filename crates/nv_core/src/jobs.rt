@@ -11,7 +11,6 @@ ghost use Rattle.nv_world_model.specs.World.{Command, Taken};
 
 use crate::lane::Lane;
 use crate::state::Core;
-use crate::tagged::untaken;
 use nv_mem::NoMemory;
 use nv_plan::Job;
 use std::alloc::Global;
@@ -27,7 +26,7 @@ impl Core {
         ensures ok { IfOk result (λ job. job ≡ job_of (world_of self.now) lane tag) }
         ensures err { OnErr result (IsSome (job_of (world_of self.now) lane tag)) }
     {
-        if untaken(self.state(lane, tag)).is_some() {
+        if self.untaken(lane, tag).is_some() {
             return Ok(None);
         }
         let job = self.lanes[usize::from(lane)].job(alloc, lane, tag)?;

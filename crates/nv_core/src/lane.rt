@@ -1,22 +1,20 @@
 //! The mediator's side of a lane.
 
-ghost use Rattle.std.specs.Prelude.{◌≡◌, ◌∷◌, ◌++◌, [], List, IfSome, MatchOption, None, OnErr, OnOk, Some, is_some, slice_get};
-ghost use Rattle.nv_core.specs.Tags.{IsReading, state_in};
+ghost use Rattle.std.specs.Prelude.{◌≡◌, ◌<◌, ◌∷◌, ◌++◌, [], All, List, ℕ, None, OnErr, OnOk, Some, is_some, option_map, slice_get, true, vec_len};
+ghost use Rattle.nv_core.specs.Groups.{tags_changed};
+ghost use Rattle.nv_core.specs.Tags.{IsReading, command_at, state_in, unended, unled, untaken};
 ghost use Rattle.nv_core.specs.declared.progress.Progress.TheVariants as progress;
-ghost use Rattle.nv_entry.specs.StatusCode.{done_with};
-ghost use Rattle.nv_entry.specs.declared.status_code.StatusCode.TheVariants.{InternalError};
 ghost use Rattle.nv_model.specs.Transcript.{ReadDone as Read};
-ghost use Rattle.nv_tags.specs.Tags.{command_of};
+ghost use Rattle.nv_tags.specs.Tags.{command_of, set_each};
 ghost use Rattle.nv_tags.specs.declared.state.TagState.TheVariants as state;
-ghost use Rattle.nv_world_model.specs.Step.{free_tag};
-ghost use Rattle.nv_world_model.specs.World.{Command, Ended, Taken, tag_changed};
+ghost use Rattle.nv_world_model.specs.World.{Command, Taken, claimed, lowest, tag_changed};
 
-use crate::progress::Progress;
-use nv_entry::StatusCode;
+use crate::progress::{Progress, keep};
 use nv_mem::NoMemory;
+use nv_model::Reply;
 use nv_plan::{ReadDone, Transcript};
 use nv_ring::Phase;
-use nv_tags::{Claim, TAG_COUNT, TagState, Tags};
+use nv_tags::{Claim, Group, TAG_COUNT, TagState, Tags};
 use std::alloc::Global;
 use std::marker::Model;
 
@@ -54,34 +52,68 @@ impl Lane {
         Some(self.tags.state(tag))
     }
 
-    /// Whether some tag is free.
-    pub(crate) fn has_free(&self) -> bool
-        ensures { result ≡ is_some (free_tag self.now.tags) }
+    /// What is answered where an event wants a command that was taken, by the tag that it goes by; `None` where it is one.
+    pub(crate) fn untaken(&self, tag: u8) -> Option<Reply>
+        ensures { result ≡ untaken tag (slice_get self.now.tags tag) }
+    {
+        match self.state(tag) {
+            None => Some(Reply::Ignored),
+            Some(TagState::Taken) => self.unled(tag),
+            Some(_) => Some(Reply::Stale),
+        }
+    }
+
+    /// What is answered where an event wants a command whose first part has ended, by the tag that it goes by; `None` where it is one.
+    pub(crate) fn unended(&self, tag: u8) -> Option<Reply>
+        ensures { result ≡ unended tag (slice_get self.now.tags tag) }
+    {
+        match self.state(tag) {
+            None => Some(Reply::Ignored),
+            Some(TagState::Ended(_)) => self.unled(tag),
+            Some(_) => Some(Reply::Stale),
+        }
+    }
+
+    // What is answered where a tag that is used is not the one that its command goes by.
+    fn unled(&self, tag: u8) -> Option<Reply>
+        requires { is_some (command_at (slice_get self.now.tags tag)) ≡ true }
+        ensures { (command : Command) → command_at (slice_get self.now.tags tag) ≡ Some command → result ≡ unled tag command }
+    {
+        if self.tags.leader(tag) == tag {
+            return None;
+        }
+        Some(Reply::Stale)
+    }
+
+    /// Whether so many tags are free.
+    pub(crate) fn has_free(&self, count: u8) -> bool
+        requires { 0 < count }
+        ensures { result ≡ is_some (claimed count self.now.tags) }
     {
         // With a field comes what is kept of the lane.
         let _whole = &self.head;
-        self.tags.has_free()
+        if count == 1 {
+            return self.tags.has_free();
+        }
+        self.tags.has_free_group(count)
     }
 
-    /// Gives the command the lowest free tag; `None`, with nothing changed, where no tag is free.
-    pub(crate) fn claim(&mut self, alloc: Global, claim: Claim) -> Option<u8>
-        ensures tag { result ≡ free_tag self.old.tags }
-        ensures some { IfSome result (λ tag. self.new ≡ tag_changed tag (Taken (command_of claim tag) []) self.old) }
+    /// Gives the command the lowest free tags, so many of them, of which it goes by the first; `None`, with nothing changed, where fewer are
+    /// free.
+    pub(crate) fn claim(&mut self, alloc: Global, claim: Claim, count: u8) -> Option<u8>
+        requires { 0 < count }
+        ensures tag { result ≡ option_map lowest (claimed count self.old.tags) }
+        ensures some { (tags : List ℕ) → claimed count self.old.tags ≡ Some tags →
+            self.new ≡ tags_changed tags (Taken (command_of claim (lowest tags)) []) self.old }
         ensures none { result ≡ None → self.new ≡ self.old }
     {
-        let tag = self.tags.claim(claim)?;
-        self.progress[usize::from(tag)] = Progress::Reading(Transcript::new(alloc));
+        let tag = self.tags.claim_group(claim, count)?;
+        if count == 1 {
+            self.progress[usize::from(tag)] = Progress::Reading(Transcript::new(alloc));
+            return Some(tag);
+        }
+        read_nothing(alloc, self.tags.group(tag), &mut self.progress);
         Some(tag)
-    }
-
-    /// The command of a tag that was taken ends with Internal Error.
-    pub(crate) fn give_up(&mut self, tag: u8)
-        requires { state_in (slice_get self.old.tags tag) ≡ Some state.Taken }
-        ensures { (command : Command) (reads : List Read) → slice_get self.old.tags tag ≡ Some (Taken command reads) →
-            self.new ≡ tag_changed tag (Ended command (done_with InternalError) None) self.old }
-    {
-        self.tags.end(tag, StatusCode::InternalError.status());
-        self.progress[usize::from(tag)] = Progress::Nothing;
     }
 
     /// The command of a tag that was taken.
@@ -103,6 +135,17 @@ impl Lane {
         let kept = &mut self.progress[usize::from(tag)];
         push_to(kept, read)?;
         Ok(())
+    }
+}
+
+// Nothing was read yet of the lists of these tags' command.
+fn read_nothing(alloc: Global, tags: Group, kept: &mut Vec<Progress>)
+    requires { All (λ tag. tag < vec_len kept.old) tags }
+    ensures { kept.new.items ≡ set_each tags (progress.Reading []) kept.old.items }
+{
+    let mut left = tags;
+    while let Some(tag) = left.pop() {
+        keep(kept, tag, Progress::Reading(Transcript::new(alloc)));
     }
 }
 

@@ -8,7 +8,8 @@
 //! [`Core::submit`], [`Core::give_up`], [`Core::reap`] and [`Core::post`] of the mediator; [`Core::dev_take`], [`Core::dev_move`],
 //! [`Core::dev_post`], [`Core::dev_fail`] and [`Core::keep`] of the physical controller.
 //! [`Core::submit_plan`] is the Submit of a plan that was made elsewhere, without the state at hand, of the
-//! [`Core::job`] that whoever made it was given; and [`Core::due`] tells which events a worker finds something to do by.
+//! [`Core::job`] that whoever made it was given; [`Core::due`] tells which events a worker finds something to do by, and [`Core::holder`]
+//! whose command a tag has.
 //! [`Core::host`], [`Core::block`] and [`Core::kept`] show the host's memory and the disk.
 #![tactic(auto)]
 
@@ -18,15 +19,20 @@ mod area;
 mod comparing;
 mod device_events;
 mod due;
+mod handing;
+mod holding;
 mod jobs;
 mod keeping;
 mod lane;
 mod lane_ending;
 mod lane_flying;
+mod lane_groups;
+mod lane_handing;
 mod lane_opening;
 mod lane_standing;
 mod layout;
 mod opening;
+mod parts;
 mod physical_entry;
 mod posting;
 mod progress;
@@ -40,5 +46,6 @@ mod tagged;
 mod taking;
 mod writing;
 
+pub use holding::Holder;
 pub use layout::{Given, Layout};
 pub use state::Core;

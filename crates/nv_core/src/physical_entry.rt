@@ -1,17 +1,19 @@
 //! The 64 bytes of a physical command.
 
-ghost use Rattle.std.specs.Prelude.{◌≡◌, ◌+◌, ◌*◌, ◌/◌, ◌%◌, ◌^◌, ◌<◌, ◌∷◌, ◌++◌, [], length};
-ghost use Rattle.nv_core.specs.Submit.{NamesBlocks};
+ghost use Rattle.std.specs.Prelude.{◌≡◌, ◌+◌, ◌-◌, ◌*◌, ◌/◌, ◌%◌, ◌^◌, ◌<◌, ◌∷◌, ◌++◌, [], Some, false, length, true};
 ghost use Rattle.nv_entry.specs.Layout.{bytes_of_dwords};
+ghost use Rattle.nv_entry.specs.Opcode.{io_opcode};
 ghost use Rattle.nv_entry.specs.Status.{bit};
-ghost use Rattle.nv_entry.specs.Submission.{deallocate_of, nlb_of, slba_of};
-ghost use Rattle.nv_model.specs.Judge.{form_of, is_fua};
-ghost use Rattle.nv_ns.specs.Extents.{blocks_in, place_in};
-ghost use Rattle.nv_world_model.specs.Area.{form_dwords, physical_entry, two_dwords};
+ghost use Rattle.nv_entry.specs.Submission.{deallocate_of, opcode_of};
+ghost use Rattle.nv_model.specs.Judge.{has_blocks, is_fua};
+ghost use Rattle.nv_plan.specs.Made.{IsJobsPlan, share_made, shares_made};
+ghost use Rattle.nv_world_model.specs.Area.{physical_entry, two_dwords};
+ghost use Rattle.nv_world_model.specs.Share.{Share};
+ghost use Rattle.nv_world_model.specs.ShareArea.{is_no_command, own_dwords};
 
 use byteorder::{ByteOrder, LittleEndian};
 use nv_entry::{IoOpcode, Sqe};
-use nv_ns::VirtualNs;
+use nv_plan::Plan;
 use nv_prp::Prps;
 
 /// The physical namespace that holds every guest's blocks.
@@ -55,60 +57,58 @@ pub(crate) fn physical_entry(opcode: u8, tag: u8, prps: &Prps, dwords: [u32; 3])
     bytes
 }
 
-/// CDW10 to CDW12 of the physical command for a guest's command of that opcode: the block on the disk with NLB and FUA; or NR and
-/// deallocate; or nothing.
-pub(crate) fn dwords(opcode: IoOpcode, sqe: &Sqe, ns: &VirtualNs) -> [u32; 3]
-    requires { NamesBlocks opcode sqe.now ns.now }
-    ensures { result ≡ form_dwords (form_of opcode) ns.now sqe.now }
+/// CDW10 to CDW12 of a part of a plan for a guest's command of that opcode: the block on the disk with NLB and FUA; or NR and deallocate; or
+/// nothing.
+pub(crate) fn dwords(opcode: IoOpcode, plan: &Plan, part: u8) -> [u32; 3]
+    requires is_plan { IsJobsPlan plan.now }
+    requires opcode { io_opcode (opcode_of plan.now.job.sqe) ≡ Some opcode }
+    requires part { part < length (shares_made plan.now) }
+    requires some { (share : Share) → share_made part plan.now ≡ Some share → is_no_command share ≡ false }
+    ensures { (share : Share) → share_made part plan.now ≡ Some share →
+        result ≡ own_dwords share.plan plan.now.given.namespace plan.now.job.sqe }
 {
     match opcode {
         IoOpcode::Read | IoOpcode::Write | IoOpcode::Compare | IoOpcode::WriteZeroes => {
-            block_dwords(sqe, ns)
+            block_dwords(plan, part)
         }
-        IoOpcode::DatasetManagement => [u32::from(sqe.nr()), deallocate_dword(sqe), 0],
+        IoOpcode::DatasetManagement => range_dwords(plan, part),
         IoOpcode::Flush => [0; 3],
     }
 }
 
-// The block on the disk at which a guest's blocks begin, with its NLB and FUA.
-fn block_dwords(sqe: &Sqe, ns: &VirtualNs) -> [u32; 3]
-    requires { slba_of sqe.now < blocks_in ns.now }
-    ensures { result ≡ two_dwords (place_in ns.now (slba_of sqe.now)) ++ (nlb_of sqe.now + 2 ^ 30 * bit (is_fua sqe.now)) ∷ [] }
+// The block on the disk at which a part's blocks begin, with its NLB and the command's FUA.
+fn block_dwords(plan: &Plan, part: u8) -> [u32; 3]
+    requires opcode { (opcode : IoOpcode) → io_opcode (opcode_of plan.now.job.sqe) ≡ Some opcode → has_blocks opcode ≡ true }
+    requires part { part < length (shares_made plan.now) }
+    ensures { (share : Share) → share_made part plan.now ≡ Some share →
+        result ≡ own_dwords share.plan plan.now.given.namespace plan.now.job.sqe }
 {
-    let start = place_in(sqe.slba(), ns);
-    [low(start), high(start), count_dword(sqe)]
+    let blocks = plan.part_blocks(part);
+    let start = blocks.start();
+    let nlb = (blocks.count() - 1) as u32;
+    let sqe = &plan.job().sqe;
+    [low(start), high(start), count_dword(nlb, sqe)]
 }
 
-// The block on the disk that a block of a namespace is.
-fn place_in(lba: u64, ns: &VirtualNs) -> u64
-    requires { lba < blocks_in ns.now }
-    ensures { result ≡ place_in ns.now lba }
+// The number of a part's ranges, with the command's deallocate.
+fn range_dwords(plan: &Plan, part: u8) -> [u32; 3]
+    requires opcode { io_opcode (opcode_of plan.now.job.sqe) ≡ Some IoOpcode.DatasetManagement }
+    requires part { part < length (shares_made plan.now) }
+    requires some { (share : Share) → share_made part plan.now ≡ Some share → is_no_command share ≡ false }
+    ensures { (share : Share) → share_made part plan.now ≡ Some share →
+        result ≡ own_dwords share.plan plan.now.given.namespace plan.now.job.sqe }
 {
-    let first = ns.as_slice()[0];
-    if lba < first.blocks() {
-        first.base() + lba
-    } else {
-        place_behind(lba, ns)
-    }
-}
-
-// The same, wherever in the namespace the block is.
-fn place_behind(lba: u64, ns: &VirtualNs) -> u64
-    requires { lba < blocks_in ns.now }
-    ensures { result ≡ place_in ns.now lba }
-{
-    let Some(parts) = ns.translate(lba, 1) else {
-        unreachable!()
-    };
-    parts.as_slice()[0].start()
+    let ranges = plan.part_ranges(part);
+    let nr = (ranges.len() - 1) as u32;
+    [nr, deallocate_dword(&plan.job().sqe), 0]
 }
 
 // NLB and FUA.
-fn count_dword(sqe: &Sqe) -> u32
-    ensures { result ≡ nlb_of sqe.now + 2 ^ 30 * bit (is_fua sqe.now) }
+fn count_dword(nlb: u32, sqe: &Sqe) -> u32
+    requires { nlb < 2 ^ 16 }
+    ensures { result ≡ nlb + 2 ^ 30 * bit (is_fua sqe.now) }
 {
-    let blocks = u32::from(sqe.nlb());
-    if sqe.fua() { blocks + FUA } else { blocks }
+    if sqe.fua() { nlb + FUA } else { nlb }
 }
 
 // AD.

@@ -1,44 +1,39 @@
 //! Commands that have ended, completed for their guests.
 
-ghost use Rattle.std.specs.Prelude.{◌≡◌, ◌+◌, ◌*◌, ◌<◌, ◌≤◌, ◌^◌, Option, Some, length, slice_get};
-ghost use Rattle.nv_core.specs.Ending.{MayDeliver, MaySettle, delivered_host, delivers, is_bounced, is_read_of, settled};
+ghost use Rattle.std.specs.Prelude.{◌≡◌, ◌∷◌, ◌<◌, List, ℕ, Option, Some, length, slice_get, true};
+ghost use Rattle.nv_core.specs.Ending.{AreParts, AreReadParts, IsBouncedRead, IsEnded, IsReadPart, MaySettle};
+ghost use Rattle.nv_core.specs.Ending.{delivered_host, delivers, is_bounced, is_read_of, part_delivered, settled, tag_delivered, tags_delivered};
 ghost use Rattle.nv_core.specs.State.{IsOf, IsStep, world_of};
-ghost use Rattle.nv_core.specs.Tags.{state_in};
+ghost use Rattle.nv_core.specs.Submit.{IsPlaced};
 ghost use Rattle.nv_entry.specs.Opcode.{io_opcode};
+ghost use Rattle.nv_entry.specs.Status.{StatusField};
 ghost use Rattle.nv_entry.specs.Submission.{opcode_of};
 ghost use Rattle.nv_laws_sound.specs.Counted.{IsCounted};
 ghost use Rattle.nv_mem.specs.GuestMap.{mapped};
 ghost use Rattle.nv_model.specs.Laws.{QueuesInPlace};
 ghost use Rattle.nv_model.specs.Memory.{byte_in};
-ghost use Rattle.nv_tags.specs.declared.state.TagState.TheVariants as state;
-ghost use Rattle.nv_world_model.specs.Area.{bounce_page, lane_start};
-ghost use Rattle.nv_world_model.specs.Plan.{Plan as WorldPlan};
-ghost use Rattle.nv_world_model.specs.World.{Command, Ended};
+ghost use Rattle.nv_plan.specs.Made.{share_made, shares_made};
+ghost use Rattle.nv_world_model.specs.Area.{bounce_page};
+ghost use Rattle.nv_world_model.specs.Share.{Share};
+ghost use Rattle.nv_world_model.specs.Step.{is_success};
+ghost use Rattle.nv_world_model.specs.World.{Command, Ended, group_in};
 
+use crate::area::TagPlace;
 use crate::lane::Lane;
 use crate::layout::Layout;
 use crate::state::Core;
 use nv_entry::{IoOpcode, Sqe, Status};
-use nv_mem::{GuestMap, Host, PAGE_SIZE};
+use nv_mem::{GuestMap, Host};
 use nv_model::Reply;
-use nv_plan::PlanKind;
+use nv_plan::{Plan, PlanKind};
 use nv_vctl::{Posted, Vctl};
 use nv_world_model::Event;
 
-/// The pages of a lane in the mediator's area.
-const LANE_PAGES: u64 = 2115;
-
-/// The pages of a lane before the first bounce page of tag 0.
-const PAGES_BEFORE: u64 = 4;
-
-/// The pages of a tag.
-const TAG_PAGES: u64 = 33;
-
 impl Core {
-    /// The command of a tag that has ended is completed for its guest, and the tag becomes free. The bytes of a bounced Read that succeeded
-    /// reach the guest first. Where the guest has reset its controller meanwhile, the command runs out without a completion. Held, with
-    /// nothing changed, where the guest's completion queue is full; Stale where the tag is at another point, Ignored where there is no
-    /// such tag.
+    /// The command that goes by a tag, whose parts have all ended, is completed for its guest, and its tags become free. The bytes of a
+    /// bounced Read that succeeded reach the guest first. Where the guest has reset its controller meanwhile, the command runs out without a
+    /// completion. Held, with nothing changed, where the guest's completion queue is full; Stale where some part has not ended, or the tag is
+    /// none that a command goes by; Ignored where there is no such tag.
     ///
     /// The caller knows that each guest's controller counts the guest's commands, as it does in every world that events lead to.
     #[inline(never)]
@@ -47,21 +42,27 @@ impl Core {
         requires counted { IsCounted layout.now (world_of self.old) }
         ensures { IsStep layout.now (Event.Post lane tag) self.old result self.new }
     {
-        let Some(point) = self.state(lane, tag) else {
-            return Reply::Ignored;
-        };
-        let Some(status) = point.ended() else {
-            return Reply::Stale;
-        };
+        if let Some(reply) = self.unended(lane, tag) {
+            return reply;
+        }
         let at = usize::from(lane);
         let ring = &self.lanes[at];
         let guest = ring.ended(tag).guest;
         let Some(given) = layout.guest(guest) else {
             return Reply::Stale;
         };
-        let slot = bounce_page(layout.mediator, lane, tag);
+        let Some(status) = ring.outcome(tag) else {
+            return Reply::Stale;
+        };
+        // The end of the host fits in 64 bits.
+        let _size = self.host.len();
+        let place = TagPlace {
+            mediator: layout.mediator(),
+            lane,
+            tag,
+        };
         let vctl = &mut self.controllers[usize::from(guest)];
-        match settle(slot, tag, status, given.map(), ring, vctl, &mut self.host) {
+        match settle(place, status, given.map(), ring, vctl, &mut self.host) {
             Posted::Held => Reply::Held,
             Posted::Done => {
                 self.lanes[at].release(tag);
@@ -71,65 +72,118 @@ impl Core {
     }
 }
 
-// The host address of the first bounce page of a tag.
-fn bounce_page(mediator: u64, lane: u8, tag: u8) -> u64
-    requires area { lane_start mediator (lane + 1) ≤ 2 ^ 64 }
-    requires tag { tag < 64 }
-    ensures { result ≡ bounce_page mediator lane tag }
-{
-    let pages = LANE_PAGES * u64::from(lane) + PAGES_BEFORE + TAG_PAGES * u64::from(tag);
-    mediator + PAGE_SIZE * pages
-}
-
 // A command that has ended is delivered and completed in its guest's seat, or runs out there.
 fn settle(
-    slot: u64,
-    tag: u8,
+    place: TagPlace,
     status: Status,
     map: &GuestMap,
     ring: &Lane,
     vctl: &mut Vctl,
     host: &mut Host,
 ) -> Posted
-    requires ended { state_in (slice_get ring.now.tags tag) ≡ Some (state.Ended status) }
-    requires may { (command : Command) (plan : Option WorldPlan) → slice_get ring.now.tags tag ≡ Some (Ended command status plan) →
-        MaySettle command plan slot (length host.old) map.now.regions vctl.old }
+    requires placed { IsPlaced place.mediator place.lane place.tag }
+    requires ended { IsEnded (slice_get ring.now.tags place.tag) }
+    requires led { (command : Command) (st : StatusField) (share : Option Share) →
+        slice_get ring.now.tags place.tag ≡ Some (Ended command st share) → command.leader ≡ place.tag }
+    requires may { (command : Command) (st : StatusField) (share : Option Share) →
+        slice_get ring.now.tags place.tag ≡ Some (Ended command st share) → MaySettle command vctl.old }
+    requires parts { (command : Command) (st : StatusField) (share : Option Share) →
+        slice_get ring.now.tags place.tag ≡ Some (Ended command st share) → is_success status ≡ true →
+        AreParts command.entry place.mediator place.lane place.tag ring.now (length host.old) map.now.regions }
     requires host { map.now.host_len ≡ length host.old }
     requires in_place { QueuesInPlace (mapped map.now.regions) vctl.old }
-    ensures settled { (command : Command) (plan : Option WorldPlan) → slice_get ring.now.tags tag ≡ Some (Ended command status plan) →
+    ensures settled { (command : Command) (st : StatusField) (share : Option Share) →
+        slice_get ring.now.tags place.tag ≡ Some (Ended command st share) →
         record { became = result; host = byte_in host.new; controller = vctl.new }
-        ≡ settled command status plan slot map.now.regions (byte_in host.old) vctl.old }
+        ≡ settled command status
+        (delivered_host status place.mediator place.lane (group_in (Some ring.now) place.tag) ring.now map.now.regions (byte_in host.old))
+        map.now.regions (byte_in host.old) vctl.old }
     ensures len { length host.new ≡ length host.old }
 {
-    let claim = ring.ended(tag);
+    let claim = ring.ended(place.tag);
     if !vctl.is_enabled() {
-        deliver(slot, tag, status, map, ring, host);
+        deliver(place, status, map, ring, host);
         vctl.ran_out(claim.queue);
         return Posted::Done;
     }
     if !vctl.has_room(claim.queue) {
         return Posted::Held;
     }
-    deliver(slot, tag, status, map, ring, host);
+    deliver(place, status, map, ring, host);
     vctl.post_cqe(claim.queue, 0, claim.entry.cid(), status, map, host)
 }
 
-// The bytes of a bounced Read that succeeded reach the guest, place by place in order; nothing does of any other command.
-fn deliver(slot: u64, tag: u8, status: Status, map: &GuestMap, ring: &Lane, host: &mut Host)
-    requires ended { state_in (slice_get ring.now.tags tag) ≡ Some (state.Ended status) }
-    requires may { (command : Command) (plan : Option WorldPlan) → slice_get ring.now.tags tag ≡ Some (Ended command status plan) →
-        MayDeliver plan command.entry slot (length host.old) map.now.regions }
+// The bytes of a bounced Read that succeeded reach the guest, part by part, and in each place by place in order; nothing does of any other
+// command.
+fn deliver(place: TagPlace, status: Status, map: &GuestMap, ring: &Lane, host: &mut Host)
+    requires placed { IsPlaced place.mediator place.lane place.tag }
+    requires ended { IsEnded (slice_get ring.now.tags place.tag) }
+    requires led { (command : Command) (st : StatusField) (share : Option Share) →
+        slice_get ring.now.tags place.tag ≡ Some (Ended command st share) → command.leader ≡ place.tag }
+    requires parts { (command : Command) (st : StatusField) (share : Option Share) →
+        slice_get ring.now.tags place.tag ≡ Some (Ended command st share) → is_success status ≡ true →
+        AreParts command.entry place.mediator place.lane place.tag ring.now (length host.old) map.now.regions }
     requires host { map.now.host_len ≡ length host.old }
-    ensures bytes { (command : Command) (plan : Option WorldPlan) → slice_get ring.now.tags tag ≡ Some (Ended command status plan) →
-        byte_in host.new ≡ delivered_host plan status slot map.now.regions (byte_in host.old) }
+    ensures bytes { byte_in host.new ≡
+        delivered_host status place.mediator place.lane (group_in (Some ring.now) place.tag) ring.now map.now.regions (byte_in host.old) }
     ensures len { length host.new ≡ length host.old }
 {
-    let Some(plan) = ring.ended_plan(tag) else {
+    let Some((plan, part)) = ring.ended_part(place.tag) else {
         return;
     };
-    if delivers(plan.kind(), &ring.ended(tag).entry, status) {
-        nv_bounce::scatter(slot, plan.places(), map, host);
+    if delivers(plan.kind(), &ring.ended(place.tag).entry, status) {
+        scatter_part(plan, part, place, map, host);
+        deliver_others(place, map, ring, host);
     }
+}
+
+// The bytes of a bounced Read reach the guest, as far as they are not those of its first part.
+fn deliver_others(place: TagPlace, map: &GuestMap, ring: &Lane, host: &mut Host)
+    requires placed { IsPlaced place.mediator place.lane place.tag }
+    requires ended { IsEnded (slice_get ring.now.tags place.tag) }
+    requires led { (command : Command) (st : StatusField) (share : Option Share) →
+        slice_get ring.now.tags place.tag ≡ Some (Ended command st share) → command.leader ≡ place.tag }
+    requires parts { AreReadParts place.mediator place.lane place.tag ring.now (length host.old) map.now.regions }
+    requires host { map.now.host_len ≡ length host.old }
+    ensures bytes { (others : List ℕ) → group_in (Some ring.now) place.tag ≡ place.tag ∷ others →
+        byte_in host.new ≡ tags_delivered place.mediator place.lane others ring.now map.now.regions (byte_in host.old) }
+    ensures len { length host.new ≡ length host.old }
+{
+    let mut tags = ring.ended_group(place.tag);
+    let _first = tags.pop();
+    while let Some(tag) = tags.pop() {
+        deliver_part(TagPlace { tag, ..place }, map, ring, host);
+    }
+}
+
+// The bytes of a part of a bounced Read reach the guest.
+fn deliver_part(place: TagPlace, map: &GuestMap, ring: &Lane, host: &mut Host)
+    requires placed { IsPlaced place.mediator place.lane place.tag }
+    requires part { IsReadPart (bounce_page place.mediator place.lane place.tag) (length host.old) map.now.regions
+        (slice_get ring.now.tags place.tag) }
+    requires host { map.now.host_len ≡ length host.old }
+    ensures bytes { byte_in host.new ≡
+        tag_delivered (slice_get ring.now.tags place.tag) (bounce_page place.mediator place.lane place.tag) map.now.regions (byte_in host.old) }
+    ensures len { length host.new ≡ length host.old }
+{
+    let Some((plan, part)) = ring.ended_part(place.tag) else {
+        unreachable!()
+    };
+    scatter_part(plan, part, place, map, host);
+}
+
+// The bytes of a part of a bounced Read reach the guest from the bounce pages of the part's tag.
+fn scatter_part(plan: &Plan, part: u8, place: TagPlace, map: &GuestMap, host: &mut Host)
+    requires placed { IsPlaced place.mediator place.lane place.tag }
+    requires part { part < length (shares_made plan.now) }
+    requires read { (share : Share) → share_made part plan.now ≡ Some share →
+        IsBouncedRead share.plan (bounce_page place.mediator place.lane place.tag) (length host.old) map.now.regions }
+    requires host { map.now.host_len ≡ length host.old }
+    ensures bytes { (share : Share) → share_made part plan.now ≡ Some share → byte_in host.new ≡
+        part_delivered share.plan (bounce_page place.mediator place.lane place.tag) map.now.regions (byte_in host.old) }
+    ensures len { length host.new ≡ length host.old }
+{
+    nv_bounce::scatter(place.bounce_page(), plan.part_places(part), map, host);
 }
 
 // Whether a command with a plan of that kind, which has ended with that status, is a bounced Read that succeeded.

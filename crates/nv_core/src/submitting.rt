@@ -2,32 +2,27 @@
 
 ghost use Rattle.std.specs.Prelude.{◌≡◌, ◌<◌, ◌↔◌, [], IfOk, IfSome, IsTrue, List, None, OnErr, Some, length, slice_get};
 ghost use Rattle.nv_core.specs.State.{IsOf, IsStep, world_of};
-ghost use Rattle.nv_core.specs.Submit.{HasRoom, IsCarriedOut, IsCurrent, IsGoing, IsJobOf, IsSubmitted};
-ghost use Rattle.nv_core.specs.Tags.{plan_made, state_in};
+ghost use Rattle.nv_core.specs.Submit.{HaveRoom, IsCarriedOut, IsCurrent, IsGoing, IsJobOf, IsSubmitted, WaitsForPlan};
+ghost use Rattle.nv_core.specs.Tags.{state_in};
 ghost use Rattle.nv_model.specs.Memory.{byte_in};
-ghost use Rattle.nv_model.specs.Queue.{next_slot};
 ghost use Rattle.nv_model.specs.Transcript.{ReadDone as Read};
+ghost use Rattle.nv_plan.specs.Made.{IsJobsPlan, plan_made};
 ghost use Rattle.nv_tags.specs.declared.state.TagState.TheVariants as state;
-ghost use Rattle.nv_world_model.specs.Area.{ring_size};
 ghost use Rattle.nv_world_model.specs.Plan.{plan_over};
-ghost use Rattle.nv_world_model.specs.World.{Command, Taken, tag_changed};
+ghost use Rattle.nv_world_model.specs.World.{Command, Taken, group_in, tag_changed};
 
 use crate::area::TagPlace;
 use crate::comparing::is_given;
+use crate::handing::hand_all;
 use crate::lane::Lane;
 use crate::layout::{Given, Layout};
 use crate::state::Core;
-use crate::tagged::untaken;
-use crate::writing::write;
 use nv_device::Device;
 use nv_mem::{Host, NoMemory};
 use nv_model::Reply;
 use nv_plan::{Job, Plan, PlanKind, Planned, Transcript, make_plan};
 use nv_world_model::Event;
 use std::alloc::Global;
-
-/// The slots of a lane's submission ring.
-const RING_SIZE: u16 = 65;
 
 impl Core {
     /// Plans the command of a tag that was taken, and carries the plan out: the command is handed to the physical controller, or ends
@@ -45,7 +40,7 @@ impl Core {
         ensures ok { IfOk result (λ reply. IsStep layout.now (Event.Submit lane tag) self.old reply self.new) }
         ensures err { OnErr result (self.new ≡ self.old) }
     {
-        if let Some(reply) = untaken(self.state(lane, tag)) {
+        if let Some(reply) = self.untaken(lane, tag) {
             return Ok(reply);
         }
         let at = usize::from(lane);
@@ -93,7 +88,7 @@ impl Core {
         ensures { IsTrue result ↔ IsCurrent layout.now (world_of self.now) plan.now }
     {
         let job = plan.job();
-        if untaken(self.state(job.lane, job.tag)).is_some() {
+        if self.untaken(job.lane, job.tag).is_some() {
             return false;
         }
         let Some(given) = layout.guest(job.guest) else {
@@ -104,7 +99,7 @@ impl Core {
     }
 }
 
-// Plans the command of a tag that was taken, and carries the plan out.
+// Plans the command that waits for its plan and goes by a tag, and carries the plan out.
 fn submit_on(
     alloc: Global,
     given: &Given,
@@ -113,12 +108,12 @@ fn submit_on(
     device: &mut Device,
     ring: &mut Lane,
 ) -> Result<Reply, NoMemory>
-    requires room { HasRoom place.mediator place.lane place.tag given.now host.old }
+    requires room { HaveRoom place.mediator place.lane given.now host.old }
     requires lane { place.lane < length device.old.lanes }
-    requires taken { state_in (slice_get ring.old.tags place.tag) ≡ Some state.Taken }
+    requires waits { WaitsForPlan given.now.namespace place.tag ring.old }
     ensures ok { IfOk result (λ reply. (command : Command) (reads : List Read) →
         slice_get ring.old.tags place.tag ≡ Some (Taken command reads) →
-        IsSubmitted (plan_over given.now command.entry reads) given.now place.mediator place.lane place.tag command reply
+        IsSubmitted (plan_over given.now command.entry reads) given.now place.mediator place.lane (group_in (Some ring.old) place.tag) command reply
         (byte_in host.old) (byte_in host.new) device.old device.new ring.old ring.new) }
     ensures err { OnErr result ((host.new ≡ host.old) × ((device.new ≡ device.old) × (ring.new ≡ ring.old))) }
     ensures len { length host.new ≡ length host.old }
@@ -159,14 +154,15 @@ fn take_job(alloc: Global, place: TagPlace, ring: &mut Lane) -> Job
     }
 }
 
-// Carries out the plan of a tag that was taken.
+// Carries out the plan of the command that waits for it and goes by a tag.
 fn carry_out(plan: Plan, place: TagPlace, host: &mut Host, device: &mut Device, ring: &mut Lane)
-    requires room { HasRoom place.mediator place.lane place.tag plan.given host.old }
+    requires room { HaveRoom place.mediator place.lane plan.given host.old }
     requires lane { place.lane < length device.old.lanes }
-    requires taken { state_in (slice_get ring.old.tags place.tag) ≡ Some state.Taken }
+    requires waits { WaitsForPlan plan.given.namespace place.tag ring.old }
+    requires whose { (command : Command) (reads : List Read) → slice_get ring.old.tags place.tag ≡ Some (Taken command reads) →
+        command.entry ≡ plan.job.sqe }
     ensures done { (command : Command) (reads : List Read) → slice_get ring.old.tags place.tag ≡ Some (Taken command reads) →
-        command.entry ≡ plan.job.sqe →
-        IsCarriedOut (plan_made plan) plan.given place.mediator place.lane place.tag command
+        IsCarriedOut (plan_made plan) plan.given place.mediator place.lane (group_in (Some ring.old) place.tag) command
         (byte_in host.old) (byte_in host.new) device.old device.new ring.old ring.new }
     ensures len { length host.new ≡ length host.old }
 {
@@ -178,29 +174,22 @@ fn carry_out(plan: Plan, place: TagPlace, host: &mut Host, device: &mut Device, 
     }
 }
 
-// Hands the command of a tag that was taken to the physical controller: what its plan wants is written, and the doorbell is rung.
+// Hands the command that waits for its plan and goes by a tag to the physical controller: what each part of the plan wants is written, and the
+// doorbell is rung for it.
 fn hand_on(plan: Plan, place: TagPlace, host: &mut Host, device: &mut Device, ring: &mut Lane)
+    requires is_plan { IsJobsPlan plan }
     requires goes { IsGoing (plan_made plan) }
-    requires room { HasRoom place.mediator place.lane place.tag plan.given host.old }
+    requires room { HaveRoom place.mediator place.lane plan.given host.old }
     requires lane { place.lane < length device.old.lanes }
-    requires taken { state_in (slice_get ring.old.tags place.tag) ≡ Some state.Taken }
+    requires waits { WaitsForPlan plan.given.namespace place.tag ring.old }
+    requires whose { (command : Command) (reads : List Read) → slice_get ring.old.tags place.tag ≡ Some (Taken command reads) →
+        command.entry ≡ plan.job.sqe }
     ensures done { (command : Command) (reads : List Read) → slice_get ring.old.tags place.tag ≡ Some (Taken command reads) →
-        command.entry ≡ plan.job.sqe →
-        IsCarriedOut (plan_made plan) plan.given place.mediator place.lane place.tag command
+        IsCarriedOut (plan_made plan) plan.given place.mediator place.lane (group_in (Some ring.old) place.tag) command
         (byte_in host.old) (byte_in host.new) device.old device.new ring.old ring.new }
     ensures len { length host.new ≡ length host.old }
 {
     let at = device.tail(place.lane);
-    write(&plan, place, at, host);
-    device.ring(place.lane, next_slot(at));
+    hand_all(&plan, place, ring, host, device);
     ring.fly(place.tag, plan, at);
-}
-
-// The slot behind a slot of a submission ring, going round.
-fn next_slot(at: u16) -> u16
-    requires { at < ring_size }
-    ensures value { result ≡ next_slot ring_size at }
-    ensures fits { result < ring_size }
-{
-    (at + 1) % RING_SIZE
 }

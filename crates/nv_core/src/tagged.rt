@@ -1,20 +1,20 @@
 //! Events of tags that were taken.
 
 ghost use Rattle.std.specs.Prelude.{◌≡◌, ◌&&◌, IfOk, OnErr, nat_le};
-ghost use Rattle.nv_model.specs.Limits.{part_size};
 ghost use Rattle.nv_core.specs.State.{IsOf, IsStep, world_of};
 ghost use Rattle.nv_core.specs.Seat.{bytes_told};
-ghost use Rattle.nv_core.specs.Tags.{state_in, untaken};
+ghost use Rattle.nv_core.specs.Tags.{unended, untaken};
+ghost use Rattle.nv_model.specs.Limits.{part_size};
 ghost use Rattle.nv_world_model.specs.World.{tag_of};
 
 use crate::layout::Layout;
 use crate::seat;
 use crate::state::Core;
+use nv_entry::StatusCode;
 use nv_mem::{Bytes, NoMemory};
 use nv_model::Reply;
 use nv_model::limits::PART_SIZE;
 use nv_plan::ReadDone;
-use nv_tags::TagState;
 use nv_world_model::Event;
 use std::alloc::Global;
 
@@ -26,10 +26,10 @@ impl Core {
         requires { IsOf _layout.now self.old }
         ensures { IsStep _layout.now (Event.GiveUp lane tag) self.old result self.new }
     {
-        if let Some(reply) = untaken(self.state(lane, tag)) {
+        if let Some(reply) = self.untaken(lane, tag) {
             return reply;
         }
-        self.lanes[usize::from(lane)].give_up(tag);
+        self.lanes[usize::from(lane)].answer(tag, StatusCode::InternalError.status());
         Reply::Done
     }
 
@@ -53,7 +53,7 @@ impl Core {
         ensures again { IfOk result (λ told. told.1 ≡ bytes_told told.0) }
         ensures err { OnErr result (self.new ≡ self.old) }
     {
-        if let Some(reply) = untaken(self.state(lane, tag)) {
+        if let Some(reply) = self.untaken(lane, tag) {
             return Ok((reply, None));
         }
         let at = usize::from(lane);
@@ -77,26 +77,26 @@ impl Core {
         Ok((Reply::Bytes(shown), Some(again)))
     }
 
-    /// Where a tag of a lane is; `None` where there is no such tag.
-    pub(crate) fn state(&self, lane: u8, tag: u8) -> Option<TagState>
-        ensures { result ≡ state_in (tag_of (world_of self.now) lane tag) }
+    /// What is answered where an event wants a command that was taken, by the tag that it goes by; `None` where it is one.
+    pub(crate) fn untaken(&self, lane: u8, tag: u8) -> Option<Reply>
+        ensures { result ≡ untaken tag (tag_of (world_of self.now) lane tag) }
     {
         let number = usize::from(lane);
         if number >= self.lanes.len() {
-            return None;
+            return Some(Reply::Ignored);
         }
-        self.lanes[number].state(tag)
+        self.lanes[number].untaken(tag)
     }
-}
 
-// What is answered where an event wants a tag that was taken; `None` where it is one.
-pub(crate) fn untaken(state: Option<TagState>) -> Option<Reply>
-    ensures { result ≡ untaken state }
-{
-    match state {
-        None => Some(Reply::Ignored),
-        Some(TagState::Taken) => None,
-        Some(_) => Some(Reply::Stale),
+    /// What is answered where an event wants a command whose first part has ended, by the tag that it goes by; `None` where it is one.
+    pub(crate) fn unended(&self, lane: u8, tag: u8) -> Option<Reply>
+        ensures { result ≡ unended tag (tag_of (world_of self.now) lane tag) }
+    {
+        let number = usize::from(lane);
+        if number >= self.lanes.len() {
+            return Some(Reply::Ignored);
+        }
+        self.lanes[number].unended(tag)
     }
 }
 

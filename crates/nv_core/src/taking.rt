@@ -15,14 +15,15 @@ use crate::layout::{Given, Layout};
 use crate::state::Core;
 use nv_mem::Host;
 use nv_model::Reply;
+use nv_plan::tags_wanted;
 use nv_tags::Claim;
 use nv_vctl::{LAST_QUEUE, Vctl};
 use nv_world_model::Event;
 use std::alloc::Global;
 
 impl Core {
-    /// The command at the front of a guest's I/O queue gets the lowest free tag of a lane. Idle where none may be taken, Busy where no tag
-    /// is free, Ignored where there is no such guest or lane, or the queue is none of 1 to 8.
+    /// The command at the front of a guest's I/O queue gets the lowest free tags of a lane, as many as it may become physical commands. Idle
+    /// where none may be taken, Busy where fewer tags are free, Ignored where there is no such guest or lane, or the queue is none of 1 to 8.
     ///
     /// The caller knows that one more taken command can be counted.
     #[inline(never)]
@@ -58,7 +59,7 @@ pub(crate) fn is_io_queue(queue: u16) -> bool
     1 <= queue && queue <= LAST_QUEUE
 }
 
-// The command at the front of a queue gets a tag.
+// The command at the front of a queue gets its tags.
 fn take_front(
     alloc: Global,
     guest: u8,
@@ -72,17 +73,18 @@ fn take_front(
     requires in_place { QueuesInPlace (mapped given.now.memory_map.regions) vctl.old }
     requires counted { slice_index vctl.old.taken queue < most_taken }
     ensures { let memory = image given.now.memory_map.regions (byte_in host.now) in
-        IsFrontTaken (front vctl.old queue) guest queue memory result vctl.old vctl.new ring.old ring.new }
+        IsFrontTaken (front vctl.old queue) guest queue given.now.namespace memory result vctl.old vctl.new ring.old ring.new }
 {
     let Some(entry) = vctl.peek_sqe(queue, given.map(), host) else {
         return Reply::Idle;
     };
+    let count = tags_wanted(&entry, given.ns());
     let claim = Claim {
         guest,
         queue,
         entry,
     };
-    if ring.claim(alloc, claim).is_none() {
+    if ring.claim(alloc, claim, count).is_none() {
         return Reply::Busy;
     }
     vctl.took(queue);

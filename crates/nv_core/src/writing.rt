@@ -1,62 +1,67 @@
 //! What is written for a physical command: the list that names its transfer, what stands in the bounce pages, and its entry.
 
-ghost use Rattle.std.specs.Prelude.{◌≡◌, ◌+◌, ◌*◌, ◌<◌, ◌≤◌, List, [], ℕ, false, length};
+ghost use Rattle.std.specs.Prelude.{◌≡◌, ◌+◌, ◌*◌, ◌<◌, ◌≤◌, List, [], ℕ, Some, false, length};
 ghost use Rattle.std.specs.List.{flat_map};
-ghost use Rattle.nv_core.specs.Submit.{HasRoom, IsGoing, IsPlaced};
-ghost use Rattle.nv_core.specs.Tags.{plan_made};
-ghost use Rattle.nv_device.specs.Physical.{len_of};
+ghost use Rattle.nv_core.specs.Submit.{HasRoom, IsPlaced};
 ghost use Rattle.nv_entry.specs.Layout.{number_bytes};
-ghost use Rattle.nv_entry.specs.Opcode.{io_opcode};
 ghost use Rattle.nv_entry.specs.Submission.{opcode_of};
 ghost use Rattle.nv_mem.specs.GuestMap.{span_met};
 ghost use Rattle.nv_model.specs.Limits.{most_bytes};
 ghost use Rattle.nv_model.specs.Memory.{byte_in, stored};
-ghost use Rattle.nv_plan.specs.Made.{IsJobsPlan};
+ghost use Rattle.nv_plan.specs.Made.{IsJobsPlan, share_made, shares_made};
 ghost use Rattle.nv_prp.specs.Built.{built};
-ghost use Rattle.nv_world_model.specs.Area.{bounce_page, bounced_bytes, list_page, physical_entry, plan_dwords, prps_of, ring_size, written};
+ghost use Rattle.nv_world_model.specs.Area.{bounce_page, list_page, physical_entry, prps_of, ring_size};
 ghost use Rattle.nv_world_model.specs.Geometry.{regions_of};
+ghost use Rattle.nv_world_model.specs.Share.{Share};
+ghost use Rattle.nv_world_model.specs.ShareArea.{is_no_command, own_bytes, own_dwords, share_written};
 
 use crate::area::TagPlace;
 use crate::physical_entry::{dwords, physical_entry};
-use nv_entry::{IoOpcode, Range, Sqe};
+use nv_entry::{IoOpcode, Range};
 use nv_mem::Host;
-use nv_model::limits::{BLOCK_SIZE, RANGE_SIZE};
+use nv_model::limits::RANGE_SIZE;
 use nv_plan::{Plan, PlanKind};
 use nv_prp::Prps;
 
-/// Writes the list, the source or the ranges, and the physical entry of a plan, which goes to slot `at` of its lane's submission ring.
+/// Writes the list, the source or the ranges, and the physical entry of a part of a plan, which goes to slot `at` of its lane's submission
+/// ring.
 ///
-/// The plan is not an answer. Its tag's pages and the ring lie in the host, and outside of the memory of the guest that it was made for.
-pub(crate) fn write(plan: &Plan, place: TagPlace, at: u16, host: &mut Host)
-    requires goes { IsGoing (plan_made plan.now) }
+/// The part is a physical command. Its tag's pages and the ring lie in the host, and outside of the memory of the guest that the plan was made
+/// for.
+pub(crate) fn write(plan: &Plan, part: u8, place: TagPlace, at: u16, host: &mut Host)
+    requires part { part < length (shares_made plan.now) }
+    requires some { (share : Share) → share_made part plan.now ≡ Some share → is_no_command share ≡ false }
     requires room { HasRoom place.mediator place.lane place.tag plan.now.given host.old }
     requires at { at < ring_size }
-    ensures bytes { byte_in host.new ≡
-        written (plan_made plan.now) plan.now.given plan.now.job.sqe place.mediator place.lane place.tag at (byte_in host.old) }
+    ensures bytes { (share : Share) → share_made part plan.now ≡ Some share →
+        byte_in host.new ≡
+        share_written share plan.now.given plan.now.job.sqe place.mediator place.lane place.tag at (byte_in host.old) }
     ensures len { length host.new ≡ length host.old }
 {
     // The end of the host fits in 64 bits.
     let _size = host.len();
-    let prps = prps_of(plan, place);
+    let prps = prps_of(plan, part, place);
     store_numbers(&prps.list[..prps.used], place.list_page(), host);
-    write_bounced(plan, place.bounce_page(), host);
-    let entry = entry_of(plan, place.tag, &prps);
+    write_bounced(plan, part, place.bounce_page(), host);
+    let entry = entry_of(plan, part, place.tag, &prps);
     host.store(place.submission_slot(at), &entry);
 }
 
-// What names the transfer of a plan.
-fn prps_of(plan: &Plan, place: TagPlace) -> Prps
-    requires { IsPlaced place.mediator place.lane place.tag }
-    ensures value { result ≡ prps_of (plan_made plan.now) plan.now.given
+// What names the transfer of a part.
+fn prps_of(plan: &Plan, part: u8, place: TagPlace) -> Prps
+    requires part { part < length (shares_made plan.now) }
+    requires some { (share : Share) → share_made part plan.now ≡ Some share → is_no_command share ≡ false }
+    requires placed { IsPlaced place.mediator place.lane place.tag }
+    ensures value { (share : Share) → share_made part plan.now ≡ Some share → result ≡ prps_of share.plan plan.now.given
         (list_page place.mediator place.lane place.tag) (bounce_page place.mediator place.lane place.tag) }
     ensures is_plan { IsJobsPlan plan.now }
 {
     match plan.kind() {
         PlanKind::Answer(_) | PlanKind::NoData => nothing(),
-        PlanKind::Direct => nv_prp::build(plan.map(), plan.places(), place.list_page()),
+        PlanKind::Direct => nv_prp::build(plan.map(), plan.part_places(part), place.list_page()),
         PlanKind::Bounced => nv_prp::build_run(
             place.bounce_page(),
-            transfer_len(&plan.job().sqe),
+            plan.part_len(part),
             place.list_page(),
         ),
     }
@@ -74,26 +79,14 @@ fn nothing() -> Prps
     }
 }
 
-// How many bytes a command transfers.
-fn transfer_len(sqe: &Sqe) -> u64
-    ensures { result ≡ len_of (io_opcode (opcode_of sqe.now)) sqe.now }
-{
-    match sqe.io_opcode() {
-        Some(IoOpcode::Read | IoOpcode::Write | IoOpcode::Compare) => {
-            BLOCK_SIZE as u64 * (u64::from(sqe.nlb()) + 1)
-        }
-        Some(IoOpcode::DatasetManagement) => RANGE_SIZE as u64 * (u64::from(sqe.nr()) + 1),
-        Some(IoOpcode::Flush | IoOpcode::WriteZeroes) | None => 0,
-    }
-}
-
-// Writes what stands in the bounce pages of a plan: the bytes of a source, or the ranges of a Dataset Management as the disk has them.
-fn write_bounced(plan: &Plan, bounce: u64, host: &mut Host)
+// Writes what stands in the bounce pages of a part: the bytes of a source, or the ranges of a Dataset Management as the disk has them.
+fn write_bounced(plan: &Plan, part: u8, bounce: u64, host: &mut Host)
+    requires part { part < length (shares_made plan.now) }
     requires host { plan.now.given.memory_map.host_len ≡ length host.old }
     requires inside { bounce + most_bytes ≤ length host.old }
     requires apart { span_met (regions_of plan.now.given) bounce most_bytes ≡ false }
-    ensures bytes { let before = byte_in host.old in
-        byte_in host.new ≡ stored before bounce (bounced_bytes (plan_made plan.now) plan.now.given before) }
+    ensures bytes { (share : Share) → share_made part plan.now ≡ Some share → let before = byte_in host.old in
+        byte_in host.new ≡ stored before bounce (own_bytes share.plan plan.now.given.namespace plan.now.given before) }
     ensures len { length host.new ≡ length host.old }
 {
     let PlanKind::Bounced = plan.kind() else {
@@ -104,24 +97,26 @@ fn write_bounced(plan: &Plan, bounce: u64, host: &mut Host)
     };
     match opcode {
         IoOpcode::Write | IoOpcode::Compare => {
-            nv_bounce::gather(plan.places(), plan.map(), host, bounce);
+            nv_bounce::gather(plan.part_places(part), plan.map(), host, bounce);
         }
-        IoOpcode::DatasetManagement => store_ranges(plan.ranges(), bounce, host),
+        IoOpcode::DatasetManagement => store_ranges(plan.part_ranges(part), bounce, host),
         IoOpcode::Read | IoOpcode::Flush | IoOpcode::WriteZeroes => {}
     }
 }
 
-// The physical entry of a plan.
-fn entry_of(plan: &Plan, tag: u8, prps: &Prps) -> [u8; 64]
-    requires { IsGoing (plan_made plan.now) }
-    ensures { result ≡ physical_entry (opcode_of plan.now.job.sqe) tag prps.now
-        (plan_dwords (plan_made plan.now) plan.now.given.namespace plan.now.job.sqe) }
+// The physical entry of a part.
+fn entry_of(plan: &Plan, part: u8, tag: u8, prps: &Prps) -> [u8; 64]
+    requires part { part < length (shares_made plan.now) }
+    requires some { (share : Share) → share_made part plan.now ≡ Some share → is_no_command share ≡ false }
+    ensures { (share : Share) → share_made part plan.now ≡ Some share →
+        result ≡ physical_entry (opcode_of plan.now.job.sqe) tag prps.now
+        (own_dwords share.plan plan.now.given.namespace plan.now.job.sqe) }
 {
     let sqe = &plan.job().sqe;
     let Some(opcode) = sqe.io_opcode() else {
         unreachable!()
     };
-    physical_entry(sqe.opcode(), tag, prps, dwords(opcode, sqe, plan.ns()))
+    physical_entry(sqe.opcode(), tag, prps, dwords(opcode, plan, part))
 }
 
 // Stores numbers of 64 bits from host address `at` on.

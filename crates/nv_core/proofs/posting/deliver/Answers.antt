@@ -1,55 +1,69 @@
-use Rattle.std.proofs.Common.{◌∙◌, true, false, List, length, All, ap, sym, subst}
-use Rattle.nv_core.proofs.Delivers.{delivers-bytes, delivers-nothing, ended-with, has-ended, read-bounced, told-so}
-use Rattle.nv_mem.specs.Bytes.{InMemory}
-use Rattle.nv_mem.specs.GuestMap.{mapped, span_met}
-use Rattle.nv_mem.specs.Places.{total_len}
-use Rattle.nv_mem.specs.declared.piece.Piece.{Piece}
-use Rattle.nv_model.specs.Laws.{IsMappedPiece}
+use Rattle.std.proofs.Common.{ℕ, length, ap, sym, subst}
+use Rattle.nv_core.proofs.Delivers.{delivers-all, delivers-none, delivers-nothing, first-part, first-read, others-read, succeeded}
+use Rattle.nv_core.specs.Ending.{AreReadParts}
 use Rattle.nv_model.specs.Memory.{byte_in}
 use Rattle.nv_world_model.specs.World.{Command}
 use Rattle.nv_core.proofs.posting.deliver.Goals as goal
 
-pub ended_plan-requires : goal.ended_plan-requires
-ended_plan-requires c = has-ended _ c.args.status c.requires.ended
+pub returns-in_default-clause-bytes : goal.returns-in_default-clause-bytes
+returns-in_default-clause-bytes c =
+    let t = c.requires.ended in
+    let place = c.args.place in
+    delivers-none c.args.status place.mediator place.lane place.tag c.args.ring.now (length c.args.host.now) c.args.map.now.regions t.command.entry
+    t (byte_in c.args.host.now) (c.in_default.ensures.which t.command t.status t.share t.is)
+    (c.requires.parts t.command t.status t.share t.is)
 
-pub scatter-requires-clause-mapped : goal.scatter-requires-clause-mapped
-scatter-requires-clause-mapped c =
-    let t = ended-with _ c.args.status c.requires.ended in
-    let there = c.in-Some.ensures t.command c.args.status t.plan t.is in
-    let entry = ap (λ (d : Command). d.entry) (c.ended.ensures t.command c.args.status t.plan t.is) in
-    let b = read-bounced c.args.status t.command.entry c.args.slot _ c.args.map.now.regions t.plan c.in-Some.plan.now c.kind.ensures.is_plan there (c.requires.may t.command t.plan t.is)
-    (told-so _ _ _ _ c.args.status _ true c.delivers.ensures c.if-delivers.true c.kind.ensures.value entry) in
-    subst (λ (ps : List Piece). All (IsMappedPiece (mapped c.args.map.now.regions)) ps) (sym (c.places.ensures.value ∙ b.places)) b.may.mapped_each
+pub scatter_part-requires-clause-part : goal.scatter_part-requires-clause-part
+scatter_part-requires-clause-part c =
+    let t = c.requires.ended in
+    let place = c.args.place in
+    let went = succeeded c.kind.result _ c.args.status c.delivers.result c.delivers.ensures c.if-delivers.true in
+    let are = c.requires.parts t.command t.status t.share t.is went in
+    let first = first-part c.args.status place.mediator place.lane place.tag c.args.ring.now (length c.args.host.now) c.args.map.now.regions t.command.entry are in
+    c.in-Some.ensures.some first.command first.status first.share first.is
 
-pub scatter-requires-clause-inside : goal.scatter-requires-clause-inside
-scatter-requires-clause-inside c =
-    let t = ended-with _ c.args.status c.requires.ended in
-    let there = c.in-Some.ensures t.command c.args.status t.plan t.is in
-    let entry = ap (λ (d : Command). d.entry) (c.ended.ensures t.command c.args.status t.plan t.is) in
-    let b = read-bounced c.args.status t.command.entry c.args.slot _ c.args.map.now.regions t.plan c.in-Some.plan.now c.kind.ensures.is_plan there (c.requires.may t.command t.plan t.is)
-    (told-so _ _ _ _ c.args.status _ true c.delivers.ensures c.if-delivers.true c.kind.ensures.value entry) in
-    subst (λ (ps : List Piece). InMemory (length c.args.host.now) c.args.slot (total_len ps)) (sym (c.places.ensures.value ∙ b.places)) b.may.inside
+pub scatter_part-requires-clause-read : goal.scatter_part-requires-clause-read
+scatter_part-requires-clause-read c =
+    let t = c.requires.ended in
+    let place = c.args.place in
+    let its = c.in-Some.ensures.which t.command t.status t.share t.is in
+    let entry = ap (λ (d : Command). d.entry) (c.ended.ensures t.command t.status t.share t.is) in
+    let went = succeeded c.kind.result _ c.args.status c.delivers.result c.delivers.ensures c.if-delivers.true in
+    let are = c.requires.parts t.command t.status t.share t.is went in
+    first-read c.args.status place.mediator place.lane place.tag c.args.ring.now (length c.args.host.now) c.args.map.now.regions t.command.entry
+    t c.in-Some.plan.now c.in-Some.part its c.kind.result c.kind.ensures.made _ entry c.delivers.result c.delivers.ensures are c.if-delivers.true
 
-pub scatter-requires-clause-apart : goal.scatter-requires-clause-apart
-scatter-requires-clause-apart c =
-    let t = ended-with _ c.args.status c.requires.ended in
-    let there = c.in-Some.ensures t.command c.args.status t.plan t.is in
-    let entry = ap (λ (d : Command). d.entry) (c.ended.ensures t.command c.args.status t.plan t.is) in
-    let b = read-bounced c.args.status t.command.entry c.args.slot _ c.args.map.now.regions t.plan c.in-Some.plan.now c.kind.ensures.is_plan there (c.requires.may t.command t.plan t.is)
-    (told-so _ _ _ _ c.args.status _ true c.delivers.ensures c.if-delivers.true c.kind.ensures.value entry) in
-    ap (λ (ps : List Piece). span_met c.args.map.now.regions c.args.slot (total_len ps)) (c.places.ensures.value ∙ b.places) ∙ b.may.apart
+pub deliver_others-requires-clause-parts : goal.deliver_others-requires-clause-parts
+deliver_others-requires-clause-parts c =
+    let t = c.requires.ended in
+    let place = c.args.place in
+    let its = c.in-Some.ensures.which t.command t.status t.share t.is in
+    let entry = ap (λ (d : Command). d.entry) (c.ended.ensures t.command t.status t.share t.is) in
+    let went = succeeded c.kind.result _ c.args.status c.delivers.result c.delivers.ensures c.if-delivers.true in
+    let are = c.requires.parts t.command t.status t.share t.is went in
+    subst (λ (n : ℕ). AreReadParts place.mediator place.lane place.tag c.args.ring.now n c.args.map.now.regions) (sym c.scatter_part.ensures.len)
+    (others-read c.args.status place.mediator place.lane place.tag c.args.ring.now (length c.args.host.now) c.args.map.now.regions t.command.entry
+    t c.in-Some.plan.now c.in-Some.part its c.kind.result c.kind.ensures.made _ entry c.delivers.result c.delivers.ensures are c.if-delivers.true)
 
 pub returns-then-delivers-clause-bytes : goal.returns-then-delivers-clause-bytes
-returns-then-delivers-clause-bytes c = λ command plan is.
-    let there = c.in-Some.ensures command c.args.status plan is in
-    let entry = ap (λ (d : Command). d.entry) (c.ended.ensures command c.args.status plan is) in
-    delivers-bytes c.args.status command.entry c.args.slot _ c.args.map.now.regions plan c.in-Some.plan.now c.kind.ensures.is_plan there (c.requires.may command plan is)
-    (byte_in c.args.host.now) (byte_in c.scatter.new.host) c.places.result.now
-    (told-so _ _ _ _ c.args.status _ true c.delivers.ensures c.if-delivers.true c.kind.ensures.value entry) c.places.ensures.value c.scatter.ensures.bytes
+returns-then-delivers-clause-bytes c =
+    let t = c.requires.ended in
+    let place = c.args.place in
+    let its = c.in-Some.ensures.which t.command t.status t.share t.is in
+    let entry = ap (λ (d : Command). d.entry) (c.ended.ensures t.command t.status t.share t.is) in
+    let went = succeeded c.kind.result _ c.args.status c.delivers.result c.delivers.ensures c.if-delivers.true in
+    let are = c.requires.parts t.command t.status t.share t.is went in
+    delivers-all c.args.status place.mediator place.lane place.tag c.args.ring.now (length c.args.host.now) c.args.map.now.regions t.command.entry
+    t c.in-Some.plan.now c.in-Some.part its c.kind.result c.kind.ensures.made _ entry c.delivers.result c.delivers.ensures are
+    (byte_in c.args.host.now) (byte_in c.scatter_part.new.host) (byte_in c.deliver_others.new.host) c.if-delivers.true c.scatter_part.ensures.bytes
+    c.deliver_others.ensures.bytes
 
 pub returns-else-delivers-clause-bytes : goal.returns-else-delivers-clause-bytes
-returns-else-delivers-clause-bytes c = λ command plan is.
-    let there = c.in-Some.ensures command c.args.status plan is in
-    let entry = ap (λ (d : Command). d.entry) (c.ended.ensures command c.args.status plan is) in
-    delivers-nothing c.args.status command.entry c.args.slot _ c.args.map.now.regions plan c.in-Some.plan.now c.kind.ensures.is_plan there (c.requires.may command plan is)
-    (byte_in c.args.host.now) (told-so _ _ _ _ c.args.status _ false c.delivers.ensures c.if-delivers.false c.kind.ensures.value entry)
+returns-else-delivers-clause-bytes c =
+    let t = c.requires.ended in
+    let place = c.args.place in
+    let its = c.in-Some.ensures.which t.command t.status t.share t.is in
+    let entry = ap (λ (d : Command). d.entry) (c.ended.ensures t.command t.status t.share t.is) in
+    delivers-nothing c.args.status place.mediator place.lane place.tag c.args.ring.now (length c.args.host.now) c.args.map.now.regions t.command.entry
+    t c.in-Some.plan.now c.in-Some.part its c.kind.result c.kind.ensures.made _ entry c.delivers.result c.delivers.ensures
+    (byte_in c.args.host.now) c.if-delivers.false (c.requires.parts t.command t.status t.share t.is)

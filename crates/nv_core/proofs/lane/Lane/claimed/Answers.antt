@@ -7,12 +7,15 @@ use Rattle.nv_core.proofs.lane.Lane.claimed.Goals as goal
 
 pub entry-requires : goal.entry-requires
 entry-requires c =
-    let at = lane-taken c.self.inside.head c.self.inside.phase c.self.inside.tags c.self.inside.progress.items c.args.self.now c.self.invariant c.self.view_is c.args.tag c.requires in
+    let i = c.self.inside in
+    let at = lane-taken i.head i.phase i.tags i.progress.items c.args.self.now c.self.invariant c.self.view_is c.args.tag c.requires in
     record { used = λ free. (let taken = ap state_of at.slot_is in cc) }
 
 pub returns : goal.returns
 returns c = λ command reads there.
-    let at = lane-taken c.self.inside.head c.self.inside.phase c.self.inside.tags c.self.inside.progress.items c.args.self.now c.self.invariant c.self.view_is c.args.tag c.requires in
-    claim-is c.entry.result.now (leader_of (slot_at c.self.inside.tags c.args.tag)) command
+    let i = c.self.inside in
+    let at = lane-taken i.head i.phase i.tags i.progress.items c.args.self.now c.self.invariant c.self.view_is c.args.tag c.requires in
+    claim-is c.entry.result.now (leader_of (slot_at i.tags c.args.tag)) command
     (sym c.entry.ensures ∙ ap command_in at.slot_is
-    ∙ ap (λ (d : Command). Some d) (same-taken c.self.inside.head c.self.inside.phase c.self.inside.tags c.self.inside.progress.items c.args.self.now c.self.invariant c.self.view_is c.args.tag command reads at there).0)
+    ∙ ap (λ (d : Command). Some d) (same-taken i.head i.phase i.tags i.progress.items c.args.self.now c.self.invariant c.self.view_is
+    c.args.tag command reads at there).0)

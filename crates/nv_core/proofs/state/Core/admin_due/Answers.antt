@@ -1,7 +1,7 @@
 use Rattle.std.proofs.Common.{◌≡◌, ◌≤◌, ◌<◌, length, subst, sym, arith}
 use Rattle.nv_core.proofs.Dues.{admin-due, due-told}
 use Rattle.nv_core.proofs.Placed.{admin-nobody, has-controller}
-use Rattle.nv_core.proofs.Takes.{looked-up}
+use Rattle.nv_core.proofs.GroupWorlds.{looked-up}
 use Rattle.nv_core.specs.State.{State, world_of}
 use Rattle.nv_model.specs.declared.reply.Reply.TheVariants as reply
 use Rattle.nv_world_model.specs.Step.{due}

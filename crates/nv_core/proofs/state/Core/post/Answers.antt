@@ -1,174 +1,175 @@
-use Rattle.std.proofs.Common.{◌≡◌, ◌∙◌, Option, Some, slice_get, ap, subst, arith}
+use Rattle.std.proofs.Common.{◌∙◌, ◌<◌, ◌^◌, Some, length, ap, sym, arith}
+use Rattle.nv_core.proofs.GroupWorlds.{ended-below, ended-here, ended-is, ended-led, ended-there}
 use Rattle.nv_core.proofs.Placed.{made-for}
-use Rattle.nv_core.proofs.Posts.{area-fits, ended-below, ended-here, ended-state, ended-there, has-controller, is-ended, may-settle, post-done, post-held}
-use Rattle.nv_core.proofs.Posts.{post-nobody, post-no_tag, post-not, queues-there, same-lane, tag-below}
-use Rattle.nv_core.specs.Ending.{Settled, settled}
+use Rattle.nv_core.proofs.Posts.{has-controller, may-settle, post-done, post-early, post-held, post-nobody, post-not, post-parts, post-placed}
+use Rattle.nv_core.proofs.Posts.{queues-there, same-lane}
+use Rattle.nv_core.specs.Groups.{tags_changed}
 use Rattle.nv_core.specs.State.{State}
-use Rattle.nv_model.specs.Memory.{byte_in}
-use Rattle.nv_world_model.specs.Area.{bounce_page}
-use Rattle.nv_world_model.specs.Geometry.{Geometry}
-use Rattle.nv_world_model.specs.Plan.{Plan}
-use Rattle.nv_world_model.specs.World.{Command, Ended, Lane}
+use Rattle.nv_world_model.specs.World.{Command, Free, Lane, group_in}
 use Rattle.nv_core.proofs.state.Core.post.Goals as goal
 
-pub returns-in_default : goal.returns-in_default
-returns-in_default c = post-no_tag c.args.layout.now c.args.self.now c.args.self.now c.args.lane c.args.tag c.state.result c.state.ensures c.in_default.is
-
-pub returns-in_default-ended : goal.returns-in_default-ended
-returns-in_default-ended c =
-    post-not c.args.layout.now c.args.self.now c.args.self.now c.args.lane c.args.tag c.state.result c.in-Some.point c.ended.result c.state.ensures c.in-Some.is c.ended.ensures
-    c.in_default-ended.is
+pub returns-in-Some : goal.returns-in-Some
+returns-in-Some c =
+    post-not c.args.layout.now c.args.self.now c.args.self.now c.args.lane c.args.tag c.unended.result c.in-Some.reply c.unended.ensures c.in-Some.is
 
 pub index-ring-requires : goal.index-ring-requires
 index-ring-requires c =
     let s : State = record { host = c.self.inside.host; device = c.self.inside.device; lanes = c.self.inside.lanes.items; controllers = c.self.inside.controllers.items } in
-    let t = ended-here s c.args.self.now c.args.lane c.args.tag c.state.result c.in-Some.point c.ended.result c.in-Some-ended.status c.self.view_is
-    c.state.ensures c.in-Some.is c.ended.ensures c.in-Some-ended.is in
-    let below = ended-below c.self.inside.lanes.items c.args.lane c.args.tag c.in-Some-ended.status t in
+    let t = ended-here s c.args.self.now c.args.lane c.args.tag c.unended.result c.self.view_is c.unended.ensures c.in_default.is in
+    let below = ended-below c.self.inside.lanes.items c.args.lane c.args.tag t in
     let number = c.from-at.ensures in omega arith
 
-pub ended-requires-2 : goal.ended-requires-2
-ended-requires-2 c =
+pub ended-requires : goal.ended-requires
+ended-requires c =
     let s : State = record { host = c.self.inside.host; device = c.self.inside.device; lanes = c.self.inside.lanes.items; controllers = c.self.inside.controllers.items } in
-    let t = ended-here s c.args.self.now c.args.lane c.args.tag c.state.result c.in-Some.point c.ended.result c.in-Some-ended.status c.self.view_is
-    c.state.ensures c.in-Some.is c.ended.ensures c.in-Some-ended.is in
-    is-ended c.self.inside.lanes.items c.args.lane c.args.tag c.from-at.result c.index-ring.result.now c.in-Some-ended.status t c.from-at.ensures c.index-ring.ensures
+    let t = ended-here s c.args.self.now c.args.lane c.args.tag c.unended.result c.self.view_is c.unended.ensures c.in_default.is in
+    ended-is c.self.inside.lanes.items c.args.lane c.args.tag t c.from-at.result c.index-ring.result.now c.from-at.ensures c.index-ring.ensures
 
 pub returns-in_default-guest : goal.returns-in_default-guest
 returns-in_default-guest c =
     let s : State = record { host = c.self.inside.host; device = c.self.inside.device; lanes = c.self.inside.lanes.items; controllers = c.self.inside.controllers.items } in
-    let t = ended-here s c.args.self.now c.args.lane c.args.tag c.state.result c.in-Some.point c.ended.result c.in-Some-ended.status c.self.view_is
-    c.state.ensures c.in-Some.is c.ended.ensures c.in-Some-ended.is in
+    let t = ended-here s c.args.self.now c.args.lane c.args.tag c.unended.result c.self.view_is c.unended.ensures c.in_default.is in
     let guest = ap (λ (d : Command). d.guest)
-    (c.ended-2.ensures t.command c.in-Some-ended.status t.plan
-    (ended-there c.self.inside.lanes.items c.args.lane c.args.tag c.from-at.result c.index-ring.result.now c.in-Some-ended.status t c.from-at.ensures
-    c.index-ring.ensures)) in
-    post-nobody c.args.layout.now s c.args.self.now c.args.lane c.args.tag c.self.view_is c.requires.of c.in-Some-ended.status t c.from-at.result
-    c.index-ring.result.now c.from-at.ensures c.index-ring.ensures
-    c.ended-2.result.now.guest guest c.in_default-guest.ensures
+    (c.ended.ensures t.command t.st t.share (ended-there c.self.inside.lanes.items c.args.lane c.args.tag t c.from-at.result c.index-ring.result.now c.from-at.ensures c.index-ring.ensures)) in
+    post-nobody c.args.layout.now s c.args.self.now c.args.lane c.args.tag c.self.view_is c.requires.of t
+    c.from-at.result c.index-ring.result.now c.from-at.ensures c.index-ring.ensures
+    c.ended.result.now.guest guest c.in_default-guest.ensures
 
-pub bounce_page-slot-requires-clause-area : goal.bounce_page-slot-requires-clause-area
-bounce_page-slot-requires-clause-area c =
+pub outcome-requires-clause-ended : goal.outcome-requires-clause-ended
+outcome-requires-clause-ended c =
     let s : State = record { host = c.self.inside.host; device = c.self.inside.device; lanes = c.self.inside.lanes.items; controllers = c.self.inside.controllers.items } in
-    let t = ended-here s c.args.self.now c.args.lane c.args.tag c.state.result c.in-Some.point c.ended.result c.in-Some-ended.status c.self.view_is
-    c.state.ensures c.in-Some.is c.ended.ensures c.in-Some-ended.is in
-    area-fits c.args.layout.now s c.args.self.now c.args.lane c.args.tag c.self.view_is c.requires.of c.in-Some-ended.status t c.from-at.result
-    c.index-ring.result.now c.from-at.ensures c.index-ring.ensures
-    c.layout.inside.mediator (ap (λ (g : Geometry). g.mediator) c.layout.view_is)
+    let t = ended-here s c.args.self.now c.args.lane c.args.tag c.unended.result c.self.view_is c.unended.ensures c.in_default.is in
+    ended-is c.self.inside.lanes.items c.args.lane c.args.tag t c.from-at.result c.index-ring.result.now c.from-at.ensures c.index-ring.ensures
 
-pub bounce_page-slot-requires-clause-tag : goal.bounce_page-slot-requires-clause-tag
-bounce_page-slot-requires-clause-tag c =
+pub outcome-requires-clause-led : goal.outcome-requires-clause-led
+outcome-requires-clause-led c =
     let s : State = record { host = c.self.inside.host; device = c.self.inside.device; lanes = c.self.inside.lanes.items; controllers = c.self.inside.controllers.items } in
-    let t = ended-here s c.args.self.now c.args.lane c.args.tag c.state.result c.in-Some.point c.ended.result c.in-Some-ended.status c.self.view_is
-    c.state.ensures c.in-Some.is c.ended.ensures c.in-Some-ended.is in
-    tag-below c.args.layout.now s c.args.self.now c.args.lane c.args.tag c.self.view_is c.requires.of c.in-Some-ended.status t c.from-at.result
-    c.index-ring.result.now c.from-at.ensures c.index-ring.ensures
+    let t = ended-here s c.args.self.now c.args.lane c.args.tag c.unended.result c.self.view_is c.unended.ensures c.in_default.is in
+    ended-led c.self.inside.lanes.items c.args.lane c.args.tag t c.from-at.result c.index-ring.result.now c.from-at.ensures c.index-ring.ensures
+
+pub returns-in_default-outcome : goal.returns-in_default-outcome
+returns-in_default-outcome c =
+    let s : State = record { host = c.self.inside.host; device = c.self.inside.device; lanes = c.self.inside.lanes.items; controllers = c.self.inside.controllers.items } in
+    let t = ended-here s c.args.self.now c.args.lane c.args.tag c.unended.result c.self.view_is c.unended.ensures c.in_default.is in
+    post-early c.args.layout.now s c.args.self.now c.args.lane c.args.tag c.self.view_is c.requires.of t
+    c.from-at.result c.index-ring.result.now c.from-at.ensures c.index-ring.ensures
+    c.outcome.result c.outcome.ensures c.in_default-outcome.is
 
 pub index_mut-vctl-requires : goal.index_mut-vctl-requires
 index_mut-vctl-requires c =
     let s : State = record { host = c.self.inside.host; device = c.self.inside.device; lanes = c.self.inside.lanes.items; controllers = c.self.inside.controllers.items } in
-    let t = ended-here s c.args.self.now c.args.lane c.args.tag c.state.result c.in-Some.point c.ended.result c.in-Some-ended.status c.self.view_is
-    c.state.ensures c.in-Some.is c.ended.ensures c.in-Some-ended.is in
+    let t = ended-here s c.args.self.now c.args.lane c.args.tag c.unended.result c.self.view_is c.unended.ensures c.in_default.is in
     let guest = ap (λ (d : Command). d.guest)
-    (c.ended-2.ensures t.command c.in-Some-ended.status t.plan
-    (ended-there c.self.inside.lanes.items c.args.lane c.args.tag c.from-at.result c.index-ring.result.now c.in-Some-ended.status t c.from-at.ensures
-    c.index-ring.ensures)) in
-    let below = has-controller c.args.layout.now s c.args.self.now c.args.lane c.args.tag c.self.view_is c.requires.of c.in-Some-ended.status t
+    (c.ended.ensures t.command t.st t.share (ended-there c.self.inside.lanes.items c.args.lane c.args.tag t c.from-at.result c.index-ring.result.now c.from-at.ensures c.index-ring.ensures)) in
+    let below = has-controller c.args.layout.now s c.args.self.now c.args.lane c.args.tag c.self.view_is c.requires.of t
     c.from-at.result c.index-ring.result.now c.from-at.ensures c.index-ring.ensures
-    c.ended-2.result.now.guest c.in-Some-guest.given.now guest c.in-Some-guest.ensures in
+    c.ended.result.now.guest c.in-Some-guest.given.now guest c.in-Some-guest.ensures in
     let number = c.from.ensures in omega arith
+
+pub settle-requires-clause-placed : goal.settle-requires-clause-placed
+settle-requires-clause-placed c =
+    let s : State = record { host = c.self.inside.host; device = c.self.inside.device; lanes = c.self.inside.lanes.items; controllers = c.self.inside.controllers.items } in
+    let t = ended-here s c.args.self.now c.args.lane c.args.tag c.unended.result c.self.view_is c.unended.ensures c.in_default.is in
+    let fits : length s.host < 2 ^ 64 = (let size = c.len-size.ensures in let few = c.len-size.type_inv in omega (arith, size, few)) in
+    post-placed c.args.layout.now s c.args.self.now c.args.lane c.args.tag c.self.view_is c.requires.of t
+    c.from-at.result c.index-ring.result.now c.from-at.ensures c.index-ring.ensures c.mediator.result c.mediator.ensures fits
 
 pub settle-requires-clause-ended : goal.settle-requires-clause-ended
 settle-requires-clause-ended c =
     let s : State = record { host = c.self.inside.host; device = c.self.inside.device; lanes = c.self.inside.lanes.items; controllers = c.self.inside.controllers.items } in
-    let t = ended-here s c.args.self.now c.args.lane c.args.tag c.state.result c.in-Some.point c.ended.result c.in-Some-ended.status c.self.view_is
-    c.state.ensures c.in-Some.is c.ended.ensures c.in-Some-ended.is in
-    ended-state c.self.inside.lanes.items c.args.lane c.args.tag c.from-at.result c.index-ring.result.now c.in-Some-ended.status t c.from-at.ensures c.index-ring.ensures
+    let t = ended-here s c.args.self.now c.args.lane c.args.tag c.unended.result c.self.view_is c.unended.ensures c.in_default.is in
+    ended-is c.self.inside.lanes.items c.args.lane c.args.tag t c.from-at.result c.index-ring.result.now c.from-at.ensures c.index-ring.ensures
+
+pub settle-requires-clause-led : goal.settle-requires-clause-led
+settle-requires-clause-led c =
+    let s : State = record { host = c.self.inside.host; device = c.self.inside.device; lanes = c.self.inside.lanes.items; controllers = c.self.inside.controllers.items } in
+    let t = ended-here s c.args.self.now c.args.lane c.args.tag c.unended.result c.self.view_is c.unended.ensures c.in_default.is in
+    ended-led c.self.inside.lanes.items c.args.lane c.args.tag t c.from-at.result c.index-ring.result.now c.from-at.ensures c.index-ring.ensures
 
 pub settle-requires-clause-may : goal.settle-requires-clause-may
 settle-requires-clause-may c =
     let s : State = record { host = c.self.inside.host; device = c.self.inside.device; lanes = c.self.inside.lanes.items; controllers = c.self.inside.controllers.items } in
-    let t = ended-here s c.args.self.now c.args.lane c.args.tag c.state.result c.in-Some.point c.ended.result c.in-Some-ended.status c.self.view_is
-    c.state.ensures c.in-Some.is c.ended.ensures c.in-Some-ended.is in
+    let t = ended-here s c.args.self.now c.args.lane c.args.tag c.unended.result c.self.view_is c.unended.ensures c.in_default.is in
     let guest = ap (λ (d : Command). d.guest)
-    (c.ended-2.ensures t.command c.in-Some-ended.status t.plan
-    (ended-there c.self.inside.lanes.items c.args.lane c.args.tag c.from-at.result c.index-ring.result.now c.in-Some-ended.status t c.from-at.ensures
-    c.index-ring.ensures)) in
-    may-settle c.args.layout.now s c.args.self.now c.args.lane c.args.tag c.self.view_is c.requires.of c.in-Some-ended.status t c.from-at.result
-    c.index-ring.result.now c.from-at.ensures c.index-ring.ensures
-    c.ended-2.result.now.guest c.in-Some-guest.given.now guest c.in-Some-guest.ensures c.from.result c.index_mut-vctl.result.now c.from.ensures c.index_mut-vctl.ensures.value
-    c.bounce_page-slot.result c.map.result.now c.requires.counted
-    (c.bounce_page-slot.ensures ∙ ap (λ (g : Geometry). bounce_page g.mediator c.args.lane c.args.tag) c.layout.view_is) c.map.ensures
+    (c.ended.ensures t.command t.st t.share (ended-there c.self.inside.lanes.items c.args.lane c.args.tag t c.from-at.result c.index-ring.result.now c.from-at.ensures c.index-ring.ensures)) in
+    may-settle c.args.layout.now s c.args.self.now c.args.lane c.args.tag c.self.view_is c.requires.of t
+    c.from-at.result c.index-ring.result.now c.from-at.ensures c.index-ring.ensures
+    c.ended.result.now.guest c.in-Some-guest.given.now guest c.in-Some-guest.ensures
+    c.from.result c.index_mut-vctl.result.now c.from.ensures c.index_mut-vctl.ensures.value c.requires.counted
+
+pub settle-requires-clause-parts : goal.settle-requires-clause-parts
+settle-requires-clause-parts c =
+    let s : State = record { host = c.self.inside.host; device = c.self.inside.device; lanes = c.self.inside.lanes.items; controllers = c.self.inside.controllers.items } in
+    let t = ended-here s c.args.self.now c.args.lane c.args.tag c.unended.result c.self.view_is c.unended.ensures c.in_default.is in
+    let guest = ap (λ (d : Command). d.guest)
+    (c.ended.ensures t.command t.st t.share (ended-there c.self.inside.lanes.items c.args.lane c.args.tag t c.from-at.result c.index-ring.result.now c.from-at.ensures c.index-ring.ensures)) in
+    post-parts c.args.layout.now s c.args.self.now c.args.lane c.args.tag c.self.view_is c.requires.of t
+    c.from-at.result c.index-ring.result.now c.from-at.ensures c.index-ring.ensures
+    c.ended.result.now.guest c.in-Some-guest.given.now guest c.in-Some-guest.ensures
+    c.mediator.result c.map.result.now c.outcome.result c.in-Some-outcome.status c.mediator.ensures c.map.ensures c.outcome.ensures c.in-Some-outcome.is
+
+pub settle-requires-clause-host : goal.settle-requires-clause-host
+settle-requires-clause-host c =
+    let s : State = record { host = c.self.inside.host; device = c.self.inside.device; lanes = c.self.inside.lanes.items; controllers = c.self.inside.controllers.items } in
+    let t = ended-here s c.args.self.now c.args.lane c.args.tag c.unended.result c.self.view_is c.unended.ensures c.in_default.is in
+    made-for c.args.layout.now s c.args.self.now c.ended.result.now.guest c.in-Some-guest.given.now c.map.result.now c.self.view_is c.requires.of
+    c.in-Some-guest.ensures c.map.ensures
 
 pub settle-requires-clause-in_place : goal.settle-requires-clause-in_place
 settle-requires-clause-in_place c =
     let s : State = record { host = c.self.inside.host; device = c.self.inside.device; lanes = c.self.inside.lanes.items; controllers = c.self.inside.controllers.items } in
-    let t = ended-here s c.args.self.now c.args.lane c.args.tag c.state.result c.in-Some.point c.ended.result c.in-Some-ended.status c.self.view_is
-    c.state.ensures c.in-Some.is c.ended.ensures c.in-Some-ended.is in
+    let t = ended-here s c.args.self.now c.args.lane c.args.tag c.unended.result c.self.view_is c.unended.ensures c.in_default.is in
     let guest = ap (λ (d : Command). d.guest)
-    (c.ended-2.ensures t.command c.in-Some-ended.status t.plan
-    (ended-there c.self.inside.lanes.items c.args.lane c.args.tag c.from-at.result c.index-ring.result.now c.in-Some-ended.status t c.from-at.ensures
-    c.index-ring.ensures)) in
-    queues-there c.args.layout.now s c.args.self.now c.args.lane c.args.tag c.self.view_is c.requires.of c.in-Some-ended.status t c.from-at.result
-    c.index-ring.result.now c.from-at.ensures c.index-ring.ensures
-    c.ended-2.result.now.guest c.in-Some-guest.given.now guest c.in-Some-guest.ensures c.from.result c.index_mut-vctl.result.now c.from.ensures c.index_mut-vctl.ensures.value
-    c.map.result.now c.map.ensures
+    (c.ended.ensures t.command t.st t.share (ended-there c.self.inside.lanes.items c.args.lane c.args.tag t c.from-at.result c.index-ring.result.now c.from-at.ensures c.index-ring.ensures)) in
+    queues-there c.args.layout.now s c.args.self.now c.args.lane c.args.tag c.self.view_is c.requires.of t
+    c.from-at.result c.index-ring.result.now c.from-at.ensures c.index-ring.ensures
+    c.ended.result.now.guest c.in-Some-guest.given.now guest c.in-Some-guest.ensures
+    c.from.result c.index_mut-vctl.result.now c.from.ensures c.index_mut-vctl.ensures.value c.map.result.now c.map.ensures
 
 pub index_mut-requires : goal.index_mut-requires
 index_mut-requires c =
     let s : State = record { host = c.self.inside.host; device = c.self.inside.device; lanes = c.self.inside.lanes.items; controllers = c.self.inside.controllers.items } in
-    let t = ended-here s c.args.self.now c.args.lane c.args.tag c.state.result c.in-Some.point c.ended.result c.in-Some-ended.status c.self.view_is
-    c.state.ensures c.in-Some.is c.ended.ensures c.in-Some-ended.is in
-    let below = ended-below c.self.inside.lanes.items c.args.lane c.args.tag c.in-Some-ended.status t in
+    let t = ended-here s c.args.self.now c.args.lane c.args.tag c.unended.result c.self.view_is c.unended.ensures c.in_default.is in
+    let below = ended-below c.self.inside.lanes.items c.args.lane c.args.tag t in
     let number = c.from-at.ensures in omega arith
 
-pub release-requires : goal.release-requires
-release-requires c =
+pub release-requires-clause-ended : goal.release-requires-clause-ended
+release-requires-clause-ended c =
     let s : State = record { host = c.self.inside.host; device = c.self.inside.device; lanes = c.self.inside.lanes.items; controllers = c.self.inside.controllers.items } in
-    let t = ended-here s c.args.self.now c.args.lane c.args.tag c.state.result c.in-Some.point c.ended.result c.in-Some-ended.status c.self.view_is
-    c.state.ensures c.in-Some.is c.ended.ensures c.in-Some-ended.is in
-    is-ended c.self.inside.lanes.items c.args.lane c.args.tag c.from-at.result c.index_mut.result.now c.in-Some-ended.status t c.from-at.ensures c.index_mut.ensures.value
+    let t = ended-here s c.args.self.now c.args.lane c.args.tag c.unended.result c.self.view_is c.unended.ensures c.in_default.is in
+    ended-is c.self.inside.lanes.items c.args.lane c.args.tag t c.from-at.result c.index_mut.result.now c.from-at.ensures c.index_mut.ensures.value
+
+pub release-requires-clause-led : goal.release-requires-clause-led
+release-requires-clause-led c =
+    let s : State = record { host = c.self.inside.host; device = c.self.inside.device; lanes = c.self.inside.lanes.items; controllers = c.self.inside.controllers.items } in
+    let t = ended-here s c.args.self.now c.args.lane c.args.tag c.unended.result c.self.view_is c.unended.ensures c.in_default.is in
+    ended-led c.self.inside.lanes.items c.args.lane c.args.tag t c.from-at.result c.index_mut.result.now c.from-at.ensures c.index_mut.ensures.value
 
 pub returns-in-Held : goal.returns-in-Held
 returns-in-Held c =
     let s : State = record { host = c.self.inside.host; device = c.self.inside.device; lanes = c.self.inside.lanes.items; controllers = c.self.inside.controllers.items } in
-    let t = ended-here s c.args.self.now c.args.lane c.args.tag c.state.result c.in-Some.point c.ended.result c.in-Some-ended.status c.self.view_is
-    c.state.ensures c.in-Some.is c.ended.ensures c.in-Some-ended.is in
+    let t = ended-here s c.args.self.now c.args.lane c.args.tag c.unended.result c.self.view_is c.unended.ensures c.in_default.is in
     let guest = ap (λ (d : Command). d.guest)
-    (c.ended-2.ensures t.command c.in-Some-ended.status t.plan
-    (ended-there c.self.inside.lanes.items c.args.lane c.args.tag c.from-at.result c.index-ring.result.now c.in-Some-ended.status t c.from-at.ensures
-    c.index-ring.ensures)) in
-    post-held c.args.layout.now s c.args.self.now c.args.lane c.args.tag c.self.view_is c.requires.of c.in-Some-ended.status t c.from-at.result
-    c.index-ring.result.now c.from-at.ensures c.index-ring.ensures
-    c.ended-2.result.now.guest c.in-Some-guest.given.now guest c.in-Some-guest.ensures c.from.result c.index_mut-vctl.result.now c.from.ensures c.index_mut-vctl.ensures.value
-    c.bounce_page-slot.result c.map.result.now
-    (c.bounce_page-slot.ensures ∙ ap (λ (g : Geometry). bounce_page g.mediator c.args.lane c.args.tag) c.layout.view_is) c.map.ensures
+    (c.ended.ensures t.command t.st t.share (ended-there c.self.inside.lanes.items c.args.lane c.args.tag t c.from-at.result c.index-ring.result.now c.from-at.ensures c.index-ring.ensures)) in
+    post-held c.args.layout.now s c.args.self.now c.args.lane c.args.tag c.self.view_is c.requires.of t
+    c.from-at.result c.index-ring.result.now c.from-at.ensures c.index-ring.ensures
+    c.ended.result.now.guest c.in-Some-guest.given.now guest c.in-Some-guest.ensures
+    c.from.result c.index_mut-vctl.result.now c.from.ensures c.index_mut-vctl.ensures.value
+    c.mediator.result c.map.result.now c.outcome.result c.in-Some-outcome.status c.mediator.ensures c.map.ensures c.outcome.ensures c.in-Some-outcome.is
     c.settle.result c.settle.new.host c.settle.new.vctl c.settle.ensures.len c.settle.ensures.settled c.in-Held.is
 
 pub returns-in-Done : goal.returns-in-Done
 returns-in-Done c =
     let s : State = record { host = c.self.inside.host; device = c.self.inside.device; lanes = c.self.inside.lanes.items; controllers = c.self.inside.controllers.items } in
-    let t = ended-here s c.args.self.now c.args.lane c.args.tag c.state.result c.in-Some.point c.ended.result c.in-Some-ended.status c.self.view_is
-    c.state.ensures c.in-Some.is c.ended.ensures c.in-Some-ended.is in
+    let t = ended-here s c.args.self.now c.args.lane c.args.tag c.unended.result c.self.view_is c.unended.ensures c.in_default.is in
     let guest = ap (λ (d : Command). d.guest)
-    (c.ended-2.ensures t.command c.in-Some-ended.status t.plan
-    (ended-there c.self.inside.lanes.items c.args.lane c.args.tag c.from-at.result c.index-ring.result.now c.in-Some-ended.status t c.from-at.ensures
-    c.index-ring.ensures)) in
-    post-done c.args.layout.now s c.args.self.now c.args.lane c.args.tag c.self.view_is c.requires.of c.in-Some-ended.status t c.from-at.result
-    c.index_mut.result.now c.from-at.ensures c.index_mut.ensures.value
-    c.ended-2.result.now.guest c.in-Some-guest.given.now guest c.in-Some-guest.ensures c.from.result c.index_mut-vctl.result.now c.from.ensures c.index_mut-vctl.ensures.value
-    c.bounce_page-slot.result c.map.result.now
-    (c.bounce_page-slot.ensures ∙ ap (λ (g : Geometry). bounce_page g.mediator c.args.lane c.args.tag) c.layout.view_is) c.map.ensures
-    c.settle.result c.settle.new.host c.settle.new.vctl c.settle.ensures.len
-    (subst (λ (l : Lane). (command : Command) (plan : Option Plan) → slice_get l.tags c.args.tag ≡ Some (Ended command c.in-Some-ended.status plan)
-    → (let x : Settled = record { became = c.settle.result; host = byte_in c.settle.new.host; controller = c.settle.new.vctl } in x)
-    ≡ settled command c.in-Some-ended.status plan c.bounce_page-slot.result c.map.result.now.regions (byte_in c.self.inside.host) c.index_mut-vctl.result.now)
-    (same-lane c.self.inside.lanes.items c.from-at.result c.index-ring.result.now c.index_mut.result.now c.index-ring.ensures c.index_mut.ensures.value
-    (let below = ended-below c.self.inside.lanes.items c.args.lane c.args.tag c.in-Some-ended.status t in let number = c.from-at.ensures in omega arith)) c.settle.ensures.settled)
-    c.release.new.self c.release.ensures c.in-Done.is
-
-pub settle-requires-clause-host : goal.settle-requires-clause-host
-settle-requires-clause-host c =
-    let s : State = record { host = c.self.inside.host; device = c.self.inside.device; lanes = c.self.inside.lanes.items; controllers = c.self.inside.controllers.items } in
-    made-for c.args.layout.now s c.args.self.now c.ended-2.result.now.guest c.in-Some-guest.given.now c.map.result.now c.self.view_is c.requires.of
-    c.in-Some-guest.ensures c.map.ensures
+    (c.ended.ensures t.command t.st t.share (ended-there c.self.inside.lanes.items c.args.lane c.args.tag t c.from-at.result c.index-ring.result.now c.from-at.ensures c.index-ring.ensures)) in
+    let one = same-lane c.self.inside.lanes.items c.from-at.result c.index-ring.result.now c.index_mut.result.now c.index-ring.ensures c.index_mut.ensures.value
+    (let below = ended-below c.self.inside.lanes.items c.args.lane c.args.tag t in let number = c.from-at.ensures in omega arith) in
+    post-done c.args.layout.now s c.args.self.now c.args.lane c.args.tag c.self.view_is c.requires.of t
+    c.from-at.result c.index-ring.result.now c.from-at.ensures c.index-ring.ensures
+    c.ended.result.now.guest c.in-Some-guest.given.now guest c.in-Some-guest.ensures
+    c.from.result c.index_mut-vctl.result.now c.from.ensures c.index_mut-vctl.ensures.value
+    c.mediator.result c.map.result.now c.outcome.result c.in-Some-outcome.status c.mediator.ensures c.map.ensures c.outcome.ensures c.in-Some-outcome.is
+    c.settle.result c.settle.new.host c.settle.new.vctl c.settle.ensures.len c.settle.ensures.settled
+    c.release.new.self (c.release.ensures ∙ ap (λ (l : Lane). tags_changed (group_in (Some l) c.args.tag) Free l) (sym one)) c.in-Done.is

@@ -1,17 +1,19 @@
 use Rattle.std.proofs.Common.{◌≡◌, ◌<◌, ◌∙◌, ℕ, Some, length, slice_get, ap, refl, sym, subst}
+use Rattle.nv_core.proofs.GroupWorlds.{taken-there}
 use Rattle.nv_core.proofs.PlanSubmits.{come-of, guest-of, tag-of}
-use Rattle.nv_core.proofs.Submits.{has-room, on-device, submit-done}
-use Rattle.nv_core.proofs.TakenTags.{taken-state, taken-there}
+use Rattle.nv_core.proofs.SubmitJobs.{one-taken}
+use Rattle.nv_core.proofs.Submits.{have-room, on-device, submit-done}
+use Rattle.nv_core.proofs.Waits.{waits}
 use Rattle.nv_core.specs.State.{IsOf, State}
-use Rattle.nv_core.specs.Submit.{HasRoom, IsCarriedOut, IsSubmitted}
-use Rattle.nv_core.specs.Tags.{plan_made, state_in}
+use Rattle.nv_core.specs.Submit.{HaveRoom, IsCarriedOut, IsSubmitted, WaitsForPlan}
+use Rattle.nv_laws_sound.proofs.Lists.{some-same}
 use Rattle.nv_model.specs.Memory.{byte_in}
 use Rattle.nv_model.specs.Transcript.{Outcome}
 use Rattle.nv_model.specs.declared.reply.Reply.TheVariants as reply
+use Rattle.nv_plan.specs.Made.{plan_made}
 use Rattle.nv_plan.specs.declared.job.Job.{Job}
-use Rattle.nv_tags.specs.declared.state.TagState.TheVariants as state
 use Rattle.nv_world_model.specs.Plan.{Plan}
-use Rattle.nv_world_model.specs.World.{Taken}
+use Rattle.nv_world_model.specs.World.{Command, Taken, group_in}
 use Rattle.nv_core.proofs.state.Core.submit_plan.Goals as goal
 
 pub carry_out-requires-clause-room : goal.carry_out-requires-clause-room
@@ -21,9 +23,9 @@ carry_out-requires-clause-room c =
     let is = c.is_current.ensures.0 c.if-not-is_current.false in
     let t = tag-of c.args.layout.now s c.args.self.now p c.self.view_is is in
     let of = subst (IsOf c.args.layout.now) (sym c.self.view_is) c.requires in
-    subst (λ (m : ℕ). HasRoom m c.job-job.result.now.lane c.job-job.result.now.tag p.given c.self.inside.host) (sym c.mediator.ensures)
-    (subst (λ (j : Job). HasRoom c.args.layout.now.mediator j.lane j.tag p.given c.self.inside.host) (sym c.job-job.ensures.value)
-    (has-room c.args.layout.now s s p.job.lane p.job.tag t.taken p.given of (guest-of c.args.layout.now s c.args.self.now p c.self.view_is is)))
+    subst (λ (m : ℕ). HaveRoom m c.job-job.result.now.lane p.given c.self.inside.host) (sym c.mediator.ensures)
+    (subst (λ (j : Job). HaveRoom c.args.layout.now.mediator j.lane p.given c.self.inside.host) (sym c.job-job.ensures.value)
+    (have-room c.args.layout.now s p.job.lane p.job.tag t.taken p.given of (guest-of c.args.layout.now s c.args.self.now p c.self.view_is is)))
 
 pub carry_out-requires-clause-lane : goal.carry_out-requires-clause-lane
 carry_out-requires-clause-lane c =
@@ -33,17 +35,31 @@ carry_out-requires-clause-lane c =
     let t = tag-of c.args.layout.now s c.args.self.now p c.self.view_is is in
     let of = subst (IsOf c.args.layout.now) (sym c.self.view_is) c.requires in
     subst (λ (j : Job). j.lane < length c.self.inside.device.lanes) (sym c.job-job.ensures.value)
-    (on-device c.args.layout.now s s p.job.lane p.job.tag t.taken p.given of (guest-of c.args.layout.now s c.args.self.now p c.self.view_is is))
+    (on-device c.args.layout.now s p.job.lane p.job.tag t.taken p.given of (guest-of c.args.layout.now s c.args.self.now p c.self.view_is is))
 
-pub carry_out-requires-clause-taken : goal.carry_out-requires-clause-taken
-carry_out-requires-clause-taken c =
+pub carry_out-requires-clause-waits : goal.carry_out-requires-clause-waits
+carry_out-requires-clause-waits c =
     let s : State = record { host = c.self.inside.host; device = c.self.inside.device; lanes = c.self.inside.lanes.items; controllers = c.self.inside.controllers.items } in
     let p = c.args.plan in
     let is = c.is_current.ensures.0 c.if-not-is_current.false in
     let t = tag-of c.args.layout.now s c.args.self.now p c.self.view_is is in
-    subst (λ (j : Job). state_in (slice_get c.index_mut-ring.result.now.tags j.tag) ≡ Some state.Taken) (sym c.job-job.ensures.value)
-    (taken-state c.self.inside.lanes.items p.job.lane p.job.tag c.from.result c.index_mut-ring.result.now t.taken
-    (c.from.ensures ∙ ap (λ (j : Job). j.lane) c.job-job.ensures.value) c.index_mut-ring.ensures.value)
+    let of = subst (IsOf c.args.layout.now) (sym c.self.view_is) c.requires in
+    subst (λ (j : Job). WaitsForPlan p.given.namespace j.tag c.index_mut-ring.result.now) (sym c.job-job.ensures.value)
+    (waits c.args.layout.now s of p.job.lane p.job.tag c.from.result c.index_mut-ring.result.now t.taken
+    (c.from.ensures ∙ ap (λ (j : Job). j.lane) c.job-job.ensures.value) c.index_mut-ring.ensures.value p.given
+    (guest-of c.args.layout.now s c.args.self.now p c.self.view_is is))
+
+pub carry_out-requires-clause-whose : goal.carry_out-requires-clause-whose
+carry_out-requires-clause-whose c = λ command reads there.
+    let s : State = record { host = c.self.inside.host; device = c.self.inside.device; lanes = c.self.inside.lanes.items; controllers = c.self.inside.controllers.items } in
+    let p = c.args.plan in
+    let is = c.is_current.ensures.0 c.if-not-is_current.false in
+    let t = tag-of c.args.layout.now s c.args.self.now p c.self.view_is is in
+    let at = c.from.ensures ∙ ap (λ (j : Job). j.lane) c.job-job.ensures.value in
+    let held = taken-there c.self.inside.lanes.items p.job.lane p.job.tag t.taken c.from.result c.index_mut-ring.result.now at c.index_mut-ring.ensures.value in
+    let here = subst (λ (j : Job). slice_get c.index_mut-ring.result.now.tags j.tag ≡ Some (Taken command reads)) c.job-job.ensures.value there in
+    let same = one-taken command t.taken.command reads t.taken.reads (some-same (Taken command reads) (Taken t.taken.command t.taken.reads) (sym here ∙ held)) in
+    ap (λ (x : Command). x.entry) same.0 ∙ sym t.is.entry
 
 pub returns-clause-some : goal.returns-clause-some
 returns-clause-some c =
@@ -53,18 +69,19 @@ returns-clause-some c =
     let t = tag-of c.args.layout.now s c.args.self.now p c.self.view_is is in
     let of = subst (IsOf c.args.layout.now) (sym c.self.view_is) c.requires in
     let at = c.from.ensures ∙ ap (λ (j : Job). j.lane) c.job-job.ensures.value in
-    let held = taken-there c.self.inside.lanes.items p.job.lane p.job.tag c.from.result c.index_mut-ring.result.now t.taken at c.index_mut-ring.ensures.value in
+    let held = taken-there c.self.inside.lanes.items p.job.lane p.job.tag t.taken c.from.result c.index_mut-ring.result.now at c.index_mut-ring.ensures.value in
     let here = subst (λ (j : Job). slice_get c.index_mut-ring.result.now.tags j.tag ≡ Some (Taken t.taken.command t.taken.reads)) (sym c.job-job.ensures.value) held in
-    let out = c.carry_out.ensures.done t.taken.command t.taken.reads here (sym t.is.entry) in (
+    let out = c.carry_out.ensures.done t.taken.command t.taken.reads here in (
       is,
-      submit-done c.args.layout.now s c.args.self.now p.job.lane p.job.tag t.taken p.given of (guest-of c.args.layout.now s c.args.self.now p c.self.view_is is)
+      submit-done c.args.layout.now s p.job.lane p.job.tag t.taken p.given of (guest-of c.args.layout.now s c.args.self.now p c.self.view_is is) c.args.self.now
           c.from.result c.index_mut-ring.result.now c.carry_out.new.ring c.carry_out.new.host c.carry_out.new.device reply.Done c.mediator.result
           c.self.view_is at c.index_mut-ring.ensures.value c.mediator.ensures c.carry_out.ensures.len
-          (subst (λ (o : Outcome Plan). IsSubmitted o p.given c.mediator.result p.job.lane p.job.tag t.taken.command reply.Done (byte_in c.self.inside.host) (byte_in c.carry_out.new.host)
-          c.self.inside.device c.carry_out.new.device c.index_mut-ring.result.now c.carry_out.new.ring)
+          (subst (λ (o : Outcome Plan). IsSubmitted o p.given c.mediator.result p.job.lane (group_in (Some c.index_mut-ring.result.now) p.job.tag) t.taken.command reply.Done
+          (byte_in c.self.inside.host) (byte_in c.carry_out.new.host) c.self.inside.device c.carry_out.new.device c.index_mut-ring.result.now c.carry_out.new.ring)
           (sym (come-of c.args.layout.now s c.args.self.now p c.self.view_is is c.job-job.ensures.is_plan)) (
             refl,
-            subst (λ (j : Job). IsCarriedOut (plan_made p) p.given c.mediator.result j.lane j.tag t.taken.command (byte_in c.self.inside.host) (byte_in c.carry_out.new.host)
-                c.self.inside.device c.carry_out.new.device c.index_mut-ring.result.now c.carry_out.new.ring) c.job-job.ensures.value out,
+            subst (λ (j : Job). IsCarriedOut (plan_made p) p.given c.mediator.result j.lane (group_in (Some c.index_mut-ring.result.now) j.tag) t.taken.command
+                (byte_in c.self.inside.host) (byte_in c.carry_out.new.host) c.self.inside.device c.carry_out.new.device c.index_mut-ring.result.now c.carry_out.new.ring)
+                c.job-job.ensures.value out,
           )),
     )

@@ -1,6 +1,7 @@
 use Rattle.std.proofs.Common.{◌≤◌, ◌<◌, ◌∙◌, length, subst, sym, refl, arith}
 use Rattle.nv_core.proofs.Placed.{has-controller, in-place, made-for}
-use Rattle.nv_core.proofs.Takes.{looked-up, take-done, take-no_lane, take-no_queue, take-nobody}
+use Rattle.nv_core.proofs.GroupWorlds.{looked-up}
+use Rattle.nv_core.proofs.Takes.{take-done, take-no_lane, take-no_queue, take-nobody}
 use Rattle.nv_core.specs.State.{CountsMore, State}
 use Rattle.nv_laws_sound.proofs.Lists.{slice_get-there}
 use Rattle.nv_core.proofs.state.Core.take.Goals as goal

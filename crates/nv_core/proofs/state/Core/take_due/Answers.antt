@@ -1,7 +1,8 @@
-use Rattle.std.proofs.Common.{◌≡◌, ◌≤◌, ◌<◌, ◌∙◌, length, subst, sym, arith}
+use Rattle.std.proofs.Common.{◌≡◌, ◌≤◌, ◌<◌, ◌∙◌, length, refl, subst, sym, arith}
 use Rattle.nv_core.proofs.Dues.{due-told, take-due}
-use Rattle.nv_core.proofs.Placed.{has-controller}
-use Rattle.nv_core.proofs.Takes.{looked-up, take-no_lane, take-no_queue, take-nobody}
+use Rattle.nv_core.proofs.Placed.{has-controller, in-place, made-for}
+use Rattle.nv_core.proofs.GroupWorlds.{looked-up}
+use Rattle.nv_core.proofs.Takes.{take-no_lane, take-no_queue, take-nobody}
 use Rattle.nv_core.specs.State.{State, world_of}
 use Rattle.nv_laws_sound.proofs.Lists.{slice_get-there}
 use Rattle.nv_model.specs.declared.reply.Reply.TheVariants as reply
@@ -18,7 +19,7 @@ pub returns-then-number-len : goal.returns-then-number-len
 returns-then-number-len c =
     let past : length c.self.inside.controllers.items ≤ c.args.guest =
     (let l = c.len.ensures in let n = c.from-number.ensures in let t = c.if-number-len.true in omega arith) in
-    absurd (has-controller c.args.layout.now c.args.self.now c.args.self.now c.args.guest c.in-Some._given.now c.requires c.in-Some.ensures
+    absurd (has-controller c.args.layout.now c.args.self.now c.args.self.now c.args.guest c.in-Some.given.now c.requires c.in-Some.ensures
     (subst (λ (o : State). length o.controllers ≤ c.args.guest) c.self.view_is past))
 
 pub returns-then-at-len : goal.returns-then-at-len
@@ -26,7 +27,7 @@ returns-then-at-len c =
     let s : State = record { host = c.self.inside.host; device = c.self.inside.device; lanes = c.self.inside.lanes.items; controllers = c.self.inside.controllers.items } in
     let here = slice_get-there c.self.inside.controllers.items c.args.guest (let n = c.from-number.ensures in let l = c.len.ensures in let t = c.if-number-len.false in omega arith) in
     sym (due-told c.args.layout.now (event.Take c.args.guest c.args.queue c.args.lane) c.args.self.now c.args.self.now reply.Ignored
-    (take-no_lane c.args.layout.now s c.args.self.now c.args.guest c.args.queue c.args.lane c.in-Some._given.now here.0 c.self.view_is c.in-Some.ensures here.1
+    (take-no_lane c.args.layout.now s c.args.self.now c.args.guest c.args.queue c.args.lane c.in-Some.given.now here.0 c.self.view_is c.in-Some.ensures here.1
     (let l = c.len-2.ensures in let n = c.from-at.ensures in let t = c.if-at-len.true in omega arith)))
 
 pub returns-then-not-is_io_queue : goal.returns-then-not-is_io_queue
@@ -35,7 +36,7 @@ returns-then-not-is_io_queue c =
     let here = slice_get-there c.self.inside.controllers.items c.args.guest (let n = c.from-number.ensures in let l = c.len.ensures in let t = c.if-number-len.false in omega arith) in
     let lane = slice_get-there c.self.inside.lanes.items c.args.lane (let n = c.from-at.ensures in let l = c.len-2.ensures in let t = c.if-at-len.false in omega arith) in
     sym (due-told c.args.layout.now (event.Take c.args.guest c.args.queue c.args.lane) c.args.self.now c.args.self.now reply.Ignored
-    (take-no_queue c.args.layout.now s c.args.self.now c.args.guest c.args.queue c.args.lane c.in-Some._given.now here.0 c.self.view_is c.in-Some.ensures here.1
+    (take-no_queue c.args.layout.now s c.args.self.now c.args.guest c.args.queue c.args.lane c.in-Some.given.now here.0 c.self.view_is c.in-Some.ensures here.1
     lane.0 lane.1 (sym c.is_io_queue.ensures ∙ c.if-not-is_io_queue.true)))
 
 pub returns : goal.returns
@@ -47,5 +48,18 @@ returns c =
     let found_lane = looked-up c.self.inside.lanes.items c.args.lane c.from-at.result c.index-ring.result.now c.from-at.ensures below_lane c.index-ring.ensures in
     subst (λ (x : State). c.is_takeable.result ≡ due c.args.layout.now (event.Take c.args.guest c.args.queue c.args.lane) (world_of x)) c.self.view_is
     (c.is_takeable.ensures
-    ∙ sym (take-due c.args.layout.now s c.args.guest c.args.queue c.args.lane c.in-Some._given.now c.index-vctl.result.now c.index-ring.result.now
+    ∙ sym (take-due c.args.layout.now s c.args.guest c.args.queue c.args.lane c.in-Some.given.now c.index-vctl.result.now c.index-ring.result.now
     c.in-Some.ensures found found_lane (sym c.is_io_queue.ensures ∙ c.if-not-is_io_queue.false)))
+
+pub is_takeable-requires-clause-host : goal.is_takeable-requires-clause-host
+is_takeable-requires-clause-host c =
+    let s : State = record { host = c.self.inside.host; device = c.self.inside.device; lanes = c.self.inside.lanes.items; controllers = c.self.inside.controllers.items } in
+    made-for c.args.layout.now s c.args.self.now c.args.guest c.in-Some.given.now c.in-Some.given.now.memory_map c.self.view_is c.requires
+    c.in-Some.ensures refl
+
+pub is_takeable-requires-clause-in_place : goal.is_takeable-requires-clause-in_place
+is_takeable-requires-clause-in_place c =
+    let s : State = record { host = c.self.inside.host; device = c.self.inside.device; lanes = c.self.inside.lanes.items; controllers = c.self.inside.controllers.items } in
+    let below : c.from-number.result < length c.self.inside.controllers.items = (let l = c.len.ensures in let t = c.if-number-len.false in omega arith) in
+    in-place c.args.layout.now s c.args.self.now c.args.guest c.from-number.result c.in-Some.given.now c.index-vctl.result.now c.in-Some.given.now.memory_map
+    c.self.view_is c.requires c.from-number.ensures below c.index-vctl.ensures c.in-Some.ensures refl

@@ -1,0 +1,23 @@
+use Rattle.std.proofs.Common.{◌<◌, ◌∙◌, All, ℕ, List, [], ap, set, subst, sym}
+use Rattle.std.proofs.lemmas.List.Elements.{All-tail}
+use Rattle.std.specs.Vec.{vec_len}
+use Rattle.nv_core.specs.declared.progress.Progress.TheVariants as progress
+use Rattle.nv_model.specs.Transcript.{ReadDone}
+use Rattle.nv_tags.specs.Tags.{set_each}
+use Rattle.nv_core.proofs.lane.read_nothing.Goals as goal
+
+pub loop-tag-preserved : goal.loop-tag-preserved
+loop-tag-preserved c =
+    let so_far = c.loop-tag.invariant in
+    let first = c.in-Some.ensures.lowest in
+    record {
+      size = c.keep.ensures.len ∙ so_far.size;
+      below =
+          All-tail (λ (tag : ℕ). tag < vec_len c.args.kept.now) c.in-Some.tag c.pop.new.self
+          (subst (All (λ (tag : ℕ). tag < vec_len c.args.kept.now)) first so_far.below);
+      goes =
+          ap (set_each c.pop.new.self (progress.Reading []))
+          (c.keep.ensures.items ∙ ap (λ (reads : List ReadDone). set c.loop-tag.kept.items c.in-Some.tag (progress.Reading reads)) c.new.ensures)
+          ∙ sym (ap (λ (tags : List ℕ). set_each tags (progress.Reading []) c.loop-tag.kept.items) first)
+          ∙ so_far.goes;
+    }
