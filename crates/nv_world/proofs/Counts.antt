@@ -46,12 +46,12 @@ count-few bag queue names none (suc name) = elim (cases_lt name names) [
 none-behind : (w : World) (number name : ℕ) → tag_count * length w.lanes ≤ name → commands w number name ≡ None
 unfolding commands
 none-behind w number name behind =
-    ap (λ (l : Option Lane). command_in (tag_in l (name % tag_count)) number) (slice_get_past w.lanes (name / tag_count) (omega arith))
+    ap (λ (l : Option Lane). command_in (tag_in l (name % tag_count)) (name % tag_count) number) (slice_get_past w.lanes (name / tag_count) (omega arith))
 
 pub counts-more : (k : Kept) (guest : ℕ) → IsRunning k → CountsMore guest k.state
 counts-more k guest is c queue found =
     let few = (sizes-of (setup_of k) (accepted (setup_of k) is.accepted).sizes).few_lanes in
-    let many = is.of.consistent.controllers in
+    let many = is.of.consistent.of_tags.controllers in
     let below = slice_get_within k.state.controllers guest c found in
     let given = slice_get-there k.geometry.guests guest (omega (arith, many, below)) in
     let counted = (is.counted.running guest given.0 c given.1 found).counted in

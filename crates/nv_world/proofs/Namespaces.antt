@@ -11,7 +11,7 @@ use Rattle.std.proofs.lemmas.List.Folds.{list_all-append}
 use Rattle.nv_ns.specs.BlockRange.{Extent}
 use Rattle.nv_ns.specs.Extents.{Namespace, blocks_in, is_namespace, is_within, most_extents}
 use Rattle.nv_model.proofs.Endings.{and-true}
-use Rattle.nv_world_model.specs.SetUp.{SetUp, between, extent_fits, guest_fits, most_disk_blocks, most_given, most_limit, most_regions}
+use Rattle.nv_world_model.specs.SetUp.{SetUp, between, extent_fits, guest_fits, most_disk_blocks, most_limit, most_regions}
 use Rattle.nv_world_model.specs.Geometry.{Guest, regions_of}
 
 -- the tests of a namespace
@@ -116,16 +116,16 @@ pub guest-namespace : (s : SetUp) (g : Guest) → guest_fits s g ≡ true → s.
 guest-namespace s g fits few =
     let host = g.memory_map.host_len == s.host_bytes in
     let regions = nat_le (length (regions_of g)) most_regions in
-    let many = between 1 most_given (length g.namespace) in
+    let many = between 1 most_extents (length g.namespace) in
     let each = list_all (extent_fits s) g.namespace in
     let limit = between 1 most_limit g.limit in
     let front = (and-true (host && regions && many && each) limit fits).0 in
     let behind = and-true (host && regions && many) each front in
     let fitting = behind.1 in
     let told = (and-true (host && regions) many behind.0).1 in
-    let ends = and-true (nat_le 1 (length g.namespace)) (nat_le (length g.namespace) most_given) told in
+    let ends = and-true (nat_le 1 (length g.namespace)) (nat_le (length g.namespace) most_extents) told in
     let some = leb-true 1 (length g.namespace) ends.0 in
-    let most = leb-true (length g.namespace) most_given ends.1 in
+    let most = leb-true (length g.namespace) most_extents ends.1 in
     let blocks = fits-blocks s g.namespace fitting in
     let times = mul-le-mul_right s.geometry.disk_blocks most in
     namespace-tests g.namespace (record {

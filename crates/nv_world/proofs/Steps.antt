@@ -6,8 +6,9 @@ use Rattle.nv_core.specs.State.{IsOf, IsSameSize, IsStep, State, world_of}
 use Rattle.nv_laws_headline.proofs.Each.{promise-kept}
 use Rattle.nv_laws_others.proofs.Containing.{contained-since}
 use Rattle.nv_laws_others.specs.Alike.{HasFittingStatus}
-use Rattle.nv_laws_sound.proofs.CountedEvents.{step-counted}
-use Rattle.nv_laws_sound.proofs.Steps.{lanes-kept, step-consistent}
+use Rattle.nv_laws_sound.proofs.CountedSteps.{step-counted}
+use Rattle.nv_laws_sound.proofs.ManyLanes.{lanes-kept}
+use Rattle.nv_laws_sound.proofs.Steps.{step-consistent}
 use Rattle.nv_laws_sound.specs.Consistent.{IsConsistent}
 use Rattle.nv_laws_sound.specs.Counted.{IsCounted}
 use Rattle.nv_laws_sound.specs.LaidOut.{IsLaidOut}
@@ -118,7 +119,7 @@ module _ (k : Kept) (new : State) (e : Event) (r : Reply) (running : IsRunning k
       still-running k new running is.size lanes-same log
       (subst (IsConsistent k.geometry) (sym world-is)
       (step-consistent (length k.state.host) k.geometry e (world_of k.state) running.of.laid_out running.of.consistent))
-      (subst (IsCounted k.geometry) (sym world-is) (step-counted k.geometry e (world_of k.state) running.of.consistent running.counted))
+      (subst (IsCounted k.geometry) (sym world-is) (step-counted (length k.state.host) k.geometry e (world_of k.state) running.of.laid_out running.of.consistent running.counted))
       (subst (λ (l : List Logged). IsReplay k.geometry (world_at_start (setup_of k)) l (world_of new)) (sym joined)
       (replay-more k.geometry (record { event = e; reply = r }) k.log (world_at_start (setup_of k)) (world_of k.state) (world_of new) running.replayed is.after))
       (subst (All (λ l. HasFittingStatus l.event)) (sym joined)

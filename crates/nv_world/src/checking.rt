@@ -26,8 +26,8 @@ const MOST_HOST_BYTES: u64 = 1_073_741_824;
 /// The most blocks of the disk: 1 GiB.
 const MOST_DISK_BLOCKS: u64 = 2_097_152;
 
-/// The most extents that a guest may be given.
-const MOST_GIVEN: usize = 1;
+/// The most extents of a guest's namespace.
+const MOST_EXTENTS: usize = 8;
 
 /// The most descriptors of a list that a guest may be given.
 const MOST_LIMIT: u32 = 4096;
@@ -193,7 +193,7 @@ fn guest_fits(setup: &Setup, guest: &GuestSetup) -> bool
     guest.map.host_len() == setup.host_bytes
         && guest.map.regions().len() <= MOST_REGIONS
         && 1 <= guest.extents.len()
-        && guest.extents.len() <= MOST_GIVEN
+        && guest.extents.len() <= MOST_EXTENTS
         && extents_fit(setup, &guest.extents)
         && 1 <= guest.limit
         && guest.limit <= MOST_LIMIT

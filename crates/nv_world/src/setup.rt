@@ -27,7 +27,8 @@ impl Model for Extent {
 pub struct GuestSetup {
     /// the guest's memory, 0 to 64 regions of a map that was made for the host's length
     pub map: GuestMap,
-    /// the disk's blocks that are the guest's, in the order in which the guest counts them: one extent, which no other has a block of
+    /// the disk's blocks that are the guest's, in the order in which the guest counts them: one to eight extents, which have no block in common with
+    /// each other or with another guest's
     pub extents: Vec<Extent>,
     /// the most descriptors of a list, 1 to 4,096
     pub limit: u32,
