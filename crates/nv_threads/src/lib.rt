@@ -42,6 +42,8 @@ mod simulated;
 #[cfg(test)]
 mod simulated_guest;
 #[cfg(test)]
+mod simulated_worlds;
+#[cfg(test)]
 mod start;
 mod sums;
 mod tasks;

@@ -2,9 +2,10 @@
 
 use crate::bits::bit;
 use crate::concern::Concern;
-use nv_model::Reply;
-use nv_world_model::{Event, Logged};
-use std::array;
+use nv_core::Holder;
+use nv_world::World;
+use nv_world_model::Event;
+use std::{array, mem};
 
 /// How many lanes there are at most.
 pub(crate) const LANES: usize = 8;
@@ -12,30 +13,40 @@ pub(crate) const LANES: usize = 8;
 /// How many tags a lane has.
 const TAGS: usize = 64;
 
+/// How many guests there are at most.
+const GUESTS: u8 = 16;
+
 /// What is noted of each lane: where workers look first, and so hold the lock for less. What is due the world alone says.
 #[derive(Clone, Copy, Debug)]
 pub(crate) struct Notes {
     lanes: [LaneNotes; LANES],
+    // how many extents the namespace has that has most: no command takes more tags
+    most: u8,
 }
 
 impl Notes {
-    /// What a log says of each lane. It is gone through once.
-    pub(crate) fn of(log: &[Logged]) -> Self {
+    /// What there is to be noted of a world as it stands. Its log is gone through once.
+    pub(crate) fn of(world: &World) -> Self {
         let mut notes = Notes {
             lanes: [LaneNotes::new(); LANES],
+            most: most_extents(world),
         };
-        for logged in log {
+        for lane in 0..LANES as u8 {
+            notes.look_at(world, lane);
+        }
+        for logged in world.log() {
             if let Event::DevTake(lane) = &logged.event {
                 notes.serve(*lane);
             }
-            if let Reply::Done = &logged.reply {
-                notes.follow(&logged.event);
-            }
-        }
-        for lane in notes.lanes.iter_mut() {
-            lane.ended = u64::from(lane.used.count_ones());
         }
         notes
+    }
+
+    // Notes which tags of a lane are not free.
+    fn look_at(&mut self, world: &World, lane: u8) {
+        if let Some(notes) = self.lanes.get_mut(usize::from(lane)) {
+            notes.look_at(world, lane);
+        }
     }
 
     // The physical controller took, or tried to take, a command on a lane.
@@ -45,22 +56,9 @@ impl Notes {
         }
     }
 
-    /// The lanes on which the physical controller took commands in the log that these notes are of.
+    /// The lanes on which the physical controller took commands in the log of the world that these notes are of.
     pub(crate) fn served(&self) -> [bool; LANES] {
         array::from_fn(|lane| self.lanes.get(lane).is_some_and(|notes| notes.served))
-    }
-
-    // Goes along with an event that was done.
-    fn follow(&mut self, event: &Event) {
-        match event {
-            Event::Take(guest, _, lane) => {
-                let _tag = self.take(*lane, *guest);
-            }
-            Event::Post(lane, tag) => {
-                let _concern = self.post(*lane, *tag);
-            }
-            _ => {}
-        }
     }
 
     /// The tags of a lane that are not free.
@@ -71,33 +69,57 @@ impl Notes {
         }
     }
 
-    /// Whose command a tag has, or had last.
-    pub(crate) fn owner(&self, lane: u8, tag: u8) -> Option<u8> {
-        let notes = self.lanes.get(usize::from(lane))?;
-        notes.owners.get(usize::from(tag)).copied()
-    }
-
-    /// A guest's command was taken: the tag that it got, the lowest that was free.
-    pub(crate) fn take(&mut self, lane: u8, guest: u8) -> Option<u8> {
-        self.lanes.get_mut(usize::from(lane))?.take(guest)
-    }
-
-    /// A lane's command has ended.
-    pub(crate) fn end(&mut self, lane: u8) {
-        if let Some(notes) = self.lanes.get_mut(usize::from(lane)) {
-            notes.ended = notes.ended.saturating_add(1);
+    /// The tags of a lane by which commands go.
+    pub(crate) fn leaders(&self, lane: u8) -> u64 {
+        match self.lanes.get(usize::from(lane)) {
+            Some(notes) => notes.leaders,
+            None => 0,
         }
     }
 
-    /// The command of a tag was posted: whom that concerns.
-    pub(crate) fn post(&mut self, lane: u8, tag: u8) -> Concern {
+    /// Whose command goes by a tag, or went by it last.
+    pub(crate) fn owner(&self, lane: u8, leader: u8) -> Option<u8> {
+        let notes = self.lanes.get(usize::from(lane))?;
+        notes.owners.get(usize::from(leader)).copied()
+    }
+
+    /// How many tags the command has that goes by this one.
+    pub(crate) fn size(&self, lane: u8, leader: u8) -> u64 {
+        match self.lanes.get(usize::from(lane)) {
+            Some(notes) => size_with(notes.behind(leader)),
+            None => 0,
+        }
+    }
+
+    /// A guest's command was taken: the tag that it goes by, the lowest that was free. It got the next ones, too, as far as the world says.
+    pub(crate) fn take(&mut self, world: &World, lane: u8, guest: u8) -> Option<u8> {
+        let notes = self.lanes.get_mut(usize::from(lane))?;
+        let leader = notes.take(guest)?;
+        for _ in 1..self.most {
+            if !notes.join(world, lane, leader) {
+                break;
+            }
+        }
+        Some(leader)
+    }
+
+    /// So many tags' parts of commands of a lane have ended.
+    pub(crate) fn end(&mut self, lane: u8, parts: u64) {
+        if let Some(notes) = self.lanes.get_mut(usize::from(lane)) {
+            notes.ended = notes.ended.saturating_add(parts);
+        }
+    }
+
+    /// The command that goes by a tag was posted: whom that concerns.
+    pub(crate) fn post(&mut self, lane: u8, leader: u8) -> Concern {
+        let most = self.most;
         match self.lanes.get_mut(usize::from(lane)) {
-            Some(notes) => notes.post(tag),
+            Some(notes) => notes.post(leader, most),
             None => Concern::nobody(),
         }
     }
 
-    /// The lanes with commands that have ended, as far as is noted, and are not posted.
+    /// The lanes with parts of commands that have ended, as far as is noted, and are not posted.
     pub(crate) fn with_ended(&self) -> u64 {
         let mut lanes = 0;
         for (lane, notes) in self.lanes.iter().enumerate() {
@@ -109,14 +131,38 @@ impl Notes {
     }
 }
 
+// How many extents the namespace has that has most.
+fn most_extents(world: &World) -> u8 {
+    let mut most = 1;
+    for guest in 0..GUESTS {
+        if let Some(ns) = world.range(guest) {
+            most = most.max(ns.len() as u8);
+        }
+    }
+    most
+}
+
+// How many tags a command has that has these behind the one that it goes by.
+fn size_with(behind: u64) -> u64 {
+    if behind == 0 {
+        1
+    } else {
+        1 + u64::from(behind.count_ones())
+    }
+}
+
 // What is noted of a lane.
 #[derive(Clone, Copy, Debug)]
 struct LaneNotes {
     // the tags that are not free
     used: u64,
-    // whose command each tag has, or had last
+    // those of them by which commands go
+    leaders: u64,
+    // of the command that goes by each tag, the further tags
+    groups: [u64; TAGS],
+    // whose command goes by each tag, or went by it last
     owners: [u8; TAGS],
-    // how many commands have ended that are not posted; more, where some were under way before the world was shared
+    // of how many tags the parts have ended that are not posted; more, where some were under way before the world was shared
     ended: u64,
     // whether the physical controller took commands before the world was shared
     served: bool,
@@ -127,32 +173,95 @@ impl LaneNotes {
     fn new() -> Self {
         LaneNotes {
             used: 0,
+            leaders: 0,
+            groups: [0; TAGS],
             owners: [0; TAGS],
             ended: 0,
             served: false,
         }
     }
 
+    // Notes which tags are not free, and whose they are. Parts of all of them may have ended.
+    fn look_at(&mut self, world: &World, lane: u8) {
+        for tag in 0..TAGS as u8 {
+            if let Some(holder) = world.holder(lane, tag) {
+                self.hold(tag, holder);
+            }
+        }
+        self.ended = u64::from(self.used.count_ones());
+    }
+
+    // A tag is not free.
+    fn hold(&mut self, tag: u8, holder: Holder) {
+        if tag == holder.leader {
+            let _noted = self.lead(tag, holder.guest);
+        } else {
+            let _noted = self.follow(tag, holder.leader);
+        }
+    }
+
+    // A guest's command goes by this tag.
+    fn lead(&mut self, tag: u8, guest: u8) -> Option<()> {
+        *self.owners.get_mut(usize::from(tag))? = guest;
+        self.used |= bit(tag);
+        self.leaders |= bit(tag);
+        Some(())
+    }
+
+    // A tag is one of the command that goes by another.
+    fn follow(&mut self, tag: u8, leader: u8) -> Option<()> {
+        *self.groups.get_mut(usize::from(leader))? |= bit(tag);
+        self.used |= bit(tag);
+        Some(())
+    }
+
+    // The further tags of the command that goes by this one.
+    fn behind(&self, leader: u8) -> u64 {
+        match self.groups.get(usize::from(leader)) {
+            Some(behind) => *behind,
+            None => 0,
+        }
+    }
+
     // The lowest free tag is taken.
     fn take(&mut self, guest: u8) -> Option<u8> {
         let tag = self.used.trailing_ones() as u8;
-        *self.owners.get_mut(usize::from(tag))? = guest;
-        self.used |= bit(tag);
+        self.lead(tag, guest)?;
         Some(tag)
     }
 
-    // A tag is free again. Its guest may see the completion, and where no tag was free any planner may take a command now.
-    fn post(&mut self, tag: u8) -> Concern {
-        let was_full = self.used == u64::MAX;
-        self.used &= !bit(tag);
-        self.ended = self.ended.saturating_sub(1);
-        let mut concern = match self.owners.get(usize::from(tag)) {
+    // The lowest free tag is taken, too, where the command that goes by this one has it; whether it has.
+    fn join(&mut self, world: &World, lane: u8, leader: u8) -> bool {
+        let tag = self.used.trailing_ones() as u8;
+        match world.holder(lane, tag) {
+            Some(holder) if holder.leader == leader => self.follow(tag, leader).is_some(),
+            _ => false,
+        }
+    }
+
+    // The tags of the command that goes by this one are free again. Its guest may see the completion; and where fewer tags were free than
+    // some command takes, any planner may take a command now.
+    fn post(&mut self, leader: u8, most: u8) -> Concern {
+        let were_few = self.has_fewer(most);
+        let behind = match self.groups.get_mut(usize::from(leader)) {
+            Some(behind) => mem::take(behind),
+            None => 0,
+        };
+        self.used &= !(bit(leader) | behind);
+        self.leaders &= !bit(leader);
+        self.ended = self.ended.saturating_sub(size_with(behind));
+        let mut concern = match self.owners.get(usize::from(leader)) {
             Some(owner) => Concern::guest(*owner),
             None => Concern::nobody(),
         };
-        if was_full {
+        if were_few {
             concern.planners = u64::MAX;
         }
         concern
+    }
+
+    // Whether fewer tags are free than so many.
+    fn has_fewer(&self, most: u8) -> bool {
+        self.used == u64::MAX || most > 1 && self.used.count_zeros() < u32::from(most)
     }
 }

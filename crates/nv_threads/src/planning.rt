@@ -156,17 +156,27 @@ impl GuestPlanner {
     pub(crate) fn submit(&mut self, locked: &mut Locked, plan: Plan) -> (Task, Concern) {
         let tag = plan.job().tag;
         let is_answer = matches!(plan.kind(), PlanKind::Answer(_));
+        let idle = idle_parts(&plan);
         match self.share.submit(&mut locked.world, plan) {
-            Reply::Done if is_answer => (Task::TakeUp, self.ended(locked)),
-            Reply::Done => (Task::TakeUp, Concern::device(self.lane)),
+            Reply::Done if is_answer => (Task::TakeUp, self.ended(locked, tag)),
+            Reply::Done => (Task::TakeUp, self.handed_on(locked, idle)),
             _ => (Task::Plan(tag), Concern::nobody()),
         }
     }
 
-    // Whom it concerns that a command has ended without a physical one.
-    fn ended(&self, locked: &mut Locked) -> Concern {
-        locked.notes.end(self.lane);
+    // Whom it concerns that the command of a tag has ended without a physical one.
+    fn ended(&self, locked: &mut Locked, tag: u8) -> Concern {
+        let parts = locked.notes.size(self.lane, tag);
+        locked.notes.end(self.lane, parts);
         Concern::reaper(self.lane)
+    }
+
+    // Whom it concerns that a command was handed on, of which so many parts are no physical commands and have ended.
+    fn handed_on(&self, locked: &mut Locked, idle: u64) -> Concern {
+        if idle != 0 {
+            locked.notes.end(self.lane, idle);
+        }
+        Concern::device(self.lane)
     }
 
     // Looks at a tag behind the last that had a command of the guest's, itself the first, for another that was taken. A tag that another
@@ -230,11 +240,11 @@ impl GuestPlanner {
         }
     }
 
-    // Takes a command, whose tag is to be looked for: first where it should be, where there is no other.
+    // Takes a command. The tag that it goes by is to be looked for: first where it should be, where there is no other.
     fn take(&mut self, locked: &mut Locked, alloc: Global, take: Event) -> Turn {
         match self.share.step(&mut locked.world, alloc, take) {
             Reply::Done => {
-                let noted = locked.notes.take(self.lane, self.guest);
+                let noted = locked.notes.take(&locked.world, self.lane, self.guest);
                 if !self.thorough {
                     self.tag = noted.unwrap_or(self.tag);
                 }
@@ -269,7 +279,7 @@ impl GuestPlanner {
         }
     }
 
-    // Gives up the command of a tag. Where it was dropped, there is another to be taken up, too.
+    // Gives up the command that goes by a tag. Where it was dropped, there is another to be taken up, too.
     fn give_up(&mut self, locked: &mut Locked, alloc: Global, tag: u8) -> Turn {
         let give_up = Event::GiveUp(self.lane, tag);
         let reply = self.share.step(&mut locked.world, alloc, give_up);
@@ -278,8 +288,24 @@ impl GuestPlanner {
         }
         self.task = Task::TakeUp;
         match reply {
-            Reply::Done => Turn::Done(self.ended(locked)),
+            Reply::Done => Turn::Done(self.ended(locked, tag)),
             _ => Turn::Done(Concern::nobody()),
         }
     }
+}
+
+// How many parts of a plan are no physical commands: those of a Dataset Management in an extent that none of its ranges meets. They have
+// ended once the command is handed on.
+fn idle_parts(plan: &Plan) -> u64 {
+    let parts = plan.parts();
+    if parts <= 1 || !matches!(plan.kind(), PlanKind::Bounced) {
+        return 0;
+    }
+    let mut idle: u64 = 0;
+    for part in 0..parts {
+        if plan.part_len(part) == 0 {
+            idle = idle.saturating_add(1);
+        }
+    }
+    idle
 }

@@ -39,9 +39,9 @@ pub fn reaper<R: Wait + Clock>(rt: &R, alloc: Global, shared: &Shared, lane: u8)
 #[derive(Debug, Drop)]
 pub(crate) struct LaneReaper {
     pub(crate) lane: u8,
-    // the tag that was posted last
+    // the tag whose command was posted last
     pub(crate) tag: u8,
-    // whether all tags are looked at, and not only those that are noted as taken
+    // whether all tags are looked at, and not only those by which commands go, as far as is noted
     pub(crate) thorough: bool,
     share: Share,
 }
@@ -67,16 +67,16 @@ impl LaneReaper {
         self.post(locked, alloc, tag)
     }
 
-    // Reaps a completion.
+    // Reaps a completion: one part of a command has ended.
     fn reap(&mut self, locked: &mut Locked, alloc: Global, reap: Event) -> Option<Concern> {
         if !is_done(self.share.step(&mut locked.world, alloc, reap)) {
             return None;
         }
-        locked.notes.end(self.lane);
+        locked.notes.end(self.lane, 1);
         Some(Concern::nobody())
     }
 
-    // Posts the command of a tag. Behind it, a deletion may be finished that waited for it.
+    // Posts the command that goes by a tag. Behind it, a deletion may be finished that waited for it.
     fn post(&mut self, locked: &mut Locked, alloc: Global, tag: u8) -> Option<Concern> {
         let post = Event::Post(self.lane, tag);
         if !is_done(self.share.step(&mut locked.world, alloc, post)) {
@@ -94,7 +94,7 @@ impl LaneReaper {
         let mut left = if self.thorough {
             u64::MAX
         } else {
-            locked.notes.used(self.lane)
+            locked.notes.leaders(self.lane)
         };
         let mut tag = self.tag;
         for _ in 0..TAGS {

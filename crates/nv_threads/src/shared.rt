@@ -29,9 +29,9 @@ pub struct Shared {
 }
 
 impl Shared {
-    /// The world under a lock that nobody holds. Its log is gone through once.
+    /// The world under a lock that nobody holds. Its tags are looked at and its log is gone through once.
     pub fn new(world: World) -> Self {
-        let notes = Notes::of(world.log());
+        let notes = Notes::of(&world);
         Shared {
             used: notes.served(),
             locked: Mutex::new(Locked { world, notes }),

@@ -3,7 +3,7 @@
 //! Both have a world of their own, in which the same guests act. Where a worker gets a turn, that of the start gets one, too, and both must
 //! make the same event with the same answer, or none. One that waits for a bell which was not rung makes none: then that of the start must have found none
 //! where it looked at all. A guest to which something was posted has news. From time to time both worlds are shared anew, so that workers come to commands
-//! that are under way.
+//! that are under way. Guests have one extent each, or several, so that their commands take several tags and tags run out.
 
 use crate::alike::{same_act, same_reply};
 use crate::bits::bit;
@@ -14,33 +14,25 @@ use crate::notes::Notes;
 use crate::planning::GuestPlanner;
 use crate::reaping::LaneReaper;
 use crate::simulated_guest::{Chance, Guest};
+use crate::simulated_worlds::{Extents, FEW, GUESTS, LANES, MANY, ONE, opened};
 use crate::start;
 use crate::tasks::{Task, Turn};
 use crate::telling::tell;
-use nv_mem::{GuestMap, NoMemory, Region};
 use nv_model::Act;
-use nv_plan::{Job, Planned, make_plan};
-use nv_world::{Extent, GuestSetup, Setup, World};
+use nv_plan::{Job, Plan, PlanKind, Planned, make_plan};
+use nv_world::World;
 use nv_world_model::{Event, Logged};
 use std::alloc::Global;
 use std::process::Abort;
 use std::test::Fail;
 
-/// How many guests and lanes there are.
-const GUESTS: u8 = 3;
-
-const LANES: u8 = 2;
-
-/// How many bytes the host and each guest's memory have.
-const HOST: u64 = 0x200_0000;
-
-const MEMORY: u64 = 0x2_0000;
-
 /// How many tags a lane has.
 const TAGS: u8 = 64;
 
-/// How many simulations there are, one a seed.
+/// How many simulations there are, one a seed, where guests have one extent, and of each kind where they have several.
 const SIMULATIONS: u64 = 12;
+
+const SIMULATIONS_APART: u64 = 4;
 
 /// How many turns a simulation has, how many of them belong to a phase, and how many phases there are before the worlds are shared anew.
 const TURNS: u32 = 60_000;
@@ -53,6 +45,12 @@ const PHASES: u32 = 7;
 const LOOKS: u32 = 200;
 
 const PASSES: u32 = 140_000;
+
+/// Behind how many turns notes are held against the world.
+const CHECKED: u32 = 61;
+
+/// How many turns workers have alone until all commands have run out.
+const LAST_TURNS: u32 = 10_000;
 
 /// An event other than a guest's.
 #[derive(Clone, Copy, PartialEq, Eq)]
@@ -111,10 +109,10 @@ struct Start {
 
 impl Start {
     // A world without workers.
-    fn new(alloc: Global) -> Result<Self, Fail> {
+    fn new(alloc: Global, extents: &Extents) -> Result<Self, Fail> {
         Ok(Start {
             alloc,
-            world: opened(alloc)?,
+            world: opened(alloc, extents)?,
             planners: Vec::new(alloc),
             devices: Vec::new(alloc),
             reapers: Vec::new(alloc),
@@ -226,23 +224,28 @@ struct Simulation {
     reapers: Vec<Seat<LaneReaper>>,
     // whose command each tag of a lane had last, lane by lane
     owners: Vec<u8>,
-    // how often a lane had no free tag, and how often a worker that waited was rung for
+    // how often a lane had no free tag, and how often some but fewer than a command may take
     full: u64,
+    short: u64,
+    // how often a worker that waited was rung for
     woken: u64,
+    // how many plans had several parts, and how many of these had one that is no physical command
+    parted: u64,
+    idle: u64,
 }
 
 impl Simulation {
     // Worlds without workers.
-    fn new(alloc: Global) -> Result<Self, Fail> {
-        let world = opened(alloc)?;
-        let notes = Notes::of(world.log());
+    fn new(alloc: Global, extents: &Extents) -> Result<Self, Fail> {
+        let world = opened(alloc, extents)?;
+        let notes = Notes::of(&world);
         let mut guests = Vec::new(alloc);
         for _guest in 0..GUESTS {
-            guests.push(Guest::new())?;
+            guests.push(Guest::new(*extents != ONE))?;
         }
         Ok(Simulation {
             alloc,
-            start: Start::new(alloc)?,
+            start: Start::new(alloc, extents)?,
             locked: Locked { world, notes },
             guests,
             planners: Vec::new(alloc),
@@ -250,7 +253,10 @@ impl Simulation {
             reapers: Vec::new(alloc),
             owners: vec![in alloc; 0; usize::from(LANES) * usize::from(TAGS)]?,
             full: 0,
+            short: 0,
             woken: 0,
+            parted: 0,
+            idle: 0,
         })
     }
 
@@ -263,7 +269,7 @@ impl Simulation {
             }
         }
         self.start.share()?;
-        self.locked.notes = Notes::of(self.locked.world.log());
+        self.locked.notes = Notes::of(&self.locked.world);
         self.sit_down()
     }
 
@@ -479,6 +485,10 @@ impl Simulation {
         match turn {
             Turn::Job(job) => {
                 let planned = planned(&self.locked.world, self.alloc, job, is_starved);
+                if let Planned::Plan(plan) = &planned {
+                    self.parted = self.parted.saturating_add(u64::from(plan.parts() > 1));
+                    self.idle = self.idle.saturating_add(u64::from(has_idle_part(plan)));
+                }
                 Some(go_on(&mut seat.worker, &mut self.locked, planned))
             }
             Turn::Done(concern) => Some(concern),
@@ -486,13 +496,31 @@ impl Simulation {
         }
     }
 
-    // Notes whether some lane has no free tag.
+    // Counts lanes without a free tag, and with few.
     fn look_at_lanes(&mut self) {
         for lane in 0..LANES {
-            if self.locked.notes.used(lane) == u64::MAX {
-                self.full = self.full.saturating_add(1);
+            match self.locked.notes.used(lane).count_zeros() {
+                0 => self.full = self.full.saturating_add(1),
+                1..=7 => self.short = self.short.saturating_add(1),
+                _ => {}
             }
         }
+    }
+
+    // Whether notes say of the tags what the world says of them.
+    fn is_well_noted(&self) -> bool {
+        let notes = &self.locked.notes;
+        let anew = Notes::of(&self.locked.world);
+        (0..LANES).all(|lane| {
+            notes.used(lane) == anew.used(lane)
+                && notes.leaders(lane) == anew.leaders(lane)
+                && (0..TAGS)
+                    .filter(|tag| notes.leaders(lane) & bit(*tag) != 0)
+                    .all(|tag| {
+                        notes.size(lane, tag) == anew.size(lane, tag)
+                            && notes.owner(lane, tag) == anew.owner(lane, tag)
+                    })
+        })
     }
 
     // One turn of somebody, by chance; whether it was what it should be. In one phase of four the physical controller stands still, in one
@@ -509,15 +537,32 @@ impl Simulation {
                 true
             }
             2 | 3 | 4 => {
-                let at = usize::from(guest) * usize::from(LANES) + usize::from(lane);
                 let is_starved = chance.below(16) == 0;
-                self.planner_turn(at, is_late, is_starved)?
+                self.planner_turn(planner_at(guest, lane), is_late, is_starved)?
             }
             5 | 6 => phase == 1 || self.device_turn(lane, is_late),
             _ => phase == 2 || self.reaper_turn(lane, is_late),
         };
         Ok(is_right && self.went_alike(before))
     }
+
+    // One turn of some worker, by chance; whether it was what it should be.
+    fn workers_turn(&mut self, chance: &mut Chance) -> Result<bool, Fail> {
+        let before = self.locked.world.log().len();
+        let guest = chance.below(u64::from(GUESTS)) as u8;
+        let lane = chance.below(u64::from(LANES)) as u8;
+        let is_right = match chance.below(6) {
+            0 | 1 | 2 => self.planner_turn(planner_at(guest, lane), true, false)?,
+            3 | 4 => self.device_turn(lane, true),
+            _ => self.reaper_turn(lane, true),
+        };
+        Ok(is_right && self.went_alike(before))
+    }
+}
+
+// Where the planner of a guest on a lane sits.
+fn planner_at(guest: u8, lane: u8) -> usize {
+    usize::from(guest) * usize::from(LANES) + usize::from(lane)
 }
 
 // Goes on with what came of a job, as a planner does that took the lock for it: whom that concerns.
@@ -529,6 +574,12 @@ fn go_on(planner: &mut GuestPlanner, locked: &mut Locked, planned: Planned) -> C
     };
     planner.task = task;
     concern
+}
+
+// Whether a part of a plan is no physical command, since it manages no range.
+fn has_idle_part(plan: &Plan) -> bool {
+    let is_bounced = matches!(plan.kind(), PlanKind::Bounced);
+    is_bounced && (0..plan.parts()).any(|part| plan.part_len(part) == 0)
 }
 
 // Where the owner of a lane's tag stands.
@@ -547,63 +598,111 @@ fn planned(world: &World, alloc: Global, job: Job, is_starved: bool) -> Planned 
     }
 }
 
-// The world at its start.
-fn opened(alloc: Global) -> Result<World, Fail> {
-    let mut guests = Vec::new(alloc);
-    for guest in 0..u64::from(GUESTS) {
-        let region = Region {
-            guest: 0,
-            host: 0x10_0000 * (guest + 1),
-            len: MEMORY,
-        };
-        let extent = Extent {
-            base: 1000 * guest,
-            blocks: 64,
-        };
-        guests.push(GuestSetup {
-            map: GuestMap::new(HOST, vec![in alloc; region]?)?,
-            extents: vec![in alloc; extent]?,
-            limit: 1024,
-        })?;
-    }
-    Ok(World::new(
-        alloc,
-        Setup {
-            host_bytes: HOST,
-            mediator: 0x40_0000,
-            disk_blocks: 4096,
-            lanes: u64::from(LANES),
-            guests,
-        },
-    )?)
-}
-
-// Ends the test where a worker did something else than it should, or where a lane never was full or nobody was ever rung for.
-fn simulate(rt: &impl Abort, alloc: Global, seed: u64) -> Result<(), Fail> {
-    let mut simulation = Simulation::new(alloc)?;
+// A simulation of so many turns; the test ends where a worker did something else than it should.
+fn simulated(
+    rt: &impl Abort,
+    alloc: Global,
+    extents: &Extents,
+    seed: u64,
+    turns: u32,
+) -> Result<Simulation, Fail> {
+    let mut simulation = Simulation::new(alloc, extents)?;
     let mut chance = Chance::new(seed);
-    for number in 0..TURNS {
+    for number in 0..turns {
         if number % (PHASE * PHASES) == 0 {
             simulation.share(&mut chance)?;
         }
         let is_right = simulation.turn(number, &mut chance)?;
         let events = simulation.locked.world.log().len();
         assert!(rt; is_right, "turn {number} behind {events} events");
+        if number % CHECKED == 0 {
+            let is_noted = simulation.is_well_noted();
+            assert!(rt; is_noted, "notes of turn {number} behind {events} events");
+        }
         simulation.look_at_lanes();
     }
+    Ok(simulation)
+}
+
+// Ends the test where a worker did something else than it should, or where a lane never was full or nobody was ever rung for.
+fn simulate(
+    rt: &impl Abort,
+    alloc: Global,
+    extents: &Extents,
+    seed: u64,
+) -> Result<Simulation, Fail> {
+    let simulation = simulated(rt, alloc, extents, seed, TURNS)?;
     let events = simulation.locked.world.log().len();
     let (full, woken) = (simulation.full, simulation.woken);
     assert!(rt;
         full > 0 && woken > 0 && events > 10_000,
         "{full} {woken} {events}"
     );
-    Ok(())
+    Ok(simulation)
 }
 
 #[test]
 fn workers_choose_as_at_the_start(rt: HostRuntime) -> Result<(), Fail> {
     for seed in 1..=SIMULATIONS {
-        simulate(&rt, rt.alloc(), seed)?;
+        let simulation = simulate(&rt, rt.alloc(), &ONE, seed)?;
+        assert_eq!(rt; simulation.parted, 0);
+    }
+    Ok(())
+}
+
+// Ends the test where a worker did something else than it should, or where no command took several tags, no tags were short, or no part of
+// a command ended where it was handed on.
+fn simulate_apart(rt: &impl Abort, alloc: Global, extents: &Extents) -> Result<(), Fail> {
+    for seed in 1..=SIMULATIONS_APART {
+        let simulation = simulate(rt, alloc, extents, seed)?;
+        let (short, parted, idle) = (simulation.short, simulation.parted, simulation.idle);
+        assert!(rt;
+            short > 0 && parted > 20 && idle > 0,
+            "{short} {parted} {idle}"
+        );
+    }
+    Ok(())
+}
+
+#[test]
+fn workers_choose_as_at_the_start_where_commands_take_several_tags(
+    rt: HostRuntime,
+) -> Result<(), Fail> {
+    simulate_apart(&rt, rt.alloc(), &FEW)
+}
+
+#[test]
+fn workers_choose_as_at_the_start_where_tags_are_short(rt: HostRuntime) -> Result<(), Fail> {
+    simulate_apart(&rt, rt.alloc(), &MANY)
+}
+
+// Guests reset their controllers, and workers get turns alone until all commands have run out: then no tag is noted as taken, and none as ended.
+fn run_out(rt: &impl Abort, alloc: Global, extents: &Extents, seed: u64) -> Result<(), Fail> {
+    let mut simulation = simulated(rt, alloc, extents, seed, PHASE * 4)?;
+    for guest in 0..GUESTS {
+        let reset = Act::RegWrite {
+            offset: 0x14,
+            value: 0,
+        };
+        simulation.act(guest, reset)?;
+    }
+    let mut chance = Chance::new(seed);
+    for number in 0..LAST_TURNS {
+        let is_right = simulation.workers_turn(&mut chance)?;
+        assert!(rt; is_right, "last turn {number}");
+    }
+    let notes = &simulation.locked.notes;
+    for lane in 0..LANES {
+        assert_eq!(rt; notes.used(lane), 0);
+    }
+    assert_eq!(rt; notes.with_ended(), 0);
+    Ok(())
+}
+
+#[test]
+fn nothing_is_noted_where_all_commands_have_run_out(rt: HostRuntime) -> Result<(), Fail> {
+    for extents in [ONE, FEW, MANY] {
+        run_out(&rt, rt.alloc(), &extents, 1)?;
     }
     Ok(())
 }

@@ -38,6 +38,11 @@ const ADMIN: u64 = 0x1_0000;
 
 const QUEUE: u64 = 0x1_3000;
 
+/// Where it writes the ranges of Dataset Managements, and in how many places one behind the other.
+const RANGES: u64 = 0x1_8000;
+
+const PLACES: u64 = 16;
+
 /// The registers AQA, ASQ, ACQ and CC of the bring-up, and their values.
 const REGISTERS: [(u32, u32); 4] = [
     (0x24, 0x001f_001f),
@@ -104,20 +109,57 @@ fn command(chance: &mut Chance, identifier: u32) -> [u8; 64] {
     }
 }
 
+// A transfer by chance whose blocks may lie in several extents: a Read or a Write by a Data Block of bytes that the physical controller can't
+// reach at once, a Read by a segment of 64 descriptors, or a Compare.
+fn transfer(chance: &mut Chance, identifier: u32) -> [u8; 64] {
+    let block = chance.below(60) as u32;
+    let last = chance.below(8) as u32;
+    let bytes = 512 * (last + 1);
+    match chance.below(4) {
+        0 => entry_of(0x4002, identifier, 0x3101, (bytes, 0), [block, 0, last]),
+        1 => entry_of(0x4001, identifier, 0x3101, (bytes, 0), [block, 0, last]),
+        2 => entry_of(
+            0x4002,
+            identifier,
+            0x8000,
+            (1024, 0x3000_0000),
+            [block, 0, last],
+        ),
+        _ => entry_of(0x05, identifier, 0x4000, (0, 0), [block, 0, last]),
+    }
+}
+
+// A range by chance, of up to 15 blocks.
+fn range(chance: &mut Chance) -> [u8; 16] {
+    let mut bytes = [0; 16];
+    let start = chance.below(52) as u8;
+    let count = chance.below(16) as u8;
+    bytes[4] = count;
+    bytes[8] = start;
+    bytes
+}
+
 /// A guest: where it writes its next entries. It looks at no reply, so what it does is not always disciplined.
 #[derive(Drop)]
 pub(crate) struct Guest {
     admin: u32,
     tail: u32,
     identifier: u32,
+    // whether it also has commands that are made for several extents
+    is_spread: bool,
+    // where it wrote ranges last
+    place: u64,
 }
 
 impl Guest {
-    pub(crate) fn new() -> Self {
+    /// One that has done nothing yet.
+    pub(crate) fn new(is_spread: bool) -> Self {
         Guest {
             admin: 0,
             tail: 0,
             identifier: 0,
+            is_spread,
+            place: 0,
         }
     }
 
@@ -207,14 +249,61 @@ impl Guest {
         acts: &mut Vec<Act>,
     ) -> Result<(), NoMemory> {
         for _ in 0..=chance.below(8) {
-            let identifier = self.identify();
-            let entry = command(chance, identifier);
+            let entry = self.command(alloc, chance, acts)?;
             let addr = QUEUE + 64 * u64::from(self.tail);
             self.tail = self.tail.wrapping_add(1) % SLOTS;
             let bytes = BoxedBytes::from_slice(alloc, &entry)?;
             acts.push(Act::Store { addr, bytes })?;
         }
         Ok(acts.push(rings(TAIL, self.tail))?)
+    }
+}
+
+impl Guest {
+    // Its next I/O command.
+    fn command(
+        &mut self,
+        alloc: Global,
+        chance: &mut Chance,
+        acts: &mut Vec<Act>,
+    ) -> Result<[u8; 64], NoMemory> {
+        let identifier = self.identify();
+        if !self.is_spread {
+            return Ok(command(chance, identifier));
+        }
+        match chance.below(4) {
+            0 => self.manage(alloc, chance, acts, identifier),
+            1 => Ok(transfer(chance, identifier)),
+            _ => Ok(command(chance, identifier)),
+        }
+    }
+
+    // Writes up to four ranges for a Dataset Management, which deallocates them or does nothing with them.
+    fn manage(
+        &mut self,
+        alloc: Global,
+        chance: &mut Chance,
+        acts: &mut Vec<Act>,
+        identifier: u32,
+    ) -> Result<[u8; 64], NoMemory> {
+        self.place = self.place.wrapping_add(1) % PLACES;
+        let addr = RANGES + 64 * self.place;
+        let last = chance.below(4) as u32;
+        for number in 0..=u64::from(last) {
+            let bytes = BoxedBytes::from_slice(alloc, &range(chance))?;
+            acts.push(Act::Store {
+                addr: addr + 16 * number,
+                bytes,
+            })?;
+        }
+        let deallocates = 4 * chance.below(2) as u32;
+        Ok(entry_of(
+            0x09,
+            identifier,
+            addr as u32,
+            (0, 0),
+            [last, deallocates, 0],
+        ))
     }
 }
 
