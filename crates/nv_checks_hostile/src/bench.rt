@@ -1,4 +1,5 @@
-//! Two guests on two lanes: where their memory, blocks and queues lie, and what they do first.
+//! Two guests on two lanes: where their memory, blocks and queues lie, and what they do first. On the disk the honest guest's blocks lie on both
+//! sides of the other's.
 
 use nv_mem::{GuestMap, NoMemory, Region};
 use nv_world::{Extent, GuestSetup, Setup, World};
@@ -21,15 +22,59 @@ pub const MEMORY: u64 = 0x2_0000;
 /// How many blocks each guest has.
 pub const BLOCKS: u64 = 64;
 
-/// The host address of the honest guest's first byte, and the disk's block that is its first.
+/// The host address of the honest guest's first byte.
 pub const HONEST_IMAGE: u64 = 0x20_0000;
-
-pub const HONEST_BASE: u64 = 2000;
 
 /// The same of the other guest, which may have two regions more.
 pub const HOSTILE_IMAGES: [u64; 3] = [0x10_0000, 0x30_0000, 0x34_0000];
 
-pub const HOSTILE_BASE: u64 = 1000;
+/// Blocks of the disk in a row: so many from that one on.
+#[derive(Clone, Copy)]
+pub struct Span {
+    pub base: u64,
+    pub blocks: u64,
+}
+
+/// The honest guest's extents: they lie right behind the first of the other guest's, apart from both, right before its first, and right behind its
+/// second.
+pub const HONEST_SPANS: &[Span] = &[
+    Span {
+        base: 1032,
+        blocks: 6,
+    },
+    Span {
+        base: 960,
+        blocks: 26,
+    },
+    Span {
+        base: 994,
+        blocks: 6,
+    },
+    Span {
+        base: 2032,
+        blocks: 26,
+    },
+];
+
+/// The other guest's.
+pub const HOSTILE_SPANS: &[Span] = &[
+    Span {
+        base: 1000,
+        blocks: 32,
+    },
+    Span {
+        base: 2000,
+        blocks: 32,
+    },
+];
+
+/// A guest's extents.
+pub fn spans_of(guest: u8) -> &'static [Span] {
+    match guest {
+        HONEST => HONEST_SPANS,
+        _ => HOSTILE_SPANS,
+    }
+}
 
 /// Where the mediator's area begins, and how long a lane's is.
 pub const MEDIATOR: u64 = 0x40_0000;
@@ -135,15 +180,19 @@ fn regions(alloc: Global, image: u64, more: &[(u64, u64)]) -> Result<Vec<Region>
     Ok(regions)
 }
 
-// A guest with these regions, whose blocks lie in a row from that one on.
-fn guest_of(alloc: Global, regions: Vec<Region>, base: u64) -> Option<GuestSetup> {
-    let extent = Extent {
-        base,
-        blocks: BLOCKS,
-    };
+// A guest with these regions and extents.
+fn guest_of(alloc: Global, regions: Vec<Region>, spans: &[Span]) -> Option<GuestSetup> {
+    let mut extents = Vec::new(alloc);
+    for span in spans {
+        let extent = Extent {
+            base: span.base,
+            blocks: span.blocks,
+        };
+        extents.push(extent).ok()?;
+    }
     Some(GuestSetup {
         map: GuestMap::new(HOST, regions).ok()?,
-        extents: vec![in alloc; extent].ok()?,
+        extents,
         limit: LIMIT,
     })
 }
@@ -152,9 +201,9 @@ fn guest_of(alloc: Global, regions: Vec<Region>, base: u64) -> Option<GuestSetup
 pub fn opened(alloc: Global, more: bool) -> Option<World> {
     let besides: &[(u64, u64)] = if more { &MORE } else { &[] };
     let hostile = regions(alloc, HOSTILE_IMAGES[0], besides).ok()?;
-    let hostile = guest_of(alloc, hostile, HOSTILE_BASE)?;
+    let hostile = guest_of(alloc, hostile, HOSTILE_SPANS)?;
     let honest = regions(alloc, HONEST_IMAGE, &[]).ok()?;
-    let honest = guest_of(alloc, honest, HONEST_BASE)?;
+    let honest = guest_of(alloc, honest, HONEST_SPANS)?;
     let setup = Setup {
         host_bytes: HOST,
         mediator: MEDIATOR,

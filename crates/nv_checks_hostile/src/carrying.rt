@@ -1,5 +1,6 @@
 //! What the mediator and the physical controller do with a command that has a tag, event by event.
 
+use crate::bench::TAGS;
 use crate::runs::Runs;
 use crate::tags::Tag;
 use nv_plan::{Planned, make_plan};
@@ -20,15 +21,32 @@ impl Runs {
 
     // The next event of a command.
     fn next(&mut self, tag: Tag, backwards: bool) -> Option<Event> {
-        let Tag { lane, number } = tag;
-        if let Some(event) = self.wanted(tag) {
+        let leader = self.tags.leader(tag)?;
+        if let Some(event) = self.wanted(leader) {
             return Some(event);
         }
+        let Tag { lane, number } = leader;
         self.if_due(Event::Post(lane, number))
-            .or(self.if_due(Event::DevPost(lane, number)))
-            .or(self.unit(tag, backwards))
+            .or(self.worked(leader, backwards))
             .or(self.if_due(Event::DevTake(lane)))
             .or(self.if_due(Event::Reap(lane)))
+    }
+
+    // What the device does next with a part of the command that goes by a tag, of the lowest of its tags or the highest.
+    fn worked(&self, leader: Tag, backwards: bool) -> Option<Event> {
+        let lane = leader.lane;
+        for place in 0..TAGS {
+            let number = if backwards { TAGS - 1 - place } else { place };
+            if self.tags.goes_by(lane, number, leader.number) {
+                let event = self
+                    .if_due(Event::DevPost(lane, number))
+                    .or(self.unit(Tag { lane, number }, backwards));
+                if event.is_some() {
+                    return event;
+                }
+            }
+        }
+        None
     }
 
     // An event, if it is due.

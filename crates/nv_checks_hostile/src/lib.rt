@@ -19,6 +19,8 @@ mod mistakes;
 #[cfg(test)]
 mod pairs;
 #[cfg(test)]
+mod parts;
+#[cfg(test)]
 mod random;
 #[cfg(test)]
 mod rows;

@@ -1,9 +1,9 @@
 //! A run of both guests, and beside it a run of each alone.
 
 use crate::bench::{
-    self, ADMIN_QUEUES, ADMIN_SUBMISSIONS, ADMIN_TAIL, BLOCKS, CC, CREATE_COMPLETION_QUEUE,
-    CREATE_SUBMISSION_QUEUE, ENABLED, HONEST, HONEST_BASE, HONEST_IMAGE, HOSTILE, HOSTILE_BASE,
-    HOSTILE_IMAGES, MEMORY, bytes_of,
+    self, ADMIN_QUEUES, ADMIN_SUBMISSIONS, ADMIN_TAIL, CC, CREATE_COMPLETION_QUEUE,
+    CREATE_SUBMISSION_QUEUE, ENABLED, HONEST, HONEST_IMAGE, HONEST_SPANS, HOSTILE, HOSTILE_IMAGES,
+    HOSTILE_SPANS, MEMORY, Span, bytes_of,
 };
 use crate::tags::{Own, Tags};
 use nv_mem::{BoxedBytes, Host, NoMemory};
@@ -180,8 +180,8 @@ impl Runs {
 
     /// Whether each guest's memory and blocks are as in the run of that guest alone.
     pub fn has_same_state(&self) -> bool {
-        is_same_guest(&self.both, &self.honest, &[HONEST_IMAGE], HONEST_BASE)
-            && is_same_guest(&self.both, &self.hostile, &HOSTILE_IMAGES, HOSTILE_BASE)
+        is_same_guest(&self.both, &self.honest, &[HONEST_IMAGE], HONEST_SPANS)
+            && is_same_guest(&self.both, &self.hostile, &HOSTILE_IMAGES, HOSTILE_SPANS)
     }
 
     /// Whether each guest was answered as in the run of that guest alone so far, and its memory and blocks are the same.
@@ -224,11 +224,16 @@ fn is_answered(
 }
 
 // Whether the memory of a guest, whose regions begin at these host addresses, and its blocks are the same in two worlds.
-fn is_same_guest(one: &World, other: &World, images: &[u64], base: u64) -> bool {
+fn is_same_guest(one: &World, other: &World, images: &[u64], spans: &[Span]) -> bool {
     images
         .iter()
         .all(|image| is_same_memory(one.host(), other.host(), *image))
-        && (0..BLOCKS).all(|block| is_same_block(one, other, base.wrapping_add(block)))
+        && spans.iter().all(|span| are_same_blocks(one, other, *span))
+}
+
+// Whether blocks in a row are the same in two worlds.
+fn are_same_blocks(one: &World, other: &World, span: Span) -> bool {
+    (0..span.blocks).all(|block| is_same_block(one, other, span.base.wrapping_add(block)))
 }
 
 // Whether a region of the hosts' memory is the same.

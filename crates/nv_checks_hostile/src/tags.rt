@@ -1,6 +1,7 @@
 //! Whose the tags of the run of both guests are, and which tag each has in the run of its guest alone.
 
-use crate::bench::{HONEST, TAGS};
+use crate::bench::{HONEST, TAGS, spans_of};
+use crate::parts::tags_of;
 use nv_mem::NoMemory;
 use nv_model::Reply;
 use nv_world::World;
@@ -24,6 +25,8 @@ enum Point {
 pub struct Holder {
     /// whose command it is
     pub guest: u8,
+    /// the lowest tag of the command, by which it goes
+    leader: u8,
     /// its tag in the run of that guest alone
     alone: u8,
     point: Point,
@@ -83,7 +86,7 @@ impl Tags {
     /// Whose event it was that was carried out last in the run of both guests, and the event that it is in the run of that guest alone: the same with
     /// the guest's tag renumbered. None where it is nobody's, or there it could not be that one: nobody else takes the lane's tags.
     ///
-    /// A command's tag is the lowest that is free when it is taken, in each run. An event that names no tag is that of the command that the
+    /// A command's tags are the lowest that are free when it is taken, in each run. An event that names no tag is that of the command that the
     /// device takes, or whose physical completion is reaped.
     pub fn renumber(
         &mut self,
@@ -142,9 +145,35 @@ impl Tags {
                 self.posted = self.posted.wrapping_add(1);
                 self.move_to(lane, number, Point::Posted(self.posted));
             }
-            Event::Post(..) => self.set(lane, number, None),
+            Event::Post(..) => self.let_go(lane, number),
             _ => {}
         }
+    }
+
+    // All tags of the command that goes by a tag are free.
+    fn let_go(&mut self, lane: u8, leader: u8) {
+        for tag in 0..TAGS {
+            if self.goes_by(lane, tag, leader) {
+                self.set(lane, tag, None);
+            }
+        }
+    }
+
+    /// Whether a tag is one of the command that goes by that tag.
+    pub fn goes_by(&self, lane: u8, tag: u8, leader: u8) -> bool {
+        match self.holder(lane, tag) {
+            Some(holder) => holder.leader == leader,
+            None => false,
+        }
+    }
+
+    /// The tag that the command of a tag goes by; none where nobody has it.
+    pub fn leader(&self, tag: Tag) -> Option<Tag> {
+        let Holder { leader, .. } = self.holder(tag.lane, tag.number)?;
+        Some(Tag {
+            lane: tag.lane,
+            number: leader,
+        })
     }
 
     /// Who has a tag; none where nobody has, or there is no such tag.
@@ -199,30 +228,36 @@ impl Tags {
         }
     }
 
-    // A guest's command was taken: it has the lowest tag that was free, and in the run alone the lowest that is free there.
+    // A guest's command was taken: it has the lowest tags that were free, and in the run alone the lowest that are free there.
     fn take(&mut self, alloc: Global, world: &World, guest: u8, lane: u8) -> Result<(), NoMemory> {
-        let tag = self.lowest_free(lane);
-        let alone = self.lowest_alone(guest, lane);
-        let job = world.job(alloc, lane, tag)?;
-        if job.is_none_or(|job| job.guest != guest) {
+        let leader = self.lowest_free(lane);
+        let Some(job) = world.job(alloc, lane, leader)? else {
+            self.astray = true;
+            return Ok(());
+        };
+        if job.guest != guest {
             self.astray = true;
         }
         if guest != HONEST {
             self.others = self.others.wrapping_add(1);
-        } else if tag != alone {
+        } else if leader != self.lowest_alone(guest, lane) {
             self.renumbered = self.renumbered.wrapping_add(1);
         }
-        let point = Point::Before;
-        self.set(
-            lane,
-            tag,
-            Some(Holder {
-                guest,
-                alone,
-                point,
-            }),
-        );
+        for _ in 0..tags_of(&job.sqe, spans_of(guest)) {
+            self.take_one(guest, lane, leader);
+        }
         Ok(())
+    }
+
+    // A guest's command got one more tag.
+    fn take_one(&mut self, guest: u8, lane: u8, leader: u8) {
+        let holder = Holder {
+            guest,
+            leader,
+            alone: self.lowest_alone(guest, lane),
+            point: Point::Before,
+        };
+        self.set(lane, self.lowest_free(lane), Some(holder));
     }
 
     // The lowest tag of a lane that nobody has; one that there is not where all are taken.

@@ -49,6 +49,18 @@ const BLOCKS: &[Span] = &[Span {
     blocks: 64,
 }];
 
+/// Eight, each of a block.
+const EIGHT: &[Span] = &[
+    Span { base: 7, blocks: 1 },
+    Span { base: 6, blocks: 1 },
+    Span { base: 5, blocks: 1 },
+    Span { base: 4, blocks: 1 },
+    Span { base: 3, blocks: 1 },
+    Span { base: 2, blocks: 1 },
+    Span { base: 1, blocks: 1 },
+    Span { base: 0, blocks: 1 },
+];
+
 /// Nine, each of a block.
 const NINE: &[Span] = &[
     Span { base: 0, blocks: 1 },
@@ -118,6 +130,31 @@ const ACCEPTED: &[Case] = &[
         disk: 1,
         last: Seat {
             extents: &[Span { base: 0, blocks: 1 }],
+            ..SEAT
+        },
+        ..PLAIN
+    },
+    Case {
+        name: "two extents",
+        last: Seat {
+            extents: &[
+                Span {
+                    base: 96,
+                    blocks: 32,
+                },
+                Span {
+                    base: 64,
+                    blocks: 32,
+                },
+            ],
+            ..SEAT
+        },
+        ..PLAIN
+    },
+    Case {
+        name: "8 extents",
+        last: Seat {
+            extents: EIGHT,
             ..SEAT
         },
         ..PLAIN
@@ -256,23 +293,6 @@ const BAD_SIZES: &[Case] = &[
                 base: u64::MAX,
                 blocks: 64,
             }],
-            ..SEAT
-        },
-        ..PLAIN
-    },
-    Case {
-        name: "two extents",
-        last: Seat {
-            extents: &[
-                Span {
-                    base: 96,
-                    blocks: 32,
-                },
-                Span {
-                    base: 64,
-                    blocks: 32,
-                },
-            ],
             ..SEAT
         },
         ..PLAIN
