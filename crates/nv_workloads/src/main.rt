@@ -6,7 +6,8 @@
 //! - `host`: a host that steps a world of 16 guests on 8 lanes, with plans made outside of it;
 //! - `lists`: a script of `nvmed once` with long lists;
 //! - `guests`: a script of `nvmed run`, 4 guests in threads on 2 lanes;
-//! - `awkward`: a host whose guests' memory is scattered, on the largest disk, and some of whose guests are hostile or slow.
+//! - `awkward`: a host whose guests' memory is scattered, on the largest disk, and some of whose guests are hostile or slow;
+//! - `extents`: a host of 16 guests on 8 lanes, each of which has eight extents, with one command in four over a join.
 //!
 //! With the word `script` behind these it prints the script instead, for other programs of the same language; of `host` and `awkward` it is the
 //! script of `nvmed replay` with the same events, but for plans that are stale.
@@ -82,7 +83,7 @@ fn main(rt: HostRuntime) -> io::Result<()> {
     match reading_of(&words) {
         Some(asked) => answer(&rt, rt.alloc(), &asked),
         None => println!(rt;
-            "usage: nv_workloads replay|host|lists|guests|awkward SEED COUNT [script]"
+            "usage: nv_workloads replay|host|lists|guests|awkward|extents SEED COUNT [script]"
         ),
     }
 }

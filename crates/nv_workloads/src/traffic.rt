@@ -3,6 +3,8 @@
 //! In a round two guests put their commands into their queues, and one lane carries all of them: they are taken, their lists read, submitted,
 //! moved unit by unit in turn, completed, reaped and posted, and the guests look at their completions.
 
+pub mod extents;
+
 use crate::entry::{CREATE_COMPLETION_QUEUE, CREATE_SUBMISSION_QUEUE, admin_entry, entry};
 use crate::random::Random;
 use crate::shape::Shape;

@@ -7,10 +7,11 @@ use crate::shape::Shape;
 use crate::sink::{Mediated, Script};
 use crate::text::Text;
 use crate::traffic::Traffic;
+use crate::traffic::extents::{give_extents, lines_of};
 use nv_commands::{Command, Request, serve};
 use nv_flat::FlatController;
 use nv_mem::NoMemory;
-use nv_world::World;
+use nv_world::{Setup, World};
 use std::alloc::Global;
 use std::sync::Wait;
 use std::thread::Threads;
@@ -29,6 +30,8 @@ pub enum Workload {
     Guests,
     /// a host that steps a world which is as awkward as may be
     Awkward,
+    /// a host that steps a world whose guests have several extents
+    Extents,
 }
 
 /// It ended with a fault, or there was no memory.
@@ -83,6 +86,20 @@ const AWKWARD: Shape = Shape {
     is_awkward: true,
 };
 
+/// 16 guests on 8 lanes, each guest's memory in 16 regions and its blocks in eight extents.
+const EXTENDED: Shape = Shape {
+    guests: 16,
+    lanes: 8,
+    regions: 16,
+    host: 0x2000_0000,
+    disk: 0x4_0000,
+    depth: 16,
+    flushes: 64,
+    odd: 8,
+    large: 16,
+    is_awkward: false,
+};
+
 impl Workload {
     /// The workload of that name.
     pub fn of(word: &str) -> Option<Self> {
@@ -92,6 +109,7 @@ impl Workload {
             "lists" => Some(Workload::Lists),
             "guests" => Some(Workload::Guests),
             "awkward" => Some(Workload::Awkward),
+            "extents" => Some(Workload::Extents),
             _ => None,
         }
     }
@@ -104,6 +122,7 @@ impl Workload {
             Workload::Awkward => replay_script(alloc, AWKWARD, seed, count),
             Workload::Lists => Lists::script(alloc, seed, count),
             Workload::Guests => guests::script(alloc, seed, count),
+            Workload::Extents => extents_script(alloc, seed, count),
         }
     }
 
@@ -118,6 +137,7 @@ impl Workload {
         let request = match self {
             Workload::Host => return hosted(alloc, HOSTED, seed, count),
             Workload::Awkward => return hosted(alloc, AWKWARD, seed, count),
+            Workload::Extents => return extended(alloc, seed, count),
             Workload::Replay => Request::Alone(Command::Replay),
             Workload::Lists => Request::Alone(Command::Once),
             Workload::Guests => Request::Run,
@@ -156,10 +176,48 @@ fn hosted(alloc: Global, shape: Shape, seed: u64, count: u64) -> Result<Digest, 
     };
     let mut traffic = Traffic::new(alloc, shape, seed, Mediated::new(alloc, world))?;
     traffic.run(count)?;
-    let (world, mut digest) = traffic.end().end();
+    Ok(digest_of(traffic.end(), shape.disk))
+}
+
+// The set-up of guests with several extents.
+fn extended_setup(alloc: Global) -> Result<Option<Setup>, NoMemory> {
+    let Some(mut setup) = EXTENDED.setup(alloc)? else {
+        return Ok(None);
+    };
+    give_extents(alloc, &mut setup)?;
+    Ok(Some(setup))
+}
+
+// The script of `nvmed replay` with the traffic of guests with several extents.
+fn extents_script(alloc: Global, seed: u64, count: u64) -> Result<Text, NoMemory> {
+    let mut text = Text::new(alloc);
+    if let Some(setup) = extended_setup(alloc)? {
+        lines_of(&mut text, &setup)?;
+    }
+    let mut traffic = Traffic::new(alloc, EXTENDED, seed, Script { text })?;
+    traffic.run_parted(count)?;
+    Ok(traffic.end().text)
+}
+
+// A host that steps the world of guests with several extents.
+fn extended(alloc: Global, seed: u64, count: u64) -> Result<Digest, Failed> {
+    let Some(setup) = extended_setup(alloc)? else {
+        return Err(Failed);
+    };
+    let Ok(world) = World::new(alloc, setup) else {
+        return Err(Failed);
+    };
+    let mut traffic = Traffic::new(alloc, EXTENDED, seed, Mediated::new(alloc, world))?;
+    traffic.run_parted(count)?;
+    Ok(digest_of(traffic.end(), EXTENDED.disk))
+}
+
+// The digest of all that a world answered, and of 2,048 blocks of its disk of so many.
+fn digest_of(sink: Mediated, disk: u64) -> Digest {
+    let (world, mut digest) = sink.end();
     digest.number(world.log().len() as u64);
     for number in 0..2048u64 {
-        let block = number.wrapping_mul(shape.disk / 2048);
+        let block = number.wrapping_mul(disk / 2048);
         if let Some(bytes) = world.block(block) {
             digest.bytes(bytes);
         }
@@ -167,5 +225,5 @@ fn hosted(alloc: Global, shape: Shape, seed: u64, count: u64) -> Result<Digest, 
             digest.number(u64::from(kept));
         }
     }
-    Ok(digest)
+    digest
 }
