@@ -27,7 +27,7 @@ BEGIN = "<!-- written by bench/%s.py -->"
 END = "<!-- as far as here -->"
 DEFINITIONS = "docs/DEFINITIONS.md"
 # crates all of whose definitions are logs
-LOGS = {"nv_examples", "nv_groups_examples"}
+LOGS = {"nv_examples", "nv_extents_examples"}
 # names of the toolchain's that documents speak of
 FOREIGN = {"as_flattened_mut"}
 

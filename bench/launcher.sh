@@ -33,7 +33,8 @@ run() {
 
 run decode cqe "$(printf '%032d' 0)" </dev/null
 for expected in "$root"/examples/*.expected; do
-    script=$(echo "${expected%.expected}".[or]*)
+    script=${expected%.expected}
+    [[ -e $script ]] || script=$(echo "$script".[or]*)
     run "${script##*.}" <"$script"
     expect "${script##*/}" 0 "$(<"$expected")" ''
     run "${script##*.}" < <(cat "$script")

@@ -14,7 +14,7 @@ import bugs
 import definitions
 
 ROOT = os.path.dirname(os.path.dirname(os.path.dirname(os.path.abspath(__file__))))
-EXAMPLES = [("nv_model", ["--only", "rows"]), ("nv_world_model", ["--only", "rows"]), ("nv_examples", [])]
+EXAMPLES = [("nv_model", ["--only", "rows"]), ("nv_world_model", ["--only", "rows"]), ("nv_examples", []), ("nv_extents_examples", [])]
 # each list, and the commands that it goes through: a crate with the words for rt
 TRIALS = {
     "LISTS": (definitions.LISTS, [(crate, ["check", *only]) for crate, only in EXAMPLES]),
