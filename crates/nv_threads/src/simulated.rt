@@ -32,10 +32,12 @@ const TAGS: u8 = 64;
 /// How many simulations there are, one a seed, where guests have one extent, and of each kind where they have several.
 const SIMULATIONS: u64 = 12;
 
-const SIMULATIONS_APART: u64 = 4;
+const SIMULATIONS_APART: u64 = 1;
 
 /// How many turns a simulation has, how many of them belong to a phase, and how many phases there are before the worlds are shared anew.
 const TURNS: u32 = 60_000;
+
+const TURNS_APART: u32 = 30_000;
 
 const PHASE: u32 = 2_000;
 
@@ -654,7 +656,7 @@ fn workers_choose_as_at_the_start(rt: HostRuntime) -> Result<(), Fail> {
 // a command ended where it was handed on.
 fn simulate_apart(rt: &impl Abort, alloc: Global, extents: &Extents) -> Result<(), Fail> {
     for seed in 1..=SIMULATIONS_APART {
-        let simulation = simulate(rt, alloc, extents, seed)?;
+        let simulation = simulated(rt, alloc, extents, seed, TURNS_APART)?;
         let (short, parted, idle) = (simulation.short, simulation.parted, simulation.idle);
         assert!(rt;
             short > 0 && parted > 20 && idle > 0,
