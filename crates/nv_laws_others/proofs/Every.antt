@@ -12,7 +12,7 @@ use Rattle.nv_world_model.specs.SetUp.{SetUp, refusal_of}
 use Rattle.nv_world_model.specs.Step.{kept_block, replay, replied, step}
 use Rattle.nv_world_model.specs.World.{World, opening_lane, opening_world}
 use Rattle.nv_world_model.specs.SetUp.{world_at_start}
-use Rattle.nv_laws_others.proofs.Replies.{step-answers}
+use Rattle.nv_world_model.proofs.Replies.{step-answers}
 use Rattle.nv_laws_sound.specs.Consistent.{IsConsistent}
 use Rattle.nv_laws_sound.specs.LaidOut.{IsLaidOut}
 use Rattle.nv_laws_sound.proofs.LaidOuts.{laid-out}

@@ -13,7 +13,6 @@ pub mod DeviceEvents
 pub mod HandedEvents
 pub mod MoveEvents
 pub mod UnitEvents
-pub mod Replies
 pub mod Every
 pub mod AlikeGroups
 pub mod AlikeReplies

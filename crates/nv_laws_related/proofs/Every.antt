@@ -14,7 +14,7 @@ use Rattle.nv_world_model.specs.PrivateSteps.{act_of}
 use Rattle.nv_world_model.specs.Step.{is_done, is_telling, step}
 use Rattle.nv_world_model.specs.View.{is_guest}
 use Rattle.nv_world_model.specs.World.{World}
-use Rattle.nv_laws_others.proofs.Replies.{step-answers}
+use Rattle.nv_world_model.proofs.Replies.{step-answers}
 use Rattle.nv_laws_sound.proofs.Lists.{some-same}
 use Rattle.nv_laws_related.specs.Following.{AreRestFollowed, EachEventIsFollowed, GoesAlong, IsDisciplinedAt, IsReached}
 use Rattle.nv_laws_related.specs.Related.{Related}
