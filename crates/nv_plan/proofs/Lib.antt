@@ -1,4 +1,6 @@
 pub mod SomeBytes
+pub mod CutRuns
+pub mod KeptPortions
 pub mod CutPlaces
 pub mod MetRanges
 pub mod ReadsTaken

@@ -2,8 +2,10 @@
 use Rattle.std.proofs.Common.{◌≡◌, ℕ, zero, suc, ◌+◌, ◌<◌, ◌≤◌, true, false, IsTrue, List, [], ◌∷◌, length, map, slice_get}
 use Rattle.std.proofs.Common.{Option, Some, None, refl, ap, sym, subst, ◌∙◌, arith}
 use Rattle.std.specs.List.{All, enumerate_from}
+use Rattle.std.specs.Option.{option_map}
 use Rattle.std.proofs.lemmas.Bool.Decides.{nat_tests}
 use Rattle.std.proofs.lemmas.List.{length-map}
+use Rattle.std.proofs.lemmas.Option.{slice_get-map}
 use Rattle.std.proofs.lemmas.List.Elements.{All-head, All-tail}
 use Rattle.nv_entry.specs.Submission.{slba_of}
 use Rattle.nv_mem.specs.declared.region.Region.{Region}
@@ -193,7 +195,7 @@ each-share P Keep ns entry plan work (suc part) share is run ranges whole = absu
 
 -- ---- a cut
 
-All-at : {A : Type 0} (P : A → Type 0) (xs : List A) (k : ℕ) (x : A) → All P xs → slice_get xs k ≡ Some x → P x
+pub All-at : {A : Type 0} (P : A → Type 0) (xs : List A) (k : ℕ) (x : A) → All P xs → slice_get xs k ≡ Some x → P x
 All-at P [] k x each is = absurd (cc)
 All-at {A = A} P (y ∷ xs) zero x each is = subst P (same x is) (All-head P y xs each)
   where
@@ -264,3 +266,10 @@ made-few p is kept =
 pub made-portions : (p : MadePlan) → IsJobsPlan p → length p.outline.portions ≡ length (shares_made p)
 made-portions p is =
     ap (λ (o : Outline). length o.portions) (outline-made p is) ∙ length-map (shares_made p) (portion_of p.given.namespace)
+
+-- and that of a share is what the share's physical command has
+pub made-portion : (p : MadePlan) (part : ℕ) (share : Share) → IsJobsPlan p → share_made part p ≡ Some share
+    → slice_get p.outline.portions part ≡ Some (portion_of p.given.namespace share)
+made-portion p part share is there =
+    ap (λ (o : Outline). slice_get o.portions part) (outline-made p is)
+    ∙ slice_get-map (portion_of p.given.namespace) (shares_made p) part ∙ ap (option_map (portion_of p.given.namespace)) there

@@ -1,9 +1,11 @@
 -- What each extent has of the ranges of a Dataset Management, as the disk has it.
-use Rattle.std.proofs.Common.{◌≡◌, ℕ, zero, suc, ◌+◌, ◌-◌, ◌/◌, ◌^◌, ◌<◌, ◌≤◌, min, max, eqb, nat_lt, Bool, true, false, cond, IsTrue, List, [], ◌∷◌, ◌++◌, append-nil, append_assoc}
+use Rattle.std.proofs.Common.{◌≡◌, ℕ, zero, suc, ◌+◌, ◌-◌, ◌*◌, ◌/◌, ◌^◌, ◌<◌, ◌≤◌, min, max, eqb, nat_lt, Bool, true, false, cond, IsTrue}
+use Rattle.std.proofs.Common.{List, [], ◌∷◌, ◌++◌, append-nil, append_assoc}
 use Rattle.std.proofs.Common.{Option, Some, None, drop, length, map, slice_get, take, inl, inr, refl, ap, sym, subst, ◌∙◌, arith, eq-eqb}
 use Rattle.std.specs.List.{cons_option, enumerate_from, list_all}
 use Rattle.std.specs.Option.{option_map, option_to_list}
 use Rattle.std.proofs.lemmas.Bool.{cases_eq, ne_eqb}
+use Rattle.std.proofs.lemmas.List.{length-append, length-map, map-append}
 use Rattle.std.proofs.lemmas.Bool.Decides.{nat_tests}
 use Rattle.byteorder.specs.Numbers.{little_number-reads_back}
 use Rattle.nv_entry.specs.Layout.{dword, number_at, number_bytes, qword}
@@ -18,7 +20,9 @@ use Rattle.nv_world_model.specs.Area.{first_base, range_place, translated_range}
 use Rattle.nv_world_model.specs.Share.{cut_range, range_in, ranges_met}
 use Rattle.nv_world_model.proofs.OneExtent.{cut_range-all}
 use Rattle.nv_plan.specs.Outline.{Portion}
-use Rattle.nv_plan.specs.Told.{portion_met}
+use Rattle.nv_plan.specs.Runs.{AreEnds, runs}
+use Rattle.nv_plan.specs.Told.{of_ranges, portion_met}
+use Rattle.nv_plan.proofs.CutRuns.{AreEnds-more, runs-more}
 
 -- ---- where an extent's blocks lie
 
@@ -175,12 +179,11 @@ met-elsewhere ns number at range behind none =
 
 -- what a loop over the ranges keeps: what there is so far, and what there will be of the rest, is what there is of all, and those in the
 -- rest fit
-pub record IsMeeting (ns : Namespace) (number : ℕ) (at : Placed) (all : List ℕ) (ranges : List (List ℕ)) (rest : List ℕ) : Type 0 where
+pub record IsMeeting (ns : Namespace) (number : ℕ) (at : Placed) (all ranges : List (List ℕ)) (rest : List ℕ) : Type 0 where
   pub fit : list_all (range_fits (blocks_in ns)) (ranges_in (length rest / 16) rest) ≡ true
-  pub goes : ranges ++ map (translated_range ns) (ranges_met number at (ranges_in (length rest / 16) rest))
-      ≡ map (translated_range ns) (ranges_met number at (ranges_in (length all / 16) all))
+  pub goes : ranges ++ map (translated_range ns) (ranges_met number at (ranges_in (length rest / 16) rest)) ≡ all
 
-pub IsMeeting-fits : (ns : Namespace) (number : ℕ) (at : Placed) (all : List ℕ) (ranges : List (List ℕ)) (rest range more : List ℕ)
+pub IsMeeting-fits : (ns : Namespace) (number : ℕ) (at : Placed) (all ranges : List (List ℕ)) (rest range more : List ℕ)
     → IsMeeting ns number at all ranges rest → range ≡ take 16 rest → more ≡ drop 16 rest → length more + 16 ≡ length rest
     → range_fits (blocks_in ns) range ≡ true
 IsMeeting-fits ns number at all ranges rest range more so_far first others sized =
@@ -191,7 +194,7 @@ map-option : (ns : Namespace) (o : Option (List ℕ)) (rest : List (List ℕ))
 map-option ns None rest = refl
 map-option ns (Some range) rest = refl
 
-pub IsMeeting-more : (ns : Namespace) (number : ℕ) (at : Placed) (all : List ℕ) (ranges : List (List ℕ)) (rest range more : List ℕ)
+pub IsMeeting-more : (ns : Namespace) (number : ℕ) (at : Placed) (all ranges : List (List ℕ)) (rest range more : List ℕ)
     (next : List (List ℕ)) (met : Option (List ℕ))
     → IsMeeting ns number at all ranges rest → range ≡ take 16 rest → more ≡ drop 16 rest → length more + 16 ≡ length rest
     → next ≡ ranges ++ option_to_list met → met ≡ option_map (translated_range ns) (range_in number at range)
@@ -209,9 +212,9 @@ IsMeeting-more ns number at all ranges rest range more next met so_far first oth
           ∙ so_far.goes;
     }
 
-pub IsMeeting-end : (ns : Namespace) (number : ℕ) (at : Placed) (all : List ℕ) (ranges : List (List ℕ)) (rest : List ℕ)
+pub IsMeeting-end : (ns : Namespace) (number : ℕ) (at : Placed) (all ranges : List (List ℕ)) (rest : List ℕ)
     → IsMeeting ns number at all ranges rest → length rest < 16
-    → ranges ≡ map (translated_range ns) (ranges_met number at (ranges_in (length all / 16) all))
+    → ranges ≡ all
 IsMeeting-end ns number at all ranges rest so_far few =
     sym (append-nil ranges)
     ∙ ap (λ (rs : List (List ℕ)). ranges ++ map (translated_range ns) (ranges_met number at rs)) (sym (ranges_in-none rest few))
@@ -283,3 +286,62 @@ AreMet-end ns ranges number before portions so_far ended =
     drop-past [] (suc n) past = refl
     drop-past (x ∷ xs) zero past = absurd (omega arith)
     drop-past (x ∷ xs) (suc n) past = drop-past xs n (omega arith)
+
+-- ---- in one list
+
+-- an extent has no more ranges than there are
+met-few : (number : ℕ) (at : Placed) (ranges : List (List ℕ)) → length (ranges_met number at ranges) ≤ length ranges
+met-few number at [] = omega arith
+met-few number at (range ∷ ranges) =
+    let on = met-few number at ranges in
+    by_range (range_in number at range) on
+  where
+    by_range : (o : Option (List ℕ)) → length (ranges_met number at ranges) ≤ length ranges
+        → length (cons_option o (ranges_met number at ranges)) ≤ suc (length ranges)
+    by_range None on = omega arith
+    by_range (Some met) on = omega arith
+
+-- what a loop over the extents keeps of their list: it has the ranges of the first extents, and where those of each end
+pub record AreListed (ns : Namespace) (ranges : List (List ℕ)) (number before : ℕ) (items : List (List ℕ)) (ends : List ℕ) : Type 0 where
+  pub count : length ends ≡ number
+  pub short : length items ≤ number * 256
+  pub parted : AreEnds 0 ends (length items)
+  pub met : AreMet ns ranges number before (map of_ranges (runs items 0 ends))
+
+pub AreListed-start : (ns : Namespace) (ranges : List (List ℕ)) → AreListed ns ranges 0 0 [] []
+AreListed-start ns ranges = record { count = refl; short = omega arith; parted = refl; met = AreMet-start ns ranges }
+
+abbrev pub listed_next : Namespace → (ranges : List (List ℕ)) → (number before : ℕ) → Extent → (items : List (List ℕ)) → List (List ℕ)
+listed_next ns ranges number before extent items =
+    items ++ map (translated_range ns) (ranges_met number (record { before = before; extent = extent }) ranges)
+
+pub AreListed-short : (ns : Namespace) (ranges : List (List ℕ)) (number before : ℕ) (items : List (List ℕ)) (ends : List ℕ) (extent : Extent)
+    (next : List (List ℕ)) → AreListed ns ranges number before items ends → length ranges ≤ 256
+    → next ≡ listed_next ns ranges number before extent items → length next ≤ (number + 1) * 256
+AreListed-short ns ranges number before items ends extent next so_far few grown =
+    let met : List (List ℕ) = ranges_met number (record { before = before; extent = extent }) ranges in
+    let more = met-few number (record { before = before; extent = extent }) ranges in
+    let len = ap (λ (rs : List (List ℕ)). length rs) grown ∙ length-append items (map (translated_range ns) met) in
+    let same = length-map met (translated_range ns) in
+    let short = so_far.short in omega arith
+
+pub AreListed-more : (ns : Namespace) (ranges : List (List ℕ)) (number before : ℕ) (items : List (List ℕ)) (ends : List ℕ) (extent : Extent)
+    (next : List (List ℕ)) (others : List ℕ) → AreListed ns ranges number before items ends → length ranges ≤ 256
+    → drop number ns ≡ extent ∷ drop (number + 1) ns → next ≡ listed_next ns ranges number before extent items
+    → others ≡ ends ++ length next ∷ [] → AreListed ns ranges (number + 1) (before + extent.blocks) next others
+AreListed-more ns ranges number before items ends extent next others so_far few there grown ended =
+    let more : List (List ℕ) = map (translated_range ns) (ranges_met number (record { before = before; extent = extent }) ranges) in
+    let len = ap (λ (rs : List (List ℕ)). length rs) grown ∙ length-append items more in
+    let ends_len = ap (λ (es : List ℕ). length es) ended ∙ length-append ends (length next ∷ []) in
+    let count = so_far.count in
+    record {
+      count = omega arith;
+      short = AreListed-short ns ranges number before items ends extent next so_far few grown;
+      parted = subst (λ (es : List ℕ). AreEnds 0 es (length next)) (sym ended) (AreEnds-more 0 ends (length items) (length next) so_far.parted (omega arith));
+      met =
+          AreMet-more ns ranges number before (map of_ranges (runs items 0 ends)) extent (map of_ranges (runs next 0 others)) so_far.met there
+          (ap (λ (es : List ℕ). map of_ranges (runs next 0 es)) ended
+          ∙ ap (λ (rs : List (List ℕ)). map of_ranges (runs rs 0 (ends ++ length rs ∷ []))) grown
+          ∙ ap (λ (rss : List (List (List ℕ))). map of_ranges rss) (runs-more items more 0 ends so_far.parted)
+          ∙ map-append of_ranges (runs items 0 ends) (more ∷ []));
+    }

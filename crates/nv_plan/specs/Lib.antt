@@ -4,5 +4,6 @@ pub mod Made
 pub mod Planned
 pub mod Listed
 pub mod Drawn
+pub mod Runs
 pub mod Told
 pub mod Laws

@@ -1,5 +1,5 @@
 -- Words of private functions: portions as they are kept, and what they are cut out of.
-use Rattle.std.specs.Prelude.{ℕ, ◌+◌, ◌*◌, ◌^◌, ◌<◌, List, [], ◌∷◌, filter, map}
+use Rattle.std.specs.Prelude.{ℕ, ◌+◌, ◌*◌, ◌^◌, ◌<◌, List, [], ◌∷◌, filter, length, map, replicate}
 use Rattle.std.specs.Bool.{⊤}
 use Rattle.nv_mem.specs.declared.piece.Piece.{Piece}
 use Rattle.nv_mem.specs.declared.piece.Piece.TheVariants as piece
@@ -7,15 +7,32 @@ use Rattle.nv_model.specs.Limits.{block}
 use Rattle.nv_ns.specs.Extents.{Cut, Namespace, Placed}
 use Rattle.nv_plan.specs.Outline.{Portion}
 use Rattle.nv_plan.specs.Parts.{has_bytes}
+use Rattle.nv_plan.specs.Runs.{AreEnds, runs}
 use Rattle.nv_plan.specs.declared.portions.Kept.{Kept}
 use Rattle.nv_plan.specs.declared.portions.Kept.TheVariants as kept
 use Rattle.nv_plan.specs.declared.ranges.Standing.{Standing}
 use Rattle.nv_world_model.specs.Area.{translated_range}
 use Rattle.nv_world_model.specs.Share.{cut_pieces, ranges_met}
 
+-- a portion of these places, and one of these ranges
+abbrev pub of_places : List Piece → Portion
+of_places places = record { places = places; ranges = [] }
+
+abbrev pub of_ranges : (ranges : List (List ℕ)) → Portion
+of_ranges ranges = record { places = []; ranges = ranges }
+
 abbrev pub portions_of : Kept → List Portion
-portions_of kept.None = []
-portions_of (kept.Some first rest) = first ∷ rest.items
+portions_of (kept.Bare count) = replicate count (of_places [])
+portions_of (kept.Whole places) = of_places places ∷ []
+portions_of (kept.Placed places ends) = map of_places (runs places 0 ends)
+portions_of (kept.Ranged ranges ends) = map of_ranges (runs ranges.items 0 ends)
+
+-- a list that several portions have parts of is cut where they end
+abbrev pub IsKept : Kept → Type 0
+IsKept (kept.Bare count) = ⊤
+IsKept (kept.Whole places) = ⊤
+IsKept (kept.Placed places ends) = AreEnds 0 ends (length places)
+IsKept (kept.Ranged ranges ends) = AreEnds 0 ends (length ranges.items)
 
 -- `len` bytes of a buffer behind its first `skip`, in pieces that have bytes
 abbrev pub cut_places : (skip len : ℕ) → List Piece → List Piece

@@ -1,46 +1,49 @@
 //! Places that are cut into those of several physical commands.
 
-ghost use Rattle.std.specs.Prelude.{◌≡◌, ◌+◌, ◌-◌, ◌<◌, ◌≤◌, ◌^◌, All, IfOk, map};
+ghost use Rattle.std.specs.Prelude.{◌≡◌, ◌+◌, ◌-◌, ◌<◌, ◌≤◌, ◌^◌, ◌++◌, All, IfOk, OnOk, length, map};
 ghost use Rattle.nv_mem.specs.Places.{piece_len};
 ghost use Rattle.nv_ns.specs.Extents.{Cut};
 ghost use Rattle.nv_plan.specs.Told.{IsAddressed, cut_places, portion_cut};
 ghost use Rattle.nv_world_model.specs.Share.{cut_piece};
 
-use crate::portion::Portion;
+use crate::ends::Ends;
 use crate::portions::Portions;
 use nv_mem::{NoMemory, Piece, Places};
 use nv_model::limits::BLOCK_SIZE;
 use nv_ns::Part;
 use std::alloc::Global;
 
-/// What each part of a transfer's blocks has of its places.
+/// What each part of a transfer's blocks has of its places. It takes one block of memory.
 pub(crate) fn cut_up(alloc: Global, pieces: &[Piece], parts: &[Part]) -> Result<Portions, NoMemory>
+    requires few { length parts.now ≤ 8 }
     requires small { All (λ (cut : Cut). cut.first + cut.count ≤ 2 ^ 16) parts.now }
     requires addressed { All IsAddressed pieces.now }
     ensures { IfOk result (λ portions. portions ≡ map (portion_cut pieces.now) parts.now) }
 {
-    let mut portions = Portions::none();
+    let mut places = Places::new(alloc);
+    // A piece that two parts share becomes two.
+    places.reserve(pieces.len() + parts.len())?;
+    let mut ends = Ends::none();
     for part in parts {
         let skip = BLOCK_SIZE as u64 * part.first();
         let len = BLOCK_SIZE as u64 * part.count();
-        let places = cut_out(alloc, pieces, skip, len)?;
-        portions.push(alloc, Portion::placed(alloc, places))?;
+        cut_out(pieces, skip, len, &mut places)?;
+        ends.push(places.pieces().len() as u32);
     }
-    Ok(portions)
+    Ok(Portions::placed(places, ends))
 }
 
-// `len` bytes of a buffer behind its first `skip`.
-fn cut_out(alloc: Global, pieces: &[Piece], skip: u64, len: u64) -> Result<Places, NoMemory>
+// Adds `len` bytes of a buffer behind its first `skip` to these places.
+fn cut_out(pieces: &[Piece], skip: u64, len: u64, places: &mut Places) -> Result<(), NoMemory>
     requires { All IsAddressed pieces.now }
-    ensures { IfOk result (λ places. places ≡ cut_places skip len pieces.now) }
+    ensures { OnOk result (places.new ≡ places.old ++ cut_places skip len pieces.now) }
 {
-    let mut places = Places::new(alloc);
     let mut ahead = skip;
     let mut left = len;
     let mut rest = pieces;
     while let Some((piece, behind)) = rest.split_first() {
         if left == 0 {
-            return Ok(places);
+            return Ok(());
         }
         let size = len_of(*piece);
         let here = size.saturating_sub(ahead).min(left);
@@ -51,7 +54,7 @@ fn cut_out(alloc: Global, pieces: &[Piece], skip: u64, len: u64) -> Result<Place
         ahead = ahead.saturating_sub(size);
         rest = behind;
     }
-    Ok(places)
+    Ok(())
 }
 
 // How many bytes a piece names.

@@ -15,12 +15,13 @@
 //! What is read of an SGL lives in an allocator of the caller's choice, and a plan in `Global`; where memory is refused, the job comes
 //! back as it was. A list is gone through once, and so is the transcript; once more for each part, where there are several. A transfer
 //! in one part through one descriptor takes three blocks of memory: for the descriptor, the places and the copy of the map. Each array
-//! of descriptors takes two more, and a Dataset Management two, for its bytes and its ranges. Of several parts each takes memory for its
-//! own places or ranges, and all but the first one block.
+//! of descriptors takes two more, and a Dataset Management two, for its bytes and its ranges. Several parts have one list together, which
+//! is cut where each ends: so a transfer takes one block more, and a Dataset Management the same two, where its ranges do not overlap.
 #![tactic(auto)]
 
 mod copies;
 mod cutting;
+mod ends;
 mod given;
 mod job;
 mod kind;
@@ -31,7 +32,6 @@ mod outline;
 mod plan;
 mod planned;
 mod planning;
-mod portion;
 mod portions;
 mod ranges;
 mod tags;

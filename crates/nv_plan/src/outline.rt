@@ -1,12 +1,13 @@
 //! What a plan says.
 
-ghost use Rattle.std.specs.Prelude.{◌≡◌, ◌<◌, [], ◌∷◌, Some, length, slice_get};
+ghost use Rattle.std.specs.Prelude.{◌≡◌, ◌<◌, [], Some, length, slice_get};
+ghost use Rattle.nv_plan.specs.Outline.{Portion};
 ghost use Rattle.nv_plan.specs.declared.kind.PlanKind.TheVariants as kind;
 
 use crate::kind::PlanKind;
-use crate::portion::Portion;
 use crate::portions::Portions;
-use nv_entry::Status;
+use nv_entry::{Range, Status};
+use nv_mem::Piece;
 use std::marker::Model;
 
 /// What is done with a command, and what each of its physical commands has of it.
@@ -29,7 +30,7 @@ impl Outline {
     pub(crate) fn answer(status: Status) -> Self
         ensures { result ≡ record { kind = kind.Answer status; portions = [] } }
     {
-        Outline::new(PlanKind::Answer(status), Portions::none())
+        Outline::new(PlanKind::Answer(status), Portions::bare(0))
     }
 
     /// A command of that kind with these portions.
@@ -53,11 +54,19 @@ impl Outline {
         self.portions.len()
     }
 
-    /// What the physical command of this number has, from 0.
-    pub(crate) fn portion(&self, part: usize) -> &Portion
+    /// Where the bytes of the physical command of this number lie, from 0.
+    pub(crate) fn places(&self, part: usize) -> &[Piece]
         requires { part < length self.now.portions }
-        ensures { slice_get self.now.portions part ≡ Some result.now }
+        ensures { (portion : Portion) → slice_get self.now.portions part ≡ Some portion → result.now ≡ portion.places }
     {
-        self.portions.get(part)
+        self.portions.places(part)
+    }
+
+    /// The ranges of the physical command of this number, from 0.
+    pub(crate) fn ranges(&self, part: usize) -> &[Range]
+        requires { part < length self.now.portions }
+        ensures { (portion : Portion) → slice_get self.now.portions part ≡ Some portion → result.now ≡ portion.ranges }
+    {
+        self.portions.ranges(part)
     }
 }

@@ -120,7 +120,7 @@ impl Plan {
         ensures value { (share : Share) → share_made part self.now ≡ Some share → result.now ≡ places_in share.plan }
         ensures is_plan { IsJobsPlan self.now }
     {
-        self.outline.portion(usize::from(part)).places()
+        self.outline.places(usize::from(part))
     }
 
     /// The ranges of a part of a Dataset Management as the disk has them, in order: attributes 0, the length, and the disk's starting
@@ -131,7 +131,7 @@ impl Plan {
             result.now ≡ ranges_of self.now.given.namespace share.plan }
         ensures is_plan { IsJobsPlan self.now }
     {
-        self.outline.portion(usize::from(part)).ranges()
+        self.outline.ranges(usize::from(part))
     }
 
     /// How many bytes a part transfers.

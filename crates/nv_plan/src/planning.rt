@@ -10,7 +10,7 @@ ghost use Rattle.nv_mem.specs.Places.{total_len};
 ghost use Rattle.nv_mem.specs.declared.piece.Piece.{Piece};
 ghost use Rattle.nv_model.specs.Judge.{Transfer, count_of, form_of, judge_ranges, ranges_in};
 ghost use Rattle.nv_model.specs.Laws.{IsMappedPiece};
-ghost use Rattle.nv_model.specs.Limits.{block, most_bytes, range_size};
+ghost use Rattle.nv_model.specs.Limits.{block, most_bytes, part_size, range_size};
 ghost use Rattle.nv_ns.specs.BlockRange.{in_namespace};
 ghost use Rattle.nv_ns.specs.Extents.{blocks_in, cuts};
 ghost use Rattle.nv_world_model.specs.Plan.{plan_of};
@@ -30,7 +30,6 @@ use crate::outcome::Outcome;
 use crate::outline::Outline;
 use crate::plan::Plan;
 use crate::planned::Planned;
-use crate::portion::Portion;
 use crate::portions::Portions;
 use crate::ranges::{fetch, portions_met};
 use crate::tags::{parts_of, tags_wanted};
@@ -90,7 +89,7 @@ impl<'a> Given<'a> {
         let mut reads = ReadsLeft::all(&job.reads);
         match opcode {
             IoOpcode::Flush | IoOpcode::WriteZeroes => {
-                let portions = Portions::bare(alloc, tags_wanted(&job.sqe, self.ns))?;
+                let portions = Portions::bare(tags_wanted(&job.sqe, self.ns));
                 Ok(Outcome::Settled(Outline::new(PlanKind::NoData, portions)))
             }
             IoOpcode::Read | IoOpcode::Write | IoOpcode::Compare => self.transfer(
@@ -181,12 +180,13 @@ impl<'a> Given<'a> {
                 return cut_up(alloc, places.pieces(), parts.as_slice());
             }
         }
-        Ok(Portions::one(alloc, Portion::placed(alloc, places)))
+        Ok(Portions::one(places))
     }
 
     // What the plan of a Dataset Management says at whose list's places these bytes stood.
     fn ranged(&self, alloc: Global, bytes: &[u8]) -> Result<Outline, NoMemory>
-        requires { length bytes.now % range_size ≡ 0 }
+        requires whole { length bytes.now % range_size ≡ 0 }
+        requires short { length bytes.now ≤ part_size }
         ensures { IfOk result (λ outline. (entry : List ℕ) (pieces : List Piece) →
             outline ≡ outline_of self.now.ns.now entry (plan_of self.now.map.now.regions
             (judge_ranges (blocks_in self.now.ns.now) opcode.DatasetManagement entry pieces (ranges_in (length bytes.now / range_size) bytes.now)))) }

@@ -1,20 +1,30 @@
-//! The portions of a plan's physical commands, in order.
+//! What the physical commands of a plan have of its places and ranges.
 
-ghost use Rattle.std.specs.Prelude.{◌≡◌, ◌<◌, [], ◌∷◌, ◌++◌, IfOk, OnErr, OnOk, Some, length, replicate, slice_get};
+ghost use Rattle.std.specs.Prelude.{◌≡◌, ◌<◌, [], ◌∷◌, Some, length, map, replicate, slice_get};
+ghost use Rattle.nv_plan.specs.Outline.{Portion};
+ghost use Rattle.nv_plan.specs.Runs.{AreEnds, runs};
+ghost use Rattle.nv_plan.specs.Told.{of_places, of_ranges};
 
-use crate::portion::Portion;
-use nv_mem::NoMemory;
-use std::alloc::Global;
+use crate::ends::Ends;
+use nv_entry::Range;
+use nv_mem::{Piece, Places};
 use std::marker::Model;
 
-/// How the portions stand: most plans have one.
+/// How the portions stand: several have one list together, which is cut where each of them ends.
 #[derive(Debug, Drop)]
 enum Kept {
-    None,
-    Some { first: Portion, rest: Vec<Portion> },
+    /// So many portions of no bytes and no ranges.
+    Bare(u8),
+    /// One, of all these places.
+    Whole(Places),
+    /// Some of these places for each.
+    Placed(Places, Ends),
+    /// Some of these ranges for each.
+    Ranged(Vec<Range>, Ends),
 }
 
-/// The portions in order: those behind the first take memory of their own.
+/// Of each physical command, in order: where the bytes of a transfer of blocks lie, and the ranges of a Dataset Management as the disk has
+/// them. There is one list for all of them.
 #[derive(Debug, Drop)]
 pub(crate) struct Portions {
     kept: Kept,
@@ -22,55 +32,53 @@ pub(crate) struct Portions {
 
 impl Model for Portions {
     ghost use Rattle.std.specs.Prelude.{List};
-    ghost use Rattle.nv_plan.specs.Outline.{Portion as Told};
-    ghost use Rattle.nv_plan.specs.Told.{portions_of};
+    ghost use Rattle.nv_plan.specs.Outline.{Portion};
+    ghost use Rattle.nv_plan.specs.Told.{IsKept, portions_of};
 
-    ghost Value = { List Told };
+    ghost Value = { List Portion };
 
     ghost view = { λ p. portions_of p.kept };
+
+    ghost invariant = { λ p. IsKept p.kept };
 }
 
 impl Portions {
-    /// No portion.
-    pub(crate) fn none() -> Self
-        ensures { result ≡ [] }
-    {
-        Portions { kept: Kept::None }
-    }
-
-    /// One portion. It takes no memory.
-    pub(crate) fn one(alloc: Global, portion: Portion) -> Self
-        ensures { result ≡ portion ∷ [] }
+    /// So many portions of no bytes and no ranges.
+    pub(crate) fn bare(count: u8) -> Self
+        ensures { result ≡ replicate count (of_places []) }
     {
         Portions {
-            kept: Kept::Some {
-                first: portion,
-                rest: Vec::new(alloc),
-            },
+            kept: Kept::Bare(count),
         }
     }
 
-    /// So many portions of no bytes and no ranges.
-    pub(crate) fn bare(alloc: Global, count: u8) -> Result<Self, NoMemory>
-        ensures { IfOk result (λ portions. portions ≡ replicate count (record { places = []; ranges = [] })) }
+    /// One portion, whose bytes lie at these places.
+    pub(crate) fn one(places: Places) -> Self
+        ensures { result ≡ of_places places ∷ [] }
     {
-        let mut portions = Portions::none();
-        for _ in 0..count {
-            portions.push(alloc, Portion::nothing(alloc))?;
+        Portions {
+            kept: Kept::Whole(places),
         }
-        Ok(portions)
     }
 
-    /// Adds a portion behind the others. Where no memory is left, they are as they were.
-    pub(crate) fn push(&mut self, alloc: Global, portion: Portion) -> Result<(), NoMemory>
-        ensures ok { OnOk result (self.new ≡ self.old ++ portion ∷ []) }
-        ensures err { OnErr result (self.new ≡ self.old) }
+    /// A portion of these places for each of these ends.
+    pub(crate) fn placed(places: Places, ends: Ends) -> Self
+        requires { AreEnds 0 ends (length places) }
+        ensures { result ≡ map of_places (runs places 0 ends) }
     {
-        match &mut self.kept {
-            Kept::None => *self = Portions::one(alloc, portion),
-            Kept::Some { first: _, rest } => rest.push(portion)?,
+        Portions {
+            kept: Kept::Placed(places, ends),
         }
-        Ok(())
+    }
+
+    /// A portion of these ranges of the disk for each of these ends.
+    pub(crate) fn ranged(ranges: Vec<Range>, ends: Ends) -> Self
+        requires { AreEnds 0 ends (length ranges.items) }
+        ensures { result ≡ map of_ranges (runs ranges.items 0 ends) }
+    {
+        Portions {
+            kept: Kept::Ranged(ranges, ends),
+        }
     }
 
     /// How many there are.
@@ -78,19 +86,36 @@ impl Portions {
         ensures { result ≡ length self.now }
     {
         match &self.kept {
-            Kept::None => 0,
-            Kept::Some { first: _, rest } => rest.len() + 1,
+            Kept::Bare(count) => usize::from(*count),
+            Kept::Whole(_) => 1,
+            Kept::Placed(_, ends) => ends.len(),
+            Kept::Ranged(_, ends) => ends.len(),
         }
     }
 
-    /// The portion of this number, from 0.
-    pub(crate) fn get(&self, part: usize) -> &Portion
+    /// Where the bytes of the portion of this number lie, from 0.
+    pub(crate) fn places(&self, part: usize) -> &[Piece]
         requires { part < length self.now }
-        ensures { slice_get self.now part ≡ Some result.now }
+        ensures { (portion : Portion) → slice_get self.now part ≡ Some portion → result.now ≡ portion.places }
     {
         match &self.kept {
-            Kept::None => unreachable!(),
-            Kept::Some { first, rest } => if part == 0 { first } else { &rest[part - 1] },
+            Kept::Bare(_) => &[],
+            Kept::Whole(places) => places.pieces(),
+            Kept::Placed(places, ends) => ends.run(places.pieces(), part),
+            Kept::Ranged(_, _) => &[],
+        }
+    }
+
+    /// The ranges of the portion of this number, from 0.
+    pub(crate) fn ranges(&self, part: usize) -> &[Range]
+        requires { part < length self.now }
+        ensures { (portion : Portion) → slice_get self.now part ≡ Some portion → result.now ≡ portion.ranges }
+    {
+        match &self.kept {
+            Kept::Bare(_) => &[],
+            Kept::Whole(_) => &[],
+            Kept::Placed(_, _) => &[],
+            Kept::Ranged(ranges, ends) => ends.run(ranges, part),
         }
     }
 }

@@ -1,6 +1,6 @@
 //! The ranges of a Dataset Management: their bytes, and where they lie on the disk.
 
-ghost use Rattle.std.specs.Prelude.{◌≡◌, ◌≤◌, ◌/◌, ◌++◌, All, IfOk, ℕ, Some, length, map, slice_get, true};
+ghost use Rattle.std.specs.Prelude.{◌≡◌, ◌≤◌, ◌/◌, ◌++◌, All, IfOk, ℕ, OnOk, Some, length, map, slice_get, true};
 ghost use Rattle.std.specs.List.{enumerate_from, list_all};
 ghost use Rattle.std.specs.Option.{option_map};
 ghost use Rattle.nv_entry.specs.Layout.{number_bytes};
@@ -14,8 +14,8 @@ ghost use Rattle.nv_plan.specs.Told.{portion_met, standing};
 ghost use Rattle.nv_world_model.specs.Area.{translated_range};
 ghost use Rattle.nv_world_model.specs.Share.{range_in, ranges_met};
 
+use crate::ends::Ends;
 use crate::outcome::Outcome;
-use crate::portion::Portion;
 use crate::portions::Portions;
 use crate::transcript::ReadsLeft;
 use byteorder::{ByteOrder, LittleEndian};
@@ -66,11 +66,15 @@ pub(crate) fn portions_met(
     bytes: &[u8],
     ns: &VirtualNs,
 ) -> Result<Portions, NoMemory>
+    requires short { length bytes.now ≤ part_size }
     requires fit { list_all (range_fits (blocks_in ns.now)) (ranges_in (length bytes.now / range_size) bytes.now) ≡ true }
     ensures { IfOk result (λ portions. portions ≡
         map (λ (p : ℕ × Placed). portion_met ns.now (ranges_in (length bytes.now / range_size) bytes.now) p.0 p.1) (enumerate_from 0 (placed 0 ns.now))) }
 {
-    let mut portions = Portions::none();
+    // Ranges that do not overlap are cut at most once at each join.
+    let joins = ns.len() - 1;
+    let mut ranges = Vec::with_capacity(alloc, bytes.len() / RANGE_SIZE + joins)?;
+    let mut ends = Ends::none();
     let mut before = 0;
     for (number, extent) in ns.as_slice().iter().enumerate() {
         let at = Standing {
@@ -78,26 +82,25 @@ pub(crate) fn portions_met(
             before,
             extent: *extent,
         };
-        let ranges = ranges_met(alloc, bytes, ns, &at)?;
-        portions.push(alloc, Portion::ranged(alloc, ranges))?;
+        meet(bytes, ns, &at, &mut ranges)?;
+        ends.push(ranges.len() as u32);
         before += extent.blocks();
     }
-    Ok(portions)
+    Ok(Portions::ranged(ranges, ends))
 }
 
-// What an extent has of the ranges in these bytes, as the disk has them.
-fn ranges_met(
-    alloc: Global,
+// Adds what an extent has of the ranges in these bytes, as the disk has them.
+fn meet(
     bytes: &[u8],
     ns: &VirtualNs,
     at: &Standing,
-) -> Result<Vec<Range>, NoMemory>
+    ranges: &mut Vec<Range>,
+) -> Result<(), NoMemory>
     requires fit { list_all (range_fits (blocks_in ns.now)) (ranges_in (length bytes.now / range_size) bytes.now) ≡ true }
     requires there { slice_get (placed 0 ns.now) at.now.number ≡ Some (standing at.now) }
-    ensures { IfOk result (λ ranges. ranges.items ≡
-        map (translated_range ns.now) (ranges_met at.now.number (standing at.now) (ranges_in (length bytes.now / range_size) bytes.now))) }
+    ensures { OnOk result (ranges.new.items ≡ ranges.old.items
+        ++ map (translated_range ns.now) (ranges_met at.now.number (standing at.now) (ranges_in (length bytes.now / range_size) bytes.now))) }
 {
-    let mut ranges = Vec::with_capacity(alloc, bytes.len() / RANGE_SIZE)?;
     let mut rest = bytes;
     while let Some((range, more)) = rest.split_first_chunk::<RANGE_SIZE>() {
         if let Some(part) = range_met(ns, at, Range::of(range)) {
@@ -105,7 +108,7 @@ fn ranges_met(
         }
         rest = more;
     }
-    Ok(ranges)
+    Ok(())
 }
 
 // What an extent has of a range of the namespace, as the disk has it: the first extent has each of no blocks.

@@ -1,10 +1,12 @@
-use Rattle.std.proofs.Common.{◌≡◌, ◌/◌, ◌+◌, ◌<◌, suc, ℕ, List, [], ◌∷◌, ◌++◌, drop, length, sym, ap, ◌∙◌, subst, arith, slice_index_or}
+use Rattle.std.proofs.Common.{◌≡◌, ◌/◌, ◌+◌, ◌<◌, ◌≤◌, [], ◌++◌, suc, ℕ, List, ◌∷◌, drop, length, map, sym, ap, ◌∙◌, subst, arith, slice_index_or}
 use Rattle.std.proofs.Math.Seq.{drop-cons}
 use Rattle.nv_model.specs.Judge.{ranges_in}
+use Rattle.nv_model.proofs.Units.{length-ranges_in}
 use Rattle.nv_ns.specs.BlockRange.{Extent}
 use Rattle.nv_ns.specs.Extents.{Namespace}
-use Rattle.nv_plan.specs.Outline.{Portion}
-use Rattle.nv_plan.proofs.MetRanges.{AreMet, AreMet-more, AreMet-there}
+use Rattle.nv_plan.specs.Runs.{runs}
+use Rattle.nv_plan.specs.Told.{of_ranges}
+use Rattle.nv_plan.proofs.MetRanges.{AreListed, AreListed-more, AreListed-short, AreMet-there}
 use Rattle.nv_plan.proofs.ranges.portions_met.Goals as goal
 
 next-extent : (ns items : Namespace) (number : ℕ) (extent : Extent) → items ≡ ns → number < length items
@@ -14,20 +16,36 @@ next-extent ns items number extent same below is =
     ap (drop number) (sym same) ∙ drop-cons items number extent below ∙ ap (λ (e : Extent). e ∷ drop (suc number) items) (sym is)
     ∙ ap (λ (n : ℕ). extent ∷ drop n items) next ∙ ap (λ (xs : Namespace). extent ∷ drop (number + 1) xs) same
 
-pub ranges_met-requires-clause-there : goal.ranges_met-requires-clause-there
-ranges_met-requires-clause-there c =
-    AreMet-there c.args.ns.now (ranges_in (length c.args.bytes.now / 16) c.args.bytes.now) c.loop-number.number c.loop-number.before c.loop-number.portions
-    c.extent-item.result c.loop-number.invariant
+pub meet-requires-clause-there : goal.meet-requires-clause-there
+meet-requires-clause-there c =
+    AreMet-there c.args.ns.now (ranges_in (length c.args.bytes.now / 16) c.args.bytes.now) c.loop-number.number c.loop-number.before
+    (map of_ranges (runs c.loop-number.ranges.items 0 c.loop-number.ends)) c.extent-item.result c.loop-number.invariant.met
     (next-extent c.args.ns.now c.as_slice-extent-items.result.now c.loop-number.number c.extent-item.result c.as_slice-extent-items.ensures.items
     c.loop-number-test.true c.extent-item.is)
 
+few-ranges : (bytes : List ℕ) → length bytes ≤ 4096 → length (ranges_in (length bytes / 16) bytes) ≤ 256
+few-ranges bytes short = let len = length-ranges_in (length bytes / 16) bytes in omega arith
+
+pub overflow_cast-len : goal.overflow_cast-len
+overflow_cast-len c =
+    let short = AreListed-short c.args.ns.now (ranges_in (length c.args.bytes.now / 16) c.args.bytes.now) c.loop-number.number c.loop-number.before
+    c.loop-number.ranges.items c.loop-number.ends c.extent-item.result c.meet.new.ranges.items c.loop-number.invariant
+    (few-ranges c.args.bytes.now c.requires.short) c.in_ok-meet.ensures in
+    let len = c.len.ensures in
+    let same = ap (λ (ns : Namespace). length ns) c.as_slice-extent-items.ensures.items in
+    let few = c.len-joins.ensures.few in
+    let count = c.len-joins.ensures.value in
+    let below = c.loop-number-test.true in omega arith
+
 pub loop-number-preserved : goal.loop-number-preserved
 loop-number-preserved c =
-    subst (λ (n : ℕ). AreMet c.args.ns.now (ranges_in (length c.args.bytes.now / 16) c.args.bytes.now) (c.loop-number.number + 1) (c.loop-number.before + n) c.push.new.self)
+    let same : c.len.result ≡ length c.meet.new.ranges.items = (let len = c.len.ensures in omega arith) in
+    subst (λ (n : ℕ). AreListed c.args.ns.now (ranges_in (length c.args.bytes.now / 16) c.args.bytes.now) (c.loop-number.number + 1)
+    (c.loop-number.before + n) c.meet.new.ranges.items c.push.new.self)
     (sym c.blocks-before.ensures.value)
-    (AreMet-more c.args.ns.now (ranges_in (length c.args.bytes.now / 16) c.args.bytes.now) c.loop-number.number c.loop-number.before c.loop-number.portions
-    c.extent-item.result c.push.new.self c.loop-number.invariant
+    (AreListed-more c.args.ns.now (ranges_in (length c.args.bytes.now / 16) c.args.bytes.now) c.loop-number.number c.loop-number.before
+    c.loop-number.ranges.items c.loop-number.ends c.extent-item.result c.meet.new.ranges.items c.push.new.self c.loop-number.invariant
+    (few-ranges c.args.bytes.now c.requires.short)
     (next-extent c.args.ns.now c.as_slice-extent-items.result.now c.loop-number.number c.extent-item.result c.as_slice-extent-items.ensures.items
     c.loop-number-test.true c.extent-item.is)
-    (c.in_ok-push.ensures.ok ∙ ap (λ (p : Portion). c.loop-number.portions ++ p ∷ [])
-    (c.ranged.ensures ∙ ap (λ (r : List (List ℕ)). record { places = []; ranges = r }) c.in_ok-ranges.ensures)))
+    c.in_ok-meet.ensures (c.push.ensures ∙ ap (λ (n : ℕ). c.loop-number.ends ++ n ∷ []) same))

@@ -24,6 +24,15 @@ fetch-requires-clause-short g c =
     let total = (spelled-places c.in_ok-addr.field-0 c.args.self.now.map.now.regions c.args.need c.in-Settled-Ok.places c.in_ok-addr.ensures.spelled (c.in-Settled-Ok.is ∙ ap settled c.in-Settled-Ok.field-0-is)).0.of_len.total in
     omega arith
 
+pub ranged-requires-clause-short : goal.ranged-requires-clause-short
+ranged-requires-clause-short g c =
+    let some = ranges-some c.args.sqe.now c.args.need c.requires.need in
+    let few = some.1.1 in
+    let whole = fetched-len c.in_ok-addr-in-Settled-Ok.field-0 (total_len c.in-Settled-Ok.places) c.in-Settled.bytes c.in_ok-addr-in-Settled-Ok.ensures.whole c.in-Settled.is in
+    let total = (spelled-places c.in_ok-addr.field-0 c.args.self.now.map.now.regions c.args.need c.in-Settled-Ok.places c.in_ok-addr.ensures.spelled (c.in-Settled-Ok.is ∙ ap settled c.in-Settled-Ok.field-0-is)).0.of_len.total in
+    let same = ap (λ (b : List ℕ). length b) c.as_slice.ensures in
+    omega arith
+
 pub returns-in-Wanted : goal.returns-in-Wanted
 returns-in-Wanted g c =
     list-wanted (given_of c.args.self.now) DatasetManagement c.args.sqe.now c.args.reads.now c.read_list.new.reads c.in_ok-addr.field-0 c.args.need c.in-Wanted.addr c.in-Wanted.len

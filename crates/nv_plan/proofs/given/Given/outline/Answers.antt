@@ -35,11 +35,11 @@ returns-in-DatasetManagement g c =
     ∙ sym (ap (outlined c.args.self.now.ns.now c.args.job.now.sqe) (plan_over-listed (given_of c.args.self.now) c.args.job.now.sqe c.args.job.now.reads c.in-Some.opcode c.in-Ok.need known buffer)))
     c.manage.ensures
 
-pub returns-in_ok-portions-in-Flush : goal.returns-in_ok-portions-in-Flush
-returns-in_ok-portions-in-Flush g c =
+pub returns-in-Flush : goal.returns-in-Flush
+returns-in-Flush g c =
     let known = known-by (given_of c.args.self.now) c.args.job.now.sqe c.in-Some.opcode c.in-Ok.need (sym c.in-Ok.ensures) (sym c.in-Some.ensures) in
     let none : has_buffer c.in-Some.opcode ≡ false = elim c.in-Flush.is [ inl is ↦ ap has_buffer is | inr is ↦ ap has_buffer is ] in
     ap (λ (o : Outline). Settled o) (c.new.ensures
-    ∙ ap (λ (ps : List Portion). record { kind = kind.NoData; portions = ps }) (c.in_ok-portions-in-Flush.ensures
+    ∙ ap (λ (ps : List Portion). record { kind = kind.NoData; portions = ps }) (c.bare-portions.ensures
     ∙ ap (λ (n : ℕ). replicate n nothing) c.tags_wanted.ensures.value))
     ∙ sym (plan_over-no_data (given_of c.args.self.now) c.args.job.now.sqe c.args.job.now.reads c.in-Some.opcode c.in-Ok.need known none)

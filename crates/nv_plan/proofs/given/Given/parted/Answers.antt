@@ -1,8 +1,7 @@
-use Rattle.std.proofs.Common.{◌≤◌, List, [], ◌∷◌, All, length, sym, ap, subst, ◌∙◌, arith}
+use Rattle.std.proofs.Common.{◌≤◌, List, All, length, sym, ap, subst, ◌∙◌, arith}
 use Rattle.nv_entry.specs.Submission.{slba_of}
 use Rattle.nv_model.specs.Judge.{count_of}
 use Rattle.nv_ns.specs.Extents.{Cut, cuts}
-use Rattle.nv_plan.specs.Outline.{Portion}
 use Rattle.nv_plan.specs.Told.{IsAddressed}
 use Rattle.nv_plan.proofs.CutPlaces.{all-addressed, few-cuts, one-cut, small-cuts}
 use Rattle.nv_plan.proofs.given.Given.parted.Goals as goal
@@ -30,6 +29,6 @@ returns c =
           let no_more = few-cuts c.args.self.now.ns.now (slba_of c.args.sqe.now) (count_of c.args.sqe.now) in
           let most = w.if-len-gt1.false in omega arith)
     ] in
-    c.one.ensures ∙ ap (λ (p : Portion). p ∷ []) c.placed.ensures
+    c.one.ensures
     ∙ sym (one-cut c.args.self.now.ns.now (slba_of c.args.sqe.now) (count_of c.args.sqe.now) c.args.places c.requires.inside (omega arith) few
     c.requires.len c.requires.some)
