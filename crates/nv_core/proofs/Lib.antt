@@ -1,7 +1,6 @@
 pub mod Placed
 pub mod ItemsSame
 pub mod Clear
-pub mod Places
 pub mod Openings
 pub mod GroupWorlds
 pub mod GiveUps

@@ -1,12 +1,12 @@
 -- What is done in a guest's seat, put back into the world: host and controller are as it leaves them, and the rest is as before.
-use Rattle.std.proofs.Common.{◌≡◌, ℕ, ◌+◌, ◌<◌, ◌≤◌, Bool, true, false, cond, List, get_or, length, set, slice_get, Option, Some, None, is_some, arith, refl, sym, ap, ◌∙◌, subst}
+use Rattle.std.proofs.Common.{◌≡◌, ℕ, ◌+◌, ◌<◌, ◌≤◌, Bool, true, false, cond, List, get_or, length, set, slice_get, Option, Some, None, is_some, inl, inr, arith, refl, sym, ap, ◌∙◌, subst}
 use Rattle.std.proofs.lemmas.Bool.Decides.{nat_tests}
 use Rattle.std.proofs.lemmas.Option.{slice_get_read, slice_get_within}
 use Rattle.std.specs.Prelude.{nat_le}
 use Rattle.nv_admin.specs.Event.{controller_behind, host_behind, reply_of}
-use Rattle.nv_core.specs.Seat.{IsActed, IsActedAs, seated, told_by}
+use Rattle.nv_core.specs.Seat.{IsActed, IsActedAs, IsLoaded, seated, told_by}
 use Rattle.nv_core.specs.State.{IsOf, IsSameSize, IsStep, State, world_of}
-use Rattle.nv_laws_sound.proofs.Lists.{set-same}
+use Rattle.nv_laws_sound.proofs.Lists.{set-same, slice_get-there}
 use Rattle.nv_mem.specs.GuestMap.{IsSound, Mapping, all_mapped, everywhere, mapped}
 use Rattle.nv_model.proofs.PutImages.{put_image-own}
 use Rattle.nv_model.specs.Admin.{AdminStep, NothingToDo, QueueFull, Stepped, admin}
@@ -262,6 +262,57 @@ module _ (geometry : Geometry) (s old : State) (number : ℕ) where
             (subst (λ (k : ℕ). slice_get s.controllers k ≡ Some c) at (slice_get_read s.controllers (length s.controllers) i c refl below has)) acts;
         size = record { host = sized; mediator = refl; blocks = refl };
       }))
+
+  -- the controller of a guest that is there
+  controller-of : (guest : Guest) → s ≡ old → IsOf geometry old → slice_get geometry.guests number ≡ Some guest
+      → (c : Controller) × (slice_get s.controllers number ≡ Some c)
+  controller-of guest same is there =
+      let here = subst (λ (o : State). IsOf geometry o) (sym same) is in
+      let many = here.consistent.of_tags.controllers in
+      let below = slice_get_within geometry.guests number guest there in
+      slice_get-there s.controllers number (omega (arith, many, below))
+
+  -- an act that leaves the guest's controller as it is
+  pub act-beside : (guest : Guest) (a : Act) (r : Reply) (host_new : List ℕ) → s ≡ old → IsOf geometry old → slice_get geometry.guests number ≡ Some guest
+      → ((c : Controller) → IsActed guest a (byte_in s.host) c r (byte_in host_new) c) → length host_new ≡ length s.host
+      → IsStep geometry (event.Guest number a) old r (record s { host = host_new })
+  act-beside guest a r host_new same is there acts sized =
+      let found = controller-of guest same is there in
+      subst (λ (o : State). IsStep geometry (event.Guest number a) o r (record s { host = host_new })) same
+      (record {
+        after =
+            ap (λ (cs : List Controller). let x : After = record { world = record (world_of s) { host = byte_in host_new; controllers = cs }; reply = r } in x)
+            (sym (set-same s.controllers number found.0 found.1))
+            ∙ act-step geometry (world_of s) number guest found.0 found.0 a r (byte_in host_new)
+            ((subst (λ (o : State). IsOf geometry o) (sym same) is).laid_out.given number guest there).sound there found.1 (acts found.0);
+        size = record { host = sized; mediator = refl; blocks = refl };
+      })
+
+  -- an act that leaves the host as it is, too
+  act-quiet : (guest : Guest) (c : Controller) (a : Act) (r : Reply) → s ≡ old → IsOf geometry old → slice_get geometry.guests number ≡ Some guest
+      → slice_get s.controllers number ≡ Some c → IsActed guest a (byte_in s.host) c r (byte_in s.host) c
+      → IsStep geometry (event.Guest number a) old r old
+  act-quiet guest c a r same is there has acts =
+      subst (λ (o : State). IsStep geometry (event.Guest number a) o r o) same
+      (record {
+        after =
+            ap (λ (w : World). let x : After = record { world = w; reply = r } in x) (sym (placed-same number (byte_in s.host) c (world_of s) has refl))
+            ∙ act-step geometry (world_of s) number guest c c a r (byte_in s.host)
+            ((subst (λ (o : State). IsOf geometry o) (sym same) is).laid_out.given number guest there).sound there has acts;
+        size = same-size s;
+      })
+
+  pub load-quiet : (guest : Guest) (a : Act) (r : Reply) (before after : List ℕ) → s ≡ old → IsOf geometry old → slice_get geometry.guests number ≡ Some guest
+      → ((c : Controller) → IsLoaded (λ x. IsActed guest a (byte_in s.host) c x (byte_in s.host) c) r before after)
+      → IsLoaded (λ x. IsStep geometry (event.Guest number a) old x old) r before after
+  load-quiet guest a r before after same is there acts =
+      let found = controller-of guest same is there in by-case found.0 found.1 (acts found.0)
+    where
+      by-case : (c : Controller) → slice_get s.controllers number ≡ Some c
+          → IsLoaded (λ x. IsActed guest a (byte_in s.host) c x (byte_in s.host) c) r before after
+          → IsLoaded (λ x. IsStep geometry (event.Guest number a) old x old) r before after
+      by-case c has (inl so) = inl (so.0, act-quiet guest c a (reply.Bytes after) same is there has so.1)
+      by-case c has (inr so) = inr (so.0, so.1, act-quiet guest c a r same is there has so.2)
 
   found-at : (i : ℕ) (c : Controller) → i ≡ number → i < length s.controllers → c ≡ get_or s.controllers i c → slice_get s.controllers number ≡ Some c
   found-at i c at below has =

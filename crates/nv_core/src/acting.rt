@@ -1,7 +1,7 @@
 //! What guests do.
 
-ghost use Rattle.std.specs.Prelude.{◌≡◌, OnErr, IfOk, length};
-ghost use Rattle.nv_core.specs.Seat.{IsActed};
+ghost use Rattle.std.specs.Prelude.{◌≡◌, IfOk, IsTrue, OnErr, length};
+ghost use Rattle.nv_core.specs.Seat.{IsActed, is_long_load};
 ghost use Rattle.nv_core.specs.State.{IsOf, IsStep};
 ghost use Rattle.nv_model.specs.Memory.{byte_in};
 
@@ -16,7 +16,8 @@ use std::alloc::Global;
 
 impl Core {
     /// A guest acts: it reads and writes its memory, its controller's registers and its doorbells. Ignored where there is no such guest.
-    /// Memory is taken for the bytes of the reply alone; where none is left, nothing has changed.
+    /// Memory is taken for the bytes of a load that a reply does not hold in itself, and for nothing else; where none is left, nothing has
+    /// changed.
     #[inline(never)]
     pub fn act(
         &mut self,
@@ -27,7 +28,7 @@ impl Core {
     ) -> Result<Reply, NoMemory>
         requires { IsOf layout.now self.old }
         ensures ok { IfOk result (λ reply. IsStep layout.now (Event.Guest guest act.now) self.old reply self.new) }
-        ensures err { OnErr result (self.new ≡ self.old) }
+        ensures err { OnErr result ((self.new ≡ self.old) × IsTrue (is_long_load act.now)) }
     {
         let Some(given) = layout.guest(guest) else {
             return Ok(Reply::Ignored);
@@ -52,11 +53,11 @@ fn act_in_seat(
 ) -> Result<Reply, NoMemory>
     requires { given.now.memory_map.host_len ≡ length host.old }
     ensures ok { IfOk result (λ reply. IsActed given.now act.now (byte_in host.old) vctl.old reply (byte_in host.new) vctl.new) }
-    ensures err { OnErr result ((vctl.new ≡ vctl.old) × (host.new ≡ host.old)) }
+    ensures err { OnErr result ((vctl.new ≡ vctl.old) × ((host.new ≡ host.old) × IsTrue (is_long_load act.now))) }
     ensures len { length host.new ≡ length host.old }
 {
     match act {
-        Act::Store { addr, bytes } => Ok(seat::store(given, *addr, bytes, host)),
+        Act::Store { addr, bytes } => Ok(seat::store(given, *addr, bytes.as_slice(), host)),
         Act::Load { addr, len } => seat::load(alloc, given, *addr, *len, host),
         Act::RegRead { offset } => Ok(seat::read_register(given, vctl, *offset)),
         Act::RegWrite { offset, value } => Ok(seat::write_register(given, vctl, *offset, *value)),

@@ -10,6 +10,7 @@
 //! [`Core::submit_plan`] is the Submit of a plan that was made elsewhere, without the state at hand, of the
 //! [`Core::job`] that whoever made it was given; [`Core::due`] tells which events a worker finds something to do by, and [`Core::holder`]
 //! whose command a tag has.
+//! [`Core::store`] and [`Core::load`] are a guest's own, of bytes that are lent, and take no memory.
 //! [`Core::host`], [`Core::block`] and [`Core::kept`] show the host's memory and the disk.
 #![tactic(auto)]
 
@@ -31,6 +32,7 @@ mod lane_handing;
 mod lane_opening;
 mod lane_standing;
 mod layout;
+mod lending;
 mod opening;
 mod parts;
 mod physical_entry;

@@ -1,19 +1,19 @@
 //! Acts in a guest's seat: on its part of the host and on its controller.
 
-ghost use Rattle.std.specs.Prelude.{◌≡◌, ◌≤◌, ℕ, IfOk, length, true};
-ghost use Rattle.nv_core.specs.Seat.{IsActed};
+ghost use Rattle.std.specs.Prelude.{◌≡◌, ◌<◌, ◌≤◌, ℕ, IfOk, OnErr, length, true};
+ghost use Rattle.nv_core.specs.Seat.{IsActed, IsLoaded};
 ghost use Rattle.nv_mem.specs.GuestMap.{everywhere, mapped};
 ghost use Rattle.nv_model.specs.Controller.{Controller};
 ghost use Rattle.nv_model.specs.Memory.{byte_in, bytes_from, image};
 
 use crate::layout::Given;
-use nv_mem::{BoxedBytes, Bytes, FEW, Host, NoMemory};
+use nv_mem::{Bytes, FEW, Host, NoMemory};
 use nv_model::{Act, Reply};
 use nv_vctl::Vctl;
 use std::alloc::Global;
 
 /// Stores bytes from guest address `addr` on.
-pub(crate) fn store(given: &Given, addr: u64, bytes: &BoxedBytes, host: &mut Host) -> Reply
+pub(crate) fn store(given: &Given, addr: u64, bytes: &[u8], host: &mut Host) -> Reply
     requires { given.now.memory_map.host_len ≡ length host.old }
     ensures acted { (c : Controller) → IsActed given.now (Act.Store addr bytes.now) (byte_in host.old) c result (byte_in host.new) c }
     ensures len { length host.new ≡ length host.old }
@@ -21,7 +21,6 @@ pub(crate) fn store(given: &Given, addr: u64, bytes: &BoxedBytes, host: &mut Hos
     // With the length of the host comes what is known of every map.
     let map = given.map();
     let _host_len = map.host_len();
-    let bytes = bytes.as_slice();
     if !map.holds(addr, bytes.len() as u64) {
         return Reply::Unmapped;
     }
@@ -38,7 +37,8 @@ pub(crate) fn load(
     host: &Host,
 ) -> Result<Reply, NoMemory>
     requires { given.now.memory_map.host_len ≡ length host.now }
-    ensures { IfOk result (λ reply. (c : Controller) → IsActed given.now (Act.Load addr len) (byte_in host.now) c reply (byte_in host.now) c) }
+    ensures ok { IfOk result (λ reply. (c : Controller) → IsActed given.now (Act.Load addr len) (byte_in host.now) c reply (byte_in host.now) c) }
+    ensures err { OnErr result (7 < len) }
 {
     // With the length of the host comes what is known of every map.
     let map = given.map();
@@ -48,6 +48,22 @@ pub(crate) fn load(
     }
     let bytes = read_bytes(alloc, given, addr, len, host)?;
     Ok(Reply::Bytes(bytes))
+}
+
+/// Loads as many bytes from guest address `addr` on as there is room for. They take no memory.
+pub(crate) fn load_into(given: &Given, addr: u64, room: &mut [u8], host: &Host) -> Reply
+    requires { given.now.memory_map.host_len ≡ length host.now }
+    ensures { (c : Controller) → let load = Act.Load addr (length room.old) in
+        IsLoaded (λ reply. IsActed given.now load (byte_in host.now) c reply (byte_in host.now) c) result room.old room.new }
+{
+    // With the length of the host comes what is known of every map.
+    let map = given.map();
+    let _host_len = map.host_len();
+    if !map.holds(addr, room.len() as u64) {
+        return Reply::Unmapped;
+    }
+    nv_bounce::load(addr, map, host, room);
+    Reply::Done
 }
 
 /// The `len` bytes from guest address `addr` on, which are mapped.
@@ -60,7 +76,8 @@ pub(crate) fn read_bytes(
 ) -> Result<Bytes, NoMemory>
     requires host { given.now.memory_map.host_len ≡ length host.now }
     requires mapped { everywhere (mapped given.now.memory_map.regions) addr len ≡ true }
-    ensures { IfOk result (λ bytes. bytes ≡ bytes_from (image given.now.memory_map.regions (byte_in host.now)) addr len) }
+    ensures ok { IfOk result (λ bytes. bytes ≡ bytes_from (image given.now.memory_map.regions (byte_in host.now)) addr len) }
+    ensures err { OnErr result (7 < len) }
 {
     if len <= FEW as u64 {
         let mut room = [0; FEW];

@@ -4,8 +4,8 @@ use Rattle.nv_replay_script.specs.ReplayScript.{ScriptValue, script_of}
 use Rattle.nv_once_script.specs.declared.once.fault.ScriptFault.{ScriptFault}
 use Rattle.nv_once_script.specs.declared.once.fault.ScriptFault.TheVariants as script
 use Rattle.nv_world.specs.Refused.{refused}
-use Rattle.nv_world.specs.declared.refusal.Refusal.{Refusal}
-use Rattle.nv_world.specs.declared.refusal.Refusal.TheVariants as world
+use Rattle.nv_mediator.specs.declared.refusal.Refusal.{Refusal}
+use Rattle.nv_mediator.specs.declared.refusal.Refusal.TheVariants as world
 use Rattle.nv_world_model.specs.Geometry.{Guest}
 use Rattle.nv_world_model.specs.SetUp.{SetUp, refusal_of}
 use Rattle.nv_world_model.specs.SetUp as model

@@ -5,8 +5,8 @@ use Rattle.nv_mem.specs.declared.map_error.MapError.{MapError}
 use Rattle.nv_mem.specs.declared.map_error.MapError.TheVariants.{Unaligned, Overlap, OutsideHost}
 use Rattle.nv_once_script.specs.declared.once.fault.ScriptFault.{ScriptFault}
 use Rattle.nv_once_script.specs.declared.once.fault.ScriptFault.TheVariants as script
-use Rattle.nv_world.specs.declared.refusal.Refusal.{Refusal}
-use Rattle.nv_world.specs.declared.refusal.Refusal.TheVariants as world
+use Rattle.nv_mediator.specs.declared.refusal.Refusal.{Refusal}
+use Rattle.nv_mediator.specs.declared.refusal.Refusal.TheVariants as world
 use Rattle.nv_replay.specs.declared.fault.ReplayFault.{ReplayFault}
 use Rattle.nv_replay.specs.declared.fault.ReplayFault.TheVariants as fault
 use Rattle.nv_replay.specs.declared.refusal.SetUpRefusal.{SetUpRefusal}

@@ -1,8 +1,2 @@
-pub mod Twos
-pub mod Areas
-pub mod Namespaces
-pub mod Starts
-pub mod Counts
 pub mod Steps
-pub mod Quiet
 pub mod Runs

@@ -1,2 +1,2 @@
 pub mod Mediated
-pub mod Refused
+pub use Rattle.nv_mediator.specs.Refused

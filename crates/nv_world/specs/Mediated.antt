@@ -1,21 +1,18 @@
 -- The mediator as its callers see it: its set-up, the log of what has happened, and the world behind it (profile).
-use Rattle.std.specs.Prelude.{◌≡◌, ◌⊎◌, ℕ, true, All, List, [], ◌∷◌, ◌++◌, length, Option, Some, None}
-use Rattle.nv_core.specs.State.{CountsMore, IsOf, IsSameSize, State, world_of}
-use Rattle.nv_laws_sound.specs.Counted.{IsCounted}
-use Rattle.nv_core.specs.Submit.{IsCurrent, IsLimit}
-use Rattle.nv_laws_others.specs.Alike.{HasFittingStatus}
-use Rattle.nv_mem.specs.GuestMap.{Mapping}
-use Rattle.nv_ns.specs.Extents.{Namespace, is_namespace}
+use Rattle.std.specs.Prelude.{◌≡◌, ◌⊎◌, List, [], ◌∷◌, ◌++◌, length}
+use Rattle.nv_core.specs.State.{State, world_of}
+use Rattle.nv_core.specs.Submit.{IsCurrent}
+use Rattle.nv_mediator.specs.Hosted.{Hosted, IsLog}
+pub use Rattle.nv_mediator.specs.Hosted.{map_of, range_of, limit_of}
 use Rattle.nv_model.specs.declared.reply.Reply.{Reply}
 use Rattle.nv_model.specs.declared.reply.Reply.TheVariants as reply
 use Rattle.nv_plan.specs.Made.{MadePlan}
 use Rattle.nv_world_model.specs.declared.event.Event.{Event}
 use Rattle.nv_world_model.specs.declared.event.Event.TheVariants as event
 use Rattle.nv_world_model.specs.declared.logged.Logged.{Logged}
-use Rattle.nv_world_model.specs.Geometry.{Geometry, Guest}
+use Rattle.nv_world_model.specs.Geometry.{Geometry}
 use Rattle.nv_world_model.specs.Headline.{AreContained, Headline}
-use Rattle.nv_world_model.specs.Log.{IsReplay}
-use Rattle.nv_world_model.specs.SetUp.{SetUp, refusal_of, world_at_start}
+use Rattle.nv_world_model.specs.SetUp.{SetUp, world_at_start}
 use Rattle.nv_world_model.specs.Step.{step}
 use Rattle.nv_world_model.specs.World.{World}
 
@@ -80,22 +77,13 @@ setup_of k = record { host_bytes = length k.state.host; lanes = length k.state.l
 abbrev pub mediated : Kept → Mediated
 mediated k = record { setup = setup_of k; log = k.log; world = world_of k.state }
 
--- the world is as it was, in parts as large as they were
-pub record IsUnchanged (old new : State) : Type 0 where
-  pub world : world_of new ≡ world_of old
-  pub size : IsSameSize old new
+-- what of it is a mediator without a log
+abbrev pub hosted : Kept → Hosted
+hosted k = record { geometry = k.geometry; state = k.state }
 
--- one more taken command of each queue of each guest can be counted
-abbrev pub CanCount : State → Type 0
-CanCount s = (guest : ℕ) → CountsMore guest s
-
--- its set-up was not refused, its parts are that set-up's, its world is consistent, and it is where the log leads
-pub record IsRunning (k : Kept) : Type 0 where
-  pub accepted : refusal_of (setup_of k) ≡ None
-  pub of : IsOf k.geometry k.state
-  pub counted : IsCounted k.geometry (world_of k.state)
-  pub replayed : IsReplay k.geometry (world_at_start (setup_of k)) k.log (world_of k.state)
-  pub fitting : All (λ l. HasFittingStatus l.event) k.log
+-- the log leads to it: the mediator keeps all else
+abbrev pub IsRunning : Kept → Type 0
+IsRunning k = IsLog k.log (hosted k)
 
 -- each step of its log is contained, whole
 abbrev pub IsContained : Kept → Type 0
@@ -105,22 +93,3 @@ IsContained k = AreContained k.geometry k.log (world_at_start (setup_of k))
 -- its own private controller's, and each step is contained
 abbrev pub KeepsPromise : Kept → Type 0
 KeepsPromise k = Headline (setup_of k) k.log (world_of k.state)
-
--- ---- what a guest has
-
-abbrev pub map_of : Option Guest → Option Mapping
-map_of None = None
-map_of (Some guest) = Some guest.memory_map
-
-abbrev pub range_of : Option Guest → Option Namespace
-range_of None = None
-range_of (Some guest) = Some guest.namespace
-
-abbrev pub limit_of : Option Guest → Option ℕ
-limit_of None = None
-limit_of (Some guest) = Some guest.limit
-
--- what a guest is to have may be given to it: its extents are a namespace, and its limit on descriptors may be
-pub record MayBeGiven (guest : Guest) : Type 0 where
-  pub blocks : is_namespace guest.namespace ≡ true
-  pub limit : IsLimit guest.limit

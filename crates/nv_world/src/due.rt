@@ -14,6 +14,6 @@ impl World {
     pub fn due(&self, event: &Event) -> bool
         ensures { result ≡ due self.now.geometry event.now (world_of self.now.state) }
     {
-        self.core.due(&self.layout, event)
+        self.mediator.due(event)
     }
 }

@@ -5,7 +5,7 @@ ghost use Rattle.nv_core.specs.Jobs.{holder_of, job_of};
 ghost use Rattle.nv_core.specs.State.{world_of};
 
 use crate::world::World;
-use nv_core::Holder;
+use nv_mediator::Holder;
 use nv_mem::NoMemory;
 use nv_plan::Job;
 use std::alloc::Global;
@@ -22,13 +22,13 @@ impl World {
         ensures ok { IfOk result (λ job. job ≡ job_of (world_of self.now.state) lane tag) }
         ensures err { OnErr result (IsSome (job_of (world_of self.now.state) lane tag)) }
     {
-        self.core.job(alloc, lane, tag)
+        self.mediator.job(alloc, lane, tag)
     }
 
     /// Whose command a tag of a lane has, and the tag that it goes by; `None` where the tag is free, or there is none.
     pub fn holder(&self, lane: u8, tag: u8) -> Option<Holder>
         ensures { result ≡ holder_of (world_of self.now.state) lane tag }
     {
-        self.core.holder(lane, tag)
+        self.mediator.holder(lane, tag)
     }
 }

@@ -1,4 +1,4 @@
-//! The mediator: guests, the physical controller and what stands between them, event by event, with a log of all that has happened.
+//! The mediator with a log of all that has happened: guests, the physical controller and what stands between them, event by event.
 //!
 //! [`World::new`] makes the world of a [`Setup`], or tells the first reason for which it is refused: too many guests, ranges or maps that meet,
 //! sizes that may not be. [`World::step`] makes one event of the definition (`nv_world_model/specs/Step`), tells its reply and writes both into
@@ -8,20 +8,14 @@
 //! commands on a private controller.
 #![tactic(auto)]
 
-mod checking;
 mod copies;
 mod due;
 mod jobs;
-mod opening;
-mod performing;
-mod refusal;
 mod running;
-mod setup;
 mod showing;
 mod stepping;
 mod submitting;
 mod world;
 
-pub use refusal::Refusal;
-pub use setup::{Extent, GuestSetup, Setup};
+pub use nv_mediator::{Extent, GuestSetup, Refusal, Setup};
 pub use world::World;

@@ -16,7 +16,7 @@ impl World {
         ensures bytes { byte_in result.now ≡ (world_of self.now.state).host }
         ensures len { length result.now ≡ (setup_of self.now).host_bytes }
     {
-        self.core.host()
+        self.mediator.host()
     }
 
     /// The 512 bytes of a block of the disk, by its number on the disk; `None` where there is no such block.
@@ -24,7 +24,7 @@ impl World {
         ensures { MatchOption result (self.now.geometry.disk_blocks ≤ block)
             (λ bytes. IsBlock self.now.geometry.disk_blocks (world_of self.now.state) block bytes.now) }
     {
-        self.core.block(block)
+        self.mediator.block(block)
     }
 
     /// Whether a block of the disk, by its number on the disk, is kept when power is lost; `None` where there is no
@@ -32,6 +32,6 @@ impl World {
     pub fn kept(&self, block: u64) -> Option<bool>
         ensures { result ≡ mark_shown self.now.geometry.disk_blocks (world_of self.now.state) block }
     {
-        self.core.kept(block)
+        self.mediator.kept(block)
     }
 }

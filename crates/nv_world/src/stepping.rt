@@ -3,8 +3,8 @@
 ghost use Rattle.std.specs.Prelude.{◌≡◌, ◌<◌, ◌++◌, ◌∷◌, [], IfOk, OnErr, OnOk, vec_capacity, vec_len};
 ghost use Rattle.nv_world.specs.Mediated.{IsAdvanced, IsContained, IsLogged, IsStepped, KeepsPromise, mediated};
 
+use crate::copies;
 use crate::world::World;
-use crate::{copies, performing};
 use nv_mem::NoMemory;
 use nv_model::Reply;
 use nv_world_model::{Event, Logged};
@@ -75,11 +75,10 @@ impl World {
     fn step_any(&mut self, alloc: Global, event: Event) -> Reply
         ensures { IsStepped event (mediated self.old) result (mediated self.new) }
     {
-        performing::known(&event);
         if self.log.reserve(1).is_err() {
             return Reply::NoMemory;
         }
-        let told = performing::perform_twice(alloc, &self.layout, &mut self.core, &event);
+        let told = self.mediator.step_twice(alloc, &event);
         let Ok((reply, logged)) = told else {
             return Reply::NoMemory;
         };
@@ -112,7 +111,7 @@ impl World {
         ensures err { OnErr result (mediated self.new ≡ mediated self.old) }
     {
         self.log.reserve(1)?;
-        let reply = self.core.dev_move(&self.layout, lane, slot, number);
+        let reply = self.mediator.dev_move(lane, slot, number);
         let again = copies::word(&reply);
         push(&mut self.log, Event::DevMove(lane, slot, number), again);
         Ok(reply)
@@ -124,9 +123,8 @@ impl World {
         ensures ok { OnOk result (IsAdvanced event (mediated self.old) (mediated self.new)) }
         ensures err { OnErr result (mediated self.new ≡ mediated self.old) }
     {
-        performing::known(&event);
         self.log.reserve(1)?;
-        let reply = performing::perform(alloc, &self.layout, &mut self.core, &event)?;
+        let reply = self.mediator.step(alloc, &event)?;
         put(&mut self.log, event, reply);
         Ok(())
     }

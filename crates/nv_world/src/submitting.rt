@@ -32,7 +32,7 @@ impl World {
         if self.log.reserve(1).is_err() {
             return Reply::NoMemory;
         }
-        let Some(reply) = self.core.submit_plan(&self.layout, plan) else {
+        let Some(reply) = self.mediator.submit_plan(plan) else {
             return Reply::Stale;
         };
         self.log.push_reserved(Logged {

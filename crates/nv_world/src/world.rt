@@ -8,10 +8,7 @@ ghost use Rattle.nv_world.specs.Refused.{refused};
 ghost use Rattle.nv_world_model.specs.Log.{IsReplay};
 ghost use Rattle.nv_world_model.specs.SetUp.{refusal_of, world_at_start};
 
-use crate::checking;
-use crate::refusal::Refusal;
-use crate::setup::Setup;
-use nv_core::{Core, Layout};
+use nv_mediator::{Mediator, Refusal, Setup};
 use nv_mem::GuestMap;
 use nv_ns::VirtualNs;
 use nv_world_model::Logged;
@@ -20,11 +17,11 @@ use std::marker::Model;
 
 /// The mediated world: up to 16 guests, the physical controller and the mediator between them, and a log of each event with its reply.
 ///
-/// Its type keeps that the world is where the log leads, from the start of the set-up on, by the definition's steps.
+/// It is a [`Mediator`] with a log. Its type keeps that the mediator is where the log leads, from the start of the set-up on, by the
+/// definition's steps.
 #[derive(Drop)]
 pub struct World {
-    pub(crate) layout: Layout,
-    pub(crate) core: Core,
+    pub(crate) mediator: Mediator,
     pub(crate) log: Vec<Logged>,
 }
 
@@ -33,9 +30,9 @@ impl Model for World {
 
     ghost Value = { Kept };
 
-    ghost view = { λ w. record { geometry = w.layout; state = w.core; log = w.log.items } };
+    ghost view = { λ w. record { geometry = w.mediator.geometry; state = w.mediator.state; log = w.log.items } };
 
-    ghost invariant = { λ w. IsRunning (record { geometry = w.layout; state = w.core; log = w.log.items }) };
+    ghost invariant = { λ w. IsRunning (record { geometry = w.mediator.geometry; state = w.mediator.state; log = w.log.items }) };
 }
 
 impl World {
@@ -49,10 +46,11 @@ impl World {
         ensures accepted { IfOk result (λ _. refusal_of setup ≡ None) }
         ensures err { IfErr result (λ refusal. (refused (refusal_of setup) ≡ Some refusal) ⊎ ((refusal ≡ Refusal.NoMemory) × (refusal_of setup ≡ None))) }
     {
-        if let Some(refusal) = checking::refusal_of(&setup) {
-            return Err(refusal);
-        }
-        Self::open(alloc, setup).map_err(|_| Refusal::NoMemory)
+        let mediator = Mediator::new(alloc, setup)?;
+        Ok(World {
+            mediator,
+            log: Vec::new(alloc),
+        })
     }
 
     /// The events so far, each with its reply, in order. The world is where they lead, from the start of the set-up on, and each is contained:
@@ -65,7 +63,7 @@ impl World {
         ensures contained { IsContained self.now }
         ensures promise { KeepsPromise self.now }
     {
-        let _running = &self.core;
+        self.mediator.promise();
         &self.log
     }
 
@@ -74,7 +72,7 @@ impl World {
         ensures { MatchOption result (slice_get self.now.geometry.guests guest ≡ None)
             (λ map. Some map.now ≡ map_of (slice_get self.now.geometry.guests guest)) }
     {
-        Some(self.layout.guest(guest)?.map())
+        self.mediator.map(guest)
     }
 
     /// The namespace of the guest of that number; `None` where there is no such guest.
@@ -82,7 +80,7 @@ impl World {
         ensures { MatchOption result (slice_get self.now.geometry.guests guest ≡ None)
             (λ ns. Some ns.now ≡ range_of (slice_get self.now.geometry.guests guest)) }
     {
-        Some(self.layout.guest(guest)?.ns())
+        self.mediator.range(guest)
     }
 
     /// The most descriptors of a list that the guest of that number was given, 1 to 4,096; `None` where there is no such guest.
@@ -90,6 +88,6 @@ impl World {
         ensures value { result ≡ limit_of (slice_get self.now.geometry.guests guest) }
         ensures fits { IfSome result (λ limit. IsLimit limit) }
     {
-        Some(self.layout.guest(guest)?.limit())
+        self.mediator.limit(guest)
     }
 }

@@ -1,0 +1,191 @@
+//! A mediator beside a world: the same events, the same replies, and then the same memory and disk.
+
+use crate::calls::call;
+use crate::events::{BRING_UP, Random, event_of, next};
+use nv_mediator::{Extent, GuestSetup, Mediator, Setup};
+use nv_mem::{GuestMap, NoMemory, Region};
+use nv_model::Reply;
+use nv_world::World;
+use nv_world_model::Event;
+use std::alloc::Global;
+use std::process::Abort;
+
+/// How many random events there are in a run.
+const EVENTS: u16 = 2000;
+
+/// The pages of the host's memory that are compared: the guest's, and the mediator's of the lane.
+const PAGES: [(u64, u64); 2] = [(0x10_0000, 32), (0x40_0000, 2115)];
+
+/// The mediator and the world.
+#[derive(Drop)]
+struct Both {
+    mediator: Mediator,
+    world: World,
+}
+
+/// What was seen of a run.
+#[derive(Clone, Copy)]
+struct Seen {
+    // whether each reply was the same
+    alike: bool,
+    // how many commands were completed for the guest
+    completed: u16,
+}
+
+// The set-up: a guest with 128 KiB of memory and two extents of 32 blocks each, the second before the first on the disk.
+fn setup(alloc: Global) -> Option<Setup> {
+    let region = Region {
+        guest: 0,
+        host: 0x10_0000,
+        len: 0x2_0000,
+    };
+    let map = GuestMap::new(0x100_0000, vec![in alloc; region].ok()?).ok()?;
+    let first = Extent {
+        base: 2000,
+        blocks: 32,
+    };
+    let second = Extent {
+        base: 1000,
+        blocks: 32,
+    };
+    let guest = GuestSetup {
+        map,
+        extents: vec![in alloc; first, second].ok()?,
+        limit: 1024,
+    };
+    Some(Setup {
+        host_bytes: 0x100_0000,
+        mediator: 0x40_0000,
+        disk_blocks: 4096,
+        lanes: 1,
+        guests: vec![in alloc; guest].ok()?,
+    })
+}
+
+// Both at their start.
+fn opened(alloc: Global) -> Option<Both> {
+    Some(Both {
+        mediator: Mediator::new(alloc, setup(alloc)?).ok()?,
+        world: World::new(alloc, setup(alloc)?).ok()?,
+    })
+}
+
+// A reply but for its bytes.
+fn kind_of(reply: &Reply) -> u8 {
+    match reply {
+        Reply::Done => 0,
+        Reply::Bytes(_) => 1,
+        Reply::Idle => 2,
+        Reply::Busy => 3,
+        Reply::Held => 4,
+        Reply::Stale => 5,
+        Reply::Unmapped => 6,
+        Reply::Ignored => 7,
+        Reply::NoMemory => 8,
+    }
+}
+
+// The bytes of a reply.
+fn bytes_of(reply: &Reply) -> &[u8] {
+    match reply {
+        Reply::Bytes(bytes) => bytes.as_slice(),
+        _ => &[],
+    }
+}
+
+// Whether an event is answered alike, by the mediator's own call or by its step, and due in both or in neither.
+fn is_alike(both: &mut Both, alloc: Global, event: Event, calls: bool, seen: &mut Seen) {
+    let due = both.mediator.due(&event) == both.world.due(&event);
+    let posts = matches!(event, Event::Post(_, _));
+    let told = if calls {
+        call(&mut both.mediator, alloc, &event)
+    } else {
+        both.mediator.step(alloc, &event)
+    };
+    let told = told.unwrap_or(Reply::NoMemory);
+    let logged = both.world.step(alloc, event);
+    seen.alike = seen.alike
+        && due
+        && kind_of(&told) == kind_of(&logged)
+        && bytes_of(&told) == bytes_of(&logged);
+    if posts && kind_of(&told) == 0 {
+        seen.completed = seen.completed.wrapping_add(1);
+    }
+}
+
+// The guest is brought up.
+fn brings_up(both: &mut Both, alloc: Global, calls: bool, seen: &mut Seen) -> Result<(), NoMemory> {
+    for deed in BRING_UP {
+        is_alike(both, alloc, event_of(alloc, deed)?, calls, seen);
+    }
+    is_alike(both, alloc, Event::Admin(0), calls, seen);
+    is_alike(both, alloc, Event::Admin(0), calls, seen);
+    Ok(())
+}
+
+// A run of random events.
+fn runs(both: &mut Both, alloc: Global, seed: u64, seen: &mut Seen) -> Result<(), NoMemory> {
+    let calls = seed % 2 == 1;
+    brings_up(both, alloc, calls, seen)?;
+    let mut random = Random::new(seed);
+    for _ in 0..EVENTS {
+        let event = next(alloc, &mut random)?;
+        is_alike(both, alloc, event, calls, seen);
+    }
+    Ok(())
+}
+
+// Whether a page of the host's memory is the same in both.
+fn is_same_page(both: &Both, addr: u64) -> bool {
+    let mut first = [0; 4096];
+    let mut second = [0; 4096];
+    let host = both.mediator.host();
+    let other = both.world.host();
+    if !host.holds(addr, 4096) || !other.holds(addr, 4096) {
+        return false;
+    }
+    host.load(addr, &mut first);
+    other.load(addr, &mut second);
+    first == second
+}
+
+// Whether all pages that are compared are the same.
+fn is_same_memory(both: &Both) -> bool {
+    PAGES.iter().all(|(start, count)| (0..*count).all(|page| is_same_page(
+        both,
+        start + 4096 * page,
+    )))
+}
+
+// Whether a block is the same in both, and kept in both or in neither.
+fn is_same_block(both: &Both, block: u64) -> bool {
+    let Both { mediator, world } = both;
+    mediator.kept(block) == world.kept(block) && mediator.block(block) == world.block(block)
+}
+
+// Whether the guest's blocks are the same.
+fn is_same_disk(both: &Both) -> bool {
+    (0..32).all(|place| is_same_block(both, 1000 + place) && is_same_block(both, 2000 + place))
+}
+
+// Ends the test where a run of this seed differs, or where too little happened in it.
+fn expect_alike(rt: &impl Abort, alloc: Global, seed: u64) {
+    let mut both = opened(alloc).expect(rt, "a mediator and a world");
+    let mut seen = Seen {
+        alike: true,
+        completed: 0,
+    };
+    assert!(rt; runs(&mut both, alloc, seed, &mut seen).is_ok());
+    assert!(rt; seen.alike && is_same_memory(&both) && is_same_disk(&both));
+    assert!(rt; seen.completed >= 10, "{} were completed", seen.completed);
+}
+
+#[test]
+fn steps_as_the_world_does(rt: HostRuntime) {
+    expect_alike(&rt, rt.alloc(), 2);
+}
+
+#[test]
+fn calls_as_the_world_steps(rt: HostRuntime) {
+    expect_alike(&rt, rt.alloc(), 3);
+}

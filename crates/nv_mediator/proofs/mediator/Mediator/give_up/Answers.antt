@@ -1,0 +1,16 @@
+use Rattle.std.proofs.Common.{subst}
+use Rattle.nv_mediator.proofs.Steps.{hosting, step-hosted, step-made}
+use Rattle.nv_mediator.specs.Hosted.{Hosted, IsMade}
+use Rattle.nv_world_model.specs.declared.event.Event.TheVariants as event
+use Rattle.nv_mediator.proofs.mediator.Mediator.give_up.Goals as goal
+
+pub invariant_of-self : goal.invariant_of-self
+invariant_of-self c =
+    let h : Hosted = record { geometry = c.self.inside.layout; state = c.self.inside.core } in
+    step-hosted h c.give_up.new.self (event.GiveUp c.args.lane c.args.tag) c.give_up.result c.self.invariant c.give_up.ensures tt
+
+pub returns : goal.returns
+returns c =
+    let h : Hosted = record { geometry = c.self.inside.layout; state = c.self.inside.core } in
+    subst (λ (o : Hosted). IsMade (event.GiveUp c.args.lane c.args.tag) o c.give_up.result (hosting h c.give_up.new.self)) c.self.view_is
+    (step-made h c.give_up.new.self (event.GiveUp c.args.lane c.args.tag) c.give_up.result c.self.invariant c.give_up.ensures tt)

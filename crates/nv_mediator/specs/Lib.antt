@@ -1,0 +1,2 @@
+pub mod Hosted
+pub mod Refused

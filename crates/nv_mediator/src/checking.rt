@@ -1,0 +1,216 @@
+//! Whether a set-up makes a world.
+
+ghost use Rattle.std.specs.Prelude.{◌≡◌, ◌||◌, ◌++◌, true};
+ghost use Rattle.std.specs.List.{list_all, list_any};
+ghost use Rattle.nv_mem.specs.GuestMap.{spans_meet};
+ghost use Rattle.nv_mediator.specs.Refused.{refused};
+ghost use Rattle.nv_world_model.specs.SetUp.{all_extents, any_two, blocks_meet, extent_fits, guest_fits, host_fits};
+ghost use Rattle.nv_world_model.specs.SetUp.{maps_meet, meets_area, refusal_of, sizes_fit};
+
+use crate::refusal::Refusal;
+use crate::setup::{Extent, GuestSetup, Setup};
+use nv_mem::PAGE_SIZE;
+
+/// The most guests.
+const MOST_GUESTS: usize = 16;
+
+/// The most regions of a guest's map.
+const MOST_REGIONS: usize = 64;
+
+/// The most lanes.
+const MOST_LANES: u64 = 8;
+
+/// The most bytes of the host's memory: 1 GiB.
+const MOST_HOST_BYTES: u64 = 1_073_741_824;
+
+/// The most blocks of the disk: 1 GiB.
+const MOST_DISK_BLOCKS: u64 = 2_097_152;
+
+/// The most extents of a guest's namespace.
+const MOST_EXTENTS: usize = 8;
+
+/// The most descriptors of a list that a guest may be given.
+const MOST_LIMIT: u32 = 4096;
+
+/// The bytes of a lane's area: two pages for its submission ring, one for its completion ring, and 33 for each of 64 tags.
+const LANE_BYTES: u64 = PAGE_SIZE * 2115;
+
+#[tactic(auto, unfolding(nv_world_model::specs::SetUp::refusal_of))]
+/// The first reason for which a set-up is refused; `None` where there is none.
+pub(crate) fn refusal_of(setup: &Setup) -> Option<Refusal>
+    ensures { result ≡ refused (refusal_of setup.now) }
+{
+    if setup.guests.len() > MOST_GUESTS {
+        Some(Refusal::TooManyGuests)
+    } else if extents_meet(&setup.guests) {
+        Some(Refusal::RangesMeet)
+    } else if maps_meet(&setup.guests) || area_met(setup) {
+        Some(Refusal::MapsMeet)
+    } else if !sizes_fit(setup) {
+        Some(Refusal::BadSize)
+    } else {
+        None
+    }
+}
+
+// Whether some two extents, of one guest or of two, have a block in common. Each is compared with each behind it: with E extents that
+// is about half of E times E.
+fn extents_meet(guests: &[GuestSetup]) -> bool
+    ensures { result ≡ any_two blocks_meet (all_extents guests.now) }
+{
+    for (number, guest) in guests.iter().enumerate() {
+        if meet_later(&guest.extents, &guests[number + 1..]) {
+            return true;
+        }
+    }
+    false
+}
+
+// Whether one of these extents has a block in common with another of them, or with one of these guests.
+fn meet_later(extents: &[Extent], others: &[GuestSetup]) -> bool
+    ensures { any_two blocks_meet (extents.now ++ all_extents others.now)
+        ≡ (result || any_two blocks_meet (all_extents others.now)) }
+{
+    for (number, extent) in extents.iter().enumerate() {
+        if has_block_of(*extent, &extents[number + 1..]) || has_block_with(*extent, others) {
+            return true;
+        }
+    }
+    false
+}
+
+// Whether an extent has a block in common with one of these.
+fn has_block_of(extent: Extent, others: &[Extent]) -> bool
+    ensures { result ≡ list_any (blocks_meet extent) others.now }
+{
+    others.iter().any(|other| blocks_meet(extent, *other))
+}
+
+// Whether an extent has a block in common with one of these guests'.
+#[tactic(auto, using(crate::proofs::Twos::any_extents_drop))]
+fn has_block_with(extent: Extent, guests: &[GuestSetup]) -> bool
+    ensures { result ≡ list_any (blocks_meet extent) (all_extents guests.now) }
+{
+    for guest in guests {
+        if has_block_of(extent, &guest.extents) {
+            return true;
+        }
+    }
+    false
+}
+
+// Whether two extents have a block in common.
+fn blocks_meet(extent: Extent, other: Extent) -> bool
+    ensures { result ≡ blocks_meet extent other }
+{
+    spans_meet(extent.base, extent.blocks, other.base, other.blocks)
+}
+
+// Whether `a_len` numbers from `a` on and `b_len` from `b` on have one in common.
+fn spans_meet(a: u64, a_len: u64, b: u64, b_len: u64) -> bool
+    ensures { result ≡ spans_meet a a_len b b_len }
+{
+    if a <= b {
+        b - a < a_len && 0 < b_len
+    } else {
+        a - b < b_len && 0 < a_len
+    }
+}
+
+// Whether some two guests' memories have a byte of the host in common.
+#[tactic(auto, using(crate::proofs::Twos::any_two_drop))]
+fn maps_meet(guests: &[GuestSetup]) -> bool
+    ensures { result ≡ any_two maps_meet guests.now }
+{
+    for (number, guest) in guests.iter().enumerate() {
+        if has_byte_of(guest, &guests[number + 1..]) {
+            return true;
+        }
+    }
+    false
+}
+
+// Whether a guest's memory has a byte in common with that of one of these.
+fn has_byte_of(guest: &GuestSetup, others: &[GuestSetup]) -> bool
+    ensures { result ≡ list_any (maps_meet guest.now) others.now }
+{
+    others.iter().any(|other| guest.map.meets(&other.map))
+}
+
+// Whether some guest's memory and the mediator's area have a byte in common.
+fn area_met(setup: &Setup) -> bool
+    ensures { result ≡ list_any (meets_area setup.now) setup.now.geometry.guests }
+{
+    setup.guests.iter().any(|guest| meets_area(setup, guest))
+}
+
+// Whether a guest's memory and the mediator's area have a byte in common. No map has a byte behind 2 to the 64, so an area that
+// reaches beyond may be cut there.
+fn meets_area(setup: &Setup, guest: &GuestSetup) -> bool
+    ensures { result ≡ meets_area setup.now guest.now }
+{
+    // With the length of the host comes what is known of every map.
+    let _host_len = guest.map.host_len();
+    let area = LANE_BYTES.saturating_mul(setup.lanes);
+    guest.map.meets_host(setup.mediator, area)
+}
+
+// Whether all sizes may be.
+fn sizes_fit(setup: &Setup) -> bool
+    ensures { result ≡ sizes_fit setup.now }
+{
+    host_fits(setup)
+        && 1 <= setup.disk_blocks
+        && setup.disk_blocks <= MOST_DISK_BLOCKS
+        && all_fit(setup)
+}
+
+// Whether the host and the mediator's area in it have a size that may be.
+fn host_fits(setup: &Setup) -> bool
+    ensures { result ≡ host_fits setup.now }
+{
+    setup.host_bytes % PAGE_SIZE == 0
+        && PAGE_SIZE <= setup.host_bytes
+        && setup.host_bytes <= MOST_HOST_BYTES
+        && 1 <= setup.lanes
+        && setup.lanes <= MOST_LANES
+        && setup.mediator % PAGE_SIZE == 0
+        && LANE_BYTES * setup.lanes <= setup.host_bytes
+        && setup.mediator <= setup.host_bytes - LANE_BYTES * setup.lanes
+}
+
+// Whether each guest may have what it is to have.
+fn all_fit(setup: &Setup) -> bool
+    ensures { result ≡ list_all (guest_fits setup.now) setup.now.geometry.guests }
+{
+    setup.guests.iter().all(|guest| guest_fits(setup, guest))
+}
+
+// Whether a guest may have what it is to have.
+fn guest_fits(setup: &Setup, guest: &GuestSetup) -> bool
+    ensures { result ≡ guest_fits setup.now guest.now }
+{
+    guest.map.host_len() == setup.host_bytes
+        && guest.map.regions().len() <= MOST_REGIONS
+        && 1 <= guest.extents.len()
+        && guest.extents.len() <= MOST_EXTENTS
+        && extents_fit(setup, &guest.extents)
+        && 1 <= guest.limit
+        && guest.limit <= MOST_LIMIT
+}
+
+// Whether each of a guest's extents may be.
+fn extents_fit(setup: &Setup, extents: &[Extent]) -> bool
+    ensures { result ≡ list_all (extent_fits setup.now) extents.now }
+{
+    extents.iter().all(|extent| extent_fits(setup, *extent))
+}
+
+// Whether an extent has a block, and all of its blocks are on the disk.
+fn extent_fits(setup: &Setup, extent: Extent) -> bool
+    ensures { result ≡ extent_fits setup.now extent }
+{
+    1 <= extent.blocks
+        && extent.blocks <= setup.disk_blocks
+        && extent.base <= setup.disk_blocks - extent.blocks
+}
