@@ -33,8 +33,13 @@ impl Concern {
 
     /// A guest's planner: there is something to be taken up.
     pub(crate) fn planner(guest: u8) -> Self {
+        Concern::planners(bit(guest))
+    }
+
+    /// The planners of a set of guests.
+    pub(crate) fn planners(guests: u64) -> Self {
         Concern {
-            planners: bit(guest),
+            planners: guests,
             ..Concern::nobody()
         }
     }

@@ -19,6 +19,8 @@ pub(crate) struct Locked {
 pub(crate) enum Errand {
     /// Nothing.
     Nothing,
+    /// Bytes of its memory that are others now, maybe those of an entry that waits.
+    Bytes,
     /// Entries to be taken.
     Entries,
     /// A completion queue that has room, or a controller that is enabled or reset: commands that have ended may be posted.
@@ -29,7 +31,7 @@ impl Errand {
     /// What this act may give them to do. The doorbells of submission queues and of completion queues take turns, four bytes each.
     pub(crate) fn of(act: &Act) -> Self {
         match act {
-            Act::Store { addr: _, bytes: _ } => Errand::Nothing,
+            Act::Store { addr: _, bytes: _ } => Errand::Bytes,
             Act::Load { addr: _, len: _ } => Errand::Nothing,
             Act::RegRead { offset: _ } => Errand::Nothing,
             Act::RegWrite {
@@ -52,6 +54,7 @@ impl Locked {
     pub(crate) fn concern(&self, guest: u8, errand: Errand) -> Concern {
         match errand {
             Errand::Nothing => Concern::nobody(),
+            Errand::Bytes => Concern::planners(self.with_other_front(guest)),
             Errand::Entries => Concern::planner(guest),
             Errand::Room => Concern {
                 reapers: self.notes.with_ended(),
@@ -64,6 +67,16 @@ impl Locked {
     /// The guest, as a set, where its admin queue has something to do: its planner takes that up.
     pub(crate) fn with_admin(&self, guest: u8) -> u64 {
         if self.world.due(&Event::Admin(guest)) {
+            bit(guest)
+        } else {
+            0
+        }
+    }
+
+    /// The guest, as a set, where the entry in front of a queue of its may be another now, or have other bytes, and a lane has fewer free tags
+    /// than some command takes: there this entry may be taken, though the one before was not.
+    pub(crate) fn with_other_front(&self, guest: u8) -> u64 {
+        if self.notes.are_short() {
             bit(guest)
         } else {
             0

@@ -119,6 +119,19 @@ impl Notes {
         }
     }
 
+    /// Whether a lane has tags free, and yet fewer than some command takes. Whether a command is taken there hangs on the entry in front of its queue.
+    pub(crate) fn are_short(&self) -> bool {
+        if self.most <= 1 {
+            return false;
+        }
+        for notes in &self.lanes {
+            if notes.is_short(self.most) {
+                return true;
+            }
+        }
+        false
+    }
+
     /// The lanes with parts of commands that have ended, as far as is noted, and are not posted.
     pub(crate) fn with_ended(&self) -> u64 {
         let mut lanes = 0;
@@ -262,6 +275,11 @@ impl LaneNotes {
 
     // Whether fewer tags are free than so many.
     fn has_fewer(&self, most: u8) -> bool {
-        self.used == u64::MAX || most > 1 && self.used.count_zeros() < u32::from(most)
+        self.used == u64::MAX || self.is_short(most)
+    }
+
+    // Whether tags are free, and fewer than so many.
+    fn is_short(&self, most: u8) -> bool {
+        self.used != u64::MAX && self.used.count_zeros() < u32::from(most)
     }
 }

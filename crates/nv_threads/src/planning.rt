@@ -232,15 +232,19 @@ impl GuestPlanner {
         Turn::Nothing
     }
 
-    // Takes up an admin command, whose completion is the guest's to see.
+    // Takes up an admin command, whose completion is the guest's to see. What it wrote may lie in an entry that waits.
     fn answer(&mut self, locked: &mut Locked, alloc: Global, admin: Event) -> Turn {
         match self.share.step(&mut locked.world, alloc, admin) {
             Reply::NoMemory => Turn::Nothing,
-            _ => Turn::Done(Concern::guest(self.guest)),
+            _ => Turn::Done(Concern {
+                planners: locked.with_other_front(self.guest),
+                ..Concern::guest(self.guest)
+            }),
         }
     }
 
-    // Takes a command. The tag that it goes by is to be looked for: first where it should be, where there is no other.
+    // Takes a command. The tag that it goes by is to be looked for: first where it should be, where there is no other. The entry behind it is
+    // in front now, and may want fewer tags than it did: it may be one for the guest's planner on another lane.
     fn take(&mut self, locked: &mut Locked, alloc: Global, take: Event) -> Turn {
         match self.share.step(&mut locked.world, alloc, take) {
             Reply::Done => {
@@ -249,7 +253,7 @@ impl GuestPlanner {
                     self.tag = noted.unwrap_or(self.tag);
                 }
                 self.task = Task::Search(0);
-                Turn::Done(Concern::nobody())
+                Turn::Done(Concern::planners(locked.with_other_front(self.guest)))
             }
             _ => Turn::Nothing,
         }

@@ -76,7 +76,8 @@ impl LaneReaper {
         Some(Concern::nobody())
     }
 
-    // Posts the command that goes by a tag. Behind it, a deletion may be finished that waited for it.
+    // Posts the command that goes by a tag. Behind it, a deletion may be finished that waited for it; and what it wrote may lie in an entry
+    // that waits.
     fn post(&mut self, locked: &mut Locked, alloc: Global, tag: u8) -> Option<Concern> {
         let post = Event::Post(self.lane, tag);
         if !is_done(self.share.step(&mut locked.world, alloc, post)) {
@@ -84,7 +85,7 @@ impl LaneReaper {
         }
         let mut concern = locked.notes.post(self.lane, tag);
         if let Some(guest) = locked.notes.owner(self.lane, tag) {
-            concern.planners |= locked.with_admin(guest);
+            concern.planners |= locked.with_admin(guest) | locked.with_other_front(guest);
         }
         Some(concern)
     }

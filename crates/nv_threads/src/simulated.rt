@@ -2,8 +2,9 @@
 //!
 //! Both have a world of their own, in which the same guests act. Where a worker gets a turn, that of the start gets one, too, and both must
 //! make the same event with the same answer, or none. One that waits for a bell which was not rung makes none: then that of the start must have found none
-//! where it looked at all. A guest to which something was posted has news. From time to time both worlds are shared anew, so that workers come to commands
-//! that are under way. Guests have one extent each, or several, so that their commands take several tags and tags run out.
+//! where it looked at all. A guest to which something was posted has news. Its planners are rung for where another entry may be in front of its queue and
+//! a lane is short of tags. From time to time both worlds are shared anew, so that workers come to commands that are under way. Guests have one extent
+//! each, or several, so that their commands take several tags and tags run out.
 
 use crate::alike::{same_act, same_reply};
 use crate::bits::bit;
@@ -14,7 +15,7 @@ use crate::notes::Notes;
 use crate::planning::GuestPlanner;
 use crate::reaping::LaneReaper;
 use crate::simulated_guest::{Chance, Guest};
-use crate::simulated_worlds::{Extents, FEW, GUESTS, LANES, MANY, ONE, opened};
+use crate::simulated_worlds::{Extents, FEW, GUESTS, LANES, MANY, ONE, most_of, opened};
 use crate::start;
 use crate::tasks::{Task, Turn};
 use crate::telling::tell;
@@ -32,12 +33,10 @@ const TAGS: u8 = 64;
 /// How many simulations there are, one a seed, where guests have one extent, and of each kind where they have several.
 const SIMULATIONS: u64 = 12;
 
-const SIMULATIONS_APART: u64 = 1;
+const SIMULATIONS_APART: u64 = 4;
 
 /// How many turns a simulation has, how many of them belong to a phase, and how many phases there are before the worlds are shared anew.
 const TURNS: u32 = 60_000;
-
-const TURNS_APART: u32 = 30_000;
 
 const PHASE: u32 = 2_000;
 
@@ -220,6 +219,8 @@ struct Simulation {
     alloc: Global,
     start: Start,
     locked: Locked,
+    // how many extents the guest has that has most
+    most: u32,
     guests: Vec<Guest>,
     planners: Vec<Seat<GuestPlanner>>,
     devices: Vec<Seat<LaneDevice>>,
@@ -234,6 +235,10 @@ struct Simulation {
     // how many plans had several parts, and how many of these had one that is no physical command
     parted: u64,
     idle: u64,
+    // how many commands were taken where a lane was short of tags, so that its guest's other planners were rung for
+    passed: u64,
+    // how often a guest disabled its controller
+    resets: u64,
 }
 
 impl Simulation {
@@ -249,6 +254,7 @@ impl Simulation {
             alloc,
             start: Start::new(alloc, extents)?,
             locked: Locked { world, notes },
+            most: most_of(extents),
             guests,
             planners: Vec::new(alloc),
             devices: Vec::new(alloc),
@@ -259,6 +265,8 @@ impl Simulation {
             woken: 0,
             parted: 0,
             idle: 0,
+            passed: 0,
+            resets: 0,
         })
     }
 
@@ -341,27 +349,42 @@ impl Simulation {
         moved(&self.locked.world.log().get(before)?.event)
     }
 
-    // A guest's act, in both worlds.
-    fn act(&mut self, guest: u8, act: Act) -> Result<(), Fail> {
+    // A guest's act, in both worlds; whether it was told to whom it should.
+    fn act(&mut self, guest: u8, act: Act) -> Result<bool, Fail> {
         let errand = Errand::of(&act);
+        let is_store = is_store(&act);
+        self.resets = self.resets.saturating_add(u64::from(is_reset(&act)));
         let again = act.try_clone(self.alloc)?;
         tell(&mut self.start.world, self.alloc, guest, again)?;
         tell(&mut self.locked.world, self.alloc, guest, act)?;
         let concern = self.locked.concern(guest, errand);
         self.ring(concern);
-        Ok(())
+        Ok(!is_store || self.has_rung(guest, concern))
     }
 
-    // What a guest does next, by chance.
-    fn guest_turn(&mut self, guest: u8, chance: &mut Chance, heeds: bool) -> Result<(), Fail> {
+    // Whether a guest's planners were rung for behind an event that may have brought another entry in front, where a lane has tags free, but
+    // fewer than some command takes.
+    fn has_rung(&self, guest: u8, told: Concern) -> bool {
+        for lane in 0..LANES {
+            let free = self.locked.notes.used(lane).count_zeros();
+            if 0 < free && free < self.most {
+                return told.planners & bit(guest) != 0;
+            }
+        }
+        true
+    }
+
+    // What a guest does next, by chance; whether it was told to whom it should.
+    fn guest_turn(&mut self, guest: u8, chance: &mut Chance, heeds: bool) -> Result<bool, Fail> {
         let Some(seat) = self.guests.get_mut(usize::from(guest)) else {
-            return Ok(());
+            return Ok(false);
         };
         let acts = seat.acts(self.alloc, chance, heeds)?;
+        let mut is_right = true;
         for act in acts {
-            self.act(guest, act)?;
+            is_right &= self.act(guest, act)?;
         }
-        Ok(())
+        Ok(is_right)
     }
 
     // A turn of a lane's reaper; whether it told whom it should.
@@ -384,7 +407,10 @@ impl Simulation {
         let told = concern.unwrap_or(Concern::nobody());
         self.ring(told);
         match self.made(before) {
-            Some(Move::Post(lane, tag)) => told.guests == bit(self.owner(lane, tag)),
+            Some(Move::Post(lane, tag)) => {
+                let owner = self.owner(lane, tag);
+                told.guests == bit(owner) && self.has_rung(owner, told)
+            }
             _ => told.guests == 0,
         }
     }
@@ -470,10 +496,13 @@ impl Simulation {
     // Whether the event behind so many was told to its guest, where it has an admin command's answer. Whose commands were taken is noted.
     fn has_told(&mut self, before: usize, told: Concern) -> Result<bool, Fail> {
         match self.made(before) {
-            Some(Move::Admin(guest)) => Ok(told.guests == bit(guest)),
-            Some(Move::Take(_, _, lane)) => {
+            Some(Move::Admin(guest)) => {
+                Ok(told.guests == bit(guest) && self.has_rung(guest, told))
+            }
+            Some(Move::Take(guest, _, lane)) => {
+                self.passed = self.passed.saturating_add(u64::from(told.planners != 0));
                 self.note_owners(lane)?;
-                Ok(told.guests == 0)
+                Ok(told.guests == 0 && self.has_rung(guest, told))
             }
             _ => Ok(told.guests == 0),
         }
@@ -534,10 +563,7 @@ impl Simulation {
         let guest = chance.below(u64::from(GUESTS)) as u8;
         let lane = chance.below(u64::from(LANES)) as u8;
         let is_right = match chance.below(8) {
-            0 | 1 => {
-                self.guest_turn(guest, chance, phase != 3)?;
-                true
-            }
+            0 | 1 => self.guest_turn(guest, chance, phase != 3)?,
             2 | 3 | 4 => {
                 let is_starved = chance.below(16) == 0;
                 self.planner_turn(planner_at(guest, lane), is_late, is_starved)?
@@ -559,6 +585,22 @@ impl Simulation {
             _ => self.reaper_turn(lane, true),
         };
         Ok(is_right && self.went_alike(before))
+    }
+}
+
+// Whether an act disables the guest's controller.
+fn is_reset(act: &Act) -> bool {
+    match act {
+        Act::RegWrite { offset, value } => *offset == 0x14 && value % 2 == 0,
+        _ => false,
+    }
+}
+
+// Whether an act stores bytes in the guest's memory.
+fn is_store(act: &Act) -> bool {
+    match act {
+        Act::Store { addr: _, bytes: _ } => true,
+        _ => false,
     }
 }
 
@@ -652,17 +694,53 @@ fn workers_choose_as_at_the_start(rt: HostRuntime) -> Result<(), Fail> {
     Ok(())
 }
 
-// Ends the test where a worker did something else than it should, or where no command took several tags, no tags were short, or no part of
-// a command ended where it was handed on.
-fn simulate_apart(rt: &impl Abort, alloc: Global, extents: &Extents) -> Result<(), Fail> {
-    for seed in 1..=SIMULATIONS_APART {
-        let simulation = simulated(rt, alloc, extents, seed, TURNS_APART)?;
-        let (short, parted, idle) = (simulation.short, simulation.parted, simulation.idle);
-        assert!(rt;
-            short > 0 && parted > 20 && idle > 0,
-            "{short} {parted} {idle}"
-        );
+/// What simulations of several extents met with: the sums of what each counted.
+#[derive(Debug, Drop)]
+struct Met {
+    full: u64,
+    short: u64,
+    parted: u64,
+    idle: u64,
+    passed: u64,
+    resets: u64,
+}
+
+impl Met {
+    fn new() -> Self {
+        Met {
+            full: 0,
+            short: 0,
+            parted: 0,
+            idle: 0,
+            passed: 0,
+            resets: 0,
+        }
     }
+
+    fn add(&mut self, simulation: &Simulation) {
+        self.full = self.full.saturating_add(simulation.full);
+        self.short = self.short.saturating_add(simulation.short);
+        self.parted = self.parted.saturating_add(simulation.parted);
+        self.idle = self.idle.saturating_add(simulation.idle);
+        self.passed = self.passed.saturating_add(simulation.passed);
+        self.resets = self.resets.saturating_add(simulation.resets);
+    }
+
+    // Whether lanes were full and short of tags, commands took several tags, parts of some ended where they were handed on, commands were taken
+    // where a lane was short of tags, and controllers were reset.
+    fn has_all(&self) -> bool {
+        let have_tags_run_out = self.full > 0 && self.short > 0 && self.passed > 0;
+        have_tags_run_out && self.parted > 100 && self.idle > 0 && self.resets > 0
+    }
+}
+
+// Ends the test where a worker did something else than it should, or where the simulations did not meet with all that they are for.
+fn simulate_apart(rt: &impl Abort, alloc: Global, extents: &Extents) -> Result<(), Fail> {
+    let mut met = Met::new();
+    for seed in 1..=SIMULATIONS_APART {
+        met.add(&simulated(rt, alloc, extents, seed, TURNS)?);
+    }
+    assert!(rt; met.has_all(), "{met:?}");
     Ok(())
 }
 

@@ -110,15 +110,16 @@ fn command(chance: &mut Chance, identifier: u32) -> [u8; 64] {
 }
 
 // A transfer by chance whose blocks may lie in several extents: a Read or a Write by a Data Block of bytes that the physical controller can't
-// reach at once, a Read by a segment of 64 descriptors, or a Compare.
+// reach at once, a Read by a segment of 64 descriptors, or a Compare; and now and then a Read of such bytes of queue 1.
 fn transfer(chance: &mut Chance, identifier: u32) -> [u8; 64] {
     let block = chance.below(60) as u32;
     let last = chance.below(8) as u32;
     let bytes = 512 * (last + 1);
-    match chance.below(4) {
-        0 => entry_of(0x4002, identifier, 0x3101, (bytes, 0), [block, 0, last]),
-        1 => entry_of(0x4001, identifier, 0x3101, (bytes, 0), [block, 0, last]),
-        2 => entry_of(
+    match chance.below(16) {
+        0..=3 => entry_of(0x4002, identifier, 0x3101, (bytes, 0), [block, 0, last]),
+        4..=7 => entry_of(0x4001, identifier, 0x3101, (bytes, 0), [block, 0, last]),
+        8 => entry_of(0x4002, identifier, 0x1_3001, (bytes, 0), [block, 0, last]),
+        9..=11 => entry_of(
             0x4002,
             identifier,
             0x8000,
@@ -145,7 +146,7 @@ pub(crate) struct Guest {
     admin: u32,
     tail: u32,
     identifier: u32,
-    // whether it also has commands that are made for several extents
+    // whether it also has commands that are made for several extents, and writes over entries that wait
     is_spread: bool,
     // where it wrote ranges last
     place: u64,
@@ -185,6 +186,8 @@ impl Guest {
             21..=47 => acts.push(rings(ADMIN_HEAD, chance.below(32) as u32))?,
             48..=191 if heeds => acts.push(rings(HEAD, chance.below(u64::from(SLOTS)) as u32))?,
             48..=195 => acts.push(Act::RegRead { offset: 0x1c })?,
+            196..=203 if self.is_spread => self.write_over(alloc, chance, &mut acts)?,
+            204 | 205 if self.is_spread => self.read_over(alloc, &mut acts)?,
             _ => self.submit(alloc, chance, &mut acts)?,
         }
         Ok(acts)
@@ -260,6 +263,27 @@ impl Guest {
 }
 
 impl Guest {
+    // Writes a command over any entry of queue 1, and rings for nothing.
+    fn write_over(
+        &mut self,
+        alloc: Global,
+        chance: &mut Chance,
+        acts: &mut Vec<Act>,
+    ) -> Result<(), NoMemory> {
+        let entry = self.command(alloc, chance, acts)?;
+        let addr = QUEUE + 64 * chance.below(u64::from(SLOTS));
+        let bytes = BoxedBytes::from_slice(alloc, &entry)?;
+        Ok(acts.push(Act::Store { addr, bytes })?)
+    }
+
+    // Has what an Identify reads written over queue 1.
+    fn read_over(&mut self, alloc: Global, acts: &mut Vec<Act>) -> Result<(), NoMemory> {
+        let identifier = self.identify();
+        let entry = entry_of(0x06, identifier, 0x1_3000, (0, 0), [1, 0, 0]);
+        self.administer(alloc, acts, &entry)?;
+        Ok(acts.push(rings(ADMIN_TAIL, self.admin))?)
+    }
+
     // Its next I/O command.
     fn command(
         &mut self,

@@ -35,6 +35,19 @@ pub(crate) const MANY: Extents = [
     [30, 34, 0, 0, 0, 0, 0, 0],
 ];
 
+/// How many extents the guest has that has most.
+pub(crate) fn most_of(extents: &Extents) -> u32 {
+    let mut most: u32 = 0;
+    for blocks in extents {
+        let mut count: u32 = 0;
+        for blocks in blocks {
+            count = count.saturating_add(u32::from(*blocks != 0));
+        }
+        most = most.max(count);
+    }
+    most
+}
+
 /// A world of guests with these extents at its start.
 pub(crate) fn opened(alloc: Global, extents: &Extents) -> Result<World, Fail> {
     let mut guests = Vec::new(alloc);
