@@ -1,84 +1,134 @@
-//! A world with one guest, which has 128 KiB of memory from host address 100000h on and 64 blocks from block 1,000 of
-//! the disk on.
+//! Worlds under test, and what guests, the mediator and the physical controller do in them.
+//!
+//! Each guest has 128 KiB of memory, queue pair 1, and a namespace of extents that the test names.
 
+use crate::random::Random;
 use nv_entry::{Cqe, Sqe};
-use nv_mem::{BoxedBytes, GuestMap, NoMemory, Region};
+use nv_mem::{BoxedBytes, GuestMap, Region};
 use nv_model::{Act, Reply};
 use nv_plan::{Planned, make_plan};
 use nv_world::{Extent, GuestSetup, Setup, World};
 use nv_world_model::Event;
 use std::alloc::Global;
 
-/// How many bytes the guest's memory has.
+/// How many bytes a guest's memory has.
 pub const MEMORY: u64 = 0x2_0000;
 
-/// The host address of the guest's first byte.
+/// The host address of the first guest's first byte.
 pub const IMAGE: u64 = 0x10_0000;
 
-/// The disk's block that is the guest's first.
-pub const BASE: u64 = 1000;
-
-/// How many blocks the guest has.
+/// How many blocks a guest has.
 pub const BLOCKS: u64 = 64;
+
+/// How many blocks the disk has.
+pub const DISK: u64 = 4096;
+
+/// How many bytes the host has: enough for eight lanes.
+const HOST: u64 = 0x480_0000;
 
 /// The most descriptors of a list.
 const LIMIT: u32 = 1024;
 
-/// The slots of each I/O queue.
-const SLOTS: u16 = 16;
+/// How many tags a lane has.
+pub const TAGS: u8 = 64;
 
-/// Where the I/O queues lie in the guest's memory, and their doorbells.
-const COMPLETIONS: u64 = 0x1_2000;
+/// More units than any command of these tests has.
+const UNITS: u64 = 32;
+
+/// How often a list is read at most.
+const READS: u64 = 64;
+
+/// The slots of each I/O queue, where a test does not want more.
+pub const SLOTS: u16 = 16;
+
+/// Where the I/O queues lie in a guest's memory, and their doorbells.
+pub const COMPLETIONS: u64 = 0x1_2000;
 
 pub const SUBMISSIONS: u64 = 0x1_3000;
 
-pub const TAIL: u32 = 0x1008;
+const TAIL: u32 = 0x1008;
 
-pub const HEAD: u32 = 0x100c;
+const HEAD: u32 = 0x100c;
 
-/// The world at its start; none where memory was refused.
-pub fn opened(alloc: Global) -> Option<World> {
+/// Blocks of the disk in a row: so many from that one on.
+#[derive(Clone, Copy)]
+pub struct Span {
+    pub base: u64,
+    pub blocks: u64,
+}
+
+/// A namespace of one extent.
+pub const WHOLE: &[Span] = &[Span {
+    base: 1000,
+    blocks: BLOCKS,
+}];
+
+/// The disk's block that a guest's block is; none where the guest has no such block.
+pub fn block_of(spans: &[Span], block: u64) -> Option<u64> {
+    let mut left = block;
+    for span in spans {
+        if left < span.blocks {
+            return Some(span.base.wrapping_add(left));
+        }
+        left -= span.blocks;
+    }
+    None
+}
+
+/// The host address of a guest's first byte.
+pub fn image_of(guest: u8) -> u64 {
+    IMAGE + MEMORY * u64::from(guest)
+}
+
+// A guest's extents.
+fn extents(alloc: Global, spans: &[Span]) -> Option<Vec<Extent>> {
+    let mut extents = Vec::new(alloc);
+    for span in spans {
+        let extent = Extent {
+            base: span.base,
+            blocks: span.blocks,
+        };
+        extents.push(extent).ok()?;
+    }
+    Some(extents)
+}
+
+// A guest with these extents.
+fn guest_of(alloc: Global, number: u8, spans: &[Span]) -> Option<GuestSetup> {
     let region = Region {
         guest: 0,
-        host: IMAGE,
+        host: image_of(number),
         len: MEMORY,
     };
     let regions = vec![in alloc; region].ok()?;
-    let map = GuestMap::new(0x100_0000, regions).ok()?;
-    let extent = Extent {
-        base: BASE,
-        blocks: BLOCKS,
-    };
-    let guest = GuestSetup {
-        map,
-        extents: vec![in alloc; extent].ok()?,
+    Some(GuestSetup {
+        map: GuestMap::new(HOST, regions).ok()?,
+        extents: extents(alloc, spans)?,
         limit: LIMIT,
-    };
+    })
+}
+
+// Guests with these namespaces.
+fn guests(alloc: Global, namespaces: &[&[Span]]) -> Option<Vec<GuestSetup>> {
+    let mut guests = Vec::new(alloc);
+    let mut number = 0u8;
+    for spans in namespaces {
+        guests.push(guest_of(alloc, number, spans)?).ok()?;
+        number = number.wrapping_add(1);
+    }
+    Some(guests)
+}
+
+/// The world at its start, of guests with these namespaces; none where memory was refused.
+pub fn opened(alloc: Global, lanes: u64, namespaces: &[&[Span]]) -> Option<World> {
     let setup = Setup {
-        host_bytes: 0x100_0000,
+        host_bytes: HOST,
         mediator: 0x40_0000,
-        disk_blocks: 4096,
-        lanes: 1,
-        guests: vec![in alloc; guest].ok()?,
+        disk_blocks: DISK,
+        lanes,
+        guests: guests(alloc, namespaces)?,
     };
     World::new(alloc, setup).ok()
-}
-
-/// Whether an event is done.
-pub fn is_done(world: &mut World, alloc: Global, event: Event) -> bool {
-    matches!(world.step(alloc, event), Reply::Done)
-}
-
-// Whether an event that is due is done.
-fn is_due_and_done(world: &mut World, alloc: Global, event: Event) -> bool {
-    world.due(&event) && is_done(world, alloc, event)
-}
-
-/// Whether the guest stores bytes.
-pub fn stores(world: &mut World, alloc: Global, addr: u64, bytes: &[u8]) -> Result<bool, NoMemory> {
-    let bytes = BoxedBytes::from_slice(alloc, bytes)?;
-    let act = Act::Store { addr, bytes };
-    Ok(is_done(world, alloc, Event::Guest(0, act)))
 }
 
 /// The bytes of an entry with these dwords.
@@ -137,134 +187,275 @@ const REGISTERS: [(u32, u32); 4] = [
     (0x14, 0x0046_0001),
 ];
 
-// Whether these registers are written.
-fn writes_registers(world: &mut World, alloc: Global, rows: &[(u32, u32)]) -> bool {
-    for (offset, value) in rows {
-        let act = Act::RegWrite {
-            offset: *offset,
-            value: *value,
-        };
-        if !is_done(world, alloc, Event::Guest(0, act)) {
-            return false;
+/// A world under test. What has to be done and is not is noted, so that a test asks once, at its end.
+#[derive(Drop)]
+pub struct Bench {
+    pub world: World,
+    pub alloc: Global,
+    /// whether something was not done that had to be
+    pub failed: bool,
+    /// the last slot of each I/O queue: a power of 2, less 1
+    last_slot: u16,
+    pub random: Random,
+    /// of so many events that may be done next, one is
+    pub pace: u64,
+    /// whether tags and units have their turn from the last to the first
+    pub backwards: bool,
+}
+
+impl Bench {
+    /// A world at its start, whose guests have these namespaces, and I/O queues of so many slots.
+    pub fn new(alloc: Global, lanes: u64, namespaces: &[&[Span]], slots: u16) -> Option<Self> {
+        Some(Bench {
+            world: opened(alloc, lanes, namespaces)?,
+            alloc,
+            failed: false,
+            last_slot: slots.wrapping_sub(1),
+            random: Random::new(1),
+            pace: 1,
+            backwards: false,
+        })
+    }
+
+    /// What an event is answered.
+    pub fn answers(&mut self, event: Event) -> Reply {
+        self.world.step(self.alloc, event)
+    }
+
+    /// Does an event, if it can be done; whether it was.
+    pub fn does(&mut self, event: Event) -> bool {
+        matches!(self.answers(event), Reply::Done)
+    }
+
+    /// Does an event, which has to be done.
+    pub fn must(&mut self, event: Event) {
+        if !self.does(event) {
+            self.failed = true;
         }
     }
-    true
-}
 
-/// Whether a doorbell is rung.
-pub fn rings(world: &mut World, alloc: Global, offset: u32, value: u16) -> bool {
-    let act = Act::Doorbell {
-        offset,
-        value: u32::from(value),
-    };
-    is_done(world, alloc, Event::Guest(0, act))
-}
+    /// Does an event that is due, where its turn has come.
+    pub fn tries(&mut self, event: Event) {
+        if self.random.below(self.pace) == 0 && self.world.due(&event) {
+            self.must(event);
+        }
+    }
 
-/// Whether the guest's queue pair 1 is made.
-pub fn brings_up(world: &mut World, alloc: Global) -> Result<bool, NoMemory> {
-    let stored = stores(world, alloc, 0x1_0000, &bytes_of(&CREATE_COMPLETION_QUEUE))?
-        && stores(world, alloc, 0x1_0040, &bytes_of(&CREATE_SUBMISSION_QUEUE))?;
-    Ok(
-        stored
-            && writes_registers(world, alloc, &REGISTERS)
-            && rings(world, alloc, 0x1000, 2)
-            && is_due_and_done(world, alloc, Event::Admin(0))
-            && is_due_and_done(world, alloc, Event::Admin(0))
-            && !world.due(&Event::Admin(0)),
-    )
-}
+    /// A guest stores bytes.
+    pub fn store(&mut self, guest: u8, addr: u64, bytes: &[u8]) {
+        match BoxedBytes::from_slice(self.alloc, bytes) {
+            Ok(bytes) => self.must(Event::Guest(guest, Act::Store { addr, bytes })),
+            Err(_) => self.failed = true,
+        }
+    }
 
-// What comes of the job of tag 0 as it stands; none where the tag is not taken.
-fn planned(world: &World, alloc: Global) -> Result<Option<Planned>, NoMemory> {
-    let Some(job) = world.job(alloc, 0, 0)? else {
-        return Ok(None);
-    };
-    let Some(map) = world.map(job.guest) else {
-        return Ok(None);
-    };
-    let Some(ns) = world.range(job.guest) else {
-        return Ok(None);
-    };
-    Ok(Some(make_plan(alloc, alloc, job, map, ns, LIMIT)))
-}
+    /// A guest writes a register.
+    pub fn write_register(&mut self, guest: u8, offset: u32, value: u32) {
+        self.must(Event::Guest(guest, Act::RegWrite { offset, value }));
+    }
 
-// Whether the command of tag 0 is planned, with its lists read as they are wanted, and its plan carried out.
-fn submits(world: &mut World, alloc: Global) -> Result<bool, NoMemory> {
-    for _read in 0..64 {
-        match planned(world, alloc)? {
-            Some(Planned::Need(_job, addr, len)) => {
-                if !matches!(
-                    world.step(alloc, Event::List(0, 0, addr, len)),
-                    Reply::Bytes(_)
-                ) {
-                    return Ok(false);
-                }
+    // A guest rings a doorbell.
+    fn ring(&mut self, guest: u8, offset: u32, value: u16) {
+        let value = u32::from(value);
+        self.must(Event::Guest(guest, Act::Doorbell { offset, value }));
+    }
+
+    // A guest puts the command that makes a queue of its slots into its admin queue.
+    fn create(&mut self, guest: u8, addr: u64, dwords: &[u32; 16]) {
+        let mut dwords = *dwords;
+        dwords[10] = u32::from(self.last_slot) << 16 | 1;
+        self.store(guest, addr, &bytes_of(&dwords));
+    }
+
+    // A guest writes the registers of the bring-up.
+    fn enable(&mut self, guest: u8) {
+        for (offset, value) in REGISTERS {
+            self.write_register(guest, offset, value);
+        }
+    }
+
+    /// A guest makes its queues.
+    pub fn bring_up(&mut self, guest: u8) {
+        self.create(guest, 0x1_0000, &CREATE_COMPLETION_QUEUE);
+        self.create(guest, 0x1_0040, &CREATE_SUBMISSION_QUEUE);
+        self.enable(guest);
+        self.ring(guest, 0x1000, 2);
+        self.must(Event::Admin(guest));
+        self.must(Event::Admin(guest));
+    }
+
+    // The slot of an I/O queue that a command of that number has, or its completion.
+    fn slot(&self, number: u16) -> u16 {
+        number & self.last_slot
+    }
+
+    /// A guest puts a command into its queue, as the one of that number.
+    pub fn enter(&mut self, guest: u8, number: u16, sqe: &Sqe) {
+        let at = SUBMISSIONS + 64 * u64::from(self.slot(number));
+        self.store(guest, at, &sqe.bytes());
+        self.ring(guest, TAIL, self.slot(number.wrapping_add(1)));
+    }
+
+    /// The completion of that number, as it stands in the guest's queue.
+    pub fn completion(&self, guest: u8, number: u16) -> Option<Cqe> {
+        completion_at(&self.world, guest, self.slot(number))
+    }
+
+    /// A guest has looked at the completion of that number.
+    pub fn look(&mut self, guest: u8, number: u16) {
+        self.ring(guest, HEAD, self.slot(number.wrapping_add(1)));
+    }
+
+    /// Whether these bytes stand at an address of a guest's memory.
+    pub fn shows(&self, guest: u8, addr: u64, bytes: &[u8]) -> bool {
+        let at = image_of(guest).wrapping_add(addr);
+        let host = self.world.host();
+        host.holds(at, bytes.len() as u64) && host.equals(at, bytes)
+    }
+
+    /// How many tags of a lane a guest has.
+    pub fn tags_of(&self, guest: u8, lane: u8) -> u8 {
+        let mut count = 0u8;
+        for tag in 0..TAGS {
+            if let Some(holder) = self.world.holder(lane, tag)
+                && holder.guest == guest
+            {
+                count = count.wrapping_add(1);
             }
-            Some(Planned::Plan(plan)) => return Ok(matches!(world.submit_plan(plan), Reply::Done)),
-            Some(Planned::NoMemory(_job)) => return Err(NoMemory),
-            None => return Ok(false),
+        }
+        count
+    }
+
+    /// Whether all tags of a lane are free.
+    pub fn is_free(&self, lane: u8) -> bool {
+        for tag in 0..TAGS {
+            if self.world.holder(lane, tag).is_some() {
+                return false;
+            }
+        }
+        true
+    }
+
+    // What comes of the job of a tag as it stands; none where no command waits there for its plan.
+    fn planned(&self, lane: u8, tag: u8) -> Option<Planned> {
+        let job = self.world.job(self.alloc, lane, tag).ok()??;
+        let map = self.world.map(job.guest)?;
+        let ns = self.world.range(job.guest)?;
+        Some(make_plan(self.alloc, self.alloc, job, map, ns, LIMIT))
+    }
+
+    // Reads what is wanted of a list.
+    fn read_list(&mut self, lane: u8, tag: u8, addr: u64, len: u64) {
+        let reply = self.answers(Event::List(lane, tag, addr, len));
+        if !matches!(reply, Reply::Bytes(_)) {
+            self.failed = true;
         }
     }
-    Ok(false)
-}
 
-// Whether the physical controller carries out what waits: its units from the last to the first, or from the first to
-// the last.
-fn moves(world: &mut World, alloc: Global, backwards: bool) -> bool {
-    if !is_due_and_done(world, alloc, Event::DevTake(0)) {
-        return false;
-    }
-    for number in 0..256 {
-        let unit = if backwards { 255 - number } else { number };
-        let event = Event::DevMove(0, 0, unit);
-        if world.due(&event) && !is_done(world, alloc, event) {
-            return false;
+    /// The command that goes by a tag is handed on, with its lists read as they are wanted, if it waits for that.
+    pub fn submit(&mut self, lane: u8, tag: u8) {
+        for _read in 0..READS {
+            match self.planned(lane, tag) {
+                Some(Planned::Need(_job, addr, len)) => self.read_list(lane, tag, addr, len),
+                Some(Planned::Plan(plan)) => {
+                    if !matches!(self.world.submit_plan(plan), Reply::Done) {
+                        self.failed = true;
+                    }
+                    return;
+                }
+                _ => return,
+            }
         }
     }
-    is_due_and_done(world, alloc, Event::DevPost(0, 0))
-        && is_due_and_done(world, alloc, Event::Reap(0))
+
+    // The number that has its turn at that place of so many.
+    fn turn(&self, place: u64, count: u64) -> u64 {
+        if self.backwards {
+            count.wrapping_sub(place).wrapping_sub(1)
+        } else {
+            place
+        }
+    }
+
+    // The tag that has its turn at that place.
+    fn tag_at(&self, place: u8) -> u8 {
+        (self.turn(u64::from(place), u64::from(TAGS)) % 64) as u8
+    }
+
+    // The commands that wait on a lane for their plans are handed on.
+    fn submit_all(&mut self, lane: u8) {
+        for place in 0..TAGS {
+            let tag = self.tag_at(place);
+            self.submit(lane, tag);
+        }
+    }
+
+    // The physical controller takes what waits on a lane.
+    fn take_all(&mut self, lane: u8) {
+        for _ in 0..TAGS {
+            self.tries(Event::DevTake(lane));
+        }
+    }
+
+    // It moves the units of a slot, and posts the completion.
+    fn move_units(&mut self, lane: u8, slot: u8) {
+        for place in 0..UNITS {
+            let unit = self.turn(place, UNITS);
+            self.tries(Event::DevMove(lane, slot, unit));
+        }
+        self.tries(Event::DevPost(lane, slot));
+    }
+
+    // It moves the units of all slots of a lane that have a command.
+    fn move_all(&mut self, lane: u8) {
+        for place in 0..TAGS {
+            let slot = self.tag_at(place);
+            if self.world.holder(lane, slot).is_some() {
+                self.move_units(lane, slot);
+            }
+        }
+    }
+
+    // The mediator reaps what the physical controller has posted on a lane.
+    fn reap_all(&mut self, lane: u8) {
+        for _ in 0..TAGS {
+            self.tries(Event::Reap(lane));
+        }
+    }
+
+    // The commands of a lane that have ended are completed.
+    fn post_all(&mut self, lane: u8) {
+        for place in 0..TAGS {
+            let tag = self.tag_at(place);
+            self.tries(Event::Post(lane, tag));
+        }
+    }
+
+    /// All commands of a lane go on as far as their turns have come.
+    pub fn go_on(&mut self, lane: u8) {
+        if self.is_free(lane) {
+            return;
+        }
+        self.submit_all(lane);
+        self.take_all(lane);
+        self.move_all(lane);
+        self.reap_all(lane);
+        self.post_all(lane);
+    }
+
+    /// The completion of the first guest's command of that number, which is carried out at once on the first lane.
+    pub fn serve(&mut self, number: u16, sqe: &Sqe) -> Option<Cqe> {
+        self.enter(0, number, sqe);
+        self.must(Event::Take(0, 1, 0));
+        self.go_on(0);
+        self.look(0, number);
+        self.completion(0, number)
+    }
 }
 
-/// The next slot of an I/O queue.
-pub fn behind(slot: u16) -> u16 {
-    if slot >= SLOTS - 1 { 0 } else { slot + 1 }
-}
-
-// Whether the command in a slot of the submission queue is carried out and completed.
-fn carries_out(world: &mut World, alloc: Global, slot: u16) -> Result<bool, NoMemory> {
-    if !rings(world, alloc, TAIL, behind(slot))
-        || !is_due_and_done(world, alloc, Event::Take(0, 1, 0))
-        || !submits(world, alloc)?
-    {
-        return Ok(false);
-    }
-    if world.due(&Event::DevTake(0)) && !moves(world, alloc, slot % 2 == 1) {
-        return Ok(false);
-    }
-    Ok(is_due_and_done(world, alloc, Event::Post(0, 0)))
-}
-
-/// The completion of a command that the guest puts into a slot of its submission queue, where the world carries it
-/// out.
-pub fn completion(
-    world: &mut World,
-    alloc: Global,
-    slot: u16,
-    sqe: &Sqe,
-) -> Result<Option<Cqe>, NoMemory> {
-    let entry = SUBMISSIONS + 64 * u64::from(slot);
-    if !stores(world, alloc, entry, &sqe.bytes())? || !carries_out(world, alloc, slot)? {
-        return Ok(None);
-    }
-    if !rings(world, alloc, HEAD, behind(slot)) {
-        return Ok(None);
-    }
-    Ok(completion_at(world, slot))
-}
-
-/// The completion in a slot of the completion queue.
-pub fn completion_at(world: &World, slot: u16) -> Option<Cqe> {
-    let addr = IMAGE + COMPLETIONS + 16 * u64::from(slot);
+/// The completion in a slot of a guest's completion queue.
+pub fn completion_at(world: &World, guest: u8, slot: u16) -> Option<Cqe> {
+    let addr = image_of(guest).wrapping_add(COMPLETIONS + 16 * u64::from(slot));
     let host = world.host();
     if !host.holds(addr, 16) {
         return None;

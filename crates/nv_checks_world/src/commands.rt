@@ -177,10 +177,10 @@ pub const ROWS: &[Row] = &[
         Success
     ),
     row!(
-        "ranges told",
+        "ranges told, and one of no block",
         MANAGE,
-        [0x8000, 0, 32, 0],
-        [1, 0, 0],
+        [0x8000, 0, 48, 0],
+        [2, 0, 0],
         Success
     ),
     row!(
@@ -329,9 +329,10 @@ pub const TABLES: &[(u64, u64, u64)] = &[
     // pages of a Write and of a Read
     (0x7000, 0xc000, 0xe000),
     (0x7100, 0x1_8000, 0x1_7000),
-    // two ranges, and one behind the last block
+    // two ranges, one of no block, and one behind the last block
     (0x8000, 2 << 32, 24),
     (0x8010, 1 << 32, 30),
+    (0x8020, 0, 40),
     (0x8100, 1 << 32, 64),
 ];
 

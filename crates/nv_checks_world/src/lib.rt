@@ -1,5 +1,9 @@
 //! Tests of the world by itself, by public calls alone: a crate with tests is proved twice, so they stand here and
 //! not beside the code.
+//!
+//! Guests have namespaces of one extent to eight. Their commands end as on a flat controller of their own, one after the other and by the thousand
+//! side by side; where parts fail, the first of them decides; a command runs out behind a reset, and waits where tags are scarce. Set-ups are
+//! tried at each limit, calls again where memory was refused, and phase tags beside positions.
 #![tactic(auto)]
 
 #[cfg(test)]
@@ -9,8 +13,18 @@ mod bench;
 #[cfg(test)]
 mod commands;
 #[cfg(test)]
+mod failing;
+#[cfg(test)]
+mod many;
+#[cfg(test)]
 mod phases;
 #[cfg(test)]
+mod random;
+#[cfg(test)]
 mod refusals;
+#[cfg(test)]
+mod resets;
+#[cfg(test)]
+mod scarce;
 #[cfg(test)]
 mod sizes;

@@ -1,15 +1,12 @@
 //! The mediator reaps by positions, and a driver by phase tags: along commands that go round the physical completion ring more than twice,
 //! the slot that is reaped next has the phase tag that a driver waits for exactly where a completion is due to be reaped.
 
-use crate::bench::{self, HEAD, SUBMISSIONS, TAIL, behind, is_done, rings, stores};
+use crate::bench::{Bench, SLOTS, WHOLE};
 use crate::commands::{ROWS, entry};
 use nv_entry::Cqe;
-use nv_mem::NoMemory;
 use nv_world::World;
 use nv_world_model::Event;
-use std::alloc::Global;
 use std::process::Abort;
-use std::test::Fail;
 
 /// How many commands there are, a Flush each.
 const COMMANDS: u16 = 140;
@@ -50,35 +47,32 @@ fn is_found(world: &World, reaped: u64) -> bool {
     Cqe::of(&bytes).phase() == (reaped / RING % 2 == 0)
 }
 
-// Whether the guest puts a Flush into its submission queue.
-fn puts_flush(world: &mut World, alloc: Global, number: u16) -> Result<bool, NoMemory> {
-    let slot = number % 16;
-    let addr = SUBMISSIONS + 64 * u64::from(slot);
-    let flush = entry(&ROWS[0], number);
-    Ok(stores(world, alloc, addr, &flush.bytes())? && rings(world, alloc, TAIL, behind(slot)))
-}
-
 // Ends the test where position and phase tag say different things along a Flush, behind so many completions.
-fn expect_agreement(rt: &impl Abort, alloc: Global, world: &mut World, completed: u16) {
+fn expect_agreement(rt: &impl Abort, bench: &mut Bench, completed: u16) {
     for number in 0..STEPS {
         let reaped = u64::from(completed) + u64::from(number > REAP);
-        let due = world.due(&Event::Reap(0));
+        let due = bench.world.due(&Event::Reap(0));
         assert!(rt;
-            due == (number == REAP) && is_found(world, reaped) == due,
+            due == (number == REAP) && is_found(&bench.world, reaped) == due,
             "{completed}"
         );
-        assert!(rt; is_done(world, alloc, step_of(number)), "{completed}");
+        bench.must(step_of(number));
     }
+}
+
+// Ends the test where they do along so many commands.
+fn expect_all(rt: &impl Abort, bench: &mut Bench) {
+    for completed in 0..COMMANDS {
+        bench.enter(0, completed, &entry(&ROWS[0], completed));
+        expect_agreement(rt, bench, completed);
+        bench.look(0, completed);
+    }
+    assert!(rt; !bench.failed);
 }
 
 #[test]
-fn phase_tags_tell_what_is_due_to_be_reaped(rt: HostRuntime) -> Result<(), Fail> {
-    let mut world = bench::opened(rt.alloc()).expect(&rt, "a world");
-    assert!(rt; bench::brings_up(&mut world, rt.alloc())?);
-    for completed in 0..COMMANDS {
-        assert!(rt; puts_flush(&mut world, rt.alloc(), completed)?);
-        expect_agreement(&rt, rt.alloc(), &mut world, completed);
-        assert!(rt; rings(&mut world, rt.alloc(), HEAD, behind(completed % 16)));
-    }
-    Ok(())
+fn phase_tags_tell_what_is_due_to_be_reaped(rt: HostRuntime) {
+    let mut bench = Bench::new(rt.alloc(), 1, &[WHOLE], SLOTS).expect(&rt, "a world");
+    bench.bring_up(0);
+    expect_all(&rt, &mut bench);
 }

@@ -1,7 +1,7 @@
 //! A call that had no memory, and the same call again. With `rt try --test --fail-alloc N` the N-th allocation of a
 //! test is refused; the log has to be the same whichever it is, or none.
 
-use crate::bench::{self, bytes_of, completion_at};
+use crate::bench::{self, WHOLE, bytes_of, completion_at};
 use nv_mem::{BoxedBytes, NoMemory};
 use nv_model::{Act, Reply};
 use nv_plan::{Plan, Planned, make_plan};
@@ -165,16 +165,16 @@ fn expect_submitted(rt: &impl Abort, alloc: Global, world: &mut World) {
 
 // Ends the test where a command is not carried out, or where the log is not that of these events.
 fn expect_command(rt: &impl Abort, alloc: Global, runs: bool) {
-    let mut world = bench::opened(alloc);
+    let mut world = bench::opened(alloc, 1, &[WHOLE]);
     if world.is_none() {
-        world = bench::opened(alloc);
+        world = bench::opened(alloc, 1, &[WHOLE]);
     }
     let mut world = world.expect(rt, "a world");
     expect_done(rt, alloc, &mut world, BEFORE, runs);
     expect_submitted(rt, alloc, &mut world);
     expect_done(rt, alloc, &mut world, BEHIND, runs);
     expect_log(rt, world.log());
-    let ended = completion_at(&world, 0).expect(rt, "a completion");
+    let ended = completion_at(&world, 0, 0).expect(rt, "a completion");
     // the identifier 7, head 1 of queue 1, phase 1, success
     assert_eq!(rt;
         ended.bytes(),
@@ -218,7 +218,7 @@ fn expect_stale(rt: &impl Abort, world: &mut World, plan: Plan) {
 #[test]
 fn a_plan_of_fewer_reads_is_stale(rt: HostRuntime) {
     let alloc = rt.alloc();
-    let mut world = bench::opened(alloc).expect(&rt, "a world");
+    let mut world = bench::opened(alloc, 1, &[WHOLE]).expect(&rt, "a world");
     expect_done(&rt, alloc, &mut world, BEFORE, false);
     let earlier = plan_of(&world, alloc).expect(&rt, "a plan");
     let again = [Deed::List(0x6000, 16)];

@@ -1,5 +1,6 @@
 //! Sizes at and beyond each limit of a set-up.
 
+use crate::bench::Span;
 use nv_mem::{GuestMap, Region};
 use nv_world::{Extent, GuestSetup, Refusal, Setup, World};
 use nv_world_model::Logged;
@@ -11,13 +12,6 @@ use std::test::Fail;
 const PAGE: u64 = 4096;
 
 const IMAGES: u64 = 0x10_0000;
-
-/// Blocks of the disk in a row, as a table has them: so many from that one on.
-#[derive(Clone, Copy)]
-struct Span {
-    base: u64,
-    blocks: u64,
-}
 
 /// What the last guest has: its extents, its limit on descriptors, where its memory lies in the host, in how many
 /// regions of a page, and the length of the host that its map was made for.
