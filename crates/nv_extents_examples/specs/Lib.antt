@@ -6,3 +6,4 @@ pub mod WrongWorlds
 pub mod SecondStory
 pub mod SecondRun
 pub mod Edges
+pub mod Containing

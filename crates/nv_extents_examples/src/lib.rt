@@ -3,6 +3,7 @@
 //! here.
 #![tactic(auto)]
 
+pub mod contained;
 pub mod edges;
 pub mod second_story;
 pub mod story;
