@@ -4,6 +4,7 @@
 //!
 //! - `replay`: a script of `nvmed replay`, 8 guests on 4 lanes;
 //! - `host`: a host that steps a world of 16 guests on 8 lanes, with plans made outside of it;
+//! - `host-without-log`: the same host of a mediator that keeps no log, and so the same digest;
 //! - `lists`: a script of `nvmed once` with long lists;
 //! - `guests`: a script of `nvmed run`, 4 guests in threads on 2 lanes;
 //! - `awkward`: a host whose guests' memory is scattered, on the largest disk, and some of whose guests are hostile or slow;
@@ -12,12 +13,16 @@
 //! With the word `script` behind these it prints the script instead, for other programs of the same language; of `host` and `awkward` it is the
 //! script of `nvmed replay` with the same events, but for plans that are stale.
 //!
+//! `nv_workloads forever SEED EVENTS` goes on for so many events, in rounds of a million: 16 guests of a mediator that keeps no log, some of
+//! them hostile, slow or reset. Each round is of the same commands, and prints how many events there were so far and a digest of their answers.
+//!
 //! It is proved to be safe, and to end but for the threads that `guests` waits for. What it prints is not proved.
 #![tactic(auto)]
 
 mod digest;
 mod entry;
 mod guests;
+mod hosted;
 mod lists;
 mod random;
 mod shape;
@@ -27,6 +32,7 @@ mod traffic;
 mod transfer;
 mod workload;
 
+use crate::traffic::forever::{Forever, ROUND};
 use crate::workload::{Failed, Workload};
 use nv_commands::words;
 use std::alloc::Global;
@@ -36,10 +42,11 @@ use std::sync::Wait;
 use std::thread::Threads;
 use std::time::Clock;
 
-/// What the words ask for: which workload, from which seed, how large, and whether its script is printed.
+/// What the words ask for: which workload, or none where it is to go on for ever; from which seed, how large, and whether its script is
+/// printed.
 #[derive(Drop)]
 struct Asked {
-    workload: Workload,
+    workload: Option<Workload>,
     seed: u64,
     count: u64,
     is_script: bool,
@@ -47,8 +54,13 @@ struct Asked {
 
 // What the words ask for.
 fn reading_of(words: &[String]) -> Option<Asked> {
+    let name = words.first()?.as_str();
+    let workload = Workload::of(name);
+    if workload.is_none() && name != "forever" {
+        return None;
+    }
     Some(Asked {
-        workload: Workload::of(words.first()?.as_str())?,
+        workload,
         seed: words.get(1)?.as_str().parse::<u64>().ok()?,
         count: words.get(2)?.as_str().parse::<u64>().ok()?,
         is_script: words.get(3).is_some(),
@@ -61,19 +73,37 @@ fn answer<R: Threads + Wait + Clock + Sync + Print>(
     alloc: Global,
     asked: &Asked,
 ) -> io::Result<()> {
+    let Some(workload) = asked.workload else {
+        return go_on(rt, alloc, asked.seed, asked.count);
+    };
     if asked.is_script {
-        return match asked.workload.script(alloc, asked.seed, asked.count) {
+        return match workload.script(alloc, asked.seed, asked.count) {
             Ok(text) => io::writer(rt).write_all(text.as_slice()),
             Err(_) => rt.println("no memory"),
         };
     }
-    match asked.workload.run(rt, alloc, asked.seed, asked.count) {
+    match workload.run(rt, alloc, asked.seed, asked.count) {
         Ok(digest) => {
             let (value, count) = (digest.value(), digest.count());
             println!(rt; "{value:016x} {count}")
         }
         Err(Failed) => rt.println("failed"),
     }
+}
+
+// Goes on for so many events, in rounds, and prints a line behind each: how many events there were so far, and the digest of their answers.
+fn go_on<R: Print>(rt: &R, alloc: Global, seed: u64, events: u64) -> io::Result<()> {
+    let Ok(mut forever) = Forever::new(alloc, seed) else {
+        return rt.println("failed");
+    };
+    for _round in 0..events.div_ceil(ROUND) {
+        if forever.round().is_err() {
+            return rt.println("failed");
+        }
+        let (events, digest) = forever.so_far();
+        println!(rt; "{events} {digest:016x}")?;
+    }
+    Ok(())
 }
 
 fn main(rt: HostRuntime) -> io::Result<()> {
@@ -83,7 +113,7 @@ fn main(rt: HostRuntime) -> io::Result<()> {
     match reading_of(&words) {
         Some(asked) => answer(&rt, rt.alloc(), &asked),
         None => println!(rt;
-            "usage: nv_workloads replay|host|lists|guests|awkward|extents SEED COUNT [script]"
+            "usage: nv_workloads replay|host|host-without-log|lists|guests|awkward|extents SEED COUNT [script] | forever SEED EVENTS"
         ),
     }
 }

@@ -1,11 +1,11 @@
 //! Where guests' traffic goes: to a world, or into a script.
 
 use crate::digest::Digest;
+use crate::hosted::Hosted;
 use crate::text::Text;
 use nv_mem::NoMemory;
 use nv_model::{Act, Reply};
-use nv_plan::{Planned, make_plan};
-use nv_world::World;
+use nv_plan::Planned;
 use nv_world_model::Event;
 use std::alloc::Global;
 
@@ -21,15 +21,15 @@ pub trait Sink {
 
 /// A world that a host steps, with a digest of all that it answers.
 #[derive(Drop)]
-pub struct Mediated {
+pub struct Mediated<W> {
     alloc: Global,
-    world: World,
+    world: W,
     digest: Digest,
 }
 
-impl Mediated {
+impl<W: Hosted> Mediated<W> {
     /// The world, of which nothing was answered.
-    pub fn new(alloc: Global, world: World) -> Self {
+    pub fn new(alloc: Global, world: W) -> Self {
         Mediated {
             alloc,
             world,
@@ -38,13 +38,23 @@ impl Mediated {
     }
 
     /// The world, and the digest of its answers.
-    pub fn end(self) -> (World, Digest) {
+    pub fn end(self) -> (W, Digest) {
         let Mediated {
             alloc: _,
             world,
             digest,
         } = self;
         (world, digest)
+    }
+
+    /// How many events the world carried out.
+    pub fn events(&self) -> u64 {
+        self.world.events()
+    }
+
+    /// The digest of the answers so far.
+    pub fn digest(&self) -> u64 {
+        self.digest.value()
     }
 
     // Takes a reply into the digest.
@@ -69,15 +79,10 @@ impl Mediated {
             self.digest.number(9);
             return Ok(true);
         };
-        let guest = job.guest;
-        let (Some(map), Some(ns), Some(limit)) = (
-            self.world.map(guest),
-            self.world.range(guest),
-            self.world.limit(guest),
-        ) else {
+        let Some(planned) = self.world.planned(alloc, job) else {
             return Ok(true);
         };
-        match make_plan(alloc, alloc, job, map, ns, limit) {
+        match planned {
             Planned::Need(_, addr, len) => {
                 self.digest.number(addr);
                 self.digest.number(len);
@@ -96,7 +101,7 @@ impl Mediated {
     }
 }
 
-impl Sink for Mediated {
+impl<W: Hosted> Sink for Mediated<W> {
     // A host's workers ask whether an event is due before they make it.
     fn event(&mut self, event: Event) -> Result<(), NoMemory> {
         if is_workers(&event) {

@@ -4,6 +4,7 @@
 //! moved unit by unit in turn, completed, reaped and posted, and the guests look at their completions.
 
 pub mod extents;
+pub mod forever;
 
 use crate::entry::{CREATE_COMPLETION_QUEUE, CREATE_SUBMISSION_QUEUE, admin_entry, entry};
 use crate::random::Random;
@@ -106,15 +107,21 @@ impl<S: Sink + Drop> Traffic<S> {
 
     /// The traffic's events: all guests are brought up, and then make so many commands together, or some more.
     pub fn run(&mut self, commands: u64) -> Result<(), NoMemory> {
-        for guest in 0..self.shape.guests {
-            self.bring_up((guest % 16) as u8)?;
-        }
+        self.bring_all_up()?;
         let mut made = 0u64;
         for round in 0..commands {
             if made >= commands {
                 break;
             }
             made = made.saturating_add(self.round(round)?);
+        }
+        Ok(())
+    }
+
+    // All guests are brought up.
+    fn bring_all_up(&mut self) -> Result<(), NoMemory> {
+        for guest in 0..self.shape.guests {
+            self.bring_up((guest % 16) as u8)?;
         }
         Ok(())
     }

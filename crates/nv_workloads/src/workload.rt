@@ -2,6 +2,7 @@
 
 use crate::digest::Digest;
 use crate::guests;
+use crate::hosted::{Counted, Hosted};
 use crate::lists::Lists;
 use crate::shape::Shape;
 use crate::sink::{Mediated, Script};
@@ -24,6 +25,8 @@ pub enum Workload {
     Replay,
     /// a host that steps a world
     Host,
+    /// the same host, of a mediator without a log
+    HostWithoutLog,
     /// a script of `nvmed once`
     Lists,
     /// a script of `nvmed run`
@@ -106,6 +109,7 @@ impl Workload {
         match word {
             "replay" => Some(Workload::Replay),
             "host" => Some(Workload::Host),
+            "host-without-log" => Some(Workload::HostWithoutLog),
             "lists" => Some(Workload::Lists),
             "guests" => Some(Workload::Guests),
             "awkward" => Some(Workload::Awkward),
@@ -118,7 +122,9 @@ impl Workload {
     pub fn script(self, alloc: Global, seed: u64, count: u64) -> Result<Text, NoMemory> {
         match self {
             Workload::Replay => replay_script(alloc, REPLAYED, seed, count),
-            Workload::Host => replay_script(alloc, HOSTED, seed, count),
+            Workload::Host | Workload::HostWithoutLog => {
+                replay_script(alloc, HOSTED, seed, count)
+            }
             Workload::Awkward => replay_script(alloc, AWKWARD, seed, count),
             Workload::Lists => Lists::script(alloc, seed, count),
             Workload::Guests => guests::script(alloc, seed, count),
@@ -135,8 +141,9 @@ impl Workload {
         count: u64,
     ) -> Result<Digest, Failed> {
         let request = match self {
-            Workload::Host => return hosted(alloc, HOSTED, seed, count),
-            Workload::Awkward => return hosted(alloc, AWKWARD, seed, count),
+            Workload::Host => return hosted::<World>(alloc, HOSTED, seed, count),
+            Workload::HostWithoutLog => return hosted::<Counted>(alloc, HOSTED, seed, count),
+            Workload::Awkward => return hosted::<World>(alloc, AWKWARD, seed, count),
             Workload::Extents => return extended(alloc, seed, count),
             Workload::Replay => Request::Alone(Command::Replay),
             Workload::Lists => Request::Alone(Command::Once),
@@ -167,16 +174,31 @@ fn replay_script(alloc: Global, shape: Shape, seed: u64, count: u64) -> Result<T
 }
 
 // A host that steps the world of a shape.
-fn hosted(alloc: Global, shape: Shape, seed: u64, count: u64) -> Result<Digest, Failed> {
+fn hosted<W: Hosted + Drop>(
+    alloc: Global,
+    shape: Shape,
+    seed: u64,
+    count: u64,
+) -> Result<Digest, Failed> {
+    let mut traffic = traffic_of::<W>(alloc, shape, seed)?;
+    traffic.run(count)?;
+    Ok(digest_of(traffic.end(), shape.disk))
+}
+
+/// The traffic of a shape in a world of it, before the first event.
+pub fn traffic_of<W: Hosted + Drop>(
+    alloc: Global,
+    shape: Shape,
+    seed: u64,
+) -> Result<Traffic<Mediated<W>>, Failed> {
     let Some(setup) = shape.setup(alloc)? else {
         return Err(Failed);
     };
-    let Ok(world) = World::new(alloc, setup) else {
+    let Ok(world) = W::new(alloc, setup) else {
         return Err(Failed);
     };
-    let mut traffic = Traffic::new(alloc, shape, seed, Mediated::new(alloc, world))?;
-    traffic.run(count)?;
-    Ok(digest_of(traffic.end(), shape.disk))
+    let traffic = Traffic::new(alloc, shape, seed, Mediated::new(alloc, world))?;
+    Ok(traffic)
 }
 
 // The set-up of guests with several extents.
@@ -212,10 +234,10 @@ fn extended(alloc: Global, seed: u64, count: u64) -> Result<Digest, Failed> {
     Ok(digest_of(traffic.end(), EXTENDED.disk))
 }
 
-// The digest of all that a world answered, and of 2,048 blocks of its disk of so many.
-fn digest_of(sink: Mediated, disk: u64) -> Digest {
+// The digest of all that a world answered, of how many events it carried out, and of 2,048 blocks of its disk of so many.
+fn digest_of<W: Hosted + Drop>(sink: Mediated<W>, disk: u64) -> Digest {
     let (world, mut digest) = sink.end();
-    digest.number(world.log().len() as u64);
+    digest.number(world.events());
     for number in 0..2048u64 {
         let block = number.wrapping_mul(disk / 2048);
         if let Some(bytes) = world.block(block) {

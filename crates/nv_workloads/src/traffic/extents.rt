@@ -54,9 +54,7 @@ impl Parted {
 impl<S: Sink + Drop> Traffic<S> {
     /// The traffic's events: all guests are brought up, and then make so many commands together, or some more.
     pub fn run_parted(&mut self, commands: u64) -> Result<(), NoMemory> {
-        for guest in 0..self.shape.guests {
-            self.bring_up((guest % 16) as u8)?;
-        }
+        self.bring_all_up()?;
         let mut made = 0u64;
         for round in 0..commands {
             if made >= commands {
