@@ -1,0 +1,4 @@
+pub mod Handles
+pub mod Tables
+pub mod Views
+pub mod Works

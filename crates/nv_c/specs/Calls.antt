@@ -1,0 +1,101 @@
+-- What a call by C is answered, and what it does to the mediator behind a handle.
+use Rattle.std.specs.Prelude.{◌≡◌, ◌⊎◌, ◌<◌, ◌≤◌, ◌==◌, ℕ, if◌then◌else◌, length, List, Option, Some, None}
+use Rattle.std.specs.Int.{from_le_bytes, w32}
+use Rattle.nv_core.specs.Seat.{bytes_told}
+use Rattle.nv_c.specs.declared.event.Event as c
+use Rattle.nv_c.specs.Names.{Names}
+use Rattle.nv_c.specs.Work.{IsLater}
+use Rattle.nv_mediator.specs.Hosted.{Hosted, IsAtStart, IsMade, hosted_world}
+use Rattle.nv_model.specs.declared.reply.Reply.{Reply}
+use Rattle.nv_model.specs.declared.reply.Reply.TheVariants as reply
+use Rattle.nv_world_model.specs.declared.event.Event.{Event}
+use Rattle.nv_world_model.specs.SetUp.{SetUp}
+use Rattle.nv_world_model.specs.Step.{due}
+
+-- ---- the numbers of `enum nvmed_status`, as the header has them
+
+abbrev pub no_memory : ℕ
+no_memory = 8
+
+abbrev pub no_mediator : ℕ
+no_mediator = 16
+
+abbrev pub no_such : ℕ
+no_such = 18
+
+-- what an event is answered
+abbrev pub status_of : Reply → ℕ
+status_of reply.Done = 0
+status_of (reply.Bytes bytes) = 0
+status_of reply.Idle = 1
+status_of reply.Busy = 2
+status_of reply.Held = 3
+status_of reply.Stale = 4
+status_of reply.Unmapped = 5
+status_of reply.Ignored = 6
+status_of reply.NoMemory = no_memory
+
+-- the dword that a reply tells, 0 where it tells none
+abbrev pub dword_told : Reply → ℕ
+dword_told (reply.Bytes bytes) = if length bytes == 4 then from_le_bytes w32 bytes else 0
+dword_told reply.Done = 0
+dword_told reply.Idle = 0
+dword_told reply.Busy = 0
+dword_told reply.Held = 0
+dword_told reply.Stale = 0
+dword_told reply.Unmapped = 0
+dword_told reply.Ignored = 0
+dword_told reply.NoMemory = 0
+
+-- ---- what a call does
+
+-- the event was made, whole, and is answered by its reply
+abbrev pub IsDone : Event → (old : Hosted) → (status : ℕ) → (new : Hosted) → Type 0
+IsDone e old status new = (r : Reply) × (status ≡ status_of r) × IsMade e old r new
+
+-- or there was no memory for it, and nothing has changed
+abbrev pub IsStepped : Event → (old : Hosted) → (status : ℕ) → (new : Hosted) → Type 0
+IsStepped e old status new = IsDone e old status new ⊎ (status ≡ no_memory) × (new ≡ old)
+
+-- the dword that was read stands in its place, or there was no memory for it, and nothing has changed
+abbrev pub IsRead : Event → (before after : ℕ) → (old : Hosted) → (status : ℕ) → (new : Hosted) → Type 0
+IsRead e before after old status new =
+    ((r : Reply) × (status ≡ status_of r) × IsMade e old r new × (after ≡ dword_told r)) ⊎ (status ≡ no_memory) × (new ≡ old) × (after ≡ before)
+
+-- of the event that a struct names, which is no guest's act
+abbrev pub IsNamedStep : c.Event → (old : Hosted) → (status : ℕ) → (new : Hosted) → Type 0
+IsNamedStep named old status new = (e : Event) × Names named e × IsStepped e old status new
+
+-- of any number of events that are due
+abbrev pub IsWorked : (old : Hosted) → (status : ℕ) → (new : Hosted) → Type 0
+IsWorked old status new = IsLater old new
+
+-- the bytes of a load stand in the room; or none were loaded, and the room is as it was. Nothing else changes
+abbrev pub IsLoaded : Event → (before after : List ℕ) → (old : Hosted) → (status : ℕ) → (new : Hosted) → Type 0
+IsLoaded e before after old status new =
+    (r : Reply) × (status ≡ status_of r) × (new ≡ old)
+    × ((r ≡ reply.Done) × IsMade e old (reply.Bytes after) old ⊎ (bytes_told r ≡ None) × (after ≡ before) × IsMade e old r old)
+
+-- it was told whether the event is due, and nothing has changed
+abbrev pub IsTold : Event → (told : ℕ) → (old : Hosted) → (status : ℕ) → (new : Hosted) → Type 0
+IsTold e told old status new =
+    (status ≡ 0) × (new ≡ old) × (told ≡ (if due old.geometry e (hosted_world old) then 1 else 0))
+
+-- of the event that a struct names
+abbrev pub IsNamedTold : c.Event → (told : ℕ) → (old : Hosted) → (status : ℕ) → (new : Hosted) → Type 0
+IsNamedTold named told old status new = (e : Event) × Names named e × IsTold e told old status new
+
+-- what is done to the mediator of a handle; a handle without one is answered so, and stays without
+abbrev pub On : (Does : Hosted → ℕ → Hosted → Type 0) → (before : Option Hosted) → (status : ℕ) → (after : Option Hosted) → Type 0
+On Does before status after =
+    (before ≡ None) × (after ≡ None) × (status ≡ no_mediator)
+    ⊎ ((old : Hosted) × (new : Hosted) × (before ≡ Some old) × (after ≡ Some new) × Does old status new)
+
+-- a call that names a guest; a number above 255 is answered so, and nothing is done
+abbrev pub OfGuest : (number : ℕ) → (Does : Hosted → ℕ → Hosted → Type 0) → (before : Option Hosted) → (status : ℕ) → (after : Option Hosted) → Type 0
+OfGuest number Does before status after = (256 ≤ number) × (status ≡ no_such) × (after ≡ before) ⊎ On Does before status after
+
+-- a handle that held no mediator holds one at the start of the set-up; or it was refused, and the handle is as it was
+abbrev pub IsOpened : SetUp → (before : Option Hosted) → (status : ℕ) → (after : Option Hosted) → Type 0
+IsOpened setup before status after =
+    (status ≡ 0) × (before ≡ None) × ((h : Hosted) × (after ≡ Some h) × IsAtStart setup h) ⊎ (0 < status) × (after ≡ before)

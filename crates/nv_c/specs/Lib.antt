@@ -1,0 +1,6 @@
+pub mod Calls
+pub mod Held
+pub mod Names
+pub mod Tables
+pub mod Views
+pub mod Work

@@ -1,0 +1,26 @@
+-- What a view of a guest's memory shows.
+use Rattle.std.specs.Prelude.{◌≡◌, ◌⊎◌, ◌<◌, ◌≤◌, ℕ, List, Some, None, length, slice_get}
+use Rattle.nv_mediator.specs.Hosted.{Hosted, hosted_world}
+use Rattle.nv_mem.specs.GuestMap.{IsLongestRun, host_of}
+use Rattle.nv_model.specs.Memory.{bytes_from, image}
+use Rattle.nv_world_model.specs.Geometry.{Guest, regions_of}
+
+-- these are the bytes of the guest's memory from an address on: of so many, all that lie in a row in the host from the first on
+pub record IsView (h : Hosted) (guest address most : ℕ) (bytes : List ℕ) : Type 0 where
+  pub given : Guest
+  pub is : slice_get h.geometry.guests guest ≡ Some given
+  pub row : 0 < most → (host : ℕ) × IsLongestRun (regions_of given) address most host (length bytes)
+  pub within : length bytes ≤ most
+  pub own : bytes ≡ bytes_from (image (regions_of given) (hosted_world h).host) address (length bytes)
+
+-- nothing is shown: the guest has no such address, or there is no such guest
+abbrev pub IsNoView : (h : Hosted) → (guest address status : ℕ) → Type 0
+IsNoView h guest address status =
+    (status ≡ 5) × ((given : Guest) × (slice_get h.geometry.guests guest ≡ Some given) × (host_of (regions_of given) address ≡ None))
+    ⊎ (status ≡ 6) × (slice_get h.geometry.guests guest ≡ None)
+
+-- a view is shown, which has that many bytes, or none is; and nothing has changed
+abbrev pub IsShown : (guest address most count : ℕ) → (old : Hosted) → (status : ℕ) → (new : Hosted) → Type 0
+IsShown guest address most count old status new =
+    (new ≡ old)
+    × ((status ≡ 0) × ((bytes : List ℕ) × IsView old guest address most bytes × (count ≡ length bytes)) ⊎ IsNoView old guest address status)

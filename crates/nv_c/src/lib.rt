@@ -1,0 +1,291 @@
+//! The library that a hypervisor links: the mediator without a log behind calls of C.
+//!
+//! `include/nvmed.h` has the calls as C sees them. It tests each pointer for null, and hands over what stands here, by references and slices: a
+//! handle ([`Nvmed`]) and plain structs ([`Sizes`], [`Region`], [`Extent`], [`Event`]). Each call answers one of the numbers of `enum
+//! nvmed_status` for any numbers and any bytes. Nothing here aborts, prints, waits, or keeps anything outside the handle.
+#![tactic(auto)]
+
+ghost use Rattle.std.specs.Prelude.{◌≡◌, ◌⊎◌, IsSome, None, length};
+ghost use Rattle.nv_c.specs.Calls.{IsDone, IsLoaded, IsNamedStep, IsNamedTold, IsOpened, IsRead, IsStepped, IsWorked, OfGuest, On, no_mediator, no_such};
+ghost use Rattle.nv_c.specs.Names.{NamesNone};
+ghost use Rattle.nv_c.specs.Tables.{setup_of};
+ghost use Rattle.nv_c.specs.Views.{IsShown};
+
+mod acting;
+mod event;
+mod handle;
+mod setup;
+mod showing;
+mod status;
+mod working;
+
+pub use event::Event;
+pub use handle::Nvmed;
+use nv_mediator::Mediator;
+use nv_model::Act;
+use nv_world_model::Event as Made;
+pub use setup::{Extent, Region, Sizes};
+use std::alloc::Global;
+use std::ptr;
+use working::Party;
+
+/// Makes the mediator of a set-up, and puts it into a handle that holds none. There are as many guests as limits.
+#[unsafe(no_mangle)]
+pub extern "C" fn nvmed_raw_new(
+    alloc: Global,
+    handle: &mut Nvmed,
+    sizes: &Sizes,
+    limits: &[u32],
+    regions: &[Region],
+    extents: &[Extent],
+) -> u32
+    ensures { IsOpened (setup_of sizes.now limits.now regions.now extents.now) handle.old.hosted result handle.new.hosted }
+{
+    if let Some(hosted) = handle.take(alloc) {
+        handle.put(alloc, hosted);
+        return status::IN_USE;
+    }
+    let setup = match setup::setup_of(alloc, sizes, limits, regions, extents) {
+        Ok(setup) => setup,
+        Err(answer) => return answer,
+    };
+    let mediator = match Mediator::new(alloc, setup) {
+        Ok(mediator) => mediator,
+        Err(refusal) => return status::of_refusal(refusal),
+    };
+    let Ok(hosted) = Box::new(alloc, mediator) else {
+        return status::NO_MEMORY;
+    };
+    handle.put(alloc, hosted);
+    status::OK
+}
+
+/// Gives back what a handle holds, and all memory that it took.
+#[unsafe(no_mangle)]
+pub extern "C" fn nvmed_raw_free(alloc: Global, handle: &mut Nvmed) -> u32
+    ensures answer { (handle.old.hosted ≡ None) × (result ≡ no_mediator) ⊎ IsSome handle.old.hosted × (result ≡ 0) }
+    ensures empty { handle.new.hosted ≡ None }
+{
+    match handle.take(alloc) {
+        Some(hosted) => {
+            drop(hosted);
+            status::OK
+        }
+        None => status::NO_MEDIATOR,
+    }
+}
+
+/// A guest stores bytes.
+#[unsafe(no_mangle)]
+pub extern "C" fn nvmed_raw_store(
+    alloc: Global,
+    handle: &mut Nvmed,
+    guest: u32,
+    address: u64,
+    bytes: &[u8],
+) -> u32
+    ensures { OfGuest guest (IsDone (Made.Guest guest (Act.Store address bytes.now))) handle.old.hosted result handle.new.hosted }
+{
+    match event::byte(guest) {
+        Some(guest) => acting::store(alloc, handle, guest, address, bytes),
+        None => status::NO_SUCH,
+    }
+}
+
+/// A guest loads bytes, as many as there is room for.
+#[unsafe(no_mangle)]
+pub extern "C" fn nvmed_raw_load(
+    alloc: Global,
+    handle: &mut Nvmed,
+    guest: u32,
+    address: u64,
+    room: &mut [u8],
+) -> u32
+    ensures { OfGuest guest (IsLoaded (Made.Guest guest (Act.Load address (length room.old))) room.old room.new) handle.old.hosted result handle.new.hosted }
+{
+    match event::byte(guest) {
+        Some(guest) => acting::load(alloc, handle, guest, address, room),
+        None => status::NO_SUCH,
+    }
+}
+
+/// A guest reads the dword of a register.
+#[unsafe(no_mangle)]
+pub extern "C" fn nvmed_raw_reg_read(
+    alloc: Global,
+    handle: &mut Nvmed,
+    guest: u32,
+    offset: u32,
+    value: &mut u32,
+) -> u32
+    ensures { OfGuest guest (IsRead (Made.Guest guest (Act.RegRead offset)) value.old value.new) handle.old.hosted result handle.new.hosted }
+{
+    match event::byte(guest) {
+        Some(guest) => acting::reg_read(alloc, handle, guest, offset, value),
+        None => status::NO_SUCH,
+    }
+}
+
+/// A guest writes the dword of a register.
+#[unsafe(no_mangle)]
+pub extern "C" fn nvmed_raw_reg_write(
+    alloc: Global,
+    handle: &mut Nvmed,
+    guest: u32,
+    offset: u32,
+    value: u32,
+) -> u32
+    ensures { OfGuest guest (IsStepped (Made.Guest guest (Act.RegWrite offset value))) handle.old.hosted result handle.new.hosted }
+{
+    match event::byte(guest) {
+        Some(guest) => acting::step(
+            alloc,
+            handle,
+            &Made::Guest(guest, Act::RegWrite { offset, value }),
+        ),
+        None => status::NO_SUCH,
+    }
+}
+
+/// A guest writes a doorbell.
+#[unsafe(no_mangle)]
+pub extern "C" fn nvmed_raw_doorbell(
+    alloc: Global,
+    handle: &mut Nvmed,
+    guest: u32,
+    offset: u32,
+    value: u32,
+) -> u32
+    ensures { OfGuest guest (IsStepped (Made.Guest guest (Act.Doorbell offset value))) handle.old.hosted result handle.new.hosted }
+{
+    match event::byte(guest) {
+        Some(guest) => acting::step(
+            alloc,
+            handle,
+            &Made::Guest(guest, Act::Doorbell { offset, value }),
+        ),
+        None => status::NO_SUCH,
+    }
+}
+
+/// Carries out an event that is no guest's act.
+#[unsafe(no_mangle)]
+pub extern "C" fn nvmed_raw_step(alloc: Global, handle: &mut Nvmed, event: &Event) -> u32
+    ensures { NamesNone event.now × (result ≡ no_such) × (handle.new.hosted ≡ handle.old.hosted)
+        ⊎ On (IsNamedStep event.now) handle.old.hosted result handle.new.hosted }
+{
+    match event::made_of(event) {
+        Some(event) => acting::step(alloc, handle, &event),
+        None => status::NO_SUCH,
+    }
+}
+
+/// Whether an event would be done now: 1 where it is due, and else 0.
+#[unsafe(no_mangle)]
+pub extern "C" fn nvmed_raw_due(
+    alloc: Global,
+    handle: &mut Nvmed,
+    event: &Event,
+    due: &mut u32,
+) -> u32
+    ensures { NamesNone event.now × (result ≡ no_such) × (handle.new.hosted ≡ handle.old.hosted)
+        ⊎ On (IsNamedTold event.now due.new) handle.old.hosted result handle.new.hosted }
+{
+    let Some(event) = event::made_of(event) else {
+        return status::NO_SUCH;
+    };
+    acting::due(alloc, handle, &event, due)
+}
+
+/// Carries out what is due of a guest (scope 1), of a lane (2) or of all (3), `most` events at most, and tells how many there were.
+#[unsafe(no_mangle)]
+pub extern "C" fn nvmed_raw_work(
+    alloc: Global,
+    handle: &mut Nvmed,
+    scope: u32,
+    number: u32,
+    most: u64,
+    done: &mut u64,
+) -> u32
+    ensures { (result ≡ no_such) × (handle.new.hosted ≡ handle.old.hosted) ⊎ On IsWorked handle.old.hosted result handle.new.hosted }
+{
+    if scope == 3 {
+        return acting::work_all(alloc, handle, most, done);
+    }
+    let Some(number) = event::byte(number) else {
+        return status::NO_SUCH;
+    };
+    match scope {
+        1 => acting::work(alloc, handle, Party::Guest(number), most, done),
+        2 => acting::work(alloc, handle, Party::Lane(number), most, done),
+        _ => status::NO_SUCH,
+    }
+}
+
+/// Shows bytes of a guest's memory, as many as there is room for and lie in a row in the host: where they lie, or are put into the room, until the
+/// next call that is not const, and how many there are.
+#[unsafe(no_mangle)]
+pub extern "C" fn nvmed_raw_memory(
+    alloc: Global,
+    handle: &mut Nvmed,
+    guest: u32,
+    address: u64,
+    room: &mut [u8],
+    at: &mut *const u8,
+    count: &mut u64,
+) -> u32
+    ensures { OfGuest guest (IsShown guest address (length room.old) count.new) handle.old.hosted result handle.new.hosted }
+{
+    match event::byte(guest) {
+        Some(guest) => showing::memory(alloc, handle, guest, address, room, at, count),
+        None => status::NO_SUCH,
+    }
+}
+
+/// Where the 512 bytes of a block of the disk lie, until the next call that is not const.
+#[unsafe(no_mangle)]
+pub extern "C" fn nvmed_raw_block(
+    alloc: Global,
+    handle: &mut Nvmed,
+    block: u64,
+    at: &mut *const u8,
+) -> u32
+    ensures { handle.new.hosted ≡ handle.old.hosted }
+{
+    let Some(hosted) = handle.take(alloc) else {
+        return status::NO_MEDIATOR;
+    };
+    let answer = match hosted.block(block) {
+        Some(bytes) => {
+            *at = ptr::from_ref(&bytes[0]);
+            status::OK
+        }
+        None => status::NO_SUCH,
+    };
+    handle.put(alloc, hosted);
+    answer
+}
+
+/// Whether a block of the disk is kept when power is lost: 1 where it is, and else 0.
+#[unsafe(no_mangle)]
+pub extern "C" fn nvmed_raw_kept(
+    alloc: Global,
+    handle: &mut Nvmed,
+    block: u64,
+    kept: &mut u32,
+) -> u32
+    ensures { handle.new.hosted ≡ handle.old.hosted }
+{
+    let Some(hosted) = handle.take(alloc) else {
+        return status::NO_MEDIATOR;
+    };
+    let answer = match hosted.kept(block) {
+        Some(is) => {
+            *kept = u32::from(is);
+            status::OK
+        }
+        None => status::NO_SUCH,
+    };
+    handle.put(alloc, hosted);
+    answer
+}

@@ -1,0 +1,66 @@
+//! What a call is answered: the numbers of `enum nvmed_status`.
+
+ghost use Rattle.std.specs.Prelude.{◌≡◌, ◌<◌};
+ghost use Rattle.nv_c.specs.Calls.{status_of};
+
+use nv_mediator::Refusal;
+use nv_mem::MapError;
+use nv_model::Reply;
+
+/// It was done.
+pub(crate) const OK: u32 = 0;
+/// Not all of these addresses are mapped.
+pub(crate) const UNMAPPED: u32 = 5;
+/// It has no effect: there is no such guest, for one.
+pub(crate) const IGNORED: u32 = 6;
+/// There was no memory for it, and nothing has changed.
+pub(crate) const NO_MEMORY: u32 = 8;
+/// There are more than 16 guests.
+pub(crate) const TOO_MANY_GUESTS: u32 = 9;
+/// The handle holds no mediator.
+pub(crate) const NO_MEDIATOR: u32 = 16;
+/// The handle holds a mediator already.
+pub(crate) const IN_USE: u32 = 17;
+/// There is no such guest, lane, tag, queue, slot, block, kind of event or scope.
+pub(crate) const NO_SUCH: u32 = 18;
+
+/// What an event is answered, by its reply.
+pub(crate) fn of_reply(reply: &Reply) -> u32
+    ensures { result ≡ status_of reply.now }
+{
+    match reply {
+        Reply::Done => OK,
+        Reply::Bytes(_) => OK,
+        Reply::Idle => 1,
+        Reply::Busy => 2,
+        Reply::Held => 3,
+        Reply::Stale => 4,
+        Reply::Unmapped => UNMAPPED,
+        Reply::Ignored => IGNORED,
+        Reply::NoMemory => NO_MEMORY,
+    }
+}
+
+/// What a set-up is answered, by the reason for which it was refused.
+pub(crate) fn of_refusal(refusal: Refusal) -> u32
+    ensures { 0 < result }
+{
+    match refusal {
+        Refusal::NoMemory => NO_MEMORY,
+        Refusal::TooManyGuests => TOO_MANY_GUESTS,
+        Refusal::RangesMeet => 10,
+        Refusal::MapsMeet => 11,
+        Refusal::BadSize => 12,
+    }
+}
+
+/// What a set-up is answered, by the reason for which a guest's regions are no map.
+pub(crate) fn of_map_error(error: MapError) -> u32
+    ensures { 0 < result }
+{
+    match error {
+        MapError::Unaligned => 13,
+        MapError::Overlap => 14,
+        MapError::OutsideHost => 15,
+    }
+}

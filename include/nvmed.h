@@ -1,0 +1,254 @@
+/* nvmed.h: a proved NVMe mediator, as a library. docs/EMBEDDING.md says how it is used.
+ *
+ * A mediator is a host's memory, guests whose memory lies in it, a virtual NVMe controller for each guest, a physical controller with a disk, and
+ * what stands between them. The physical controller is the library's own: a disk in memory.
+ *
+ * What stands behind the calls. The library is written in Rattle and proved. Of each call on a handle that holds a mediator:
+ *   SAFE      it is memory safe, ends, and answers one of the numbers below, whatever numbers and bytes it is given;
+ *   EXACT     an event is the step of the definition, whole: the answer, and the world behind it;
+ *   CONTAINED an event reads and changes nothing of a guest but its owner's;
+ *   PRIVATE   what a disciplined guest has seen, its memory and its blocks are those of a run of its own commands on a private controller.
+ * A fifth promise, of threads, is about a mediator behind a lock of Rattle's. Here C orders the calls.
+ *
+ * What C has to keep to, which nothing checks:
+ *   - A pointer is null, or points to as much as is said. What is written does not overlap what else is passed, nor what a view showed.
+ *   - One caller at a time for each handle, const calls too. A handle may go from thread to thread, with a lock or a join between the calls.
+ *   - A handle is zero before its first use (NVMED_INIT), and is not copied while it holds a mediator.
+ *   - malloc, realloc and free come from one allocator. No call is made from a signal handler.
+ *
+ * A null pointer is answered NVMED_NULL, and nothing else is done. A null pointer with a length of 0 is an empty list. The lines of this file that
+ * test pointers are C, and not proved; all else is. Nothing aborts, prints, waits, or is kept outside the handle.
+ */
+#ifndef NVMED_H
+#define NVMED_H
+
+#include <stddef.h>
+#include <stdint.h>
+
+#ifdef __cplusplus
+extern "C" {
+#endif
+
+/* What a call answers. */
+typedef enum nvmed_status {
+    NVMED_OK = 0,              /* it was done */
+    NVMED_IDLE = 1,            /* there is nothing to do */
+    NVMED_BUSY = 2,            /* the lane has too few free tags */
+    NVMED_HELD = 3,            /* the completion queue is full */
+    NVMED_STALE = 4,           /* the tag is not at that point */
+    NVMED_UNMAPPED = 5,        /* not all of these addresses are mapped */
+    NVMED_IGNORED = 6,         /* an access that has no effect, or no such guest, queue, lane, tag or slot */
+    NVMED_NO_MEMORY = 8,       /* there was no memory for it: nothing has changed, or, of nvmed_work, what was done is told */
+    NVMED_TOO_MANY_GUESTS = 9, /* a set-up of more than 16 guests */
+    NVMED_RANGES_MEET = 10,    /* two extents have a block in common */
+    NVMED_MAPS_MEET = 11,      /* two guests' memories meet in the host, or one and the mediator's area */
+    NVMED_BAD_SIZE = 12,       /* a size is beyond its limits, the area or an extent does not fit, or a guest has no extent or more than 8 */
+    NVMED_UNALIGNED = 13,      /* a region's addresses or length are no multiple of 4,096, or its length is 0 */
+    NVMED_OVERLAP = 14,        /* two regions of a guest have an address in common */
+    NVMED_OUTSIDE_HOST = 15,   /* a region leaves the host's memory */
+    NVMED_NO_MEDIATOR = 16,    /* the handle holds no mediator */
+    NVMED_IN_USE = 17,         /* the handle holds one already */
+    NVMED_NO_SUCH = 18,        /* a number above 255 (of a queue 65,535), no such kind of event, scope, status or block */
+    NVMED_NULL = 19            /* a pointer is null that may not be */
+} nvmed_status;
+
+/* A handle. Its member is the library's. */
+typedef struct nvmed {
+    void *hosted;
+} nvmed;
+
+#ifdef __cplusplus
+#define NVMED_INIT nvmed{nullptr}
+#else
+#define NVMED_INIT ((nvmed){0})
+#endif
+
+/* The sizes of a set-up. */
+typedef struct nvmed_sizes {
+    uint64_t host_bytes;  /* the host's memory: 4,096 to 1,073,741,824 bytes, a multiple of 4,096 */
+    uint64_t mediator;    /* the host address of the mediator's area, a multiple of 4,096; it has 8,663,040 bytes for each lane */
+    uint64_t disk_blocks; /* the disk: 1 to 2,097,152 blocks of 512 bytes */
+    uint64_t lanes;       /* queue pairs of the physical controller: 1 to 8 */
+} nvmed_sizes;
+
+/* A region of a guest's memory: whole pages of 4,096 bytes. */
+typedef struct nvmed_region {
+    uint64_t guest;   /* the guest's number */
+    uint64_t address; /* the guest address of its first byte */
+    uint64_t host;    /* the host address of its first byte */
+    uint64_t bytes;   /* its length */
+} nvmed_region;
+
+/* Blocks of the disk in a row. A guest's extents, 1 to 8, are its namespace, in the order in which they are listed. */
+typedef struct nvmed_extent {
+    uint64_t guest;  /* the guest's number */
+    uint64_t base;   /* the disk's block that is its first */
+    uint64_t blocks; /* how many, at least 1 */
+} nvmed_extent;
+
+/* The events that are no guest's act, and what each looks at. */
+typedef enum nvmed_kind {
+    NVMED_ADMIN = 1,    /* guest: one admin command, or its deletion that waits */
+    NVMED_TAKE = 2,     /* guest, queue (1 to 8), lane: the queue's front entry gets tags of the lane */
+    NVMED_LIST = 3,     /* lane, tag, address, bytes: bytes of the guest's memory are read for the tag's command */
+    NVMED_SUBMIT = 4,   /* lane, tag: the command is carried out, as far as the mediator does it */
+    NVMED_GIVE_UP = 5,  /* lane, tag: the command ends with Internal Error */
+    NVMED_DEV_TAKE = 6, /* lane: the physical controller takes the front entry */
+    NVMED_DEV_MOVE = 7, /* lane, slot, number: it moves the unit of that number */
+    NVMED_DEV_POST = 8, /* lane, slot: it completes the command */
+    NVMED_DEV_FAIL = 9, /* lane, slot, status, dnr: it fails the command */
+    NVMED_KEEP = 10,    /* number: that block of the disk becomes kept when power is lost */
+    NVMED_REAP = 11,    /* lane: the next physical completion ends its tag */
+    NVMED_POST = 12     /* lane, tag: the command is completed for its guest */
+} nvmed_kind;
+
+typedef struct nvmed_event {
+    uint32_t kind; /* enum nvmed_kind */
+    uint32_t guest;
+    uint32_t queue;
+    uint32_t lane;
+    uint32_t tag;
+    uint32_t slot;
+    uint32_t status; /* the status code, plus 256 times the status code type (0 to 7) */
+    uint32_t dnr;    /* 0, or else: do not retry */
+    uint64_t address;
+    uint64_t bytes;
+    uint64_t number;
+} nvmed_event;
+
+/* Of whom nvmed_work does what is due. */
+typedef enum nvmed_scope { NVMED_OF_GUEST = 1, NVMED_OF_LANE = 2, NVMED_OF_ALL = 3 } nvmed_scope;
+
+/* What the library exports. No pointer may be null here: use the calls below, which test them. A slice is its pointer and its length. */
+uint32_t nvmed_raw_new(nvmed *, const nvmed_sizes *, const uint32_t *, size_t, const nvmed_region *, size_t, const nvmed_extent *, size_t);
+uint32_t nvmed_raw_free(nvmed *);
+uint32_t nvmed_raw_store(nvmed *, uint32_t, uint64_t, const uint8_t *, size_t);
+uint32_t nvmed_raw_load(nvmed *, uint32_t, uint64_t, uint8_t *, size_t);
+uint32_t nvmed_raw_reg_read(nvmed *, uint32_t, uint32_t, uint32_t *);
+uint32_t nvmed_raw_reg_write(nvmed *, uint32_t, uint32_t, uint32_t);
+uint32_t nvmed_raw_doorbell(nvmed *, uint32_t, uint32_t, uint32_t);
+uint32_t nvmed_raw_step(nvmed *, const nvmed_event *);
+uint32_t nvmed_raw_due(nvmed *, const nvmed_event *, uint32_t *);
+uint32_t nvmed_raw_work(nvmed *, uint32_t, uint32_t, uint64_t, uint64_t *);
+uint32_t nvmed_raw_memory(nvmed *, uint32_t, uint64_t, uint8_t *, size_t, const uint8_t **, uint64_t *);
+uint32_t nvmed_raw_block(nvmed *, uint64_t, const uint8_t **);
+uint32_t nvmed_raw_kept(nvmed *, uint64_t, uint32_t *);
+
+/* An address for a list of no members, which may be null in C. */
+static inline const void *nvmed_some(const void *at, uint64_t length) {
+    static const uint64_t none = 0;
+    return length == 0 ? &none : at;
+}
+
+/* Makes the mediator of a set-up, and puts it into a handle that holds none. There are as many guests as limits: limits[g] is the most descriptors
+ * that a list of guest g may have, 1 to 4,096. Its regions and extents are those of number g, in their order; those of a number that is no guest's
+ * are not looked at. The host's memory and the disk are zero. SAFE, EXACT (the set-up that is opened is the one that these lists spell). It was
+ * accepted: no two guests share a byte or a block, and none has a byte of the mediator's area. CONTAINED and PRIVATE hold from here on.
+ * Errors: NULL, IN_USE, NO_MEMORY, and TOO_MANY_GUESTS to OUTSIDE_HOST; the handle then holds what it held. */
+static inline nvmed_status nvmed_new(nvmed *m, const nvmed_sizes *sizes, const uint32_t *limits, uint64_t guests, const nvmed_region *regions,
+                                     uint64_t region_count, const nvmed_extent *extents, uint64_t extent_count) {
+    if (!m || !sizes || (!limits && guests) || (!regions && region_count) || (!extents && extent_count)) return NVMED_NULL;
+    return (nvmed_status)nvmed_raw_new(m, sizes, (const uint32_t *)nvmed_some(limits, guests), guests,
+                                       (const nvmed_region *)nvmed_some(regions, region_count), region_count,
+                                       (const nvmed_extent *)nvmed_some(extents, extent_count), extent_count);
+}
+
+/* Gives back the mediator and all memory that it took. The handle holds none then, and may be used anew; views end. SAFE.
+ * Errors: NULL, NO_MEDIATOR. */
+static inline nvmed_status nvmed_free(nvmed *m) { return m ? (nvmed_status)nvmed_raw_free(m) : NVMED_NULL; }
+
+/* A guest stores `length` bytes from its address `address` on. It takes no memory. SAFE, EXACT, CONTAINED, PRIVATE.
+ * Errors: NULL, NO_MEDIATOR, NO_SUCH, UNMAPPED (nothing is stored), IGNORED (no such guest). */
+static inline nvmed_status nvmed_store(nvmed *m, uint32_t guest, uint64_t address, const void *bytes, uint64_t length) {
+    if (!m || (!bytes && length)) return NVMED_NULL;
+    return (nvmed_status)nvmed_raw_store(m, guest, address, (const uint8_t *)nvmed_some(bytes, length), length);
+}
+
+/* A guest loads `length` bytes from its address `address` on. Nothing of the mediator changes, and no memory is taken. SAFE, EXACT, CONTAINED,
+ * PRIVATE. Errors: as of nvmed_store; then the bytes are as they were. */
+static inline nvmed_status nvmed_load(nvmed *m, uint32_t guest, uint64_t address, void *bytes, uint64_t length) {
+    uint8_t none = 0;
+    if (!m || (!bytes && length)) return NVMED_NULL;
+    return (nvmed_status)nvmed_raw_load(m, guest, address, length ? (uint8_t *)bytes : &none, length);
+}
+
+/* A guest reads the 32 bits of the register at `offset`, a multiple of 4. SAFE, EXACT, CONTAINED, PRIVATE.
+ * Errors: NULL, NO_MEDIATOR, NO_SUCH, IGNORED (no such register or guest; *value is 0). */
+static inline nvmed_status nvmed_reg_read(nvmed *m, uint32_t guest, uint32_t offset, uint32_t *value) {
+    if (!m || !value) return NVMED_NULL;
+    *value = 0;
+    return (nvmed_status)nvmed_raw_reg_read(m, guest, offset, value);
+}
+
+/* A guest writes the 32 bits of the register at `offset`, a multiple of 4. SAFE, EXACT, CONTAINED, PRIVATE.
+ * Errors: NULL, NO_MEDIATOR, NO_SUCH, IGNORED. */
+static inline nvmed_status nvmed_reg_write(nvmed *m, uint32_t guest, uint32_t offset, uint32_t value) {
+    return m ? (nvmed_status)nvmed_raw_reg_write(m, guest, offset, value) : NVMED_NULL;
+}
+
+/* A guest writes the doorbell at `offset`, 4,096 and up. SAFE, EXACT, CONTAINED, PRIVATE. Errors: NULL, NO_MEDIATOR, NO_SUCH, IGNORED. */
+static inline nvmed_status nvmed_doorbell(nvmed *m, uint32_t guest, uint32_t offset, uint32_t value) {
+    return m ? (nvmed_status)nvmed_raw_doorbell(m, guest, offset, value) : NVMED_NULL;
+}
+
+/* Carries out an event that is no guest's act: that of its kind, with the numbers that the kind looks at. SAFE, EXACT, CONTAINED, PRIVATE.
+ * Errors: NULL, NO_MEDIATOR, NO_SUCH, IDLE to IGNORED as the event has it, and NO_MEMORY of LIST, SUBMIT and DEV_TAKE alone. */
+static inline nvmed_status nvmed_step(nvmed *m, const nvmed_event *event) {
+    return m && event ? (nvmed_status)nvmed_raw_step(m, event) : NVMED_NULL;
+}
+
+/* Whether an event is one of ADMIN, TAKE, DEV_TAKE, DEV_MOVE, DEV_POST, REAP and POST and would be done now: *due is 1 then, and else 0. Nothing
+ * changes. SAFE, EXACT. Errors: NULL, NO_MEDIATOR, NO_SUCH; *due is 0 then. */
+static inline nvmed_status nvmed_due(nvmed *m, const nvmed_event *event, uint32_t *due) {
+    if (!m || !event || !due) return NVMED_NULL;
+    *due = 0;
+    return (nvmed_status)nvmed_raw_due(m, event, due);
+}
+
+/* Carries out what is due of a guest (its admin commands; its commands that wait are taken and planned), of a lane (the physical controller's side,
+ * completions, and those for guests), or of all (`number` counts for nothing then), `most` events at most: *done tells how many there were. Where it
+ * is less than `most`, nothing is left to be done but what a full completion queue holds up (that is tested). SAFE, CONTAINED, PRIVATE: what was done
+ * are events of the mediator and of the physical controller, no act and no failure.
+ * Errors: NULL, NO_MEDIATOR, NO_SUCH, NO_MEMORY (*done events were made). */
+static inline nvmed_status nvmed_work(nvmed *m, uint32_t scope, uint32_t number, uint64_t most, uint64_t *done) {
+    if (!m || !done) return NVMED_NULL;
+    *done = 0;
+    return (nvmed_status)nvmed_raw_work(m, scope, number, most, done);
+}
+
+/* Shows bytes of a guest's memory from its address `address` on, to be read: *at is where the first lies, and *count how many there are. Of `length`
+ * bytes they are all that lie in a row in the host from the first on; the next view begins behind them. Where the host keeps them in one place they
+ * are shown there, and nothing is copied. Where it doesn't (bytes never written, or across one of its parts of 262,144 bytes), they are put into
+ * `room`, which has `length` bytes, and *at is `room`. They are there until the next call on the handle but nvmed_load, nvmed_due, nvmed_memory,
+ * nvmed_block and nvmed_kept, and as long as the room is left alone. Read only: a byte written there would be a store that no event tells.
+ * SAFE, EXACT (of the bytes and their number; that *at is where they lie is tested), CONTAINED, PRIVATE; what is read behind them C has to see to.
+ * Errors: NULL, NO_MEDIATOR, NO_SUCH, UNMAPPED (the first is mapped nowhere), IGNORED (no such guest); *at is null then, and *count is 0. With a
+ * length of 0 nothing is shown. */
+static inline nvmed_status nvmed_memory(nvmed *m, uint32_t guest, uint64_t address, void *room, uint64_t length, const uint8_t **at, uint64_t *count) {
+    uint8_t none = 0;
+    if (!m || (!room && length) || !at || !count) return NVMED_NULL;
+    *at = NULL;
+    *count = 0;
+    return (nvmed_status)nvmed_raw_memory(m, guest, address, length ? (uint8_t *)room : &none, length, at, count);
+}
+
+/* Where the 512 bytes of a block of the disk lie, to be read. They are there until the next call on the handle but nvmed_load, nvmed_due,
+ * nvmed_memory, nvmed_block and nvmed_kept. SAFE; what is read behind it C has to see to. Errors: NULL, NO_MEDIATOR, NO_SUCH; *at is null then. */
+static inline nvmed_status nvmed_block(nvmed *m, uint64_t block, const uint8_t **at) {
+    if (!m || !at) return NVMED_NULL;
+    *at = NULL;
+    return (nvmed_status)nvmed_raw_block(m, block, at);
+}
+
+/* Whether a block of the disk is kept when power is lost: *kept is 1 then, and else 0. SAFE. Errors: NULL, NO_MEDIATOR, NO_SUCH; *kept is 0 then. */
+static inline nvmed_status nvmed_kept(nvmed *m, uint64_t block, uint32_t *kept) {
+    if (!m || !kept) return NVMED_NULL;
+    *kept = 0;
+    return (nvmed_status)nvmed_raw_kept(m, block, kept);
+}
+
+#ifdef __cplusplus
+}
+#endif
+
+#endif
