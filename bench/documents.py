@@ -4,14 +4,16 @@ and ends with status 1 where there is one. With --write the tables of docs/CRATE
 docs/DEFINITIONS.md, are written anew first, and docs/GATE.md gets a row for each new crate.
 
 Looked at are: the README's lines and their width; the width of docs/; the lines of each crate in docs/DESIGN.md; the first line of
-docs/PERF.md; each crate's line of docs/CRATES.md, which is the first sentence of its own page; the edits of docs/EDITS.md; the lines of
-each file in docs/DEFINITIONS.md; a row of docs/GATE.md for each crate; links, and names of files, crates and code that stand in
-backquotes; and long lines of code, definitions and proofs."""
+docs/PERF.md; each crate's line of docs/CRATES.md, which is the first sentence of its own page; the edits of docs/EDITS.md, and whether
+the code has what each turns; the lines of each file in docs/DEFINITIONS.md; a row of docs/GATE.md for each crate; links, and names of
+files, crates and code that stand in backquotes; and long lines of code, definitions and proofs."""
 import fnmatch
 import glob
 import os
 import re
 import sys
+
+import turns
 
 ROOT = os.path.dirname(os.path.dirname(os.path.abspath(__file__)))
 README_LINES = 120
@@ -197,6 +199,15 @@ def check_gate(crates):
             yield f"docs/GATE.md: a row of {row}, which crates.txt has not"
 
 
+def check_edits(crates):
+    """Whether the code has what each edit turns: `rt ci` passes where an edit cannot be made."""
+    for crate in crates:
+        for edit in edits_of(crate):
+            path = f"crates/{crate}/must-fail/{edit}.edit"
+            if not turns.stands(turns.pairs(read(path)), os.path.join(ROOT, "crates", crate)):
+                yield f"{path}: a text that it turns does not stand in its file once"
+
+
 def check_crates(crates):
     there = [os.path.basename(os.path.dirname(path)) for path in glob.glob(os.path.join(ROOT, "crates", "*", "src"))]
     for crate in sorted(set(there) ^ set(crates)):
@@ -273,6 +284,7 @@ def main():
         *check_perf(),
         *check_tables(),
         *check_gate(crates),
+        *check_edits(crates),
         *check_names(crates),
         *check_definitions(),
         *check_code(),
