@@ -3,7 +3,7 @@
 # none is refused, and the first line of standard error, each with how many runs ended so. The system's allocator is asked through a small library in
 # C that is preloaded, so the program is the one that the gate builds.
 #
-#     bench/refusals.sh PROGRAM once|replay|run SCRIPT..
+#     bench/refusals.sh PROGRAM once|replay|run SCRIPT..      as examples/extents.replay, whose commands have several parts
 #     bench/refusals.sh TESTS NAME..            tests of a crate as the gate links them (crates/CRATE/out/CRATE_tests), by their full names
 set -euo pipefail
 export LC_ALL=C

@@ -1,6 +1,6 @@
 #!/usr/bin/env python3
 """try.py LIST [NAME..]: tries wrong definitions or bugs, one by one, in the repository that this file stands in, which it changes
-and puts back; so run it in a clone. LIST is LISTS or WORLD (definitions.py), ONCE or WORKERS (bugs.py).
+and puts back; so run it in a clone. LIST is LISTS, WORLD, MORE_LISTS or MORE_WORLD (definitions.py), ONCE or WORKERS (bugs.py).
 
 A definition is tried against the computed examples, lowest crate first; a bug against the proofs of its crate and, where these let it
 through, the tests that run it. Prints of each who refused it, or THROUGH, and the seconds that it took."""
@@ -15,10 +15,13 @@ import definitions
 
 ROOT = os.path.dirname(os.path.dirname(os.path.dirname(os.path.abspath(__file__))))
 EXAMPLES = [("nv_model", ["--only", "rows"]), ("nv_world_model", ["--only", "rows"]), ("nv_examples", []), ("nv_extents_examples", [])]
+ALL = [(crate, ["check", *only]) for crate, only in EXAMPLES]
 # each list, and the commands that it goes through: a crate with the words for rt
 TRIALS = {
-    "LISTS": (definitions.LISTS, [(crate, ["check", *only]) for crate, only in EXAMPLES]),
-    "WORLD": (definitions.WORLD, [(crate, ["check", *only]) for crate, only in EXAMPLES[1:]]),
+    "LISTS": (definitions.LISTS, ALL),
+    "WORLD": (definitions.WORLD, ALL[1:]),
+    "MORE_LISTS": (definitions.MORE_LISTS, ALL),
+    "MORE_WORLD": (definitions.MORE_WORLD, ALL[1:]),
     "ONCE": (bugs.ONCE, [("nv_commands", ["check"]), ("nv_checks_program", ["try", "--test"]), ("nvmed", ["try", "--test"])]),
     "WORKERS": (bugs.WORKERS, [("nv_threads", ["check"]), ("nv_checks_threads", ["try", "--test"])]),
 }
