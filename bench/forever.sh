@@ -7,8 +7,8 @@
 # by more than a thousandth, or where the last round took more than 1.05 times as long as the second. The program is that which `rt run` built in
 # crates/nv_workloads; nothing else should run beside it.
 #
-# The allocator lays free memory out anew in each round, which takes a page more now and then. So it is told to give none back meanwhile, and a
-# thousandth is left to it: over 10^9 events that is a byte for each five thousand of them.
+# The peak grows by some pages in a run, however long, which is taken for how the allocator lays out free memory; that was not shown. So it is told
+# to give none back meanwhile, and a thousandth is let pass: over 10^9 events that is a byte for each five thousand of them.
 set -euo pipefail
 export LC_ALL=C
 
