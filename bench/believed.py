@@ -1,7 +1,8 @@
 #!/usr/bin/env python3
 """believed.py [--rest] [CRATE/specs/FILE NAME..]: how many lines of definitions somebody has to believe who reads a contract: those of the
 definitions that it names, and of all that these rest on. A line counts that is no comment, no blank and no import. Without words these are the
-definitions that the contracts of `World::new` and `World::run` name. Prints the lines of each file, the most first, and the sum.
+definitions that the contracts of `World::new` and `World::run` name. Prints of each file, the most first, the lines that are rested on and
+those of the whole file, which its reader goes through, and both sums.
 
 With --rest it names what else stands in these files: words of laws and of other contracts. That a name is used is told by its spelling, so a
 variable that is called like a definition makes it count."""
@@ -14,7 +15,7 @@ import sys
 ROOT = os.path.dirname(os.path.dirname(os.path.abspath(__file__)))
 WORLD = [
     ("nv_world/specs/Mediated", ["AreAnswered", "mediated", "IsContained", "KeepsPromise", "opened"]),
-    ("nv_world/specs/Refused", ["refused"]),
+    ("nv_mediator/specs/Refused", ["refused"]),
     ("nv_world_model/specs/SetUp", ["refusal_of"]),
 ]
 WORD = re.compile(r"[A-Za-z_][\w-]*")
@@ -104,10 +105,11 @@ def main():
     lines = collections.Counter()
     for file, name in found:
         lines[file] += len(files[file].lines[name])
+    whole = {file: sum(map(len, files[file].lines.values())) for file in lines}
     for file, count in lines.most_common():
         others = [name for name in files[file].lines if (file, name) not in found]
-        print(f"{count:5} {file}" + (f"; besides: {' '.join(others)}" if rest and others else ""))
-    print(f"{sum(lines.values()):5} lines of {len(found)} definitions in {len(lines)} files")
+        print(f"{count:5} of {whole[file]:3} {file}" + (f"; besides: {' '.join(others)}" if rest and others else ""))
+    print(f"{sum(lines.values()):5} lines of {len(found)} definitions are rested on; {sum(whole.values())} lines have their {len(lines)} files")
 
 
 if __name__ == "__main__":

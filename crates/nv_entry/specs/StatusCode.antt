@@ -11,19 +11,6 @@ use Rattle.nv_entry.specs.declared.status_code.StatusCode.TheVariants.{InvalidLo
 
 -- the status code type: generic (0h), command specific (1h), media and data integrity errors (2h)
 abbrev pub sct_of : StatusCode → ℕ
-sct_of Success = 0
-sct_of InvalidOpcode = 0
-sct_of InvalidField = 0
-sct_of DataTransferError = 0
-sct_of InternalError = 0
-sct_of InvalidNamespace = 0
-sct_of CommandSequenceError = 0
-sct_of InvalidSglSegment = 0
-sct_of InvalidSglCount = 0
-sct_of SglLengthInvalid = 0
-sct_of SglTypeInvalid = 0
-sct_of PrpOffsetInvalid = 0
-sct_of LbaOutOfRange = 0
 sct_of CompletionQueueInvalid = 1
 sct_of InvalidQueueIdentifier = 1
 sct_of InvalidQueueSize = 1
@@ -32,6 +19,7 @@ sct_of InvalidLogPage = 1
 sct_of InvalidQueueDeletion = 1
 sct_of UnrecoveredReadError = 2
 sct_of CompareFailure = 2
+sct_of _ = 0
 
 -- the status code
 abbrev pub sc_of : StatusCode → ℕ

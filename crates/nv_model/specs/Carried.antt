@@ -6,7 +6,7 @@ use Rattle.nv_entry.specs.declared.opcode.IoOpcode.{IoOpcode}
 use Rattle.nv_mem.specs.declared.piece.Piece.{Piece}
 use Rattle.nv_model.specs.Judge.{WorkUnit, MoveBlock, Work}
 use Rattle.nv_model.specs.Limits.{block}
-use Rattle.nv_model.specs.Private.{AtWork, JudgeStep, MoveStep, ActStep, TakeStep, GiveUpStep, PostStep, RunOutStep, AdminQueueStep, KeepStep, Moved, Private}
+use Rattle.nv_model.specs.Private.{AtWork, JudgeStep, MoveStep, Moved, Private}
 use Rattle.nv_model.specs.Private.{Progress, Shape, Step, Taken, Unjudged, block_written, ending, marked, run_of, unit_moved, with_progress}
 
 -- ---- units in order
@@ -77,13 +77,7 @@ judged_then_moved name units = JudgeStep name ∷ map (MoveStep name) (range_wit
 abbrev pub is_own_step : (name : ℕ) → Step → Bool
 is_own_step name (JudgeStep other) = other == name
 is_own_step name (MoveStep other number) = other == name
-is_own_step name (ActStep a) = false
-is_own_step name (TakeStep queue other) = false
-is_own_step name (GiveUpStep other) = false
-is_own_step name (PostStep other) = false
-is_own_step name (RunOutStep other) = false
-is_own_step name AdminQueueStep = false
-is_own_step name (KeepStep lba) = false
+is_own_step name _ = false
 
 -- the status with which a command has ended, where it is there
 abbrev pub ending_of : Option Taken → Option StatusField

@@ -58,9 +58,8 @@ io_named shape memory entry =
 
 -- whether an admin command of this opcode is Identify
 abbrev pub is_identify : Option AdminOpcode → Bool
-is_identify None = false
 is_identify (Some Identify) = true
-is_identify (Some _) = false
+is_identify _ = false
 
 abbrev pub identify_named : Shown → Reading → List Named
 identify_named (Hidden why) reading = []
@@ -131,16 +130,10 @@ is_destination n = use_is_destination n.use_of
 -- whether an act is a store into bytes that an outstanding command names
 unfoldable pub stores_into : List (List Named) → Act → Bool
 stores_into commands (act.Store addr bytes) = list_any (λ spans. list_any (meets addr (length bytes)) spans) commands
-stores_into commands (act.Load addr len) = false
-stores_into commands (act.RegRead offset) = false
-stores_into commands (act.RegWrite offset value) = false
-stores_into commands (act.Doorbell offset value) = false
+stores_into commands _ = false
 
 -- whether an act is a load from the destination of one
 unfoldable pub loads_from_destination : List (List Named) → Act → Bool
-loads_from_destination commands (act.Store addr bytes) = false
 loads_from_destination commands (act.Load addr len) =
     list_any (λ spans. list_any (λ n. is_destination n && meets addr len n) spans) commands
-loads_from_destination commands (act.RegRead offset) = false
-loads_from_destination commands (act.RegWrite offset value) = false
-loads_from_destination commands (act.Doorbell offset value) = false
+loads_from_destination commands _ = false

@@ -74,9 +74,8 @@ form_of DatasetManagement = Manage
 -- whether a command of that form reads or writes a buffer
 abbrev pub form_has_buffer : Form → Bool
 form_has_buffer (Transfer dest) = true
-form_has_buffer Clear = false
 form_has_buffer Manage = true
-form_has_buffer Keep = false
+form_has_buffer _ = false
 
 abbrev pub has_buffer : IoOpcode → Bool
 has_buffer opcode = form_has_buffer (form_of opcode)
@@ -85,8 +84,7 @@ has_buffer opcode = form_has_buffer (form_of opcode)
 abbrev pub form_has_blocks : Form → Bool
 form_has_blocks (Transfer dest) = true
 form_has_blocks Clear = true
-form_has_blocks Manage = false
-form_has_blocks Keep = false
+form_has_blocks _ = false
 
 abbrev pub has_blocks : IoOpcode → Bool
 has_blocks opcode = form_has_blocks (form_of opcode)
@@ -94,9 +92,7 @@ has_blocks opcode = form_has_blocks (form_of opcode)
 -- whether its buffer is a destination
 abbrev pub form_is_read : Form → Bool
 form_is_read (Transfer dest) = dest
-form_is_read Clear = false
-form_is_read Manage = false
-form_is_read Keep = false
+form_is_read _ = false
 
 abbrev pub is_read : IoOpcode → Bool
 is_read opcode = form_is_read (form_of opcode)
@@ -112,9 +108,8 @@ range_count_of entry = nr_of entry + 1
 -- the length of its buffer in bytes
 abbrev pub form_transfer_len : Form → List ℕ → ℕ
 form_transfer_len (Transfer dest) entry = block * count_of entry
-form_transfer_len Clear entry = 0
 form_transfer_len Manage entry = range_size * range_count_of entry
-form_transfer_len Keep entry = 0
+form_transfer_len _ entry = 0
 
 abbrev pub transfer_len : IoOpcode → List ℕ → ℕ
 transfer_len opcode entry = form_transfer_len (form_of opcode) entry
@@ -233,11 +228,9 @@ judge_ranges blocks opcode entry pieces ranges =
 
 -- a command of that form whose buffer lies there
 abbrev pub judge_buffer : Form → (blocks : ℕ) → IoOpcode → List ℕ → List Piece → Dialogue Verdict
-judge_buffer (Transfer dest) blocks opcode entry pieces = End (Go (work_of blocks opcode entry pieces []))
-judge_buffer Clear blocks opcode entry pieces = End (Go (work_of blocks opcode entry pieces []))
 judge_buffer Manage blocks opcode entry pieces =
     and_then (read_source pieces []) (λ bytes. End (judge_ranges blocks opcode entry pieces (ranges_in (range_count_of entry) bytes)))
-judge_buffer Keep blocks opcode entry pieces = End (Go (work_of blocks opcode entry pieces []))
+judge_buffer _ blocks opcode entry pieces = End (Go (work_of blocks opcode entry pieces []))
 
 -- a command whose list was read
 abbrev pub judge_reading : ℕ → List ℕ → IoOpcode → Reading → Dialogue Verdict

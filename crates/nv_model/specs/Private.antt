@@ -9,7 +9,7 @@ use Rattle.nv_entry.specs.Submission.{cid_of}
 use Rattle.nv_entry.specs.Status.{StatusField}
 use Rattle.nv_entry.specs.StatusCode.{done_with}
 use Rattle.nv_entry.specs.declared.opcode.IoOpcode.{IoOpcode}
-use Rattle.nv_entry.specs.declared.opcode.IoOpcode.TheVariants.{Flush, Write, Read, Compare, WriteZeroes, DatasetManagement}
+use Rattle.nv_entry.specs.declared.opcode.IoOpcode.TheVariants.{Write, Read, Compare}
 use Rattle.nv_entry.specs.declared.status_code.StatusCode.TheVariants.{Success, InternalError, CompareFailure}
 use Rattle.nv_mem.specs.GuestMap.{everywhere}
 use Rattle.nv_mem.specs.Places.{Place, places_of}
@@ -23,7 +23,7 @@ use Rattle.nv_model.specs.Judge.{WorkUnit, MoveBlock, ClearBlock, LeaveBlock, Ke
 use Rattle.nv_model.specs.Limits.{block}
 use Rattle.nv_model.specs.Controller.{Controller, Posted, doorbell, front, is_enabled, opening, post, ran_out, reg_read, reg_write, took}
 use Rattle.nv_model.specs.Queue.{sqe_size}
-use Rattle.nv_model.specs.Admin.{AdminStep, NothingToDo, QueueFull, Stepped, admin}
+use Rattle.nv_model.specs.Admin.{AdminStep, Stepped, admin}
 
 -- ---- the state
 
@@ -126,9 +126,7 @@ block_moved Compare work index lba memory disk kept =
       differed = differs (gathered memory (places_of_block work index)) (block_bytes disk lba);
     }
 -- the others are no transfers
-block_moved WriteZeroes work index lba memory disk kept = record { memory = memory; disk = disk; kept = kept; differed = false }
-block_moved DatasetManagement work index lba memory disk kept = record { memory = memory; disk = disk; kept = kept; differed = false }
-block_moved Flush work index lba memory disk kept = record { memory = memory; disk = disk; kept = kept; differed = false }
+block_moved _ work index lba memory disk kept = record { memory = memory; disk = disk; kept = kept; differed = false }
 
 -- a unit of a command
 abbrev pub unit_moved : WorkUnit → Work → (ℕ → ℕ) → (ℕ → ℕ → ℕ) → (ℕ → Bool) → Moved
@@ -172,10 +170,9 @@ with_progress bag name t progress = put bag name (Some (record t { progress = pr
 
 -- the status with which a command has ended, or none where it has not: it was refused or given up, or all its units have moved
 abbrev pub ending : Progress → Option StatusField
-ending Unjudged = None
 ending (Ended st) = Some st
 ending (AtWork work [] differed) = Some (moved_status differed)
-ending (AtWork work (number ∷ left) differed) = None
+ending _ = None
 
 -- ---- the steps
 
@@ -274,14 +271,12 @@ verdict_in shape memory entry = in_memory memory (judge shape.mapped shape.limit
 abbrev pub judged_at : Progress → Shape → (name : ℕ) → Taken → Private → Option After
 judged_at Unjudged shape name t p =
     unseen (record p { bag = with_progress p.bag name t (progress_of (verdict_in shape p.memory t.entry)) })
-judged_at (Ended st) shape name t p = None
-judged_at (AtWork work left differed) shape name t p = None
+judged_at _ shape name t p = None
 
 -- a command that is not judged is given up
 abbrev pub given_up_at : Progress → (name : ℕ) → Taken → Private → Option After
 given_up_at Unjudged name t p = unseen (record p { bag = with_progress p.bag name t (Ended (done_with InternalError)) })
-given_up_at (Ended st) name t p = None
-given_up_at (AtWork work left differed) name t p = None
+given_up_at _ name t p = None
 
 -- a unit moves, and these are left
 abbrev pub unit_done : Option WorkUnit → (left : List ℕ) → Work → Bool → (name : ℕ) → Taken → Private → Option After
@@ -296,10 +291,9 @@ unit_done (Some unit) left work differed name t p =
     }))
 
 abbrev pub moved_at : Progress → (number name : ℕ) → Taken → Private → Option After
-moved_at Unjudged number name t p = None
-moved_at (Ended st) number name t p = None
 moved_at (AtWork work left differed) number name t p =
     unit_done (unit_left work left number) (others number left) work differed name t p
+moved_at _ number name t p = None
 
 -- a completion is posted, and its command is taken no longer
 abbrev pub posted_at : Option Posted → (name : ℕ) → Private → Option After
@@ -331,9 +325,8 @@ with_taken (Some t) change = change t
 
 -- an admin step
 abbrev pub administered : AdminStep → Private → Option After
-administered NothingToDo p = None
-administered QueueFull p = None
 administered (Stepped c memory) p = unseen (record p { memory = memory; controller = c })
+administered _ p = None
 
 -- the state behind a step, or none where the step can't be made
 unfoldable pub step : Shape → Step → Private → Option After

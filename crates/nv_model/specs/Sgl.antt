@@ -40,24 +40,19 @@ abbrev pub fault_by : Option DescriptorType → (ℕ → Bool) → Array → Lis
 fault_by None mapped rest d = Some SglTypeInvalid
 fault_by (Some DataBlock) mapped rest d = first_failing ((not (everywhere mapped (address_of d) (length_of d)), DataTransferError) ∷ [])
 fault_by (Some BitBucket) mapped rest d = None
-fault_by (Some Segment) mapped rest d = segment_fault mapped rest d
-fault_by (Some LastSegment) mapped rest d = segment_fault mapped rest d
+fault_by (Some _) mapped rest d = segment_fault mapped rest d
 
 -- what is read behind a descriptor of this kind
 abbrev pub array_by : Option DescriptorType → Array → List ℕ → Array
 array_by (Some Segment) rest d = record { from = address_of d; left = length_of d / 16; by_last = false }
 array_by (Some LastSegment) rest d = record { from = address_of d; left = length_of d / 16; by_last = true }
-array_by (Some DataBlock) rest d = rest
-array_by (Some BitBucket) rest d = rest
-array_by None rest d = rest
+array_by _ rest d = rest
 
 -- the pieces that a descriptor of this kind names: a bucket discards bytes of a destination, and is nothing for a source
 abbrev pub pieces_by : Option DescriptorType → Bool → List ℕ → List Piece
 pieces_by (Some DataBlock) dest d = run (address_of d) (length_of d)
 pieces_by (Some BitBucket) dest d = if dest && not (length_of d == 0) then Bucket (length_of d) ∷ [] else []
-pieces_by (Some Segment) dest d = []
-pieces_by (Some LastSegment) dest d = []
-pieces_by None dest d = []
+pieces_by _ dest d = []
 
 -- a descriptor with `rest` behind it, and then what follows
 abbrev pub read_descriptor : (ℕ → Bool) → Bool → Array → List Piece → (Array → List Piece → Dialogue Reading) → List ℕ → Dialogue Reading

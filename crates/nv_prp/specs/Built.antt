@@ -30,9 +30,8 @@ prp2_by list_page (entry ∷ next ∷ entries) = list_page
 
 -- the entries that stand in the list
 abbrev pub listed : List ℕ → List ℕ
-listed [] = []
-listed (entry ∷ []) = []
 listed (entry ∷ next ∷ entries) = entry ∷ next ∷ entries
+listed _ = []
 
 -- 32 numbers: these, and zeros behind them
 abbrev pub padded : List ℕ → List ℕ

@@ -16,7 +16,7 @@ use Rattle.nv_prp.specs.Built.{built}
 use Rattle.nv_prp.specs.Fits.{host_addresses}
 use Rattle.nv_prp.specs.declared.prps.Prps.{Prps}
 use Rattle.nv_world_model.specs.Geometry.{Guest, regions_of}
-use Rattle.nv_world_model.specs.Plan.{Answer, Bounced, Direct, NoData, Plan}
+use Rattle.nv_world_model.specs.Plan.{Bounced, Direct, Plan}
 
 -- ---- where things lie
 
@@ -60,10 +60,9 @@ queue_pair lane = lane + 1
 
 -- the host addresses of a plan's transfer, in its order; `bounce` is the tag's first bounce page
 abbrev pub addresses_of : Plan → Guest → (bounce : ℕ) → List ℕ
-addresses_of (Answer st) guest bounce = []
-addresses_of (NoData work) guest bounce = []
 addresses_of (Direct work) guest bounce = host_addresses (regions_of guest) work.pieces
 addresses_of (Bounced work) guest bounce = range_with_len bounce (total_len work.pieces)
+addresses_of _ guest bounce = []
 
 -- PRP1, PRP2 and the list that name them
 abbrev pub prps_of : Plan → Guest → (list bounce : ℕ) → Prps

@@ -9,7 +9,7 @@ use Rattle.nv_world_model.specs.Geometry.{Geometry, Guest}
 use Rattle.nv_world_model.specs.Step.{After, is_telling, step}
 use Rattle.nv_world_model.specs.CutDown.{cut}
 use Rattle.nv_world_model.specs.View.{IsAlike, IsSameView, guest_of_tag, in_extents, in_image}
-use Rattle.nv_world_model.specs.World.{Answered, Ended, Flying, Free, InDevice, Lane, Queued, Standing, Tag, Taken, World, tag_of}
+use Rattle.nv_world_model.specs.World.{Answered, Flying, Lane, Queued, Standing, Tag, World, tag_of}
 
 -- ---- the owner
 
@@ -21,20 +21,16 @@ guest_of_one (Some t) = guest_of_tag t
 -- whether a command stands in that slot of the submission ring, or of the completion ring
 abbrev pub is_queued_at : (slot : ℕ) → Standing → Bool
 is_queued_at slot (Queued at) = at == slot
-is_queued_at slot InDevice = false
-is_queued_at slot (Answered at) = false
+is_queued_at slot _ = false
 
 abbrev pub is_answered_at : (slot : ℕ) → Standing → Bool
-is_answered_at slot (Queued at) = false
-is_answered_at slot InDevice = false
 is_answered_at slot (Answered at) = at == slot
+is_answered_at slot _ = false
 
 -- whether a tag stands so
 abbrev pub tag_stands : (Standing → Bool) → Tag → Bool
-tag_stands test Free = false
-tag_stands test (Taken command reads) = false
 tag_stands test (Flying command share standing) = test standing
-tag_stands test (Ended command st share) = false
+tag_stands test _ = false
 
 -- the guest of the first tag that stands so
 unfoldable pub guest_standing : (Standing → Bool) → List Tag → Option ℕ

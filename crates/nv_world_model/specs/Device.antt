@@ -20,7 +20,7 @@ use Rattle.nv_model.specs.Memory.{bytes_from, gathered, stored}
 use Rattle.nv_model.specs.Private.{Moved, moved_status, others}
 use Rattle.nv_model.specs.Prp.{read_prp}
 use Rattle.nv_model.specs.Queue.{next_slot, sqe_size}
-use Rattle.nv_model.specs.Reading.{Faulty, Reading, Spells, TooLong}
+use Rattle.nv_model.specs.Reading.{Reading, Spells}
 use Rattle.nv_world_model.specs.Area.{completion_slot, queue_pair, ring_size, submission_slot, tag_count}
 
 -- ---- the state
@@ -60,9 +60,8 @@ rung d = record d { tail = next_slot ring_size d.tail }
 
 -- the pieces that a reading spells
 abbrev pub pieces_spelled : Reading → List Piece
-pieces_spelled (Faulty code) = []
-pieces_spelled TooLong = []
 pieces_spelled (Spells pieces) = pieces
+pieces_spelled _ = []
 
 -- where the bytes of a transfer of that length lie
 abbrev pub pieces_named : (len : ℕ) → (entry : List ℕ) → (host : ℕ → ℕ) → List Piece
@@ -76,10 +75,9 @@ host_pieces (Some opcode) entry host =
 
 -- how many units a command of that form has: one for each block, for each range, or for the whole
 abbrev pub form_unit_count : Form → (entry : List ℕ) → ℕ
-form_unit_count (Transfer dest) entry = count_of entry
-form_unit_count Clear entry = count_of entry
 form_unit_count Manage entry = range_count_of entry
 form_unit_count Keep entry = 1
+form_unit_count _ entry = count_of entry
 
 abbrev pub unit_count : Option IoOpcode → (entry : List ℕ) → ℕ
 unit_count None entry = 0

@@ -21,19 +21,8 @@ use Rattle.nv_world_model.specs.World.{World}
 
 -- whether the physical controller fails a physical command by this event
 abbrev pub is_failure : Event → Bool
-is_failure (event.Guest guest a) = false
-is_failure (event.Admin guest) = false
-is_failure (event.Take guest queue lane) = false
-is_failure (event.List lane tag addr len) = false
-is_failure (event.Submit lane tag) = false
-is_failure (event.GiveUp lane tag) = false
-is_failure (event.DevTake lane) = false
-is_failure (event.DevMove lane slot unit) = false
-is_failure (event.DevPost lane slot) = false
 is_failure (event.DevFail lane slot st) = true
-is_failure (event.Keep block) = false
-is_failure (event.Reap lane) = false
-is_failure (event.Post lane tag) = false
+is_failure _ = false
 
 -- whether an event of the log fails a physical command of that guest's
 abbrev pub fails : (number : ℕ) → Logged → World → Bool

@@ -4,7 +4,7 @@
 use Rattle.std.specs.Prelude.{ℕ, Bool, if◌then◌else◌, List, []}
 use Rattle.nv_entry.specs.Status.{StatusField}
 use Rattle.nv_mem.specs.declared.region.Region.{Region}
-use Rattle.nv_model.specs.Judge.{Clear, Form, Go, Keep, Manage, Refuse, Transfer, Verdict, Work, form_of, judge}
+use Rattle.nv_model.specs.Judge.{Form, Go, Manage, Refuse, Transfer, Verdict, Work, form_of, judge}
 use Rattle.nv_model.specs.Transcript.{Outcome, ReadDone, Settled, Wanted, in_transcript}
 use Rattle.nv_prp.specs.Fits.{places_fit}
 use Rattle.nv_world_model.specs.Geometry.{Guest, regions_of, shape_of}
@@ -27,9 +27,8 @@ transfer_plan fits work = if fits then Direct work else Bounced work
 -- the plan of a command of that form that goes
 abbrev pub go_plan : Form → List Region → Work → Plan
 go_plan (Transfer dest) regions work = transfer_plan (places_fit regions work.pieces) work
-go_plan Clear regions work = NoData work
 go_plan Manage regions work = Bounced work
-go_plan Keep regions work = NoData work
+go_plan _ regions work = NoData work
 
 -- the plan of a command with that verdict
 abbrev pub plan_of : List Region → Verdict → Plan

@@ -5,7 +5,7 @@ use Rattle.std.specs.Prelude.{ℕ, Bool, true, false, ◌||◌, ◌==◌, if◌t
 use Rattle.std.specs.List.{range_with_len}
 use Rattle.nv_ns.specs.Extents.{Namespace, blocks_in, place_in}
 use Rattle.nv_model.specs.Controller.{Controller, is_enabled}
-use Rattle.nv_model.specs.Judge.{Clear, Form, Keep, Manage, Transfer, Work, form_of}
+use Rattle.nv_model.specs.Judge.{Form, Keep, Work, form_of}
 use Rattle.nv_model.specs.Private.{ActStep, AdminQueueStep, GiveUpStep, JudgeStep, KeepStep, MoveStep, PostStep, RunOutStep, Seen, Step, TakeStep}
 use Rattle.nv_model.specs.declared.act.Act.{Act}
 use Rattle.nv_model.specs.declared.reply.Reply.{Reply}
@@ -16,25 +16,14 @@ use Rattle.nv_world_model.specs.Geometry.{Geometry, Guest}
 use Rattle.nv_world_model.specs.Seat.{name_of, numbers_behind, work_of}
 use Rattle.nv_world_model.specs.Step.{is_done, step}
 use Rattle.nv_world_model.specs.View.{is_tag_of}
-use Rattle.nv_world_model.specs.World.{Ended, Flying, Free, Lane, Tag, Taken, World, is_free, tag_of, tags_where}
+use Rattle.nv_world_model.specs.World.{Flying, Lane, Tag, World, is_free, tag_of, tags_where}
 
 -- ---- acts
 
 -- the act of a guest, where the event is one
 abbrev pub act_of : (number : ℕ) → Event → Option Act
 act_of number (event.Guest guest a) = if guest == number then Some a else None
-act_of number (event.Admin guest) = None
-act_of number (event.Take guest queue lane) = None
-act_of number (event.List lane tag addr len) = None
-act_of number (event.Submit lane tag) = None
-act_of number (event.GiveUp lane tag) = None
-act_of number (event.DevTake lane) = None
-act_of number (event.DevMove lane slot unit) = None
-act_of number (event.DevPost lane slot) = None
-act_of number (event.DevFail lane slot st) = None
-act_of number (event.Keep block) = None
-act_of number (event.Reap lane) = None
-act_of number (event.Post lane tag) = None
+act_of number _ = None
 
 -- what a guest has seen: its acts with their replies
 abbrev pub with_act : Option Act → Reply → List Seen → List Seen
@@ -66,27 +55,19 @@ leaves (Some c) name = if is_enabled c then PostStep name ∷ [] else RunOutStep
 -- a unit of the guest's own command, in the tag of one of its parts: the whole's unit of that number, and of a range
 -- each of its blocks
 abbrev pub own_moves : Option Tag → (lane unit : ℕ) → List Step
-own_moves None lane unit = []
-own_moves (Some Free) lane unit = []
-own_moves (Some (Taken command reads)) lane unit = []
 own_moves (Some (Flying command share standing)) lane unit =
     map (MoveStep (name_of lane command.leader)) (numbers_behind share (unit ∷ []))
-own_moves (Some (Ended command st share)) lane unit = []
+own_moves _ lane unit = []
 
 -- the work of a part that was handed on
 abbrev pub work_in : Option Tag → Option Work
-work_in None = None
-work_in (Some Free) = None
-work_in (Some (Taken command reads)) = None
 work_in (Some (Flying command share standing)) = work_of share.plan
-work_in (Some (Ended command st share)) = None
+work_in _ = None
 
 -- whether a command of that form keeps all blocks of the disk
 abbrev pub keeps_all : Form → Bool
-keeps_all (Transfer dest) = false
-keeps_all Clear = false
-keeps_all Manage = false
 keeps_all Keep = true
+keeps_all _ = false
 
 -- a unit of another's command: a Flush makes each block of the guest's namespace kept
 abbrev pub others_moves : Option Work → Namespace → List Step
@@ -106,21 +87,17 @@ steps_done number guest w (event.Guest g a) = if g == number then ActStep a ∷ 
 steps_done number guest w (event.Admin g) = if g == number then AdminQueueStep ∷ [] else []
 steps_done number guest w (event.Take g queue lane) =
     if g == number then takes (slice_get w.lanes lane) queue lane else []
-steps_done number guest w (event.List lane tag addr len) = []
 steps_done number guest w (event.Submit lane tag) =
     if is_tag_of number (tag_of w lane tag) then JudgeStep (name_of lane tag) ∷ [] else []
 steps_done number guest w (event.GiveUp lane tag) =
     if is_tag_of number (tag_of w lane tag) then GiveUpStep (name_of lane tag) ∷ [] else []
-steps_done number guest w (event.DevTake lane) = []
 steps_done number guest w (event.DevMove lane slot unit) =
     if is_tag_of number (tag_of w lane slot) then own_moves (tag_of w lane slot) lane unit
     else others_moves (work_in (tag_of w lane slot)) guest.namespace
-steps_done number guest w (event.DevPost lane slot) = []
-steps_done number guest w (event.DevFail lane slot st) = []
 steps_done number guest w (event.Keep at) = keeps guest.namespace at
-steps_done number guest w (event.Reap lane) = []
 steps_done number guest w (event.Post lane tag) =
     if is_tag_of number (tag_of w lane tag) then leaves (slice_get w.controllers number) (name_of lane tag) else []
+steps_done number guest w _ = []
 
 -- whether it is the guest's act, which it sees whatever the reply
 abbrev pub is_act : Option Act → Bool

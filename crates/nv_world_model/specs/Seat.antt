@@ -7,7 +7,7 @@ use Rattle.nv_entry.specs.Range.{blocks_of}
 use Rattle.nv_entry.specs.Status.{StatusField}
 use Rattle.nv_ns.specs.Extents.{place_in}
 use Rattle.nv_model.specs.Controller.{Controller}
-use Rattle.nv_model.specs.Judge.{Clear, Form, Keep, Manage, Transfer, Work, form_of}
+use Rattle.nv_model.specs.Judge.{Form, Manage, Work, form_of}
 use Rattle.nv_model.specs.Memory.{bytes_from, image, put_image}
 use Rattle.nv_model.specs.Private.{AtWork, Bag, Private, Progress, Unjudged, Ended as EndedWith, Taken as Member, numbers_of}
 use Rattle.nv_model.specs.Queue.{cqe_size}
@@ -16,7 +16,7 @@ use Rattle.nv_world_model.specs.Device.{DeviceLane, Held}
 use Rattle.nv_world_model.specs.Geometry.{Geometry, Guest, regions_of}
 use Rattle.nv_world_model.specs.Plan.{Answer, Bounced, Direct, NoData, Plan}
 use Rattle.nv_world_model.specs.Share.{Share}
-use Rattle.nv_world_model.specs.World.{Answered, Command, Ended, Flying, Free, InDevice, Queued, Standing, Tag, Taken, World}
+use Rattle.nv_world_model.specs.World.{Answered, Command, Ended, Flying, InDevice, Queued, Standing, Tag, Taken, World}
 use Rattle.nv_world_model.specs.World.{group, tag_of, with_controller, with_host}
 
 -- ---- whose seat
@@ -41,10 +41,8 @@ owner_of geometry w number = owner_by number (slice_get geometry.guests number) 
 -- the number of the device's unit behind each unit of a command of that form, in their order: one of its own, or of a
 -- range all its blocks'
 abbrev pub form_numbers : Form → Work → List ℕ
-form_numbers (Transfer dest) work = numbers_of work
-form_numbers Clear work = numbers_of work
 form_numbers Manage work = flat_map (λ r. replicate (blocks_of r.1) r.0) (enumerate_from 0 work.ranges)
-form_numbers Keep work = numbers_of work
+form_numbers _ work = numbers_of work
 
 -- the numbers of the units whose unit of the device is one of these
 unfoldable pub units_behind : Work → (numbers : List ℕ) → List ℕ
@@ -94,11 +92,9 @@ flying_rest InDevice share held status_at = held_rest held share
 flying_rest (Answered slot) share held status_at = rest [] (tells_difference (status_at slot))
 
 abbrev pub tag_rest : Option Tag → Option Held → (status_at : ℕ → StatusField) → Rest
-tag_rest None held status_at = rest [] false
-tag_rest (Some Free) held status_at = rest [] false
-tag_rest (Some (Taken command reads)) held status_at = rest [] false
 tag_rest (Some (Flying command share standing)) held status_at = flying_rest standing share held status_at
 tag_rest (Some (Ended command st share)) held status_at = rest [] (tells_difference st)
+tag_rest _ held status_at = rest [] false
 
 -- ---- how far a command is
 
@@ -127,13 +123,12 @@ member_by tag number command progress =
 
 -- the guest's command that goes by a tag, of which these are the rests in all its tags
 abbrev pub member_in : Option Tag → (tag number : ℕ) → List Rest → Option Member
-member_in None tag number rests = None
-member_in (Some Free) tag number rests = None
 member_in (Some (Taken command reads)) tag number rests = member_by tag number command Unjudged
 member_in (Some (Flying command share standing)) tag number rests =
     member_by tag number command (work_progress (work_of share.whole) rests)
 member_in (Some (Ended command st share)) tag number rests =
     member_by tag number command (ended_progress share st rests)
+member_in _ tag number rests = None
 
 -- what the device holds under an identifier
 abbrev pub held_by : Option (Option Held) → Option Held

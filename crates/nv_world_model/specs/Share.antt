@@ -13,7 +13,7 @@ use Rattle.nv_mem.specs.Places.{piece_len}
 use Rattle.nv_mem.specs.declared.piece.Piece.{Piece}
 use Rattle.nv_mem.specs.declared.piece.Piece.TheVariants as piece
 use Rattle.nv_ns.specs.Extents.{Cut, Namespace, Placed, blocks_in, common, cuts, if_any, placed}
-use Rattle.nv_model.specs.Judge.{ClearBlock, Clear, Form, KeepAll, Keep, LeaveBlock, Manage, MoveBlock, Transfer, Work, WorkUnit, count_of}
+use Rattle.nv_model.specs.Judge.{ClearBlock, Form, KeepAll, Keep, LeaveBlock, Manage, MoveBlock, Work, WorkUnit, count_of}
 use Rattle.nv_model.specs.Judge.{field_refusal, form_of}
 use Rattle.nv_model.specs.Limits.{block, range_size}
 use Rattle.nv_model.specs.Private.{numbers_of}
@@ -123,10 +123,9 @@ whole_share plan work = record { whole = plan; plan = plan; numbers = numbers_of
 -- the shares of a command of that form: a run of blocks has one for each extent that it meets, Dataset Management one for each extent
 -- there is, and a command that keeps all blocks has one
 abbrev pub shares_by : Form → Namespace → (entry : List ℕ) → Plan → Work → List Share
-shares_by (Transfer dest) ns entry plan work = map (block_share plan work) (cuts ns (slba_of entry) (count_of entry))
-shares_by Clear ns entry plan work = map (block_share plan work) (cuts ns (slba_of entry) (count_of entry))
 shares_by Manage ns entry plan work = map (λ p. range_share plan work p.0 p.1) (enumerate_from 0 (placed 0 ns))
 shares_by Keep ns entry plan work = whole_share plan work ∷ []
+shares_by _ ns entry plan work = map (block_share plan work) (cuts ns (slba_of entry) (count_of entry))
 
 -- the shares of a plan of that entry, in order; what is answered at once has none
 abbrev pub shares_of : Namespace → (entry : List ℕ) → Plan → List Share
@@ -139,10 +138,9 @@ shares_of ns entry (Bounced work) = shares_by (form_of work.opcode) ns entry (Bo
 
 -- how many physical commands a command of that form is, which has as many shares
 abbrev pub form_tags : Form → Namespace → (entry : List ℕ) → ℕ
-form_tags (Transfer dest) ns entry = length (cuts ns (slba_of entry) (count_of entry))
-form_tags Clear ns entry = length (cuts ns (slba_of entry) (count_of entry))
 form_tags Manage ns entry = length ns
 form_tags Keep ns entry = 1
+form_tags _ ns entry = length (cuts ns (slba_of entry) (count_of entry))
 
 -- the same by what the fields say: one where they refuse the command, or its opcode is none of the six
 abbrev pub tags_by : Option StatusCode → Option IoOpcode → Namespace → (entry : List ℕ) → ℕ

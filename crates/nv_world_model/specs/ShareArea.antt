@@ -4,7 +4,7 @@ use Rattle.std.specs.Prelude.{ℕ, ◌+◌, ◌-◌, ◌*◌, ◌^◌, ◌==◌,
 use Rattle.nv_entry.specs.Status.{bit}
 use Rattle.nv_entry.specs.Submission.{deallocate_of, opcode_of}
 use Rattle.nv_ns.specs.Extents.{Namespace, place_in}
-use Rattle.nv_model.specs.Judge.{ClearBlock, Clear, Form, KeepAll, Keep, LeaveBlock, Manage, MoveBlock, Transfer, Work, WorkUnit, form_of, is_fua}
+use Rattle.nv_model.specs.Judge.{ClearBlock, Form, KeepAll, Keep, LeaveBlock, Manage, MoveBlock, Transfer, Work, WorkUnit, form_of, is_fua}
 use Rattle.nv_model.specs.Memory.{stored}
 use Rattle.nv_world_model.specs.Area.{bounce_page, list_bytes, list_page, physical_entry, prps_of, source_bytes, submission_slot}
 use Rattle.nv_world_model.specs.Area.{translated_range, two_dwords}
@@ -25,12 +25,10 @@ first_lba (unit ∷ rest) = unit_lba unit
 
 -- CDW10 to CDW12 of a work of that form: the block on the disk, with NLB and FUA; or NR and deallocate
 abbrev pub work_dwords : Form → Namespace → (entry : List ℕ) → Work → List ℕ
-work_dwords (Transfer dest) ns entry work =
-    two_dwords (place_in ns (first_lba work.units)) ++ (length work.units - 1 + 2 ^ 30 * bit (is_fua entry)) ∷ []
-work_dwords Clear ns entry work =
-    two_dwords (place_in ns (first_lba work.units)) ++ (length work.units - 1 + 2 ^ 30 * bit (is_fua entry)) ∷ []
 work_dwords Manage ns entry work = (length work.ranges - 1) ∷ (4 * deallocate_of entry) ∷ 0 ∷ []
 work_dwords Keep ns entry work = 0 ∷ 0 ∷ 0 ∷ []
+work_dwords _ ns entry work =
+    two_dwords (place_in ns (first_lba work.units)) ++ (length work.units - 1 + 2 ^ 30 * bit (is_fua entry)) ∷ []
 
 abbrev pub own_dwords : Plan → Namespace → (entry : List ℕ) → List ℕ
 own_dwords (Answer st) ns entry = 0 ∷ 0 ∷ 0 ∷ []
@@ -41,15 +39,12 @@ own_dwords (Bounced work) ns entry = work_dwords (form_of work.opcode) ns entry 
 -- what stands in the bounce pages: a source, or the ranges
 abbrev pub form_own_bytes : Form → Namespace → Guest → (host : ℕ → ℕ) → Work → List ℕ
 form_own_bytes (Transfer dest) ns guest host work = if dest then [] else source_bytes guest host work
-form_own_bytes Clear ns guest host work = []
 form_own_bytes Manage ns guest host work = flat_map (translated_range ns) work.ranges
-form_own_bytes Keep ns guest host work = []
+form_own_bytes _ ns guest host work = []
 
 abbrev pub own_bytes : Plan → Namespace → Guest → (host : ℕ → ℕ) → List ℕ
-own_bytes (Answer st) ns guest host = []
-own_bytes (NoData work) ns guest host = []
-own_bytes (Direct work) ns guest host = []
 own_bytes (Bounced work) ns guest host = form_own_bytes (form_of work.opcode) ns guest host work
+own_bytes _ ns guest host = []
 
 -- the physical entry of a share in that tag
 abbrev pub share_entry : Share → Namespace → Guest → (entry : List ℕ) → (mediator lane tag : ℕ) → List ℕ
@@ -59,10 +54,8 @@ share_entry share ns guest entry mediator lane tag =
 
 -- whether a work of that form has nothing for the physical controller: it manages no range
 abbrev pub is_no_work : Form → Work → Bool
-is_no_work (Transfer dest) work = false
-is_no_work Clear work = false
 is_no_work Manage work = length work.ranges == 0
-is_no_work Keep work = false
+is_no_work _ work = false
 
 abbrev pub is_no_plan : Plan → Bool
 is_no_plan (Answer st) = false

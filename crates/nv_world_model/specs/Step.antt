@@ -70,18 +70,14 @@ for_leader tag command w done = if command.leader == tag then done else replied 
 -- a command that is Taken, by the tag that it goes by
 abbrev pub for_taken : (tag : ℕ) → Option Tag → World → (Command → List ReadDone → After) → After
 for_taken tag None w more = replied reply.Ignored w
-for_taken tag (Some Free) w more = replied reply.Stale w
 for_taken tag (Some (Taken command reads)) w more = for_leader tag command w (more command reads)
-for_taken tag (Some (Flying command share standing)) w more = replied reply.Stale w
-for_taken tag (Some (Ended command st share)) w more = replied reply.Stale w
+for_taken tag (Some _) w more = replied reply.Stale w
 
 -- a command whose first part is Ended, by the tag that it goes by
 abbrev pub for_ended : (tag : ℕ) → Option Tag → World → (Command → After) → After
 for_ended tag None w more = replied reply.Ignored w
-for_ended tag (Some Free) w more = replied reply.Stale w
-for_ended tag (Some (Taken command reads)) w more = replied reply.Stale w
-for_ended tag (Some (Flying command share standing)) w more = replied reply.Stale w
 for_ended tag (Some (Ended command st share)) w more = for_leader tag command w (more command)
+for_ended tag (Some _) w more = replied reply.Stale w
 
 -- a slot whose command is in the device
 abbrev pub for_held : Option (Option Held) → World → (Held → After) → After
@@ -217,11 +213,8 @@ submit_by (Settled plan) mediator lane tags command o w =
 
 -- a tag that was handed on stands there now
 abbrev pub standing_at : Option Tag → Standing → (lane tag : ℕ) → World → World
-standing_at None standing lane tag w = w
-standing_at (Some Free) standing lane tag w = w
-standing_at (Some (Taken command reads)) standing lane tag w = w
 standing_at (Some (Flying command share before)) standing lane tag w = with_tag lane tag (Flying command share standing) w
-standing_at (Some (Ended command st share)) standing lane tag w = w
+standing_at _ standing lane tag w = w
 
 abbrev pub stands : Standing → (lane tag : ℕ) → World → World
 stands standing lane tag w = standing_at (tag_of w lane tag) standing lane tag w
@@ -286,11 +279,8 @@ passed_on st =
 
 -- a tag that was handed on ends with that status
 abbrev pub ended_at : Option Tag → StatusField → (lane tag : ℕ) → World → World
-ended_at None st lane tag w = w
-ended_at (Some Free) st lane tag w = w
-ended_at (Some (Taken command reads)) st lane tag w = w
 ended_at (Some (Flying command share standing)) st lane tag w = with_tag lane tag (Ended command (passed_on st) (Some share)) w
-ended_at (Some (Ended command before share)) st lane tag w = w
+ended_at _ st lane tag w = w
 
 -- the mediator's side of a lane behind one more completion
 abbrev pub completion_read : Lane → Lane
@@ -316,18 +306,12 @@ scattered_to bounce work o w =
     with_memory o (scattered (image (regions_of o.given) w.host) (places_of work.pieces) bytes) w)
 
 abbrev pub delivered_by : Plan → (bounce : ℕ) → Owner → World → World
-delivered_by (Answer answer) bounce o w = w
-delivered_by (NoData work) bounce o w = w
-delivered_by (Direct work) bounce o w = w
 delivered_by (Bounced work) bounce o w = if is_read work.opcode then scattered_to bounce work o w else w
+delivered_by _ bounce o w = w
 
 abbrev pub delivered_from : Option Tag → (bounce : ℕ) → Owner → World → World
-delivered_from None bounce o w = w
-delivered_from (Some Free) bounce o w = w
-delivered_from (Some (Taken command reads)) bounce o w = w
-delivered_from (Some (Flying command share standing)) bounce o w = w
-delivered_from (Some (Ended command st None)) bounce o w = w
 delivered_from (Some (Ended command st (Some share))) bounce o w = delivered_by share.plan bounce o w
+delivered_from _ bounce o w = w
 
 -- tag by tag in order
 unfoldable pub delivered_all : (mediator lane : ℕ) → (tags : List ℕ) → Owner → World → World
@@ -363,11 +347,8 @@ post_at command st mediator lane tags o w =
 
 -- the status of a tag that has ended
 abbrev pub ended_status : Option Tag → Option StatusField
-ended_status None = None
-ended_status (Some Free) = None
-ended_status (Some (Taken command reads)) = None
-ended_status (Some (Flying command share standing)) = None
 ended_status (Some (Ended command st share)) = Some st
+ended_status _ = None
 
 -- those of tags that have all ended, in order
 abbrev pub status_before : Option StatusField → Option (List StatusField) → Option (List StatusField)
@@ -446,43 +427,25 @@ replies geometry (e ∷ events) w = (step geometry e w).reply ∷ replies geomet
 
 -- whether an event is one that a worker makes only where it is due
 abbrev pub is_due_kind : Event → Bool
-is_due_kind (event.Guest guest a) = false
 is_due_kind (event.Admin guest) = true
 is_due_kind (event.Take guest queue lane) = true
-is_due_kind (event.List lane tag addr len) = false
-is_due_kind (event.Submit lane tag) = false
-is_due_kind (event.GiveUp lane tag) = false
 is_due_kind (event.DevTake lane) = true
 is_due_kind (event.DevMove lane slot number) = true
 is_due_kind (event.DevPost lane slot) = true
-is_due_kind (event.DevFail lane slot st) = false
-is_due_kind (event.Keep block) = false
 is_due_kind (event.Reap lane) = true
 is_due_kind (event.Post lane tag) = true
+is_due_kind _ = false
 
 -- whether a reply is Done
 abbrev pub is_done : Reply → Bool
 is_done reply.Done = true
-is_done (reply.Bytes bytes) = false
-is_done reply.Idle = false
-is_done reply.Busy = false
-is_done reply.Held = false
-is_done reply.Stale = false
-is_done reply.Unmapped = false
-is_done reply.Ignored = false
-is_done reply.NoMemory = false
+is_done _ = false
 
 -- whether a reply tells of a change, or of bytes
 abbrev pub is_telling : Reply → Bool
 is_telling reply.Done = true
 is_telling (reply.Bytes bytes) = true
-is_telling reply.Idle = false
-is_telling reply.Busy = false
-is_telling reply.Held = false
-is_telling reply.Stale = false
-is_telling reply.Unmapped = false
-is_telling reply.Ignored = false
-is_telling reply.NoMemory = false
+is_telling _ = false
 
 -- such an event is due where it would be done
 unfoldable pub due : Geometry → Event → World → Bool

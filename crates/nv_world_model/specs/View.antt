@@ -14,7 +14,7 @@ use Rattle.nv_model.specs.Queue.{cqe_size, sqe_size}
 use Rattle.nv_world_model.specs.Area.{bounce_page, completion_slot, list_page, prps_of, submission_slot}
 use Rattle.nv_world_model.specs.Device.{DeviceLane, Held}
 use Rattle.nv_world_model.specs.Geometry.{Geometry, Guest, regions_of}
-use Rattle.nv_world_model.specs.Plan.{Answer, Bounced, Direct, NoData, Plan}
+use Rattle.nv_world_model.specs.Plan.{Bounced, Plan}
 use Rattle.nv_mem.specs.GuestMap.{guest_of}
 use Rattle.nv_world_model.specs.Seat.{completion_at, held_in}
 use Rattle.nv_world_model.specs.Step.{is_success}
@@ -64,21 +64,17 @@ list_shown plan guest list bounce = (list, 8 * (prps_of plan guest list bounce).
 
 -- the bounced source, or the ranges, of a plan
 abbrev pub source_shown : Plan → (bounce : ℕ) → List Span
-source_shown (Answer st) bounce = []
-source_shown (NoData work) bounce = []
-source_shown (Direct work) bounce = []
 source_shown (Bounced work) bounce = if is_read work.opcode then [] else (bounce, total_len work.pieces) ∷ []
+source_shown _ bounce = []
 
 -- the blocks of a bounced Read but for those units that are left
 abbrev pub units_shown : Plan → (left : List ℕ) → (bounce : ℕ) → List Span
-units_shown (Answer st) left bounce = []
-units_shown (NoData work) left bounce = []
-units_shown (Direct work) left bounce = []
 units_shown (Bounced work) left bounce =
     if is_read work.opcode then
     map (λ k. (bounce + block * k, block))
     (filter (λ k. not (list_any (λ other. other == k) left)) (range_with_len 0 (length work.units)))
     else []
+units_shown _ left bounce = []
 
 -- all of them where the part succeeded, and none where it failed
 abbrev pub result_shown : StatusField → Plan → (bounce : ℕ) → List Span
@@ -101,8 +97,6 @@ ended_shown (Some share) st bounce = result_shown st share.plan bounce
 
 -- what is shown of a tag of that guest
 abbrev pub tag_shown : Tag → Guest → Option Held → (status_at : ℕ → StatusField) → (mediator lane tag : ℕ) → List Span
-tag_shown Free guest held status_at mediator lane tag = []
-tag_shown (Taken command reads) guest held status_at mediator lane tag = []
 tag_shown (Flying command share standing) guest held status_at mediator lane tag =
     slot_shown standing mediator lane
     ++ list_shown share.plan guest (list_page mediator lane tag) (bounce_page mediator lane tag)
@@ -110,6 +104,7 @@ tag_shown (Flying command share standing) guest held status_at mediator lane tag
     ++ read_shown standing share.plan held status_at (bounce_page mediator lane tag)
 tag_shown (Ended command st share) guest held status_at mediator lane tag =
     ended_shown share st (bounce_page mediator lane tag)
+tag_shown _ guest held status_at mediator lane tag = []
 
 -- the same of a guest's own tags of a lane
 abbrev pub own_shown : (number : ℕ) → Guest → Geometry → World → (lane : ℕ) → ℕ × Tag → List Span

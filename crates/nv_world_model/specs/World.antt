@@ -116,9 +116,7 @@ with_tags lane (tag ∷ tags) t w = with_tags lane tags t (with_tag lane tag t w
 -- whether no command has a tag
 abbrev pub is_free : Tag → Bool
 is_free Free = true
-is_free (Taken command reads) = false
-is_free (Flying command share standing) = false
-is_free (Ended command st share) = false
+is_free _ = false
 
 -- the tag that the command of a tag goes by
 abbrev pub leader_of : Tag → Option ℕ
