@@ -81,7 +81,7 @@ LISTS = [
     ("F5", "nv_model", "specs/Footprint.antt", "slots_named (Some q) = (q.base, cqe_size * q.size) ∷ []", "slots_named (Some q) = (q.base, cqe_size) ∷ []"),
     ("N1", "nv_ns", "specs/BlockRange.antt", "in_namespace slba count blocks = nat_le count blocks && nat_le slba (blocks - count)", "in_namespace slba count blocks = nat_le count blocks && nat_le slba blocks"),
     ("G1", "nv_mem", "specs/GuestMap.antt", "spans_meet a m b n = nat_lt (max a b) (min (a + m) (b + n))", "spans_meet a m b n = nat_le (max a b) (min (a + m) (b + n))"),
-    ("G2", "nv_mem", "specs/GuestMap.antt", "    if not (list_all is_paged rs) then Some Unaligned\n    else if any_two_meet rs then Some Overlap\n", "    if any_two_meet rs then Some Overlap\n    else if not (list_all is_paged rs) then Some Unaligned\n"),
+    ("G2", "nv_mem", "specs/MapRefusal.antt", "    if not (list_all is_paged rs) then Some Unaligned\n    else if any_two_meet rs then Some Overlap\n", "    if any_two_meet rs then Some Overlap\n    else if not (list_all is_paged rs) then Some Unaligned\n"),
 ]
 
 # of the mediated world
@@ -132,7 +132,7 @@ WORLD = [
     ("s5", "nv_world_model", "specs/Step.antt", "    replied reply.Done (ended_at_once lane (group w lane tag) command (done_with InternalError) w))", "    replied reply.Done (ended_at_once lane (group w lane tag) command (done_with Success) w))"),
     ("s6", "nv_world_model", "specs/Step.antt", "    if st.sct == 2 then st else done_with InternalError", "    st"),
     ("s7", "nv_world_model", "specs/Step.antt", "    if nat_le (block + 1) disk_blocks then replied", "    if nat_le block disk_blocks then replied"),
-    ("s8", "nv_world_model", "specs/Step.antt", "is_due_kind _ = false", "is_due_kind (event.List lane tag addr len) = true\nis_due_kind _ = false"),
+    ("s8", "nv_world_model", "specs/Due.antt", "is_due_kind _ = false", "is_due_kind (event.List lane tag addr len) = true\nis_due_kind _ = false"),
     ("s9", "nv_world_model", "specs/World.antt", "first_of count free = if nat_le count (length free) then Some (take count free) else None", "first_of count free = Some (take count free)"),
     ("s10", "nv_world_model", "specs/Step.antt", "(reads ++ record { addr = addr; bytes = bytes } ∷ [])", "(record { addr = addr; bytes = bytes } ∷ reads)"),
     ("s11", "nv_world_model", "specs/Step.antt", "is_io_queue queue = nat_le 1 queue && nat_le queue last_queue", "is_io_queue queue = nat_le queue last_queue"),

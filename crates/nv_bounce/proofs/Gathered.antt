@@ -2,7 +2,8 @@
 use Rattle.std.proofs.Common.{◌≡◌, ℕ, ◌+◌, ◌-◌, ◌<◌, ◌≤◌, false, List, [], ◌++◌, length, replicate, arith, sym, ap, ◌∙◌}
 use Rattle.nv_mem.specs.Bytes.{InMemory, after_store, bytes_at}
 use Rattle.nv_mem.specs.declared.region.Region.{Region}
-use Rattle.nv_mem.specs.GuestMap.{IsContiguous, IsLongestRun, IsSound, Mapping, span_met}
+use Rattle.nv_mem.specs.GuestMap.{IsSound, Mapping, span_met}
+use Rattle.nv_mem.specs.MapRuns.{IsContiguous, IsLongestRun}
 use Rattle.nv_mem.specs.Places.{Place, Bucket, addresses}
 use Rattle.nv_mem.proofs.Memory.{length-bytes_at, span_met-part}
 use Rattle.nv_model.specs.Memory.{byte_in, bytes_from, gathered, image, stored}

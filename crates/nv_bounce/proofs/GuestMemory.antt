@@ -9,7 +9,8 @@ use Rattle.std.specs.List.{AllPairs}
 use mathlib.Core.Path.{fun_ext}
 use Rattle.nv_mem.specs.Bytes.{after_store, bytes_at}
 use Rattle.nv_mem.specs.declared.region.Region.{Region}
-use Rattle.nv_mem.specs.GuestMap.{IsApart, IsContiguous}
+use Rattle.nv_mem.specs.GuestMap.{IsApart}
+use Rattle.nv_mem.specs.MapRuns.{IsContiguous}
 use Rattle.nv_model.specs.Memory.{byte_in, bytes_from, image, put_image, stored}
 use Rattle.nv_model.proofs.MemoryLemmas.{bytes_from-append, bytes_from-list, bytes_from-same, stored-append, stored-list, stored-nil}
 use Rattle.nv_model.proofs.PutImages.{image-mapped, image-put_image, put_image-own, put_image-twice}

@@ -8,7 +8,8 @@ use Rattle.std.specs.List.{AllPairs}
 use mathlib.Core.Path.{fun_ext}
 use Rattle.nv_mem.specs.Bytes.{InMemory, after_store, bytes_at}
 use Rattle.nv_mem.specs.declared.region.Region.{Region}
-use Rattle.nv_mem.specs.GuestMap.{IsApart, IsContiguous, IsLongestRun, IsSound, Mapping, guest_of, host_of, span_met}
+use Rattle.nv_mem.specs.GuestMap.{IsApart, IsSound, Mapping, guest_of, host_of, span_met}
+use Rattle.nv_mem.specs.MapRuns.{IsContiguous, IsLongestRun}
 use Rattle.nv_mem.specs.Places.{Place, At, Bucket, addresses}
 use Rattle.nv_mem.proofs.Images.{guest_of-host, host_of-guest}
 use Rattle.nv_mem.proofs.Memory.{length-bytes_at, span_met-part}

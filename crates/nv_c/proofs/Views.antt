@@ -7,7 +7,8 @@ use Rattle.nv_laws_sound.proofs.LaidOuts.{accepted, all-one}
 use Rattle.nv_mediator.specs.Hosted.{Hosted, hosted_world, map_of, setup_of}
 use Rattle.nv_mem.specs.Bytes.{bytes_at}
 use Rattle.nv_mem.specs.declared.region.Region.{Region}
-use Rattle.nv_mem.specs.GuestMap.{IsContiguous, IsLongestRun, IsSound, Mapping}
+use Rattle.nv_mem.specs.GuestMap.{IsSound, Mapping}
+use Rattle.nv_mem.specs.MapRuns.{IsContiguous, IsLongestRun}
 use Rattle.nv_mem.proofs.MappedRuns.{run-inside}
 use Rattle.nv_mem.proofs.Memory.{length-bytes_at}
 use Rattle.nv_model.specs.Memory.{byte_in, bytes_from, image}

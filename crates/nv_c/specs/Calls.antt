@@ -10,7 +10,7 @@ use Rattle.nv_model.specs.declared.reply.Reply.{Reply}
 use Rattle.nv_model.specs.declared.reply.Reply.TheVariants as reply
 use Rattle.nv_world_model.specs.declared.event.Event.{Event}
 use Rattle.nv_world_model.specs.SetUp.{SetUp}
-use Rattle.nv_world_model.specs.Step.{due}
+use Rattle.nv_world_model.specs.Due.{due}
 
 -- ---- the numbers of `enum nvmed_status`, as the header has them
 

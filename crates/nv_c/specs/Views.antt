@@ -1,7 +1,8 @@
 -- What a view of a guest's memory shows.
 use Rattle.std.specs.Prelude.{◌≡◌, ◌⊎◌, ◌<◌, ◌≤◌, ℕ, List, Some, None, length, slice_get}
 use Rattle.nv_mediator.specs.Hosted.{Hosted, hosted_world}
-use Rattle.nv_mem.specs.GuestMap.{IsLongestRun, host_of}
+use Rattle.nv_mem.specs.GuestMap.{host_of}
+use Rattle.nv_mem.specs.MapRuns.{IsLongestRun}
 use Rattle.nv_model.specs.Memory.{bytes_from, image}
 use Rattle.nv_world_model.specs.Geometry.{Guest, regions_of}
 

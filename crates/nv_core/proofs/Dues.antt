@@ -32,8 +32,10 @@ use Rattle.nv_world_model.specs.Device.{DeviceLane, Held}
 use Rattle.nv_world_model.specs.Geometry.{Geometry, Guest, regions_of, shape_of}
 use Rattle.nv_world_model.specs.Seat.{Owner, owner_by, owner_of}
 use Rattle.nv_world_model.specs.Share.{tags_of_entry}
-use Rattle.nv_world_model.specs.Step.{After, administered_by, deciding, device_move, device_post, device_take, due, for_device, for_lane, for_owner}
-use Rattle.nv_world_model.specs.Step.{is_done, is_due_kind, is_io_queue, post_all, post_by, reap, replied, statuses_of, step, take_from, take_front, take_tags}
+use Rattle.nv_world_model.specs.Step.{After, administered_by, deciding, device_move, device_post, device_take, for_device, for_lane, for_owner}
+use Rattle.nv_world_model.specs.Due.{due}
+use Rattle.nv_world_model.specs.Step.{is_done, is_io_queue, post_all, post_by, reap, replied, statuses_of, step, take_from, take_front, take_tags}
+use Rattle.nv_world_model.specs.Due.{is_due_kind}
 use Rattle.nv_world_model.specs.World.{Command, Ended, Flying, Free, Lane, Tag, Taken, World, claimed, group, group_in, tag_of}
 use Rattle.nv_world_model.specs.declared.event.Event.{Event}
 use Rattle.nv_world_model.specs.declared.event.Event.TheVariants as event

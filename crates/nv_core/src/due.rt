@@ -11,7 +11,7 @@ ghost use Rattle.nv_model.specs.Controller.{front, is_enabled, post};
 ghost use Rattle.nv_model.specs.Laws.{QueuesInPlace};
 ghost use Rattle.nv_model.specs.Memory.{byte_in, image};
 ghost use Rattle.nv_world_model.specs.Share.{Share};
-ghost use Rattle.nv_world_model.specs.Step.{due};
+ghost use Rattle.nv_world_model.specs.Due.{due};
 ghost use Rattle.nv_world_model.specs.World.{Command, Ended, group_in};
 
 use crate::lane::Lane;
@@ -27,7 +27,7 @@ impl Core {
     /// Whether an event is one of Admin, Take, DevTake, DevMove, DevPost, Reap and Post and would be done now. Nothing changes, and what it
     /// costs depends on neither the host nor how many commands are on their way: but for free tags and the tags of one command, nothing is
     /// searched.
-    #[tactic(auto, unfolding(nv_world_model::specs::Step::due))]
+    #[tactic(auto, unfolding(nv_world_model::specs::Due::due))]
     pub fn due(&self, layout: &Layout, event: &Event) -> bool
         requires { IsOf layout.now self.now }
         ensures { result ≡ due layout.now event.now (world_of self.now) }

@@ -12,7 +12,8 @@ use Rattle.nv_entry.specs.declared.opcode.IoOpcode.{IoOpcode}
 use Rattle.nv_entry.specs.declared.opcode.IoOpcode.TheVariants.{Flush, Write, Read, Compare, WriteZeroes, DatasetManagement}
 use Rattle.nv_mem.specs.Places.{places_of}
 use Rattle.nv_mem.specs.declared.piece.Piece.{Piece}
-use Rattle.nv_model.specs.Carried.{block_work, cleared, cleared_one, moved_on, units_moved}
+use Rattle.nv_model.specs.Carried.{block_work, moved_on, units_moved}
+use Rattle.nv_model.specs.Carrying.{cleared, cleared_one}
 use Rattle.nv_model.specs.Judge.{KeepAll, MoveBlock, clear_units, count_of, deallocates, is_fua, one_range_units}
 use Rattle.nv_model.specs.Private.{Moved}
 use Rattle.nv_model.proofs.UnitWords.{units_moved-cleared, units_moved-left}

@@ -7,7 +7,7 @@ ghost use Rattle.nv_mem.specs.Places.{places_of};
 ghost use Rattle.nv_moves.specs.Buffer.{AreBelow};
 ghost use Rattle.nv_model.specs.Memory.{byte_in};
 ghost use Rattle.nv_moves.specs.Flat.{flat, moved_of};
-ghost use Rattle.nv_model.specs.Carried.{cleared};
+ghost use Rattle.nv_model.specs.Carrying.{cleared};
 ghost use Rattle.nv_entry.specs.Range.{blocks_of, start_of};
 ghost use Rattle.std.specs.List.{list_all, list_any, range_with_len};
 ghost use Rattle.nv_world_model.specs.Device.{range_at};

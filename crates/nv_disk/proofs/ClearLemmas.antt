@@ -2,7 +2,7 @@
 use Rattle.std.proofs.Common.{◌≡◌, ℕ, zero, suc, ◌+◌, ◌≤◌, Bool, true, List, ◌++◌, length, replicate, set, take, drop, refl, sym, ap, ◌∙◌, arith}
 use Rattle.std.specs.List.{range_with_len}
 use Rattle.std.proofs.lemmas.List.{length-set}
-use Rattle.nv_model.specs.Carried.{cleared}
+use Rattle.nv_model.specs.Carrying.{cleared}
 use Rattle.nv_moves.specs.Flat.{flat, moved_of}
 use Rattle.nv_moves.specs.Marks.{mark_of, raised}
 use Rattle.nv_moves.proofs.MoveLemmas.{cleared-more, cleared-none, cleared-set, marks-raised}

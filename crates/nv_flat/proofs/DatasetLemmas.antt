@@ -21,7 +21,8 @@ use Rattle.nv_model.specs.Dialogue.{End, in_memory}
 use Rattle.nv_model.specs.Memory.{byte_in, gathered}
 use Rattle.nv_model.specs.Reading.{Spells}
 use Rattle.nv_model.specs.Judge.{Work, Refuse, Go, judge_ranges, range_count_of, range_fits, range_units, ranges_in, read_source, work_of, deallocates}
-use Rattle.nv_model.specs.Carried.{cleared, units_moved}
+use Rattle.nv_model.specs.Carried.{units_moved}
+use Rattle.nv_model.specs.Carrying.{cleared}
 use Rattle.nv_model.specs.Private.{verdict_in}
 use Rattle.nv_model.proofs.DialogueLemmas.{in_memory-and_then}
 use Rattle.nv_model.proofs.MemoryLemmas.{length-gathered}

@@ -17,7 +17,8 @@ use Rattle.nv_model.specs.Dialogue.{End, in_memory}
 use Rattle.nv_model.specs.Reading.{Reading, Faulty, TooLong, Spells}
 use Rattle.nv_model.specs.Judge.{Verdict, Work, KeepAll, Refuse, Go, count_of, has_blocks, has_buffer, judge_reading, work_of, is_fua, lbas_of}
 use Rattle.nv_model.specs.Private.{moved_status, verdict_in}
-use Rattle.nv_model.specs.Carried.{block_work, cleared, moved_on, units_from, units_moved}
+use Rattle.nv_model.specs.Carried.{block_work, moved_on, units_moved}
+use Rattle.nv_model.specs.Carrying.{cleared, units_from}
 use Rattle.nv_model.specs.Memory.{byte_in}
 use Rattle.nv_moves.specs.Flat.{Flat, moved_of}
 use Rattle.nv_flat.specs.Listed.{refusal_of_reading, list_reading}

@@ -1,7 +1,7 @@
 -- The map of a guest whose addresses are the memory's own
 use Rattle.std.proofs.Common.{◌≡◌, ℕ, ◌%◌, ◌<◌, ◌^◌, None, arith}
 use Rattle.std.proofs.lemmas.Bool.Decides.{nat_tests}
-use Rattle.nv_mem.specs.GuestMap.{refusal_of}
+use Rattle.nv_mem.specs.MapRefusal.{refusal_of}
 use Rattle.nv_flat.specs.Flat.{identity_map}
 
 -- the map is not refused

@@ -3,7 +3,8 @@ use Rattle.std.proofs.Common.{◌≡◌, ℕ, Bool, true, false, List, [], refl,
 use Rattle.nv_entry.specs.Status.{StatusField}
 use Rattle.nv_model.specs.Judge.{Work, Refuse, Go}
 use Rattle.nv_model.specs.Private.{AtWork, Ended, Moved, Private, moved_status, verdict_in, Taken, step, Bag, no_commands, Progress, ending, Shape}
-use Rattle.nv_model.specs.Carried.{IsCarriedOut, units_moved, at_work, this_far}
+use Rattle.nv_model.specs.Carried.{units_moved}
+use Rattle.nv_model.specs.Carrying.{IsCarriedOut, at_work, this_far}
 use Rattle.nv_model.proofs.CarriedOut.{IsCarriedOut-moved, IsCarriedOut-refused}
 use Rattle.nv_moves.specs.Flat.{Flat, moved_of, byte_of_block}
 use Rattle.nv_flat.specs.One.{IsOutcome, IsRun, newly_taken, private_of, shape_of, completion_posted, serving}

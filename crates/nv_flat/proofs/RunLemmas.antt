@@ -4,7 +4,8 @@ use Rattle.std.proofs.lemmas.List.Elements.{All-append, All-cons, All-drop, All-
 use Rattle.nv_entry.specs.Status.{StatusField}
 use Rattle.nv_model.specs.Judge.{WorkUnit, Work, Go, Refuse, is_read, form_of}
 use Rattle.nv_model.specs.Private.{Ended, Moved, Private, Taken, moved_status, verdict_in}
-use Rattle.nv_model.specs.Carried.{moved_on, units_moved, unmoved, this_far, at_work}
+use Rattle.nv_model.specs.Carried.{moved_on, units_moved}
+use Rattle.nv_model.specs.Carrying.{unmoved, this_far, at_work}
 use Rattle.nv_model.specs.Laws.{IsOrderOf}
 use Rattle.nv_model.proofs.CarriedOnly.{moved-only, refused-only}
 use Rattle.nv_model.proofs.Judged.{verdict-sound}

@@ -3,7 +3,8 @@ use Rattle.std.proofs.Common.{◌≡◌, ℕ, suc, ◌+◌, ◌-◌, ◌*◌, �
 use Rattle.std.proofs.lemmas.List.{drop-drop, length-drop}
 use Rattle.nv_mem.specs.Places.{Place}
 use Rattle.nv_model.specs.Judge.{Work, MoveBlock}
-use Rattle.nv_model.specs.Carried.{moved_on, units_from, units_moved}
+use Rattle.nv_model.specs.Carried.{moved_on, units_moved}
+use Rattle.nv_model.specs.Carrying.{units_from}
 use Rattle.nv_moves.specs.Flat.{Flat, moved_of}
 use Rattle.nv_moves.proofs.MoveLemmas.{units_moved-from, units_moved-none}
 

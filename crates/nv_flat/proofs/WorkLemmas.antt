@@ -8,7 +8,8 @@ use Rattle.nv_entry.specs.declared.opcode.IoOpcode.TheVariants.{Flush, Write, Re
 use Rattle.nv_mem.specs.declared.piece.Piece.{Piece}
 use Rattle.nv_model.specs.Judge.{LeaveBlock, Work, WorkUnit, clear_units, count_of, form_of, form_units, has_blocks, is_fua, lbas_of, move_units, range_units, work_of}
 use Rattle.nv_model.specs.Private.{Moved}
-use Rattle.nv_model.specs.Carried.{block_work, cleared, units_from, units_moved}
+use Rattle.nv_model.specs.Carried.{block_work, units_moved}
+use Rattle.nv_model.specs.Carrying.{cleared, units_from}
 use Rattle.nv_model.proofs.CarriedOut.{units_moved-append}
 use Rattle.nv_model.proofs.UnitWords.{move_units-range, units_moved-cleared, units_moved-left, units_moved-others}
 use Rattle.nv_flat.specs.Transfer.{is_transfer}

@@ -17,7 +17,7 @@ use Rattle.nv_model.specs.Controller.{Controller}
 use Rattle.nv_model.specs.Judge.{count_of, field_refusal}
 use Rattle.nv_model.specs.Limits.{block, most_descriptors, page}
 use Rattle.nv_model.specs.Private.{After, PostStep, Private, Shape, Taken, Unjudged, no_commands, put, step}
-use Rattle.nv_model.specs.Carried.{IsCarriedOut}
+use Rattle.nv_model.specs.Carrying.{IsCarriedOut}
 use Rattle.nv_judge.specs.declared.need.Need.{Need}
 use Rattle.nv_judge.specs.Need.{need_of}
 use Rattle.nv_flat.specs.Flat.{identity_map}

@@ -4,7 +4,8 @@ ghost use Rattle.std.specs.Prelude.{◌≡◌, ◌+◌, ◌*◌, ◌<◌, ◌≤
 ghost use Rattle.nv_mem.specs.Places.{places_of};
 ghost use Rattle.nv_mem.specs.declared.piece.Piece.{Piece};
 ghost use Rattle.nv_model.specs.Judge.{MoveBlock};
-ghost use Rattle.nv_model.specs.Carried.{block_work, moved_on, units_from, units_moved};
+ghost use Rattle.nv_model.specs.Carried.{block_work, moved_on, units_moved};
+ghost use Rattle.nv_model.specs.Carrying.{units_from};
 ghost use Rattle.nv_model.specs.Limits.{block as block_size};
 ghost use Rattle.nv_moves.specs.Buffer.{AreBelow};
 ghost use Rattle.nv_moves.specs.Flat.{moved_of};

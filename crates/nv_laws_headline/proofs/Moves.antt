@@ -6,7 +6,8 @@ use Rattle.std.specs.List.{list_any}
 use Rattle.std.proofs.lemmas.Bool.{cases_eq}
 use Rattle.nv_mem.specs.GuestMap.{mapped}
 use Rattle.nv_model.proofs.Bags.{put-elsewhere, put-here}
-use Rattle.nv_model.specs.Carried.{at_work, units_moved}
+use Rattle.nv_model.specs.Carried.{units_moved}
+use Rattle.nv_model.specs.Carrying.{at_work}
 use Rattle.nv_model.specs.Judge.{Work}
 use Rattle.nv_model.specs.Limits.{most_bytes}
 use Rattle.nv_model.specs.Memory.{image}

@@ -10,7 +10,8 @@ use Rattle.nv_entry.specs.Submission.{slba_of}
 use Rattle.nv_entry.specs.declared.opcode.IoOpcode.{IoOpcode}
 use Rattle.nv_entry.specs.declared.opcode.IoOpcode.TheVariants.{Flush, Write, Read, Compare, WriteZeroes, DatasetManagement}
 use Rattle.nv_mem.specs.Places.{Place, places_of}
-use Rattle.nv_model.specs.Carried.{block_work, cleared, cleared_one, units_moved}
+use Rattle.nv_model.specs.Carried.{block_work, units_moved}
+use Rattle.nv_model.specs.Carrying.{cleared, cleared_one}
 use Rattle.nv_model.specs.Judge.{Work, deallocates, has_blocks, is_fua, is_read, one_range_units}
 use Rattle.nv_model.specs.Limits.{block}
 use Rattle.nv_model.specs.Memory.{byte_at_place, gathered, scattered, stored}

@@ -5,7 +5,8 @@ use Rattle.std.specs.List.{count_by, list_any}
 use Rattle.std.proofs.lemmas.List.Folds.{list_any-append}
 use Rattle.std.proofs.lemmas.List.Sums.{sum_by-cons}
 use Rattle.nv_ns.specs.BlockRange.{Extent}
-use Rattle.nv_ns.specs.Extents.{AreApart, Namespace, has_block}
+use Rattle.nv_ns.specs.Extents.{Namespace, has_block}
+use Rattle.nv_ns.specs.Laws.{AreApart}
 use Rattle.nv_model.proofs.Endings.{and-true}
 use Rattle.nv_world_model.specs.SetUp.{any_two, blocks_meet}
 

@@ -21,7 +21,8 @@ use Rattle.nv_model.proofs.AnyAnswers.{end-short, end-sound}
 use Rattle.nv_model.proofs.Endings.{and-true}
 use Rattle.nv_model.specs.Dialogue.{in_memory}
 use Rattle.nv_model.specs.Prp.{read_prp}
-use Rattle.nv_prp.specs.Built.{HoldsList, HoldsNumbers, SpellsAddresses, built, entries_of, listed, padded, prp2_by, reading_of, starts_page}
+use Rattle.nv_prp.specs.Built.{built, entries_of, listed, padded, prp2_by, starts_page}
+use Rattle.nv_prp.specs.Spelled.{HoldsList, HoldsNumbers, SpellsAddresses, reading_of}
 use Rattle.nv_prp.specs.Fits.{fit_prp, host_addresses, is_run, places_fit}
 use Rattle.nv_prp.proofs.Builds.{fit-row}
 use Rattle.nv_prp.proofs.HostRuns.{length-mapped_runs}

@@ -10,7 +10,8 @@ use Rattle.std.proofs.lemmas.List.Elements.{All-cons, All-contains, All-head, Al
 use Rattle.byteorder.specs.Numbers.{little_number-reads_back}
 use Rattle.nv_entry.specs.Layout.{dword, number_at, number_bytes, qword}
 use Rattle.nv_entry.specs.Range.{attributes_of, blocks_of, start_of}
-use Rattle.nv_ns.specs.Extents.{Cut, Namespace, NamesBlocks, Placed, blocks_in, common, cuts, if_any, place_in, placed}
+use Rattle.nv_ns.specs.Extents.{Cut, Namespace, Placed, blocks_in, common, cuts, if_any, place_in, placed}
+use Rattle.nv_ns.specs.Laws.{NamesBlocks}
 use Rattle.nv_ns.proofs.CutWalk.{cuts-walk}
 use Rattle.nv_ns.proofs.Spelled.{walk-names}
 use Rattle.nv_model.specs.Judge.{range_fits}

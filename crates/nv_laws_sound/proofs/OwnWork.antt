@@ -10,7 +10,8 @@ use Rattle.nv_mem.specs.GuestMap.{mapped}
 use Rattle.nv_mem.specs.Places.{places_of, total_len}
 use Rattle.nv_mem.specs.declared.piece.Piece.{Piece}
 use Rattle.nv_mem.proofs.PlaceLists.{length-places_of}
-use Rattle.nv_ns.specs.Extents.{Cut, Namespace, NamesBlocks, Placed, blocks_in, cuts, place_in, placed}
+use Rattle.nv_ns.specs.Extents.{Cut, Namespace, Placed, blocks_in, cuts, place_in, placed}
+use Rattle.nv_ns.specs.Laws.{NamesBlocks}
 use Rattle.nv_ns.proofs.CutWalk.{cuts-walk}
 use Rattle.nv_ns.proofs.Spelled.{walk-some}
 use Rattle.nv_model.specs.Judge.{ClearBlock, Clear, Form, KeepAll, Keep, LeaveBlock, Manage, MoveBlock, Transfer, Work, WorkUnit, count_of}

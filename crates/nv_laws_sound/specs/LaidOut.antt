@@ -4,7 +4,7 @@ use Rattle.std.specs.Prelude.{◌≡◌, ◌≢◌, ℕ, ◌+◌, ◌%◌, ◌^�
 use Rattle.std.specs.List.{Contains}
 use Rattle.nv_mem.specs.GuestMap.{IsSound, guest_of}
 use Rattle.nv_ns.specs.BlockRange.{Extent}
-use Rattle.nv_ns.specs.Extents as extents
+use Rattle.nv_ns.specs.Laws as laws
 use Rattle.nv_ns.specs.Extents.{most_extents}
 use Rattle.nv_model.specs.Limits.{page}
 use Rattle.nv_world_model.specs.Area.{lane_start}
@@ -21,7 +21,7 @@ pub record IsGiven (host_bytes disk_blocks : ℕ) (guest : Guest) : Type 0 where
   pub few : length guest.namespace ≤ most_extents
   pub some_blocks : (extent : Extent) → Contains guest.namespace extent → 0 < extent.blocks
   pub on_disk : (extent : Extent) → Contains guest.namespace extent → extent.base + extent.blocks ≤ disk_blocks
-  pub apart : extents.AreApart guest.namespace
+  pub apart : laws.AreApart guest.namespace
 
 -- two guests share no byte of the host, and no block of the disk
 pub record AreApart (g h : Guest) : Type 0 where

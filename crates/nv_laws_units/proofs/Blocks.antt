@@ -7,14 +7,16 @@ use Rattle.std.proofs.lemmas.Bool.Decides.{nat_tests}
 use Rattle.nv_entry.specs.Range.{blocks_of, start_of}
 use Rattle.nv_entry.specs.declared.opcode.IoOpcode.{IoOpcode}
 use Rattle.nv_entry.specs.declared.opcode.IoOpcode.TheVariants.{Flush, Write, Read, Compare, WriteZeroes, DatasetManagement}
-use Rattle.nv_model.specs.Carried.{cleared, cleared_one, units_moved}
+use Rattle.nv_model.specs.Carried.{units_moved}
+use Rattle.nv_model.specs.Carrying.{cleared, cleared_one}
 use Rattle.nv_model.specs.Judge.{ClearBlock, KeepAll, Transfer, Work, form_of, one_range_units}
 use Rattle.nv_model.specs.Limits.{block}
 use Rattle.nv_model.specs.Memory.{gathered, stored}
 use Rattle.nv_model.specs.Private.{Moved, block_bytes, block_moved, block_written, differs, marked, places_of_block, unit_moved}
 use Rattle.nv_model.proofs.MemoryLemmas.{bytes_from-same}
 use Rattle.nv_model.proofs.UnitWords.{units_moved-cleared, units_moved-left}
-use Rattle.nv_ns.specs.Extents.{AreApart, Namespace, blocks_in, place_in}
+use Rattle.nv_ns.specs.Extents.{Namespace, blocks_in, place_in}
+use Rattle.nv_ns.specs.Laws.{AreApart}
 use Rattle.nv_ns.proofs.Apart.{place_in-apart}
 use Rattle.nv_laws_units.specs.Units.{SameBlocks}
 

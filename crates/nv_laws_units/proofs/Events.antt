@@ -14,7 +14,8 @@ use Rattle.nv_world_model.proofs.Seats.{slice_get-set}
 use Rattle.std.proofs.Common.{All, Bool, List, [], ◌∷◌, eq-eqb, length, map, sym}
 use Rattle.std.specs.Prelude.{◌≢◌}
 use Rattle.std.proofs.lemmas.Bool.{ne_eqb}
-use Rattle.nv_model.specs.Carried.{at_work, units_moved}
+use Rattle.nv_model.specs.Carried.{units_moved}
+use Rattle.nv_model.specs.Carrying.{at_work}
 use Rattle.nv_model.specs.Private.{AtWork, Bag, MoveStep, Private, Progress, Shape, Taken, run_of}
 use Rattle.nv_model.proofs.Bags.{put-same}
 use Rattle.nv_world_model.specs.PrivateSteps.{others_moves, own_moves, steps_of, work_in}

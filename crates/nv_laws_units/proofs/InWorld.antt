@@ -7,7 +7,8 @@ use Rattle.std.specs.List.{filter_map, list_any}
 use Rattle.nv_mem.specs.Places.{At, addresses, places_of, total_len}
 use Rattle.nv_mem.proofs.PlaceLists.{length-places_of}
 use Rattle.nv_entry.specs.Submission.{slba_of}
-use Rattle.nv_model.specs.Carried.{at_work, units_moved}
+use Rattle.nv_model.specs.Carried.{units_moved}
+use Rattle.nv_model.specs.Carrying.{at_work}
 use Rattle.nv_model.specs.Judge.{Clear, Form, Keep, Manage, Transfer, Work, form_of, is_read}
 use Rattle.nv_model.specs.Laws.{IsAnother}
 use Rattle.nv_model.specs.Limits.{block}

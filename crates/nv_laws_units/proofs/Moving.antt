@@ -16,7 +16,8 @@ use Rattle.nv_model.specs.Limits.{block}
 use Rattle.nv_model.specs.Memory.{gathered, scattered}
 use Rattle.nv_model.specs.Private.{Moved, block_bytes, numbers_of, places_of_block}
 use Rattle.nv_model.proofs.UnitsElsewhere.{units-memory}
-use Rattle.nv_ns.specs.Extents.{AreApart, blocks_in, place_in}
+use Rattle.nv_ns.specs.Extents.{blocks_in, place_in}
+use Rattle.nv_ns.specs.Laws.{AreApart}
 use Rattle.nv_world_model.specs.Area.{addresses_of, bounce_page, physical_entry, tag_count}
 use Rattle.nv_world_model.specs.Device.{Held, device_unit, form_moves, moved_by, range_at}
 use Rattle.nv_world_model.specs.Geometry.{Geometry, Guest}

@@ -6,7 +6,8 @@ use Rattle.std.specs.List.{enumerate_from, list_any}
 use Rattle.std.specs.Bool.{⊤}
 use Rattle.std.proofs.lemmas.Bool.{ne_eqb}
 use Rattle.std.proofs.lemmas.List.Elements.{All-cons, All-head, All-nil, All-tail}
-use Rattle.nv_model.specs.Carried.{at_work, moved_on, units_moved}
+use Rattle.nv_model.specs.Carried.{moved_on, units_moved}
+use Rattle.nv_model.specs.Carrying.{at_work}
 use Rattle.nv_model.specs.Judge.{Work}
 use Rattle.nv_model.specs.Private.{MoveStep, Moved, Private, Shape, Taken, others, run_of, unit_left}
 use Rattle.nv_model.proofs.CarriedOut.{step-move}

@@ -7,7 +7,7 @@ ghost use Rattle.nv_core.specs.State.{world_of};
 ghost use Rattle.nv_core.specs.Submit.{IsLimit};
 ghost use Rattle.nv_mediator.specs.Hosted.{limit_of, map_of, range_of, setup_of};
 ghost use Rattle.nv_model.specs.Memory.{byte_in};
-ghost use Rattle.nv_world_model.specs.Step.{due};
+ghost use Rattle.nv_world_model.specs.Due.{due};
 
 use crate::mediator::Mediator;
 use nv_core::Holder;

@@ -7,7 +7,8 @@ use Rattle.std.proofs.lemmas.List.Sums.{sum_by-cons}
 use Rattle.std.specs.Bool.{Decides}
 use Rattle.std.specs.List.{All, AllPairs}
 use Rattle.nv_mem.specs.declared.region.Region.{Region}
-use Rattle.nv_mem.specs.GuestMap.{covers, host_of, mapped, overlap, AllMapped, all_mapped, everywhere, covered_of, IsApart}
+use Rattle.nv_mem.specs.GuestMap.{covers, host_of, mapped, all_mapped, everywhere, IsApart}
+use Rattle.nv_mem.specs.MapRuns.{overlap, AllMapped, covered_of}
 use Rattle.nv_mem.proofs.Images.{AllPairs-head, AllPairs-tail}
 
 -- ---- the test that computes

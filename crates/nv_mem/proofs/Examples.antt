@@ -4,7 +4,8 @@ use Rattle.nv_mem.specs.declared.region.Region.{Region}
 use Rattle.nv_mem.specs.declared.map_error.MapError.TheVariants.{Unaligned, Overlap, OutsideHost}
 use Rattle.nv_mem.specs.declared.piece.Piece.TheVariants as piece
 use Rattle.nv_mem.specs.Bytes.{bytes_at, after_store}
-use Rattle.nv_mem.specs.GuestMap.{host_of, all_mapped, everywhere, refusal_of}
+use Rattle.nv_mem.specs.GuestMap.{host_of, all_mapped, everywhere}
+use Rattle.nv_mem.specs.MapRefusal.{refusal_of}
 use Rattle.nv_mem.specs.Places.{At, Bucket, addresses, places_of, total_len}
 
 -- a region

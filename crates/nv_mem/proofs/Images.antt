@@ -6,7 +6,8 @@ use Rattle.std.proofs.lemmas.List.Elements.{All-head, All-tail}
 use Rattle.std.proofs.lemmas.Bool.{cases_lt}
 use Rattle.std.specs.List.{All, AllPairs, find}
 use Rattle.nv_mem.specs.declared.region.Region.{Region}
-use Rattle.nv_mem.specs.GuestMap.{covers, covers_host, guest_of, host_of, IsApart, IsInside, IsContiguous, IsLongestRun}
+use Rattle.nv_mem.specs.GuestMap.{covers, covers_host, guest_of, host_of, IsApart, IsInside}
+use Rattle.nv_mem.specs.MapRuns.{IsContiguous, IsLongestRun}
 
 -- what holds of the first element and each later one
 pub AllPairs-head : {X : Type 0} (R : X → X → Type 0) (x : X) (xs : List X) → AllPairs R (x ∷ xs) → All (R x) xs

@@ -4,7 +4,8 @@ use Rattle.std.proofs.Common.{false, List, None, Some, is_some, eqb, refl, sym, 
 use Rattle.std.proofs.lemmas.Bool.{cases_lt}
 use Rattle.std.proofs.lemmas.Bool.Decides.{nat_tests}
 use Rattle.nv_mem.specs.declared.region.Region.{Region}
-use Rattle.nv_mem.specs.GuestMap.{AllMapped, InImage, all_mapped, IsContiguous, IsLongestRun, IsSound, Mapping, everywhere, host_of, mapped, span_met}
+use Rattle.nv_mem.specs.GuestMap.{all_mapped, IsSound, Mapping, everywhere, host_of, mapped, span_met}
+use Rattle.nv_mem.specs.MapRuns.{AllMapped, InImage, IsContiguous, IsLongestRun}
 use Rattle.nv_mem.proofs.Counts.{AllMapped-tested}
 use Rattle.nv_mem.proofs.Memory.{span_met-image}
 use Rattle.nv_mem.proofs.Images.{IsContiguous-inside, host_of-high}

@@ -9,7 +9,8 @@ use Rattle.std.proofs.lemmas.Bool.Decides.{nat_tests}
 use Rattle.std.specs.List.{All, AllPairs, find, list_any}
 use Rattle.nv_mem.specs.declared.region.Region.{Region}
 use Rattle.nv_mem.specs.Bytes.{InMemory, bytes_at, after_store}
-use Rattle.nv_mem.specs.GuestMap.{Mapping, covers, covers_host, guest_of, host_of, InImage, IsApart, IsSound, spans_meet, span_met, hosts_meet}
+use Rattle.nv_mem.specs.GuestMap.{Mapping, covers, covers_host, guest_of, host_of, IsApart, IsSound, spans_meet, span_met, hosts_meet}
+use Rattle.nv_mem.specs.MapRuns.{InImage}
 use Rattle.nv_mem.proofs.Images.{AllPairs-head, AllPairs-tail, All-find, find-passes, host_of-found, host_of-inside}
 
 -- ---- a memory after a store

@@ -2,7 +2,7 @@
 use Rattle.std.proofs.Common.{◌≡◌, ℕ, ◌+◌, ◌<◌, ◌||◌, List, length, get_or, drop, drop-cons, add-one}
 use Rattle.std.specs.List.{list_any}
 use Rattle.nv_mem.specs.declared.region.Region.{Region}
-use Rattle.nv_mem.specs.GuestMap.{regions_meet, any_two_meet}
+use Rattle.nv_mem.specs.MapRefusal.{regions_meet, any_two_meet}
 
 -- the step of the search for two that meet
 pub any_two_meet_drop : (rs : List Region) (i : ℕ) (d : Region) → i < length rs

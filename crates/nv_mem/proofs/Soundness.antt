@@ -8,7 +8,8 @@ use Rattle.std.proofs.lemmas.List.Kept.{AllPairs-cons}
 use Rattle.std.specs.List.{All, AllPairs, list_any, list_all}
 use Rattle.nv_mem.specs.declared.region.Region.{Region}
 use Rattle.nv_mem.specs.declared.map_error.MapError.TheVariants.{Unaligned, Overlap, OutsideHost}
-use Rattle.nv_mem.specs.GuestMap.{Mapping, covers, covers_host, spans_meet, regions_meet, any_two_meet, is_paged, is_inside, refusal_of, IsPaged, IsApart, IsInside, IsSound}
+use Rattle.nv_mem.specs.GuestMap.{Mapping, covers, covers_host, spans_meet, IsPaged, IsApart, IsInside, IsSound}
+use Rattle.nv_mem.specs.MapRefusal.{regions_meet, any_two_meet, is_paged, is_inside, refusal_of}
 use Rattle.nv_mem.proofs.Images.{AllPairs-head, AllPairs-tail}
 
 -- ---- one region

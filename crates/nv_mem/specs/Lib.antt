@@ -1,5 +1,7 @@
 pub mod Bytes
 pub mod GuestMap
+pub mod MapRefusal
+pub mod MapRuns
 pub mod GuestOrder
 pub mod Kept
 pub mod Page

@@ -59,7 +59,9 @@ impl Debug for GuestMap {
 }
 
 impl GuestMap {
-    ghost use Rattle.nv_mem.specs.GuestMap.{Mapping, IsSound, covers, IsContiguous, IsLongestRun, AllMapped, all_mapped, host_of, refusal_of, span_met, hosts_meet};
+    ghost use Rattle.nv_mem.specs.GuestMap.{Mapping, IsSound, covers, all_mapped, host_of, span_met, hosts_meet};
+    ghost use Rattle.nv_mem.specs.MapRefusal.{refusal_of};
+    ghost use Rattle.nv_mem.specs.MapRuns.{IsContiguous, IsLongestRun, AllMapped};
 
     /// The map with these regions, for a host of `host_len` bytes, or the lowest of the three
     /// refusals that applies. It takes no memory.

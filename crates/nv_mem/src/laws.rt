@@ -3,7 +3,9 @@ ghost use Rattle.std.specs.Prelude.{◌≡◌, ℕ, ◌+◌, ◌<◌, ◌≤◌,
 ghost use Rattle.nv_mem.specs.declared.region.Region.{Region};
 ghost use Rattle.nv_mem.specs.declared.piece.Piece.{Piece};
 ghost use Rattle.nv_mem.specs.Bytes.{InMemory, bytes_at, after_store};
-ghost use Rattle.nv_mem.specs.GuestMap.{Mapping, IsSound, IsLongestRun, InImage, AllMapped, all_mapped, host_of, hosts_meet, refusal_of, span_met};
+ghost use Rattle.nv_mem.specs.GuestMap.{Mapping, IsSound, all_mapped, host_of, hosts_meet, span_met};
+ghost use Rattle.nv_mem.specs.MapRefusal.{refusal_of};
+ghost use Rattle.nv_mem.specs.MapRuns.{IsLongestRun, InImage, AllMapped};
 ghost use Rattle.nv_mem.specs.Places.{places_of, total_len};
 
 /// A list of regions is refused exactly where it is no map.

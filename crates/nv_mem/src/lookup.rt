@@ -1,13 +1,14 @@
 //! What a list of regions has of an address or a range of addresses.
 ghost use Rattle.std.specs.Prelude.{◌≡◌, ◌≤◌};
 ghost use Rattle.std.specs.List.{find, list_any};
-ghost use Rattle.nv_mem.specs.GuestMap.{covered_of, covers, hosts_meet, span_met};
+ghost use Rattle.nv_mem.specs.GuestMap.{covers, hosts_meet, span_met};
+ghost use Rattle.nv_mem.specs.MapRuns.{covered_of};
 
 use crate::region::Region;
 
 // How many of the `len` guest addresses from `addr` on lie in the regions, taken together.
 #[inline(never)]
-#[tactic(auto, unfolding(crate::specs::GuestMap::covered_of))]
+#[tactic(auto, unfolding(crate::specs::MapRuns::covered_of))]
 pub fn covered(regions: &[Region], addr: u64, len: u64) -> u64
     requires { covered_of regions.now addr len ≤ len }
     ensures { result ≡ covered_of regions.now addr len }

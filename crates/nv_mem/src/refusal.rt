@@ -1,13 +1,13 @@
 //! Why a list of regions is refused as a map.
 ghost use Rattle.std.specs.Prelude.{◌≡◌};
 ghost use Rattle.std.specs.List.{list_all, list_any};
-ghost use Rattle.nv_mem.specs.GuestMap.{any_two_meet, is_inside, is_paged, refusal_of, regions_meet};
+ghost use Rattle.nv_mem.specs.MapRefusal.{any_two_meet, is_inside, is_paged, refusal_of, regions_meet};
 
 use crate::map_error::MapError;
 use crate::region::Region;
 
 // The lowest number that applies, or none.
-#[tactic(auto, unfolding(crate::specs::GuestMap::refusal_of))]
+#[tactic(auto, unfolding(crate::specs::MapRefusal::refusal_of))]
 pub fn refusal(host_len: u64, regions: &[Region]) -> Option<MapError>
     ensures { result ≡ refusal_of host_len regions.now }
 {

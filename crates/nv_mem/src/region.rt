@@ -19,7 +19,9 @@ pub struct Region {
 }
 
 impl Region {
-    ghost use Rattle.nv_mem.specs.GuestMap.{covers, overlap, is_paged, is_inside, regions_meet};
+    ghost use Rattle.nv_mem.specs.GuestMap.{covers};
+    ghost use Rattle.nv_mem.specs.MapRefusal.{is_paged, is_inside, regions_meet};
+    ghost use Rattle.nv_mem.specs.MapRuns.{overlap};
 
     /// Whether both addresses and the length are multiples of [`PAGE_SIZE`], and the length is not 0.
     pub(crate) fn is_paged(&self) -> bool

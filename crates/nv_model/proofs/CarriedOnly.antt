@@ -6,7 +6,8 @@ use Rattle.nv_model.specs.Judge.{WorkUnit, Work, Verdict, Go, Refuse}
 use Rattle.nv_model.specs.Private.{AtWork, Ended, Unjudged, ActStep, AdminQueueStep, GiveUpStep, JudgeStep, KeepStep, MoveStep, PostStep, RunOutStep, TakeStep}
 use Rattle.nv_model.specs.Private.{Moved, Private, Run, Shape, Step, Taken, ending, further, moved_status, numbers_of, others, progress_of, run_of, step}
 use Rattle.nv_model.specs.Private.{unit_left, verdict_in}
-use Rattle.nv_model.specs.Carried.{IsCarriedOut, at_work, ending_of, is_own_step, moved_on, this_far, unmoved, units_moved}
+use Rattle.nv_model.specs.Carried.{moved_on, units_moved}
+use Rattle.nv_model.specs.Carrying.{IsCarriedOut, at_work, ending_of, is_own_step, this_far, unmoved}
 use Rattle.nv_model.specs.Laws.{HasMoved, IsOrderOf}
 use Rattle.nv_model.proofs.Bags.{IsDistinct, IsDistinct-others, IsDistinct-range, StandsAt, numbered, numbered-all, numbered-none, stands_at}
 use Rattle.nv_model.proofs.CarriedOut.{ending_of-this_far, step-judge, step-move, unjudged-is}

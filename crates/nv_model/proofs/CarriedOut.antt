@@ -5,7 +5,8 @@ use Rattle.nv_entry.specs.Status.{StatusField}
 use Rattle.nv_model.specs.Judge.{WorkUnit, Work, Go, Refuse}
 use Rattle.nv_model.specs.Private.{AtWork, Bag, Ended, Progress, Unjudged, JudgeStep, MoveStep, Moved, Private, Shape, Taken, ending, moved_status, others}
 use Rattle.nv_model.specs.Private.{progress_of, run_of, step, unit_left, unseen, verdict_in}
-use Rattle.nv_model.specs.Carried.{IsCarriedOut, all_moved, at_work, ending_of, is_own_step, judged_then_moved, moved_on, this_far, unmoved, units_moved}
+use Rattle.nv_model.specs.Carried.{moved_on, units_moved}
+use Rattle.nv_model.specs.Carrying.{IsCarriedOut, all_moved, at_work, ending_of, is_own_step, judged_then_moved, this_far, unmoved}
 use Rattle.nv_model.proofs.Bags.{others-first, put-here, put-same, put-twice, unit_left-first}
 
 -- a unit of a command moves

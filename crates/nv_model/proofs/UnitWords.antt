@@ -5,7 +5,8 @@ use Rattle.nv_entry.specs.declared.opcode.IoOpcode.{IoOpcode}
 use Rattle.nv_entry.specs.declared.opcode.IoOpcode.TheVariants.{Flush, Write, Read, Compare, WriteZeroes, DatasetManagement}
 use Rattle.nv_model.specs.Judge.{WorkUnit, MoveBlock, ClearBlock, LeaveBlock, KeepAll, Work, clear_units, move_units}
 use Rattle.nv_model.specs.Private.{Moved, block_moved}
-use Rattle.nv_model.specs.Carried.{cleared, cleared_one, moved_on, units_from, units_moved}
+use Rattle.nv_model.specs.Carried.{moved_on, units_moved}
+use Rattle.nv_model.specs.Carrying.{cleared, cleared_one, units_from}
 
 pub or-false : (b : Bool) → b || false ≡ b
 or-false true = refl

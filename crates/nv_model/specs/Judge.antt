@@ -143,8 +143,7 @@ read_by Reserved mapped limit dest len entry = End (Faulty InvalidField)
 -- a list that names another number of bytes than the transfer has is faulty
 abbrev pub sized : ℕ → Reading → Reading
 sized len (Spells pieces) = if total_len pieces == len then Spells pieces else Faulty SglLengthInvalid
-sized len (Faulty code) = Faulty code
-sized len TooLong = TooLong
+sized len reading = reading
 
 -- the command's list
 abbrev pub read_buffer : (ℕ → Bool) → (limit : ℕ) → IoOpcode → List ℕ → Dialogue Reading

@@ -13,7 +13,8 @@ use Rattle.nv_model.specs.Limits.{block, most_slots}
 use Rattle.nv_model.specs.Queue.{SubmissionQueue, CompletionQueue, cqe_size, sqe_size}
 use Rattle.nv_model.specs.Controller.{Controller}
 use Rattle.nv_model.specs.Private.{After, AtWork, Ended, Private, Progress, Run, Shape, Taken, Unjudged, moved_status}
-use Rattle.nv_model.specs.Carried.{at_work, unmoved, units_moved}
+use Rattle.nv_model.specs.Carried.{units_moved}
+use Rattle.nv_model.specs.Carrying.{at_work, unmoved}
 
 -- ---- memories
 

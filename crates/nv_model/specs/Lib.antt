@@ -11,6 +11,7 @@ pub mod Controller
 pub mod Admin
 pub mod Private
 pub mod Carried
+pub mod Carrying
 pub mod Footprint
 pub mod Laws
 pub mod Running

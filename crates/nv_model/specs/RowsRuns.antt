@@ -9,7 +9,7 @@ use Rattle.nv_model.specs.declared.reply.Reply.{Reply}
 use Rattle.nv_model.specs.Memory.{bytes_from}
 use Rattle.nv_model.specs.Controller.{opening}
 use Rattle.nv_model.specs.Private.{Private, Run, Step, ActStep, TakeStep, JudgeStep, MoveStep, PostStep, AdminQueueStep, Taken, Unjudged, no_commands, put, run_of, start}
-use Rattle.nv_model.specs.Carried.{ending_of, judged_then_moved}
+use Rattle.nv_model.specs.Carrying.{ending_of, judged_then_moved}
 use Rattle.nv_model.specs.Footprint.{Destination, Entry, Named, Source, footprints, named_as}
 use Rattle.nv_model.specs.Queue.{SubmissionQueue}
 use Rattle.nv_model.specs.Rows.{command, data_block, first_example, guest, prps}

@@ -16,7 +16,8 @@ use Rattle.nv_model.specs.Memory.{byte_in, gathered, scattered, stored}
 use Rattle.nv_model.proofs.MemoryLemmas.{bytes_from-list}
 use Rattle.nv_model.specs.Judge.{Work, MoveBlock}
 use Rattle.nv_model.specs.Private.{Moved, block_bytes, block_written, differs, marked}
-use Rattle.nv_model.specs.Carried.{block_work, cleared, cleared_one, moved_on, units_from, units_moved}
+use Rattle.nv_model.specs.Carried.{block_work, moved_on, units_moved}
+use Rattle.nv_model.specs.Carrying.{cleared, cleared_one, units_from}
 use Rattle.nv_model.proofs.UnitWords.{or-false}
 use Rattle.nv_moves.specs.Flat.{byte_of_block, flat, moved_of}
 use Rattle.nv_moves.proofs.BufferLemmas.{scattered-take}

@@ -10,7 +10,8 @@ use Rattle.nv_mem.specs.declared.piece.Piece.{Piece}
 use Rattle.nv_model.specs.Memory.{byte_in, gathered, scattered}
 use Rattle.nv_model.proofs.MemoryLemmas.{gathered-append, length-gathered, scattered-append}
 use Rattle.nv_model.specs.Private.{block_bytes, differs, marked}
-use Rattle.nv_model.specs.Carried.{block_work, units_from, units_moved}
+use Rattle.nv_model.specs.Carried.{block_work, units_moved}
+use Rattle.nv_model.specs.Carrying.{units_from}
 use Rattle.nv_moves.specs.Flat.{byte_of_block, flat, moved_of}
 use Rattle.nv_moves.specs.Marks.{mark_of, raised}
 use Rattle.nv_moves.proofs.BufferLemmas.{scattered-no_bytes}

@@ -5,7 +5,8 @@ use Rattle.std.proofs.lemmas.Bool.{cases_lt}
 use Rattle.std.proofs.lemmas.Grind.{common_steps}
 use Rattle.std.proofs.lemmas.List.Sums.{sum_by-cons}
 use Rattle.nv_ns.specs.BlockRange.{Extent}
-use Rattle.nv_ns.specs.Extents.{AreApart, Namespace, blocks_in, has_block, place_in}
+use Rattle.nv_ns.specs.Extents.{Namespace, blocks_in, has_block, place_in}
+use Rattle.nv_ns.specs.Laws.{AreApart}
 use Rattle.nv_ns.proofs.Spelled.{place_in-beyond, place_in-here}
 
 -- an extent more has one place more, or as many

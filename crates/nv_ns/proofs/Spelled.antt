@@ -9,7 +9,8 @@ use Rattle.std.proofs.lemmas.List.Concat.{flat_map-append}
 use Rattle.std.proofs.lemmas.List.Elements.{All-append, All-cons, All-nil, All-weaker}
 use Rattle.std.proofs.lemmas.List.Sums.{sum_by-append, sum_by-cons}
 use Rattle.nv_ns.specs.BlockRange.{Extent}
-use Rattle.nv_ns.specs.Extents.{Cut, LiesInOne, Namespace, NamesBlocks, blocks_in, cut_out, cuts, place_in, places_of_cut}
+use Rattle.nv_ns.specs.Extents.{Cut, Namespace, blocks_in, cut_out, cuts, place_in}
+use Rattle.nv_ns.specs.Laws.{LiesInOne, NamesBlocks, places_of_cut}
 use Rattle.nv_ns.proofs.Ranges.{in_namespace-true}
 use Rattle.nv_ns.proofs.CutWalk.{cut_here, cuts-walk, here, one_cut, one_cut-none, one_cut-some, walk, walk-none}
 

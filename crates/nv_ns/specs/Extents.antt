@@ -1,7 +1,7 @@
 -- A guest's namespace as several ranges of the disk, one behind the other, and what a run of its blocks is on the disk.
-use Rattle.std.specs.Prelude.{◌≡◌, ℕ, ◌+◌, ◌-◌, ◌^◌, ◌<◌, ◌≤◌, min, max, Bool, ◌&&◌, nat_lt, nat_le, if◌then◌else◌, List, [], ◌∷◌}
+use Rattle.std.specs.Prelude.{ℕ, ◌+◌, ◌-◌, ◌^◌, min, max, Bool, ◌&&◌, nat_lt, nat_le, if◌then◌else◌, List, [], ◌∷◌}
 use Rattle.std.specs.Prelude.{length, Option, Some, None}
-use Rattle.std.specs.List.{Contains, count_by, filter_map, list_all, range_with_len, sum_by}
+use Rattle.std.specs.List.{filter_map, list_all}
 use Rattle.nv_ns.specs.BlockRange.{Extent, in_namespace}
 
 -- a namespace: its blocks are those of these extents, joined in their order (profile: the extents of a guest may lie anywhere on the disk)
@@ -69,30 +69,8 @@ cuts ns slba count = filter_map (λ (at : Placed). if_any (common at slba count)
 abbrev pub cut_out : Namespace → (slba count : ℕ) → Option (List Cut)
 cut_out ns slba count = if in_namespace slba count (blocks_in ns) then Some (cuts ns slba count) else None
 
--- the disk's blocks that a cut names, in order
-abbrev pub places_of_cut : Cut → List ℕ
-places_of_cut cut = range_with_len cut.start cut.count
-
--- how many blocks cuts name together
-abbrev pub blocks_cut : List Cut → ℕ
-blocks_cut parts = sum_by (λ (cut : Cut). cut.count) parts
-
--- a cut lies in one of the extents
-abbrev pub LiesInOne : Namespace → Cut → Type 0
-LiesInOne ns cut =
-    (extent : Extent) × (Contains ns extent × (extent.base ≤ cut.start) × (cut.start + cut.count ≤ extent.base + extent.blocks))
-
--- it names blocks of the run, each where it lies
-abbrev pub NamesBlocks : Namespace → (slba count : ℕ) → Cut → Type 0
-NamesBlocks ns slba count cut =
-    (cut.first + cut.count ≤ count) × ((i : ℕ) → i < cut.count → place_in ns (slba + (cut.first + i)) ≡ cut.start + i)
-
--- ---- extents that are apart
+-- ---- the blocks of an extent
 
 -- whether a block of the disk is one of an extent
 abbrev pub has_block : (at : ℕ) → Extent → Bool
 has_block at extent = nat_le extent.base at && nat_lt at (extent.base + extent.blocks)
-
--- no block of the disk is in two of them
-abbrev pub AreApart : Namespace → Type 0
-AreApart ns = (at : ℕ) → count_by (has_block at) ns ≤ 1

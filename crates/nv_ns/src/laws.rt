@@ -2,8 +2,10 @@
 ghost use Rattle.std.specs.Prelude.{◌≡◌, ℕ, ◌+◌, ◌<◌, ◌≤◌, ◌↔◌, IsTrue, List, [], ◌∷◌, ◌++◌, length, map, take, Some, slice_get};
 ghost use Rattle.std.specs.List.{All, count_by, flat_map, range_with_len};
 ghost use Rattle.nv_ns.specs.BlockRange.{Extent, InNamespace, in_namespace};
-ghost use Rattle.nv_ns.specs.Extents.{AreApart, Cut, LiesInOne, Namespace, NamesBlocks};
-ghost use Rattle.nv_ns.specs.Extents.{blocks_cut, blocks_in, cuts, has_block, place_in, places_of_cut};
+ghost use Rattle.nv_ns.specs.Extents.{Cut, Namespace};
+ghost use Rattle.nv_ns.specs.Laws.{AreApart, LiesInOne, NamesBlocks};
+ghost use Rattle.nv_ns.specs.Extents.{blocks_in, cuts, has_block, place_in};
+ghost use Rattle.nv_ns.specs.Laws.{blocks_cut, places_of_cut};
 
 /// A range that has blocks is in the namespace exactly when every block of it is, and a range of
 /// no blocks exactly when it starts no later than behind the last block.

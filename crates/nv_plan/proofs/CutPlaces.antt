@@ -13,7 +13,8 @@ use Rattle.nv_mem.specs.declared.piece.Piece.TheVariants as piece
 use Rattle.nv_mem.proofs.MappedRuns.{mapped-below}
 use Rattle.nv_model.specs.Laws.{IsMappedPiece}
 use Rattle.nv_ns.specs.BlockRange.{in_namespace}
-use Rattle.nv_ns.specs.Extents.{Cut, Namespace, NamesBlocks, blocks_in, cuts}
+use Rattle.nv_ns.specs.Extents.{Cut, Namespace, blocks_in, cuts}
+use Rattle.nv_ns.specs.Laws.{NamesBlocks}
 use Rattle.nv_ns.proofs.CutWalk.{cuts-walk}
 use Rattle.nv_ns.proofs.Ranges.{InNamespace-tested}
 use Rattle.nv_ns.proofs.Spelled.{walk-few, walk-firsts, walk-names, walk-sums}

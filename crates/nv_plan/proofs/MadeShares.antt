@@ -9,7 +9,8 @@ use Rattle.std.proofs.lemmas.Option.{slice_get-map}
 use Rattle.std.proofs.lemmas.List.Elements.{All-head, All-tail}
 use Rattle.nv_entry.specs.Submission.{slba_of}
 use Rattle.nv_mem.specs.declared.region.Region.{Region}
-use Rattle.nv_ns.specs.Extents.{Cut, Namespace, NamesBlocks, Placed, blocks_in, cuts, is_namespace, placed}
+use Rattle.nv_ns.specs.Extents.{Cut, Namespace, Placed, blocks_in, cuts, is_namespace, placed}
+use Rattle.nv_ns.specs.Laws.{NamesBlocks}
 use Rattle.nv_ns.proofs.CutWalk.{cuts-walk}
 use Rattle.nv_ns.proofs.Spelled.{walk-names, walk-some}
 use Rattle.nv_model.specs.Endings.{MayEndIn}

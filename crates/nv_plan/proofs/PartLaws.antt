@@ -18,7 +18,8 @@ use Rattle.nv_model.specs.Limits.{page}
 use Rattle.nv_model.proofs.Endings.{and-true}
 use Rattle.nv_model.proofs.RunPieces.{IsRunPiece}
 use Rattle.nv_ns.specs.Extents.{blocks_in}
-use Rattle.nv_prp.specs.Built.{HoldsList, SpellsAddresses, built, reading_of}
+use Rattle.nv_prp.specs.Built.{built}
+use Rattle.nv_prp.specs.Spelled.{HoldsList, SpellsAddresses, reading_of}
 use Rattle.nv_prp.specs.Fits.{fit_prp, host_addresses, hosts_of, is_run, places_fit}
 use Rattle.nv_prp.proofs.HostRuns.{length-mapped_runs}
 use Rattle.nv_prp.proofs.Spelling.{built-spells}

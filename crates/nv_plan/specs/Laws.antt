@@ -1,7 +1,8 @@
 -- Words of the laws about plans
 use Rattle.std.specs.Prelude.{◌≡◌, ℕ, ◌+◌, ◌<◌, ◌≤◌, List}
 use Rattle.nv_entry.specs.Range.{blocks_of, start_of}
-use Rattle.nv_ns.specs.Extents.{LiesInOne, Namespace, blocks_in}
+use Rattle.nv_ns.specs.Extents.{Namespace, blocks_in}
+use Rattle.nv_ns.specs.Laws.{LiesInOne}
 use Rattle.nv_world_model.specs.Area.{first_base}
 
 -- a range of the disk that has blocks lies in one extent of a namespace; one of no blocks starts behind the first extent's base, no farther

@@ -3,7 +3,7 @@ use Rattle.std.proofs.Common.{◌≡◌, ℕ, zero, suc, ◌+◌, ◌-◌, ◌%�
 use Rattle.std.proofs.Common.{arith, refl, sym, ap, subst, ◌∙◌, append_assoc, append-nil, length-append, eq-eqb}
 use Rattle.std.specs.List.{filter, range_with_len}
 use Rattle.std.proofs.lemmas.List.Elements.{filter-append}
-use Rattle.nv_mem.specs.GuestMap.{IsLongestRun}
+use Rattle.nv_mem.specs.MapRuns.{IsLongestRun}
 use Rattle.nv_mem.specs.Places.{addresses, places_of_piece, total_len}
 use Rattle.nv_mem.specs.declared.piece.Piece.{Piece}
 use Rattle.nv_mem.specs.declared.piece.Piece.TheVariants as piece

@@ -9,7 +9,8 @@ use Rattle.std.proofs.lemmas.Bool.{cases_lt}
 use Rattle.std.proofs.lemmas.Grind.{flat_map-append}
 use Rattle.std.proofs.lemmas.List.Elements.{All-head, All-tail}
 use Rattle.std.proofs.lemmas.List.Sums.{sum_by-cons}
-use Rattle.nv_mem.specs.GuestMap.{Mapping, IsSound, IsLongestRun, everywhere, host_of, mapped}
+use Rattle.nv_mem.specs.GuestMap.{Mapping, IsSound, everywhere, host_of, mapped}
+use Rattle.nv_mem.specs.MapRuns.{IsLongestRun}
 use Rattle.nv_mem.specs.Places.{Place, At, Bucket, addresses, piece_len, places_of, places_of_piece, total_len}
 use Rattle.nv_mem.specs.declared.piece.Piece.{Piece}
 use Rattle.nv_mem.specs.declared.piece.Piece.TheVariants as piece

@@ -16,7 +16,8 @@ use Rattle.nv_model.specs.Dialogue.{Dialogue, End, in_memory}
 use Rattle.nv_model.specs.Prp.{entry_fault, first_len, pages_of, read_entries, read_page, read_prp, read_prp2, slots_of}
 use Rattle.nv_model.specs.Limits.{page}
 use Rattle.nv_model.specs.Reading.{Reading, Spells, unless_faulty, run}
-use Rattle.nv_prp.specs.Built.{built, entries_of, listed, padded, prp2_by, reading_of, starts_page, HoldsList, HoldsNumbers, SpellsAddresses}
+use Rattle.nv_prp.specs.Built.{built, entries_of, listed, padded, prp2_by, starts_page}
+use Rattle.nv_prp.specs.Spelled.{reading_of, HoldsList, HoldsNumbers, SpellsAddresses}
 use Rattle.nv_prp.specs.Fits.{fit_behind, fit_prp, may_follow}
 use Rattle.nv_prp.proofs.Cursors.{behind_slot, read_prp2-list, run-some}
 use Rattle.nv_prp.proofs.Pages.{ArePages, page_more, paged, room_from, Paged-fit, both}

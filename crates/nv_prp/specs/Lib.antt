@@ -1,4 +1,5 @@
 pub mod Built
+pub mod Spelled
 pub mod Cursor
 pub mod Fits
 pub mod Met

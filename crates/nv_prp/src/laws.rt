@@ -12,7 +12,8 @@ ghost use Rattle.nv_model.specs.Memory.{bytes_from};
 ghost use Rattle.nv_model.specs.Transcript.{fed};
 ghost use Rattle.nv_model.specs.Want.{want_of};
 ghost use Rattle.nv_model.specs.declared.want.Want.TheVariants as want;
-ghost use Rattle.nv_prp.specs.Built.{HoldsList, SpellsAddresses, built, reading_of};
+ghost use Rattle.nv_prp.specs.Built.{built};
+ghost use Rattle.nv_prp.specs.Spelled.{HoldsList, SpellsAddresses, reading_of};
 ghost use Rattle.nv_prp.specs.Fits.{fit_prp, host_addresses, is_run};
 ghost use Rattle.nv_prp.specs.Parse.{Parse, dialogue_of};
 

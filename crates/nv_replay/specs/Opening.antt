@@ -1,7 +1,7 @@
 -- The world that a script's text opens: each guest's map in their order, then the set-up (profile)
 use Rattle.std.specs.Prelude.{◌≡◌, ℕ, ◌+◌, ◌⊎◌, min, List, [], ◌∷◌, map, Option, Some, None, Result, Ok, Err}
 use Rattle.std.specs.Result.{result_map_both}
-use Rattle.nv_mem.specs.GuestMap.{refusal_of as map_refusal_of}
+use Rattle.nv_mem.specs.MapRefusal.{refusal_of as map_refusal_of}
 use Rattle.nv_mem.specs.declared.map_error.MapError.{MapError}
 use Rattle.nv_ns.specs.BlockRange.{Extent}
 use Rattle.nv_replay_script.specs.declared.set_up.Extent.{Extent as WrittenExtent}

@@ -2,7 +2,8 @@
 use Rattle.std.proofs.Common.{◌≡◌, ℕ, ◌+◌, ◌-◌, ◌<◌, ◌≤◌, ◌^◌, true, None, is_some, arith, ap, inl, inr}
 use Rattle.std.proofs.lemmas.Bool.{cases_lt}
 use Rattle.nv_mem.proofs.Images.{host_of-high}
-use Rattle.nv_mem.specs.GuestMap.{Mapping, IsSound, AllMapped, host_of}
+use Rattle.nv_mem.specs.GuestMap.{Mapping, IsSound, host_of}
+use Rattle.nv_mem.specs.MapRuns.{AllMapped}
 
 -- addresses that are mapped, at least one, end at 2 to the 64 at the latest
 pub AllMapped-end : (m : Mapping) (addr len : ℕ) → IsSound m → AllMapped m.regions addr len → 0 < len

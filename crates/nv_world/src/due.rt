@@ -2,7 +2,7 @@
 
 ghost use Rattle.std.specs.Prelude.{◌≡◌};
 ghost use Rattle.nv_core.specs.State.{world_of};
-ghost use Rattle.nv_world_model.specs.Step.{due};
+ghost use Rattle.nv_world_model.specs.Due.{due};
 
 use crate::world::World;
 use nv_world_model::Event;

@@ -13,7 +13,8 @@ use Rattle.nv_entry.specs.declared.opcode.IoOpcode.TheVariants.{Flush, Write, Re
 use Rattle.nv_entry.proofs.CompletionLemmas.{IsCompletion-completion, length-completion}
 use Rattle.nv_mem.specs.Places.{places_of}
 use Rattle.nv_mem.specs.declared.piece.Piece.{Piece}
-use Rattle.nv_model.specs.Carried.{block_work, cleared, cleared_one, units_moved}
+use Rattle.nv_model.specs.Carried.{block_work, units_moved}
+use Rattle.nv_model.specs.Carrying.{cleared, cleared_one}
 use Rattle.nv_model.specs.Dialogue.{asked, in_memory}
 use Rattle.nv_model.specs.Judge.{Work, deallocates, has_blocks, is_fua, one_range_units, transfer_len}
 use Rattle.nv_model.specs.Laws.{AgreeAt, AgreeOn}

@@ -12,7 +12,8 @@ use Rattle.nv_entry.specs.Submission.{slba_of}
 use Rattle.nv_entry.specs.declared.opcode.IoOpcode.{IoOpcode}
 use Rattle.nv_entry.specs.declared.opcode.IoOpcode.TheVariants.{Compare, DatasetManagement, Flush, Read, Write, WriteZeroes}
 use Rattle.nv_mem.specs.declared.region.Region.{Region}
-use Rattle.nv_ns.specs.Extents.{Cut, Namespace, NamesBlocks, Placed, blocks_in, common, cuts, placed}
+use Rattle.nv_ns.specs.Extents.{Cut, Namespace, Placed, blocks_in, common, cuts, placed}
+use Rattle.nv_ns.specs.Laws.{NamesBlocks}
 use Rattle.nv_ns.proofs.CutWalk.{cuts-walk}
 use Rattle.nv_ns.proofs.Spelled.{walk-names}
 use Rattle.nv_model.specs.Judge.{ClearBlock, Clear, Form, Go, KeepAll, Keep, LeaveBlock, Manage, MoveBlock, Transfer, Work, WorkUnit, count_of}

@@ -7,6 +7,7 @@ pub mod Device
 pub mod World
 pub mod Seat
 pub mod Step
+pub mod Due
 pub mod Log
 pub mod SetUp
 pub mod View

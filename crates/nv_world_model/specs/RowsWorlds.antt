@@ -10,7 +10,8 @@ use Rattle.nv_world_model.specs.declared.event.Event.TheVariants as event
 use Rattle.nv_world_model.specs.Device.{opening_device_lane}
 use Rattle.nv_world_model.specs.Rows.{behind, completed, controller_with, guest_at, holding, in_device, moves, one_command_on, set_up, world_with}
 use Rattle.nv_world_model.specs.Geometry.{Geometry, Guest}
-use Rattle.nv_world_model.specs.Step.{due, replay}
+use Rattle.nv_world_model.specs.Step.{replay}
+use Rattle.nv_world_model.specs.Due.{due}
 use Rattle.nv_world_model.specs.World.{Ended, Flying, Free, Tag, Taken, World, opening_lane, opening_world, tag_of}
 
 -- ---- lists

@@ -13,7 +13,7 @@ use Rattle.nv_mem.specs.Places.{piece_len}
 use Rattle.nv_mem.specs.declared.piece.Piece.{Piece}
 use Rattle.nv_mem.specs.declared.piece.Piece.TheVariants as piece
 use Rattle.nv_ns.specs.Extents.{Cut, Namespace, Placed, blocks_in, common, cuts, if_any, placed}
-use Rattle.nv_model.specs.Judge.{ClearBlock, Form, KeepAll, Keep, LeaveBlock, Manage, MoveBlock, Work, WorkUnit, count_of}
+use Rattle.nv_model.specs.Judge.{Form, Keep, Manage, MoveBlock, Work, WorkUnit, count_of}
 use Rattle.nv_model.specs.Judge.{field_refusal, form_of}
 use Rattle.nv_model.specs.Limits.{block, range_size}
 use Rattle.nv_model.specs.Private.{numbers_of}
@@ -42,9 +42,7 @@ cut_pieces skip len (first ∷ rest) =
 -- a unit of a transfer without its first blocks: its block lies so many nearer to the front of the buffer
 abbrev pub unit_behind : (first : ℕ) → WorkUnit → WorkUnit
 unit_behind first (MoveBlock index lba) = MoveBlock (index - first) lba
-unit_behind first (ClearBlock lba mark) = ClearBlock lba mark
-unit_behind first (LeaveBlock lba) = LeaveBlock lba
-unit_behind first (KeepAll blocks) = KeepAll blocks
+unit_behind first unit = unit
 
 -- the units of these numbers, of which the first blocks are cut off
 abbrev pub units_at : (first : ℕ) → List WorkUnit → (numbers : List ℕ) → List WorkUnit

@@ -26,7 +26,7 @@ use Rattle.nv_world_model.specs.declared.event.Event.TheVariants as event
 use Rattle.nv_world_model.specs.Area.{bounce_page, ring_size}
 use Rattle.nv_world_model.specs.Device.{DeviceLane, Held, completion_posted, completion_written, device_unit, entry_taken, front_entry, held_status, next_phase, rung, unit_gone, with_held}
 use Rattle.nv_world_model.specs.Geometry.{Geometry, regions_of, shape_of}
-use Rattle.nv_world_model.specs.Plan.{Answer, Bounced, Direct, NoData, Plan, plan_over}
+use Rattle.nv_world_model.specs.Plan.{Answer, Bounced, Plan, plan_over}
 use Rattle.nv_world_model.specs.Seat.{Owner, completion_at, owner_of, put_back, seat, with_memory}
 use Rattle.nv_world_model.specs.Share.{Share, shares_of, tags_of_entry}
 use Rattle.nv_world_model.specs.ShareArea.{is_no_command, share_written}
@@ -90,14 +90,7 @@ for_held (Some (Some h)) w more = more h
 -- only an act that is done changes anything
 abbrev pub act_put_back : Reply → Private → Owner → World → After
 act_put_back reply.Done p o w = replied reply.Done (put_back o p.memory p.controller w)
-act_put_back (reply.Bytes bytes) p o w = replied (reply.Bytes bytes) w
-act_put_back reply.Idle p o w = replied reply.Idle w
-act_put_back reply.Busy p o w = replied reply.Busy w
-act_put_back reply.Held p o w = replied reply.Held w
-act_put_back reply.Stale p o w = replied reply.Stale w
-act_put_back reply.Unmapped p o w = replied reply.Unmapped w
-act_put_back reply.Ignored p o w = replied reply.Ignored w
-act_put_back reply.NoMemory p o w = replied reply.NoMemory w
+act_put_back r p o w = replied r w
 
 abbrev pub acted_by : Acted → Owner → World → After
 acted_by done o w = act_put_back done.reply done.state o w
@@ -196,12 +189,8 @@ handed_on mediator lane (tag ∷ tags) (share ∷ shares) command o w =
 -- an answer, or the shares of a plan
 abbrev pub carry_out : Plan → (mediator lane : ℕ) → (tags : List ℕ) → Command → Owner → World → World
 carry_out (Answer st) mediator lane tags command o w = ended_at_once lane tags command st w
-carry_out (NoData work) mediator lane tags command o w =
-    handed_on mediator lane tags (shares_of o.given.namespace command.entry (NoData work)) command o w
-carry_out (Direct work) mediator lane tags command o w =
-    handed_on mediator lane tags (shares_of o.given.namespace command.entry (Direct work)) command o w
-carry_out (Bounced work) mediator lane tags command o w =
-    handed_on mediator lane tags (shares_of o.given.namespace command.entry (Bounced work)) command o w
+carry_out plan mediator lane tags command o w =
+    handed_on mediator lane tags (shares_of o.given.namespace command.entry plan) command o w
 
 -- a plan that wants more is no plan yet
 abbrev pub submit_by : Outcome Plan → (mediator lane : ℕ) → (tags : List ℕ) → Command → Owner → World → After
@@ -423,18 +412,7 @@ unfoldable pub replies : Geometry → List Event → World → List Reply
 replies geometry [] w = []
 replies geometry (e ∷ events) w = (step geometry e w).reply ∷ replies geometry events (step geometry e w).world
 
--- ---- what is due
-
--- whether an event is one that a worker makes only where it is due
-abbrev pub is_due_kind : Event → Bool
-is_due_kind (event.Admin guest) = true
-is_due_kind (event.Take guest queue lane) = true
-is_due_kind (event.DevTake lane) = true
-is_due_kind (event.DevMove lane slot number) = true
-is_due_kind (event.DevPost lane slot) = true
-is_due_kind (event.Reap lane) = true
-is_due_kind (event.Post lane tag) = true
-is_due_kind _ = false
+-- ---- what replies tell
 
 -- whether a reply is Done
 abbrev pub is_done : Reply → Bool
@@ -446,7 +424,3 @@ abbrev pub is_telling : Reply → Bool
 is_telling reply.Done = true
 is_telling (reply.Bytes bytes) = true
 is_telling _ = false
-
--- such an event is due where it would be done
-unfoldable pub due : Geometry → Event → World → Bool
-due geometry e w = is_due_kind e && is_done (step geometry e w).reply

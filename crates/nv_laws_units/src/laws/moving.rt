@@ -2,7 +2,8 @@
 
 ghost use Rattle.std.specs.Prelude.{◌≡◌, ℕ, Bool, List, [], ◌∷◌, Some, true, false, ◌==◌, length, map};
 ghost use Rattle.std.specs.List.{All, list_any};
-ghost use Rattle.nv_model.specs.Carried.{at_work, units_moved};
+ghost use Rattle.nv_model.specs.Carried.{units_moved};
+ghost use Rattle.nv_model.specs.Carrying.{at_work};
 ghost use Rattle.nv_model.specs.Judge.{Transfer, Work, form_of, is_read};
 ghost use Rattle.nv_model.specs.Memory.{gathered};
 ghost use Rattle.nv_model.specs.Private.{AtWork, MoveStep, Moved, Private, Shape, Taken, places_of_block, run_of};

@@ -4,7 +4,8 @@ ghost use Rattle.std.specs.List.{range_with_len};
 ghost use Rattle.nv_entry.specs.Status.{StatusField};
 ghost use Rattle.nv_model.specs.Judge.{LeaveBlock, Work, WorkUnit, Go, Refuse, clear_units, is_read, move_units};
 ghost use Rattle.nv_model.specs.Private.{Moved, Private, Shape, Taken, Ended, Unjudged, moved_status, run_of, verdict_in};
-ghost use Rattle.nv_model.specs.Carried.{IsCarriedOut, all_moved, cleared, judged_then_moved, this_far, units_from, unmoved, units_moved};
+ghost use Rattle.nv_model.specs.Carried.{units_moved};
+ghost use Rattle.nv_model.specs.Carrying.{IsCarriedOut, all_moved, cleared, judged_then_moved, this_far, units_from, unmoved};
 ghost use Rattle.nv_model.specs.Laws.{HasMoved, IsOrderOf};
 
 /// Judging a command that goes, and moving its units in order, is a run; behind it stand the memory, the disk and the marks

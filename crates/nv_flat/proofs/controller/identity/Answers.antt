@@ -1,5 +1,5 @@
 use Rattle.std.proofs.Common.{◌∙◌, ap, arith}
-use Rattle.nv_mem.specs.GuestMap.{refusal_of}
+use Rattle.nv_mem.specs.MapRefusal.{refusal_of}
 use Rattle.nv_flat.proofs.FlatLemmas.{refusal_of-identity}
 use Rattle.nv_flat.proofs.controller.identity.Goals as goal
 

@@ -1,5 +1,5 @@
 use Rattle.std.proofs.Common.{◌≡◌, drop}
-use Rattle.nv_mem.specs.GuestMap.{any_two_meet}
+use Rattle.nv_mem.specs.MapRefusal.{any_two_meet}
 use Rattle.nv_mem.proofs.refusal.any_two_meet.Given as goal
 
 -- what is left decides

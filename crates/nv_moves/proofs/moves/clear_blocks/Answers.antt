@@ -1,6 +1,6 @@
 use Rattle.std.proofs.Common.{◌≡◌, ◌+◌, ◌-◌, suc, arith, ap, sym, ◌∙◌}
 use Rattle.std.specs.List.{range_with_len}
-use Rattle.nv_model.specs.Carried.{cleared}
+use Rattle.nv_model.specs.Carrying.{cleared}
 use Rattle.nv_moves.proofs.MoveLemmas.{cleared-more, cleared-none}
 use Rattle.nv_moves.proofs.moves.clear_blocks.Goals as goal
 

@@ -1,7 +1,7 @@
 use Rattle.std.proofs.Common.{◌≡◌, ◌+◌, ◌-◌, ℕ, Bool, List, length}
 use Rattle.std.specs.List.{range_with_len}
 use Rattle.nv_moves.specs.Flat.{flat, moved_of}
-use Rattle.nv_model.specs.Carried.{cleared}
+use Rattle.nv_model.specs.Carrying.{cleared}
 use Rattle.nv_moves.proofs.moves.clear_blocks.Given as goal
 
 abbrev pub invariant-loop-lba : goal.invariant-loop-lba

@@ -1,6 +1,7 @@
 use Rattle.std.proofs.Common.{◌≡◌, List, take, Some, ap, sym, ◌∙◌, arith}
 use Rattle.std.specs.List.{slice_get}
-use Rattle.nv_ns.specs.Extents.{Cut, blocks_cut}
+use Rattle.nv_ns.specs.Extents.{Cut}
+use Rattle.nv_ns.specs.Laws.{blocks_cut}
 use Rattle.nv_ns.proofs.Spelled.{walk-firsts, walk-sums}
 use Rattle.nv_ns.proofs.CutWalk.{cuts-walk, walk, walk-none}
 use Rattle.nv_ns.proofs.laws.cuts_are_the_run.Goals as goal

@@ -1,6 +1,6 @@
 use Rattle.std.proofs.Common.{ap, ◌∙◌, arith}
 use Rattle.std.specs.List.{flat_map}
-use Rattle.nv_ns.specs.Extents.{places_of_cut}
+use Rattle.nv_ns.specs.Laws.{places_of_cut}
 use Rattle.nv_ns.proofs.Spelled.{walk-spells}
 use Rattle.nv_ns.proofs.CutWalk.{cuts-walk}
 use Rattle.nv_ns.proofs.laws.cuts_spell_the_blocks.Goals as goal

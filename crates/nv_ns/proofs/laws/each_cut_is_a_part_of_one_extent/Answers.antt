@@ -1,6 +1,7 @@
 use Rattle.std.proofs.Common.{◌<◌, ◌≤◌, List, length, sym, subst}
 use Rattle.std.specs.List.{All}
-use Rattle.nv_ns.specs.Extents.{Cut, LiesInOne, NamesBlocks}
+use Rattle.nv_ns.specs.Extents.{Cut}
+use Rattle.nv_ns.specs.Laws.{LiesInOne, NamesBlocks}
 use Rattle.nv_ns.proofs.Spelled.{walk-few, walk-lies, walk-names, walk-some}
 use Rattle.nv_ns.proofs.CutWalk.{cuts-walk}
 use Rattle.nv_ns.proofs.laws.each_cut_is_a_part_of_one_extent.Goals as goal

@@ -4,7 +4,7 @@ use Rattle.nv_core.proofs.Placed.{admin-nobody, has-controller}
 use Rattle.nv_core.proofs.GroupWorlds.{looked-up}
 use Rattle.nv_core.specs.State.{State, world_of}
 use Rattle.nv_model.specs.declared.reply.Reply.TheVariants as reply
-use Rattle.nv_world_model.specs.Step.{due}
+use Rattle.nv_world_model.specs.Due.{due}
 use Rattle.nv_world_model.specs.declared.event.Event.TheVariants as event
 use Rattle.nv_core.proofs.state.Core.admin_due.Goals as goal
 

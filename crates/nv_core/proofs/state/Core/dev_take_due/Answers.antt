@@ -3,7 +3,7 @@ use Rattle.nv_core.proofs.DeviceTakes.{take-no_device}
 use Rattle.nv_core.proofs.Dues.{dev_take-due, due-told}
 use Rattle.nv_core.specs.State.{IsOf, State, world_of}
 use Rattle.nv_model.specs.declared.reply.Reply.TheVariants as reply
-use Rattle.nv_world_model.specs.Step.{due}
+use Rattle.nv_world_model.specs.Due.{due}
 use Rattle.nv_world_model.specs.declared.event.Event.TheVariants as event
 use Rattle.nv_core.proofs.state.Core.dev_take_due.Goals as goal
 

@@ -5,7 +5,7 @@ use Rattle.nv_core.proofs.Placed.{has-controller}
 use Rattle.nv_core.specs.State.{IsOf, State, world_of}
 use Rattle.nv_laws_sound.proofs.Lists.{slice_get-below}
 use Rattle.nv_model.specs.Controller.{is_enabled, post}
-use Rattle.nv_world_model.specs.Step.{due}
+use Rattle.nv_world_model.specs.Due.{due}
 use Rattle.nv_world_model.specs.World.{Command}
 use Rattle.nv_world_model.specs.declared.event.Event.TheVariants as event
 use Rattle.nv_core.proofs.state.Core.post_due.Goals as goal

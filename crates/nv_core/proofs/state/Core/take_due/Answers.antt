@@ -6,7 +6,7 @@ use Rattle.nv_core.proofs.Takes.{take-no_lane, take-no_queue, take-nobody}
 use Rattle.nv_core.specs.State.{State, world_of}
 use Rattle.nv_laws_sound.proofs.Lists.{slice_get-there}
 use Rattle.nv_model.specs.declared.reply.Reply.TheVariants as reply
-use Rattle.nv_world_model.specs.Step.{due}
+use Rattle.nv_world_model.specs.Due.{due}
 use Rattle.nv_world_model.specs.declared.event.Event.TheVariants as event
 use Rattle.nv_core.proofs.state.Core.take_due.Goals as goal
 

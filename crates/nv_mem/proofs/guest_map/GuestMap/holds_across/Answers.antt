@@ -1,5 +1,6 @@
 use Rattle.std.proofs.Common.{◌≡◌, ℕ, ◌+◌, ◌^◌, ◌≤◌, None, arith, subst, sym}
-use Rattle.nv_mem.specs.GuestMap.{host_of, AllMapped, IsContiguous}
+use Rattle.nv_mem.specs.GuestMap.{host_of}
+use Rattle.nv_mem.specs.MapRuns.{AllMapped, IsContiguous}
 use Rattle.nv_mem.proofs.Counts.{all_mapped-true, covered_of-all, covered_of-le}
 use Rattle.nv_mem.proofs.Images.{host_of-high}
 use Rattle.nv_mem.proofs.MappedRuns.{AllMapped-more, all_mapped-gap}

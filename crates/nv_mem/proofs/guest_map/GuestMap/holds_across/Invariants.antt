@@ -1,5 +1,5 @@
 use Rattle.std.proofs.Common.{◌-◌, ◌≤◌}
-use Rattle.nv_mem.specs.GuestMap.{AllMapped}
+use Rattle.nv_mem.specs.MapRuns.{AllMapped}
 use Rattle.nv_mem.proofs.guest_map.GuestMap.holds_across.Given as goal
 
 -- what is found so far is mapped, and no more than is asked for

@@ -1,6 +1,6 @@
 use Rattle.std.proofs.Common.{◌≡◌, ◌≤◌, List, None, length, subst}
 use Rattle.nv_mem.specs.declared.region.Region.{Region}
-use Rattle.nv_mem.specs.GuestMap.{refusal_of}
+use Rattle.nv_mem.specs.MapRefusal.{refusal_of}
 use Rattle.nv_mem.specs.GuestOrder.{IsGuestOrder}
 use Rattle.nv_mem.proofs.Soundness.{IsSound-tested}
 use Rattle.nv_mem.proofs.guest_map.GuestMap.new.Goals as goal

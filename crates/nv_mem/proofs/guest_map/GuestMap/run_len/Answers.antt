@@ -1,5 +1,6 @@
 use Rattle.std.proofs.Common.{◌≡◌, ℕ, ◌+◌, ◌^◌, ◌≤◌, None, arith, subst, sym}
-use Rattle.nv_mem.specs.GuestMap.{Mapping, host_of, IsContiguous}
+use Rattle.nv_mem.specs.GuestMap.{Mapping, host_of}
+use Rattle.nv_mem.specs.MapRuns.{IsContiguous}
 use Rattle.nv_mem.proofs.Images.{IsContiguous-append, IsContiguous-inside, host_of-high}
 use Rattle.nv_mem.proofs.guest_map.GuestMap.run_len.Goals as goal
 

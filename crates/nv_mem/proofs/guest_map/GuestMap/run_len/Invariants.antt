@@ -1,5 +1,5 @@
 use Rattle.std.proofs.Common.{◌-◌, ◌≤◌}
-use Rattle.nv_mem.specs.GuestMap.{IsContiguous}
+use Rattle.nv_mem.specs.MapRuns.{IsContiguous}
 use Rattle.nv_mem.proofs.guest_map.GuestMap.run_len.Given as goal
 
 -- what is found so far is a run, and no longer than is wanted

@@ -22,7 +22,8 @@ use Rattle.nv_world_model.specs.World.{with_tags, group, claimed}
 use Rattle.nv_world_model.specs.Seat.{units_behind, rest_at, rests_of, members, seat, put_back}
 use Rattle.nv_world_model.specs.Step.{acted_in, administered_in, taken_to, listed, submitted, handed_on, device_took, device_moved}
 use Rattle.nv_world_model.specs.Step.{device_posted, kept_block, reaped, scattered_to, delivered_all, posted_to, ran_out_of, statuses_of}
-use Rattle.nv_world_model.specs.Step.{step, replay, replies, due}
+use Rattle.nv_world_model.specs.Step.{step, replay, replies}
+use Rattle.nv_world_model.specs.Due.{due}
 use Rattle.nv_model.specs.Admin.{admin_command, admin}
 use Rattle.nv_world_model.specs.World.{opening_world}
 use Rattle.nv_world_model.proofs.rows.answers.examples.Goals as goal
