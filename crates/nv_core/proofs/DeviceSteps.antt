@@ -23,7 +23,7 @@ use Rattle.nv_moves.specs.Marks.{mark_of}
 use Rattle.nv_world_model.specs.Area.{tag_count}
 use Rattle.nv_world_model.specs.Device.{DeviceLane, Held, device_unit, unit_gone, with_held}
 use Rattle.nv_world_model.specs.Geometry.{Geometry}
-use Rattle.nv_world_model.specs.Step.{After, device_move, device_moved, for_device, for_held, replied, step}
+use Rattle.nv_world_model.specs.Step.{After, device_move, device_moved, for_one, for_held, replied, step}
 use Rattle.nv_world_model.specs.World.{Lane, World, changed_at}
 use Rattle.nv_world_model.specs.declared.event.Event.{Event}
 use Rattle.nv_world_model.specs.declared.event.Event.TheVariants as event
@@ -48,7 +48,7 @@ after w r = record { world = w; reply = r }
 
 -- an event of a command in the device
 abbrev pub held_event : (Held → DeviceLane → After) → (lane slot : ℕ) → World → After
-held_event more lane slot w = for_device (slice_get w.device lane) w (λ d. for_held (slice_get d.held slot) w (λ h. more h d))
+held_event more lane slot w = for_one (slice_get w.device lane) w (λ d. for_held (slice_get d.held slot) w (λ h. more h d))
 
 module _ (geometry : Geometry) (s : State) (is : IsOf geometry s) (lane slot : ℕ) (more : Held → DeviceLane → After) where
   -- no such lane, or no such slot
@@ -61,7 +61,7 @@ module _ (geometry : Geometry) (s : State) (is : IsOf geometry s) (lane slot : �
           let sides = has-sides geometry s lane is below in
           let sized = (is.consistent.of_tags.lanes lane sides.l sides.d sides.at_lane sides.at_device).positions.held in
           let least : tag_count ≤ slot = grind (arith, nat_tests) in
-          ap (λ (o : Option DeviceLane). for_device o (world_of s) (λ d. for_held (slice_get d.held slot) (world_of s) (λ h. more h d))) sides.at_device
+          ap (λ (o : Option DeviceLane). for_one o (world_of s) (λ d. for_held (slice_get d.held slot) (world_of s) (λ h. more h d))) sides.at_device
           ∙ ap (λ (o : Option (Option Held)). for_held o (world_of s) (λ h. more h sides.d)) (slice_get_past sides.d.held slot (omega (arith, sized, least)))
 
       by_lane : (b : Bool) → nat_lt lane (length s.device.lanes) ≡ b → (b && nat_lt slot tag_count) ≡ false
@@ -69,7 +69,7 @@ module _ (geometry : Geometry) (s : State) (is : IsOf geometry s) (lane slot : �
       by_lane true there past = by_slot there past
       by_lane false past any =
           let least : length s.device.lanes ≤ lane = grind (arith, nat_tests) in
-          ap (λ (o : Option DeviceLane). for_device o (world_of s) (λ d. for_held (slice_get d.held slot) (world_of s) (λ h. more h d)))
+          ap (λ (o : Option DeviceLane). for_one o (world_of s) (λ d. for_held (slice_get d.held slot) (world_of s) (λ h. more h d)))
           (slice_get_past s.device.lanes lane least)
 
   -- no command there
@@ -78,7 +78,7 @@ module _ (geometry : Geometry) (s : State) (is : IsOf geometry s) (lane slot : �
   none-held below slot_below none =
       let sides = has-sides geometry s lane is below in
       let sized = (is.consistent.of_tags.lanes lane sides.l sides.d sides.at_lane sides.at_device).positions.held in
-      ap (λ (o : Option DeviceLane). for_device o (world_of s) (λ d. for_held (slice_get d.held slot) (world_of s) (λ h. more h d))) sides.at_device
+      ap (λ (o : Option DeviceLane). for_one o (world_of s) (λ d. for_held (slice_get d.held slot) (world_of s) (λ h. more h d))) sides.at_device
       ∙ ap (λ (o : Option (Option Held)). for_held o (world_of s) (λ h. more h sides.d))
       (empty sides.d.held slot (omega (arith, sized, slot_below)) (sym (ap (λ (d : DeviceLane). get_or d.held slot None) sides.seen) ∙ none))
     where
@@ -90,7 +90,7 @@ module _ (geometry : Geometry) (s : State) (is : IsOf geometry s) (lane slot : �
   -- a command
   pub some-held : (h : Held) (a : IsHoldingAt geometry s lane slot h) → held_event more lane slot (world_of s) ≡ more h a.sides.d
   some-held h a =
-      ap (λ (o : Option DeviceLane). for_device o (world_of s) (λ d. for_held (slice_get d.held slot) (world_of s) (λ h. more h d))) a.sides.at_device
+      ap (λ (o : Option DeviceLane). for_one o (world_of s) (λ d. for_held (slice_get d.held slot) (world_of s) (λ h. more h d))) a.sides.at_device
       ∙ ap (λ (o : Option (Option Held)). for_held o (world_of s) (λ h. more h a.sides.d)) a.at_held
 
 -- ---- nothing is done

@@ -20,7 +20,7 @@ use Rattle.nv_world_model.specs.Area.{ring_size}
 use Rattle.nv_world_model.specs.Device.{DeviceLane, entry_taken, front_entry, held_of}
 use Rattle.nv_world_model.specs.Geometry.{Geometry}
 use Rattle.nv_world_model.specs.ShareArea.{share_entry}
-use Rattle.nv_world_model.specs.Step.{After, device_take, device_took, for_device, replied, step}
+use Rattle.nv_world_model.specs.Step.{After, device_take, device_took, for_one, replied, step}
 use Rattle.nv_world_model.specs.World.{Flying, InDevice, Lane, Queued, Tag, World, tag_changed}
 use Rattle.nv_world_model.specs.declared.event.Event.TheVariants as event
 use Rattle.nv_laws_sound.proofs.EntryFields.{entry-cid}
@@ -48,7 +48,7 @@ module _ (geometry : Geometry) (s : State) (is : IsOf geometry s) (lane : ℕ) w
   unfolding step
   take-no_device past =
       record {
-        after = sym (ap (λ (o : Option DeviceLane). for_device o (world_of s) takes) (slice_get_past s.device.lanes lane past));
+        after = sym (ap (λ (o : Option DeviceLane). for_one o (world_of s) takes) (slice_get_past s.device.lanes lane past));
         size = same-size s;
       }
 
@@ -61,7 +61,7 @@ module _ (geometry : Geometry) (s : State) (is : IsOf geometry s) (lane : ℕ) w
       let d = sides.d in
       let empty : is_empty d.head d.tail ≡ not b =
       twice (is_empty d.head d.tail) b (sym (ap (λ (x : DeviceLane). not (is_empty x.head x.tail)) sides.seen) ∙ e) in
-      ap (λ (o : Option DeviceLane). for_device o (world_of s) takes) sides.at_device
+      ap (λ (o : Option DeviceLane). for_one o (world_of s) takes) sides.at_device
       ∙ ap (λ (x : Bool). cond x (replied reply.Idle (world_of s)) (replied reply.Done (device_took lane (front_entry geometry.mediator lane d (byte_in s.host)) (world_of s)))) empty
     where
       twice : (a b : Bool) → not a ≡ b → a ≡ not b

@@ -32,7 +32,7 @@ use Rattle.nv_world_model.specs.Device.{DeviceLane, Held}
 use Rattle.nv_world_model.specs.Geometry.{Geometry, Guest, regions_of, shape_of}
 use Rattle.nv_world_model.specs.Seat.{Owner, owner_by, owner_of}
 use Rattle.nv_world_model.specs.Share.{tags_of_entry}
-use Rattle.nv_world_model.specs.Step.{After, administered_by, deciding, device_move, device_post, device_take, for_device, for_lane, for_owner}
+use Rattle.nv_world_model.specs.Step.{After, administered_by, deciding, device_move, device_post, device_take, for_one, for_owner}
 use Rattle.nv_world_model.specs.Due.{due}
 use Rattle.nv_world_model.specs.Step.{is_done, is_io_queue, post_all, post_by, reap, replied, statuses_of, step, take_from, take_front, take_tags}
 use Rattle.nv_world_model.specs.Due.{is_due_kind}
@@ -66,7 +66,7 @@ module _ (geometry : Geometry) (s : State) (is : IsOf geometry s) (lane : ℕ) (
   dev_take-due =
       let sides = has-sides geometry s lane is below in
       due-by geometry (event.DevTake lane) (world_of s) (device_take geometry.mediator lane sides.d (world_of s))
-      (ap (λ (o : Option DeviceLane). for_device o (world_of s) (λ d. device_take geometry.mediator lane d (world_of s))) sides.at_device)
+      (ap (λ (o : Option DeviceLane). for_one o (world_of s) (λ d. device_take geometry.mediator lane d (world_of s))) sides.at_device)
       ∙ idle-or-done (is_empty sides.d.head sides.d.tail) (world_of s) _
       ∙ ap (λ (d : DeviceLane). not (is_empty d.head d.tail)) (sym sides.seen)
 
@@ -122,8 +122,8 @@ reap-due geometry s is lane i l at below has =
     let found = looked-up s.lanes lane i l at below has in
     let there : slice_get s.device.lanes lane ≡ Some d = slice_get-or s.device.lanes lane no_lane (let sides = is.consistent.of_tags.sides in omega arith) in
     due-by geometry (event.Reap lane) w (reap geometry lane l d w)
-    (ap (λ (x : Option Lane). for_lane x w (λ k. for_device (slice_get w.device lane) w (λ e. reap geometry lane k e w))) found
-    ∙ ap (λ (x : Option DeviceLane). for_device x w (λ e. reap geometry lane l e w)) there)
+    (ap (λ (x : Option Lane). for_one x w (λ k. for_one (slice_get w.device lane) w (λ e. reap geometry lane k e w))) found
+    ∙ ap (λ (x : Option DeviceLane). for_one x w (λ e. reap geometry lane l e w)) there)
     ∙ idle-or-done (is_empty l.head d.posted) w _
 
 -- ---- Take

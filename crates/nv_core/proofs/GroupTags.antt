@@ -13,7 +13,8 @@ use Rattle.nv_core.proofs.TagLists.{made-at, made-free, tags-kept, tags-length}
 use Rattle.nv_tags.proofs.Rows.{holding, holding-high, holding-lowest}
 use Rattle.nv_tags.specs.Tags.{Leads, Slot, command_in, goes_by, group, slot_at, slot_or_free, tags_where}
 use Rattle.nv_tags.specs.Tags as slot
-use Rattle.nv_world_model.specs.World.{Command, Lane, Tag, goes_by as tag_goes_by, group_in, is_free as tag_is_free, leader_of, tags_where as tags_that}
+use Rattle.nv_world_model.specs.World.{Command, Lane, Tag, group_in, is_free as tag_is_free, leader_of, tags_where as tags_that}
+use Rattle.nv_world_model.specs.World.{is_that as tag_goes_by}
 
 -- ---- numbers of tags
 

@@ -24,7 +24,7 @@ use Rattle.nv_world_model.proofs.SeatSteps.{IsPlain, Changed, NotDone, NotThere,
 use Rattle.nv_world_model.specs.declared.event.Event.TheVariants as event
 use Rattle.nv_world_model.specs.Geometry.{Geometry, Guest, regions_of, shape_of}
 use Rattle.nv_world_model.specs.Seat.{Owner, owner_by, owner_of, put_back, seat}
-use Rattle.nv_world_model.specs.Step.{After, acted_by, administered_by, administered_in, for_guest, kept_block, replied, step}
+use Rattle.nv_world_model.specs.Step.{After, acted_by, administered_by, administered_in, for_one, kept_block, replied, step}
 use Rattle.nv_world_model.specs.World.{World, with_controller, with_host}
 
 -- ---- worlds
@@ -48,17 +48,17 @@ same-size s = record { host = refl; mediator = refl; blocks = refl }
 
 -- a guest that was given nothing is not there
 pub no-guest : (geometry : Geometry) (w : World) (number : ℕ) (more : Owner → After) → slice_get geometry.guests number ≡ None
-    → for_guest (owner_of geometry w number) w more ≡ replied reply.Ignored w
+    → for_one (owner_of geometry w number) w more ≡ replied reply.Ignored w
 no-guest geometry w number more none =
-    ap (λ (g : Option Guest). for_guest (owner_by number g (slice_get w.controllers number)) w more) none
+    ap (λ (g : Option Guest). for_one (owner_by number g (slice_get w.controllers number)) w more) none
 
 -- nor one without a controller
 pub no-controller : (geometry : Geometry) (w : World) (number : ℕ) (guest : Guest) (more : Owner → After)
     → slice_get geometry.guests number ≡ Some guest → slice_get w.controllers number ≡ None
-    → for_guest (owner_of geometry w number) w more ≡ replied reply.Ignored w
+    → for_one (owner_of geometry w number) w more ≡ replied reply.Ignored w
 no-controller geometry w number guest more there none =
-    ap (λ (g : Option Guest). for_guest (owner_by number g (slice_get w.controllers number)) w more) there
-    ∙ ap (λ (c : Option Controller). for_guest (owner_by number (Some guest) c) w more) none
+    ap (λ (g : Option Guest). for_one (owner_by number g (slice_get w.controllers number)) w more) there
+    ∙ ap (λ (c : Option Controller). for_one (owner_by number (Some guest) c) w more) none
 
 -- a guest that is there
 abbrev pub owner : (number : ℕ) → Guest → Controller → Owner
@@ -212,7 +212,7 @@ pub admin-there : (geometry : Geometry) (number : ℕ) (o : Owner) (w : World) �
     ≡ administered_by (admin (mapped (regions_of o.given)) (shape_of o.given).blocks o.controller (image (regions_of o.given) w.host)) o w
 unfolding step administered_in
 admin-there geometry number o w e =
-    ap (λ (x : Option Owner). for_guest x w (λ p. administered_by (admin (mapped (regions_of p.given)) (shape_of p.given).blocks p.controller (image (regions_of p.given) w.host)) p w)) e
+    ap (λ (x : Option Owner). for_one x w (λ p. administered_by (admin (mapped (regions_of p.given)) (shape_of p.given).blocks p.controller (image (regions_of p.given) w.host)) p w)) e
 
 -- ---- states
 

@@ -23,7 +23,7 @@ use Rattle.nv_world_model.specs.Device.{DeviceLane, Held}
 use Rattle.nv_world_model.specs.Geometry.{Geometry}
 use Rattle.nv_world_model.specs.Seat.{completion_at}
 use Rattle.nv_world_model.specs.Share.{Share}
-use Rattle.nv_world_model.specs.Step.{After, completion_read, ended_at, for_device, for_lane, passed_on, reap, reaped, replied, step}
+use Rattle.nv_world_model.specs.Step.{After, completion_read, ended_at, for_one, passed_on, reap, reaped, replied, step}
 use Rattle.nv_world_model.specs.World.{Answered, Command, Ended, Flying, Lane, Standing, Tag, World, tag_changed, tag_of, with_lane}
 use Rattle.nv_world_model.specs.declared.event.Event.TheVariants as event
 
@@ -38,8 +38,8 @@ reap-step : (geometry : Geometry) (lane : ℕ) (l : Lane) (d : DeviceLane) (w : 
     → step geometry (event.Reap lane) w ≡ reap geometry lane l d w
 unfolding step
 reap-step geometry lane l d w at there =
-    ap (λ (x : Option Lane). for_lane x w (λ k. for_device (slice_get w.device lane) w (λ e. reap geometry lane k e w))) at
-    ∙ ap (λ (x : Option DeviceLane). for_device x w (λ e. reap geometry lane l e w)) there
+    ap (λ (x : Option Lane). for_one x w (λ k. for_one (slice_get w.device lane) w (λ e. reap geometry lane k e w))) at
+    ∙ ap (λ (x : Option DeviceLane). for_one x w (λ e. reap geometry lane l e w)) there
 
 -- the tag whose completion is read next
 pub record IsNext (geometry : Geometry) (lane : ℕ) (host : ℕ → ℕ) (l : Lane) : Type 0 where
@@ -82,7 +82,7 @@ module _ (geometry : Geometry) (s old : State) (lane : ℕ) (same : s ≡ old) w
       subst (λ (o : State). IsStep geometry (event.Reap lane) o reply.Ignored o) same
       (record {
         after =
-            sym (ap (λ (x : Option Lane). for_lane x w (λ k. for_device (slice_get w.device lane) w (λ e. reap geometry lane k e w))) (slice_get_past s.lanes lane past));
+            sym (ap (λ (x : Option Lane). for_one x w (λ k. for_one (slice_get w.device lane) w (λ e. reap geometry lane k e w))) (slice_get_past s.lanes lane past));
         size = same-size s;
       })
 

@@ -24,7 +24,7 @@ use Rattle.nv_world_model.specs.Device.{DeviceLane}
 use Rattle.nv_world_model.specs.Geometry.{Geometry, Guest, regions_of}
 use Rattle.nv_world_model.specs.Plan.{Plan, plan_over}
 use Rattle.nv_world_model.specs.Seat.{Owner, owner_by, owner_of}
-use Rattle.nv_world_model.specs.Step.{After, for_device, for_owner, replied, step, submit_by}
+use Rattle.nv_world_model.specs.Step.{After, for_one, for_owner, replied, step, submit_by}
 use Rattle.nv_world_model.specs.World.{Lane, group, group_in, tag_of}
 use Rattle.nv_world_model.specs.declared.event.Event.TheVariants as event
 
@@ -70,7 +70,7 @@ module _ (geometry : Geometry) (s : State) (lane tag : ℕ) where
     -- what is done for a guest that is there
     abbrev more : Owner → After
     more o =
-        for_device (slice_get s.device.lanes lane) (world_of s)
+        for_one (slice_get s.device.lanes lane) (world_of s)
         (λ d. submit_by (plan_over o.given t.command.entry t.reads) geometry.mediator lane (group (world_of s) lane tag) t.command o (world_of s))
 
     -- the event of a tag that is taken
@@ -78,7 +78,7 @@ module _ (geometry : Geometry) (s : State) (lane tag : ℕ) where
     unfolding step
     submit-step =
         let w = world_of s in
-        taken-step w lane tag t (λ command reads. for_owner (owner_of geometry w command.guest) w (λ o. for_device (slice_get w.device lane) w
+        taken-step w lane tag t (λ command reads. for_owner (owner_of geometry w command.guest) w (λ o. for_one (slice_get w.device lane) w
         (λ d. submit_by (plan_over o.given command.entry reads) geometry.mediator lane (group w lane tag) command o w)))
 
     -- nobody's command
@@ -116,7 +116,7 @@ module _ (geometry : Geometry) (s : State) (lane tag : ℕ) where
       submit-owned =
           let w = world_of s in
           submit-step ∙ ap (λ (x : Option Owner). for_owner x w more) (owner-there geometry w t.command.guest guest has.0 there has.1)
-          ∙ ap (λ (x : Option DeviceLane). for_device x w (λ e. submit_by (plan_over guest t.command.entry t.reads) geometry.mediator lane (group w lane tag) t.command who w)) device-there
+          ∙ ap (λ (x : Option DeviceLane). for_one x w (λ e. submit_by (plan_over guest t.command.entry t.reads) geometry.mediator lane (group w lane tag) t.command who w)) device-there
 
       -- the pages of the lane's tags are the mediator's own
       pub have-room : HaveRoom geometry.mediator lane guest s.host

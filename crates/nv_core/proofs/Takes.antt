@@ -15,7 +15,7 @@ use Rattle.nv_world_model.specs.declared.event.Event.TheVariants as event
 use Rattle.nv_world_model.specs.Geometry.{Geometry, Guest, regions_of}
 use Rattle.nv_world_model.specs.Seat.{Owner, owner_of}
 use Rattle.nv_world_model.specs.Share.{tags_of_entry}
-use Rattle.nv_world_model.specs.Step.{After, for_guest, for_lane, is_io_queue, replied, step, take_from, take_front, take_tags, taken_to}
+use Rattle.nv_world_model.specs.Step.{After, for_one, is_io_queue, replied, step, take_from, take_front, take_tags, taken_to}
 use Rattle.nv_world_model.specs.World.{Lane, Tag, Taken, World, claimed, with_controller}
 
 -- ---- the world
@@ -57,8 +57,8 @@ pub take-step : (geometry : Geometry) (number queue lane : ℕ) (o : Owner) (l :
     → slice_get w.lanes lane ≡ Some l → step geometry (event.Take number queue lane) w ≡ take_from queue lane l o w
 unfolding step
 take-step geometry number queue lane o l w owns found =
-    ap (λ (x : Option Owner). for_guest x w (λ p. for_lane (slice_get w.lanes lane) w (λ k. take_from queue lane k p w))) owns
-    ∙ ap (λ (x : Option Lane). for_lane x w (λ k. take_from queue lane k o w)) found
+    ap (λ (x : Option Owner). for_one x w (λ p. for_one (slice_get w.lanes lane) w (λ k. take_from queue lane k p w))) owns
+    ∙ ap (λ (x : Option Lane). for_one x w (λ k. take_from queue lane k o w)) found
 
 -- ---- states
 
@@ -77,8 +77,8 @@ module _ (geometry : Geometry) (s old : State) (number queue lane : ℕ) where
         subst (λ (o : State). IsStep geometry (event.Take number queue lane) o reply.Ignored o) same
         (record {
           after =
-              sym (ap (λ (x : Option Owner). for_guest x w (λ p. for_lane (slice_get w.lanes lane) w (λ k. take_from queue lane k p w))) (owner-there geometry w number guest c there found)
-              ∙ ap (λ (x : Option Lane). for_lane x w (λ k. take_from queue lane k (owner number guest c) w)) (slice_get_past s.lanes lane past));
+              sym (ap (λ (x : Option Owner). for_one x w (λ p. for_one (slice_get w.lanes lane) w (λ k. take_from queue lane k p w))) (owner-there geometry w number guest c there found)
+              ∙ ap (λ (x : Option Lane). for_one x w (λ k. take_from queue lane k (owner number guest c) w)) (slice_get_past s.lanes lane past));
           size = same-size s;
         })
 

@@ -122,7 +122,7 @@ leaders-kept (x ∷ tags) (suc n) t now at same = ap (λ (os : List (Option ℕ)
 pub group-kept : (l : Lane) (n : ℕ) (t now : Tag) (leader : ℕ) → slice_get l.tags n ≡ Some t → leader_of now ≡ leader_of t
     → group_in (Some (tag_changed n now l)) leader ≡ group_in (Some l) leader
 group-kept l n t now leader at same =
-    let goes : Option ℕ → Bool = world.goes_by leader in
+    let goes : Option ℕ → Bool = world.is_that leader in
     numbers-are (λ (x : Tag). goes (leader_of x)) (set l.tags n now) ∙ numbers-map goes leader_of (set l.tags n now)
     ∙ ap (numbers_where goes) (leaders-kept l.tags n t now at same)
     ∙ sym (numbers-are (λ (x : Tag). goes (leader_of x)) l.tags ∙ numbers-map goes leader_of l.tags)

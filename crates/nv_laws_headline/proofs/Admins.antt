@@ -17,7 +17,7 @@ use Rattle.nv_world_model.specs.declared.event.Event.TheVariants as event
 use Rattle.nv_world_model.specs.Disciplined.{is_clear}
 use Rattle.nv_world_model.specs.Geometry.{Geometry, Guest, regions_of, shape_of}
 use Rattle.nv_world_model.specs.Seat.{Owner, put_back}
-use Rattle.nv_world_model.specs.Step.{administered_by, administered_in, for_guest, step}
+use Rattle.nv_world_model.specs.Step.{administered_by, administered_in, for_one, step}
 use Rattle.nv_world_model.specs.World.{World}
 use Rattle.nv_laws_related.specs.Following.{GoesAlong, IsDisciplinedAt, IsReached}
 use Rattle.nv_laws_related.specs.Related.{Related}
@@ -113,7 +113,7 @@ module _ (host_bytes : ℕ) (geometry : Geometry) (number : ℕ) (guest : Guest)
   world-made : step geometry (event.Admin number) w ≡ administered_by own_step o w
   unfolding step administered_in
   world-made =
-      ap (λ x. for_guest x w (λ q.
+      ap (λ (x : Option Owner). for_one x w (λ q.
       administered_by (admin (shape_of q.given).mapped (shape_of q.given).blocks q.controller (image (regions_of q.given) w.host)) q w))
       (owner-there geometry number guest w p.controller given related.controller)
 

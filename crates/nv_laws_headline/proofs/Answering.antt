@@ -17,7 +17,8 @@ use Rattle.nv_world_model.specs.Disciplined.{in_order}
 use Rattle.nv_world_model.specs.Seat.{member_in, name_of, rests_of}
 use Rattle.nv_world_model.specs.Step.{ended_at_once, replied}
 use Rattle.nv_world_model.specs.View.{is_tag_of, own_held}
-use Rattle.nv_world_model.specs.World.{Command, Ended, Lane, Tag, Taken, World, goes_by, group, group_in, leader_of, tag_in, tag_of, with_tag, with_tags}
+use Rattle.nv_world_model.specs.World.{Command, Ended, Lane, Tag, Taken, World, group, group_in, leader_of, tag_in, tag_of, with_tag, with_tags}
+use Rattle.nv_world_model.specs.World.{is_that}
 use Rattle.nv_laws_sound.proofs.CountedActs.{HasLane, lane-of}
 use Rattle.nv_laws_sound.proofs.CountedTags.{group-some}
 use Rattle.nv_laws_sound.proofs.Folds.{group-distinct}
@@ -66,14 +67,14 @@ pub led-touched : (w : World) (lane leader b : ℕ) → led leader (tag_of w lan
 unfolding group
 led-touched w lane leader b goes = by (slice_get w.lanes lane) goes
   where
-    by_tag : (tags : List Tag) (o : Option Tag) → slice_get tags b ≡ o → led leader o ≡ true → touched (numbers_where (λ t. goes_by leader (leader_of t)) tags) b ≡ true
+    by_tag : (tags : List Tag) (o : Option Tag) → slice_get tags b ≡ o → led leader o ≡ true → touched (numbers_where (λ t. is_that leader (leader_of t)) tags) b ≡ true
     by_tag tags None at led_so = cc
-    by_tag tags (Some t) at led_so = numbers-touch (λ t. goes_by leader (leader_of t)) tags b t at led_so
+    by_tag tags (Some t) at led_so = numbers-touch (λ t. is_that leader (leader_of t)) tags b t at led_so
 
     by : (o : Option Lane) → led leader (tag_in o b) ≡ true → touched (group_in o leader) b ≡ true
     by None led_so = cc
     by (Some l) led_so =
-        ap (λ ns. touched ns b) (numbers-are (λ t. goes_by leader (leader_of t)) l.tags) ∙ by_tag l.tags (slice_get l.tags b) refl led_so
+        ap (λ ns. touched ns b) (numbers-are (λ t. is_that leader (leader_of t)) l.tags) ∙ by_tag l.tags (slice_get l.tags b) refl led_so
 
 module _ (host_bytes : ℕ) (geometry : Geometry) (number : ℕ) (guest : Guest) (given : slice_get geometry.guests number ≡ Some guest)
     (w : World) (reached : IsReached host_bytes geometry w) (p : Private) (related : Related geometry number guest w p) (lane tag : ℕ)

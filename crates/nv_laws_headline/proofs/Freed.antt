@@ -10,7 +10,7 @@ use Rattle.nv_world_model.specs.Device.{Held}
 use Rattle.nv_world_model.specs.Geometry.{Geometry, Guest, regions_of}
 use Rattle.nv_world_model.specs.Seat.{member_in, members, name_of, rests_of}
 use Rattle.nv_world_model.specs.View.{is_tag_of, own_held, own_tag}
-use Rattle.nv_world_model.specs.World.{Command, Free, Lane, Tag, World, goes_by, group, leader_of, tag_of, with_tags}
+use Rattle.nv_world_model.specs.World.{Command, Free, Lane, Tag, World, group, is_that, leader_of, tag_of, with_tags}
 use Rattle.nv_laws_sound.specs.Groups.{command_of, part_of}
 use Rattle.nv_laws_sound.proofs.CountedActs.{HasLane, lane-of}
 use Rattle.nv_laws_sound.proofs.Groupings.{goes-of}
@@ -45,7 +45,7 @@ led-other : (o : Option Tag) (leader other : ℕ) → led leader o ≡ true → 
 led-other None leader other goes apart = refl
 led-other (Some t) leader other goes apart = by (leader_of t) goes
   where
-    by : (x : Option ℕ) → goes_by leader x ≡ true → goes_by other x ≡ false
+    by : (x : Option ℕ) → is_that leader x ≡ true → is_that other x ≡ false
     by None led_so = cc
     by (Some n) led_so = ne_eqb n other (λ same. apart (sym same ∙ eqb-true n leader led_so))
 

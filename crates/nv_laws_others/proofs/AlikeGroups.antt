@@ -6,9 +6,9 @@ use Rattle.std.specs.Option.{option_map}
 use Rattle.std.proofs.lemmas.List.Elements.{All-head, All-tail}
 use Rattle.nv_world_model.specs.Contained.{guest_of_one}
 use Rattle.nv_world_model.specs.Step.{ended_status, status_before, statuses_of}
-use Rattle.nv_world_model.specs.View.{is_guest, is_tag_of, lane_numbers, own_tag}
-use Rattle.nv_world_model.specs.World.{Ended, Flying, Free, Lane, Tag, Taken, World, claimed, first_of, goes_by as tag_goes_by, group, group_in}
-use Rattle.nv_world_model.specs.World.{is_free, leader_of, tag_in, tag_of}
+use Rattle.nv_world_model.specs.View.{is_tag_of, lane_numbers, own_tag}
+use Rattle.nv_world_model.specs.World.{Ended, Flying, Free, Lane, Tag, Taken, World, claimed, first_of, group, group_in}
+use Rattle.nv_world_model.specs.World.{is_free, is_that, leader_of, tag_in, tag_of}
 use Rattle.nv_laws_sound.specs.Groups.{goes_by, part_of}
 use Rattle.nv_laws_sound.proofs.Folds.{HasTag, group-has}
 use Rattle.nv_laws_sound.proofs.Lists.{some-same}
@@ -28,7 +28,7 @@ tag-same number (Some t) u same own =
 
 pub tag-own : (number : ℕ) (t : Option Tag) → guest_of_one t ≡ Some number → is_tag_of number t ≡ true
 tag-own number None own = cc
-tag-own number (Some t) own = ap (is_guest number) own ∙ eq-eqb number number refl
+tag-own number (Some t) own = ap (is_that number) own ∙ eq-eqb number number refl
 
 -- ---- numbers of tags
 
@@ -52,7 +52,7 @@ claimed-same count tags others same =
 
 -- ---- the tags of a command
 
-leads-to : (leader : ℕ) (o : Option ℕ) → tag_goes_by leader o ≡ true → o ≡ Some leader
+leads-to : (leader : ℕ) (o : Option ℕ) → is_that leader o ≡ true → o ≡ Some leader
 leads-to leader None e = cc
 leads-to leader (Some other) e = ap (λ n. Some n) (eqb-true other leader e)
 
@@ -80,9 +80,9 @@ module _ (number : ℕ) (w z : World) (lane leader : ℕ) (tags : (tag : ℕ) �
   module _ (one : GoesByItsOwn number w) (two : GoesByItsOwn number z) (mine : is_tag_of number (tag_of w lane leader) ≡ true) where
     -- a tag that isn't its own goes by none of its own
     goes-not : (v : World) (n : ℕ) (x : Tag) → GoesByItsOwn number v → is_tag_of number (tag_of v lane leader) ≡ true → tag_of v lane n ≡ Some x
-        → is_tag_of number (Some x) ≡ false → tag_goes_by leader (leader_of x) ≡ false
+        → is_tag_of number (Some x) ≡ false → is_that leader (leader_of x) ≡ false
     goes-not v n x owned here there other =
-        (elim (tag_goes_by leader (leader_of x)) as (λ b. tag_goes_by leader (leader_of x) ≡ b → b ≡ false) [
+        (elim (is_that leader (leader_of x)) as (λ b. is_that leader (leader_of x) ≡ b → b ≡ false) [
           | true ↦ λ goes. (let bad : true ≡ false = sym (owned lane n leader x there (leads-to leader (leader_of x) goes) here) ∙ other in cc)
           | false ↦ λ goes. refl
         ]) refl
@@ -98,12 +98,12 @@ module _ (number : ℕ) (w z : World) (lane leader : ℕ) (tags : (tag : ℕ) �
           | false ↦ λ its. refl
         ]) refl
 
-    passes-same : (n : ℕ) (x y : Tag) → tag_of w lane n ≡ Some x → tag_of z lane n ≡ Some y → tag_goes_by leader (leader_of x) ≡ tag_goes_by leader (leader_of y)
+    passes-same : (n : ℕ) (x y : Tag) → tag_of w lane n ≡ Some x → tag_of z lane n ≡ Some y → is_that leader (leader_of x) ≡ is_that leader (leader_of y)
     passes-same n x y here there =
         let same : own_tag number (Some x) ≡ own_tag number (Some y) = sym (ap (own_tag number) here) ∙ tags n ∙ ap (own_tag number) there in
-        (elim (is_tag_of number (Some x)) as (λ b. is_tag_of number (Some x) ≡ b → tag_goes_by leader (leader_of x) ≡ tag_goes_by leader (leader_of y)) [
+        (elim (is_tag_of number (Some x)) as (λ b. is_tag_of number (Some x) ≡ b → is_that leader (leader_of x) ≡ is_that leader (leader_of y)) [
           | true ↦ λ own.
-              ap (λ t. tag_goes_by leader (leader_of t)) (some-same x y (tag-same number (Some x) (Some y) same own))
+              ap (λ t. is_that leader (leader_of t)) (some-same x y (tag-same number (Some x) (Some y) same own))
           | false ↦ λ other.
               goes-not w n x one mine here other ∙ sym (goes-not z n y two mine-too there (other-too x y same other))
         ]) refl
@@ -114,7 +114,7 @@ module _ (number : ℕ) (w z : World) (lane leader : ℕ) (tags : (tag : ℕ) �
     by-lanes None (Some m) at there numbers = cc
     by-lanes (Some l) None at there numbers = cc
     by-lanes (Some l) (Some m) at there numbers =
-        let p : Tag → Bool = λ t. tag_goes_by leader (leader_of t) in
+        let p : Tag → Bool = λ t. is_that leader (leader_of t) in
         let frees : map is_free l.tags ≡ map is_free m.tags = ap (λ n. n.free) (some-same (lane_numbers l) (lane_numbers m) numbers) in
         numbers-are p l.tags
         ∙ numbers-alike p l.tags m.tags (sizes l.tags m.tags frees)

@@ -26,7 +26,7 @@ use Rattle.nv_world_model.specs.declared.event.Event.TheVariants as event
 use Rattle.nv_world_model.specs.Contained.{guest_of_one}
 use Rattle.nv_world_model.specs.Geometry.{Geometry, Guest, regions_of, shape_of}
 use Rattle.nv_world_model.specs.Seat.{Owner, held_by, held_in, owner_of, put_back, seat}
-use Rattle.nv_world_model.specs.Step.{act_put_back, acted_in, administered_by, administered_in, ended_at_once, for_lane, for_owner, for_taken}
+use Rattle.nv_world_model.specs.Step.{act_put_back, acted_in, administered_by, administered_in, ended_at_once, for_one, for_owner, for_taken}
 use Rattle.nv_world_model.specs.Step.{entry_at, is_io_queue, list_at, listed, replied, step, take_from, take_front, take_tags, taken_to}
 use Rattle.nv_world_model.specs.View.{IsAlike, is_tag_of, lane_numbers, own_held}
 use Rattle.nv_world_model.specs.World.{Command, Ended, Flying, Free, Lane, Tag, Taken, World, claimed, group, is_free, lowest, tag_in, tag_of}
@@ -339,8 +339,8 @@ module _ (host_bytes : ℕ) (geometry : Geometry) (w z : World) (laid : IsLaidOu
     pub takes-alike : (n queue lane : ℕ) → n ≡ number → Behind (step geometry (event.Take n queue lane) w).world (step geometry (event.Take n queue lane) z).world
     unfolding step
     takes-alike n queue lane same =
-        guest-both geometry w z number guest given alike Behind alike n same (λ o. for_lane (slice_get w.lanes lane) w (λ l. take_from queue lane l o w))
-        (λ o. for_lane (slice_get z.lanes lane) z (λ l. take_from queue lane l o z)) (λ c one two.
+        guest-both geometry w z number guest given alike Behind alike n same (λ o. for_one (slice_get w.lanes lane) w (λ l. take_from queue lane l o w))
+        (λ o. for_one (slice_get z.lanes lane) z (λ l. take_from queue lane l o z)) (λ c one two.
         lane-both Behind w z alike (slice_get w.lanes lane) (slice_get z.lanes lane) (lanes-same geometry w z number guest given alike lane)
         (λ l. take_from queue lane l (me c) w) (λ l. take_from queue lane l (me c) z) (λ l m at too numbers.
         either-both Behind w z alike (is_io_queue queue) (is_io_queue queue) refl _ _ _ _

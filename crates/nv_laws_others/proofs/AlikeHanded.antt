@@ -16,7 +16,7 @@ use Rattle.nv_world_model.specs.Plan.{Answer, Bounced, Direct, NoData, Plan, pla
 use Rattle.nv_world_model.specs.Share.{Share, shares_of}
 use Rattle.nv_world_model.specs.ShareArea.{is_no_command, is_no_plan, is_no_work}
 use Rattle.nv_world_model.specs.Seat.{Owner, owner_of}
-use Rattle.nv_world_model.specs.Step.{carried_out, carry_out, for_device, for_owner, for_taken, handed_on, step, submit_by, submitted_on}
+use Rattle.nv_world_model.specs.Step.{carried_out, carry_out, for_one, for_owner, for_taken, handed_on, step, submit_by, submitted_on}
 use Rattle.nv_world_model.specs.View.{IsAlike, Span, is_tag_of, units_shown}
 use Rattle.nv_world_model.specs.World.{Command, Ended, Tag, Taken, World, group, tag_changed, tag_of, with_tag}
 use Rattle.nv_laws_sound.specs.Consistent.{IsConsistentOfTags, IsPlanned}
@@ -166,7 +166,7 @@ module _ (host_bytes : ℕ) (geometry : Geometry) (number : ℕ) (guest : Guest)
     unfolding step
     submits-alike lane tag mine =
         let by_owner = λ (v : World) (command : Command) (reads : List ReadDone) (o : Owner).
-        for_device (slice_get v.device lane) v (λ d. submit_by (plan_over o.given command.entry reads) geometry.mediator lane (group v lane tag) command o v) in
+        for_one (slice_get v.device lane) v (λ d. submit_by (plan_over o.given command.entry reads) geometry.mediator lane (group v lane tag) command o v) in
         let more = λ (v : World) (command : Command) (reads : List ReadDone). for_owner (owner_of geometry v command.guest) v (by_owner v command reads) in
         subst (λ t. Alike (for_taken tag (tag_of w lane tag) w (more w)).world (for_taken tag t z (more z)).world) (tag-here geometry w z number guest given alike lane tag mine)
         (taken-both Alike w z alike number tag (tag_of w lane tag) mine (more w) (more z) (λ command reads here whose leads.

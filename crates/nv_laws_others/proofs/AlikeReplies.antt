@@ -31,7 +31,7 @@ use Rattle.nv_world_model.specs.Geometry.{Geometry, Guest, regions_of, shape_of}
 use Rattle.nv_world_model.specs.Plan.{Plan, plan_over}
 use Rattle.nv_world_model.specs.Seat.{Owner, held_by, held_in, owner_by, owner_of, seat}
 use Rattle.nv_world_model.specs.Step.{After, act_put_back, acted_in, administered_by, administered_in, device_fail, device_move, device_post, ended_at_once}
-use Rattle.nv_world_model.specs.Step.{deciding, entry_at, for_device, for_ended, for_guest, for_held, for_lane, for_leader, for_owner, for_taken}
+use Rattle.nv_world_model.specs.Step.{deciding, entry_at, for_one, for_ended, for_held, for_leader, for_owner, for_taken}
 use Rattle.nv_world_model.specs.Step.{is_io_queue, is_success}
 use Rattle.nv_world_model.specs.Step.{list_at, listed, post_all, post_by, replied, statuses_of, step, submit_by, take_from, take_front, take_tags}
 use Rattle.nv_world_model.specs.View.{IsAlike, is_tag_of, lane_numbers, own_held, ring_numbers, shared_numbers}
@@ -103,7 +103,7 @@ module _ (w z : World) where
 
   lane-same : (x y : Option Lane) → option_map lane_numbers x ≡ option_map lane_numbers y → (more again : Lane → After)
       → ((l m : Lane) → lane_numbers l ≡ lane_numbers m → (more l).reply ≡ (again m).reply)
-      → (for_lane x w more).reply ≡ (for_lane y z again).reply
+      → (for_one x w more).reply ≡ (for_one y z again).reply
   lane-same None None numbers more again same = refl
   lane-same None (Some m) numbers more again same = cc
   lane-same (Some l) None numbers more again same = cc
@@ -111,7 +111,7 @@ module _ (w z : World) where
 
   device-same : (x y : Option DeviceLane) → option_map ring_numbers x ≡ option_map ring_numbers y → (more again : DeviceLane → After)
       → ((d e : DeviceLane) → x ≡ Some d → y ≡ Some e → ring_numbers d ≡ ring_numbers e → (more d).reply ≡ (again e).reply)
-      → (for_device x w more).reply ≡ (for_device y z again).reply
+      → (for_one x w more).reply ≡ (for_one y z again).reply
   device-same None None numbers more again same = refl
   device-same None (Some e) numbers more again same = cc
   device-same (Some d) None numbers more again same = cc
@@ -193,13 +193,13 @@ module _ (geometry : Geometry) (w z : World) (number : ℕ) (guest : Guest) (giv
   by-controller n same = by-guest n same w ∙ ap (owner_by number (Some guest)) alike.view.controller
 
   guest-same : (n : ℕ) → n ≡ number → (more again : Owner → After) → ((c : Controller) → (more (own c)).reply ≡ (again (own c)).reply)
-      → (for_guest (owner_of geometry w n) w more).reply ≡ (for_guest (owner_of geometry z n) z again).reply
+      → (for_one (owner_of geometry w n) w more).reply ≡ (for_one (owner_of geometry z n) z again).reply
   guest-same n same more again replies =
-      ap (λ o. (for_guest o w more).reply) (by-controller n same)
+      ap (λ o. (for_one o w more).reply) (by-controller n same)
       ∙ by_there (slice_get z.controllers number)
-      ∙ sym (ap (λ o. (for_guest o z again).reply) (by-guest n same z))
+      ∙ sym (ap (λ o. (for_one o z again).reply) (by-guest n same z))
     where
-      by_there : (c : Option Controller) → (for_guest (owner_by number (Some guest) c) w more).reply ≡ (for_guest (owner_by number (Some guest) c) z again).reply
+      by_there : (c : Option Controller) → (for_one (owner_by number (Some guest) c) w more).reply ≡ (for_one (owner_by number (Some guest) c) z again).reply
       by_there None = refl
       by_there (Some c) = replies c
 
@@ -278,8 +278,8 @@ module _ (geometry : Geometry) (w z : World) (number : ℕ) (guest : Guest) (giv
   take-replies : (n queue lane : ℕ) → n ≡ number → (step geometry (event.Take n queue lane) w).reply ≡ (step geometry (event.Take n queue lane) z).reply
   unfolding step
   take-replies n queue lane same =
-      guest-same n same (λ o. for_lane (slice_get w.lanes lane) w (λ l. take_from queue lane l o w))
-      (λ o. for_lane (slice_get z.lanes lane) z (λ l. take_from queue lane l o z))
+      guest-same n same (λ o. for_one (slice_get w.lanes lane) w (λ l. take_from queue lane l o w))
+      (λ o. for_one (slice_get z.lanes lane) z (λ l. take_from queue lane l o z))
       (λ c.
       lane-same w z (slice_get w.lanes lane) (slice_get z.lanes lane) (lanes-same lane) (λ l. take_from queue lane l (own c) w) (λ l. take_from queue lane l (own c) z)
       (λ l m numbers.
@@ -311,10 +311,10 @@ module _ (geometry : Geometry) (w z : World) (number : ℕ) (guest : Guest) (giv
   submit-replies lane tag mine =
       taken-same w z number tag (tag_of w lane tag) mine
       (λ command reads.
-      for_owner (owner_of geometry w command.guest) w (λ o. for_device (slice_get w.device lane) w (λ d.
+      for_owner (owner_of geometry w command.guest) w (λ o. for_one (slice_get w.device lane) w (λ d.
       submit_by (plan_over o.given command.entry reads) geometry.mediator lane (group w lane tag) command o w)))
       (λ command reads.
-      for_owner (owner_of geometry z command.guest) z (λ o. for_device (slice_get z.device lane) z (λ d.
+      for_owner (owner_of geometry z command.guest) z (λ o. for_one (slice_get z.device lane) z (λ d.
       submit_by (plan_over o.given command.entry reads) geometry.mediator lane (group z lane tag) command o z)))
       (λ command reads whose.
       owner-same command.guest whose _ _
@@ -322,7 +322,7 @@ module _ (geometry : Geometry) (w z : World) (number : ℕ) (guest : Guest) (giv
       device-same w z (slice_get w.device lane) (slice_get z.device lane) (rings-same lane) _ _
       (λ d e there again numbers. outcome-replies (plan_over guest command.entry reads) lane (group w lane tag) (group z lane tag) command (own c))))
       ∙ ap (λ t. (for_taken tag t z (λ command reads.
-      for_owner (owner_of geometry z command.guest) z (λ o. for_device (slice_get z.device lane) z (λ d.
+      for_owner (owner_of geometry z command.guest) z (λ o. for_one (slice_get z.device lane) z (λ d.
       submit_by (plan_over o.given command.entry reads) geometry.mediator lane (group z lane tag) command o z)))).reply)
       (tag-here lane tag mine)
 
@@ -343,8 +343,8 @@ module _ (geometry : Geometry) (w z : World) (number : ℕ) (guest : Guest) (giv
   -- an event of a slot whose command is in the device
   slot-replies : (lane slot : ℕ) (more again : DeviceLane → Held → After) → guest_of_one (tag_of w lane slot) ≡ Some number
       → ((d e : DeviceLane) (h : Held) → (more d h).reply ≡ (again e h).reply)
-      → (for_device (slice_get w.device lane) w (λ d. for_held (slice_get d.held slot) w (more d))).reply
-      ≡ (for_device (slice_get z.device lane) z (λ d. for_held (slice_get d.held slot) z (again d))).reply
+      → (for_one (slice_get w.device lane) w (λ d. for_held (slice_get d.held slot) w (more d))).reply
+      ≡ (for_one (slice_get z.device lane) z (λ d. for_held (slice_get d.held slot) z (again d))).reply
   slot-replies lane slot more again mine replies =
       device-same w z (slice_get w.device lane) (slice_get z.device lane) (rings-same lane) _ _
       (λ d e there behind numbers.

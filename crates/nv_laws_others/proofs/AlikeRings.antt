@@ -20,7 +20,7 @@ use Rattle.nv_world_model.specs.Contained.{guest_of_one, is_answered_at, next_gu
 use Rattle.nv_world_model.specs.Device.{DeviceLane, Held, completion_posted, completion_written, held_status, next_phase}
 use Rattle.nv_world_model.specs.Geometry.{Geometry, Guest}
 use Rattle.nv_world_model.specs.Seat.{completion_at, held_by, held_in}
-use Rattle.nv_world_model.specs.Step.{After, completion_read, device_fail, device_post, device_posted, ended_at, for_device, for_held, is_success}
+use Rattle.nv_world_model.specs.Step.{After, completion_read, device_fail, device_post, device_posted, ended_at, for_one, for_held, is_success}
 use Rattle.nv_world_model.specs.Step.{passed_on, reap, reaped, step}
 use Rattle.nv_world_model.specs.View.{IsAlike, RingNumbers, guest_of_tag, is_tag_of, lane_numbers, moved_shown, own_held, ring_numbers, units_shown}
 use Rattle.nv_world_model.specs.World.{Answered, Ended, Flying, InDevice, Lane, Tag, World, tag_changed, tag_in, tag_of, with_lane}
@@ -145,8 +145,8 @@ module _ (host_bytes : ℕ) (geometry : Geometry) (w z : World) (laid : IsLaidOu
   pub slot-both : (lane slot : ℕ) (more again : DeviceLane → Held → After) → guest_of_one (tag_of w lane slot) ≡ Some number
       → ((d e : DeviceLane) (h : Held) → slice_get w.device lane ≡ Some d → slice_get z.device lane ≡ Some e → ring_numbers d ≡ ring_numbers e
       → slice_get d.held slot ≡ Some (Some h) → slice_get e.held slot ≡ Some (Some h) → Behind (more d h).world (again e h).world)
-      → Behind (for_device (slice_get w.device lane) w (λ d. for_held (slice_get d.held slot) w (more d))).world
-      (for_device (slice_get z.device lane) z (λ d. for_held (slice_get d.held slot) z (again d))).world
+      → Behind (for_one (slice_get w.device lane) w (λ d. for_held (slice_get d.held slot) w (more d))).world
+      (for_one (slice_get z.device lane) z (λ d. for_held (slice_get d.held slot) z (again d))).world
   slot-both lane slot more again mine each =
       device-both Behind w z alike (slice_get w.device lane) (slice_get z.device lane) (rings-same geometry w z number guest given alike lane) _ _ (λ d e there behind rings.
       (let same = slot-here geometry w z number guest given alike lane slot d e there behind rings mine in

@@ -11,7 +11,7 @@ use Rattle.nv_world_model.specs.Device.{DeviceLane, Held}
 use Rattle.nv_world_model.specs.Geometry.{Geometry, Guest}
 use Rattle.nv_world_model.specs.Share.{Share}
 use Rattle.nv_world_model.specs.Seat.{Owner, held_in, owner_by, owner_of}
-use Rattle.nv_world_model.specs.Step.{After, for_device, for_ended, for_guest, for_held, for_lane, for_leader, for_owner, for_taken, replied}
+use Rattle.nv_world_model.specs.Step.{After, for_one, for_ended, for_held, for_leader, for_owner, for_taken, replied}
 use Rattle.nv_world_model.specs.View.{IsAlike, is_tag_of, lane_numbers, ring_numbers}
 use Rattle.nv_world_model.specs.World.{Command, Ended, Flying, Free, Lane, Tag, Taken, World, tag_in, tag_of}
 use Rattle.nv_laws_sound.specs.Consistent.{IsConsistentOfTags}
@@ -59,7 +59,7 @@ module _ (P : World → World → Type 0) (w z : World) (holds : P w z) where
 
   pub lane-both : (x y : Option Lane) → option_map lane_numbers x ≡ option_map lane_numbers y → (more again : Lane → After)
       → ((l m : Lane) → x ≡ Some l → y ≡ Some m → lane_numbers l ≡ lane_numbers m → P (more l).world (again m).world)
-      → P (for_lane x w more).world (for_lane y z again).world
+      → P (for_one x w more).world (for_one y z again).world
   lane-both None None numbers more again each = holds
   lane-both None (Some m) numbers more again each = cc
   lane-both (Some l) None numbers more again each = cc
@@ -67,7 +67,7 @@ module _ (P : World → World → Type 0) (w z : World) (holds : P w z) where
 
   pub device-both : (x y : Option DeviceLane) → option_map ring_numbers x ≡ option_map ring_numbers y → (more again : DeviceLane → After)
       → ((d e : DeviceLane) → x ≡ Some d → y ≡ Some e → ring_numbers d ≡ ring_numbers e → P (more d).world (again e).world)
-      → P (for_device x w more).world (for_device y z again).world
+      → P (for_one x w more).world (for_one y z again).world
   device-both None None numbers more again each = holds
   device-both None (Some e) numbers more again each = cc
   device-both (Some d) None numbers more again each = cc
@@ -163,12 +163,12 @@ module _ (geometry : Geometry) (w z : World) (number : ℕ) (guest : Guest) (giv
     pub guest-both : (n : ℕ) → n ≡ number → (more again : Owner → After)
         → ((c : Controller) → slice_get w.controllers number ≡ Some c → slice_get z.controllers number ≡ Some c
         → P (more (own geometry w z number guest given alike c)).world (again (own geometry w z number guest given alike c)).world)
-        → P (for_guest (owner_of geometry w n) w more).world (for_guest (owner_of geometry z n) z again).world
+        → P (for_one (owner_of geometry w n) w more).world (for_one (owner_of geometry z n) z again).world
     guest-both n same more again each =
-        subst (λ o. P (for_guest o w more).world (for_guest (owner_of geometry z n) z again).world) (sym (by-controller geometry w z number guest given alike n same))
-        (subst (λ o. P (for_guest (owner_by number (Some guest) (slice_get z.controllers number)) w more).world (for_guest o z again).world)
+        subst (λ o. P (for_one o w more).world (for_one (owner_of geometry z n) z again).world) (sym (by-controller geometry w z number guest given alike n same))
+        (subst (λ o. P (for_one (owner_by number (Some guest) (slice_get z.controllers number)) w more).world (for_one o z again).world)
         (sym (by-guest geometry w z number guest given alike n same z))
-        (owner-there (slice_get z.controllers number) alike.view.controller refl (λ o. P (for_guest o w more).world (for_guest o z again).world) holds each))
+        (owner-there (slice_get z.controllers number) alike.view.controller refl (λ o. P (for_one o w more).world (for_one o z again).world) holds each))
 
     pub owner-both : (n : ℕ) → n ≡ number → (more again : Owner → After)
         → ((c : Controller) → slice_get w.controllers number ≡ Some c → slice_get z.controllers number ≡ Some c

@@ -5,8 +5,8 @@ use Rattle.std.specs.Option.{option_map}
 use Rattle.nv_world_model.specs.Area.{tag_count}
 use Rattle.nv_world_model.specs.Geometry.{Geometry, Guest}
 use Rattle.nv_world_model.specs.CutDown.{cut, cut_tag, nobodys}
-use Rattle.nv_world_model.specs.View.{is_guest, is_tag_of}
-use Rattle.nv_world_model.specs.World.{Command, Ended, Flying, Free, Tag, Taken, World, leader_of, tag_in, tag_of}
+use Rattle.nv_world_model.specs.View.{is_tag_of}
+use Rattle.nv_world_model.specs.World.{Command, Ended, Flying, Free, Tag, Taken, World, is_that, leader_of, tag_in, tag_of}
 use Rattle.nv_laws_sound.specs.Consistent.{IsConsistent}
 use Rattle.nv_laws_sound.specs.Groups.{command_of, part_of}
 use Rattle.nv_laws_sound.specs.LaidOut.{IsLaidOut}
@@ -40,8 +40,8 @@ consistent-owned geometry w number fine lane tag leader t there leads mine =
     let x = part-tag a.l.tags c.command.leader m.first m.there in
     let here : tag_of w lane leader ≡ Some x.t =
     ap (tag_of w lane) (sym c.leads) ∙ ap (λ o. tag_in o c.command.leader) a.at_lane ∙ x.is in
-    ap (is_guest number) (part-guest t c.command c.has)
-    ∙ sym (ap (is_guest number) (part-guest x.t c.command (ap command_of x.part_is ∙ m.same)))
+    ap (is_that number) (part-guest t c.command c.has)
+    ∙ sym (ap (is_that number) (part-guest x.t c.command (ap command_of x.part_is ∙ m.same)))
     ∙ sym (ap (is_tag_of number) here) ∙ mine
 
 -- ---- a world cut down

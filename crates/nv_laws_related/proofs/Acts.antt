@@ -18,7 +18,7 @@ use Rattle.nv_world_model.specs.Disciplined.{may_act}
 use Rattle.nv_world_model.specs.Geometry.{Geometry, Guest, regions_of, shape_of}
 use Rattle.nv_world_model.specs.PrivateSteps.{act_of, is_act, with_act}
 use Rattle.nv_world_model.specs.Seat.{Owner, owner_by, owner_of, put_back, seat}
-use Rattle.nv_world_model.specs.Step.{After, acted_by, acted_in, for_guest, is_done, step}
+use Rattle.nv_world_model.specs.Step.{After, acted_by, acted_in, for_one, is_done, step}
 use Rattle.nv_world_model.specs.World.{World}
 use Rattle.nv_world_model.proofs.Seats.{slice_get-set}
 use Rattle.nv_laws_related.specs.Following.{GoesAlong, IsDisciplinedAt, IsReached}
@@ -51,7 +51,7 @@ image-unmapped guest host other at out =
 guest-step : (geometry : Geometry) (number : ℕ) (o : Owner) (a : Act) (w : World) → owner_of geometry w number ≡ Some o
     → step geometry (event.Guest number a) w ≡ acted_by (acted (shape_of o.given) a (seat geometry o w)) o w
 unfolding step acted_in
-guest-step geometry number o a w e = ap (λ x. for_guest x w (λ p. acted_by (acted (shape_of p.given) a (seat geometry p w)) p w)) e
+guest-step geometry number o a w e = ap (λ (x : Option Owner). for_one x w (λ p. acted_by (acted (shape_of p.given) a (seat geometry p w)) p w)) e
 
 -- what two replies and two states of an act have in common
 pub record IsSameAct (geometry : Geometry) (number : ℕ) (guest : Guest) (done : After) (q : Acted) : Type 0 where

@@ -12,8 +12,7 @@ use Rattle.nv_world_model.specs.Geometry.{Geometry, Guest}
 use Rattle.nv_world_model.specs.Laws.{IsAmong}
 use Rattle.nv_world_model.specs.PrivateSteps.{act_of}
 use Rattle.nv_world_model.specs.Step.{is_done, is_telling, step}
-use Rattle.nv_world_model.specs.View.{is_guest}
-use Rattle.nv_world_model.specs.World.{World}
+use Rattle.nv_world_model.specs.World.{World, is_that}
 use Rattle.nv_world_model.proofs.Replies.{step-answers}
 use Rattle.nv_laws_sound.proofs.Lists.{some-same}
 use Rattle.nv_laws_related.specs.Following.{AreRestFollowed, EachEventIsFollowed, GoesAlong, IsDisciplinedAt, IsReached}
@@ -59,7 +58,7 @@ module _ (host_bytes : ℕ) (geometry : Geometry) (number : ℕ) (guest : Guest)
       dull-step e refl
       (not-done (step geometry e w).reply (step-answers geometry e w).may
       (never-and (is_done (step geometry e w).reply)
-      (sym (ap (λ o. is_done (step geometry e w).reply && is_guest number o) own ∙ ap (λ b. is_done (step geometry e w).reply && b) here)
+      (sym (ap (λ o. is_done (step geometry e w).reply && is_that number o) own ∙ ap (λ b. is_done (step geometry e w).reply && b) here)
       ∙ disciplined.not_failed)))
     where
       never-and : (b : Bool) → (b && true) ≡ false → b ≡ false

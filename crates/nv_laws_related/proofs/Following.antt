@@ -18,8 +18,7 @@ use Rattle.nv_world_model.specs.Log.{IsReplay, events_of}
 use Rattle.nv_world_model.specs.PrivateSteps.{act_of, private_steps, seen_by, steps_of, with_act}
 use Rattle.nv_world_model.specs.SetUp.{SetUp, refusal_of}
 use Rattle.nv_world_model.specs.Step.{is_done, replay, replies, step}
-use Rattle.nv_world_model.specs.View.{is_guest}
-use Rattle.nv_world_model.specs.World.{World, opening_lane, opening_world}
+use Rattle.nv_world_model.specs.World.{World, is_that, opening_lane, opening_world}
 use Rattle.nv_world_model.specs.SetUp.{world_at_start}
 use Rattle.nv_laws_sound.specs.Consistent.{IsConsistent}
 use Rattle.nv_laws_sound.specs.LaidOut.{IsLaidOut}
@@ -131,7 +130,7 @@ module _ (geometry : Geometry) (host_bytes number : ℕ) (guest : Guest) (given 
         given = given;
         before = order.0;
         behind = in_order-now geometry number guest log behind order.1;
-        not_failed = ap (λ r. is_failure l.event && is_done r && is_guest number (owner l.event w)) told ∙ not-true (fails number l w) failed.0;
+        not_failed = ap (λ r. is_failure l.event && is_done r && is_that number (owner l.event w)) told ∙ not-true (fails number l w) failed.0;
       })
       related in
       one-more l log w z p told one

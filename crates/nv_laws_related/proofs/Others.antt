@@ -17,8 +17,8 @@ use Rattle.nv_world_model.specs.Device.{DeviceLane, Held}
 use Rattle.nv_world_model.specs.Geometry.{Geometry, Guest}
 use Rattle.nv_world_model.specs.PrivateSteps.{act_of, keeps_all, others_moves, own_moves, steps_done, work_in}
 use Rattle.nv_world_model.specs.Step.{After, device_move, device_moved, is_telling, kept_block, replied, step}
-use Rattle.nv_world_model.specs.View.{guest_of_tag, is_guest, is_tag_of}
-use Rattle.nv_world_model.specs.World.{Flying, InDevice, Lane, Tag, World, tag_in, tag_of}
+use Rattle.nv_world_model.specs.View.{guest_of_tag, is_tag_of}
+use Rattle.nv_world_model.specs.World.{Flying, InDevice, Lane, Tag, World, is_that, tag_in, tag_of}
 use Rattle.nv_laws_sound.proofs.Lists.{slice_get-below, slice_get-there}
 use Rattle.nv_laws_sound.proofs.MoveEvents.{held-flies}
 use Rattle.nv_laws_sound.proofs.Named.{row-all}
@@ -44,7 +44,7 @@ pub not-own : (number : ℕ) (o : Option Tag) → (guest_of_one o ≡ Some numbe
 not-own number None apart = refl
 not-own number (Some t) apart = by_guest (guest_of_tag t) apart
   where
-    by_guest : (g : Option ℕ) → (g ≡ Some number → ⊥) → is_guest number g ≡ false
+    by_guest : (g : Option ℕ) → (g ≡ Some number → ⊥) → is_that number g ≡ false
     by_guest None apart = refl
     by_guest (Some other) apart = ne_eqb other number (λ same. apart (ap (λ n. Some n) same))
 

@@ -5,7 +5,7 @@ use Rattle.nv_model.specs.Private.{Progress, Unjudged, Taken as Member}
 use Rattle.nv_world_model.specs.Geometry.{Geometry}
 use Rattle.nv_world_model.specs.Seat.{Rest, ended_progress, member_by, member_in, member_of, rest_at, rests_of, work_of, work_progress}
 use Rattle.nv_world_model.specs.View.{is_tag_of, own_tag}
-use Rattle.nv_world_model.specs.World.{Command, Ended, Flying, Free, Lane, Tag, Taken, World, goes_by, group, group_in, leader_of, tag_in, tag_of}
+use Rattle.nv_world_model.specs.World.{Command, Ended, Flying, Free, Lane, Tag, Taken, World, group, group_in, is_that, leader_of, tag_in, tag_of}
 use Rattle.nv_laws_sound.specs.Groups.{command_of, part_of, parts_of, goes_by as part_goes_by}
 use Rattle.nv_laws_sound.proofs.CountedActs.{HasLane, lane-of}
 use Rattle.nv_laws_sound.proofs.Folds.{tag-part}
@@ -19,7 +19,7 @@ use Rattle.nv_laws_sound.proofs.Numbers.{Passes, numbers-are, numbers-pass, numb
 -- whether a tag goes by that one
 abbrev pub led : (leader : ℕ) → Option Tag → Bool
 led leader None = false
-led leader (Some t) = goes_by leader (leader_of t)
+led leader (Some t) = is_that leader (leader_of t)
 
 abbrev by_test : {X : Type 0} → (X → Bool) → Option X → Bool
 by_test test None = false
@@ -46,7 +46,7 @@ unfolding group
 group-by w z lane leader same = by (slice_get w.lanes lane) (slice_get z.lanes lane) same
   where
     test : Tag → Bool
-    test t = goes_by leader (leader_of t)
+    test t = is_that leader (leader_of t)
 
     as-by : (l : Lane) (b : ℕ) → by_test test (slice_get l.tags b) ≡ led leader (tag_in (Some l) b)
     as-by l b = elim (slice_get l.tags b) as (λ o. by_test test o ≡ led leader o) [ None ↦ refl | Some t ↦ refl ]
@@ -64,7 +64,7 @@ unfolding group
 group-led w lane leader = by (slice_get w.lanes lane)
   where
     test : Tag → Bool
-    test t = goes_by leader (leader_of t)
+    test t = is_that leader (leader_of t)
 
     by : (o : Option Lane) → All (λ b. led leader (tag_in o b) ≡ true) (group_in o leader)
     by None = All-nil (λ b. led leader (tag_in None b) ≡ true)
@@ -175,7 +175,7 @@ guest-part number t u same = by t ∙ ap guest_in same ∙ sym (by u)
     by (Ended command st None) = refl
     by (Ended command st (Some share)) = refl
 
-pub goes-part : (leader : ℕ) (t : Tag) → goes_by leader (leader_of t) ≡ part_goes_by leader (part_of t)
+pub goes-part : (leader : ℕ) (t : Tag) → is_that leader (leader_of t) ≡ part_goes_by leader (part_of t)
 goes-part leader Free = refl
 goes-part leader (Taken command reads) = refl
 goes-part leader (Flying command share standing) = refl

@@ -11,7 +11,7 @@ use Rattle.nv_world_model.specs.Device.{Held}
 use Rattle.nv_world_model.specs.Geometry.{Geometry, Guest, regions_of}
 use Rattle.nv_world_model.specs.Seat.{member_in, members, name_of, rest_at, rests_of, tag_rest}
 use Rattle.nv_world_model.specs.View.{own_held, own_tag}
-use Rattle.nv_world_model.specs.World.{Tag, World, goes_by, leader_of, tag_of}
+use Rattle.nv_world_model.specs.World.{Tag, World, is_that, leader_of, tag_of}
 use Rattle.nv_world_model.proofs.SeatTags.{name-lane, name-tag}
 use Rattle.nv_laws_sound.specs.Consistent.{IsConsistent}
 use Rattle.nv_laws_others.specs.Leaving.{IsBytes}
@@ -66,7 +66,7 @@ one-told geometry number guest lane leader tag t new w z changed there was now b
         → led other (tag_of x lane b) ≡ false
     led-only x u leads here b other is differ =
         subst (λ n. led other (tag_of x lane n) ≡ false) (sym (eqb-true b tag is))
-        (ap (led other) here ∙ ap (goes_by other) leads ∙ ne_eqb leader other (λ same. differ (sym same)))
+        (ap (led other) here ∙ ap (is_that other) leads ∙ ne_eqb leader other (λ same. differ (sym same)))
 
 module _ (geometry : Geometry) (number : ℕ) (guest : Guest) (w z : World) (fine : IsConsistent geometry w) (lane leader : ℕ) (touched : ℕ → Bool)
     (below : leader < tag_count) (told : IsRetold geometry number guest lane leader touched w z) (p : Private) (related : Related geometry number guest w p) where

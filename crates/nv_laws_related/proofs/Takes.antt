@@ -24,7 +24,7 @@ use Rattle.nv_world_model.proofs.Seats.{slice_get-set}
 use Rattle.nv_world_model.proofs.TagCounts.{tags_of_entry-some}
 use Rattle.nv_world_model.specs.PrivateSteps.{taken_as, takes}
 use Rattle.nv_world_model.specs.Seat.{Owner, member_in, name_of, owner_of, rests_of}
-use Rattle.nv_world_model.specs.Step.{After, entry_at, for_lane, is_io_queue, replied, step, take_from, take_front, take_tags, taken_to}
+use Rattle.nv_world_model.specs.Step.{After, entry_at, for_one, is_io_queue, replied, step, take_from, take_front, take_tags, taken_to}
 use Rattle.nv_world_model.specs.View.{own_held}
 use Rattle.nv_world_model.specs.World.{Command, Free, Lane, Tag, Taken, World, claimed, is_free, tag_of, with_controller, with_tags}
 use Rattle.nv_laws_sound.proofs.Folds.{HasTag}
@@ -209,7 +209,7 @@ module _ (host_bytes : ℕ) (geometry : Geometry) (number : ℕ) (guest : Guest)
     takes-go =
         let dull = dull-goes geometry number guest (event.Take number queue lane) w p refl related in
         guest-way Goes w dull (owner_of geometry w number) _ (λ x is.
-        subst (λ (y : Owner). Goes (for_lane (slice_get w.lanes lane) w (λ l. take_from queue lane l y w)))
+        subst (λ (y : Owner). Goes (for_one (slice_get w.lanes lane) w (λ l. take_from queue lane l y w)))
         (some-same o x (sym (owner-there geometry number guest w p.controller given related.controller) ∙ is))
         (lane-way Goes w dull (slice_get w.lanes lane) (λ l. take_from queue lane l o w) (λ l at.
         either-way Goes w dull (is_io_queue queue) _ _ (λ io. front-goes l at io (front p.controller queue) refl) (λ out. dull reply.Ignored refl))))

@@ -8,7 +8,7 @@ use Rattle.nv_model.specs.declared.reply.Reply.TheVariants as reply
 use Rattle.nv_world_model.specs.Device.{DeviceLane, Held}
 use Rattle.nv_world_model.specs.Share.{Share}
 use Rattle.nv_world_model.specs.Seat.{Owner}
-use Rattle.nv_world_model.specs.Step.{After, for_device, for_ended, for_guest, for_held, for_lane, for_leader, for_owner, for_taken, is_telling, replied}
+use Rattle.nv_world_model.specs.Step.{After, for_one, for_ended, for_held, for_leader, for_owner, for_taken, is_telling, replied}
 use Rattle.nv_world_model.specs.World.{Command, Ended, Flying, Free, Lane, Tag, Taken, World}
 
 module _ (P : After → Type 0) (w : World) (dull : (r : Reply) → is_telling r ≡ false → P (replied r w)) where
@@ -16,7 +16,7 @@ module _ (P : After → Type 0) (w : World) (dull : (r : Reply) → is_telling r
   either-way true x y so not_so = so refl
   either-way false x y so not_so = not_so refl
 
-  pub guest-way : (found : Option Owner) (more : Owner → After) → ((o : Owner) → found ≡ Some o → P (more o)) → P (for_guest found w more)
+  pub guest-way : (found : Option Owner) (more : Owner → After) → ((o : Owner) → found ≡ Some o → P (more o)) → P (for_one found w more)
   guest-way None more rest = dull reply.Ignored refl
   guest-way (Some o) more rest = rest o refl
 
@@ -24,12 +24,12 @@ module _ (P : After → Type 0) (w : World) (dull : (r : Reply) → is_telling r
   owner-way None more rest = dull reply.Stale refl
   owner-way (Some o) more rest = rest o refl
 
-  pub lane-way : (found : Option Lane) (more : Lane → After) → ((l : Lane) → found ≡ Some l → P (more l)) → P (for_lane found w more)
+  pub lane-way : (found : Option Lane) (more : Lane → After) → ((l : Lane) → found ≡ Some l → P (more l)) → P (for_one found w more)
   lane-way None more rest = dull reply.Ignored refl
   lane-way (Some l) more rest = rest l refl
 
   pub device-way : (found : Option DeviceLane) (more : DeviceLane → After) → ((d : DeviceLane) → found ≡ Some d → P (more d))
-      → P (for_device found w more)
+      → P (for_one found w more)
   device-way None more rest = dull reply.Ignored refl
   device-way (Some d) more rest = rest d refl
 

@@ -10,8 +10,7 @@ use Rattle.nv_world_model.specs.Geometry.{Geometry, Guest, shape_of}
 use Rattle.nv_world_model.specs.Headline.{is_failure}
 use Rattle.nv_world_model.specs.PrivateSteps.{act_of, private_steps, seen_by, steps_of, with_act}
 use Rattle.nv_world_model.specs.Step.{After, is_done, step}
-use Rattle.nv_world_model.specs.View.{is_guest}
-use Rattle.nv_world_model.specs.World.{World}
+use Rattle.nv_world_model.specs.World.{World, is_that}
 use Rattle.nv_laws_sound.specs.Consistent.{IsConsistent}
 use Rattle.nv_laws_sound.specs.Counted.{IsCounted}
 use Rattle.nv_laws_sound.specs.LaidOut.{IsLaidOut}
@@ -25,7 +24,7 @@ pub record IsReached (host_bytes : ℕ) (geometry : Geometry) (w : World) : Type
 
 -- whether the physical controller fails a command of a guest's by this event
 abbrev pub fails_one : Geometry → (number : ℕ) → Event → World → Bool
-fails_one geometry number e w = is_failure e && is_done (step geometry e w).reply && is_guest number (owner e w)
+fails_one geometry number e w = is_failure e && is_done (step geometry e w).reply && is_that number (owner e w)
 
 -- a disciplined guest, before an event and behind it, none of whose commands the event fails
 pub record IsDisciplinedAt (geometry : Geometry) (number : ℕ) (guest : Guest) (e : Event) (w : World) : Type 0 where

@@ -6,7 +6,7 @@ use Rattle.std.specs.Option.{option_map}
 use Rattle.std.proofs.lemmas.List.Elements.{All-cons, All-head, All-nil, All-tail, All-weaker}
 use Rattle.std.proofs.lemmas.Option.{slice_get-map}
 use Rattle.nv_world_model.proofs.Seats.{slice_get-set, slice_get-set-other}
-use Rattle.nv_world_model.specs.World.{Ended, Flying, Free, Lane, Tag, Taken, World, changed_at, goes_by as tag_goes_by, group, group_in}
+use Rattle.nv_world_model.specs.World.{Ended, Flying, Free, Lane, Tag, Taken, World, changed_at, group, group_in, is_that as tag_goes_by}
 use Rattle.nv_world_model.specs.World.{leader_of, tag_changed, tag_in, tag_of, with_tag, with_tags}
 use Rattle.nv_laws_sound.specs.Groups.{Part, goes_by, part_of, parts_of}
 use Rattle.nv_laws_sound.proofs.Lists.{set-same, set-set}

@@ -6,7 +6,7 @@ use Rattle.nv_model.specs.declared.reply.Reply.TheVariants as reply
 use Rattle.nv_world_model.specs.Device.{DeviceLane, Held}
 use Rattle.nv_world_model.specs.Share.{Share}
 use Rattle.nv_world_model.specs.Seat.{Owner}
-use Rattle.nv_world_model.specs.Step.{After, for_device, for_ended, for_guest, for_held, for_lane, for_leader, for_owner, for_taken, replied}
+use Rattle.nv_world_model.specs.Step.{After, for_one, for_ended, for_held, for_leader, for_owner, for_taken, replied}
 use Rattle.nv_world_model.specs.World.{Command, Ended, Flying, Free, Lane, Tag, Taken, World}
 
 module _ (P : World → Type 0) (w : World) (holds : P w) where
@@ -14,7 +14,7 @@ module _ (P : World → Type 0) (w : World) (holds : P w) where
   either true x y so not_so = so refl
   either false x y so not_so = not_so refl
 
-  pub guest-walk : (found : Option Owner) (more : Owner → After) → ((o : Owner) → found ≡ Some o → P (more o).world) → P (for_guest found w more).world
+  pub guest-walk : (found : Option Owner) (more : Owner → After) → ((o : Owner) → found ≡ Some o → P (more o).world) → P (for_one found w more).world
   guest-walk None more rest = holds
   guest-walk (Some o) more rest = rest o refl
 
@@ -22,12 +22,12 @@ module _ (P : World → Type 0) (w : World) (holds : P w) where
   owner-walk None more rest = holds
   owner-walk (Some o) more rest = rest o refl
 
-  pub lane-walk : (found : Option Lane) (more : Lane → After) → ((l : Lane) → found ≡ Some l → P (more l).world) → P (for_lane found w more).world
+  pub lane-walk : (found : Option Lane) (more : Lane → After) → ((l : Lane) → found ≡ Some l → P (more l).world) → P (for_one found w more).world
   lane-walk None more rest = holds
   lane-walk (Some l) more rest = rest l refl
 
   pub device-walk : (found : Option DeviceLane) (more : DeviceLane → After) → ((d : DeviceLane) → found ≡ Some d → P (more d).world)
-      → P (for_device found w more).world
+      → P (for_one found w more).world
   device-walk None more rest = holds
   device-walk (Some d) more rest = rest d refl
 

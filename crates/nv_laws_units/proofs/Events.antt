@@ -1,5 +1,5 @@
 -- A unit of a share moves by its event.
-use Rattle.std.proofs.Common.{◌≡◌, ℕ, true, ◌==◌, cond, slice_get, Some, refl, ap, ◌∙◌}
+use Rattle.std.proofs.Common.{◌≡◌, ℕ, true, ◌==◌, cond, slice_get, Option, Some, refl, ap, ◌∙◌}
 use Rattle.std.specs.List.{list_any}
 use Rattle.nv_model.specs.Judge.{Work}
 use Rattle.nv_model.specs.declared.reply.Reply.TheVariants as reply
@@ -7,7 +7,7 @@ use Rattle.nv_world_model.specs.Device.{DeviceLane, Held, device_unit, unit_gone
 use Rattle.nv_world_model.specs.Geometry.{Geometry, Guest}
 use Rattle.nv_world_model.specs.Share.{Share}
 use Rattle.nv_world_model.specs.Seat.{held_by, held_in}
-use Rattle.nv_world_model.specs.Step.{device_move, device_moved, for_device, for_held, replied, step}
+use Rattle.nv_world_model.specs.Step.{device_move, device_moved, for_one, for_held, replied, step}
 use Rattle.nv_world_model.specs.World.{World, changed_at}
 use Rattle.nv_world_model.specs.declared.event.Event.TheVariants as event
 use Rattle.nv_world_model.proofs.Seats.{slice_get-set}
@@ -33,7 +33,7 @@ pub event-done : (geometry : Geometry) (w : World) (number : ℕ) (guest : Guest
 unfolding step
 event-done geometry w number guest lane tag share whole work h unit it left =
     let there = device-there (slice_get w.device lane) tag h it.held in
-    ap (λ o. for_device o w (λ d. for_held (slice_get d.held tag) w (λ x. device_move geometry.disk_blocks lane tag unit x w))) there.1
+    ap (λ (o : Option DeviceLane). for_one o w (λ d. for_held (slice_get d.held tag) w (λ x. device_move geometry.disk_blocks lane tag unit x w))) there.1
     ∙ ap (λ o. for_held o w (λ x. device_move geometry.disk_blocks lane tag unit x w)) there.2
     ∙ ap (λ b. cond b (replied reply.Done (device_moved geometry.disk_blocks lane tag unit h w)) (replied reply.Idle w)) left
 

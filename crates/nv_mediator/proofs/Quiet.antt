@@ -14,7 +14,7 @@ use Rattle.nv_world_model.specs.declared.event.Event.TheVariants as event
 use Rattle.nv_world_model.specs.Geometry.{Geometry, shape_of}
 use Rattle.nv_world_model.specs.Laws.{IsAmong}
 use Rattle.nv_world_model.specs.Seat.{Owner, owner_of, seat}
-use Rattle.nv_world_model.specs.Step.{After, act_put_back, acted_in, for_guest, step}
+use Rattle.nv_world_model.specs.Step.{After, act_put_back, acted_in, for_one, step}
 use Rattle.nv_world_model.specs.World.{World}
 
 -- any event but a read of a list
@@ -76,7 +76,7 @@ put-back-same reply.Ignored p o w bytes told = refl
 put-back-same reply.NoMemory p o w bytes told = refl
 
 act-same : (geometry : Geometry) (a : Act) (x : Option Owner) (w : World) (bytes : List ℕ)
-    → bytes_told (for_guest x w (λ o. acted_in geometry a o w)).reply ≡ Some bytes → (for_guest x w (λ o. acted_in geometry a o w)).world ≡ w
+    → bytes_told (for_one x w (λ o. acted_in geometry a o w)).reply ≡ Some bytes → (for_one x w (λ o. acted_in geometry a o w)).world ≡ w
 unfolding acted_in
 act-same geometry a None w bytes told = refl
 act-same geometry a (Some o) w bytes told =

@@ -15,7 +15,7 @@ use Rattle.nv_threads.specs.Told.{bytes_given, bytes_of, room_of}
 use Rattle.nv_world.specs.Mediated.{IsLogged, IsStepped, Mediated}
 use Rattle.nv_world_model.specs.Geometry.{Geometry, Guest, shape_of}
 use Rattle.nv_world_model.specs.Seat.{Owner, owner_by, seat}
-use Rattle.nv_world_model.specs.Step.{After, act_put_back, acted_in, for_guest, step}
+use Rattle.nv_world_model.specs.Step.{After, act_put_back, acted_in, for_one, step}
 use Rattle.nv_world_model.specs.World.{World}
 use Rattle.nv_world_model.specs.declared.event.Event.TheVariants as event
 
@@ -74,7 +74,7 @@ owner-answer geometry a o w =
     (acted-answer o.given a (seat geometry o w))
 
 guest-answer : (geometry : Geometry) (a : Act) (number : ℕ) (g : Option Guest) (c : Option Controller) (w : World)
-    → IsAnswer (bytes_of g a) (for_guest (owner_by number g c) w (λ o. acted_in geometry a o w)).reply
+    → IsAnswer (bytes_of g a) (for_one (owner_by number g c) w (λ o. acted_in geometry a o w)).reply
 guest-answer geometry a number None c w = tt
 guest-answer geometry a number (Some given) None w = tt
 guest-answer geometry a number (Some given) (Some c) w = owner-answer geometry a (record { number = number; given = given; controller = c }) w

@@ -10,7 +10,7 @@ use Rattle.nv_world_model.specs.declared.event.Event.TheVariants as event
 use Rattle.nv_world_model.specs.Geometry.{Geometry}
 use Rattle.nv_world_model.specs.Seat.{Owner, owner_of}
 use Rattle.nv_world_model.specs.Share.{tags_of_entry}
-use Rattle.nv_world_model.specs.Step.{entry_at, for_guest, for_lane, is_io_queue, replied, step, take_from, take_front, take_tags}
+use Rattle.nv_world_model.specs.Step.{entry_at, for_one, is_io_queue, replied, step, take_from, take_front, take_tags}
 use Rattle.nv_world_model.specs.World.{Lane, Tag, World, claimed, is_free, tags_where}
 
 -- ---- the first of a list
@@ -232,14 +232,14 @@ take_from-busy true queue number l o w e = take_front-busy (front o.controller q
 take_from-busy false queue number l o w e = cc
 
 lane-busy : (x : Option Lane) (queue lane : ℕ) (l : Lane) (o : Owner) (w : World) → x ≡ Some l
-    → (for_lane x w (λ k. take_from queue lane k o w)).reply ≡ reply.Busy → IsBusy (Some o) queue l w
+    → (for_one x w (λ k. take_from queue lane k o w)).reply ≡ reply.Busy → IsBusy (Some o) queue l w
 lane-busy None queue lane l o w there e = cc
 lane-busy (Some k) queue lane l o w there e =
     (let same : k ≡ l = some-same k l there in
     subst (λ x. IsBusy (Some o) queue x w) same (take_from-busy (is_io_queue queue) queue lane k o w e))
 
 guest-busy : (x : Option Owner) (queue lane : ℕ) (l : Lane) (w : World) → slice_get w.lanes lane ≡ Some l
-    → (for_guest x w (λ o. for_lane (slice_get w.lanes lane) w (λ k. take_from queue lane k o w))).reply ≡ reply.Busy → IsBusy x queue l w
+    → (for_one x w (λ o. for_one (slice_get w.lanes lane) w (λ k. take_from queue lane k o w))).reply ≡ reply.Busy → IsBusy x queue l w
 guest-busy None queue lane l w there e = cc
 guest-busy (Some o) queue lane l w there e = lane-busy (slice_get w.lanes lane) queue lane l o w there e
 

@@ -20,7 +20,7 @@ use Rattle.nv_world_model.specs.Plan.{Plan, plan_over}
 use Rattle.nv_world_model.specs.Seat.{Owner, completion_at, owner_of, put_back, seat}
 use Rattle.nv_world_model.specs.Step.{After, act_put_back, acted_by, acted_in, administered_by, administered_in, carry_out, deciding, delivered}
 use Rattle.nv_world_model.specs.Step.{device_moved, entry_at}
-use Rattle.nv_world_model.specs.Step.{device_post, device_posted, device_took, ended_at_once, for_device, for_ended, for_guest, for_held, for_lane, for_owner}
+use Rattle.nv_world_model.specs.Step.{device_post, device_posted, device_took, ended_at_once, for_one, for_ended, for_held, for_owner}
 use Rattle.nv_world_model.specs.Step.{for_leader, for_taken, is_io_queue, is_success, is_telling, kept_block, list_at, listed, post_all, post_by, posted_to}
 use Rattle.nv_world_model.specs.Step.{ran_out_of, reaped, replied, statuses_of, step, submit_by, take_front, take_tags, taken_to}
 use Rattle.nv_world_model.specs.World.{Command, Ended, Flying, Free, Lane, Tag, Taken, World, claimed, group, tag_of}
@@ -53,7 +53,7 @@ module _ (May : Reply → Type 0) (w : World) where
   either true x y so not_so = so
   either false x y so not_so = not_so
 
-  pub guest-answers : (o : Option Owner) (more : Owner → After) → May reply.Ignored → ((p : Owner) → IsAnswer May w (more p)) → IsAnswer May w (for_guest o w more)
+  pub guest-answers : (o : Option Owner) (more : Owner → After) → May reply.Ignored → ((p : Owner) → IsAnswer May w (more p)) → IsAnswer May w (for_one o w more)
   guest-answers None more ignored rest = nothing reply.Ignored ignored
   guest-answers (Some o) more ignored rest = rest o
 
@@ -61,11 +61,11 @@ module _ (May : Reply → Type 0) (w : World) where
   owner-answers None more stale rest = nothing reply.Stale stale
   owner-answers (Some o) more stale rest = rest o
 
-  pub lane-answers : (l : Option Lane) (more : Lane → After) → May reply.Ignored → ((x : Lane) → IsAnswer May w (more x)) → IsAnswer May w (for_lane l w more)
+  pub lane-answers : (l : Option Lane) (more : Lane → After) → May reply.Ignored → ((x : Lane) → IsAnswer May w (more x)) → IsAnswer May w (for_one l w more)
   lane-answers None more ignored rest = nothing reply.Ignored ignored
   lane-answers (Some l) more ignored rest = rest l
 
-  pub device-answers : (d : Option DeviceLane) (more : DeviceLane → After) → May reply.Ignored → ((x : DeviceLane) → IsAnswer May w (more x)) → IsAnswer May w (for_device d w more)
+  pub device-answers : (d : Option DeviceLane) (more : DeviceLane → After) → May reply.Ignored → ((x : DeviceLane) → IsAnswer May w (more x)) → IsAnswer May w (for_one d w more)
   device-answers None more ignored rest = nothing reply.Ignored ignored
   device-answers (Some d) more ignored rest = rest d
 

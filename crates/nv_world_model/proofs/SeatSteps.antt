@@ -12,7 +12,7 @@ use Rattle.nv_world_model.specs.declared.event.Event.TheVariants as event
 use Rattle.nv_world_model.specs.Geometry.{Geometry, regions_of, shape_of}
 use Rattle.nv_world_model.specs.Laws.{IsSeatOf, LeadsTo, OnlyInSeat}
 use Rattle.nv_world_model.specs.Seat.{Owner, owner_of, seat}
-use Rattle.nv_world_model.specs.Step.{acted_by, acted_in, administered_by, administered_in, for_guest, is_done, step}
+use Rattle.nv_world_model.specs.Step.{acted_by, acted_in, administered_by, administered_in, for_one, is_done, step}
 use Rattle.nv_world_model.specs.World.{World}
 use Rattle.nv_world_model.proofs.Seats.{IsOwner, only-nothing, only-put_back, seat-put_back, seat-stands}
 
@@ -68,7 +68,7 @@ module _ (geometry : Geometry) (w : World) (o : Owner) where
 pub guest-step : (geometry : Geometry) (number : ℕ) (o : Owner) (a : Act) (w : World) → owner_of geometry w number ≡ Some o
     → step geometry (event.Guest number a) w ≡ acted_by (acted (shape_of o.given) a (seat geometry o w)) o w
 unfolding step acted_in
-guest-step geometry number o a w e = ap (λ x. for_guest x w (λ p. acted_by (acted (shape_of p.given) a (seat geometry p w)) p w)) e
+guest-step geometry number o a w e = ap (λ (x : Option Owner). for_one x w (λ p. acted_by (acted (shape_of p.given) a (seat geometry p w)) p w)) e
 
 pub act-plain : (geometry : Geometry) (o : Owner) (a : Act) (w : World) → IsPlain (seat geometry o w) (acted (shape_of o.given) a (seat geometry o w))
 act-plain geometry o a w = acted-plain (shape_of o.given) a (seat geometry o w)
@@ -82,7 +82,7 @@ own_admin o w = admin (shape_of o.given).mapped (shape_of o.given).blocks o.cont
 pub admin-step : (geometry : Geometry) (number : ℕ) (o : Owner) (w : World) → owner_of geometry w number ≡ Some o
     → step geometry (event.Admin number) w ≡ administered_by (own_admin o w) o w
 unfolding step administered_in own_admin
-admin-step geometry number o w e = ap (λ x. for_guest x w (λ p. administered_by (own_admin p w) p w)) e
+admin-step geometry number o w e = ap (λ (x : Option Owner). for_one x w (λ p. administered_by (own_admin p w) p w)) e
 
 pub private-admin : (geometry : Geometry) (o : Owner) (w : World) → private_step (shape_of o.given) AdminQueueStep (seat geometry o w) ≡ administered (own_admin o w) (seat geometry o w)
 unfolding private_step seat own_admin

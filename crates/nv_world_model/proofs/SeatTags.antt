@@ -14,7 +14,7 @@ use Rattle.nv_world_model.specs.Geometry.{Geometry, regions_of, shape_of}
 use Rattle.nv_world_model.specs.Laws.{IsSeatOf, LeadsTo}
 use Rattle.nv_world_model.specs.Seat.{Owner, Rest, members, member_in, name_of, owner_of, rests_of, seat}
 use Rattle.nv_world_model.specs.Share.{tags_of_entry}
-use Rattle.nv_world_model.specs.Step.{After, entry_at, for_guest, for_lane, is_io_queue, replied, step, take_from, take_front, take_tags, taken_to}
+use Rattle.nv_world_model.specs.Step.{After, entry_at, for_one, is_io_queue, replied, step, take_from, take_front, take_tags, taken_to}
 use Rattle.nv_world_model.specs.World.{Ended, Flying, Free, Lane, Tag, Taken, World, claimed, is_free, tag_of, tags_where, with_tag, with_tags}
 use Rattle.nv_world_model.proofs.FreeTags.{free-there}
 use Rattle.nv_world_model.proofs.Seats.{IsOwner, owner_of-is, slice_get-set}
@@ -71,8 +71,8 @@ pub take-step : (geometry : Geometry) (number queue lane : ℕ) (o : Owner) (l :
     → step geometry (event.Take number queue lane) w ≡ take_from queue lane l o w
 unfolding step
 take-step geometry number queue lane o l w e there =
-    ap (λ x. for_guest x w (λ p. for_lane (slice_get w.lanes lane) w (λ k. take_from queue lane k p w))) e
-    ∙ ap (λ x. for_lane x w (λ k. take_from queue lane k o w)) there
+    ap (λ (x : Option Owner). for_one x w (λ p. for_one (slice_get w.lanes lane) w (λ k. take_from queue lane k p w))) e
+    ∙ ap (λ (x : Option Lane). for_one x w (λ k. take_from queue lane k o w)) there
 
 pub take-is : (geometry : Geometry) (number queue lane : ℕ) (o : Owner) (l : Lane) (w : World) → owner_of geometry w number ≡ Some o → slice_get w.lanes lane ≡ Some l
     → (step geometry (event.Take number queue lane) w).reply ≡ reply.Done

@@ -14,8 +14,7 @@ use Rattle.nv_world_model.specs.Log.{IsReplay}
 use Rattle.nv_world_model.specs.PrivateSteps.{private_steps, seen_by}
 use Rattle.nv_world_model.specs.SetUp.{SetUp, world_at_start}
 use Rattle.nv_world_model.specs.Step.{is_done, step}
-use Rattle.nv_world_model.specs.View.{is_guest}
-use Rattle.nv_world_model.specs.World.{World}
+use Rattle.nv_world_model.specs.World.{World, is_that}
 
 -- ---- no command of a guest failed
 
@@ -26,7 +25,7 @@ is_failure _ = false
 
 -- whether an event of the log fails a physical command of that guest's
 abbrev pub fails : (number : ℕ) → Logged → World → Bool
-fails number l w = is_failure l.event && is_done l.reply && is_guest number (owner l.event w)
+fails number l w = is_failure l.event && is_done l.reply && is_that number (owner l.event w)
 
 -- along a log, from that world on, the physical controller fails no physical command of that guest's; others' may fail
 unfoldable pub none_failed : Geometry → (number : ℕ) → List Logged → World → Bool

@@ -16,7 +16,7 @@ use Rattle.nv_world_model.specs.Geometry.{Geometry}
 use Rattle.nv_world_model.specs.Plan.{plan_over}
 use Rattle.nv_world_model.specs.Rows.{behind, guest_at, holding, in_device, moves, one_command, one_command_on, set_up, world_with}
 use Rattle.nv_world_model.specs.Seat.{Owner, owner_of}
-use Rattle.nv_world_model.specs.Step.{After, deciding, for_device, for_ended, for_owner, for_taken, post_by, replay, replied, statuses_of, submit_by}
+use Rattle.nv_world_model.specs.Step.{After, deciding, for_one, for_ended, for_owner, for_taken, post_by, replay, replied, statuses_of, submit_by}
 use Rattle.nv_world_model.specs.World.{World, group, tag_of, with_host}
 
 -- ---- a failed Read is delivered
@@ -87,7 +87,7 @@ abbrev pub submitted_untranslated : (geometry : Geometry) (lane tag : ℕ) → W
 submitted_untranslated geometry lane tag w =
     for_taken tag (tag_of w lane tag) w (λ command reads.
     for_owner (owner_of geometry w command.guest) w (λ o.
-    for_device (slice_get w.device lane) w (λ d.
+    for_one (slice_get w.device lane) w (λ d.
     submit_by (plan_over o.given command.entry reads) geometry.mediator lane (group w lane tag) command (as_if_at_zero o) w)))
 
 -- the first guest's command is taken, its lists are read by these events, it is handed on so, and the device has it

@@ -43,25 +43,15 @@ replied r w = record { world = w; reply = r }
 
 -- ---- what an event names
 
--- a guest that is there
-abbrev pub for_guest : Option Owner → World → (Owner → After) → After
-for_guest None w more = replied reply.Ignored w
-for_guest (Some o) w more = more o
+-- a guest, a lane, or the device's side of a lane, that is there
+abbrev pub for_one : {A : Type 0} → Option A → World → (A → After) → After
+for_one None w more = replied reply.Ignored w
+for_one (Some a) w more = more a
 
 -- the guest of a command; a command of nobody's is at no point
 abbrev pub for_owner : Option Owner → World → (Owner → After) → After
 for_owner None w more = replied reply.Stale w
 for_owner (Some o) w more = more o
-
--- a lane that is there
-abbrev pub for_lane : Option Lane → World → (Lane → After) → After
-for_lane None w more = replied reply.Ignored w
-for_lane (Some lane) w more = more lane
-
--- the device's side of a lane that is there
-abbrev pub for_device : Option DeviceLane → World → (DeviceLane → After) → After
-for_device None w more = replied reply.Ignored w
-for_device (Some d) w more = more d
 
 -- a command goes by this tag: by another it is at no point
 abbrev pub for_leader : (tag : ℕ) → Command → World → After → After
@@ -363,37 +353,37 @@ post_all (Some sts) command mediator lane tags o w = post_at command (deciding s
 
 -- an event
 unfoldable pub step : Geometry → Event → World → After
-step geometry (event.Guest guest a) w = for_guest (owner_of geometry w guest) w (λ o. acted_in geometry a o w)
-step geometry (event.Admin guest) w = for_guest (owner_of geometry w guest) w (λ o. administered_in o w)
+step geometry (event.Guest guest a) w = for_one (owner_of geometry w guest) w (λ o. acted_in geometry a o w)
+step geometry (event.Admin guest) w = for_one (owner_of geometry w guest) w (λ o. administered_in o w)
 step geometry (event.Take guest queue lane) w =
-    for_guest (owner_of geometry w guest) w (λ o.
-    for_lane (slice_get w.lanes lane) w (λ l. take_from queue lane l o w))
+    for_one (owner_of geometry w guest) w (λ o.
+    for_one (slice_get w.lanes lane) w (λ l. take_from queue lane l o w))
 step geometry (event.List lane tag addr len) w =
     for_taken tag (tag_of w lane tag) w (λ command reads.
     for_owner (owner_of geometry w command.guest) w (λ o. list_at addr len lane tag command reads o w))
 step geometry (event.Submit lane tag) w =
     for_taken tag (tag_of w lane tag) w (λ command reads.
     for_owner (owner_of geometry w command.guest) w (λ o.
-    for_device (slice_get w.device lane) w (λ d.
+    for_one (slice_get w.device lane) w (λ d.
     submit_by (plan_over o.given command.entry reads) geometry.mediator lane (group w lane tag) command o w)))
 step geometry (event.GiveUp lane tag) w =
     for_taken tag (tag_of w lane tag) w (λ command reads.
     replied reply.Done (ended_at_once lane (group w lane tag) command (done_with InternalError) w))
 step geometry (event.DevTake lane) w =
-    for_device (slice_get w.device lane) w (λ d. device_take geometry.mediator lane d w)
+    for_one (slice_get w.device lane) w (λ d. device_take geometry.mediator lane d w)
 step geometry (event.DevMove lane slot number) w =
-    for_device (slice_get w.device lane) w (λ d.
+    for_one (slice_get w.device lane) w (λ d.
     for_held (slice_get d.held slot) w (λ h. device_move geometry.disk_blocks lane slot number h w))
 step geometry (event.DevPost lane slot) w =
-    for_device (slice_get w.device lane) w (λ d.
+    for_one (slice_get w.device lane) w (λ d.
     for_held (slice_get d.held slot) w (λ h. device_post h.left geometry.mediator lane slot h d w))
 step geometry (event.DevFail lane slot st) w =
-    for_device (slice_get w.device lane) w (λ d.
+    for_one (slice_get w.device lane) w (λ d.
     for_held (slice_get d.held slot) w (λ h. device_fail geometry.mediator lane slot st d w))
 step geometry (event.Keep block) w = keep geometry.disk_blocks block w
 step geometry (event.Reap lane) w =
-    for_lane (slice_get w.lanes lane) w (λ l.
-    for_device (slice_get w.device lane) w (λ d. reap geometry lane l d w))
+    for_one (slice_get w.lanes lane) w (λ l.
+    for_one (slice_get w.device lane) w (λ d. reap geometry lane l d w))
 step geometry (event.Post lane tag) w =
     for_ended tag (tag_of w lane tag) w (λ command.
     for_owner (owner_of geometry w command.guest) w (λ o.

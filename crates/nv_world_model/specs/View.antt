@@ -19,7 +19,7 @@ use Rattle.nv_mem.specs.GuestMap.{guest_of}
 use Rattle.nv_world_model.specs.Seat.{completion_at, held_in}
 use Rattle.nv_world_model.specs.Step.{is_success}
 use Rattle.nv_world_model.specs.Share.{Share}
-use Rattle.nv_world_model.specs.World.{Answered, Ended, Flying, Free, InDevice, Lane, Queued, Standing, Tag, Taken, World, is_free, tag_of}
+use Rattle.nv_world_model.specs.World.{Answered, Ended, Flying, Free, InDevice, Lane, Queued, Standing, Tag, Taken, World, is_free, is_that, tag_of}
 
 -- ---- whose a tag is
 
@@ -30,14 +30,10 @@ guest_of_tag (Taken command reads) = Some command.guest
 guest_of_tag (Flying command share standing) = Some command.guest
 guest_of_tag (Ended command st share) = Some command.guest
 
-abbrev pub is_guest : (number : ℕ) → Option ℕ → Bool
-is_guest number None = false
-is_guest number (Some other) = other == number
-
 -- whether a tag is that guest's
 abbrev pub is_tag_of : (number : ℕ) → Option Tag → Bool
 is_tag_of number None = false
-is_tag_of number (Some t) = is_guest number (guest_of_tag t)
+is_tag_of number (Some t) = is_that number (guest_of_tag t)
 
 -- the tag where it is that guest's, and what the device holds under it
 abbrev pub own_tag : (number : ℕ) → Option Tag → Option Tag

@@ -125,10 +125,10 @@ leader_of (Taken command reads) = Some command.leader
 leader_of (Flying command share standing) = Some command.leader
 leader_of (Ended command st share) = Some command.leader
 
--- whether a tag's command goes by that one
-abbrev pub goes_by : (leader : ℕ) → Option ℕ → Bool
-goes_by leader None = false
-goes_by leader (Some other) = other == leader
+-- whether there is a number, and it is that one
+abbrev pub is_that : (number : ℕ) → Option ℕ → Bool
+is_that number None = false
+is_that number (Some other) = other == number
 
 -- the tags that meet a test, by number, the lowest first
 abbrev pub tags_where : (Tag → Bool) → List Tag → List ℕ
@@ -137,7 +137,7 @@ tags_where test tags = map (λ t. t.0) (filter (λ t. test t.1) (enumerate_from 
 -- the tags of a command: all that go by its leader, in order
 abbrev pub group_in : Option Lane → (leader : ℕ) → List ℕ
 group_in None leader = []
-group_in (Some lane) leader = tags_where (λ t. goes_by leader (leader_of t)) lane.tags
+group_in (Some lane) leader = tags_where (λ t. is_that leader (leader_of t)) lane.tags
 
 unfoldable pub group : World → (lane leader : ℕ) → List ℕ
 group w lane leader = group_in (slice_get w.lanes lane) leader
