@@ -8,7 +8,8 @@ use Rattle.nv_core.specs.Tags.{state_in}
 use Rattle.nv_core.proofs.DeviceNeeds.{IsHoldingAt, holding-at}
 use Rattle.nv_core.proofs.DeviceSteps.{after, held_event, no-slot, none-held, same-world, some-held, stays}
 use Rattle.nv_core.proofs.Placed.{same-size}
-use Rattle.nv_device.specs.Physical.{Physical, done_where, has_ended, held_at, is_over, lane_of}
+use Rattle.nv_device.specs.Physical.{done_where, has_ended, held_at, is_over, lane_of}
+use Rattle.nv_device.specs.State.{Physical}
 use Rattle.nv_device.specs.Posting.{IsPosted}
 use Rattle.nv_device.specs.declared.response.Response.TheVariants as response
 use Rattle.nv_entry.specs.Status.{StatusField}

@@ -10,7 +10,8 @@ use Rattle.nv_core.specs.State.{IsOf, IsStep, State, world_of}
 use Rattle.nv_core.proofs.DeviceNeeds.{IsHoldingAt, has-sides, holding-at}
 use Rattle.nv_core.proofs.Placed.{same-size}
 use Rattle.nv_device.specs.Moving.{IsMoved}
-use Rattle.nv_device.specs.Physical.{Physical, done_where, has_left, held_at}
+use Rattle.nv_device.specs.Physical.{done_where, has_left, held_at}
+use Rattle.nv_device.specs.State.{Physical}
 use Rattle.nv_device.specs.declared.response.Response.{Response}
 use Rattle.nv_device.specs.declared.response.Response.TheVariants as response
 use Rattle.nv_model.specs.Controller.{Controller}

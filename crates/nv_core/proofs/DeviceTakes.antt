@@ -7,7 +7,8 @@ use Rattle.nv_core.proofs.DeviceNeeds.{HasSides, IsNext, has-sides}
 use Rattle.nv_core.proofs.DevicePosts.{StandsNow, lane-looked}
 use Rattle.nv_core.proofs.DeviceSteps.{after, same-world}
 use Rattle.nv_core.proofs.Placed.{same-size}
-use Rattle.nv_device.specs.Physical.{Physical, lane_of, with_lane}
+use Rattle.nv_device.specs.Physical.{lane_of, with_lane}
+use Rattle.nv_device.specs.State.{Physical}
 use Rattle.nv_device.specs.Taking.{front_of, taken, waits}
 use Rattle.nv_entry.specs.Submission.{cid_of}
 use Rattle.nv_model.specs.Memory.{byte_in}

@@ -3,7 +3,8 @@ use Rattle.std.proofs.Common.{◌≡◌, ℕ, ◌+◌, ◌<◌, ◌≤◌, List,
 use Rattle.std.proofs.lemmas.List.{drop_all}
 use Rattle.std.proofs.lemmas.Option.{get_or_from_slice_get, slice_get-get_or, slice_get_within}
 use Rattle.nv_core.specs.Submit.{HaveRoom, host_carried, host_handed, lane_carried, lane_handed}
-use Rattle.nv_device.specs.Physical.{Physical, lane_of, no_lane, with_lane}
+use Rattle.nv_device.specs.Physical.{lane_of, no_lane, with_lane}
+use Rattle.nv_device.specs.State.{Physical}
 use Rattle.nv_laws_sound.proofs.Lists.{length-set, set-same, set-set, some-same}
 use Rattle.nv_model.specs.Memory.{byte_in}
 use Rattle.nv_world_model.specs.Device.{DeviceLane}

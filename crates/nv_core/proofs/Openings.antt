@@ -4,7 +4,8 @@ use mathlib.Core.Path.{fun_ext}
 use Rattle.std.proofs.lemmas.Bool.{cases_lt}
 use Rattle.std.proofs.lemmas.List.{get_or-replicate, get_or_past, length-replicate}
 use Rattle.nv_core.specs.State.{IsOpening, State}
-use Rattle.nv_device.specs.Physical.{Physical, opening_physical}
+use Rattle.nv_device.specs.Physical.{opening_physical}
+use Rattle.nv_device.specs.State.{Physical}
 use Rattle.nv_model.specs.Controller.{Controller, opening}
 use Rattle.nv_model.specs.Limits.{block}
 use Rattle.nv_model.specs.Memory.{byte_in}

@@ -4,7 +4,8 @@ use Rattle.nv_core.proofs.MadeParts.{made-whole, whole-of}
 use Rattle.nv_core.proofs.Waits.{moved-group}
 use Rattle.nv_core.specs.Groups.{all_handed, tags_changed}
 use Rattle.nv_core.specs.Submit.{IsCarriedOut, IsGoing, IsJobOf, WaitsForPlan, host_behind, host_handed, lane_behind, lane_handed, tags_behind}
-use Rattle.nv_device.specs.Physical.{Physical, lane_of}
+use Rattle.nv_device.specs.Physical.{lane_of}
+use Rattle.nv_device.specs.State.{Physical}
 use Rattle.nv_entry.specs.StatusCode.{done_with}
 use Rattle.nv_entry.specs.declared.status.Status.{Status}
 use Rattle.nv_entry.specs.declared.status_code.StatusCode.TheVariants.{Success}

@@ -10,7 +10,8 @@ use Rattle.nv_core.proofs.GroupWorlds.{IsTakenHere, group-lane, not-taken, taken
 use Rattle.nv_core.proofs.Handed.{lane-there}
 use Rattle.nv_core.proofs.Placed.{owner, owner-there, same-size}
 use Rattle.nv_core.proofs.SubmitWorlds.{carried-is}
-use Rattle.nv_device.specs.Physical.{Physical, lane_of, with_lane}
+use Rattle.nv_device.specs.Physical.{lane_of, with_lane}
+use Rattle.nv_device.specs.State.{Physical}
 use Rattle.nv_laws_sound.proofs.Lists.{set-same, slice_get-there}
 use Rattle.nv_mem.specs.GuestMap.{covers_host, guest_of, span_met, spans_meet}
 use Rattle.nv_mem.specs.declared.region.Region.{Region}

@@ -1,7 +1,7 @@
 -- The mediated world on lists: what the code holds of it, what that means as the world of the definitions, and what an event that was
 -- carried out comes to (profile).
 use Rattle.std.specs.Prelude.{◌≡◌, ℕ, ◌<◌, List, length, slice_get, slice_index, Some}
-use Rattle.nv_device.specs.Physical.{Physical}
+use Rattle.nv_device.specs.State.{Physical}
 use Rattle.nv_laws_sound.specs.Consistent.{IsConsistent}
 use Rattle.nv_laws_sound.specs.LaidOut.{IsLaidOut}
 use Rattle.nv_model.specs.Controller.{Controller}

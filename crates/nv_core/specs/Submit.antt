@@ -2,7 +2,8 @@
 use Rattle.std.specs.Prelude.{◌≡◌, ℕ, ◌+◌, ◌*◌, ◌%◌, ◌^◌, ◌<◌, ◌≤◌, false, if◌then◌else◌, List, [], ◌∷◌, length, slice_get, Option, Some, None}
 use Rattle.nv_core.specs.Groups.{AreTaken, all_ended, all_handed}
 use Rattle.nv_core.specs.Tags.{IsTaken}
-use Rattle.nv_device.specs.Physical.{Physical, lane_of, with_lane}
+use Rattle.nv_device.specs.Physical.{lane_of, with_lane}
+use Rattle.nv_device.specs.State.{Physical}
 use Rattle.nv_mem.specs.GuestMap.{span_met}
 use Rattle.nv_model.specs.Limits.{page}
 use Rattle.nv_model.specs.Transcript.{Outcome, ReadDone, Settled, Wanted}

@@ -7,7 +7,8 @@ use Rattle.nv_model.specs.Memory.{byte_in, stored}
 use Rattle.nv_model.proofs.MemoryLemmas.{stored-list}
 use Rattle.nv_world_model.specs.Area.{completion_slot, queue_pair}
 use Rattle.nv_world_model.specs.Device.{DeviceLane, completion_written}
-use Rattle.nv_device.specs.Physical.{Physical, lane_of, no_lane, with_lane}
+use Rattle.nv_device.specs.Physical.{lane_of, no_lane, with_lane}
+use Rattle.nv_device.specs.State.{Physical}
 
 -- what stands at an index that is there, whatever is said of the others
 pub got : {X : Type 0} (xs : List X) (i : ℕ) (x other : X) → i < length xs → x ≡ get_or xs i x → x ≡ get_or xs i other

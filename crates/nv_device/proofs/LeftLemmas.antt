@@ -15,7 +15,8 @@ use Rattle.nv_world_model.specs.LaneRuns.{IsInLane, IsNotAmong, list_named, unit
 use Rattle.nv_world_model.proofs.LaneReach.{completion-elsewhere, front-agree, taken-agree, unit-elsewhere}
 use Rattle.nv_world_model.proofs.Seats.{slice_get-set-other}
 use Rattle.nv_device.specs.Moving.{IsMoved}
-use Rattle.nv_device.specs.Physical.{Physical, lane_of, with_lane}
+use Rattle.nv_device.specs.Physical.{lane_of, with_lane}
+use Rattle.nv_device.specs.State.{Physical}
 use Rattle.nv_device.specs.Posting.{IsPosted}
 use Rattle.nv_device.specs.Taking.{front_of, taken, waits}
 

@@ -11,7 +11,8 @@ use Rattle.nv_moves.specs.Flat.{flat, moved_of}
 use Rattle.nv_world_model.specs.Area.{lane_start}
 use Rattle.nv_world_model.specs.Device.{DeviceLane, Held, unit_gone, with_held}
 use Rattle.nv_device.specs.Moving.{IsMoved, unit_of}
-use Rattle.nv_device.specs.Physical.{AreHeld, IsHeld, IsWhole, Physical, lane_of}
+use Rattle.nv_device.specs.Physical.{AreHeld, IsHeld, IsWhole, lane_of}
+use Rattle.nv_device.specs.State.{Physical}
 use Rattle.nv_device.proofs.LaneLemmas.{lane-changed}
 use Rattle.nv_device.proofs.TakeLemmas.{lanes-held}
 use Rattle.nv_device.proofs.UnitLemmas.{differed-of}

@@ -1,3 +1,4 @@
+pub mod State
 pub mod Physical
 pub mod Units
 pub mod Pages

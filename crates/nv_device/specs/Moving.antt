@@ -14,7 +14,8 @@ use Rattle.nv_model.specs.Memory.{byte_in}
 use Rattle.nv_moves.specs.Flat.{byte_of_block, flat, moved_of}
 use Rattle.nv_moves.specs.Marks.{mark_of}
 use Rattle.nv_world_model.specs.Device.{Held, device_unit, range_at, unit_gone, with_held}
-use Rattle.nv_device.specs.Physical.{IsHeld, Physical, held_at, lane_of, with_lane}
+use Rattle.nv_device.specs.Physical.{IsHeld, held_at, lane_of, with_lane}
+use Rattle.nv_device.specs.State.{Physical}
 
 -- ---- what it needs
 

@@ -1,6 +1,5 @@
--- The physical controller as it stands: where the mediator's area begins in the host's memory, the bytes of the blocks
--- and their marks, and its lanes. What its calls do is told in the words of the mediated world (profile: the limits and
--- the layout of the area).
+-- The parts of the physical controller as it stands, and what it keeps. What its calls do is told in the words of the
+-- mediated world (profile: the limits and the layout of the area).
 use Rattle.std.specs.Prelude.{◌≡◌, ℕ, ◌+◌, ◌==◌, ◌%◌, ◌^◌, ◌<◌, ◌≤◌, Bool, true, false}
 use Rattle.std.specs.Prelude.{if◌then◌else◌, List, [], ◌∷◌, All, IfSome, length, replicate, slice_set, Option, Some, None}
 use Rattle.std.specs.List.{list_any, slice_index_or}
@@ -12,16 +11,11 @@ use Rattle.nv_model.specs.Judge.{count_of, has_blocks, transfer_len}
 use Rattle.nv_model.specs.Limits.{block, page}
 use Rattle.nv_world_model.specs.Area.{lane_start, ring_size, tag_count}
 use Rattle.nv_world_model.specs.Device.{DeviceLane, Held, opening_device_lane, unit_count}
+use Rattle.nv_device.specs.State.{Physical}
 use Rattle.nv_device.specs.declared.response.Response.{Response}
 use Rattle.nv_device.specs.declared.response.Response.TheVariants.{Done, Idle}
 
--- ---- the state
-
-pub record Physical : Type 0 where
-  pub mediator : ℕ
-  pub disk : List (List ℕ)
-  pub kept : List Bool
-  pub lanes : List DeviceLane
+-- ---- at the start
 
 -- how many lanes and blocks a device may have; the area of its lanes begins at a page and ends at 2 to the 64 at the
 -- latest

@@ -3,7 +3,8 @@ use Rattle.std.specs.Prelude.{◌≡◌, ℕ, List}
 use Rattle.nv_entry.specs.Status.{StatusField}
 use Rattle.nv_model.specs.Memory.{byte_in}
 use Rattle.nv_world_model.specs.Device.{completion_posted, completion_written}
-use Rattle.nv_device.specs.Physical.{Physical, lane_of, with_lane}
+use Rattle.nv_device.specs.Physical.{lane_of, with_lane}
+use Rattle.nv_device.specs.State.{Physical}
 
 -- the completion of the command at a slot stands in the host with this status, and the command is in the device no
 -- longer; nothing else of host and device has changed

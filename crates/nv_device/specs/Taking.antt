@@ -8,7 +8,8 @@ use Rattle.nv_model.specs.Memory.{byte_in}
 use Rattle.nv_world_model.specs.Area.{tag_count}
 use Rattle.nv_world_model.specs.Device.{Held, entry_taken, front_entry}
 use Rattle.nv_device.specs.Pages.{host_reading, spells}
-use Rattle.nv_device.specs.Physical.{Physical, held_at, lane_of, len_of, names_blocks, with_lane}
+use Rattle.nv_device.specs.Physical.{held_at, lane_of, len_of, names_blocks, with_lane}
+use Rattle.nv_device.specs.State.{Physical}
 
 -- ---- what it needs
 

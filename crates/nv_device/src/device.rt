@@ -26,7 +26,8 @@ pub struct Device {
 }
 
 impl Model for Device {
-    ghost use Rattle.nv_device.specs.Physical.{IsWhole, Physical};
+    ghost use Rattle.nv_device.specs.Physical.{IsWhole};
+    ghost use Rattle.nv_device.specs.State.{Physical};
 
     ghost Value = { Physical };
 

@@ -11,7 +11,8 @@ ghost use Rattle.nv_world_model.specs.Area.{completion_slot, ring_size, submissi
 ghost use Rattle.nv_world_model.specs.Device.{Held};
 ghost use Rattle.nv_world_model.specs.LaneRuns.{IsInLane, IsNotAmong, IsSameEffect, list_named, unit_places};
 ghost use Rattle.nv_device.specs.Moving.{IsMoved, unit_of};
-ghost use Rattle.nv_device.specs.Physical.{Physical, lane_of, with_lane};
+ghost use Rattle.nv_device.specs.Physical.{lane_of, with_lane};
+ghost use Rattle.nv_device.specs.State.{Physical};
 ghost use Rattle.nv_device.specs.Posting.{IsPosted};
 ghost use Rattle.nv_device.specs.Taking.{front_of, taken};
 

@@ -1,6 +1,7 @@
 use Rattle.std.proofs.Common.{List, ap, slice_get, ◌∙◌}
 use Rattle.nv_world_model.specs.Device.{DeviceLane, completion_posted}
-use Rattle.nv_device.specs.Physical.{Physical, lane_of}
+use Rattle.nv_device.specs.Physical.{lane_of}
+use Rattle.nv_device.specs.State.{Physical}
 use Rattle.nv_device.proofs.LeftLemmas.{lane-others, taken-others}
 use Rattle.nv_device.proofs.laws.a_call_leaves_the_other_lanes.Goals as goal
 

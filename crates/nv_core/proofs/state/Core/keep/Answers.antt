@@ -1,7 +1,7 @@
 use Rattle.std.proofs.Common.{◌≤◌, ◌<◌, subst, sym, arith}
 use Rattle.nv_core.proofs.Placed.{keep-marks, keep-not, same-size}
 use Rattle.nv_core.specs.State.{State, IsStep, world_of}
-use Rattle.nv_device.specs.Physical.{Physical}
+use Rattle.nv_device.specs.State.{Physical}
 use Rattle.nv_model.specs.declared.reply.Reply.TheVariants as reply
 use Rattle.nv_world_model.specs.declared.event.Event.TheVariants as event
 use Rattle.nv_core.proofs.state.Core.keep.Goals as goal

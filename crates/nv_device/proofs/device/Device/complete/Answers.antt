@@ -2,7 +2,8 @@ use Rattle.std.proofs.Common.{◌≡◌, ◌+◌, ◌<◌, ℕ, length, sym, ap,
 use Rattle.nv_model.specs.Memory.{byte_in}
 use Rattle.nv_world_model.specs.Area.{completion_slot}
 use Rattle.nv_world_model.specs.Device.{DeviceLane, completion_posted}
-use Rattle.nv_device.specs.Physical.{Physical, lane_of, with_lane}
+use Rattle.nv_device.specs.Physical.{lane_of, with_lane}
+use Rattle.nv_device.specs.State.{Physical}
 use Rattle.nv_device.proofs.LaneLemmas.{completion-stored, lane-changed, lane-got, same-completion}
 use Rattle.nv_device.proofs.device.Device.complete.Goals as goal
 

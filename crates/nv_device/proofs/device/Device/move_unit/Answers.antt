@@ -4,7 +4,8 @@ use Rattle.std.specs.List.{slice_index_or}
 use Rattle.nv_moves.specs.Flat.{flat, moved_of}
 use Rattle.nv_world_model.specs.Device.{DeviceLane, Held, unit_gone, with_held}
 use Rattle.nv_device.specs.Moving.{IsMoved, unit_of}
-use Rattle.nv_device.specs.Physical.{Physical, held_at, lane_of}
+use Rattle.nv_device.specs.Physical.{held_at, lane_of}
+use Rattle.nv_device.specs.State.{Physical}
 use Rattle.nv_device.proofs.LaneLemmas.{lane-seen}
 use Rattle.nv_device.proofs.MoveLemmas.{moved-device, moved-whole}
 use Rattle.nv_device.proofs.device.Device.move_unit.Goals as goal

@@ -4,7 +4,8 @@ use Rattle.nv_model.specs.Queue.{is_empty}
 use Rattle.nv_model.specs.Memory.{byte_in}
 use Rattle.nv_world_model.specs.Area.{lane_start}
 use Rattle.nv_world_model.specs.Device.{DeviceLane, Held, held_of}
-use Rattle.nv_device.specs.Physical.{IsHeld, Physical, lane_of}
+use Rattle.nv_device.specs.Physical.{IsHeld, lane_of}
+use Rattle.nv_device.specs.State.{Physical}
 use Rattle.nv_device.specs.Taking.{waits}
 use Rattle.nv_device.proofs.LaneLemmas.{lane-seen}
 use Rattle.nv_device.proofs.TakeLemmas.{lanes-held, taken-held}
