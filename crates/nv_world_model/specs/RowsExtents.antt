@@ -14,7 +14,7 @@ use Rattle.nv_world_model.specs.Rows.{controller_with, guest_at, holding, host_b
 use Rattle.nv_world_model.specs.RowsShares.{joined}
 use Rattle.nv_world_model.specs.PrivateSteps.{steps_done}
 use Rattle.nv_world_model.specs.Seat.{members}
-use Rattle.nv_world_model.specs.Step.{replay, replies}
+use Rattle.nv_world_model.specs.Step.{replay, replies, statuses_of}
 use Rattle.nv_world_model.specs.World.{Free, Lane, Tag, Taken, World, group, is_free, opening_lane}
 
 -- ---- the set-up
@@ -90,6 +90,16 @@ unrecovered = record { sct = 2; sc = 0x81; dnr = false }
 abbrev pub denied : StatusField
 denied = record { sct = 2; sc = 0x86; dnr = false }
 
+-- Internal Error, Data SGL Length Invalid, and Success
+abbrev pub internal : StatusField
+internal = record { sct = 0; sc = 0x06; dnr = false }
+
+abbrev pub too_short : StatusField
+too_short = record { sct = 0; sc = 0x0f; dnr = true }
+
+abbrev pub success : StatusField
+success = record { sct = 0; sc = 0; dnr = false }
+
 -- ---- looking
 
 abbrev pub behind : {A : Type 0} → List Event → World → (World → A) → A
@@ -128,6 +138,10 @@ four_free (lane ∷ lanes) = first_four lane.tags
 
 abbrev pub frees : World → List Bool
 frees w = four_free w.lanes
+
+-- how the first two tags ended, where both have
+abbrev pub ended_as : World → Option (List StatusField)
+ended_as w = statuses_of 0 (0 ∷ 1 ∷ []) w
 
 -- the last dword of the guest's first completion
 abbrev pub answer : World → ℕ

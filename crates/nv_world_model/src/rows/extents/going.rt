@@ -1,10 +1,10 @@
 //! What is handed on for the parts of a command.
 
-ghost use Rattle.std.specs.Prelude.{◌≡◌, [], ◌∷◌, ◌++◌, replicate, true};
+ghost use Rattle.std.specs.Prelude.{◌≡◌, [], ◌∷◌, ◌++◌, Some, replicate, true};
 ghost use Rattle.nv_model.specs.Rows.{by_sgl, data_block};
 ghost use Rattle.nv_model.specs.declared.reply.Reply.TheVariants as reply;
 ghost use Rattle.nv_world_model.specs.declared.event.Event.TheVariants as event;
-ghost use Rattle.nv_world_model.specs.RowsExtents.{among_others, answer, behind, both_entries, frees, in_device, one_command, others, read_over, told};
+ghost use Rattle.nv_world_model.specs.RowsExtents.{among_others, answer, behind, both_entries, ended_as, frees, in_device, internal, one_command, others, read_over, success, told, too_short};
 ghost use Rattle.nv_world_model.specs.World.{Free};
 
 /// The examples of this module, a clause each. Of a physical entry are told opcode, identifier, PRP1, PRP2, and CDW10 to CDW12.
@@ -29,6 +29,11 @@ pub fn examples()
         (one_command (by_sgl 0x02 31 1 (data_block 0x3000 512))) answer ≡ 0x801f0007 }
     ensures its_tags_are_free { behind (event.Take 0 1 0 ∷ event.Submit 0 0 ∷ event.Post 0 0 ∷ [])
         (one_command (by_sgl 0x02 31 1 (data_block 0x3000 512))) frees ≡ replicate 4 true }
+    // Answered at once, its first tag has the status, and its others have success.
+    ensures its_tags_have_ended { behind (event.Take 0 1 0 ∷ event.Submit 0 0 ∷ [])
+        (one_command (by_sgl 0x02 31 1 (data_block 0x3000 512))) ended_as ≡ Some (too_short ∷ success ∷ []) }
+    ensures given_up_they_have_too { behind (event.Take 0 1 0 ∷ event.GiveUp 0 0 ∷ []) (one_command (read_over 0x3e00)) ended_as
+        ≡ Some (internal ∷ success ∷ []) }
     // A command that is given up: all its tags are free again.
     ensures given_up { behind (event.Take 0 1 0 ∷ event.GiveUp 0 0 ∷ event.Post 0 0 ∷ []) (one_command (read_over 0x3e00)) answer ≡ 0x000d0007 }
     ensures given_up_and_free { behind (event.Take 0 1 0 ∷ event.GiveUp 0 0 ∷ event.Post 0 0 ∷ []) (one_command (read_over 0x3e00)) frees

@@ -89,6 +89,24 @@ unfolding number_at dword qword bits bytes_of_dwords completion everywhere addre
     step replay replies taken_entries
 returns-clause-its_tags_are_free c = refl
 
+pub returns-clause-its_tags_have_ended : goal.returns-clause-its_tags_have_ended
+unfolding number_at dword qword bits bytes_of_dwords completion everywhere addresses bytes_from gathered image put_image scattered stored in_memory
+    and_then first_read in_transcript read_array read_sgl read_entries read_source ranges_in move_units clear_units range_units judge units_moved
+    opening register reg_write doorbell front took post ran_out differs hosts_of fit_behind built plan_over physical_entry held_of device_unit
+    completion_written share_written with_tags group claimed units_behind rest_at rests_of members seat put_back acted_in administered_in taken_to
+    listed submitted handed_on device_took device_moved device_posted kept_block reaped scattered_to delivered_all posted_to ran_out_of statuses_of
+    step replay replies taken_entries
+returns-clause-its_tags_have_ended c = refl
+
+pub returns-clause-given_up_they_have_too : goal.returns-clause-given_up_they_have_too
+unfolding number_at dword qword bits bytes_of_dwords completion everywhere addresses bytes_from gathered image put_image scattered stored in_memory
+    and_then first_read in_transcript read_array read_sgl read_entries read_source ranges_in move_units clear_units range_units judge units_moved
+    opening register reg_write doorbell front took post ran_out differs hosts_of fit_behind built plan_over physical_entry held_of device_unit
+    completion_written share_written with_tags group claimed units_behind rest_at rests_of members seat put_back acted_in administered_in taken_to
+    listed submitted handed_on device_took device_moved device_posted kept_block reaped scattered_to delivered_all posted_to ran_out_of statuses_of
+    step replay replies taken_entries
+returns-clause-given_up_they_have_too c = refl
+
 pub returns-clause-given_up : goal.returns-clause-given_up
 unfolding number_at dword qword bits bytes_of_dwords completion everywhere addresses bytes_from gathered image put_image scattered stored in_memory
     and_then first_read in_transcript read_array read_sgl read_entries read_source ranges_in move_units clear_units range_units judge units_moved
