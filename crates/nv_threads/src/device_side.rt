@@ -79,8 +79,10 @@ impl LaneDevice {
     // What is done under the lock, one event at most: whom it concerns, or `None` where nothing was done. The command of the last slot
     // goes on; else the next entry is taken; else another slot's command goes on.
     pub(crate) fn turn(&mut self, locked: &mut Locked, alloc: Global) -> Option<Concern> {
-        if let Some(event) = self.due(&locked.world, self.slot) {
-            return self.carry_out(&mut locked.world, alloc, event);
+        if self.held {
+            if let Some(event) = self.due(&locked.world, self.slot) {
+                return self.carry_out(&mut locked.world, alloc, event);
+            }
         }
         let take = Event::DevTake(self.lane);
         if locked.world.due(&take) {
@@ -119,10 +121,14 @@ impl LaneDevice {
     fn due(&self, world: &World, slot: u8) -> Option<Event>
         requires { slot < 64 }
     {
-        for unit in [self.units[usize::from(slot)], self.earlier] {
-            let unit = Event::DevMove(self.lane, slot, unit);
-            if world.due(&unit) {
-                return Some(unit);
+        let next = Event::DevMove(self.lane, slot, self.units[usize::from(slot)]);
+        if world.due(&next) {
+            return Some(next);
+        }
+        if self.earlier < UNITS {
+            let earlier = Event::DevMove(self.lane, slot, self.earlier);
+            if world.due(&earlier) {
+                return Some(earlier);
             }
         }
         let post = Event::DevPost(self.lane, slot);

@@ -21,14 +21,14 @@ pub(crate) enum Errand {
     Nothing,
     /// Bytes of its memory that are others now, maybe those of an entry that waits.
     Bytes,
-    /// Entries to be taken.
-    Entries,
+    /// Entries of the queue of that number, which counts modulo 64, to be taken.
+    Entries(u8),
     /// A completion queue that has room, or a controller that is enabled or reset: commands that have ended may be posted.
     Room,
 }
 
 impl Errand {
-    /// What this act may give them to do. The doorbells of submission queues and of completion queues take turns, four bytes each.
+    /// What this act may give them to do. The doorbells of submission queues and of completion queues take turns, four bytes each, from 4,096 on.
     pub(crate) fn of(act: &Act) -> Self {
         match act {
             Act::Store { addr: _, bytes: _ } => Errand::Bytes,
@@ -40,7 +40,7 @@ impl Errand {
             } => Errand::Room,
             Act::Doorbell { offset, value: _ } => {
                 if *offset % 8 == 0 {
-                    Errand::Entries
+                    Errand::Entries((*offset / 8 % 64) as u8)
                 } else {
                     Errand::Room
                 }
@@ -50,12 +50,15 @@ impl Errand {
 }
 
 impl Locked {
-    /// Whom an act concerns that the guest has done.
-    pub(crate) fn concern(&self, guest: u8, errand: Errand) -> Concern {
+    /// Notes what an act tells that the guest has done, and says whom it concerns.
+    pub(crate) fn concern(&mut self, guest: u8, errand: Errand) -> Concern {
         match errand {
             Errand::Nothing => Concern::nobody(),
             Errand::Bytes => Concern::planners(self.with_other_front(guest)),
-            Errand::Entries => Concern::planner(guest),
+            Errand::Entries(queue) => {
+                self.notes.ring_for(guest, queue);
+                Concern::planner(guest)
+            }
             Errand::Room => Concern {
                 reapers: self.notes.with_ended(),
                 planners: self.with_admin(guest),

@@ -2,6 +2,7 @@
 
 use crate::bits::bit;
 use crate::concern::Concern;
+use crate::locked::Errand;
 use nv_core::Holder;
 use nv_world::World;
 use nv_world_model::Event;
@@ -14,12 +15,14 @@ pub(crate) const LANES: usize = 8;
 const TAGS: usize = 64;
 
 /// How many guests there are at most.
-const GUESTS: u8 = 16;
+const GUESTS: usize = 16;
 
 /// What is noted of each lane: where workers look first, and so hold the lock for less. What is due the world alone says.
 #[derive(Clone, Copy, Debug)]
 pub(crate) struct Notes {
     lanes: [LaneNotes; LANES],
+    // of each guest, for which I/O queues it has rung: no other has entries that wait
+    queues: [u64; GUESTS],
     // how many extents the namespace has that has most: no command takes more tags
     most: u8,
 }
@@ -29,17 +32,44 @@ impl Notes {
     pub(crate) fn of(world: &World) -> Self {
         let mut notes = Notes {
             lanes: [LaneNotes::new(); LANES],
+            queues: [0; GUESTS],
             most: most_extents(world),
         };
         for lane in 0..LANES as u8 {
             notes.look_at(world, lane);
         }
         for logged in world.log() {
-            if let Event::DevTake(lane) = &logged.event {
-                notes.serve(*lane);
-            }
+            notes.follow(&logged.event);
         }
         notes
+    }
+
+    // Goes along with an event, but for what it does to tags.
+    fn follow(&mut self, event: &Event) {
+        match event {
+            Event::DevTake(lane) => self.serve(*lane),
+            Event::Guest(guest, act) => {
+                if let Errand::Entries(queue) = Errand::of(act) {
+                    self.ring_for(*guest, queue);
+                }
+            }
+            _ => {}
+        }
+    }
+
+    /// A guest rang for entries of the queue of that number, which counts modulo 64.
+    pub(crate) fn ring_for(&mut self, guest: u8, queue: u8) {
+        if let Some(queues) = self.queues.get_mut(usize::from(guest)) {
+            *queues |= bit(queue);
+        }
+    }
+
+    /// The queues of a guest that may have entries, as a set: those for which it has rung.
+    pub(crate) fn queues(&self, guest: u8) -> u64 {
+        match self.queues.get(usize::from(guest)) {
+            Some(queues) => *queues,
+            None => 0,
+        }
     }
 
     // Notes which tags of a lane are not free.
@@ -132,6 +162,14 @@ impl Notes {
         false
     }
 
+    /// Whether a lane has parts of commands that have ended, as far as is noted, and are not posted.
+    pub(crate) fn has_ended(&self, lane: u8) -> bool {
+        match self.lanes.get(usize::from(lane)) {
+            Some(notes) => notes.ended != 0,
+            None => false,
+        }
+    }
+
     /// The lanes with parts of commands that have ended, as far as is noted, and are not posted.
     pub(crate) fn with_ended(&self) -> u64 {
         let mut lanes = 0;
@@ -147,7 +185,7 @@ impl Notes {
 // How many extents the namespace has that has most.
 fn most_extents(world: &World) -> u8 {
     let mut most = 1;
-    for guest in 0..GUESTS {
+    for guest in 0..GUESTS as u8 {
         if let Some(ns) = world.range(guest) {
             most = most.max(ns.len() as u8);
         }

@@ -1,5 +1,6 @@
 //! The worker that takes and plans a guest's commands.
 
+use crate::bits::bit;
 use crate::concern::Concern;
 use crate::gate::Gate;
 use crate::given::Given;
@@ -215,14 +216,19 @@ impl GuestPlanner {
         Ok(job.filter(|job| job.guest == self.guest))
     }
 
-    // Takes up an admin command, or takes a command of the next queue, behind the last, that has one.
+    // Takes up an admin command, or takes a command of the next queue, behind the last, that has one. Queues for which the guest has not rung
+    // have none.
     fn take_up(&mut self, locked: &mut Locked, alloc: Global) -> Turn {
         let admin = Event::Admin(self.guest);
         if locked.world.due(&admin) {
             return self.answer(locked, alloc, admin);
         }
+        let queues = locked.notes.queues(self.guest);
         for step in 0..LAST_QUEUE {
             let queue = self.queue.wrapping_add(step) % LAST_QUEUE + 1;
+            if queues & bit(queue as u8) == 0 {
+                continue;
+            }
             let take = Event::Take(self.guest, queue, self.lane);
             if locked.world.due(&take) {
                 self.queue = queue;

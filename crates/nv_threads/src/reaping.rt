@@ -41,7 +41,7 @@ pub(crate) struct LaneReaper {
     pub(crate) lane: u8,
     // the tag whose command was posted last
     pub(crate) tag: u8,
-    // whether all tags are looked at, and not only those by which commands go, as far as is noted
+    // whether all tags are looked at, and not only those by which commands go, and these only where some have ended, as far as is noted
     pub(crate) thorough: bool,
     share: Share,
 }
@@ -94,8 +94,10 @@ impl LaneReaper {
     fn ended(&self, locked: &Locked) -> Option<u8> {
         let mut left = if self.thorough {
             u64::MAX
-        } else {
+        } else if locked.notes.has_ended(self.lane) {
             locked.notes.leaders(self.lane)
+        } else {
+            return None;
         };
         let mut tag = self.tag;
         for _ in 0..TAGS {

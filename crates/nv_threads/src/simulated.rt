@@ -538,20 +538,21 @@ impl Simulation {
         }
     }
 
-    // Whether notes say of the tags what the world says of them.
+    // Whether notes say of the tags what the world says of them, and of the queues what its log says.
     fn is_well_noted(&self) -> bool {
         let notes = &self.locked.notes;
         let anew = Notes::of(&self.locked.world);
-        (0..LANES).all(|lane| {
-            notes.used(lane) == anew.used(lane)
-                && notes.leaders(lane) == anew.leaders(lane)
-                && (0..TAGS)
-                    .filter(|tag| notes.leaders(lane) & bit(*tag) != 0)
-                    .all(|tag| {
-                        notes.size(lane, tag) == anew.size(lane, tag)
-                            && notes.owner(lane, tag) == anew.owner(lane, tag)
-                    })
-        })
+        (0..GUESTS).all(|guest| notes.queues(guest) == anew.queues(guest))
+            && (0..LANES).all(|lane| {
+                notes.used(lane) == anew.used(lane)
+                    && notes.leaders(lane) == anew.leaders(lane)
+                    && (0..TAGS)
+                        .filter(|tag| notes.leaders(lane) & bit(*tag) != 0)
+                        .all(|tag| {
+                            notes.size(lane, tag) == anew.size(lane, tag)
+                                && notes.owner(lane, tag) == anew.owner(lane, tag)
+                        })
+            })
     }
 
     // One turn of somebody, by chance; whether it was what it should be. In one phase of four the physical controller stands still, in one
