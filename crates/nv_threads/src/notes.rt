@@ -209,12 +209,12 @@ struct LaneNotes {
     used: u64,
     // those of them by which commands go
     leaders: u64,
-    // of the command that goes by each tag, the further tags
-    groups: [u64; TAGS],
-    // whose command goes by each tag, or went by it last
-    owners: [u8; TAGS],
     // of how many tags the parts have ended that are not posted; more, where some were under way before the world was shared
     ended: u64,
+    // whose command goes by each tag, or went by it last
+    owners: [u8; TAGS],
+    // of the command that goes by each tag, the further tags; none where no command takes several
+    groups: [u64; TAGS],
     // whether the physical controller took commands before the world was shared
     served: bool,
 }
@@ -225,9 +225,9 @@ impl LaneNotes {
         LaneNotes {
             used: 0,
             leaders: 0,
-            groups: [0; TAGS],
-            owners: [0; TAGS],
             ended: 0,
+            owners: [0; TAGS],
+            groups: [0; TAGS],
             served: false,
         }
     }
@@ -295,8 +295,8 @@ impl LaneNotes {
     fn post(&mut self, leader: u8, most: u8) -> Concern {
         let were_few = self.has_fewer(most);
         let behind = match self.groups.get_mut(usize::from(leader)) {
-            Some(behind) => mem::take(behind),
-            None => 0,
+            Some(behind) if most > 1 => mem::take(behind),
+            _ => 0,
         };
         self.used &= !(bit(leader) | behind);
         self.leaders &= !bit(leader);
