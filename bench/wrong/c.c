@@ -1,15 +1,29 @@
 /* Every call of the library for C with wrong arguments: null pointers, lengths of 0, numbers far out of range, handles without a mediator, set-ups
- * that are refused. Each has to answer one of its statuses, and the mediator has to be as it was. Prints how many calls there were of each kind. */
+ * that are refused. Each has to answer one of its statuses, and the mediator has to be as it was. Prints how many calls there were of each function: a
+ * hundred or more, but of nvmed_free, which takes nothing but a handle. */
 #include <stdio.h>
 #include <string.h>
 
 #include "nvmed.h"
 
-static int calls, wrong;
+static int wrong;
+
+/* How many calls there were of each function, in the order of their first calls. */
+enum { FUNCTIONS = 16 };
+static struct { const char *name; int calls; } called[FUNCTIONS];
+
+/* Counts a call of the function whose name the text begins with. */
+static void count(const char *text) {
+    size_t wide = strcspn(text, "(");
+    int i = 0;
+    while (i < FUNCTIONS - 1 && called[i].name && (strncmp(called[i].name, text, wide) != 0 || called[i].name[wide] != '(')) i++;
+    called[i].name = text;
+    called[i].calls++;
+}
 
 /* A call that has to be answered so. */
-static void want(const char *what, nvmed_status want, nvmed_status got) {
-    calls++;
+static void answered(const char *what, const char *text, nvmed_status want, nvmed_status got) {
+    count(text);
     if (want != got) {
         wrong++;
         printf("%s: answered %d, not %d\n", what, (int)got, (int)want);
@@ -17,17 +31,23 @@ static void want(const char *what, nvmed_status want, nvmed_status got) {
 }
 
 /* A call that may be answered in any way but by a number that is no status. */
-static void any(const char *what, nvmed_status got) {
-    calls++;
+static void a_status(const char *what, const char *text, nvmed_status got) {
+    count(text);
     if ((int)got < 0 || (int)got > NVMED_NULL || (int)got == 7) {
         wrong++;
         printf("%s: answered %d\n", what, (int)got);
     }
 }
 
+#define want(what, status, call) answered(what, #call, status, call)
+#define any(what, call) a_status(what, #call, call)
+
 static const uint32_t numbers[] = {0, 1, 2, 7, 8, 15, 16, 63, 64, 255, 256, 65535, 65536, 0x7fffffff, 0x80000000, 0xffffffff};
 static const uint64_t wide[] = {0, 1, 511, 4095, 4096, 0xffffffff, 0x100000000, 0x7fffffffffffffff, 0x8000000000000000, 0xffffffffffffffff};
-enum { NUMBERS = sizeof numbers / sizeof *numbers, WIDE = sizeof wide / sizeof *wide };
+enum { NUMBERS = sizeof numbers / sizeof *numbers, WIDE = sizeof wide / sizeof *wide, POWERS = 128 };
+
+/* A power of two, or the number before one. */
+static uint64_t power(int i) { return ((uint64_t)1 << i / 2) - (uint64_t)(i % 2); }
 
 static const nvmed_sizes good = {0x1000000, 0x400000, 4096, 1};
 static const uint32_t limits[17] = {1024, 1024, 1, 1, 1, 1, 1, 1, 1, 1, 1, 1, 1, 1, 1, 1, 1};
@@ -75,6 +95,10 @@ static void set_ups(void) {
     }
     r.host = 0x400000;
     refused("in the area", NVMED_MAPS_MEET, good, r, e, 1024);
+    for (int i = 0; i < POWERS; i++) {
+        s = good, s.lanes = power(i) - 1 < 8 ? 9 : power(i);
+        refused("lanes", NVMED_BAD_SIZE, s, regions[0], e, 1024);
+    }
 }
 
 /* All calls on a handle that is null, or that holds nothing. */
@@ -138,13 +162,13 @@ static void numbers_everywhere(nvmed *m) {
     for (int i = 0; i < NUMBERS; i++) {
         uint32_t n = numbers[i];
         nvmed_status none = n > 255 ? NVMED_NO_SUCH : NVMED_IGNORED;
-        if (n != 0) {
-            want("store", none, nvmed_store(m, n, 0, bytes, sizeof bytes));
-            want("load", none, nvmed_load(m, n, 0, bytes, sizeof bytes));
-            want("memory", none, nvmed_memory(m, n, 0, bytes, sizeof bytes, &at, &done));
-            want("reg_read", none, nvmed_reg_read(m, n, 0x14, &word));
-            want("reg_write", none, nvmed_reg_write(m, n, 0x14, 1));
-            want("doorbell", none, nvmed_doorbell(m, n, 0x1000, 1));
+        for (int j = 0; n != 0 && j < WIDE; j++) {
+            want("store", none, nvmed_store(m, n, wide[j], bytes, sizeof bytes));
+            want("load", none, nvmed_load(m, n, wide[j], bytes, sizeof bytes));
+            want("memory", none, nvmed_memory(m, n, wide[j], bytes, sizeof bytes, &at, &done));
+            want("reg_read", none, nvmed_reg_read(m, n, (uint32_t)wide[j], &word));
+            want("reg_write", none, nvmed_reg_write(m, n, (uint32_t)wide[j], 1));
+            want("doorbell", none, nvmed_doorbell(m, n, (uint32_t)wide[j], 1));
         }
         any("reg_read", nvmed_reg_read(m, 0, n, &word));
         want("reg_write", NVMED_IGNORED, nvmed_reg_write(m, 0, n | 1, n));
@@ -157,13 +181,15 @@ static void numbers_everywhere(nvmed *m) {
             any("due", nvmed_due(m, &event, &word));
         }
     }
-    for (int i = 0; i < WIDE; i++) {
-        want("store", wide[i] < 0x20000 - sizeof bytes ? NVMED_OK : NVMED_UNMAPPED, nvmed_store(m, 0, wide[i], bytes, sizeof bytes));
-        want("load", wide[i] < 0x20000 - sizeof bytes ? NVMED_OK : NVMED_UNMAPPED, nvmed_load(m, 0, wide[i], bytes, sizeof bytes));
-        want("memory", wide[i] < 0x20000 ? NVMED_OK : NVMED_UNMAPPED, nvmed_memory(m, 0, wide[i], bytes, sizeof bytes, &at, &done));
-        want("block", wide[i] < 4096 ? NVMED_OK : NVMED_NO_SUCH, nvmed_block(m, wide[i], &at));
-        want("kept", wide[i] < 4096 ? NVMED_OK : NVMED_NO_SUCH, nvmed_kept(m, wide[i], &word));
-        any("work", nvmed_work(m, NVMED_OF_LANE, 0, wide[i], &done));
+    for (int i = 0; i < POWERS; i++) {
+        uint64_t p = power(i);
+        nvmed_status whole = p <= 0x20000 - sizeof bytes ? NVMED_OK : NVMED_UNMAPPED;
+        want("store", whole, nvmed_store(m, 0, p, bytes, sizeof bytes));
+        want("load", whole, nvmed_load(m, 0, p, bytes, sizeof bytes));
+        want("memory", p < 0x20000 ? NVMED_OK : NVMED_UNMAPPED, nvmed_memory(m, 0, p, bytes, sizeof bytes, &at, &done));
+        want("block", p < 4096 ? NVMED_OK : NVMED_NO_SUCH, nvmed_block(m, p, &at));
+        want("kept", p < 4096 ? NVMED_OK : NVMED_NO_SUCH, nvmed_kept(m, p, &word));
+        any("work", nvmed_work(m, NVMED_OF_LANE, 0, p, &done));
     }
 }
 
@@ -175,7 +201,6 @@ static void view(const char *what, nvmed *m, uint32_t guest, uint64_t address, u
     memset(room, 0x5a, sizeof room);
     want(what, NVMED_OK, nvmed_memory(m, guest, address, room, length, &at, &shown));
     want(what, NVMED_OK, nvmed_load(m, guest, address, loaded, count));
-    calls++;
     if (shown != count || (count ? !at || memcmp(at, loaded, count) != 0 || (at == room) != in_room : at != NULL)) {
         wrong++;
         printf("%s: shows %u bytes, not %u, or others\n", what, (unsigned)shown, (unsigned)count);
@@ -227,6 +252,8 @@ int main(void) {
     want("free", NVMED_OK, nvmed_free(&m));
     want("free again", NVMED_NO_MEDIATOR, nvmed_free(&m));
     on_nothing(&m, NVMED_NO_MEDIATOR);
-    printf("%s calls, %d answered wrongly\n", calls > 100 ? "more than 100" : "too few", wrong);
+    for (int i = 0; i < FUNCTIONS && called[i].name; i++)
+        printf("%.*s: %d calls\n", (int)strcspn(called[i].name, "("), called[i].name, called[i].calls);
+    printf("%d answered wrongly\n", wrong);
     return wrong != 0;
 }
