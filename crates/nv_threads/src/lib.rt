@@ -35,6 +35,8 @@ mod notes;
 mod planning;
 mod port;
 mod reaping;
+#[cfg(test)]
+mod ringing;
 mod share;
 mod shared;
 #[cfg(test)]

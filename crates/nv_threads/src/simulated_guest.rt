@@ -60,8 +60,8 @@ const TAIL: u32 = 0x1008;
 
 const HEAD: u32 = 0x100c;
 
-// An entry: its opcode with the flags, identifier, PRP1 or the first half of a descriptor, the second half, and CDW10 to CDW12.
-fn entry_of(
+/// An entry: its opcode with the flags, identifier, PRP1 or the first half of a descriptor, the second half, and CDW10 to CDW12.
+pub(crate) fn entry_of(
     command: u32,
     identifier: u32,
     prp1: u32,
@@ -193,8 +193,8 @@ impl Guest {
         Ok(acts)
     }
 
-    // Writes its registers and creates queue pair 1.
-    fn bring_up(&mut self, alloc: Global, acts: &mut Vec<Act>) -> Result<(), NoMemory> {
+    /// Writes its registers and creates queue pair 1.
+    pub(crate) fn bring_up(&mut self, alloc: Global, acts: &mut Vec<Act>) -> Result<(), NoMemory> {
         self.admin = 0;
         for (offset, value) in REGISTERS {
             acts.push(Act::RegWrite { offset, value })?;
@@ -331,7 +331,7 @@ impl Guest {
     }
 }
 
-// A doorbell that is rung.
-fn rings(offset: u32, value: u32) -> Act {
+/// A doorbell that is rung.
+pub(crate) fn rings(offset: u32, value: u32) -> Act {
     Act::Doorbell { offset, value }
 }

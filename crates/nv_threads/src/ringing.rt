@@ -1,0 +1,261 @@
+//! Who rings for whom: each bell for its own, a port for workers, and each worker for the next.
+
+use crate::bell::Bell;
+use crate::bells::Bells;
+use crate::bits::bit;
+use crate::concern::Concern;
+use crate::device_side::device_loop;
+use crate::gate::Gate;
+use crate::planning::planner;
+use crate::port::Port;
+use crate::reaping::reaper;
+use crate::shared::Shared;
+use crate::simulated_guest::{Guest, entry_of, rings};
+use crate::simulated_worlds::{ONE, opened};
+use nv_mem::{BoxedBytes, GuestMap, NoMemory};
+use nv_model::Act;
+use nv_ns::VirtualNs;
+use nv_plan::{Job, Planned, make_plan};
+use nv_world::World;
+use nv_world_model::Event;
+use std::alloc::{Allocator, Global};
+use std::process::Abort;
+use std::sync::Wait;
+use std::test::Fail;
+use std::thread;
+use std::thread::{Threads, join};
+use std::time::{Clock, Duration};
+
+/// How often is looked whether a bell was rung, a millisecond apart.
+const LOOKS: u32 = 5_000;
+
+/// A heap with room for a plan.
+const HEAP: u64 = 65_536;
+
+// Which bells were rung so often, or more: those of guests, planners, reapers and physical controllers, a set each.
+fn rung(bells: &Bells, times: u64) -> [u64; 4] {
+    let mut rung = [0; 4];
+    for number in 0..16 {
+        let of = [
+            bells.guest(number),
+            bells.planner(number),
+            bells.reaper(number),
+            bells.device(number),
+        ];
+        for (set, bell) in rung.iter_mut().zip(of) {
+            if bell.rings() >= times {
+                *set |= bit(number);
+            }
+        }
+    }
+    // There are eight lanes.
+    let [guests, planners, reapers, devices] = rung;
+    [guests, planners, reapers % 256, devices % 256]
+}
+
+/// Bells that are rung, each a number of its own and some together.
+const CALLED: [Concern; 3] = [
+    Concern {
+        guests: 0x8005,
+        planners: 0x0002,
+        reapers: 0x80,
+        devices: 0x05,
+    },
+    Concern {
+        guests: 0x0010,
+        planners: 0xc000,
+        reapers: 0x12,
+        devices: 0xa0,
+    },
+    Concern {
+        guests: 0,
+        planners: 0x0001,
+        reapers: 0,
+        devices: 0x01,
+    },
+];
+
+#[test]
+fn each_bell_is_rung_for_its_own(rt: HostRuntime) -> Result<(), Fail> {
+    for called in CALLED {
+        let bells = Bells::new();
+        bells.ring(called);
+        let sets = [
+            called.guests,
+            called.planners,
+            called.reapers,
+            called.devices,
+        ];
+        assert_eq!(rt; rung(&bells, 1), sets);
+        assert_eq!(rt; rung(&bells, 2), [0; 4]);
+    }
+    let bells = Bells::new();
+    bells.ring_all();
+    assert_eq!(rt; rung(&bells, 1), [0xffff, 0xffff, 0xff, 0xff]);
+    Ok(())
+}
+
+#[test]
+fn a_wait_tells_whether_the_bell_was_rung(rt: HostRuntime) -> Result<(), Fail> {
+    let bell = Bell::new();
+    assert!(rt; !bell.wait(&rt, 0));
+    bell.ring();
+    assert!(rt; bell.wait(&rt, 0));
+    assert!(rt; !bell.wait(&rt, 1));
+    Ok(())
+}
+
+/// A guest's controller is enabled with a completion queue of two slots, and it rings for two admin commands.
+const ENABLE: [Act; 5] = [
+    Act::RegWrite {
+        offset: 0x24,
+        value: 0x0001_001f,
+    },
+    Act::RegWrite {
+        offset: 0x28,
+        value: 0x1_0000,
+    },
+    Act::RegWrite {
+        offset: 0x30,
+        value: 0x1_1000,
+    },
+    Act::RegWrite {
+        offset: 0x14,
+        value: 0x0046_0001,
+    },
+    Act::Doorbell {
+        offset: 0x1000,
+        value: 2,
+    },
+];
+
+// The port of guest 1 rings for its planners where there is an entry to be taken up; and again where its completion queue has room for the second.
+fn expect_rings<R: Wait + Abort>(rt: &R, alloc: Global, shared: &Shared) -> Result<(), NoMemory> {
+    let mut port = Port::new(alloc, 1);
+    for act in ENABLE {
+        assert_eq!(rt; rung(&shared.bells, 1), [0; 4]);
+        let _reply = port.act(rt, alloc, shared, act)?;
+    }
+    assert_eq!(rt; rung(&shared.bells, 1), [0, 0b10, 0, 0]);
+    let _reply = shared.lock(rt).world.step(alloc, Event::Admin(1));
+    let _reply = port.act(rt, alloc, shared, rings(0x1004, 1))?;
+    assert_eq!(rt; rung(&shared.bells, 2), [0, 0b10, 0, 0]);
+    Ok(())
+}
+
+#[test]
+fn a_port_rings_behind_its_act(rt: HostRuntime) -> Result<(), Fail> {
+    let shared = Shared::new(opened(rt.alloc(), &ONE)?);
+    expect_rings(&rt, rt.alloc(), &shared)?;
+    Ok(())
+}
+
+/// A gate that tells the workers to stop, and makes the plan.
+#[derive(Drop)]
+struct Last<'a> {
+    shared: &'a Shared,
+}
+
+impl Gate for Last<'_> {
+    fn plan<R: Wait + Clock, A: Allocator + Clone>(
+        &self,
+        _rt: &R,
+        heap: A,
+        alloc: Global,
+        job: Job,
+        map: &GuestMap,
+        ns: &VirtualNs,
+        limit: u32,
+    ) -> Planned {
+        self.shared.stop();
+        make_plan(heap, alloc, job, map, ns, limit)
+    }
+}
+
+// Guest 0 has queue pair 1, in which a Read waits, and an admin command waits, too.
+fn waiting(alloc: Global) -> Result<World, Fail> {
+    let mut world = opened(alloc, &ONE)?;
+    let mut acts = Vec::new(alloc);
+    Guest::new(false).bring_up(alloc, &mut acts)?;
+    for act in acts {
+        world.step(alloc, Event::Guest(0, act));
+    }
+    world.step(alloc, Event::Admin(0));
+    world.step(alloc, Event::Admin(0));
+    let read = entry_of(0x02, 1, 0x6000, (0, 0), [5, 0, 0]);
+    let bytes = BoxedBytes::from_slice(alloc, &read)?;
+    let store = Act::Store {
+        addr: 0x1_3000,
+        bytes,
+    };
+    for act in [store, rings(0x1008, 1), rings(0x1000, 3)] {
+        world.step(alloc, Event::Guest(0, act));
+    }
+    Ok(world)
+}
+
+// Tells the workers to stop once a bell was rung.
+fn stops<C: Clock>(clock: &C, shared: &Shared, bell: &Bell) {
+    for _look in 0..LOOKS {
+        if bell.rings() != 0 {
+            break;
+        }
+        thread::sleep(clock, Duration::from_millis(1));
+    }
+    shared.stop();
+}
+
+// Guest 0's planner on lane 0 does what it can, until it has made a plan.
+fn plans<R: Wait + Clock>(rt: &R, alloc: Global, shared: &Shared) {
+    let gate = Last { shared };
+    let _share = planner(rt, alloc, shared, 0, 0, &gate, HEAP);
+}
+
+// Which bells it rings, beside all of them once, and the world behind it.
+fn planned<R: Wait + Clock>(rt: &R, alloc: Global, world: World) -> ([u64; 4], World) {
+    let shared = Shared::new(world);
+    plans(rt, alloc, &shared);
+    (rung(&shared.bells, 2), shared.close())
+}
+
+// The same of the physical controller on lane 0.
+fn moved<R: Threads + Wait + Clock + Sync>(
+    rt: &R,
+    alloc: Global,
+    world: World,
+) -> ([u64; 4], World) {
+    let shared = Shared::new(world);
+    let (_share, _) = join(
+        rt,
+        || device_loop(rt, alloc, &shared, 0),
+        || stops(rt, &shared, shared.bells.reaper(0)),
+    );
+    (rung(&shared.bells, 2), shared.close())
+}
+
+// The same of the reaper of lane 0.
+fn reaped<R: Threads + Wait + Clock + Sync>(
+    rt: &R,
+    alloc: Global,
+    world: World,
+) -> ([u64; 4], World) {
+    let shared = Shared::new(world);
+    let (_share, _) = join(
+        rt,
+        || reaper(rt, alloc, &shared, 0),
+        || stops(rt, &shared, shared.bells.guest(0)),
+    );
+    (rung(&shared.bells, 2), shared.close())
+}
+
+#[test]
+fn each_worker_rings_for_the_next(rt: HostRuntime) -> Result<(), Fail> {
+    let alloc = rt.alloc();
+    let (by_planner, world) = planned(&rt, alloc, waiting(alloc)?);
+    assert_eq!(rt; by_planner, [1, 0, 0, 1]);
+    let (by_device, world) = moved(&rt, alloc, world);
+    assert_eq!(rt; by_device, [0, 0, 1, 0]);
+    let (by_reaper, _) = reaped(&rt, alloc, world);
+    assert_eq!(rt; by_reaper, [1, 0, 0, 0]);
+    Ok(())
+}
