@@ -4,7 +4,7 @@ ghost use Rattle.std.specs.Prelude.{◌≡◌, ◌↔◌, IsTrue};
 
 use crate::layout::Given;
 use nv_mem::{GuestMap, Region};
-use nv_ns::{Extent, VirtualNs};
+use nv_ns::Extent;
 use nv_plan::{Plan, ReadDone};
 
 /// Whether a plan was made with what this guest was given: its map, its namespace and its limit on descriptors.
@@ -12,7 +12,7 @@ pub(crate) fn is_given(plan: &Plan, given: &Given) -> bool
     ensures { IsTrue result ↔ (plan.now.given ≡ given.now) }
 {
     same_map(plan.map(), given.map())
-        && same_blocks(plan.ns(), given.ns())
+        && same_extents(plan.extents(), given.ns().as_slice())
         && plan.limit() == given.limit()
 }
 
@@ -28,13 +28,6 @@ fn same_regions(regions: &[Region], others: &[Region]) -> bool
     ensures { IsTrue result ↔ (regions.now ≡ others.now) }
 {
     regions == others
-}
-
-// Whether two namespaces are the same: as many extents as there are, and no more, are compared.
-fn same_blocks(ns: &VirtualNs, other: &VirtualNs) -> bool
-    ensures { IsTrue result ↔ (ns.now ≡ other.now) }
-{
-    same_extents(ns.as_slice(), other.as_slice())
 }
 
 // Whether two lists of extents are the same.

@@ -1,4 +1,4 @@
--- Words of private functions: portions as they are kept, and what they are cut out of.
+-- Words of private functions: portions and a namespace as they are kept, and what portions are cut out of.
 use Rattle.std.specs.Prelude.{ℕ, ◌+◌, ◌*◌, ◌^◌, ◌<◌, List, [], ◌∷◌, filter, length, map, replicate}
 use Rattle.std.specs.Bool.{⊤}
 use Rattle.nv_mem.specs.declared.piece.Piece.{Piece}
@@ -8,6 +8,8 @@ use Rattle.nv_ns.specs.Extents.{Cut, Namespace, Placed}
 use Rattle.nv_plan.specs.Outline.{Portion}
 use Rattle.nv_plan.specs.Parts.{has_bytes}
 use Rattle.nv_plan.specs.Runs.{AreEnds, runs}
+use Rattle.nv_plan.specs.declared.kept_ns.Extents.{Extents}
+use Rattle.nv_plan.specs.declared.kept_ns.Extents.TheVariants as extents
 use Rattle.nv_plan.specs.declared.portions.Kept.{Kept}
 use Rattle.nv_plan.specs.declared.portions.Kept.TheVariants as kept
 use Rattle.nv_plan.specs.declared.ranges.Standing.{Standing}
@@ -24,15 +26,22 @@ of_ranges ranges = record { places = []; ranges = ranges }
 abbrev pub portions_of : Kept → List Portion
 portions_of (kept.Bare count) = replicate count (of_places [])
 portions_of (kept.Whole places) = of_places places ∷ []
-portions_of (kept.Placed places ends) = map of_places (runs places 0 ends)
-portions_of (kept.Ranged ranges ends) = map of_ranges (runs ranges.items 0 ends)
+portions_of (kept.Listed ranges) = of_ranges ranges.items ∷ []
+portions_of (kept.Placed cut) = map of_places (runs cut.value.places 0 cut.value.ends)
+portions_of (kept.Ranged cut) = map of_ranges (runs cut.value.ranges.items 0 cut.value.ends)
 
 -- a list that several portions have parts of is cut where they end
 abbrev pub IsKept : Kept → Type 0
 IsKept (kept.Bare count) = ⊤
 IsKept (kept.Whole places) = ⊤
-IsKept (kept.Placed places ends) = AreEnds 0 ends (length places)
-IsKept (kept.Ranged ranges ends) = AreEnds 0 ends (length ranges.items)
+IsKept (kept.Listed ranges) = ⊤
+IsKept (kept.Placed cut) = AreEnds 0 cut.value.ends (length cut.value.places)
+IsKept (kept.Ranged cut) = AreEnds 0 cut.value.ends (length cut.value.ranges.items)
+
+-- the namespace that extents are as a plan keeps them
+abbrev pub namespace_of : Extents → Namespace
+namespace_of (extents.One extent) = extent ∷ []
+namespace_of (extents.Several ns) = ns.value
 
 -- `len` bytes of a buffer behind its first `skip`, in pieces that have bytes
 abbrev pub cut_places : (skip len : ℕ) → List Piece → List Piece

@@ -13,7 +13,7 @@ use nv_model::limits::BLOCK_SIZE;
 use nv_ns::Part;
 use std::alloc::Global;
 
-/// What each part of a transfer's blocks has of its places. It takes one block of memory.
+/// What each part of a transfer's blocks has of its places. It takes two blocks of memory.
 pub(crate) fn cut_up(alloc: Global, pieces: &[Piece], parts: &[Part]) -> Result<Portions, NoMemory>
     requires few { length parts.now ≤ 8 }
     requires small { All (λ (cut : Cut). cut.first + cut.count ≤ 2 ^ 16) parts.now }
@@ -30,7 +30,7 @@ pub(crate) fn cut_up(alloc: Global, pieces: &[Piece], parts: &[Part]) -> Result<
         cut_out(pieces, skip, len, &mut places)?;
         ends.push(places.pieces().len() as u32);
     }
-    Ok(Portions::placed(places, ends))
+    Portions::placed(alloc, places, ends)
 }
 
 // Adds `len` bytes of a buffer behind its first `skip` to these places.

@@ -15,8 +15,9 @@
 //! What is read of an SGL lives in an allocator of the caller's choice, and a plan in `Global`; where memory is refused, the job comes
 //! back as it was. A list is gone through once, and so is the transcript; once more for each part, where there are several. A transfer
 //! in one part through one descriptor takes three blocks of memory: for the descriptor, the places and the copy of the map. Each array
-//! of descriptors takes two more, and a Dataset Management two, for its bytes and its ranges. Several parts have one list together, which
-//! is cut where each ends: so a transfer takes one block more, and a Dataset Management the same two, where its ranges do not overlap.
+//! of descriptors takes two more, and a Dataset Management two, for its bytes and its ranges. A namespace of several extents takes one
+//! more, and one extent none. Several parts have one list together, which is cut where each ends: so a transfer takes two blocks more, for
+//! the list and the ends, and a Dataset Management one, for the ends, where its ranges do not overlap.
 #![tactic(auto)]
 
 mod copies;
@@ -24,6 +25,7 @@ mod cutting;
 mod ends;
 mod given;
 mod job;
+mod kept_ns;
 mod kind;
 pub mod laws;
 mod lists;

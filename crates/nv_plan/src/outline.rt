@@ -1,13 +1,11 @@
 //! What a plan says.
 
-ghost use Rattle.std.specs.Prelude.{◌≡◌, ◌<◌, [], Some, length, slice_get};
-ghost use Rattle.nv_plan.specs.Outline.{Portion};
+ghost use Rattle.std.specs.Prelude.{◌≡◌, []};
 ghost use Rattle.nv_plan.specs.declared.kind.PlanKind.TheVariants as kind;
 
 use crate::kind::PlanKind;
 use crate::portions::Portions;
-use nv_entry::{Range, Status};
-use nv_mem::Piece;
+use nv_entry::Status;
 use std::marker::Model;
 
 /// What is done with a command, and what each of its physical commands has of it.
@@ -40,33 +38,11 @@ impl Outline {
         Outline { kind, portions }
     }
 
-    /// What is done.
-    pub(crate) fn kind(&self) -> PlanKind
-        ensures { result ≡ self.now.kind }
+    /// What is done, and the portions.
+    pub(crate) fn into_parts(self) -> (PlanKind, Portions)
+        ensures kind { result.0 ≡ self.kind }
+        ensures portions { result.1 ≡ self.portions }
     {
-        self.kind
-    }
-
-    /// How many physical commands there are.
-    pub(crate) fn len(&self) -> usize
-        ensures { result ≡ length self.now.portions }
-    {
-        self.portions.len()
-    }
-
-    /// Where the bytes of the physical command of this number lie, from 0.
-    pub(crate) fn places(&self, part: usize) -> &[Piece]
-        requires { part < length self.now.portions }
-        ensures { (portion : Portion) → slice_get self.now.portions part ≡ Some portion → result.now ≡ portion.places }
-    {
-        self.portions.places(part)
-    }
-
-    /// The ranges of the physical command of this number, from 0.
-    pub(crate) fn ranges(&self, part: usize) -> &[Range]
-        requires { part < length self.now.portions }
-        ensures { (portion : Portion) → slice_get self.now.portions part ≡ Some portion → result.now ≡ portion.ranges }
-    {
-        self.portions.ranges(part)
+        (self.kind, self.portions)
     }
 }

@@ -15,13 +15,14 @@ ghost use Rattle.nv_world_model.specs.Share.{Share};
 ghost use Rattle.nv_world_model.specs.ShareArea.{first_lba};
 
 use crate::job::Job;
+use crate::kept_ns::KeptNs;
 use crate::kind::PlanKind;
 use crate::outline::Outline;
-use crate::tags::parts_of;
+use crate::portions::Portions;
 use nv_entry::{IoOpcode, Range};
 use nv_mem::{GuestMap, Piece};
 use nv_model::limits::{BLOCK_SIZE, RANGE_SIZE};
-use nv_ns::{Part, VirtualNs};
+use nv_ns::{Extent, Part};
 use std::marker::Model;
 
 /// What is done with a command. A plan carries its job, the guest's map and namespace and the limit on descriptors that it was made
@@ -30,9 +31,10 @@ use std::marker::Model;
 pub struct Plan {
     job: Job,
     map: GuestMap,
-    ns: VirtualNs,
+    ns: KeptNs,
     limit: u32,
-    outline: Outline,
+    kind: PlanKind,
+    portions: Portions,
 }
 
 impl Model for Plan {
@@ -40,24 +42,33 @@ impl Model for Plan {
 
     ghost Value = { MadePlan };
 
-    ghost view = { λ p. record { job = p.job; given = record { memory_map = p.map; namespace = p.ns; limit = p.limit }; outline = p.outline } };
+    ghost view = { λ p. record {
+      job = p.job;
+      given = record { memory_map = p.map; namespace = p.ns; limit = p.limit };
+      outline = record { kind = p.kind; portions = p.portions };
+    } };
 
-    ghost invariant = { λ p.
-        IsJobsPlan (record { job = p.job; given = record { memory_map = p.map; namespace = p.ns; limit = p.limit }; outline = p.outline }) };
+    ghost invariant = { λ p. IsJobsPlan (record {
+      job = p.job;
+      given = record { memory_map = p.map; namespace = p.ns; limit = p.limit };
+      outline = record { kind = p.kind; portions = p.portions };
+    }) };
 }
 
 impl Plan {
     /// The plan of a job, where this is what it says.
-    pub(crate) fn new(job: Job, map: GuestMap, ns: VirtualNs, limit: u32, outline: Outline) -> Self
+    pub(crate) fn new(job: Job, map: GuestMap, ns: KeptNs, limit: u32, outline: Outline) -> Self
         requires { IsJobsPlan (record { job = job; given = record { memory_map = map; namespace = ns; limit = limit }; outline = outline }) }
         ensures { result ≡ record { job = job; given = record { memory_map = map; namespace = ns; limit = limit }; outline = outline } }
     {
+        let (kind, portions) = outline.into_parts();
         Plan {
             job,
             map,
             ns,
             limit,
-            outline,
+            kind,
+            portions,
         }
     }
 
@@ -77,12 +88,12 @@ impl Plan {
         &self.map
     }
 
-    /// The guest's namespace that it was made with.
-    pub fn ns(&self) -> &VirtualNs
+    /// The extents of the guest's namespace that it was made with, in their order.
+    pub fn extents(&self) -> &[Extent]
         ensures value { result.now ≡ self.now.given.namespace }
         ensures is_plan { IsJobsPlan self.now }
     {
-        &self.ns
+        self.ns.as_slice()
     }
 
     /// The most descriptors of a list that it was made with.
@@ -99,7 +110,7 @@ impl Plan {
         ensures made { result ≡ kind_of (plan_made self.now) }
         ensures is_plan { IsJobsPlan self.now }
     {
-        self.outline.kind()
+        self.kind
     }
 
     /// How many physical commands the command is: one for each share of its plan, and none where it is answered.
@@ -110,7 +121,7 @@ impl Plan {
     {
         // A namespace has at most eight extents.
         let _extents = self.ns.len();
-        self.outline.len() as u8
+        self.portions.len() as u8
     }
 
     /// Where the bytes of a part of a Read, Write or Compare lie in the guest's memory, as its list named them, in pieces that have bytes.
@@ -120,7 +131,7 @@ impl Plan {
         ensures value { (share : Share) → share_made part self.now ≡ Some share → result.now ≡ places_in share.plan }
         ensures is_plan { IsJobsPlan self.now }
     {
-        self.outline.places(usize::from(part))
+        self.portions.places(usize::from(part))
     }
 
     /// The ranges of a part of a Dataset Management as the disk has them, in order: attributes 0, the length, and the disk's starting
@@ -131,7 +142,7 @@ impl Plan {
             result.now ≡ ranges_of self.now.given.namespace share.plan }
         ensures is_plan { IsJobsPlan self.now }
     {
-        self.outline.ranges(usize::from(part))
+        self.portions.ranges(usize::from(part))
     }
 
     /// How many bytes a part transfers.
@@ -162,7 +173,7 @@ impl Plan {
         ensures most { result.count ≤ 2 ^ 16 }
         ensures is_plan { IsJobsPlan self.now }
     {
-        match parts_of(&self.job.sqe, &self.ns).get(usize::from(part)) {
+        match self.ns.part(&self.job.sqe, usize::from(part)) {
             Some(part) => part,
             None => unreachable!(),
         }

@@ -25,6 +25,7 @@ ghost use Rattle.nv_plan.specs.Told.{portion_cut};
 use crate::cutting::cut_up;
 use crate::given::Given;
 use crate::job::Job;
+use crate::kept_ns::KeptNs;
 use crate::kind::PlanKind;
 use crate::outcome::Outcome;
 use crate::outline::Outline;
@@ -60,8 +61,8 @@ pub fn make_plan<A: Allocator + Clone>(
     let given = Given { map, ns, limit };
     match given.outline(heap, alloc, &job) {
         Ok(Outcome::Wanted { addr, len }) => Planned::Need(job, addr, len),
-        Ok(Outcome::Settled(outline)) => match map.try_clone(alloc) {
-            Ok(map) => Planned::Plan(Plan::new(job, map, *ns, limit, outline)),
+        Ok(Outcome::Settled(outline)) => match given.kept(alloc) {
+            Ok((map, ns)) => Planned::Plan(Plan::new(job, map, ns, limit, outline)),
             Err(NoMemory) => Planned::NoMemory(job),
         },
         Err(NoMemory) => Planned::NoMemory(job),
@@ -69,6 +70,15 @@ pub fn make_plan<A: Allocator + Clone>(
 }
 
 impl<'a> Given<'a> {
+    // The map and the namespace, for a plan to keep.
+    fn kept(&self, alloc: Global) -> Result<(GuestMap, KeptNs), NoMemory>
+        ensures { IfOk result (λ kept. (kept.0 ≡ self.now.map.now) × (kept.1 ≡ self.now.ns.now)) }
+    {
+        let map = self.map.try_clone(alloc)?;
+        let ns = KeptNs::of(alloc, self.ns)?;
+        Ok((map, ns))
+    }
+
     // What the plan of a job says.
     fn outline<A: Allocator + Clone>(
         &self,

@@ -1,26 +1,43 @@
 //! What the physical commands of a plan have of its places and ranges.
 
-ghost use Rattle.std.specs.Prelude.{◌≡◌, ◌<◌, [], ◌∷◌, Some, length, map, replicate, slice_get};
+ghost use Rattle.std.specs.Prelude.{◌≡◌, ◌<◌, [], ◌∷◌, IfOk, Some, length, map, replicate, slice_get};
 ghost use Rattle.nv_plan.specs.Outline.{Portion};
 ghost use Rattle.nv_plan.specs.Runs.{AreEnds, runs};
 ghost use Rattle.nv_plan.specs.Told.{of_places, of_ranges};
 
 use crate::ends::Ends;
 use nv_entry::Range;
-use nv_mem::{Piece, Places};
+use nv_mem::{NoMemory, Piece, Places};
+use std::alloc::Global;
 use std::marker::Model;
 
-/// How the portions stand: several have one list together, which is cut where each of them ends.
+/// How the portions stand: several have one list together, which is cut where each of them ends, in a block of its own.
 #[derive(Debug, Drop)]
 enum Kept {
     /// So many portions of no bytes and no ranges.
     Bare(u8),
     /// One, of all these places.
     Whole(Places),
+    /// One, of all these ranges.
+    Listed(Vec<Range>),
     /// Some of these places for each.
-    Placed(Places, Ends),
+    Placed(Box<CutPlaces>),
     /// Some of these ranges for each.
-    Ranged(Vec<Range>, Ends),
+    Ranged(Box<CutRanges>),
+}
+
+/// Places, and where each portion of them ends.
+#[derive(Debug, Drop)]
+struct CutPlaces {
+    places: Places,
+    ends: Ends,
+}
+
+/// Ranges, and where each portion of them ends.
+#[derive(Debug, Drop)]
+struct CutRanges {
+    ranges: Vec<Range>,
+    ends: Ends,
 }
 
 /// Of each physical command, in order: where the bytes of a transfer of blocks lie, and the ranges of a Dataset Management as the disk has
@@ -62,23 +79,27 @@ impl Portions {
     }
 
     /// A portion of these places for each of these ends.
-    pub(crate) fn placed(places: Places, ends: Ends) -> Self
+    pub(crate) fn placed(alloc: Global, places: Places, ends: Ends) -> Result<Self, NoMemory>
         requires { AreEnds 0 ends (length places) }
-        ensures { result ≡ map of_places (runs places 0 ends) }
+        ensures { IfOk result (λ portions. portions ≡ map of_places (runs places 0 ends)) }
     {
-        Portions {
-            kept: Kept::Placed(places, ends),
-        }
+        let cut = Box::new(alloc, CutPlaces { places, ends })?;
+        Ok(Portions {
+            kept: Kept::Placed(cut),
+        })
     }
 
     /// A portion of these ranges of the disk for each of these ends.
-    pub(crate) fn ranged(ranges: Vec<Range>, ends: Ends) -> Self
+    pub(crate) fn ranged(alloc: Global, ranges: Vec<Range>, ends: Ends) -> Result<Self, NoMemory>
         requires { AreEnds 0 ends (length ranges.items) }
-        ensures { result ≡ map of_ranges (runs ranges.items 0 ends) }
+        ensures { IfOk result (λ portions. portions ≡ map of_ranges (runs ranges.items 0 ends)) }
     {
-        Portions {
-            kept: Kept::Ranged(ranges, ends),
-        }
+        let kept = if ends.len() == 1 {
+            Kept::Listed(ranges)
+        } else {
+            Kept::Ranged(Box::new(alloc, CutRanges { ranges, ends })?)
+        };
+        Ok(Portions { kept })
     }
 
     /// How many there are.
@@ -88,8 +109,9 @@ impl Portions {
         match &self.kept {
             Kept::Bare(count) => usize::from(*count),
             Kept::Whole(_) => 1,
-            Kept::Placed(_, ends) => ends.len(),
-            Kept::Ranged(_, ends) => ends.len(),
+            Kept::Listed(_) => 1,
+            Kept::Placed(cut) => cut.ends.len(),
+            Kept::Ranged(cut) => cut.ends.len(),
         }
     }
 
@@ -101,8 +123,9 @@ impl Portions {
         match &self.kept {
             Kept::Bare(_) => &[],
             Kept::Whole(places) => places.pieces(),
-            Kept::Placed(places, ends) => ends.run(places.pieces(), part),
-            Kept::Ranged(_, _) => &[],
+            Kept::Listed(_) => &[],
+            Kept::Placed(cut) => cut.ends.run(cut.places.pieces(), part),
+            Kept::Ranged(_) => &[],
         }
     }
 
@@ -114,8 +137,9 @@ impl Portions {
         match &self.kept {
             Kept::Bare(_) => &[],
             Kept::Whole(_) => &[],
-            Kept::Placed(_, _) => &[],
-            Kept::Ranged(ranges, ends) => ends.run(ranges, part),
+            Kept::Listed(ranges) => ranges,
+            Kept::Placed(_) => &[],
+            Kept::Ranged(cut) => cut.ends.run(&cut.ranges, part),
         }
     }
 }

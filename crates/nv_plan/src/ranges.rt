@@ -86,7 +86,7 @@ pub(crate) fn portions_met(
         ends.push(ranges.len() as u32);
         before += extent.blocks();
     }
-    Ok(Portions::ranged(ranges, ends))
+    Portions::ranged(alloc, ranges, ends)
 }
 
 // Adds what an extent has of the ranges in these bytes, as the disk has them.

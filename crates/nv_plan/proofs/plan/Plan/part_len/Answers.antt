@@ -13,7 +13,7 @@ unreachable-requires c =
     let p : MadePlan = record {
       job = c.self.inside.job;
       given = record { memory_map = c.self.inside.map; namespace = c.self.inside.ns; limit = c.self.inside.limit };
-      outline = c.self.inside.outline;
+      outline = record { kind = c.self.inside.kind; portions = c.self.inside.portions };
     } in
     let at = share-at p c.args.part (subst (λ (q : MadePlan). c.args.part < length (shares_made q)) (sym c.self.view_is) c.requires) in
     c.in_default.not-Some (made-own p c.args.part at.0 c.self.invariant at.1).work.opcode
@@ -24,7 +24,7 @@ read-value c share there =
     let p : MadePlan = record {
       job = c.self.inside.job;
       given = record { memory_map = c.self.inside.map; namespace = c.self.inside.ns; limit = c.self.inside.limit };
-      outline = c.self.inside.outline;
+      outline = record { kind = c.self.inside.kind; portions = c.self.inside.portions };
     } in
     let here = subst (λ (q : MadePlan). share_made c.args.part q ≡ Some share) (sym c.self.view_is) there in
     let form = transfer-form c.in-Some.opcode c.in-Read.is in
@@ -39,7 +39,7 @@ returns-in-Read-clause-most c =
     let p : MadePlan = record {
       job = c.self.inside.job;
       given = record { memory_map = c.self.inside.map; namespace = c.self.inside.ns; limit = c.self.inside.limit };
-      outline = c.self.inside.outline;
+      outline = record { kind = c.self.inside.kind; portions = c.self.inside.portions };
     } in
     let at = share-at p c.args.part (subst (λ (q : MadePlan). c.args.part < length (shares_made q)) (sym c.self.view_is) c.requires) in
     let there = subst (λ (q : MadePlan). share_made c.args.part q ≡ Some at.0) c.self.view_is at.1 in
@@ -52,7 +52,7 @@ ranges-value c share there =
     let p : MadePlan = record {
       job = c.self.inside.job;
       given = record { memory_map = c.self.inside.map; namespace = c.self.inside.ns; limit = c.self.inside.limit };
-      outline = c.self.inside.outline;
+      outline = record { kind = c.self.inside.kind; portions = c.self.inside.portions };
     } in
     let here = subst (λ (q : MadePlan). share_made c.args.part q ≡ Some share) (sym c.self.view_is) there in
     told-manage p c.args.part share c.in-Some.opcode c.part_ranges.result.now c.self.invariant here (sym c.io_opcode.ensures ∙ c.in-Some.is) (ap form_of c.in-DatasetManagement.is)
@@ -66,7 +66,7 @@ returns-in-DatasetManagement-clause-most c =
     let p : MadePlan = record {
       job = c.self.inside.job;
       given = record { memory_map = c.self.inside.map; namespace = c.self.inside.ns; limit = c.self.inside.limit };
-      outline = c.self.inside.outline;
+      outline = record { kind = c.self.inside.kind; portions = c.self.inside.portions };
     } in
     let at = share-at p c.args.part (subst (λ (q : MadePlan). c.args.part < length (shares_made q)) (sym c.self.view_is) c.requires) in
     let there = subst (λ (q : MadePlan). share_made c.args.part q ≡ Some at.0) c.self.view_is at.1 in
@@ -78,7 +78,7 @@ returns-in-Flush-clause-value c = λ share there.
     let p : MadePlan = record {
       job = c.self.inside.job;
       given = record { memory_map = c.self.inside.map; namespace = c.self.inside.ns; limit = c.self.inside.limit };
-      outline = c.self.inside.outline;
+      outline = record { kind = c.self.inside.kind; portions = c.self.inside.portions };
     } in
     let here = subst (λ (q : MadePlan). share_made c.args.part q ≡ Some share) (sym c.self.view_is) there in
     let none : has_buffer c.in-Some.opcode ≡ false = elim c.in-Flush.is [ inl is ↦ ap has_buffer is | inr is ↦ ap has_buffer is ] in

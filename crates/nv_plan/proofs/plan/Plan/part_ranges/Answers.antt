@@ -10,9 +10,9 @@ returns-clause-value c = λ share there.
     let p : MadePlan = record {
       job = c.self.inside.job;
       given = record { memory_map = c.self.inside.map; namespace = c.self.inside.ns; limit = c.self.inside.limit };
-      outline = c.self.inside.outline;
+      outline = record { kind = c.self.inside.kind; portions = c.self.inside.portions };
     } in
     let here = subst (λ (q : MadePlan). share_made c.args.part q ≡ Some share) (sym c.self.view_is) there in
     c.ranges-2.ensures (portion_of c.self.inside.ns share)
-    (ap (slice_get c.self.inside.outline.portions) c.from.ensures ∙ made-portion p c.args.part share c.self.invariant here)
+    (ap (slice_get c.self.inside.portions) c.from.ensures ∙ made-portion p c.args.part share c.self.invariant here)
     ∙ ap (λ (q : MadePlan). ranges_of q.given.namespace share.plan) c.self.view_is

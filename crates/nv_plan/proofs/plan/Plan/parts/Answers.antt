@@ -8,7 +8,7 @@ overflow_cast-result c =
     let p : MadePlan = record {
       job = c.self.inside.job;
       given = record { memory_map = c.self.inside.map; namespace = c.self.inside.ns; limit = c.self.inside.limit };
-      outline = c.self.inside.outline;
+      outline = record { kind = c.self.inside.kind; portions = c.self.inside.portions };
     } in
     let is = c.self.invariant in
     let no_more = made-no_more p is c.len-extents.ensures.some in
@@ -21,7 +21,7 @@ returns-clause-most c =
     let p : MadePlan = record {
       job = c.self.inside.job;
       given = record { memory_map = c.self.inside.map; namespace = c.self.inside.ns; limit = c.self.inside.limit };
-      outline = c.self.inside.outline;
+      outline = record { kind = c.self.inside.kind; portions = c.self.inside.portions };
     } in
     let is = c.self.invariant in
     let no_more = made-no_more p is c.len-extents.ensures.some in
