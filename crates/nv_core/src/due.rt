@@ -112,6 +112,7 @@ impl Core {
     }
 
     // Whether a command of a guest's I/O queue may be taken, and as many tags of the lane are free as it wants.
+    #[inline(never)]
     fn take_due(&self, layout: &Layout, guest: u8, queue: u16, lane: u8) -> bool
         requires { IsOf layout.now self.now }
         ensures { result ≡ due layout.now (Event.Take guest queue lane) (world_of self.now) }
@@ -136,6 +137,7 @@ impl Core {
     }
 
     // Whether all tags of the command that goes by a tag have ended, and its guest's controller has room for its completion or is not enabled.
+    #[inline(never)]
     fn post_due(&self, layout: &Layout, lane: u8, tag: u8) -> bool
         requires { IsOf layout.now self.now }
         ensures { result ≡ due layout.now (Event.Post lane tag) (world_of self.now) }
