@@ -35,6 +35,8 @@ run decode cqe "$(printf '%032d' 0)" </dev/null
 for expected in "$root"/examples/*.expected; do
     script=${expected%.expected}
     [[ -e $script ]] || script=$(echo "$script".[or]*)
+    # what bench/c.sh runs is no script
+    [[ -e $script ]] || continue
     run "${script##*.}" <"$script"
     expect "${script##*/}" 0 "$(<"$expected")" ''
     run "${script##*.}" < <(cat "$script")
