@@ -13,10 +13,13 @@ use std::sync::Wait;
 use std::test::Fail;
 use std::thread;
 use std::thread::{join, map_indices};
-use std::time::{Clock, Duration};
+use std::time::{Clock, Duration, Instant};
 
 /// How often a guest waits for news that there is none of: each wait ends after a millisecond or so.
 const VAIN_WAITS: u32 = 500;
+
+/// How many milliseconds they take at least.
+const LEAST: u64 = 250;
 
 /// How often a guest waits while somebody rings for it all the time, and how often that is.
 const WAITS: u32 = 3_000;
@@ -34,15 +37,18 @@ const ROUNDS: u32 = 150;
 /// A heap with room for a plan.
 const HEAP: u64 = 4_096;
 
+// A thread that waits in vain sleeps, and doesn't look all the time.
 #[test]
 fn a_wait_that_nobody_rings_for_ends(rt: HostRuntime) -> Result<(), Fail> {
     let shared = Shared::new(opened(rt.alloc()).expect(&rt, "a world"));
+    let begun = Instant::now(&rt)?;
     for wait in 0..VAIN_WAITS {
         let guest = (wait % 16) as u8;
         let seen = shared.news(guest);
         shared.wait_for_news(&rt, guest, seen);
         assert!(rt; shared.news(guest) == seen);
     }
+    assert!(rt; begun.elapsed(&rt)? >= Duration::from_millis(LEAST));
     Ok(())
 }
 

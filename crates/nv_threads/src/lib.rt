@@ -42,6 +42,8 @@ mod shared;
 #[cfg(test)]
 mod simulated;
 #[cfg(test)]
+mod simulated_counts;
+#[cfg(test)]
 mod simulated_guest;
 #[cfg(test)]
 mod simulated_worlds;

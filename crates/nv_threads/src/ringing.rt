@@ -96,6 +96,16 @@ fn each_bell_is_rung_for_its_own(rt: HostRuntime) -> Result<(), Fail> {
 }
 
 #[test]
+fn each_guest_has_its_own_news(rt: HostRuntime) -> Result<(), Fail> {
+    let shared = Shared::new(opened(rt.alloc(), &ONE)?);
+    shared.bells.ring(Concern::guest(5));
+    for guest in 0..16 {
+        assert_eq!(rt; shared.news(guest), u64::from(guest == 5));
+    }
+    Ok(())
+}
+
+#[test]
 fn a_wait_tells_whether_the_bell_was_rung(rt: HostRuntime) -> Result<(), Fail> {
     let bell = Bell::new();
     assert!(rt; !bell.wait(&rt, 0));
@@ -137,9 +147,11 @@ fn expect_rings<R: Wait + Abort>(rt: &R, alloc: Global, shared: &Shared) -> Resu
         let _reply = port.act(rt, alloc, shared, act)?;
     }
     assert_eq!(rt; rung(&shared.bells, 1), [0, 0b10, 0, 0]);
+    assert_eq!(rt; rung(&shared.bells, 2), [0; 4]);
     let _reply = shared.lock(rt).world.step(alloc, Event::Admin(1));
     let _reply = port.act(rt, alloc, shared, rings(0x1004, 1))?;
     assert_eq!(rt; rung(&shared.bells, 2), [0, 0b10, 0, 0]);
+    assert_eq!(rt; rung(&shared.bells, 3), [0; 4]);
     Ok(())
 }
 

@@ -14,7 +14,8 @@ use crate::locked::{Errand, Locked};
 use crate::notes::Notes;
 use crate::planning::GuestPlanner;
 use crate::reaping::LaneReaper;
-use crate::simulated_guest::{Chance, Guest};
+use crate::simulated_counts::Ended;
+use crate::simulated_guest::{Chance, Guest, is_reset, is_store};
 use crate::simulated_worlds::{Extents, FEW, GUESTS, LANES, MANY, ONE, most_of, opened};
 use crate::start;
 use crate::tasks::{Task, Turn};
@@ -227,6 +228,8 @@ struct Simulation {
     reapers: Vec<Seat<LaneReaper>>,
     // whose command each tag of a lane had last, lane by lane
     owners: Vec<u8>,
+    // what has ended and is not posted
+    ended: Ended,
     // how often a lane had no free tag, and how often some but fewer than a command may take
     full: u64,
     short: u64,
@@ -260,6 +263,7 @@ impl Simulation {
             devices: Vec::new(alloc),
             reapers: Vec::new(alloc),
             owners: vec![in alloc; 0; usize::from(LANES) * usize::from(TAGS)]?,
+            ended: Ended::new(),
             full: 0,
             short: 0,
             woken: 0,
@@ -280,6 +284,7 @@ impl Simulation {
         }
         self.start.share()?;
         self.locked.notes = Notes::of(&self.locked.world);
+        self.ended.share(&self.locked.notes);
         self.sit_down()
     }
 
@@ -390,6 +395,7 @@ impl Simulation {
     // A turn of a lane's reaper; whether it told whom it should.
     fn reaper_turn(&mut self, lane: u8, is_late: bool) -> bool {
         let before = self.locked.world.log().len();
+        let notes = self.locked.notes;
         self.start.reaper_turn(lane);
         let Some(seat) = self.reapers.get_mut(usize::from(lane)) else {
             return false;
@@ -406,6 +412,8 @@ impl Simulation {
         seat.waits = concern.is_none();
         let told = concern.unwrap_or(Concern::nobody());
         self.ring(told);
+        self.ended
+            .follow(&notes, self.locked.world.log().get(before));
         match self.made(before) {
             Some(Move::Post(lane, tag)) => {
                 let owner = self.owner(lane, tag);
@@ -495,6 +503,8 @@ impl Simulation {
 
     // Whether the event behind so many was told to its guest, where it has an admin command's answer. Whose commands were taken is noted.
     fn has_told(&mut self, before: usize, told: Concern) -> Result<bool, Fail> {
+        let logged = self.locked.world.log().get(before);
+        self.ended.follow(&self.locked.notes, logged);
         match self.made(before) {
             Some(Move::Admin(guest)) => {
                 Ok(told.guests == bit(guest) && self.has_rung(guest, told))
@@ -517,6 +527,7 @@ impl Simulation {
             Turn::Job(job) => {
                 let planned = planned(&self.locked.world, self.alloc, job, is_starved);
                 if let Planned::Plan(plan) = &planned {
+                    self.ended.see(plan);
                     self.parted = self.parted.saturating_add(u64::from(plan.parts() > 1));
                     self.idle = self.idle.saturating_add(u64::from(has_idle_part(plan)));
                 }
@@ -589,22 +600,6 @@ impl Simulation {
     }
 }
 
-// Whether an act disables the guest's controller.
-fn is_reset(act: &Act) -> bool {
-    match act {
-        Act::RegWrite { offset, value } => *offset == 0x14 && value % 2 == 0,
-        _ => false,
-    }
-}
-
-// Whether an act stores bytes in the guest's memory.
-fn is_store(act: &Act) -> bool {
-    match act {
-        Act::Store { addr: _, bytes: _ } => true,
-        _ => false,
-    }
-}
-
 // Where the planner of a guest on a lane sits.
 fn planner_at(guest: u8, lane: u8) -> usize {
     usize::from(guest) * usize::from(LANES) + usize::from(lane)
@@ -661,7 +656,8 @@ fn simulated(
         let events = simulation.locked.world.log().len();
         assert!(rt; is_right, "turn {number} behind {events} events");
         if number % CHECKED == 0 {
-            let is_noted = simulation.is_well_noted();
+            let is_noted = simulation.is_well_noted()
+                && simulation.ended.is_noted(&simulation.locked);
             assert!(rt; is_noted, "notes of turn {number} behind {events} events");
         }
         simulation.look_at_lanes();

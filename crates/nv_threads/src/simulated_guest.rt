@@ -335,3 +335,19 @@ impl Guest {
 pub(crate) fn rings(offset: u32, value: u32) -> Act {
     Act::Doorbell { offset, value }
 }
+
+/// Whether an act disables the guest's controller.
+pub(crate) fn is_reset(act: &Act) -> bool {
+    match act {
+        Act::RegWrite { offset, value } => *offset == 0x14 && value % 2 == 0,
+        _ => false,
+    }
+}
+
+/// Whether an act stores bytes in the guest's memory.
+pub(crate) fn is_store(act: &Act) -> bool {
+    match act {
+        Act::Store { addr: _, bytes: _ } => true,
+        _ => false,
+    }
+}
