@@ -6,12 +6,13 @@ use crate::bits::bit;
 use crate::concern::Concern;
 use crate::device_side::device_loop;
 use crate::gate::Gate;
+use crate::notes::Notes;
 use crate::planning::planner;
 use crate::port::Port;
 use crate::reaping::reaper;
 use crate::shared::Shared;
 use crate::simulated_guest::{Guest, entry_of, rings};
-use crate::simulated_worlds::{ONE, opened};
+use crate::simulated_worlds::{Extents, MANY, ONE, opened};
 use nv_mem::{BoxedBytes, GuestMap, NoMemory};
 use nv_model::Act;
 use nv_ns::VirtualNs;
@@ -159,6 +160,44 @@ fn expect_rings<R: Wait + Abort>(rt: &R, alloc: Global, shared: &Shared) -> Resu
 fn a_port_rings_behind_its_act(rt: HostRuntime) -> Result<(), Fail> {
     let shared = Shared::new(opened(rt.alloc(), &ONE)?);
     expect_rings(&rt, rt.alloc(), &shared)?;
+    Ok(())
+}
+
+#[test]
+fn a_reset_rings_where_commands_have_ended(rt: HostRuntime) -> Result<(), Fail> {
+    let shared = Shared::new(opened(rt.alloc(), &ONE)?);
+    shared.lock(&rt).notes.end(1, 1);
+    let reset = Act::RegWrite {
+        offset: 0x14,
+        value: 0,
+    };
+    let mut port = Port::new(rt.alloc(), 0);
+    let _reply = port.act(&rt, rt.alloc(), &shared, reset)?;
+    assert_eq!(rt; rung(&shared.bells, 1), [0, 0, 0b10, 0]);
+    Ok(())
+}
+
+/// Guests of two extents.
+const TWO: Extents = [[30, 34, 0, 0, 0, 0, 0, 0]; 3];
+
+/// Worlds, and how many tags their largest commands take.
+const SHORT: [(Extents, u32); 2] = [(TWO, 2), (MANY, 8)];
+
+// Tags of lane 1 are taken one by one: it is short while fewer are free than a command may take, but some.
+fn expect_short(rt: &impl Abort, world: &World, most: u32) {
+    let mut notes = Notes::of(world);
+    for taken in 0..=64u32 {
+        let is_short = taken != 64 && 64 - taken < most;
+        assert_eq!(rt; notes.are_short(), is_short, "{taken} taken");
+        let _tag = notes.take(world, 1, 0);
+    }
+}
+
+#[test]
+fn a_lane_is_short_of_tags(rt: HostRuntime) -> Result<(), Fail> {
+    for (extents, most) in SHORT {
+        expect_short(&rt, &opened(rt.alloc(), &extents)?, most);
+    }
     Ok(())
 }
 
