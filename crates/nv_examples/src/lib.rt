@@ -7,4 +7,5 @@ pub mod edges;
 pub mod no_replays;
 pub mod second_story;
 pub mod story;
+pub mod words;
 pub mod wrong_worlds;
