@@ -1,17 +1,27 @@
 //! Words of the promise and of the world's step, each told apart from a near one that every other example lets pass.
 
-ghost use Rattle.std.specs.Prelude.{◌≡◌, [], ◌∷◌, ◌++◌, replicate, Some, false};
+ghost use Rattle.std.specs.Prelude.{◌≡◌, [], ◌∷◌, ◌++◌, replicate, Some, false, true};
+ghost use Rattle.nv_entry.specs.StatusCode.{done_with};
+ghost use Rattle.nv_entry.specs.declared.status_code.StatusCode.TheVariants as code;
 ghost use Rattle.nv_model.specs.declared.act.Act.TheVariants as act;
 ghost use Rattle.nv_model.specs.declared.reply.Reply.TheVariants as reply;
 ghost use Rattle.nv_model.specs.Private.{ActStep, TakeStep};
-ghost use Rattle.nv_model.specs.Rows.{by_sgl, data_block, first_example};
+ghost use Rattle.nv_model.specs.Rows.{block_range, by_sgl, data_block, first_example, last_segment, manage, read_of};
+ghost use Rattle.nv_model.specs.RowsRuns.{flush_of};
+ghost use Rattle.nv_model.specs.Transcript.{Settled, Wanted};
 ghost use Rattle.nv_world_model.specs.Contained.{IsContained};
 ghost use Rattle.nv_world_model.specs.Headline.{AreContained};
+ghost use Rattle.nv_world_model.specs.Geometry.{shape_of};
+ghost use Rattle.nv_world_model.specs.Plan.{Answer, plan_over};
 ghost use Rattle.nv_world_model.specs.PrivateSteps.{seen_by, steps_done};
-ghost use Rattle.nv_world_model.specs.Rows.{behind, in_device, one_command, set_up, told, two_commands};
+ghost use Rattle.nv_world_model.specs.Rows.{behind, handed_on, host_number, in_device, moves, one_command, holding, one_command_on, set_up, told, two_commands, world_with};
 ghost use Rattle.nv_world_model.specs.RowsAlone.{both_taken, owners};
-ghost use Rattle.nv_world_model.specs.RowsShown.{first_guest, second_guest};
+ghost use Rattle.nv_world_model.specs.RowsExtents.{ends, read_over};
+ghost use Rattle.nv_world_model.specs.RowsExtents as extents;
+ghost use Rattle.nv_world_model.specs.RowsShown.{first_guest, first_shown, second_guest, span};
+ghost use Rattle.nv_world_model.specs.RowsSmall.{small_first};
 ghost use Rattle.nv_world_model.specs.RowsSteps.{how_far, logged, second_steps};
+ghost use Rattle.nv_world_model.specs.RowsWorlds.{list_in_device, list_whole, read_apart};
 ghost use Rattle.nv_world_model.specs.RowsWrong.{low_set_up, stored_unmapped, stray_block, submitted_untranslated};
 ghost use Rattle.nv_world_model.specs.Step.{replay};
 ghost use Rattle.nv_world_model.specs.declared.event.Event.TheVariants as event;
@@ -65,4 +75,53 @@ pub fn statuses()
     ensures a_media_error { behind (in_device ++ event.DevFail 0 0 (record { sct = 2; sc = 0x81; dnr = false }) ∷ []) (one_command first_example) how_far ≡ Some ([], false) }
     // and neither does the code of one that does, of another type.
     ensures the_code_of_a_difference { behind (in_device ++ event.DevFail 0 0 (record { sct = 1; sc = 0x85; dnr = false }) ∷ []) (one_command first_example) how_far ≡ Some ([], false) }
+{}
+
+/// A command of several parts is not completed while one of them is under way, although its first has ended.
+#[tactic(none)]
+pub fn parts()
+    ensures { extents.told (extents.in_device ++ ends 0 ++ event.Post 0 0 ∷ []) (extents.one_command (read_over 0x3e00)) ≡ replicate 7 reply.Done ++ reply.Stale ∷ [] }
+{}
+
+/// Bytes that stay, blocks that stay, and what is handed on.
+#[tactic(none)]
+pub fn transfers()
+    // A bounced Write gives the guest nothing: what it stored meanwhile stays.
+    ensures a_write_delivers_nothing { behind (event.Take 0 1 0 ∷ event.Submit 0 0 ∷ event.Guest 0 (act.Store 0x3002 (0x33 ∷ [])) ∷ event.DevTake 0 ∷ moves 1
+        ++ event.DevPost 0 0 ∷ event.Reap 0 ∷ event.Post 0 0 ∷ [])
+        (one_command_on 0x3002 (replicate 512 0x11) (by_sgl 0x01 5 0 (data_block 0x3002 512))) (host_number 0x103002 1) ≡ 0x33 }
+    // A direct Write leaves its bounce pages.
+    ensures a_direct_write_leaves_its_bounce_pages { behind in_device (one_command_on 0x3000 (replicate 512 0x11) (by_sgl 0x01 5 0 (data_block 0x3000 512)))
+        (host_number 0x404000 1) ≡ 0 }
+    // Two bounce pages are two entries.
+    ensures two_bounce_pages { behind in_device (one_command (by_sgl 0x02 5 15 (data_block 0x3002 8192))) handed_on ≡ 0x02 ∷ 0 ∷ 0x404000 ∷ 0x405000 ∷ 1005 ∷ 0 ∷ 15 ∷ [] }
+    // Ranges that are not to be deallocated stay.
+    ensures ranges_that_stay { behind (list_whole 0x3000 16 1) (one_command_on 0x3000 (block_range 6 1) (manage false 0 (data_block 0x3000 16))) (λ w. w.disk 1006 0) ≡ 0xee }
+    // A range of no blocks is handed on.
+    ensures a_range_of_no_blocks { behind (list_in_device 0x3000 16) (one_command_on 0x3000 (block_range 64 0) (manage true 0 (data_block 0x3000 16))) handed_on
+        ≡ 0x09 ∷ 0 ∷ 0x404000 ∷ 0 ∷ 0 ∷ 4 ∷ 0 ∷ [] }
+    // What the device has completed it holds no longer.
+    ensures completed_once { told (in_device ++ moves 1 ++ event.DevPost 0 0 ∷ event.DevPost 0 0 ∷ []) (one_command first_example) ≡ replicate 5 reply.Done ++ reply.Idle ∷ [] }
+    // A command without a list leaves its list page.
+    ensures a_list_page_without_a_list { behind in_device (one_command_on 0x303008 (7 ∷ []) first_example) (host_number 0x403008 1) ≡ 7 }
+    // A completion that is held delivers nothing of its bounced Read.
+    ensures a_held_completion_delivers_nothing { behind (event.Take 0 1 0 ∷ event.Take 0 1 0 ∷ event.Submit 0 0 ∷ event.Submit 0 1 ∷ event.DevTake 0 ∷ event.DevTake 0
+        ∷ event.DevMove 0 0 0 ∷ event.DevMove 0 1 0 ∷ event.DevPost 0 0 ∷ event.DevPost 0 1 ∷ event.Reap 0 ∷ event.Reap 0 ∷ event.Post 0 0 ∷ event.Post 0 1 ∷ [])
+        (world_with (holding 0x113000 (flush_of 1 ++ by_sgl 0x02 5 0 (data_block 0x3002 512))) 2 2 0)
+        (λ w. host_number 0x404000 1 w ∷ host_number 0x425000 1 w ∷ host_number 0x103002 1 w ∷ []) ≡ 0 ∷ 0xed ∷ 0 ∷ [] }
+    // Of a bounced Read that has succeeded and is not reaped, its completion and its blocks are shown.
+    ensures blocks_of_an_answered_read { first_shown (list_in_device 0x6000 32 ++ moves 2 ++ event.DevPost 0 0 ∷ []) (read_apart 0x3e00 0x5200)
+        ≡ span 0x402000 16 ∷ span 0x403000 0 ∷ span 0x404000 512 ∷ span 0x404200 512 ∷ [] }
+{}
+
+/// Plans, and what a private controller is given.
+#[tactic(none)]
+pub fn given()
+    // A plan wants the bytes that its verdict wants.
+    ensures what_is_wanted { plan_over first_guest (manage true 1 (data_block 0x3000 32)) [] ≡ Wanted 0x3000 32 }
+    // Its list has as many descriptors as its guest may have: not three of two.
+    ensures a_limit_of_two { plan_over (record first_guest { limit = 2 }) (by_sgl 0x02 5 1 (last_segment 0x6000 32))
+        (read_of 0x6000 (data_block 0x3000 512 ++ data_block 0x8000 512) ∷ []) ≡ Settled (Answer (done_with code.InternalError)) }
+    // A private controller has its guest's blocks.
+    ensures as_many_blocks { (shape_of small_first).blocks ≡ 2 }
 {}
