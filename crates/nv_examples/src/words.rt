@@ -10,7 +10,7 @@ ghost use Rattle.nv_model.specs.Rows.{block_range, by_sgl, data_block, first_exa
 ghost use Rattle.nv_model.specs.RowsRuns.{flush_of};
 ghost use Rattle.nv_model.specs.Transcript.{Settled, Wanted};
 ghost use Rattle.nv_world_model.specs.Contained.{IsContained};
-ghost use Rattle.nv_world_model.specs.Headline.{AreContained};
+ghost use Rattle.nv_world_model.specs.Headline.{AreContained, Headline};
 ghost use Rattle.nv_world_model.specs.Geometry.{shape_of};
 ghost use Rattle.nv_world_model.specs.Plan.{Answer, plan_over};
 ghost use Rattle.nv_world_model.specs.PrivateSteps.{seen_by, steps_done};
@@ -21,9 +21,10 @@ ghost use Rattle.nv_world_model.specs.RowsExtents as extents;
 ghost use Rattle.nv_world_model.specs.RowsShown.{first_guest, first_shown, second_guest, span};
 ghost use Rattle.nv_world_model.specs.RowsSmall.{small_first};
 ghost use Rattle.nv_world_model.specs.RowsSteps.{how_far, logged, second_steps};
-ghost use Rattle.nv_world_model.specs.RowsWorlds.{list_in_device, list_whole, read_apart};
+ghost use Rattle.nv_world_model.specs.RowsWorlds.{at_start, list_in_device, list_whole, read_apart};
 ghost use Rattle.nv_world_model.specs.RowsWrong.{low_set_up, stored_unmapped, stray_block, submitted_untranslated};
 ghost use Rattle.nv_world_model.specs.Step.{replay};
+ghost use Rattle.nv_world_model.specs.World.{with_host};
 ghost use Rattle.nv_world_model.specs.declared.event.Event.TheVariants as event;
 
 /// Whose an event is.
@@ -50,6 +51,12 @@ pub fn in_its_world()
     ensures { AreContained low_set_up
         (record { event = event.DevTake 0; reply = reply.Done } ∷ record { event = event.DevMove 0 0 0; reply = reply.Done } ∷ [])
         (submitted_untranslated low_set_up 0 0 (replay low_set_up (event.Take 0 1 0 ∷ []) (one_command (by_sgl 0x08 6 0 (data_block 0x3000 512))))).world → ⊥ }
+{}
+
+/// The promise tells where a log leads: one of no events to the world at the start, and not to one with other bytes.
+#[tactic(none)]
+pub fn where_a_log_leads()
+    ensures { Headline (record { host_bytes = 0x1000000; lanes = 1; geometry = set_up }) [] (with_host (λ _. 7) at_start) → ⊥ }
 {}
 
 /// Steps of private controllers, and what a guest that is not the first has seen.
