@@ -20,8 +20,9 @@ ghost use Rattle.nv_world_model.specs.RowsExtents.{ends, read_over};
 ghost use Rattle.nv_world_model.specs.RowsExtents as extents;
 ghost use Rattle.nv_world_model.specs.RowsShown.{first_guest, first_shown, second_guest, span};
 ghost use Rattle.nv_world_model.specs.RowsSmall.{small_first};
-ghost use Rattle.nv_world_model.specs.RowsSteps.{how_far, logged, second_steps};
-ghost use Rattle.nv_world_model.specs.RowsWorlds.{at_start, list_in_device, list_whole, read_apart};
+ghost use Rattle.nv_world_model.specs.RowsSteps.{how_far, logged, member_told, second_steps};
+ghost use Rattle.nv_world_model.specs.RowsWorlds.{at_start, list_in_device, list_whole, read_apart, two_lanes};
+ghost use Rattle.nv_world_model.specs.Seat.{members};
 ghost use Rattle.nv_world_model.specs.RowsWrong.{low_set_up, stored_unmapped, stray_block, submitted_untranslated};
 ghost use Rattle.nv_world_model.specs.Step.{replay};
 ghost use Rattle.nv_world_model.specs.World.{with_host};
@@ -88,6 +89,12 @@ pub fn statuses()
 #[tactic(none)]
 pub fn parts()
     ensures { extents.told (extents.in_device ++ ends 0 ++ event.Post 0 0 ∷ []) (extents.one_command (read_over 0x3e00)) ≡ replicate 7 reply.Done ++ reply.Stale ∷ [] }
+{}
+
+/// How far a command is that has the first tag of the second lane.
+#[tactic(none)]
+pub fn lanes()
+    ensures { behind (event.Take 0 1 1 ∷ event.Submit 1 0 ∷ []) (two_lanes first_example) (λ w. member_told (members set_up w 0 64)) ≡ Some (0 ∷ [], false) }
 {}
 
 /// Bytes that stay, blocks that stay, and what is handed on.
