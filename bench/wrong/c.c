@@ -1,6 +1,6 @@
 /* Every call of the library for C with wrong arguments: null pointers, lengths of 0, numbers far out of range, handles without a mediator, set-ups
  * that are refused. Each has to answer one of its statuses, and the mediator has to be as it was. Prints how many calls there were of each function: a
- * hundred or more, but of nvmed_free, which takes nothing but a handle. */
+ * hundred or more, those of nvmed_free on handles that hold nothing. */
 #include <stdio.h>
 #include <string.h>
 
