@@ -8,9 +8,9 @@
 # where the peak has grown by more than a thousandth, or where the last round took more than 1.05 times as long. The program is that which `rt run`
 # built in crates/nv_workloads; nothing else should run beside it.
 #
-# What the program asks for is counted by a small library in C that is preloaded, to the byte. The peak of memory is the kernel's, in whole pages of
-# what the allocator made of that: it grows by some pages as free memory is laid out anew, so the allocator is told to give none back meanwhile, and
-# a thousandth is let pass.
+# What the program asks for is counted by a small library in C that is preloaded, to the byte. The peak of memory is the kernel's, in whole pages, those of
+# code and stack among them: it grows by some pages while no more is asked for, so a thousandth is let pass, and the allocator is told to give none back
+# meanwhile.
 set -euo pipefail
 export LC_ALL=C
 
