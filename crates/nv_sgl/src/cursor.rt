@@ -1,7 +1,7 @@
 //! Where a parse of a scatter gather list stands, and how it goes on descriptor by descriptor.
 
 ghost use Rattle.std.specs.Prelude.{◌≡◌, Bool, List, false, None, Some, ◌+◌, ◌-◌, ◌*◌, ◌<◌, ◌≤◌};
-ghost use Rattle.std.specs.Prelude.{◌^◌, ◌%◌, ◌++◌, IsTrue, IfOk, OnErr, OnOk, true, length, option_to_list};
+ghost use Rattle.std.specs.Prelude.{◌^◌, ◌%◌, ◌++◌, IsTrue, IfOk, OnErr, OnOk, max, min, true, length, option_to_list};
 ghost use Rattle.nv_entry.specs.Descriptor.{address_of, kind_of, length_of};
 ghost use Rattle.nv_mem.specs.GuestMap.{mapped, all_mapped};
 ghost use Rattle.nv_mem.specs.Places.{total_len};
@@ -66,7 +66,7 @@ impl Cursor {
     // For how many descriptors there is to be room, where the bytes of `given` are there: for those of the array that may be read.
     #[inline(always)]
     fn room(&self, given: usize) -> usize
-        ensures { given ≤ result }
+        ensures { result ≡ max given (min self.now.left self.now.budget) }
     {
         given.max(self.left.min(self.budget) as usize)
     }
