@@ -3,9 +3,9 @@
 use crate::acting::{Seat, awaits};
 use crate::bench::opened;
 use crate::preparing::{brings_up, rings, stores_entry};
-use crate::running::others;
+use crate::running::{others, workers};
 use nv_model::Reply;
-use nv_threads::{Port, Shared};
+use nv_threads::{Open, Port, Shared};
 use nv_world::World;
 use nv_world_model::Event;
 use std::alloc::Global;
@@ -35,6 +35,9 @@ const READ_FOUR: [u32; 16] = [
     0,
 ];
 
+/// A heap with room for a plan.
+const HEAP: u64 = 65_536;
+
 /// What was done of both: two of the four units of each have moved.
 const UNDER_WAY: [Event; 10] = [
     Event::Take(0, 1, 0),
@@ -49,12 +52,32 @@ const UNDER_WAY: [Event; 10] = [
     Event::DevMove(0, 1, 2),
 ];
 
+/// Both are taken, and neither is planned.
+const TAKEN: [Event; 2] = [Event::Take(0, 1, 0), Event::Take(0, 1, 0)];
+
+// Whether both Reads are given.
+fn gives_reads(world: &mut World, alloc: Global) -> bool {
+    stores_entry(world, alloc, 0x1_3000, &READ_FOUR)
+        && stores_entry(world, alloc, 0x1_3040, &READ_FOUR)
+        && rings(world, alloc, 0x1008, 2)
+}
+
+// Whether both Reads come to be taken.
+fn takes_reads(world: &mut World, alloc: Global) -> bool {
+    if !gives_reads(world, alloc) {
+        return false;
+    }
+    for event in TAKEN {
+        if !matches!(world.step(alloc, event), Reply::Done) {
+            return false;
+        }
+    }
+    true
+}
+
 // Whether both Reads come to be under way.
 fn begins_to_read(world: &mut World, alloc: Global) -> bool {
-    let are_given = stores_entry(world, alloc, 0x1_3000, &READ_FOUR)
-        && stores_entry(world, alloc, 0x1_3040, &READ_FOUR)
-        && rings(world, alloc, 0x1008, 2);
-    if !are_given {
+    if !gives_reads(world, alloc) {
         return false;
     }
     for event in UNDER_WAY {
@@ -88,6 +111,32 @@ fn are_ended<R: Threads + Wait + Clock + Sync>(rt: &R, alloc: Global, world: Wor
         || others(rt, alloc, &shared),
     );
     found
+}
+
+// Whether all workers end both Reads.
+fn are_planned_and_ended<R: Threads + Wait + Clock + Sync>(
+    rt: &R,
+    alloc: Global,
+    world: World,
+) -> bool {
+    let shared = Shared::new(world);
+    let (found, _) = join(
+        rt,
+        || finds_completions(rt, alloc, &shared),
+        || workers(rt, alloc, &shared, &Open, HEAP),
+    );
+    found
+}
+
+// No command comes behind them, so the planner takes none.
+#[test]
+fn all_commands_that_were_taken_are_planned(rt: HostRuntime) -> Result<(), Fail> {
+    let alloc = rt.alloc();
+    let mut world = opened(alloc).expect(&rt, "a world");
+    assert!(rt; brings_up(&mut world, alloc));
+    assert!(rt; takes_reads(&mut world, alloc));
+    assert!(rt; are_planned_and_ended(&rt, alloc, world));
+    Ok(())
 }
 
 #[test]

@@ -235,7 +235,17 @@ impl GuestPlanner {
                 return self.take(locked, alloc, take);
             }
         }
-        Turn::Nothing
+        self.search_again()
+    }
+
+    // What is done where there is nothing to be taken up. Several commands may have been taken before the planner came, and a search ends with the
+    // first of them: the next is looked for now, until there is none.
+    fn search_again(&mut self) -> Turn {
+        if !self.thorough {
+            return Turn::Nothing;
+        }
+        self.task = Task::Search(0);
+        Turn::Done(Concern::nobody())
     }
 
     // Takes up an admin command, whose completion is the guest's to see. What it wrote may lie in an entry that waits.

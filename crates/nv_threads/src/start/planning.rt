@@ -24,6 +24,8 @@ pub(crate) struct GuestPlanner {
     queue: u16,
     // the tag that a command was found at last
     tag: u8,
+    // whether commands may be left that were taken before it came
+    thorough: bool,
     task: Task,
     share: Share,
 }
@@ -36,6 +38,7 @@ impl GuestPlanner {
             lane,
             queue: 0,
             tag: 0,
+            thorough: true,
             task: Task::Search(0),
             share: Share::new(),
         }
@@ -82,6 +85,7 @@ impl GuestPlanner {
             }
             Ok(None) => {
                 self.task = behind(looked);
+                self.thorough &= matches!(self.task, Task::Search(_));
                 Turn::Done
             }
             Err(NoMemory) => Turn::Nothing,
@@ -107,6 +111,10 @@ impl GuestPlanner {
                 self.queue = queue;
                 return self.take(world, alloc, take);
             }
+        }
+        if self.thorough {
+            self.task = Task::Search(0);
+            return Turn::Done;
         }
         Turn::Nothing
     }
