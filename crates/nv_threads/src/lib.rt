@@ -26,12 +26,18 @@ mod calls;
 mod concern;
 mod counting;
 mod device_side;
+#[cfg(test)]
+mod ending;
 mod finishing;
 mod gate;
 mod given;
+#[cfg(test)]
+mod holding;
 mod locked;
 mod mismatch;
 mod notes;
+#[cfg(test)]
+mod noting;
 mod planning;
 mod port;
 mod reaping;

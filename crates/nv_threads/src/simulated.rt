@@ -14,7 +14,7 @@ use crate::locked::{Errand, Locked};
 use crate::notes::Notes;
 use crate::planning::GuestPlanner;
 use crate::reaping::LaneReaper;
-use crate::simulated_counts::Ended;
+use crate::simulated_counts::{Ended, are_sizes_noted};
 use crate::simulated_guest::{Chance, Guest, is_reset, is_store};
 use crate::simulated_worlds::{Extents, FEW, GUESTS, LANES, MANY, ONE, most_of, opened};
 use crate::start;
@@ -583,7 +583,7 @@ impl Simulation {
             5 | 6 => phase == 1 || self.device_turn(lane, is_late),
             _ => phase == 2 || self.reaper_turn(lane, is_late),
         };
-        Ok(is_right && self.went_alike(before))
+        Ok(is_right && self.went_alike(before) && self.ended.is_noted(&self.locked.notes))
     }
 
     // One turn of some worker, by chance; whether it was what it should be.
@@ -596,7 +596,7 @@ impl Simulation {
             3 | 4 => self.device_turn(lane, true),
             _ => self.reaper_turn(lane, true),
         };
-        Ok(is_right && self.went_alike(before))
+        Ok(is_right && self.went_alike(before) && self.ended.is_noted(&self.locked.notes))
     }
 }
 
@@ -606,7 +606,7 @@ fn planner_at(guest: u8, lane: u8) -> usize {
 }
 
 // Goes on with what came of a job, as a planner does that took the lock for it: whom that concerns.
-fn go_on(planner: &mut GuestPlanner, locked: &mut Locked, planned: Planned) -> Concern {
+pub(crate) fn go_on(planner: &mut GuestPlanner, locked: &mut Locked, planned: Planned) -> Concern {
     let (task, concern) = match planned {
         Planned::Need(job, addr, len) => (Task::Read(job.tag, addr, len), Concern::nobody()),
         Planned::NoMemory(job) => (Task::GiveUp(job.tag), Concern::nobody()),
@@ -628,7 +628,7 @@ fn place_of(lane: u8, tag: u8) -> usize {
 }
 
 // What comes of a job; as where there is no memory, where it is starved or there is no such guest.
-fn planned(world: &World, alloc: Global, job: Job, is_starved: bool) -> Planned {
+pub(crate) fn planned(world: &World, alloc: Global, job: Job, is_starved: bool) -> Planned {
     let guest = job.guest;
     match (world.map(guest), world.range(guest), world.limit(guest)) {
         (Some(map), Some(ns), Some(limit)) if !is_starved => {
@@ -656,8 +656,7 @@ fn simulated(
         let events = simulation.locked.world.log().len();
         assert!(rt; is_right, "turn {number} behind {events} events");
         if number % CHECKED == 0 {
-            let is_noted = simulation.is_well_noted()
-                && simulation.ended.is_noted(&simulation.locked);
+            let is_noted = simulation.is_well_noted() && are_sizes_noted(&simulation.locked);
             assert!(rt; is_noted, "notes of turn {number} behind {events} events");
         }
         simulation.look_at_lanes();

@@ -78,17 +78,22 @@ impl Ended {
         }
     }
 
-    /// Whether it is noted on which lanes parts have ended, and of each command how many tags it has.
-    pub(crate) fn is_noted(&self, locked: &Locked) -> bool {
-        let notes = &locked.notes;
+    /// Whether it is noted on which lanes parts have ended.
+    pub(crate) fn is_noted(&self, notes: &Notes) -> bool {
         let with_ended = notes.with_ended();
-        self.lanes.iter().zip(0..LANES).all(|(ended, lane)| {
-            (with_ended & bit(lane) != 0) == (*ended != 0)
-                && (0..TAGS)
-                    .filter(|tag| notes.leaders(lane) & bit(*tag) != 0)
-                    .all(|tag| notes.size(lane, tag) == tags_of(&locked.world, lane, tag))
-        })
+        self.lanes.iter().zip(0..LANES).all(|(ended, lane)| (with_ended & bit(lane) != 0)
+            == (*ended != 0))
     }
+}
+
+/// Whether it is noted of each command how many tags it has.
+pub(crate) fn are_sizes_noted(locked: &Locked) -> bool {
+    let notes = &locked.notes;
+    (0..LANES).all(|lane| {
+        (0..TAGS)
+            .filter(|tag| notes.leaders(lane) & bit(*tag) != 0)
+            .all(|tag| notes.size(lane, tag) == tags_of(&locked.world, lane, tag))
+    })
 }
 
 // How many tags the command has that goes by this one.

@@ -1,0 +1,188 @@
+//! How many parts of a command are noted as ended once its planner is through with it.
+//!
+//! A Dataset Management has a part in each extent. Those that none of its ranges meets have ended once it is handed on, and all have where it is
+//! answered or given up.
+
+use crate::locked::Locked;
+use crate::notes::Notes;
+use crate::planning::GuestPlanner;
+use crate::simulated::{go_on, planned};
+use crate::simulated_guest::{Guest, entry_of, rings};
+use crate::simulated_worlds::{Extents, MANY, ONE, opened};
+use crate::tasks::Turn;
+use nv_mem::BoxedBytes;
+use nv_model::Act;
+use nv_world::World;
+use nv_world_model::Event;
+use std::alloc::Global;
+use std::process::Abort;
+use std::test::Fail;
+
+/// How many turns a planner has at most.
+const TURNS: u32 = 1_000;
+
+/// Guests of two extents.
+const TWO: Extents = [[30, 34, 0, 0, 0, 0, 0, 0]; 3];
+
+/// A Dataset Management of guest 0 with one range, by its first block and how many it has; whether there is no memory for its plan; and how many
+/// parts it has, and how many of them have ended behind it.
+struct Case {
+    extents: Extents,
+    start: u8,
+    count: u8,
+    is_starved: bool,
+    parts: u64,
+    ended: u64,
+}
+
+/// A range in the first extent, in the second and in both, one that leaves the namespace, and one that there is no memory to plan.
+const CASES: [Case; 8] = [
+    Case {
+        extents: TWO,
+        start: 0,
+        count: 1,
+        is_starved: false,
+        parts: 2,
+        ended: 1,
+    },
+    Case {
+        extents: TWO,
+        start: 40,
+        count: 1,
+        is_starved: false,
+        parts: 2,
+        ended: 1,
+    },
+    Case {
+        extents: TWO,
+        start: 29,
+        count: 2,
+        is_starved: false,
+        parts: 2,
+        ended: 0,
+    },
+    Case {
+        extents: TWO,
+        start: 62,
+        count: 5,
+        is_starved: false,
+        parts: 2,
+        ended: 2,
+    },
+    Case {
+        extents: TWO,
+        start: 0,
+        count: 1,
+        is_starved: true,
+        parts: 2,
+        ended: 2,
+    },
+    Case {
+        extents: MANY,
+        start: 60,
+        count: 1,
+        is_starved: false,
+        parts: 8,
+        ended: 7,
+    },
+    Case {
+        extents: MANY,
+        start: 0,
+        count: 1,
+        is_starved: true,
+        parts: 8,
+        ended: 8,
+    },
+    Case {
+        extents: ONE,
+        start: 0,
+        count: 1,
+        is_starved: false,
+        parts: 1,
+        ended: 0,
+    },
+];
+
+// Guest 0 gives a Dataset Management of one range.
+fn give(world: &mut World, alloc: Global, start: u8, count: u8) -> Result<(), Fail> {
+    let mut range = [0; 16];
+    range[4] = count;
+    range[8] = start;
+    let entry = entry_of(0x09, 1, 0x1_8000, (0, 0), [0, 4, 0]);
+    let range = Act::Store {
+        addr: 0x1_8000,
+        bytes: BoxedBytes::from_slice(alloc, &range)?,
+    };
+    let entry = Act::Store {
+        addr: 0x1_3000,
+        bytes: BoxedBytes::from_slice(alloc, &entry)?,
+    };
+    for act in [range, entry, rings(0x1008, 1)] {
+        world.step(alloc, Event::Guest(0, act));
+    }
+    Ok(())
+}
+
+// A world in which guest 0 has queue pair 1.
+fn brought_up(alloc: Global, extents: &Extents) -> Result<World, Fail> {
+    let mut world = opened(alloc, extents)?;
+    let mut acts = Vec::new(alloc);
+    Guest::new(false).bring_up(alloc, &mut acts)?;
+    for act in acts {
+        world.step(alloc, Event::Guest(0, act));
+    }
+    world.step(alloc, Event::Admin(0));
+    world.step(alloc, Event::Admin(0));
+    Ok(world)
+}
+
+// Turns of guest 0's planner on lane 0, until it has nothing to do.
+fn plan(locked: &mut Locked, alloc: Global, is_starved: bool) {
+    let mut planner = GuestPlanner::new(0, 0);
+    for _turn in 0..TURNS {
+        match planner.turn(locked, alloc) {
+            Turn::Job(job) => {
+                let planned = planned(&locked.world, alloc, job, is_starved);
+                let _concern = go_on(&mut planner, locked, planned);
+            }
+            Turn::Done(_concern) => {}
+            Turn::Nothing => return,
+        }
+    }
+}
+
+// So many parts are noted as ended, no more and no fewer: with the others and one of another command, which is posted behind this one, one is left
+// and then none.
+fn expect_ended(rt: &impl Abort, notes: &mut Notes, case: &Case) {
+    let others = case.parts.saturating_sub(case.ended);
+    assert_eq!(rt; notes.size(0, 0), case.parts);
+    notes.end(0, others.saturating_add(1));
+    let _concern = notes.post(0, 0);
+    assert!(rt;
+        notes.has_ended(0),
+        "too few of {} in {}",
+        case.ended,
+        case.parts
+    );
+    let _concern = notes.post(0, 63);
+    assert!(rt;
+        !notes.has_ended(0),
+        "too many of {} in {}",
+        case.ended,
+        case.parts
+    );
+}
+
+#[test]
+fn parts_that_are_no_commands_have_ended(rt: HostRuntime) -> Result<(), Fail> {
+    let alloc = rt.alloc();
+    for case in &CASES {
+        let mut world = brought_up(alloc, &case.extents)?;
+        give(&mut world, alloc, case.start, case.count)?;
+        let notes = Notes::of(&world);
+        let mut locked = Locked { world, notes };
+        plan(&mut locked, alloc, case.is_starved);
+        expect_ended(&rt, &mut locked.notes, case);
+    }
+    Ok(())
+}
