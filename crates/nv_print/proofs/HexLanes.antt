@@ -1,14 +1,16 @@
 -- Bytes as the lanes of a vector, and their digits
-use Rattle.std.proofs.Common.{◌≡◌, ℕ, ◌+◌, ◌*◌, ◌/◌, ◌%◌, ◌^◌, ◌-◌, ◌≤◌, true}
-use Rattle.std.proofs.Common.{cond, eqb, ltb, List, [], ◌∷◌, ◌++◌, bit_and, drop, length, map, replicate}
+use Rattle.std.proofs.Common.{◌≡◌, ℕ, ◌+◌, ◌*◌, ◌/◌, ◌%◌, ◌^◌, ◌-◌, ◌<◌, ◌≤◌, true}
+use Rattle.std.proofs.Common.{cond, eqb, ltb, List, [], ◌∷◌, ◌++◌, bit_and, drop, get_or, length, map, replicate}
 use Rattle.std.proofs.Common.{slice_index, take, Fits, w8, refl, sym, ap, ap₂, ◌∙◌, arith}
 use Rattle.std.proofs.lemmas.Bool.{agree_below_at, eqb-true}
 use Rattle.std.proofs.lemmas.List.{append-nil, drop_all, length-drop, drop-take, take-append-drop, take-take, take_all}
-use Rattle.std.proofs.lemmas.Simd.{length-chunk, take_more_put_chunk}
+use Rattle.std.proofs.lemmas.Nat.{and_le_r}
+use Rattle.std.proofs.lemmas.Simd.{Each1-all, Each1-weaker, Each1-zip2, Each2-splat, below_from_Fits, length-chunk, length-zip2, take_more_put_chunk, swz_l, SwzOk, SwzOk-from_below}
 use Rattle.hex.proofs.HexLemmas.{length-encode_with}
 use Rattle.hex.specs.Hex.{encode_lower, encode_with, lower_digits}
 use Rattle.nv_print.proofs.Growing.{encode_with-append}
 use borrow.Rule.Slice.PartMut.{put_mid}
+use mir.Val.{zeroes}
 use lib.Lanes.{Each1, chunk, pick_l, put_chunk, top, zip2}
 
 -- the digit that a lane makes of a value below 16
@@ -36,6 +38,53 @@ eight_bytes (a ∷ b ∷ c ∷ d ∷ e ∷ f ∷ g ∷ h ∷ []) long fits =
     (two_digits e _ _ fits.1.1.1.1.0 (two_digits f _ _ fits.1.1.1.1.1.0 (two_digits g _ _ fits.1.1.1.1.1.1.0
     (two_digits h _ _ fits.1.1.1.1.1.1.1.0 refl)))))))
 eight_bytes v long fits = absurd (omega arith)
+
+-- the digit that is looked up at a value below 16
+abbrev looked : ℕ → ℕ
+looked value = cond (zeroes 16 w8 value) 0 (get_or lower_digits (0 + value) 0)
+
+-- the two digits of a byte that are looked up, in front of others
+two_looked : (b : ℕ) (xs ys : List ℕ) → Fits w8 b → xs ≡ ys
+    → looked (b / 2 ^ 4) ∷ looked (bit_and b 15) ∷ xs ≡ slice_index lower_digits (b / 16) ∷ slice_index lower_digits (b % 16) ∷ ys
+two_looked b xs ys fits same =
+    let high = eqb-true _ _ (agree_below_at (λ x. eqb (looked (x / 2 ^ 4)) (slice_index lower_digits (x / 16))) (λ _. true) 256 b refl fits.fits) in
+    let low = eqb-true _ _ (agree_below_at (λ x. eqb (looked (bit_and x 15)) (slice_index lower_digits (x % 16))) (λ _. true) 256 b refl fits.fits) in
+    (λ i. high i ∷ low i ∷ same i)
+
+-- the places of a vector of sixteen digits that are looked at: the high halves of all bytes, and the low ones
+abbrev pub high_half : List ℕ → List ℕ
+high_half v = zip2 (λ a b. a / 2 ^ b) v (replicate 16 4)
+
+abbrev pub low_half : List ℕ → List ℕ
+low_half v = zip2 bit_and v (replicate 16 15)
+
+-- both are places of that vector
+pub high_within : (v : List ℕ) → length v ≡ 16 → Each1 (Fits w8) v → SwzOk w8 16 16 0 (high_half v)
+high_within v long fits =
+    let small = Each1-weaker (λ a. a < 256) (λ a. a / 16 < 16) (λ a h. omega arith) v (below_from_Fits w8 v fits) in
+    SwzOk-from_below w8 16 1 16 0 (high_half v) refl (omega (arith, length-zip2 (λ a b. a / 2 ^ b) v (replicate 16 4) long))
+    (Each1-zip2 (λ a b. a / 2 ^ b) (λ j. j < 16) v (replicate 16 4) (Each2-splat (λ a b. a / 2 ^ b < 16) v 16 4 small))
+
+pub low_within : (v : List ℕ) → length v ≡ 16 → SwzOk w8 16 16 0 (low_half v)
+low_within v long =
+    let small = Each1-all (λ a. bit_and a 15 < 16) (λ a. omega (arith, and_le_r a 15)) v in
+    SwzOk-from_below w8 16 1 16 0 (low_half v) refl (omega (arith, length-zip2 bit_and v (replicate 16 15) long))
+    (Each1-zip2 bit_and (λ j. j < 16) v (replicate 16 15) (Each2-splat (λ a b. bit_and a b < 16) v 16 15 small))
+
+-- the digits of a vector of sixteen bytes
+pub sixteen_bytes : (v : List ℕ) → length v ≡ 16 → Each1 (Fits w8) v
+    → pick_l 0 (swz_l w8 16 lower_digits 0 (high_half v) ++ swz_l w8 16 lower_digits 0 (low_half v))
+    (0 ∷ 16 ∷ 1 ∷ 17 ∷ 2 ∷ 18 ∷ 3 ∷ 19 ∷ 4 ∷ 20 ∷ 5 ∷ 21 ∷ 6 ∷ 22 ∷ 7 ∷ 23 ∷ 8 ∷ 24 ∷ 9 ∷ 25 ∷ 10 ∷ 26 ∷ 11 ∷ 27 ∷ 12 ∷ 28 ∷ 13 ∷ 29 ∷ 14 ∷ 30 ∷ 15 ∷ 31 ∷ [])
+    ≡ encode_lower v
+unfolding encode_with
+sixteen_bytes (a ∷ b ∷ c ∷ d ∷ e ∷ f ∷ g ∷ h ∷ i ∷ j ∷ k ∷ l ∷ m ∷ n ∷ o ∷ p ∷ []) long fits =
+    let behind = fits.1.1.1.1.1.1.1.1 in
+    two_looked a _ _ fits.0 (two_looked b _ _ fits.1.0 (two_looked c _ _ fits.1.1.0 (two_looked d _ _ fits.1.1.1.0
+    (two_looked e _ _ fits.1.1.1.1.0 (two_looked f _ _ fits.1.1.1.1.1.0 (two_looked g _ _ fits.1.1.1.1.1.1.0
+    (two_looked h _ _ fits.1.1.1.1.1.1.1.0 (two_looked i _ _ behind.0 (two_looked j _ _ behind.1.0 (two_looked k _ _ behind.1.1.0
+    (two_looked l _ _ behind.1.1.1.0 (two_looked m _ _ behind.1.1.1.1.0 (two_looked n _ _ behind.1.1.1.1.1.0
+    (two_looked o _ _ behind.1.1.1.1.1.1.0 (two_looked p _ _ behind.1.1.1.1.1.1.1.0 refl)))))))))))))))
+sixteen_bytes v long fits = absurd (omega arith)
 
 pub four_bytes : (v : List ℕ) → length v ≡ 4 → Each1 (Fits w8) v
     → map digit (pick_l 0 (halves 4 v) (0 ∷ 4 ∷ 1 ∷ 5 ∷ 2 ∷ 6 ∷ 3 ∷ 7 ∷ [])) ≡ encode_lower v

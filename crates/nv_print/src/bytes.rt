@@ -36,22 +36,22 @@ pub fn end_line<W: Write>(output: &mut W) -> Result<(), CannotWrite>
 pub fn print_bytes<W: Write>(bytes: &[u8], output: &mut W) -> Result<(), CannotWrite>
     ensures { OnOk result (Appends (W.contents output.old) (W.contents output.new) (encode_lower bytes.now)) }
 {
+    let mut room = [0; 2 * CHUNK];
     let mut left = bytes;
     while !left.is_empty() {
         let (chunk, rest) = left.split_at(left.len().min(CHUNK));
-        print_chunk(chunk, output)?;
+        print_chunk(chunk, &mut room, output)?;
         left = rest;
     }
     Ok(())
 }
 
-// Prints a few bytes as hexadecimal digits.
-fn print_chunk<W: Write>(bytes: &[u8], output: &mut W) -> Result<(), CannotWrite>
-    requires { length bytes.now ≤ CHUNK }
+// Prints a few bytes as hexadecimal digits, for which there is room.
+fn print_chunk<W: Write>(bytes: &[u8], room: &mut [u8], output: &mut W) -> Result<(), CannotWrite>
+    requires { 2 * length bytes.now ≤ length room.old }
     ensures { OnOk result (Appends (W.contents output.old) (W.contents output.new) (encode_lower bytes.now)) }
 {
-    let mut digits = [0; 2 * CHUNK];
-    let digits = &mut digits[..2 * bytes.len()];
+    let digits = &mut room[..2 * bytes.len()];
     write_hex(bytes, digits);
     print_text(digits, output)
 }

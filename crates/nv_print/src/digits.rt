@@ -4,6 +4,28 @@ ghost use Rattle.hex.specs.Hex.{encode_lower};
 
 use std::simd::prelude::*;
 
+/// The digits of the numbers below sixteen.
+const DIGITS: [u8; 16] = [
+    b'0', b'1', b'2', b'3', b'4', b'5', b'6', b'7', b'8', b'9', b'a', b'b', b'c', b'd', b'e', b'f',
+];
+
+// The digits of sixteen bytes. Each is looked up in a vector of all sixteen digits: that takes one operation, and to reckon it takes three.
+#[inline(always)]
+fn sixteen(bytes: u8x16) -> u8x32
+    ensures { result ≡ encode_lower bytes }
+{
+    let digits = u8x16::from_array(DIGITS);
+    let high = digits.swizzle_dyn_within::<16>(bytes >> u8x16::splat(4));
+    let low = digits.swizzle_dyn_within::<16>(bytes & u8x16::splat(15));
+    high.shuffle::<32>(
+        low,
+        [
+            0, 16, 1, 17, 2, 18, 3, 19, 4, 20, 5, 21, 6, 22, 7, 23, 8, 24, 9, 25, 10, 26, 11, 27,
+            12, 28, 13, 29, 14, 30, 15, 31,
+        ],
+    )
+}
+
 // The digits of eight bytes.
 #[inline(always)]
 fn eight(bytes: u8x8) -> u8x16
@@ -30,13 +52,19 @@ fn four(bytes: u8x4) -> u8x8
 
 /// Writes the digits of bytes into a place of their length.
 ///
-/// Eight bytes at a time are written by operations on vectors, and four where so many are left; what is left then is written by `hex`.
+/// Sixteen bytes at a time are written by operations on vectors, and eight and four where so many are left; what is left then is written
+/// by `hex`.
 pub fn write_hex(bytes: &[u8], digits: &mut [u8])
     requires { length digits.old ≡ 2 * length bytes.now }
     ensures { digits.new ≡ encode_lower bytes.now }
 {
     let mut done = 0;
-    'eights: while bytes.len() - done >= 8 {
+    'sixteens: while bytes.len() - done >= 16 {
+        let block = sixteen(u8x16::from_slice(&bytes[done..]));
+        block.copy_to_slice(&mut digits[2 * done..]);
+        done += 16;
+    }
+    if bytes.len() - done >= 8 {
         let block = eight(u8x8::from_slice(&bytes[done..]));
         block.copy_to_slice(&mut digits[2 * done..]);
         done += 8;
