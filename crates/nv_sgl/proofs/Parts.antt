@@ -1,15 +1,20 @@
 -- Lemmas on the reading of a part of an array.
-use Rattle.std.proofs.Common.{◌≡◌, ℕ, zero, suc, ◌+◌, ◌-◌, ◌%◌, ◌<◌, ◌≤◌, Bool, true, false, List, [], ◌∷◌, ◌++◌, length, take, drop, ◌&&◌, nat_lt, Option}
-use Rattle.std.proofs.Common.{Some, None, is_none, arith, refl, sym, ◌∙◌, ap, subst, append_assoc, append-nil}
+use Rattle.std.proofs.Common.{◌≡◌, ℕ, zero, suc, ◌+◌, ◌-◌, ◌*◌, ◌^◌, ◌%◌, ◌<◌, ◌≤◌, Bool, true, false, List, [], ◌∷◌, ◌++◌, length, take, drop, ◌&&◌, nat_lt, Option}
+use Rattle.std.proofs.Common.{Some, None, is_none, not, cond, eqb-true, zero-add, ◌==◌, arith, refl, sym, ◌∙◌, ap, ap₂, subst, append_assoc, append-nil}
 use Rattle.std.proofs.lemmas.Bool.Decides.{nat_tests}
 use Rattle.std.proofs.lemmas.List.{flat_map_more, length-drop}
 use Rattle.std.proofs.lemmas.List.Sums.{sum_by-append}
-use Rattle.nv_entry.specs.Descriptor.{kind_of}
+use Rattle.nv_entry.specs.Descriptor.{address_of, kind_of, length_of}
+use Rattle.nv_entry.specs.declared.descriptor_type.DescriptorType.{DescriptorType}
+use Rattle.nv_entry.specs.declared.descriptor_type.DescriptorType.TheVariants.{DataBlock}
 use Rattle.nv_entry.specs.declared.status_code.StatusCode.{StatusCode}
+use Rattle.nv_entry.specs.declared.status_code.StatusCode.TheVariants.{DataTransferError}
+use Rattle.nv_mem.specs.GuestMap.{everywhere}
 use Rattle.nv_mem.specs.Places.{piece_len, total_len}
 use Rattle.nv_mem.specs.declared.piece.Piece.{Piece}
+use Rattle.nv_mem.specs.declared.piece.Piece.TheVariants.{Run}
 use Rattle.nv_model.specs.Dialogue.{Dialogue}
-use Rattle.nv_model.specs.Reading.{Reading, unless_faulty}
+use Rattle.nv_model.specs.Reading.{Reading, first_failing, run, unless_faulty}
 use Rattle.nv_model.specs.Sgl.{Array, array_by, fault_by, pieces_by, read_array, read_descriptor}
 use Rattle.nv_sgl.specs.Chain.{pieces_of}
 use Rattle.nv_sgl.specs.Cursor.{array_at, is_asking, reading_from, IsInRange, NamesPart, ReadsPart, StandsBehind}
@@ -205,6 +210,58 @@ Progress-next mapped dest start bytes those now rest these skipped next d more n
     let P : List ℕ → Type 0 = λ l. Progress mapped dest start bytes those next l news in
     let Q : List (List ℕ) → Type 0 = λ l. Progress mapped dest start bytes those next (drop 16 rest) l in
     subst P (sym is_rest) (subst Q (sym news_first) (Progress-step mapped dest start bytes those now rest these next progress asking some behind_first in_range))
+
+-- the cursor behind so many Data Blocks that are mapped, where so many bytes are named until there
+abbrev pub behind_blocks : Cursor → ℕ → ℕ → Cursor
+behind_blocks c count total = record c { from = c.from + 16 * count; left = c.left - count; budget = c.budget - count; total = total }
+
+-- how many bytes a Data Block names
+run-total : (addr len : ℕ) → total_len (run addr len) ≡ len
+run-total addr len =
+    (elim (len == 0) as (λ b. (len == 0) ≡ b → total_len (cond b [] (Run addr len ∷ [])) ≡ len) [
+      | true ↦ λ is. sym (eqb-true len 0 is)
+      | false ↦ λ is. zero-add len
+    ]) refl
+
+-- one Data Block further
+blocks-behind : (mapped : ℕ → Bool) (dest : Bool) (c : Cursor) (count total : ℕ) (d : List ℕ)
+    → c.fault ≡ None → kind_of d ≡ Some DataBlock → everywhere mapped (address_of d) (length_of d) ≡ true
+    → StandsBehind mapped dest (past (behind_blocks c count total)) d (behind_blocks c (count + 1) (total + length_of d))
+blocks-behind mapped dest c count total d sound kind holds =
+    let rest : Array = array_at (past (behind_blocks c count total)) in
+    record {
+      fault =
+          sound
+          ∙ sym (ap (λ (k : Option DescriptorType). fault_by k mapped rest d) kind
+          ∙ ap (λ (b : Bool). first_failing ((not b, DataTransferError) ∷ [])) holds);
+      array = λ none.
+          ap₂ (λ (from left : ℕ). let a : Array = record { from = from; left = left; by_last = c.by_last } in a) (omega arith) (omega arith)
+          ∙ sym (ap (λ (k : Option DescriptorType). array_by k rest d) kind);
+      budget = omega arith;
+      total = ap (λ (n : ℕ). total + n) (sym (ap (λ (k : Option DescriptorType). total_len (pieces_by k dest d)) kind ∙ run-total (address_of d) (length_of d)));
+    }
+
+-- the cursor still asks
+blocks-asks : (c : Cursor) (count total : ℕ) → c.fault ≡ None → count < c.left → count < c.budget → is_asking (behind_blocks c count total) ≡ true
+blocks-asks c count total sound left budget = rw sound (grind (arith, nat_tests))
+
+-- one Data Block further, in the names of the code
+pub Progress-block : (mapped : ℕ → Bool) (dest : Bool) (start : Cursor) (bytes : List ℕ) (those : List (List ℕ)) (count total : ℕ)
+    (rest : List ℕ) (these : List (List ℕ)) (d more : List ℕ) (news : List (List ℕ))
+    → Progress mapped dest start bytes those (behind_blocks start count total) rest these → start.fault ≡ None → count < start.left → count < start.budget
+    → 16 ≤ length rest → length_of d < 2 ^ 32
+    → d ≡ take 16 rest → more ≡ drop 16 rest → news ≡ these ++ d ∷ []
+    → kind_of d ≡ Some DataBlock → everywhere mapped (address_of d) (length_of d) ≡ true
+    → Progress mapped dest start bytes those (behind_blocks start (count + 1) (total + length_of d)) more news
+Progress-block mapped dest start bytes those count total rest these d more news progress sound left budget some fits is_first is_rest is_more kind holds =
+    let array = progress.in_range.array in
+    let room = progress.in_range.total in
+    Progress-next
+    mapped dest start bytes those (behind_blocks start count total) rest these (past (behind_blocks start count total))
+    (behind_blocks start (count + 1) (total + length_of d)) d more news
+    progress (blocks-asks start count total sound left budget) some refl is_first is_rest is_more
+    (blocks-behind mapped dest start count total d sound kind holds)
+    (record { array = omega arith; total = omega arith })
 
 -- ---- the same where the pieces alone are kept
 

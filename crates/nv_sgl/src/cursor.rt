@@ -117,6 +117,36 @@ impl Cursor {
         self.budget -= 1;
     }
 
+    // How many descriptors may be read of the array.
+    #[inline(always)]
+    fn most(&self) -> u32
+        ensures left { result ≤ self.now.left }
+        ensures budget { result ≤ self.now.budget }
+        ensures fault { 0 < result → self.now.fault ≡ None }
+    {
+        match self.fault {
+            Some(_) => 0,
+            None => self.left.min(self.budget),
+        }
+    }
+
+    // Behind so many descriptors more, all Data Blocks that are mapped, where `total` bytes are named until there.
+    #[inline(always)]
+    fn behind_blocks(self, count: u32, total: u64) -> Self
+        requires left { count ≤ self.left }
+        requires budget { count ≤ self.budget }
+        requires in_range { self.from + 16 * self.left ≤ 2 ^ 64 }
+        ensures { result ≡ record self { from = self.from + 16 * count; left = self.left - count; budget = self.budget - count; total = total } }
+    {
+        Cursor {
+            from: self.from + 16 * u128::from(count),
+            left: self.left - count,
+            budget: self.budget - count,
+            total,
+            ..self
+        }
+    }
+
     /// Looks at `d`, behind which `self` is.
     #[inline(always)]
     pub fn look_at(&mut self, map: &GuestMap, dest: bool, d: &Descriptor)
@@ -311,9 +341,27 @@ pub fn read_part<A: Allocator>(
     ensures err { OnErr result (blocks.new.items ≡ blocks.old.items) }
 {
     blocks.try_reserve(cursor.room(bytes.len() / 16))?;
-    let mut cursor = cursor;
+    // The front of most arrays is Data Blocks. Nothing is counted there but how many they are and how many bytes they name, so that the loop
+    // stays in registers.
+    let most = cursor.most();
+    let mut count = 0;
+    let mut total = cursor.total;
     let mut rest = bytes;
-    while cursor.is_asking() {
+    'front: while count < most {
+        let Some((own, more)) = rest.split_first_chunk::<16>() else {
+            break;
+        };
+        let d = Descriptor::of(own);
+        if !is_mapped_block(map, &d) {
+            break;
+        }
+        total += u64::from(d.length());
+        count += 1;
+        blocks.push_reserved(d);
+        rest = more;
+    }
+    let mut cursor = cursor.behind_blocks(count, total);
+    'others: while cursor.is_asking() {
         let Some((own, more)) = rest.split_first_chunk::<16>() else {
             break;
         };
@@ -324,6 +372,18 @@ pub fn read_part<A: Allocator>(
         rest = more;
     }
     Ok(cursor)
+}
+
+// Whether a descriptor is a Data Block whose bytes are all mapped.
+#[inline(always)]
+fn is_mapped_block(map: &GuestMap, d: &Descriptor) -> bool
+    ensures kind { IsTrue result → kind_of d.now ≡ Some DescriptorType.DataBlock }
+    ensures mapped { IsTrue result → all_mapped map.now.regions (address_of d.now) (length_of d.now) ≡ true }
+{
+    match d.kind() {
+        Some(DescriptorType::DataBlock) => map.holds(d.address(), u64::from(d.length())),
+        _ => false,
+    }
 }
 
 /// Adds the piece that a descriptor names, where it names bytes of the transfer.
