@@ -70,8 +70,8 @@ impl Core {
             return Ok((Reply::Ignored, None));
         }
         let shown = seat::read_bytes(alloc, given, addr, len, &self.host)?;
-        let again = seat::read_bytes(alloc, given, addr, len, &self.host)?;
-        let kept = seat::read_bytes(alloc, given, addr, len, &self.host)?;
+        let again = Bytes::from_slice(alloc, shown.as_slice())?;
+        let kept = Bytes::from_slice(alloc, shown.as_slice())?;
         let ring = &mut self.lanes[at];
         ring.push_read(tag, ReadDone::new(addr, kept))?;
         Ok((Reply::Bytes(shown), Some(again)))

@@ -84,24 +84,12 @@ returns-clause-ok c =
     list-done c.args.layout.now s c.args.self.now c.args.lane c.args.tag c.args.addr c.args.len t c.in-Some-guest.given.now of there
     c.from-at.result c.index_mut-ring.result.now c.push_read.new.self c.in_ok-shown.shown c.in_ok-kept.kept c.self.view_is c.from-at.ensures c.index_mut-ring.ensures.value
     (held-is c.map-map.result.now c.in-Some-guest.given.now c.args.addr c.args.len c.args.len c.holds.result true c.map-map.ensures refl c.holds.ensures.value c.if-not-holds.false)
-    (sym c.is_part.ensures ∙ c.if-not-is_part.false) c.in_ok-shown.ensures.ok c.in_ok-kept.ensures.ok
+    (sym c.is_part.ensures ∙ c.if-not-is_part.false) c.in_ok-shown.ensures.ok (c.in_ok-kept.ensures ∙ c.as_slice-2.ensures ∙ c.in_ok-shown.ensures.ok)
     (λ command reads held. c.in_ok-push_read.ensures.ok command reads held
     ∙ ap (λ (r : ReadDone). tag_changed c.args.tag (Taken command (reads ++ r ∷ [])) c.index_mut-ring.result.now) c.new.ensures)
 
 pub read_bytes-requires-clause-host : goal.read_bytes-requires-clause-host
 read_bytes-requires-clause-host c =
-    let s : State = record { host = c.self.inside.host; device = c.self.inside.device; lanes = c.self.inside.lanes.items; controllers = c.self.inside.controllers.items } in
-    made-for c.args.layout.now s c.args.self.now c.claimed.result.now.guest c.in-Some-guest.given.now c.in-Some-guest.given.now.memory_map c.self.view_is
-    c.requires c.in-Some-guest.ensures refl
-
-pub read_bytes-requires-2-clause-host : goal.read_bytes-requires-2-clause-host
-read_bytes-requires-2-clause-host c =
-    let s : State = record { host = c.self.inside.host; device = c.self.inside.device; lanes = c.self.inside.lanes.items; controllers = c.self.inside.controllers.items } in
-    made-for c.args.layout.now s c.args.self.now c.claimed.result.now.guest c.in-Some-guest.given.now c.in-Some-guest.given.now.memory_map c.self.view_is
-    c.requires c.in-Some-guest.ensures refl
-
-pub read_bytes-requires-3-clause-host : goal.read_bytes-requires-3-clause-host
-read_bytes-requires-3-clause-host c =
     let s : State = record { host = c.self.inside.host; device = c.self.inside.device; lanes = c.self.inside.lanes.items; controllers = c.self.inside.controllers.items } in
     made-for c.args.layout.now s c.args.self.now c.claimed.result.now.guest c.in-Some-guest.given.now c.in-Some-guest.given.now.memory_map c.self.view_is
     c.requires c.in-Some-guest.ensures refl
