@@ -8,3 +8,4 @@ pub mod Breaches
 pub mod WrongWorlds
 pub mod SecondStory
 pub mod Edges
+pub mod Twice

@@ -10,6 +10,7 @@ pub mod story;
 pub mod words;
 pub mod words_of_commands;
 pub mod words_of_entries;
+pub mod words_of_maps;
 pub mod words_of_parts;
 pub mod words_of_worlds;
 pub mod wrong_worlds;

@@ -9,7 +9,8 @@ ghost use Rattle.nv_model.specs.Judge.{MoveBlock};
 ghost use Rattle.nv_model.specs.Private.{Ended};
 ghost use Rattle.nv_model.specs.Rows.{first_example};
 ghost use Rattle.nv_world_model.specs.Contained.{given_to};
-ghost use Rattle.nv_world_model.specs.Headline.{none_failed};
+ghost use Rattle.nv_world_model.specs.Headline.{Headline, none_failed};
+ghost use Rattle.nv_examples.specs.Twice.{behind_it, second_stores, twice};
 ghost use Rattle.nv_world_model.specs.Rows.{behind, host_number, in_device, one_command, set_up, two_commands, whole};
 ghost use Rattle.nv_world_model.specs.RowsShown.{first_guest, second_guest, span};
 ghost use Rattle.nv_world_model.specs.RowsSteps.{logged, member_told};
@@ -67,4 +68,12 @@ pub fn cut_off()
     ensures behind_two { cut_pieces 768 256 (piece.Run 0x3000 512 ∷ piece.Run 0x5000 512 ∷ []) ≡ piece.Run 0x3300 0 ∷ piece.Run 0x5100 256 ∷ [] }
     ensures over_two { cut_pieces 256 512 (piece.Run 0x3000 512 ∷ piece.Run 0x5000 512 ∷ []) ≡ piece.Run 0x3100 256 ∷ piece.Run 0x5000 256 ∷ [] }
     ensures unit { unit_behind 1 (MoveBlock 1 5) ≡ MoveBlock 0 5 }
+{}
+
+/// What is promised of a log: where two guests have the same memory, the second's store is in what the first has, and no such store is in the
+/// first's private run; and it is not contained.
+#[tactic(none)]
+pub fn promised()
+    ensures by_its_run { Headline twice second_stores behind_it → ⊥ }
+    ensures by_containment { Headline twice second_stores behind_it → ⊥ }
 {}
