@@ -157,9 +157,9 @@ PRINT = [
     ("p7", "nv_print", "src/bytes.rt", "    let mut left = bytes;", "    let mut left = &bytes[bytes.len() % CHUNK..];"),
     ("p8", "nv_print", "src/bytes.rt", "    while !left.is_empty() {", "    while left.len() >= CHUNK {"),
     ("p9", "nv_print", "src/bytes.rt", "    while !left.is_empty() {", "    while left.len() > 1 {"),
-    ("p10", "nv_print", "src/bytes.rt", "        print_chunk(chunk, output)?;", "        print_chunk(&chunk[1..], output)?;"),
-    ("p11", "nv_print", "src/bytes.rt", "        print_chunk(chunk, output)?;", "        print_chunk(&chunk[..chunk.len().min(511)], output)?;"),
-    ("p12", "nv_print", "src/bytes.rt", "        print_chunk(chunk, output)?;", "        print_chunk(&bytes[..bytes.len().min(chunk.len())], output)?;"),
+    ("p10", "nv_print", "src/bytes.rt", "        print_chunk(chunk, &mut room, output)?;", "        print_chunk(&chunk[1..], &mut room, output)?;"),
+    ("p11", "nv_print", "src/bytes.rt", "        print_chunk(chunk, &mut room, output)?;", "        print_chunk(&chunk[..chunk.len().min(511)], &mut room, output)?;"),
+    ("p12", "nv_print", "src/bytes.rt", "        print_chunk(chunk, &mut room, output)?;", "        print_chunk(&bytes[..bytes.len().min(chunk.len())], &mut room, output)?;"),
     ("p13", "nv_print", "src/bytes.rt", "        let (chunk, rest) = left.split_at(left.len().min(CHUNK));", "        let (rest, chunk) = left.split_at(left.len() - left.len().min(CHUNK));"),
     ("p14", "nv_print", "src/bytes.rt", "        left = rest;", "        left = &rest[rest.len().min(1)..];"),
     ("p15", "nv_print", "src/bytes.rt", "    print_text(digits, output)\n", "    print_text(&digits[..bytes.len()], output)\n"),
@@ -221,11 +221,18 @@ PRINT = [
     ("p65", "nv_print", "src/bytes.rt", "        Ok(()) => Ok(()),", "        Ok(()) => Err(CannotWrite),"),
     ("p66", "nv_print", "src/bytes.rt", "        return print_text(b\"-\\n\", output);", "        return Err(CannotWrite);"),
     ("p67", "nv_print", "src/bytes.rt", "        left = rest;\n    }\n    Ok(())", "        left = rest;\n    }\n    if bytes.len() > 4096 {\n        return Err(CannotWrite);\n    }\n    Ok(())"),
+    # sixteen bytes at once
+    ("p68", "nv_print", "src/digits.rt", "(bytes & u8x16::splat(15))", "(bytes & u8x16::splat(7))"),
+    ("p69", "nv_print", "src/digits.rt", "            0, 16, 1, 17, 2,", "            16, 0, 1, 17, 2,"),
+    ("p70", "nv_print", "src/digits.rt", "b'd', b'e', b'f',", "b'd', b'f', b'e',"),
+    ("p71", "nv_print", "src/digits.rt", "        done += 16;", "        done += 15;"),
+    ("p72", "nv_print", "src/digits.rt", "        let block = sixteen(u8x16::from_slice(&bytes[done..]));", "        let block = sixteen(u8x16::from_slice(&bytes[done / 2..]));"),
+    ("p73", "nv_print", "src/bytes.rt", "    let digits = &mut room[..2 * bytes.len()];", "    let digits = &mut room[bytes.len()..];"),
     # the same, in another way: the check proves these
     ("same-0", "nv_print", "src/bytes.rt", "    write_hex(bytes, digits);\n    print_text", "    write_hex(&bytes[..digits.len() / 2], digits);\n    print_text"),
     ("same-1", "nv_print", "src/bytes.rt", "    if bytes.len() <= SHORT {", "    if bytes.len() < SHORT {"),
     ("same-2", "nv_print", "src/digits.rt", "    let low = bytes & u8x4::splat(15);", "    let low = bytes & u8x4::splat(0x0f);"),
-    ("same-3", "nv_print", "src/digits.rt", "    'eights: while bytes.len() - done >= 8 {", "    'eights: while bytes.len() - done > 8 {"),
+    ("same-3", "nv_print", "src/digits.rt", "    'sixteens: while bytes.len() - done >= 16 {", "    'sixteens: while bytes.len() - done > 16 {"),
 ]
 
 # of a script of `run`
