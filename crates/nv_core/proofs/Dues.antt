@@ -15,6 +15,7 @@ use Rattle.nv_core.proofs.Reaps.{slice_get-or}
 use Rattle.nv_core.proofs.Takes.{take-step}
 use Rattle.nv_device.specs.Physical.{has_ended, has_left, held_at, is_over, lane_of, no_lane}
 use Rattle.nv_device.specs.Taking.{waits}
+use Rattle.nv_device.specs.Units.{IsLowest}
 use Rattle.nv_entry.specs.Status.{StatusField}
 use Rattle.nv_entry.specs.Submission.{cid_of}
 use Rattle.nv_laws_sound.proofs.Lists.{some-same}
@@ -110,6 +111,11 @@ module _ (geometry : Geometry) (s : State) (is : IsOf geometry s) (lane : ℕ) (
             due-by geometry (event.DevPost lane slot) (world_of s) (posts h a.sides.d) (some-held geometry s is lane slot posts h a)
             ∙ over-done h.left h a.sides.d
             ∙ sym (ap has_ended e)
+
+-- the lowest of numbers that pass the one test is that of those that pass the other
+pub lowest-same : (test other : ℕ → Bool) (o : Option ℕ) → ((k : ℕ) → other k ≡ test k) → IsLowest test o → IsLowest other o
+lowest-same test other None same none = λ k. same k ∙ none k
+lowest-same test other (Some number) same lowest = (same number ∙ lowest.0, λ k below. same k ∙ lowest.1 k below)
 
 -- ---- Reap
 

@@ -5,6 +5,7 @@ ghost use Rattle.nv_core.specs.Ending.{IsEnded};
 ghost use Rattle.nv_core.specs.Groups.{statuses_in};
 ghost use Rattle.nv_core.specs.State.{IsOf, world_of};
 ghost use Rattle.nv_core.specs.Take.{is_front_takeable};
+ghost use Rattle.nv_device.specs.Units.{IsLowest};
 ghost use Rattle.nv_entry.specs.Status.{StatusField};
 ghost use Rattle.nv_mem.specs.GuestMap.{mapped};
 ghost use Rattle.nv_model.specs.Controller.{front, is_enabled, post};
@@ -47,6 +48,18 @@ impl Core {
             Event::DevFail(_lane, _slot, _status) => false,
             Event::Keep(_block) => false,
         }
+    }
+
+    /// The lowest unit that DevMove is due for, of the command that the physical controller holds in a slot of a lane; `None` where it holds
+    /// none there, or all units have moved. It looks through the units that have moved, and through nothing else.
+    pub fn next_unit(&self, _layout: &Layout, lane: u8, slot: u8) -> Option<u64>
+        requires { IsOf _layout.now self.now }
+        ensures { IsLowest (λ number. due _layout.now (Event.DevMove lane slot number) (world_of self.now)) result }
+    {
+        if !self.has_slot(lane, slot) {
+            return None;
+        }
+        self.device.next_unit(lane, slot)
     }
 
     // Whether a guest's admin queue has something to do.

@@ -1,9 +1,10 @@
-//! What is shown of the host and of the disk.
+//! What is shown of the host, of the disk, and how many lanes there are.
 
 ghost use Rattle.std.specs.Prelude.{◌≡◌, ◌≤◌, MatchOption, length};
 ghost use Rattle.nv_core.specs.Shown.{IsBlock, mark_shown};
-ghost use Rattle.nv_core.specs.State.{world_of};
+ghost use Rattle.nv_core.specs.State.{IsOf, world_of};
 
+use crate::layout::Layout;
 use crate::state::Core;
 use nv_mem::Host;
 use nv_model::limits::BLOCK_SIZE;
@@ -14,6 +15,14 @@ impl Core {
         ensures { result.now ≡ self.now.host }
     {
         &self.host
+    }
+
+    /// How many lanes there are.
+    pub fn lanes(&self, _layout: &Layout) -> u8
+        requires { IsOf _layout.now self.now }
+        ensures { (result ≡ length (world_of self.now).device) × (result ≡ length (world_of self.now).lanes) }
+    {
+        self.device.lanes()
     }
 
     /// The bytes of a block of the disk; `None` where there is no such block.

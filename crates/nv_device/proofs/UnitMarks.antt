@@ -1,10 +1,10 @@
 -- Numbers of units as marks
 use Rattle.std.proofs.Common.{◌≡◌, ℕ, zero, suc, ◌+◌, ◌<◌, ◌==◌, ◌||◌, Bool, true, false, cond, not}
-use Rattle.std.proofs.Common.{List, [], ◌∷◌, length, replicate, get_or, set, refl, sym, ap, ◌∙◌, arith, eq-eqb}
+use Rattle.std.proofs.Common.{List, [], ◌∷◌, length, replicate, get_or, set, refl, sym, ap, ◌∙◌, arith, eq-eqb, Option, Some, None}
 use Rattle.std.proofs.lemmas.Bool.Decides.{nat_tests}
 use Rattle.std.specs.List.{list_any, range_with_len}
 use Rattle.nv_model.specs.Private.{others}
-use Rattle.nv_device.specs.Units.{numbers_marked}
+use Rattle.nv_device.specs.Units.{IsLowest, numbers_marked}
 
 -- all of them
 pub numbers-all : (from n : ℕ) → numbers_marked from (replicate n true) ≡ range_with_len from n
@@ -91,6 +91,9 @@ others-marked i marks =
     let e : 0 + i ≡ i = omega arith in
     numbers-others 0 i marks ∙ ap (λ (n : ℕ). others n (numbers_marked 0 marks)) e
 
+any-of : (marks : List Bool) (units : List ℕ) (i : ℕ) → numbers_marked 0 marks ≡ units → list_any (λ k. k == i) units ≡ get_or marks i false
+any-of marks units i is = sym (ap (list_any (λ k. k == i)) is) ∙ any-marked i marks
+
 -- a mark that is set is there
 pub within-marked : (i : ℕ) (marks : List Bool) → get_or marks i false ≡ true → i < length marks
 within-marked i [] is = (let wrong : false ≡ true = is in cc)
@@ -102,3 +105,10 @@ pub got-marked : (i : ℕ) (marks : List Bool) (mark : Bool) → i < length mark
 got-marked i [] mark within is = absurd (omega arith)
 got-marked zero (m ∷ marks) mark within is = is
 got-marked (suc i) (m ∷ marks) mark within is = got-marked i marks mark (omega arith) is
+
+-- the first mark that is set is that of the lowest number
+pub lowest-marked : (marks : List Bool) (units : List ℕ) (o : Option ℕ) → numbers_marked 0 marks ≡ units → IsLowest (λ n. get_or marks n false) o
+    → IsLowest (λ n. list_any (λ k. k == n) units) o
+lowest-marked marks units None is none = λ n. any-of marks units n is ∙ none n
+lowest-marked marks units (Some number) is lowest =
+    (any-of marks units number is ∙ lowest.0, λ k below. any-of marks units k is ∙ lowest.1 k below)

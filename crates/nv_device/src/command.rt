@@ -10,6 +10,7 @@ ghost use Rattle.nv_device.specs.Pages.{ArePaged, host_reading, spells};
 ghost use Rattle.nv_mem.specs.Places.{places_of as named};
 ghost use Rattle.nv_moves.specs.Buffer.{AreBelow};
 ghost use Rattle.nv_device.specs.Physical.{len_of, names_blocks};
+ghost use Rattle.nv_device.specs.Units.{IsLowest};
 ghost use Rattle.std.specs.List.{list_any};
 
 use crate::paged;
@@ -128,6 +129,13 @@ impl Command {
         ensures { result ≡ list_any (λ k. k == number) self.now.left }
     {
         self.left.contains(number)
+    }
+
+    /// The lowest unit that has not moved; `None` where all have.
+    pub(crate) fn next_unit(&self) -> Option<u64>
+        ensures { IsLowest (λ number. list_any (λ k. k == number) self.now.left) result }
+    {
+        self.left.first()
     }
 
     /// Whether all its units have moved.

@@ -14,6 +14,7 @@ ghost use Rattle.nv_world_model.specs.Device.{range_at};
 ghost use Rattle.nv_world_model.specs.Area.{tag_count};
 ghost use Rattle.nv_device.specs.Moving.{IsMovable, IsMoved, IsRangeOnDisk, IsReady, MayMove, moves_blocks, unit_of};
 ghost use Rattle.nv_device.specs.Physical.{IsHeld, done_where, has_left, held_at};
+ghost use Rattle.nv_device.specs.Units.{IsLowest};
 ghost use Rattle.nv_device.specs.Pages.{piece_in};
 
 use crate::command::Command;
@@ -63,6 +64,17 @@ impl Device {
         let differed = move_one(command, number, host, &mut self.disk, &mut self.kept);
         self.lanes[usize::from(lane)].unit_done(slot, number, differed);
         Response::Done
+    }
+
+    /// The lowest unit that is left of the command at a slot; `None` where no command is there, or one that has no unit left. It looks
+    /// through the units that have moved.
+    pub fn next_unit(&self, lane: u8, slot: u8) -> Option<u64>
+        requires lane { lane < length self.now.lanes }
+        requires slot { slot < tag_count }
+        ensures { IsLowest (λ number. has_left number (held_at self.now lane slot)) result }
+    {
+        let ring = &self.lanes[usize::from(lane)];
+        ring.command(slot)?.next_unit()
     }
 
     /// Whether the device holds a command at a slot that has that unit left.

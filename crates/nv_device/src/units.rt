@@ -1,7 +1,8 @@
 //! The units of a command that have not moved.
 
-ghost use Rattle.std.specs.Prelude.{◌≡◌, ◌==◌, ◌↔◌, [], true, replicate, IfOk, IsTrue};
+ghost use Rattle.std.specs.Prelude.{◌≡◌, ◌==◌, ◌↔◌, [], false, true, replicate, slice_index_or, IfOk, IsTrue};
 ghost use Rattle.std.specs.List.{list_any, range_with_len};
+ghost use Rattle.nv_device.specs.Units.{IsLowest};
 ghost use Rattle.nv_model.specs.Private.{others};
 
 use nv_mem::NoMemory;
@@ -53,6 +54,14 @@ impl Units {
         self.count == 0
     }
 
+    /// The lowest that is left; `None` where none is.
+    pub(crate) fn first(&self) -> Option<u64>
+        ensures { IsLowest (λ number. list_any (λ k. k == number) self.now) result }
+    {
+        let number = first_mark(&self.left)?;
+        Some(number as u64)
+    }
+
     /// Takes that one out.
     pub(crate) fn remove(&mut self, number: u64)
         requires { list_any (λ k. k == number) self.old ≡ true }
@@ -61,6 +70,13 @@ impl Units {
         self.left[number as usize] = false;
         self.count -= 1;
     }
+}
+
+/// The number of the first mark that is set.
+fn first_mark(left: &[bool]) -> Option<usize>
+    ensures { IsLowest (λ number. slice_index_or left.now number false) result }
+{
+    left.iter().position(|mark| *mark)
 }
 
 /// A mark for each of so many units.

@@ -5,6 +5,7 @@ ghost use Rattle.nv_core.specs.Jobs.{holder_of, job_of};
 ghost use Rattle.nv_core.specs.Shown.{IsBlock, mark_shown};
 ghost use Rattle.nv_core.specs.State.{world_of};
 ghost use Rattle.nv_core.specs.Submit.{IsLimit};
+ghost use Rattle.nv_device.specs.Units.{IsLowest};
 ghost use Rattle.nv_mediator.specs.Hosted.{limit_of, map_of, range_of, setup_of};
 ghost use Rattle.nv_model.specs.Memory.{byte_in};
 ghost use Rattle.nv_world_model.specs.Due.{due};
@@ -53,6 +54,23 @@ impl Mediator {
         ensures { result ≡ due self.now.geometry event.now (world_of self.now.state) }
     {
         self.core.due(&self.layout, event)
+    }
+
+    /// The lowest unit that DevMove is due for, of the command that the physical controller holds in a slot of a lane; `None` where it holds
+    /// none there, or all units have moved. It looks through the units that have moved, and through nothing else.
+    #[inline]
+    pub fn next_unit(&self, lane: u8, slot: u8) -> Option<u64>
+        ensures { IsLowest (λ number. due self.now.geometry (Event.DevMove lane slot number) (world_of self.now.state)) result }
+    {
+        self.core.next_unit(&self.layout, lane, slot)
+    }
+
+    /// How many lanes there are, 1 to 8.
+    #[inline]
+    pub fn lanes(&self) -> u8
+        ensures { (result ≡ length (world_of self.now.state).device) × (result ≡ length (world_of self.now.state).lanes) }
+    {
+        self.core.lanes(&self.layout)
     }
 
     /// The job of a tag that was taken: its lane and tag, whose command it is, the command, and a copy of what was

@@ -1,6 +1,8 @@
 //! The mediator, and what is promised of it.
 
 ghost use Rattle.std.specs.Prelude.{◌≡◌, ◌⊎◌, IfErr, IfOk, None, Some};
+ghost use Rattle.nv_core.specs.State.{world_of};
+ghost use Rattle.nv_laws_sound.specs.Consistent.{IsConsistent};
 ghost use Rattle.nv_mediator.specs.Hosted.{HasLog, IsAtStart, IsPromised, setup_of};
 ghost use Rattle.nv_mediator.specs.Refused.{refused};
 ghost use Rattle.nv_world_model.specs.SetUp.{refusal_of};
@@ -53,10 +55,11 @@ impl Mediator {
     /// The set-up was accepted. Of every log that leads from the set-up's start to this world the whole promise holds: each event is contained, it
     /// reads and changes nothing of a guest but its owner's; and what a disciplined guest has seen, its memory and its namespace are those of a
     /// run of its own commands on a private controller, where the physical controller failed none of them. There is such a log: what each call
-    /// ensures of its event is what one more member of a log needs.
+    /// ensures of its event is what one more member of a log needs. And the world is consistent: each tag that was handed on stands in one place.
     #[inline(always)]
     pub fn promise(&self)
         ensures accepted { refusal_of (setup_of self.now) ≡ None }
+        ensures consistent { IsConsistent self.now.geometry (world_of self.now.state) }
         ensures promised { IsPromised self.now }
         ensures led { HasLog self.now }
     {
