@@ -207,9 +207,9 @@ static inline nvmed_status nvmed_due(nvmed *m, const nvmed_event *event, uint32_
 
 /* Carries out what is due of a guest (its admin commands; its commands that wait are taken and planned), of a lane (the physical controller's side,
  * completions, and those for guests), or of all (`number` counts for nothing then), `most` events at most: *done tells how many there were. Where it
- * is less than `most`, nothing is left to be done but what a full completion queue holds up (that is tested). SAFE, CONTAINED, PRIVATE: what was done
- * are events of the mediator and of the physical controller, no act and no failure.
- * Errors: NULL, NO_MEDIATOR, NO_SUCH, NO_MEMORY (*done events were made). */
+ * is less than `most`, nothing of that scope is left to be done; what a full completion queue holds up is not due. SAFE, EXACT (each event was due,
+ * or was wanted for a command's plan, and of that scope; as many as *done tells; no act and no failure), CONTAINED, PRIVATE.
+ * Errors: NULL, NO_MEDIATOR, NO_SUCH (*done is 0), NO_MEMORY (*done events were made, and something is left). */
 static inline nvmed_status nvmed_work(nvmed *m, uint32_t scope, uint32_t number, uint64_t most, uint64_t *done) {
     if (!m || !done) return NVMED_NULL;
     *done = 0;
@@ -240,7 +240,7 @@ static inline nvmed_status nvmed_block(nvmed *m, uint64_t block, const uint8_t *
     return (nvmed_status)nvmed_raw_block(m, block, at);
 }
 
-/* Whether a block of the disk is kept when power is lost: *kept is 1 then, and else 0. SAFE. Errors: NULL, NO_MEDIATOR, NO_SUCH; *kept is 0 then. */
+/* Whether a block of the disk is kept when power is lost: *kept is 1 then, and else 0. SAFE, EXACT. Errors: NULL, NO_MEDIATOR, NO_SUCH; *kept is 0 then. */
 static inline nvmed_status nvmed_kept(nvmed *m, uint64_t block, uint32_t *kept) {
     if (!m || !kept) return NVMED_NULL;
     *kept = 0;

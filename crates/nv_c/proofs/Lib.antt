@@ -1,4 +1,5 @@
 pub mod Handles
 pub mod Tables
 pub mod Views
+pub mod Rests
 pub mod Works

@@ -1,27 +1,182 @@
--- Worlds that work leads to.
-use Rattle.std.proofs.Common.{◌≡◌, refl, subst, true, List, [], ◌∷◌, ◌++◌}
-use Rattle.nv_c.specs.Work.{AreMade, IsLater, is_work}
+-- Events that work makes in a row, and what is left of a world where nothing of a scope comes next.
+use Rattle.std.proofs.Common.{◌≡◌, refl, sym, subst, ap, ◌∙◌, ℕ, ◌+◌, ◌<◌, Bool, true, false, ◌&&◌, cond, arith}
+use Rattle.std.proofs.Common.{List, [], ◌∷◌, ◌++◌, length-append, slice_get, Option, Some, None}
+use Rattle.std.proofs.lemmas.Option.{none-some}
+use Rattle.nv_c.specs.Work.{AreMade, IsWork, IsWorked, Leads, Rests}
+use Rattle.nv_c.specs.declared.working.Scope.{Scope}
 use Rattle.nv_mediator.specs.Hosted.{Hosted, IsMade}
+use Rattle.nv_model.specs.Controller.{front}
 use Rattle.nv_model.specs.declared.reply.Reply.{Reply}
+use Rattle.nv_model.specs.declared.reply.Reply.TheVariants as reply
+use Rattle.nv_world_model.specs.Device.{DeviceLane}
+use Rattle.nv_world_model.specs.Due.{due, is_due_kind}
+use Rattle.nv_world_model.specs.Geometry.{Geometry}
+use Rattle.nv_world_model.specs.Seat.{Owner, owner_of}
+use Rattle.nv_world_model.specs.Step.{After, administered_in, device_move, device_post, device_take, for_ended, for_held, for_one, for_owner, is_done, is_io_queue}
+use Rattle.nv_world_model.specs.Step.{post_all, reap, replied, statuses_of, step, take_from, take_front}
+use Rattle.nv_world_model.specs.World.{Lane, Tag, World, group, tag_of}
 use Rattle.nv_world_model.specs.declared.event.Event.{Event}
+use Rattle.nv_world_model.specs.declared.event.Event.TheVariants as event
+
+-- ---- events in a row
+
+joined : (s : Scope) (es fs : List Event) (a b c : Hosted) → AreMade s es a b → AreMade s fs b c → AreMade s (es ++ fs) a c
+unfolding AreMade
+joined s [] fs a b c first then = subst (λ (x : Hosted). AreMade s fs x c) first then
+joined s (e ∷ es) fs a b c first then = (first.0, first.1, first.2, first.3, joined s es fs first.2 b c first.4 then)
 
 -- nothing was done
-pub later_same : (old new : Hosted) → new ≡ old → IsLater old new
+pub leads_none : (s : Scope) (old new : Hosted) → new ≡ old → Leads s 0 old new
 unfolding AreMade
-later_same old new same = record { events = []; lead = same }
+leads_none s old new same = record { events = []; made = same; counted = refl }
 
--- one event
-pub later_made : (e : Event) (old new : Hosted) (r : Reply) → is_work e ≡ true → IsMade e old r new → IsLater old new
+-- one event was made
+pub leads_one : (s : Scope) (e : Event) (old new : Hosted) (r : Reply) → IsWork s old e → IsMade e old r new → Leads s 1 old new
 unfolding AreMade
-later_made e old new r is made = record { events = e ∷ []; lead = (is, r, new, made, refl) }
+leads_one s e old new r is made = record { events = e ∷ []; made = (is, r, new, made, refl); counted = refl }
 
-joined : (es fs : List Event) (a b c : Hosted) → AreMade es a b → AreMade fs b c → AreMade (es ++ fs) a c
-unfolding AreMade
-joined [] fs a b c first then = subst (λ (x : Hosted). AreMade fs x c) first then
-joined (e ∷ es) fs a b c first then =
-    (first.0, first.1, first.2, first.3, joined es fs first.2 b c first.4 then)
+-- and more behind these
+pub leads_more : (s : Scope) (m n : ℕ) (a b c : Hosted) → Leads s m a b → Leads s n b c → Leads s (m + n) a c
+leads_more s m n a b c first then =
+    record {
+      events = first.events ++ then.events;
+      made = joined s first.events then.events a b c first.made then.made;
+      counted = length-append first.events then.events ∙ (let one = first.counted in let two = then.counted in omega (arith, one, two));
+    }
 
--- one thing behind another
-pub later_later : (a b c : Hosted) → IsLater a b → IsLater b c → IsLater a c
-later_later a b c first then =
-    record { events = first.events ++ then.events; lead = joined first.events then.events a b c first.lead then.lead }
+picked : Bool → Option ℕ
+picked true = Some 0
+picked false = None
+
+pub true-false : (b : Bool) → b ≡ true → b ≡ false → ⊥
+unfolding picked
+true-false b is isnt = none-some 0 (ap picked (sym isnt ∙ is))
+
+-- ---- how a call ends
+
+-- nothing was left
+pub worked_idle : (s : Scope) (most done : ℕ) (a b c : Hosted) → Leads s done a b → done < most → c ≡ b → Rests s b
+    → IsWorked s most (record { done = done; starved = false }) a c
+worked_idle s most done a b c leads below same rests =
+    record {
+      leads = subst (λ (x : Hosted). Leads s done a x) (sym same) leads;
+      few = omega (arith, below);
+      rests = λ fed less. subst (λ (x : Hosted). Rests s x) (sym same) rests;
+      starved = λ is. absurd (true-false false is refl);
+    }
+
+-- there was no memory for what was
+pub worked_starved : (s : Scope) (most done : ℕ) (a b c : Hosted) → Leads s done a b → done < most → c ≡ b → (Rests s b → ⊥)
+    → IsWorked s most (record { done = done; starved = true }) a c
+worked_starved s most done a b c leads below same some =
+    record {
+      leads = subst (λ (x : Hosted). Leads s done a x) (sym same) leads;
+      few = omega (arith, below);
+      rests = λ fed less. absurd (true-false true refl fed);
+      starved = λ is. (below, λ rests. some (subst (λ (x : Hosted). Rests s x) same rests));
+    }
+
+-- as many were made as were asked for
+pub worked_all : (s : Scope) (most done : ℕ) (a b : Hosted) → Leads s done a b → done ≡ most
+    → IsWorked s most (record { done = most; starved = false }) a b
+worked_all s most done a b leads same =
+    record {
+      leads = subst (λ (n : ℕ). Leads s n a b) same leads;
+      few = omega arith;
+      rests = λ fed less. absurd (omega (arith, less));
+      starved = λ is. absurd (true-false false is refl);
+    }
+
+-- ---- what is due nowhere
+
+and-false : (b : Bool) → b && false ≡ false
+and-false true = refl
+and-false false = refl
+
+due-not : (geometry : Geometry) (e : Event) (w : World) (a : After) → step geometry e w ≡ a → is_done a.reply ≡ false → due geometry e w ≡ false
+unfolding due
+due-not geometry e w a is undone =
+    ap (λ (x : After). is_due_kind e && is_done x.reply) is ∙ ap (λ (b : Bool). is_due_kind e && b) undone ∙ and-false (is_due_kind e)
+
+module _ (geometry : Geometry) (w : World) where
+  -- an admin command of no guest
+  pub admin-no_guest : (guest : ℕ) → owner_of geometry w guest ≡ None → due geometry (event.Admin guest) w ≡ false
+  unfolding step
+  admin-no_guest guest none =
+      due-not geometry (event.Admin guest) w (replied reply.Ignored w)
+      (ap (λ (o : Option Owner). for_one o w (λ owner. administered_in owner w)) none) refl
+
+  -- a command of no guest taken, or one on no lane, or from no I/O queue
+  pub take-no_guest : (guest queue lane : ℕ) → owner_of geometry w guest ≡ None → due geometry (event.Take guest queue lane) w ≡ false
+  unfolding step
+  take-no_guest guest queue lane none =
+      due-not geometry (event.Take guest queue lane) w (replied reply.Ignored w)
+      (ap (λ (o : Option Owner). for_one o w (λ owner. for_one (slice_get w.lanes lane) w (λ l. take_from queue lane l owner w))) none) refl
+
+  pub take-no_lane : (guest queue lane : ℕ) → slice_get w.lanes lane ≡ None → due geometry (event.Take guest queue lane) w ≡ false
+  unfolding due step
+  take-no_lane guest queue lane none = by_owner (owner_of geometry w guest)
+    where
+      by_owner : (x : Option Owner) → is_done (for_one x w (λ o. for_one (slice_get w.lanes lane) w (λ l. take_from queue lane l o w))).reply ≡ false
+      by_owner None = refl
+      by_owner (Some o) = ap (λ (y : Option Lane). is_done (for_one y w (λ l. take_from queue lane l o w)).reply) none
+
+  pub take-no_queue : (guest queue lane : ℕ) → is_io_queue queue ≡ false → due geometry (event.Take guest queue lane) w ≡ false
+  unfolding due step
+  take-no_queue guest queue lane none = by_owner (owner_of geometry w guest)
+    where
+      by_lane : (o : Owner) (y : Option Lane) → is_done (for_one y w (λ l. take_from queue lane l o w)).reply ≡ false
+      by_lane o None = refl
+      by_lane o (Some l) =
+          ap (λ (b : Bool). is_done (cond b (take_front (front o.controller queue) queue lane l o w) (replied reply.Ignored w)).reply) none
+
+      by_owner : (x : Option Owner) → is_done (for_one x w (λ o. for_one (slice_get w.lanes lane) w (λ l. take_from queue lane l o w))).reply ≡ false
+      by_owner None = refl
+      by_owner (Some o) = by_lane o (slice_get w.lanes lane)
+
+  -- what the physical controller would do on no lane, or in no slot
+  pub dev_take-no_lane : (lane : ℕ) → slice_get w.device lane ≡ None → due geometry (event.DevTake lane) w ≡ false
+  unfolding step
+  dev_take-no_lane lane none =
+      due-not geometry (event.DevTake lane) w (replied reply.Ignored w)
+      (ap (λ (o : Option DeviceLane). for_one o w (λ d. device_take geometry.mediator lane d w)) none) refl
+
+  pub dev_move-no_slot : (lane slot number : ℕ) → ((d : DeviceLane) → slice_get w.device lane ≡ Some d → slice_get d.held slot ≡ None)
+      → due geometry (event.DevMove lane slot number) w ≡ false
+  unfolding due step
+  dev_move-no_slot lane slot number none = by_lane (slice_get w.device lane) refl
+    where
+      moved : DeviceLane → After
+      moved d = for_held (slice_get d.held slot) w (λ h. device_move geometry.disk_blocks lane slot number h w)
+
+      by_lane : (o : Option DeviceLane) → slice_get w.device lane ≡ o
+          → is_done (for_one o w (λ d. for_held (slice_get d.held slot) w (λ h. device_move geometry.disk_blocks lane slot number h w))).reply ≡ false
+      by_lane None is = refl
+      by_lane (Some d) is =
+          ap (λ x. is_done (for_held x w (λ h. device_move geometry.disk_blocks lane slot number h w)).reply) (none d is)
+
+  pub dev_post-no_slot : (lane slot : ℕ) → ((d : DeviceLane) → slice_get w.device lane ≡ Some d → slice_get d.held slot ≡ None)
+      → due geometry (event.DevPost lane slot) w ≡ false
+  unfolding due step
+  dev_post-no_slot lane slot none = by_lane (slice_get w.device lane) refl
+    where
+      by_lane : (o : Option DeviceLane) → slice_get w.device lane ≡ o
+          → is_done (for_one o w (λ d. for_held (slice_get d.held slot) w (λ h. device_post h.left geometry.mediator lane slot h d w))).reply ≡ false
+      by_lane None is = refl
+      by_lane (Some d) is =
+          ap (λ x. is_done (for_held x w (λ h. device_post h.left geometry.mediator lane slot h d w)).reply) (none d is)
+
+  -- completions on no lane, or of no tag
+  pub reap-no_lane : (lane : ℕ) → slice_get w.lanes lane ≡ None → due geometry (event.Reap lane) w ≡ false
+  unfolding step
+  reap-no_lane lane none =
+      due-not geometry (event.Reap lane) w (replied reply.Ignored w)
+      (ap (λ (o : Option Lane). for_one o w (λ l. for_one (slice_get w.device lane) w (λ d. reap geometry lane l d w))) none) refl
+
+  pub post-no_tag : (lane tag : ℕ) → tag_of w lane tag ≡ None → due geometry (event.Post lane tag) w ≡ false
+  unfolding step
+  post-no_tag lane tag none =
+      due-not geometry (event.Post lane tag) w (replied reply.Ignored w)
+      (ap (λ (o : Option Tag). for_ended tag o w (λ command.
+      for_owner (owner_of geometry w command.guest) w (λ o.
+      post_all (statuses_of lane (group w lane tag) w) command geometry.mediator lane (group w lane tag) o w))) none) refl

@@ -1,10 +1,12 @@
 -- What a call by C is answered, and what it does to the mediator behind a handle.
-use Rattle.std.specs.Prelude.{◌≡◌, ◌⊎◌, ◌<◌, ◌≤◌, ◌==◌, ℕ, if◌then◌else◌, length, List, Option, Some, None}
+use Rattle.std.specs.Prelude.{◌≡◌, ◌⊎◌, ◌<◌, ◌≤◌, ◌==◌, ℕ, Bool, if◌then◌else◌, length, nat_lt, List, Option, Some, None}
 use Rattle.std.specs.Int.{from_le_bytes, w32}
 use Rattle.nv_core.specs.Seat.{bytes_told}
+use Rattle.nv_core.specs.Shown.{mark_shown}
 use Rattle.nv_c.specs.declared.event.Event as c
 use Rattle.nv_c.specs.Names.{Names}
-use Rattle.nv_c.specs.Work.{IsLater}
+use Rattle.nv_c.specs.Work.{IsWorked}
+use Rattle.nv_c.specs.declared.working.Scope.{Scope}
 use Rattle.nv_mediator.specs.Hosted.{Hosted, IsAtStart, IsMade, hosted_world}
 use Rattle.nv_model.specs.declared.reply.Reply.{Reply}
 use Rattle.nv_model.specs.declared.reply.Reply.TheVariants as reply
@@ -66,9 +68,10 @@ IsRead e before after old status new =
 abbrev pub IsNamedStep : c.Event → (old : Hosted) → (status : ℕ) → (new : Hosted) → Type 0
 IsNamedStep named old status new = (e : Event) × Names named e × IsStepped e old status new
 
--- of any number of events that are due
-abbrev pub IsWorked : (old : Hosted) → (status : ℕ) → (new : Hosted) → Type 0
-IsWorked old status new = IsLater old new
+-- what is due of a scope was carried out, and so many events were told; the answer tells whether there was memory
+abbrev pub IsWorkTold : Scope → (most done : ℕ) → (old : Hosted) → (status : ℕ) → (new : Hosted) → Type 0
+IsWorkTold s most done old status new =
+    (starved : Bool) × (status ≡ (if starved then no_memory else 0)) × IsWorked s most (record { done = done; starved = starved }) old new
 
 -- the bytes of a load stand in the room; or none were loaded, and the room is as it was. Nothing else changes
 abbrev pub IsLoaded : Event → (before after : List ℕ) → (old : Hosted) → (status : ℕ) → (new : Hosted) → Type 0
@@ -84,6 +87,19 @@ IsTold e told old status new =
 -- of the event that a struct names
 abbrev pub IsNamedTold : c.Event → (told : ℕ) → (old : Hosted) → (status : ℕ) → (new : Hosted) → Type 0
 IsNamedTold named told old status new = (e : Event) × Names named e × IsTold e told old status new
+
+-- it was told whether the block is kept, or that the disk has no such block; nothing has changed
+abbrev pub IsMark : Option Bool → (before after status : ℕ) → Type 0
+IsMark None before after status = (status ≡ no_such) × (after ≡ before)
+IsMark (Some is) before after status = (status ≡ 0) × (after ≡ (if is then 1 else 0))
+
+abbrev pub IsKeptTold : (block before after : ℕ) → (old : Hosted) → (status : ℕ) → (new : Hosted) → Type 0
+IsKeptTold block before after old status new =
+    (new ≡ old) × IsMark (mark_shown old.geometry.disk_blocks (hosted_world old) block) before after status
+
+-- the disk has the block or has not; nothing has changed
+abbrev pub IsBlockTold : (block : ℕ) → (old : Hosted) → (status : ℕ) → (new : Hosted) → Type 0
+IsBlockTold block old status new = (new ≡ old) × (status ≡ (if nat_lt block old.geometry.disk_blocks then 0 else no_such))
 
 -- what is done to the mediator of a handle; a handle without one is answered so, and stays without
 abbrev pub On : (Does : Hosted → ℕ → Hosted → Type 0) → (before : Option Hosted) → (status : ℕ) → (after : Option Hosted) → Type 0

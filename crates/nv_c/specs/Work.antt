@@ -1,41 +1,145 @@
--- What `nvmed_work` may do: events that are due of the mediator and of the physical controller, one after another.
-use Rattle.std.specs.Prelude.{◌≡◌, ⊤, Bool, true, false, List, [], ◌∷◌}
+-- What `nvmed_work` does: what is due of a scope, event by event, until nothing is or as many were made as were asked for (profile).
+use Rattle.std.specs.Prelude.{◌≡◌, ◌-◌, ◌<◌, ◌≤◌, ◌==◌, ℕ, ⊤, true, false, if◌then◌else◌, List, [], ◌∷◌, length, nat_lt, slice_get, IsSome, Option, Some, None, option_map}
 use Rattle.nv_c.specs.declared.working.Choice.{Choice}
 use Rattle.nv_c.specs.declared.working.Choice.TheVariants as choice
-use Rattle.nv_mediator.specs.Hosted.{Hosted, IsMade}
+use Rattle.nv_c.specs.declared.working.Ended.{Ended}
+use Rattle.nv_c.specs.declared.working.Scope.{Scope}
+use Rattle.nv_c.specs.declared.working.Scope.TheVariants as scope
+use Rattle.nv_c.specs.declared.working.Turn.{Turn}
+use Rattle.nv_c.specs.declared.working.Turn.TheVariants as turn
+use Rattle.nv_core.specs.Jobs.{holder_of, job_of}
+use Rattle.nv_core.specs.Submit.{IsCurrent}
+use Rattle.nv_mediator.specs.Hosted.{Hosted, IsMade, hosted_world}
+use Rattle.nv_model.specs.Transcript.{Settled, Wanted}
 use Rattle.nv_model.specs.declared.reply.Reply.{Reply}
+use Rattle.nv_plan.specs.Made.{outcome_of}
+use Rattle.nv_plan.specs.declared.job.Job.{Job}
+use Rattle.nv_world_model.specs.Due.{due}
+use Rattle.nv_world_model.specs.Geometry.{Guest}
+use Rattle.nv_world_model.specs.Plan.{Plan}
+use Rattle.nv_world_model.specs.World.{World}
 use Rattle.nv_world_model.specs.declared.event.Event.{Event}
 use Rattle.nv_world_model.specs.declared.event.Event.TheVariants as event
 
--- no act of a guest's; and the physical controller fails nothing, and keeps nothing of its own accord
-abbrev pub is_work : Event → Bool
-is_work (event.Guest guest a) = false
-is_work (event.Admin guest) = true
-is_work (event.Take guest queue lane) = true
-is_work (event.List lane tag addr len) = true
-is_work (event.Submit lane tag) = true
-is_work (event.GiveUp lane tag) = true
-is_work (event.DevTake lane) = true
-is_work (event.DevMove lane slot number) = true
-is_work (event.DevPost lane slot) = true
-is_work (event.DevFail lane slot st) = false
-is_work (event.Keep block) = false
-is_work (event.Reap lane) = true
-is_work (event.Post lane tag) = true
+-- ---- scopes
 
--- what is chosen is work
-abbrev pub IsChosen : Choice → Type 0
-IsChosen (choice.Make e) = is_work e ≡ true
-IsChosen (choice.Submit plan) = ⊤
-IsChosen choice.Nothing = ⊤
-IsChosen choice.Starved = ⊤
+-- the scope of that number in `enum nvmed_scope`, of a guest or of a lane
+abbrev pub scope_numbered : (kind number : ℕ) → Option Scope
+scope_numbered kind number =
+    if kind == 3 then Some scope.All else
+    if nat_lt number 256 then
+    (if kind == 1 then Some (scope.Guest number) else if kind == 2 then Some (scope.Lane number) else None)
+    else None
 
--- these events, all work, lead from one world to the other
-unfoldable pub AreMade : List Event → (old new : Hosted) → Type 0
-AreMade [] old new = new ≡ old
-AreMade (e ∷ es) old new = (is_work e ≡ true) × (r : Reply) × (between : Hosted) × IsMade e old r between × AreMade es between new
+-- whose side of the mediator an event is, where it is a guest's: its admin commands, the taking of its others, and what they want for their plans
+abbrev pub guest_served : World → Event → Option ℕ
+guest_served w (event.Admin guest) = Some guest
+guest_served w (event.Take guest queue lane) = Some guest
+guest_served w (event.List lane tag addr len) = option_map (λ h. h.guest) (holder_of w lane tag)
+guest_served w (event.Submit lane tag) = option_map (λ h. h.guest) (holder_of w lane tag)
+guest_served w (event.GiveUp lane tag) = option_map (λ h. h.guest) (holder_of w lane tag)
+guest_served w _ = None
 
--- some events do
-pub record IsLater (old new : Hosted) : Type 0 where
+-- the lane, where it is a lane's: what the physical controller does, and the completions
+abbrev pub lane_served : Event → Option ℕ
+lane_served (event.DevTake lane) = Some lane
+lane_served (event.DevMove lane slot number) = Some lane
+lane_served (event.DevPost lane slot) = Some lane
+lane_served (event.Reap lane) = Some lane
+lane_served (event.Post lane tag) = Some lane
+lane_served _ = None
+
+-- an event is of a scope
+abbrev pub IsIn : Scope → World → Event → Type 0
+IsIn (scope.Guest guest) w e = guest_served w e ≡ Some guest
+IsIn (scope.Lane lane) w e = lane_served e ≡ Some lane
+IsIn scope.All w e = ⊤
+
+-- ---- what comes next
+
+-- a command goes by that tag and waits for its plan, and its guest was given this
+pub record Waits (h : Hosted) (lane tag : ℕ) (job : Job) (given : Guest) : Type 0 where
+  pub taken : job_of (hosted_world h) lane tag ≡ Some job
+  pub whose : slice_get h.geometry.guests job.guest ≡ Some given
+
+-- an event is due; or it is what a command wants that waits for its plan: bytes of its list, to be handed on, or, where there is no memory for
+-- the plan, to be given up. No act of a guest's is, no failure of the physical controller, and no block that it keeps of its own accord
+abbrev pub IsNext : Hosted → Event → Type 0
+IsNext h (event.List lane tag addr len) =
+    (job : Job) × (given : Guest) × Waits h lane tag job given × (outcome_of given job ≡ Wanted addr len)
+IsNext h (event.Submit lane tag) =
+    (job : Job) × (given : Guest) × (plan : Plan) × Waits h lane tag job given × (outcome_of given job ≡ Settled plan)
+IsNext h (event.GiveUp lane tag) = IsSome (job_of (hosted_world h) lane tag)
+IsNext h e = due h.geometry e (hosted_world h) ≡ true
+
+-- it is, and of that scope
+pub record IsWork (s : Scope) (h : Hosted) (e : Event) : Type 0 where
+  pub own : IsIn s (hosted_world h) e
+  pub next : IsNext h e
+
+-- nothing is
+abbrev pub Rests : Scope → Hosted → Type 0
+Rests s h = (e : Event) → IsWork s h e → ⊥
+
+-- ---- what is done
+
+-- these events lead from one world to the other, each of them work when it is made
+unfoldable pub AreMade : Scope → List Event → (old new : Hosted) → Type 0
+AreMade s [] old new = new ≡ old
+AreMade s (e ∷ es) old new = IsWork s old e × (r : Reply) × (between : Hosted) × IsMade e old r between × AreMade s es between new
+
+-- so many do
+pub record Leads (s : Scope) (count : ℕ) (old new : Hosted) : Type 0 where
   pub events : List Event
-  pub lead : AreMade events old new
+  pub made : AreMade s events old new
+  pub counted : length events ≡ count
+
+-- as many events as were asked for, or fewer: then nothing is left to be done, or there was no memory for what is
+pub record IsWorked (s : Scope) (most : ℕ) (ended : Ended) (old new : Hosted) : Type 0 where
+  pub leads : Leads s ended.done old new
+  pub few : ended.done ≤ most
+  pub rests : ended.starved ≡ false → ended.done < most → Rests s new
+  pub starved : ended.starved ≡ true → (ended.done < most) × (Rests s new → ⊥)
+
+-- ---- what the calls below need
+
+-- one event was made; or none, since nothing was left or there was no memory
+abbrev pub IsTurn : Scope → (old : Hosted) → Turn → (new : Hosted) → Type 0
+IsTurn s old turn.Served new = Leads s 1 old new
+IsTurn s old turn.Idle new = (new ≡ old) × Rests s old
+IsTurn s old turn.Starved new = (new ≡ old) × (Rests s old → ⊥)
+
+-- what was chosen comes next; or nothing was found, which says that much; or there was no memory to tell
+abbrev pub IsChoice : Scope → Hosted → (nothing : Type 0) → Choice → Type 0
+IsChoice s h nothing (choice.Make e) = IsWork s h e
+IsChoice s h nothing (choice.Submit plan) =
+    IsCurrent h.geometry (hosted_world h) plan × IsWork s h (event.Submit plan.job.lane plan.job.tag)
+IsChoice s h nothing choice.Nothing = nothing
+IsChoice s h nothing choice.Starved = Rests s h → ⊥
+
+-- an event was found that comes next; or none was, which says that much
+abbrev pub IsFound : Scope → Hosted → (nothing : Type 0) → Option Event → Type 0
+IsFound s h nothing None = nothing
+IsFound s h nothing (Some e) = IsWork s h e
+
+-- no command of a guest's on a lane waits for its plan
+abbrev pub NoneWaits : (guest lane : ℕ) → Hosted → Type 0
+NoneWaits guest lane h = (tag : ℕ) (job : Job) → job_of (hosted_world h) lane tag ≡ Some job → job.guest ≡ guest → ⊥
+
+-- none of its commands may be taken on that lane
+abbrev pub NoneTakes : (guest lane : ℕ) → Hosted → Type 0
+NoneTakes guest lane h = (queue : ℕ) → due h.geometry (event.Take guest queue lane) (hosted_world h) ≡ false
+
+-- no completion of a lane may be posted to its guest
+abbrev pub NonePosts : (lane : ℕ) → Hosted → Type 0
+NonePosts lane h = (tag : ℕ) → due h.geometry (event.Post lane tag) (hosted_world h) ≡ false
+
+-- no command that the physical controller holds in a slot moves on
+pub record SlotRests (lane : ℕ) (h : Hosted) (slot : ℕ) : Type 0 where
+  pub moves : (number : ℕ) → due h.geometry (event.DevMove lane slot number) (hosted_world h) ≡ false
+  pub posts : due h.geometry (event.DevPost lane slot) (hosted_world h) ≡ false
+
+-- nothing is left of the guest or the lane of that number, in a row of 16 guests and then the lanes
+pub record PartyRests (h : Hosted) (number : ℕ) : Type 0 where
+  pub guest : number < 16 → Rests (scope.Guest number) h
+  pub lane : 16 ≤ number → Rests (scope.Lane (number - 16)) h

@@ -1,11 +1,11 @@
 //! What is done to the mediator of a handle.
 
-ghost use Rattle.std.specs.Prelude.{◌≡◌, length};
-ghost use Rattle.nv_c.specs.Calls.{IsDone, IsLoaded, IsRead, IsStepped, IsTold, IsWorked, On, dword_told};
+ghost use Rattle.std.specs.Prelude.{◌≡◌, None, length};
+ghost use Rattle.nv_c.specs.Calls.{IsDone, IsLoaded, IsRead, IsStepped, IsTold, IsWorkTold, On, dword_told};
 
 use crate::handle::Nvmed;
 use crate::status;
-use crate::working::{self, Party};
+use crate::working::{self, Scope};
 use nv_mediator::Mediator;
 use nv_model::{Act, Reply};
 use nv_world_model::Event;
@@ -133,37 +133,21 @@ pub(crate) fn due(alloc: Global, handle: &mut Nvmed, event: &Event, told: &mut u
     status::OK
 }
 
-/// What is due of one is carried out, `most` events at most: what it is answered, and how many there were.
+/// What is due of a scope is carried out, `most` events at most: what it is answered, and how many there were.
 pub(crate) fn work(
     alloc: Global,
     handle: &mut Nvmed,
-    party: Party,
+    scope: Scope,
     most: u64,
     done: &mut u64,
 ) -> u32
-    ensures { On IsWorked handle.old.hosted result handle.new.hosted }
+    ensures value { On (IsWorkTold scope most done.new) handle.old.hosted result handle.new.hosted }
+    ensures none { handle.old.hosted ≡ None → done.new ≡ done.old }
 {
     let Some(mut hosted) = handle.take(alloc) else {
         return status::NO_MEDIATOR;
     };
-    let ended = working::of_one(alloc, &mut hosted, party, most);
-    handle.put(alloc, hosted);
-    *done = ended.done;
-    if ended.starved {
-        status::NO_MEMORY
-    } else {
-        status::OK
-    }
-}
-
-/// The same of all.
-pub(crate) fn work_all(alloc: Global, handle: &mut Nvmed, most: u64, done: &mut u64) -> u32
-    ensures { On IsWorked handle.old.hosted result handle.new.hosted }
-{
-    let Some(mut hosted) = handle.take(alloc) else {
-        return status::NO_MEDIATOR;
-    };
-    let ended = working::of_all(alloc, &mut hosted, most);
+    let ended = working::work(alloc, &mut hosted, scope, most);
     handle.put(alloc, hosted);
     *done = ended.done;
     if ended.starved {

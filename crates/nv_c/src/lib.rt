@@ -5,11 +5,13 @@
 //! nvmed_status` for any numbers and any bytes. Nothing here aborts, prints, waits, or keeps anything outside the handle.
 #![tactic(auto)]
 
-ghost use Rattle.std.specs.Prelude.{◌≡◌, ◌⊎◌, IsSome, None, length};
-ghost use Rattle.nv_c.specs.Calls.{IsDone, IsLoaded, IsNamedStep, IsNamedTold, IsOpened, IsRead, IsStepped, IsWorked, OfGuest, On, no_mediator, no_such};
+ghost use Rattle.std.specs.Prelude.{◌≡◌, ◌⊎◌, IsSome, MatchOption, None, length};
+ghost use Rattle.nv_c.specs.Calls.{IsBlockTold, IsDone, IsKeptTold, IsLoaded, IsNamedStep, IsNamedTold, IsOpened, IsRead, IsStepped, IsWorkTold, OfGuest, On};
+ghost use Rattle.nv_c.specs.Calls.{no_mediator, no_such};
 ghost use Rattle.nv_c.specs.Names.{NamesNone};
 ghost use Rattle.nv_c.specs.Tables.{setup_of};
 ghost use Rattle.nv_c.specs.Views.{IsShown};
+ghost use Rattle.nv_c.specs.Work.{scope_numbered};
 
 mod acting;
 mod event;
@@ -27,7 +29,7 @@ use nv_world_model::Event as Made;
 pub use setup::{Extent, Region, Sizes};
 use std::alloc::Global;
 use std::ptr;
-use working::Party;
+use working::Scope;
 
 /// Makes the mediator of a set-up, and puts it into a handle that holds none. There are as many guests as limits.
 #[unsafe(no_mangle)]
@@ -197,7 +199,8 @@ pub extern "C" fn nvmed_raw_due(
     acting::due(alloc, handle, &event, due)
 }
 
-/// Carries out what is due of a guest (scope 1), of a lane (2) or of all (3), `most` events at most, and tells how many there were.
+/// Carries out what is due of a guest (scope 1), of a lane (2) or of all (3), `most` events at most, and tells how many there were. Where they are
+/// fewer nothing is left to be done, or there was no memory for what is.
 #[unsafe(no_mangle)]
 pub extern "C" fn nvmed_raw_work(
     alloc: Global,
@@ -207,18 +210,13 @@ pub extern "C" fn nvmed_raw_work(
     most: u64,
     done: &mut u64,
 ) -> u32
-    ensures { (result ≡ no_such) × (handle.new.hosted ≡ handle.old.hosted) ⊎ On IsWorked handle.old.hosted result handle.new.hosted }
+    ensures value { MatchOption (scope_numbered scope number) ((result ≡ no_such) × (handle.new.hosted ≡ handle.old.hosted) × (done.new ≡ done.old))
+        (λ s. On (IsWorkTold s most done.new) handle.old.hosted result handle.new.hosted) }
+    ensures none { handle.old.hosted ≡ None → done.new ≡ done.old }
 {
-    if scope == 3 {
-        return acting::work_all(alloc, handle, most, done);
-    }
-    let Some(number) = event::byte(number) else {
-        return status::NO_SUCH;
-    };
-    match scope {
-        1 => acting::work(alloc, handle, Party::Guest(number), most, done),
-        2 => acting::work(alloc, handle, Party::Lane(number), most, done),
-        _ => status::NO_SUCH,
+    match Scope::of(scope, number) {
+        Some(scope) => acting::work(alloc, handle, scope, most, done),
+        None => status::NO_SUCH,
     }
 }
 
@@ -250,7 +248,7 @@ pub extern "C" fn nvmed_raw_block(
     block: u64,
     at: &mut *const u8,
 ) -> u32
-    ensures { handle.new.hosted ≡ handle.old.hosted }
+    ensures { On (IsBlockTold block) handle.old.hosted result handle.new.hosted }
 {
     let Some(hosted) = handle.take(alloc) else {
         return status::NO_MEDIATOR;
@@ -274,7 +272,8 @@ pub extern "C" fn nvmed_raw_kept(
     block: u64,
     kept: &mut u32,
 ) -> u32
-    ensures { handle.new.hosted ≡ handle.old.hosted }
+    ensures value { On (IsKeptTold block kept.old kept.new) handle.old.hosted result handle.new.hosted }
+    ensures none { handle.old.hosted ≡ None → kept.new ≡ kept.old }
 {
     let Some(hosted) = handle.take(alloc) else {
         return status::NO_MEDIATOR;

@@ -1,40 +1,52 @@
 //! What is due, carried out.
 
-ghost use Rattle.std.specs.Prelude.{◌≡◌, true};
-ghost use Rattle.nv_c.specs.Work.{IsChosen, IsLater, is_work};
+ghost use Rattle.std.specs.Prelude.{◌≡◌, ◌<◌, ◌≤◌, ◌↔◌, ℕ, ⊤, IsTrue, None, Some, false, length};
+ghost use Rattle.nv_c.specs.Work.{IsChoice, IsFound, IsTurn, IsWork, IsWorked, NonePosts, NoneTakes, NoneWaits, PartyRests, Rests, SlotRests, scope_numbered};
+ghost use Rattle.nv_core.specs.Jobs.{holder_of, job_of};
+ghost use Rattle.nv_core.specs.Submit.{IsCurrent};
+ghost use Rattle.nv_mediator.specs.Hosted.{hosted_world};
+ghost use Rattle.nv_world_model.specs.Due.{due};
 
-use nv_mediator::Mediator;
+use crate::event::byte;
+use nv_mediator::{Holder, Mediator};
 use nv_plan::{Plan, Planned, make_plan};
 use nv_world_model::Event;
 use std::alloc::Global;
 
-/// How many guests there may be.
+/// How many guests there may be, and lanes.
 const GUESTS: u8 = 16;
-/// How many lanes there may be.
+
 const LANES: u8 = 8;
 /// How many tags a lane has, and how many slots.
 const TAGS: u8 = 64;
 /// The highest number of a guest's I/O queue; the lowest is 1.
 const LAST_QUEUE: u16 = 8;
-/// How many units a physical command has at most.
-const UNITS: u64 = 65_536;
 
 /// Of whom what is due is carried out.
 #[derive(Clone, Copy)]
-pub(crate) enum Party {
+pub(crate) enum Scope {
     /// a guest: its admin commands, and its commands that wait, which are taken and planned
     Guest(u8),
     /// a lane: the physical controller's side of it, its completions, and those of its commands
     Lane(u8),
+    /// all guests, and then all lanes
+    All,
 }
 
-impl Party {
-    /// The one of that number among all: the guests, and then the lanes.
-    fn of(number: u8) -> Self {
-        if number < GUESTS {
-            return Party::Guest(number);
+impl Scope {
+    /// The scope of that number in `enum nvmed_scope`, of the guest or the lane of the other; `None` where there is none.
+    pub(crate) fn of(scope: u32, number: u32) -> Option<Self>
+        ensures { result ≡ scope_numbered scope number }
+    {
+        if scope == 3 {
+            return Some(Scope::All);
         }
-        Party::Lane(number - GUESTS)
+        let number = byte(number)?;
+        match scope {
+            1 => Some(Scope::Guest(number)),
+            2 => Some(Scope::Lane(number)),
+            _ => None,
+        }
     }
 }
 
@@ -51,10 +63,21 @@ pub(crate) enum Choice {
     Starved,
 }
 
-// Where something was due last: it is looked there first.
+/// What was done.
+#[derive(Clone, Copy)]
+pub(crate) enum Turn {
+    /// one event
+    Served,
+    /// nothing was due
+    Idle,
+    /// there was no memory for what is
+    Starved,
+}
+
+// Where something was due last: it is looked there first. What is done does not depend on it, but for the order.
 #[derive(Clone, Copy)]
 struct Last {
-    // the number of the one who was served, among all
+    // the number of the one who was served, in a row of the guests and then the lanes
     party: u8,
     // a slot of the physical controller
     slot: u8,
@@ -82,193 +105,147 @@ pub(crate) struct Ended {
     pub(crate) starved: bool,
 }
 
-/// Carries out what is due of one, `most` events at most.
-#[tactic(auto, using(crate::proofs::Works::later_later, crate::proofs::Works::later_same))]
-pub(crate) fn of_one(alloc: Global, mediator: &mut Mediator, party: Party, most: u64) -> Ended
-    ensures { IsLater mediator.old mediator.new }
+/// Carries out what is due of a scope, `most` events at most.
+pub(crate) fn work(alloc: Global, mediator: &mut Mediator, scope: Scope, most: u64) -> Ended
+    ensures { IsWorked scope most result mediator.old mediator.new }
 {
-    let mut ended = Ended {
-        done: 0,
-        starved: false,
-    };
     let mut last = Last::new();
-    for _ in 0..most {
-        let choice = next_of(alloc, mediator, party, &mut last);
-        let going = carry_out(alloc, mediator, choice, &mut ended);
-        if !going {
-            break;
+    for done in 0..most {
+        match serve(alloc, mediator, scope, &mut last) {
+            Turn::Served => {}
+            Turn::Idle => {
+                return Ended {
+                    done,
+                    starved: false,
+                };
+            }
+            Turn::Starved => {
+                return Ended {
+                    done,
+                    starved: true,
+                };
+            }
         }
     }
-    ended
-}
-
-/// Carries out what is due of all, `most` events at most.
-#[tactic(auto, using(crate::proofs::Works::later_later, crate::proofs::Works::later_same))]
-pub(crate) fn of_all(alloc: Global, mediator: &mut Mediator, most: u64) -> Ended
-    ensures { IsLater mediator.old mediator.new }
-{
-    let mut ended = Ended {
-        done: 0,
+    Ended {
+        done: most,
         starved: false,
-    };
-    let mut last = Last::new();
-    for _ in 0..most {
-        let choice = next_of_all(alloc, mediator, &mut last);
-        let going = carry_out(alloc, mediator, choice, &mut ended);
-        if !going {
-            break;
-        }
     }
-    ended
 }
 
-// Carries out what was chosen, and counts it. Whether there may be more.
-#[tactic(auto, using(crate::proofs::Works::later_same))]
-fn carry_out(alloc: Global, mediator: &mut Mediator, choice: Choice, ended: &mut Ended) -> bool
-    requires { IsChosen choice }
-    ensures { IsLater mediator.old mediator.new }
+// Makes the event of a scope that comes next.
+fn serve(alloc: Global, mediator: &mut Mediator, scope: Scope, last: &mut Last) -> Turn
+    ensures { IsTurn scope mediator.old result mediator.new }
 {
-    match choice {
-        Choice::Make(event) => return make(alloc, mediator, &event, ended),
-        Choice::Submit(plan) => return submit(mediator, plan, ended),
-        Choice::Nothing => {}
-        Choice::Starved => ended.starved = true,
+    match next_of(alloc, mediator, scope, last) {
+        Choice::Make(event) => make(alloc, mediator, scope, &event),
+        Choice::Submit(plan) => submit(mediator, scope, plan),
+        Choice::Nothing => Turn::Idle,
+        Choice::Starved => Turn::Starved,
     }
-    false
 }
 
-// Makes an event, and counts it. Whether there was memory for it.
-#[tactic(auto, using(crate::proofs::Works::later_made, crate::proofs::Works::later_same))]
-fn make(alloc: Global, mediator: &mut Mediator, event: &Event, ended: &mut Ended) -> bool
-    requires { is_work event.now ≡ true }
-    ensures { IsLater mediator.old mediator.new }
+// Makes an event.
+fn make(alloc: Global, mediator: &mut Mediator, _scope: Scope, event: &Event) -> Turn
+    requires { IsWork _scope mediator.old event.now }
+    ensures { IsTurn _scope mediator.old result mediator.new }
 {
-    let Ok(_reply) = mediator.step(alloc, event) else {
-        ended.starved = true;
-        return false;
-    };
-    ended.done = ended.done.saturating_add(1);
-    true
+    match mediator.step(alloc, event) {
+        Ok(_reply) => Turn::Served,
+        Err(_) => Turn::Starved,
+    }
 }
 
-// Carries out a plan, and counts it. Whether it was made of what stands.
-#[tactic(auto, using(crate::proofs::Works::later_made, crate::proofs::Works::later_same))]
-fn submit(mediator: &mut Mediator, plan: Plan, ended: &mut Ended) -> bool
-    ensures { IsLater mediator.old mediator.new }
+// Carries out a plan that was made of what stands.
+fn submit(mediator: &mut Mediator, _scope: Scope, plan: Plan) -> Turn
+    requires current { IsCurrent mediator.old.geometry (hosted_world mediator.old) plan }
+    requires work { IsWork _scope mediator.old (Event.Submit plan.job.lane plan.job.tag) }
+    ensures { IsTurn _scope mediator.old result mediator.new }
 {
     let Some(_reply) = mediator.submit_plan(plan) else {
-        return false;
+        unreachable!()
     };
-    ended.done = ended.done.saturating_add(1);
-    true
+    Turn::Served
 }
 
-// What is due of the one who was served last, or of the next who has something.
-fn next_of_all(alloc: Global, mediator: &Mediator, last: &mut Last) -> Choice
-    ensures { IsChosen result }
+// What comes next of a scope.
+fn next_of(alloc: Global, mediator: &Mediator, scope: Scope, last: &mut Last) -> Choice
+    ensures { IsChoice scope mediator.now (Rests scope mediator.now) result }
 {
-    for _ in 0..GUESTS + LANES {
-        let number = last.party % (GUESTS + LANES);
-        match next_of(alloc, mediator, Party::of(number), last) {
-            Choice::Nothing => last.party = number + 1,
-            choice => return choice,
+    match scope {
+        Scope::Guest(guest) => next_of_guest(alloc, mediator, guest),
+        Scope::Lane(lane) => next_of_lane(mediator, lane, last),
+        Scope::All => next_of_all(alloc, mediator, last),
+    }
+}
+
+// What comes next of the one who was served last, or else of the next who has something.
+fn next_of_all(alloc: Global, mediator: &Mediator, last: &mut Last) -> Choice
+    ensures { IsChoice Scope.All mediator.now (Rests Scope.All mediator.now) result }
+{
+    mediator.promise();
+    let first = last.party;
+    match next_among(alloc, mediator, first, GUESTS + LANES, last) {
+        Choice::Nothing => next_among(alloc, mediator, 0, first, last),
+        choice => choice,
+    }
+}
+
+// What comes next of those from number `from` on, below number `to`.
+fn next_among(alloc: Global, mediator: &Mediator, from: u8, to: u8, last: &mut Last) -> Choice
+    ensures { IsChoice Scope.All mediator.now ((number : ℕ) → from ≤ number → number < to → PartyRests mediator.now number) result }
+{
+    for number in from..to {
+        match next_of_one(alloc, mediator, number, last) {
+            Choice::Nothing => {}
+            choice => {
+                last.party = number;
+                return choice;
+            }
         }
     }
     Choice::Nothing
 }
 
-// What is due of one.
-fn next_of(alloc: Global, mediator: &Mediator, party: Party, last: &mut Last) -> Choice
-    ensures { IsChosen result }
+// What comes next of the one of that number.
+fn next_of_one(alloc: Global, mediator: &Mediator, number: u8, last: &mut Last) -> Choice
+    ensures { IsChoice Scope.All mediator.now (PartyRests mediator.now number) result }
 {
-    match party {
-        Party::Guest(guest) => next_of_guest(alloc, mediator, guest),
-        Party::Lane(lane) => next_of_lane(mediator, lane, last),
+    if number < GUESTS {
+        next_of_guest(alloc, mediator, number)
+    } else {
+        next_of_lane(mediator, number - GUESTS, last)
     }
 }
 
-// What is due of a guest: an admin command, a command that was taken, or one that may be.
+// What comes next of a guest: an admin command, a command that waits for its plan, or one that may be taken.
 fn next_of_guest(alloc: Global, mediator: &Mediator, guest: u8) -> Choice
-    ensures { IsChosen result }
+    ensures { IsChoice (Scope.Guest guest) mediator.now (Rests (Scope.Guest guest) mediator.now) result }
 {
+    mediator.promise();
     if mediator.due(&Event::Admin(guest)) {
         return Choice::Make(Event::Admin(guest));
     }
-    for lane in 0..LANES {
-        for tag in 0..TAGS {
-            if is_own(mediator, guest, lane, tag) {
-                match plan(alloc, mediator, lane, tag) {
-                    Choice::Nothing => {}
-                    choice => return choice,
-                }
-            }
+    for lane in 0..mediator.lanes() {
+        match next_plan(alloc, mediator, guest, lane) {
+            Choice::Nothing => {}
+            choice => return choice,
         }
-        for queue in 1..=LAST_QUEUE {
-            if mediator.due(&Event::Take(guest, queue, lane)) {
-                return Choice::Make(Event::Take(guest, queue, lane));
-            }
+        if let Some(event) = next_take(mediator, guest, lane) {
+            return Choice::Make(event);
         }
     }
     Choice::Nothing
 }
 
-// Whether a tag has a command of the guest's, which goes by it.
-fn is_own(mediator: &Mediator, guest: u8, lane: u8, tag: u8) -> bool {
-    match mediator.holder(lane, tag) {
-        Some(holder) => holder.guest == guest && holder.leader == tag,
-        None => false,
-    }
-}
-
-// What comes next of a tag that was taken: what is wanted of its lists is read, its plan is carried out, or it is given up.
-fn plan(alloc: Global, mediator: &Mediator, lane: u8, tag: u8) -> Choice
-    ensures { IsChosen result }
+// What comes next of a guest's commands on a lane that wait for their plans.
+fn next_plan(alloc: Global, mediator: &Mediator, guest: u8, lane: u8) -> Choice
+    ensures { IsChoice (Scope.Guest guest) mediator.now (NoneWaits guest lane mediator.now) result }
 {
-    let Ok(job) = mediator.job(alloc, lane, tag) else {
-        return Choice::Starved;
-    };
-    let Some(job) = job else {
-        return Choice::Nothing;
-    };
-    let guest = job.guest;
-    let (Some(map), Some(ns), Some(limit)) = (
-        mediator.map(guest),
-        mediator.range(guest),
-        mediator.limit(guest),
-    ) else {
-        return Choice::Nothing;
-    };
-    match make_plan(alloc, alloc, job, map, ns, limit) {
-        Planned::Need(_, address, bytes) => Choice::Make(Event::List(lane, tag, address, bytes)),
-        Planned::Plan(plan) => Choice::Submit(plan),
-        Planned::NoMemory(_) => Choice::Make(Event::GiveUp(lane, tag)),
-    }
-}
-
-// What is due of a lane: the next unit of the slot that was served last, a command that may be completed for its guest, a physical completion,
-// an entry, or a command in a slot.
-fn next_of_lane(mediator: &Mediator, lane: u8, last: &mut Last) -> Choice
-    ensures { IsChosen result }
-{
-    if mediator.due(&Event::DevMove(lane, last.slot, last.unit)) {
-        let unit = last.unit;
-        last.unit = unit.saturating_add(1);
-        return Choice::Make(Event::DevMove(lane, last.slot, unit));
-    }
+    mediator.promise();
     for tag in 0..TAGS {
-        if mediator.due(&Event::Post(lane, tag)) {
-            return Choice::Make(Event::Post(lane, tag));
-        }
-    }
-    if mediator.due(&Event::Reap(lane)) {
-        return Choice::Make(Event::Reap(lane));
-    }
-    if mediator.due(&Event::DevTake(lane)) {
-        return Choice::Make(Event::DevTake(lane));
-    }
-    for slot in 0..TAGS {
-        if mediator.holder(lane, slot).is_some() {
-            match next_of_slot(mediator, lane, slot, last) {
+        if is_own(mediator, guest, lane, tag) {
+            match plan(alloc, mediator, guest, lane, tag) {
                 Choice::Nothing => {}
                 choice => return choice,
             }
@@ -277,19 +254,119 @@ fn next_of_lane(mediator: &Mediator, lane: u8, last: &mut Last) -> Choice
     Choice::Nothing
 }
 
-// What is due of the command in a slot: its completion, or its next unit.
-fn next_of_slot(mediator: &Mediator, lane: u8, slot: u8, last: &mut Last) -> Choice
-    ensures { IsChosen result }
+// Whether a command of the guest's goes by a tag.
+fn is_own(mediator: &Mediator, guest: u8, lane: u8, tag: u8) -> bool
+    ensures { IsTrue result ↔ (holder_of (hosted_world mediator.now) lane tag ≡ Some (record { guest = guest; leader = tag })) }
 {
-    if mediator.due(&Event::DevPost(lane, slot)) {
-        return Choice::Make(Event::DevPost(lane, slot));
+    match mediator.holder(lane, tag) {
+        Some(Holder { guest: its, leader }) => its == guest && leader == tag,
+        None => false,
     }
-    for number in 0..UNITS {
-        if mediator.due(&Event::DevMove(lane, slot, number)) {
-            last.slot = slot;
-            last.unit = number + 1;
-            return Choice::Make(Event::DevMove(lane, slot, number));
+}
+
+// What comes next of a guest's command that goes by a tag, where it waits for its plan: what is wanted of its lists is read, its plan is carried
+// out, or it is given up.
+fn plan(alloc: Global, mediator: &Mediator, guest: u8, lane: u8, tag: u8) -> Choice
+    requires { holder_of (hosted_world mediator.now) lane tag ≡ Some (record { guest = guest; leader = tag }) }
+    ensures { IsChoice (Scope.Guest guest) mediator.now (job_of (hosted_world mediator.now) lane tag ≡ None) result }
+{
+    mediator.promise();
+    let Ok(job) = mediator.job(alloc, lane, tag) else {
+        return Choice::Starved;
+    };
+    let Some(job) = job else {
+        return Choice::Nothing;
+    };
+    let (Some(map), Some(ns), Some(limit)) = (
+        mediator.map(guest),
+        mediator.range(guest),
+        mediator.limit(guest),
+    ) else {
+        unreachable!()
+    };
+    match make_plan(alloc, alloc, job, map, ns, limit) {
+        Planned::Need(_, address, bytes) => Choice::Make(Event::List(lane, tag, address, bytes)),
+        Planned::Plan(plan) => Choice::Submit(plan),
+        Planned::NoMemory(_) => Choice::Make(Event::GiveUp(lane, tag)),
+    }
+}
+
+// The taking of a guest's command on a lane that is due.
+fn next_take(mediator: &Mediator, guest: u8, lane: u8) -> Option<Event>
+    ensures { IsFound (Scope.Guest guest) mediator.now (NoneTakes guest lane mediator.now) result }
+{
+    for queue in 1..=LAST_QUEUE {
+        let event = Event::Take(guest, queue, lane);
+        if mediator.due(&event) {
+            return Some(event);
         }
     }
-    Choice::Nothing
+    None
+}
+
+// What comes next of a lane: the next unit of the slot that was served last, a command that may be completed for its guest, a physical completion,
+// an entry, or a command in a slot.
+fn next_of_lane(mediator: &Mediator, lane: u8, last: &mut Last) -> Choice
+    ensures { IsChoice (Scope.Lane lane) mediator.now (Rests (Scope.Lane lane) mediator.now) result }
+{
+    mediator.promise();
+    if mediator.due(&Event::DevMove(lane, last.slot, last.unit)) {
+        let unit = last.unit;
+        last.unit = unit.saturating_add(1);
+        return Choice::Make(Event::DevMove(lane, last.slot, unit));
+    }
+    if let Some(event) = next_post(mediator, lane) {
+        return Choice::Make(event);
+    }
+    if mediator.due(&Event::Reap(lane)) {
+        return Choice::Make(Event::Reap(lane));
+    }
+    if mediator.due(&Event::DevTake(lane)) {
+        return Choice::Make(Event::DevTake(lane));
+    }
+    match next_in_slots(mediator, lane, last) {
+        Some(event) => Choice::Make(event),
+        None => Choice::Nothing,
+    }
+}
+
+// The completion for a guest that is due on a lane.
+fn next_post(mediator: &Mediator, lane: u8) -> Option<Event>
+    ensures { IsFound (Scope.Lane lane) mediator.now (NonePosts lane mediator.now) result }
+{
+    mediator.promise();
+    for tag in 0..TAGS {
+        let event = Event::Post(lane, tag);
+        if mediator.due(&event) {
+            return Some(event);
+        }
+    }
+    None
+}
+
+// What is due of the commands that the physical controller holds in a lane's slots.
+fn next_in_slots(mediator: &Mediator, lane: u8, last: &mut Last) -> Option<Event>
+    ensures { IsFound (Scope.Lane lane) mediator.now ((slot : ℕ) → SlotRests lane mediator.now slot) result }
+{
+    mediator.promise();
+    for slot in 0..TAGS {
+        if let Some(event) = next_in_slot(mediator, lane, slot, last) {
+            return Some(event);
+        }
+    }
+    None
+}
+
+// What is due of the command in a slot: its completion, or its next unit.
+fn next_in_slot(mediator: &Mediator, lane: u8, slot: u8, last: &mut Last) -> Option<Event>
+    ensures { IsFound (Scope.Lane lane) mediator.now (SlotRests lane mediator.now slot) result }
+{
+    let event = Event::DevPost(lane, slot);
+    if mediator.due(&event) {
+        return Some(event);
+    }
+    let unit = mediator.next_unit(lane, slot)?;
+    last.slot = slot;
+    last.unit = unit.saturating_add(1);
+    Some(Event::DevMove(lane, slot, unit))
 }

@@ -1,5 +1,5 @@
-use Rattle.nv_c.proofs.Works.{later_made}
+use Rattle.nv_c.proofs.Works.{leads_one}
 use Rattle.nv_c.proofs.working.make.Goals as goal
 
-pub returns : goal.returns
-returns c = later_made c.args.event.now c.args.mediator.now c.step.new.self c.in-Ok._reply c.requires c.in-Ok.ensures.ok
+pub returns-in-Ok : goal.returns-in-Ok
+returns-in-Ok c = leads_one c.args._scope c.args.event.now c.args.mediator.now c.step.new.self c.in-Ok._reply c.requires c.in-Ok.ensures.ok

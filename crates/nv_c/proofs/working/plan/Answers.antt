@@ -1,0 +1,28 @@
+use Rattle.std.proofs.Common.{◌≡◌, ◌∙◌, sym, ap, Some}
+use Rattle.std.proofs.lemmas.Option.{none-some}
+use Rattle.std.specs.Option.{option_map}
+use Rattle.nv_c.proofs.Rests.{holder-given}
+use Rattle.nv_core.specs.Jobs.{job_of}
+use Rattle.nv_core.specs.declared.holding.Holder.{Holder}
+use Rattle.nv_mediator.specs.Hosted.{hosted_world, limit_of}
+use Rattle.nv_world_model.specs.declared.event.Event.TheVariants as event
+use Rattle.nv_c.proofs.working.plan.Goals.{in_default-2-via-in-Some+in-Some+in_default, in_default-2-via-in-Some+in_default, in_default-2-via-in_default}
+use Rattle.nv_c.proofs.working.plan.Goals as goal
+
+pub returns-in_default : goal.returns-in_default
+returns-in_default c = λ rests.
+    rests (event.GiveUp c.args.lane c.args.tag)
+    (record { own = ap (option_map (λ (x : Holder). x.guest)) c.requires; next = c.in_default.ensures.err })
+
+pub unreachable-requires : goal.unreachable-requires
+unreachable-requires c =
+    let h = c.args.mediator.now in
+    let there : job_of (hosted_world h) c.args.lane c.args.tag ≡ Some c.in-Some.job = sym c.in-Ok.ensures.ok ∙ c.in-Some.is in
+    let given =
+    holder-given h.geometry (hosted_world h) c.promise.ensures.consistent c.args.guest c.args.lane c.args.tag c.in-Some.job c.requires there in
+    elim c.in_default-2.branch [
+      | in_default-2-via-in-Some+in-Some+in_default w ↦
+          none-some given.0.limit (sym w.in_default-2.is-2 ∙ c.limit.ensures.value ∙ ap limit_of given.1)
+      | in_default-2-via-in-Some+in_default w ↦ none-some given.0 (sym w.in_default-2.ensures' ∙ given.1)
+      | in_default-2-via-in_default w ↦ none-some given.0 (sym w.in_default-2.ensures ∙ given.1)
+    ]
