@@ -1,8 +1,8 @@
 //! An honest guest that has up to four commands of all kinds at once, each with memory of its own.
 
-use crate::bench::{HEAD, HONEST, SLOTS, TAIL, behind, bytes_of, completion_at, entry_at};
-use crate::random::Random;
+use crate::bench::{HONEST, behind, completion_at, entry_at};
 use crate::runs::Runs;
+use nv_bringup::{Fields, HEAD, Random, SLOTS, TAIL, bytes_of};
 use nv_entry::Cqe;
 use nv_world_model::Event;
 
@@ -44,15 +44,6 @@ pub struct Busy {
     pub ended: u16,
     pub succeeded: u16,
     in_use: [bool; AREAS as usize],
-}
-
-/// What an entry says of a command, but for its identifier.
-#[derive(Clone, Copy)]
-struct Fields {
-    opcode: u32,
-    data: [u32; 4],
-    /// CDW10 to CDW12
-    dwords: [u32; 3],
 }
 
 /// The memory of a command: where its data and its lists begin.
@@ -118,7 +109,7 @@ impl Busy {
         }
         self.set_in_use(number, true);
         let fields = command(runs, random, Area::of(number));
-        runs.store(HONEST, entry_at(number), &bytes_of(&dwords(fields, number)));
+        runs.store(HONEST, entry_at(number), &bytes_of(&fields.entry(number)));
         runs.ring(HONEST, TAIL, behind(number));
         self.entered = self.entered.wrapping_add(1);
     }
@@ -174,16 +165,6 @@ fn carry(runs: &mut Runs, random: &mut Random) {
     if let Some(tag) = runs.tags.nth(HONEST, random.word()) {
         runs.carry(tag, random.once_in(2));
     }
-}
-
-// The entry of a command.
-fn dwords(fields: Fields, identifier: u16) -> [u32; 16] {
-    let [first, second, third, fourth] = fields.data;
-    let [cdw10, cdw11, cdw12] = fields.dwords;
-    let head = fields.opcode | u32::from(identifier) << 16;
-    [
-        head, 1, 0, 0, 0, 0, first, second, third, fourth, cdw10, cdw11, cdw12, 0, 0, 0,
-    ]
 }
 
 // A command, and what stands in memory for it.

@@ -1,8 +1,8 @@
 //! What the mediator and the physical controller do with a command that has a tag, event by event.
 
-use crate::bench::TAGS;
 use crate::runs::Runs;
 use crate::tags::Tag;
+use nv_bringup::TAGS;
 use nv_plan::{Planned, make_plan};
 use nv_world_model::Event;
 

@@ -1,9 +1,10 @@
 //! What a guest that does as it pleases does, step by step, with what comes of it.
 
-use crate::bench::{CC, HOSTILE, LANE_AREA, MEDIATOR, bytes_of, entry_at};
+use crate::bench::{HOSTILE, LANE_AREA, entry_at};
 use crate::honest::Honest;
 use crate::runs::Runs;
 use crate::tags::Tag;
+use nv_bringup::{CC, MEDIATOR, bytes_of};
 use nv_entry::Status;
 use nv_model::Reply;
 use nv_world_model::Event;

@@ -1,8 +1,9 @@
 //! The honest guest's commands, over and over: a Write, a Read by one Data Block, one by a Last Segment, one past a Bit Bucket, a Write of too few
 //! bytes, and two Compares.
 
-use crate::bench::{HEAD, HONEST, SLOTS, TAIL, behind, bytes_of, completion_at, entry_at};
+use crate::bench::{HONEST, behind, completion_at, entry_at};
 use crate::runs::Runs;
+use nv_bringup::{Fields, HEAD, SLOTS, TAIL, bytes_of};
 use nv_world_model::Event;
 use std::process::Abort;
 
@@ -214,25 +215,12 @@ fn lay(runs: &mut Runs, command: &Command) {
 
 // The entry of a command.
 fn dwords(command: &Command, identifier: u16) -> [u32; 16] {
-    let [first, second, third, fourth] = command.data;
-    [
-        command.opcode | u32::from(identifier) << 16,
-        1,
-        0,
-        0,
-        0,
-        0,
-        first,
-        second,
-        third,
-        fourth,
-        command.slba,
-        0,
-        command.nlb,
-        0,
-        0,
-        0,
-    ]
+    let fields = Fields {
+        opcode: command.opcode,
+        data: command.data,
+        dwords: [command.slba, 0, command.nlb],
+    };
+    fields.entry(identifier)
 }
 
 // The completion of a command: the head behind its entry, queue 1, its identifier, the phase tag of the pass, and its status.

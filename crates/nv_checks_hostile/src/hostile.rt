@@ -2,13 +2,12 @@
 //! and others' addresses and blocks. What the mediator and the device do with its commands is at random, too, and so are events that name what
 //! there is not.
 
-use crate::bench::{
-    ADMIN_QUEUES, ADMIN_SUBMISSIONS, ADMIN_TAIL, CC, DISABLED, ENABLED, HONEST, HOSTILE,
-    SUBMISSIONS, TAIL, bytes_of,
-};
-use crate::random::Random;
+use crate::bench::{HONEST, HOSTILE};
 use crate::runs::Runs;
 use crate::tags::Tag;
+use nv_bringup::{
+    ADMIN_SUBMISSIONS, ADMIN_TAIL, CC, DISABLED, ENABLED, Random, SUBMISSIONS, TAIL, bytes_of,
+};
 use nv_entry::Status;
 use nv_world_model::Event;
 

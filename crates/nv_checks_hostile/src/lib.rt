@@ -21,8 +21,6 @@ mod pairs;
 #[cfg(test)]
 mod parts;
 #[cfg(test)]
-mod random;
-#[cfg(test)]
 mod rows;
 #[cfg(test)]
 mod runs;

@@ -1,8 +1,9 @@
 //! The comparison itself: where a guest is served otherwise beside another than alone, it is found.
 
-use crate::bench::{CC, CSTS, DISABLED, HONEST, TAIL, behind, bytes_of, entry_at};
+use crate::bench::{HONEST, behind, entry_at};
 use crate::honest::{Honest, ROUND};
 use crate::runs::{Runs, Trial, attempt};
+use nv_bringup::{CC, CSTS, DISABLED, TAIL, bytes_of};
 use nv_mem::BoxedBytes;
 use nv_model::Act;
 use nv_world_model::Event;

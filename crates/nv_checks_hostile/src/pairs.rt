@@ -3,8 +3,8 @@
 use crate::bench::{HONEST, HOSTILE};
 use crate::busy::Busy;
 use crate::hostile;
-use crate::random::Random;
 use crate::runs::{Runs, Trial, attempt};
+use nv_bringup::Random;
 use std::process::Abort;
 
 /// How many seeds a test has, from its first on.

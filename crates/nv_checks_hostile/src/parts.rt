@@ -1,7 +1,7 @@
 //! How many tags a command takes, by the rules alone: one for each extent that its blocks meet, and of a Dataset Management one for each extent
 //! that there is; a Flush takes one, and so does what its fields refuse.
 
-use crate::bench::{BLOCKS, Span};
+use nv_bringup::{BLOCKS, Span};
 use nv_entry::{IoOpcode, Sqe};
 
 /// The most blocks of a transfer.

@@ -1,9 +1,10 @@
 //! What a guest may try, with what must come of it, and the honest guest's commands between. The values are read off the rules by hand.
 
-use crate::bench::{CSTS, DISABLED, ENABLED, HEAD, HONEST, HOSTILE, TAIL};
+use crate::bench::{HONEST, HOSTILE};
 use crate::deeds::{Beside, Deed, Row, Told, play};
 use crate::honest::{Honest, ROUND};
 use crate::runs::{Runs, Trial, attempt};
+use nv_bringup::{CSTS, DISABLED, ENABLED, HEAD, TAIL};
 use std::process::Abort;
 
 /// A Read of one block, of identifier 7 and SLBA 5, by one Data Block at this address.

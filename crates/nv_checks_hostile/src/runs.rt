@@ -1,11 +1,10 @@
 //! A run of both guests, and beside it a run of each alone.
 
 use crate::bench::{
-    self, ADMIN_QUEUES, ADMIN_SUBMISSIONS, ADMIN_TAIL, CC, CREATE_COMPLETION_QUEUE,
-    CREATE_SUBMISSION_QUEUE, ENABLED, HONEST, HONEST_IMAGE, HONEST_SPANS, HOSTILE, HOSTILE_IMAGES,
-    HOSTILE_SPANS, MEMORY, Span, bytes_of,
+    self, HONEST, HONEST_IMAGE, HONEST_SPANS, HOSTILE, HOSTILE_IMAGES, HOSTILE_SPANS,
 };
 use crate::tags::{Own, Tags};
+use nv_bringup::{BRING_UP, MEMORY, Span, act_of};
 use nv_mem::{BoxedBytes, Host, NoMemory};
 use nv_model::{Act, Reply};
 use nv_world::World;
@@ -121,21 +120,9 @@ impl Runs {
 
     /// A guest makes its admin queues and queue runs 1.
     pub fn bring_up(&mut self, guest: u8) {
-        self.store(
-            guest,
-            ADMIN_SUBMISSIONS,
-            &bytes_of(&CREATE_COMPLETION_QUEUE),
-        );
-        self.store(
-            guest,
-            ADMIN_SUBMISSIONS + 64,
-            &bytes_of(&CREATE_SUBMISSION_QUEUE),
-        );
-        for (offset, value) in ADMIN_QUEUES {
-            self.write(guest, offset, value);
+        for deed in BRING_UP {
+            self.act(guest, act_of(self.alloc, deed));
         }
-        self.write(guest, CC, ENABLED);
-        self.ring(guest, ADMIN_TAIL, 2);
         self.play(Event::Admin(guest));
         self.play(Event::Admin(guest));
     }

@@ -1,7 +1,8 @@
 //! Whose the tags of the run of both guests are, and which tag each has in the run of its guest alone.
 
-use crate::bench::{HONEST, TAGS, spans_of};
+use crate::bench::{HONEST, spans_of};
 use crate::parts::tags_of;
+use nv_bringup::TAGS;
 use nv_mem::NoMemory;
 use nv_model::Reply;
 use nv_world::World;

@@ -1,9 +1,10 @@
 //! A mediator beside a world: the same events, the same replies, and then the same memory and disk.
 
 use crate::calls::call;
-use crate::events::{BRING_UP, Random, event_of, next};
-use nv_mediator::{Extent, GuestSetup, Mediator, Setup};
-use nv_mem::{GuestMap, NoMemory, Region};
+use crate::events::next;
+use nv_bringup::{BRING_UP, Random, Span, act_of, guest_at, setup_of};
+use nv_mediator::{Mediator, Setup};
+use nv_mem::NoMemory;
 use nv_model::Reply;
 use nv_world::World;
 use nv_world_model::Event;
@@ -12,6 +13,23 @@ use std::process::Abort;
 
 /// How many random events there are in a run.
 const EVENTS: u16 = 2000;
+
+/// How many bytes the host has, and the host address of the guest's first.
+const HOST: u64 = 0x100_0000;
+
+const IMAGE: u64 = 0x10_0000;
+
+/// The guest's extents, the second before the first on the disk.
+const SPANS: &[Span] = &[
+    Span {
+        base: 2000,
+        blocks: 32,
+    },
+    Span {
+        base: 1000,
+        blocks: 32,
+    },
+];
 
 /// The pages of the host's memory that are compared: the guest's, and the mediator's of the lane.
 const PAGES: [(u64, u64); 2] = [(0x10_0000, 32), (0x40_0000, 2115)];
@@ -32,34 +50,10 @@ struct Seen {
     completed: u16,
 }
 
-// The set-up: a guest with 128 KiB of memory and two extents of 32 blocks each, the second before the first on the disk.
+// The set-up: one lane, and one guest.
 fn setup(alloc: Global) -> Option<Setup> {
-    let region = Region {
-        guest: 0,
-        host: 0x10_0000,
-        len: 0x2_0000,
-    };
-    let map = GuestMap::new(0x100_0000, vec![in alloc; region].ok()?).ok()?;
-    let first = Extent {
-        base: 2000,
-        blocks: 32,
-    };
-    let second = Extent {
-        base: 1000,
-        blocks: 32,
-    };
-    let guest = GuestSetup {
-        map,
-        extents: vec![in alloc; first, second].ok()?,
-        limit: 1024,
-    };
-    Some(Setup {
-        host_bytes: 0x100_0000,
-        mediator: 0x40_0000,
-        disk_blocks: 4096,
-        lanes: 1,
-        guests: vec![in alloc; guest].ok()?,
-    })
+    let guest = guest_at(alloc, HOST, IMAGE, SPANS)?;
+    Some(setup_of(HOST, 1, vec![in alloc; guest].ok()?))
 }
 
 // Both at their start.
@@ -116,7 +110,8 @@ fn is_alike(both: &mut Both, alloc: Global, event: Event, calls: bool, seen: &mu
 // The guest is brought up.
 fn brings_up(both: &mut Both, alloc: Global, calls: bool, seen: &mut Seen) -> Result<(), NoMemory> {
     for deed in BRING_UP {
-        is_alike(both, alloc, event_of(alloc, deed)?, calls, seen);
+        let event = Event::Guest(0, act_of(alloc, deed)?);
+        is_alike(both, alloc, event, calls, seen);
     }
     is_alike(both, alloc, Event::Admin(0), calls, seen);
     is_alike(both, alloc, Event::Admin(0), calls, seen);

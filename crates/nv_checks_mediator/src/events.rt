@@ -1,99 +1,11 @@
-//! Events that look random, the same for each seed, of a guest that is brought up first.
+//! Events that look random, the same for each seed, of a guest that was brought up before.
 
+use nv_bringup::{HEAD, Random, SUBMISSIONS, TAIL, bytes_of};
 use nv_entry::{Status, StatusCode};
 use nv_mem::{BoxedBytes, NoMemory};
 use nv_model::Act;
 use nv_world_model::Event;
 use std::alloc::Global;
-
-/// A linear congruential generator, by Knuth's constants; its upper bits are handed out.
-#[derive(Clone, Copy)]
-pub struct Random {
-    state: u64,
-}
-
-impl Random {
-    /// The generator of a seed.
-    pub fn new(seed: u64) -> Self {
-        Random { state: seed }
-    }
-
-    // The next number below 256.
-    fn byte(&mut self) -> u8 {
-        self.state = self
-            .state
-            .wrapping_mul(6_364_136_223_846_793_005)
-            .wrapping_add(1_442_695_040_888_963_407);
-        (self.state >> 40 & 0xff) as u8
-    }
-
-    // The next number below a power of 2, by its mask.
-    fn masked(&mut self, mask: u8) -> u8 {
-        self.byte() & mask
-    }
-}
-
-/// An act of the guest.
-#[derive(Clone, Copy)]
-pub enum Deed {
-    /// The entry with these dwords is stored.
-    Entry(u64, [u32; 16]),
-    /// A register is written.
-    Register(u32, u32),
-    /// A doorbell is rung.
-    Doorbell(u32, u32),
-}
-
-/// The guest's queue pair 1, of 16 slots each, is made by two admin commands.
-pub const BRING_UP: &[Deed] = &[
-    Deed::Entry(
-        0x1_0000,
-        [
-            0x0001_0005,
-            0,
-            0,
-            0,
-            0,
-            0,
-            0x1_2000,
-            0,
-            0,
-            0,
-            0x000f_0001,
-            1,
-            0,
-            0,
-            0,
-            0,
-        ],
-    ),
-    Deed::Entry(
-        0x1_0040,
-        [
-            0x0002_0001,
-            0,
-            0,
-            0,
-            0,
-            0,
-            0x1_3000,
-            0,
-            0,
-            0,
-            0x000f_0001,
-            0x0001_0001,
-            0,
-            0,
-            0,
-            0,
-        ],
-    ),
-    Deed::Register(0x24, 0x001f_001f),
-    Deed::Register(0x28, 0x1_0000),
-    Deed::Register(0x30, 0x1_1000),
-    Deed::Register(0x14, 0x0046_0001),
-    Deed::Doorbell(0x1000, 2),
-];
 
 /// A Write and a Read of two blocks on both sides of the join of the guest's extents, a Read by a list of one descriptor at 6000h, and a Flush.
 const ENTRIES: [[u32; 16]; 4] = [
@@ -154,35 +66,17 @@ const ENTRIES: [[u32; 16]; 4] = [
     [0x000a_0000, 1, 0, 0, 0, 0, 0, 0, 0, 0, 0, 0, 0, 0, 0, 0],
 ];
 
-// The bytes of an entry with these dwords.
-fn bytes_of(dwords: &[u32; 16]) -> [u8; 64] {
-    let mut bytes = [0; 64];
-    for (dword, out) in dwords.iter().zip(bytes.chunks_exact_mut(4)) {
-        out.copy_from_slice(&dword.to_le_bytes());
-    }
-    bytes
-}
-
 // The event by which the guest stores bytes.
 fn store(alloc: Global, addr: u64, bytes: &[u8]) -> Result<Event, NoMemory> {
     let bytes = BoxedBytes::from_slice(alloc, bytes)?;
     Ok(Event::Guest(0, Act::Store { addr, bytes }))
 }
 
-/// A deed as an event.
-pub fn event_of(alloc: Global, deed: &Deed) -> Result<Event, NoMemory> {
-    match *deed {
-        Deed::Entry(addr, dwords) => store(alloc, addr, &bytes_of(&dwords)),
-        Deed::Register(offset, value) => Ok(Event::Guest(0, Act::RegWrite { offset, value })),
-        Deed::Doorbell(offset, value) => Ok(Event::Guest(0, Act::Doorbell { offset, value })),
-    }
-}
-
 /// The next event.
 pub fn next(alloc: Global, random: &mut Random) -> Result<Event, NoMemory> {
-    let kind = random.masked(31);
-    let first = random.masked(3);
-    let second = random.masked(15);
+    let kind = random.byte() & 31;
+    let first = random.byte() & 3;
+    let second = random.byte() & 15;
     if kind < 6 {
         return guests(alloc, kind, first, second);
     }
@@ -195,19 +89,19 @@ fn guests(alloc: Global, kind: u8, first: u8, second: u8) -> Result<Event, NoMem
     match kind {
         0 => {
             let entry = ENTRIES[usize::from(first & 3)];
-            store(alloc, 0x1_3000 + 64 * slot, &bytes_of(&entry))
+            store(alloc, SUBMISSIONS + 64 * slot, &bytes_of(&entry))
         }
         1 => Ok(Event::Guest(
             0,
             Act::Doorbell {
-                offset: 0x1008,
+                offset: TAIL,
                 value: u32::from(second),
             },
         )),
         2 => Ok(Event::Guest(
             0,
             Act::Doorbell {
-                offset: 0x100c,
+                offset: HEAD,
                 value: u32::from(second),
             },
         )),

@@ -1,6 +1,6 @@
 //! What a guest's thread does by its port.
 
-use crate::bench::{CREATE_COMPLETION_QUEUE, CREATE_SUBMISSION_QUEUE, bytes_of};
+use nv_bringup::{BRING_UP, act_of, bytes_of};
 use nv_mem::{BoxedBytes, NoMemory};
 use nv_model::{Act, Reply};
 use nv_threads::{Port, Shared};
@@ -11,14 +11,6 @@ use std::time::{Clock, Duration};
 
 /// How often a guest looks for a completion, 100 microseconds apart.
 const LOOKS: u32 = 200_000;
-
-/// The registers of the bring-up, and their values: AQA, ASQ, ACQ and CC.
-pub const REGISTERS: [(u32, u32); 4] = [
-    (0x24, 0x001f_001f),
-    (0x28, 0x1_0000),
-    (0x30, 0x1_1000),
-    (0x14, 0x0046_0001),
-];
 
 /// A guest at its port.
 #[derive(Drop)]
@@ -84,13 +76,10 @@ pub fn awaits<R: Wait + Clock>(
     Ok(false)
 }
 
-// Whether the registers of the bring-up are written.
-fn writes_registers<R: Wait>(rt: &R, seat: &mut Seat<'_>) -> Result<bool, NoMemory> {
-    for (offset, value) in &REGISTERS {
-        let act = Act::RegWrite {
-            offset: *offset,
-            value: *value,
-        };
+// Whether the guest does what its bring-up takes.
+fn does_all<R: Wait>(rt: &R, seat: &mut Seat<'_>) -> Result<bool, NoMemory> {
+    for deed in BRING_UP {
+        let act = act_of(seat.alloc, deed)?;
         if !is_done(rt, seat, act)? {
             return Ok(false);
         }
@@ -100,13 +89,7 @@ fn writes_registers<R: Wait>(rt: &R, seat: &mut Seat<'_>) -> Result<bool, NoMemo
 
 /// Whether the guest's queue pair 1 is made.
 pub fn brings_up<R: Wait + Clock>(rt: &R, seat: &mut Seat<'_>) -> Result<bool, NoMemory> {
-    Ok(
-        stores(rt, seat, 0x1_0000, &bytes_of(&CREATE_COMPLETION_QUEUE))?
-            && stores(rt, seat, 0x1_0040, &bytes_of(&CREATE_SUBMISSION_QUEUE))?
-            && writes_registers(rt, seat)?
-            && rings(rt, seat, 0x1000, 2)?
-            && awaits(rt, seat, 0x1_101c, 0x0001_0002)?,
-    )
+    Ok(does_all(rt, seat)? && awaits(rt, seat, 0x1_101c, 0x0001_0002)?)
 }
 
 /// Whether a command in a slot of the submission queue is completed with that last dword.

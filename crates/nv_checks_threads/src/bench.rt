@@ -1,106 +1,33 @@
 //! A world with two lanes and two guests, each with 128 KiB of memory and 64 blocks, and the entries of their commands.
 
-use nv_mem::{GuestMap, Region};
-use nv_world::{Extent, GuestSetup, Setup, World};
+use nv_bringup::{BLOCKS, Span, guest_at, setup_of};
+use nv_world::{GuestSetup, World};
 use std::alloc::Global;
 
-/// How many bytes the host has, and each guest's memory.
+/// How many bytes the host has.
 pub const HOST: u64 = 0x200_0000;
-
-pub const MEMORY: u64 = 0x2_0000;
 
 /// The host address of each guest's first byte, and the disk's block that is each guest's first.
 pub const IMAGES: [u64; 2] = [0x10_0000, 0x20_0000];
 
 pub const BASES: [u64; 2] = [1000, 2000];
 
-/// How many blocks each guest has.
-pub const BLOCKS: u64 = 64;
-
-/// The most descriptors of a list.
-pub const LIMIT: u32 = 1024;
-
 // What one guest is to have.
 fn guest(alloc: Global, image: u64, base: u64) -> Option<GuestSetup> {
-    let region = Region {
-        guest: 0,
-        host: image,
-        len: MEMORY,
-    };
-    let regions = vec![in alloc; region].ok()?;
-    let extent = Extent {
+    let span = Span {
         base,
         blocks: BLOCKS,
     };
-    Some(GuestSetup {
-        map: GuestMap::new(HOST, regions).ok()?,
-        extents: vec![in alloc; extent].ok()?,
-        limit: LIMIT,
-    })
+    guest_at(alloc, HOST, image, &[span])
 }
 
 /// The world at its start; none where memory was refused.
 pub fn opened(alloc: Global) -> Option<World> {
     let first = guest(alloc, IMAGES[0], BASES[0])?;
     let second = guest(alloc, IMAGES[1], BASES[1])?;
-    let setup = Setup {
-        host_bytes: HOST,
-        mediator: 0x40_0000,
-        disk_blocks: 4096,
-        lanes: 2,
-        guests: vec![in alloc; first, second].ok()?,
-    };
-    World::new(alloc, setup).ok()
+    let guests = vec![in alloc; first, second].ok()?;
+    World::new(alloc, setup_of(HOST, 2, guests)).ok()
 }
-
-/// The bytes of an entry with these dwords.
-pub fn bytes_of(dwords: &[u32; 16]) -> [u8; 64] {
-    let mut bytes = [0; 64];
-    for (dword, out) in dwords.iter().zip(bytes.chunks_exact_mut(4)) {
-        out.copy_from_slice(&dword.to_le_bytes());
-    }
-    bytes
-}
-
-/// Completion queue 1 of 16 slots at 12000h is created.
-pub const CREATE_COMPLETION_QUEUE: [u32; 16] = [
-    0x0001_0005,
-    0,
-    0,
-    0,
-    0,
-    0,
-    0x1_2000,
-    0,
-    0,
-    0,
-    0x000f_0001,
-    1,
-    0,
-    0,
-    0,
-    0,
-];
-
-/// Submission queue 1 of 16 slots at 13000h is created.
-pub const CREATE_SUBMISSION_QUEUE: [u32; 16] = [
-    0x0002_0001,
-    0,
-    0,
-    0,
-    0,
-    0,
-    0x1_3000,
-    0,
-    0,
-    0,
-    0x000f_0001,
-    0x0001_0001,
-    0,
-    0,
-    0,
-    0,
-];
 
 /// A Read of block 5 into 3000h by one Data Block, as command 7.
 pub const READ_BY_LIST: [u32; 16] = [

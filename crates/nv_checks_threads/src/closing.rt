@@ -1,7 +1,8 @@
 //! The world that comes out of the lock has the set-up of the one that was put in.
 
-use crate::bench::{BASES, BLOCKS, HOST, IMAGES, LIMIT, MEMORY, opened};
+use crate::bench::{BASES, HOST, IMAGES, opened};
 use crate::running::{Part, run};
+use nv_bringup::{BLOCKS, LIMIT, MEMORY};
 use nv_mem::Region;
 use nv_ns::{Extent, VirtualNs};
 use nv_threads::{Open, Shared};

@@ -1,7 +1,6 @@
 //! What guest 0 does before there are workers, at the world itself.
 
-use crate::acting::REGISTERS;
-use crate::bench::{CREATE_COMPLETION_QUEUE, CREATE_SUBMISSION_QUEUE, bytes_of};
+use nv_bringup::{BRING_UP, Deed, act_of, bytes_of};
 use nv_mem::BoxedBytes;
 use nv_model::{Act, Reply};
 use nv_world::World;
@@ -31,18 +30,12 @@ pub fn rings(world: &mut World, alloc: Global, offset: u32, value: u32) -> bool 
     acts(world, alloc, Act::Doorbell { offset, value })
 }
 
-// Whether the guest's registers are written.
-fn writes_registers(world: &mut World, alloc: Global) -> bool {
-    for (offset, value) in &REGISTERS {
-        let act = Act::RegWrite {
-            offset: *offset,
-            value: *value,
-        };
-        if !acts(world, alloc, act) {
-            return false;
-        }
+// Whether a deed of the guest's is done.
+fn does(world: &mut World, alloc: Global, deed: &Deed) -> bool {
+    match act_of(alloc, deed) {
+        Ok(act) => acts(world, alloc, act),
+        Err(_) => false,
     }
-    true
 }
 
 /// Whether an admin command of the guest is answered.
@@ -52,10 +45,10 @@ pub fn answers(world: &mut World, alloc: Global) -> bool {
 
 /// Whether the guest's queue pair 1 is made.
 pub fn brings_up(world: &mut World, alloc: Global) -> bool {
-    stores_entry(world, alloc, 0x1_0000, &CREATE_COMPLETION_QUEUE)
-        && stores_entry(world, alloc, 0x1_0040, &CREATE_SUBMISSION_QUEUE)
-        && writes_registers(world, alloc)
-        && rings(world, alloc, 0x1000, 2)
-        && answers(world, alloc)
-        && answers(world, alloc)
+    for deed in BRING_UP {
+        if !does(world, alloc, deed) {
+            return false;
+        }
+    }
+    answers(world, alloc) && answers(world, alloc)
 }

@@ -1,8 +1,9 @@
 //! A guest's commands on the world and on a flat controller: they end alike, and leave the same bytes, blocks and
 //! marks, whatever extents the guest's namespace has.
 
-use crate::bench::{BLOCKS, Bench, DISK, MEMORY, SLOTS, Span, WHOLE, block_of};
+use crate::bench::{Bench, WHOLE, block_of};
 use crate::commands::{ROWS, Row, TABLES, entry};
+use nv_bringup::{BLOCKS, DISK, MEMORY, SLOTS, Span};
 use nv_entry::{Cqe, Sqe, Status, StatusCode};
 use nv_flat::FlatController;
 use std::alloc::Global;

@@ -2,60 +2,29 @@
 //!
 //! Each guest has 128 KiB of memory, queue pair 1, and a namespace of extents that the test names.
 
-use crate::random::Random;
+use nv_bringup::{
+    BLOCKS, BRING_UP, COMPLETIONS, Deed, HEAD, LIMIT, MEMORY, Random, SUBMISSIONS, Span, TAGS,
+    TAIL, bytes_of, guest_at, setup_of,
+};
 use nv_entry::{Cqe, Sqe};
-use nv_mem::{BoxedBytes, GuestMap, Region};
+use nv_mem::BoxedBytes;
 use nv_model::{Act, Reply};
 use nv_plan::{Planned, make_plan};
-use nv_world::{Extent, GuestSetup, Setup, World};
+use nv_world::{GuestSetup, World};
 use nv_world_model::Event;
 use std::alloc::Global;
-
-/// How many bytes a guest's memory has.
-pub const MEMORY: u64 = 0x2_0000;
 
 /// The host address of the first guest's first byte.
 pub const IMAGE: u64 = 0x10_0000;
 
-/// How many blocks a guest has.
-pub const BLOCKS: u64 = 64;
-
-/// How many blocks the disk has.
-pub const DISK: u64 = 4096;
-
 /// How many bytes the host has: enough for eight lanes.
 const HOST: u64 = 0x480_0000;
-
-/// The most descriptors of a list.
-const LIMIT: u32 = 1024;
-
-/// How many tags a lane has.
-pub const TAGS: u8 = 64;
 
 /// More units than any command of these tests has.
 const UNITS: u64 = 32;
 
 /// How often a list is read at most.
 const READS: u64 = 64;
-
-/// The slots of each I/O queue, where a test does not want more.
-pub const SLOTS: u16 = 16;
-
-/// Where the I/O queues lie in a guest's memory, and their doorbells.
-pub const COMPLETIONS: u64 = 0x1_2000;
-
-pub const SUBMISSIONS: u64 = 0x1_3000;
-
-const TAIL: u32 = 0x1008;
-
-const HEAD: u32 = 0x100c;
-
-/// Blocks of the disk in a row: so many from that one on.
-#[derive(Clone, Copy)]
-pub struct Span {
-    pub base: u64,
-    pub blocks: u64,
-}
 
 /// A namespace of one extent.
 pub const WHOLE: &[Span] = &[Span {
@@ -80,40 +49,13 @@ pub fn image_of(guest: u8) -> u64 {
     IMAGE + MEMORY * u64::from(guest)
 }
 
-// A guest's extents.
-fn extents(alloc: Global, spans: &[Span]) -> Option<Vec<Extent>> {
-    let mut extents = Vec::new(alloc);
-    for span in spans {
-        let extent = Extent {
-            base: span.base,
-            blocks: span.blocks,
-        };
-        extents.push(extent).ok()?;
-    }
-    Some(extents)
-}
-
-// A guest with these extents.
-fn guest_of(alloc: Global, number: u8, spans: &[Span]) -> Option<GuestSetup> {
-    let region = Region {
-        guest: 0,
-        host: image_of(number),
-        len: MEMORY,
-    };
-    let regions = vec![in alloc; region].ok()?;
-    Some(GuestSetup {
-        map: GuestMap::new(HOST, regions).ok()?,
-        extents: extents(alloc, spans)?,
-        limit: LIMIT,
-    })
-}
-
 // Guests with these namespaces.
 fn guests(alloc: Global, namespaces: &[&[Span]]) -> Option<Vec<GuestSetup>> {
     let mut guests = Vec::new(alloc);
     let mut number = 0u8;
     for spans in namespaces {
-        guests.push(guest_of(alloc, number, spans)?).ok()?;
+        let guest = guest_at(alloc, HOST, image_of(number), spans)?;
+        guests.push(guest).ok()?;
         number = number.wrapping_add(1);
     }
     Some(guests)
@@ -121,71 +63,9 @@ fn guests(alloc: Global, namespaces: &[&[Span]]) -> Option<Vec<GuestSetup>> {
 
 /// The world at its start, of guests with these namespaces; none where memory was refused.
 pub fn opened(alloc: Global, lanes: u64, namespaces: &[&[Span]]) -> Option<World> {
-    let setup = Setup {
-        host_bytes: HOST,
-        mediator: 0x40_0000,
-        disk_blocks: DISK,
-        lanes,
-        guests: guests(alloc, namespaces)?,
-    };
-    World::new(alloc, setup).ok()
+    let guests = guests(alloc, namespaces)?;
+    World::new(alloc, setup_of(HOST, lanes, guests)).ok()
 }
-
-/// The bytes of an entry with these dwords.
-pub fn bytes_of(dwords: &[u32; 16]) -> [u8; 64] {
-    let mut bytes = [0; 64];
-    for (dword, out) in dwords.iter().zip(bytes.chunks_exact_mut(4)) {
-        out.copy_from_slice(&dword.to_le_bytes());
-    }
-    bytes
-}
-
-/// The admin commands of the bring-up: completion queue 1 and submission queue 1, of 16 slots each.
-pub const CREATE_COMPLETION_QUEUE: [u32; 16] = [
-    0x0001_0005,
-    0,
-    0,
-    0,
-    0,
-    0,
-    0x1_2000,
-    0,
-    0,
-    0,
-    0x000f_0001,
-    1,
-    0,
-    0,
-    0,
-    0,
-];
-
-pub const CREATE_SUBMISSION_QUEUE: [u32; 16] = [
-    0x0002_0001,
-    0,
-    0,
-    0,
-    0,
-    0,
-    0x1_3000,
-    0,
-    0,
-    0,
-    0x000f_0001,
-    0x0001_0001,
-    0,
-    0,
-    0,
-    0,
-];
-
-/// The registers of the bring-up, and their values: AQA, ASQ, ACQ and CC.
-const REGISTERS: [(u32, u32); 4] = [
-    (0x24, 0x001f_001f),
-    (0x28, 0x1_0000),
-    (0x30, 0x1_1000),
-    (0x14, 0x0046_0001),
-];
 
 /// A world under test. What has to be done and is not is noted, so that a test asks once, at its end.
 #[derive(Drop)]
@@ -198,7 +78,7 @@ pub struct Bench {
     last_slot: u16,
     pub random: Random,
     /// of so many events that may be done next, one is
-    pub pace: u64,
+    pub pace: u32,
     /// whether tags and units have their turn from the last to the first
     pub backwards: bool,
 }
@@ -234,9 +114,14 @@ impl Bench {
         }
     }
 
+    // Whether the next event that may be done has its turn. Where each has, no random number is asked for.
+    fn has_turn(&mut self) -> bool {
+        self.pace < 2 || self.random.once_in(self.pace)
+    }
+
     /// Does an event that is due, where its turn has come.
     pub fn tries(&mut self, event: Event) {
-        if self.random.below(self.pace) == 0 && self.world.due(&event) {
+        if self.has_turn() && self.world.due(&event) {
             self.must(event);
         }
     }
@@ -267,19 +152,22 @@ impl Bench {
         self.store(guest, addr, &bytes_of(&dwords));
     }
 
-    // A guest writes the registers of the bring-up.
-    fn enable(&mut self, guest: u8) {
-        for (offset, value) in REGISTERS {
-            self.write_register(guest, offset, value);
+    // A guest does what belongs to its bring-up.
+    fn act(&mut self, guest: u8, deed: &Deed) {
+        match *deed {
+            Deed::Entry(addr, dwords) => self.create(guest, addr, &dwords),
+            Deed::Register(offset, value) => self.write_register(guest, offset, value),
+            Deed::Doorbell(offset, value) => {
+                self.must(Event::Guest(guest, Act::Doorbell { offset, value }));
+            }
         }
     }
 
     /// A guest makes its queues.
     pub fn bring_up(&mut self, guest: u8) {
-        self.create(guest, 0x1_0000, &CREATE_COMPLETION_QUEUE);
-        self.create(guest, 0x1_0040, &CREATE_SUBMISSION_QUEUE);
-        self.enable(guest);
-        self.ring(guest, 0x1000, 2);
+        for deed in BRING_UP {
+            self.act(guest, deed);
+        }
         self.must(Event::Admin(guest));
         self.must(Event::Admin(guest));
     }

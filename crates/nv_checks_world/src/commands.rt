@@ -1,6 +1,6 @@
 //! Commands of all six kinds, and what stands in the guest's memory for them.
 
-use crate::bench::bytes_of;
+use nv_bringup::bytes_of;
 use nv_entry::{Sqe, StatusCode};
 
 /// A command beside its identifier, and the code that it ends with.

@@ -1,7 +1,8 @@
 //! Commands of several parts of which some fail: the guest is told the first status that isn't success, in the order of the parts, whichever part
 //! ends first; a bounced Read is shown where all parts succeeded, and not at all where one failed.
 
-use crate::bench::{Bench, SLOTS, Span, bytes_of};
+use crate::bench::Bench;
+use nv_bringup::{SLOTS, Span, bytes_of};
 use nv_entry::{Sqe, Status};
 use nv_world_model::Event;
 use std::process::Abort;

@@ -19,8 +19,6 @@ mod many;
 #[cfg(test)]
 mod phases;
 #[cfg(test)]
-mod random;
-#[cfg(test)]
 mod refusals;
 #[cfg(test)]
 mod resets;

@@ -1,8 +1,8 @@
 //! Eight guests of eight extents each on eight lanes, and thousands of their commands side by side: each ends as on a flat controller of that guest
 //! alone, the bytes and blocks are the same, and no tag is lost.
 
-use crate::bench::{BLOCKS, Bench, MEMORY, SLOTS, Span, TAGS, block_of, bytes_of};
-use crate::random::Random;
+use crate::bench::{Bench, block_of};
+use nv_bringup::{BLOCKS, Fields, MEMORY, Random, SLOTS, Span, TAGS, bytes_of};
 use nv_entry::{Sqe, Status};
 use nv_flat::FlatController;
 use nv_model::Reply;
@@ -83,15 +83,6 @@ const NAMESPACES: [&[Span]; GUESTS as usize] = [
     namespace!(7),
 ];
 
-/// What an entry says of a command, but for its identifier.
-#[derive(Clone, Copy)]
-struct Fields {
-    opcode: u32,
-    data: [u32; 4],
-    /// CDW10 to CDW12
-    dwords: [u32; 3],
-}
-
 /// The blocks of a command: so many and one more, from that one on. They lie within the sixteen of its place.
 #[derive(Clone, Copy)]
 struct Blocks {
@@ -161,12 +152,7 @@ fn fields_of(choice: &Choice, place: u32) -> Fields {
 // A guest's command of that number.
 fn command(guest: u8, number: u16) -> Sqe {
     let fields = fields_of(&chosen(guest, number), u32::from(number));
-    let [first, second, third, fourth] = fields.data;
-    let [cdw10, cdw11, cdw12] = fields.dwords;
-    let head = fields.opcode | u32::from(number) << 16;
-    Sqe::of(&bytes_of(&[
-        head, 1, 0, 0, 0, 0, first, second, third, fourth, cdw10, cdw11, cdw12, 0, 0, 0,
-    ]))
+    Sqe::of(&bytes_of(&fields.entry(number)))
 }
 
 // Two ranges of a guest's command of that number: its blocks, and one more.
@@ -291,7 +277,7 @@ impl Many {
     }
 
     // Commands are taken and go on that often, and of so many events that are due one is done.
-    fn turns(&mut self, often: u8, pace: u64) {
+    fn turns(&mut self, often: u8, pace: u32) {
         self.bench.pace = pace;
         for _ in 0..often {
             self.turn();

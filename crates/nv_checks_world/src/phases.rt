@@ -1,8 +1,9 @@
 //! The mediator reaps by positions, and a driver by phase tags: along commands that go round the physical completion ring more than twice,
 //! the slot that is reaped next has the phase tag that a driver waits for exactly where a completion is due to be reaped.
 
-use crate::bench::{Bench, SLOTS, WHOLE};
+use crate::bench::{Bench, WHOLE};
 use crate::commands::{ROWS, entry};
+use nv_bringup::SLOTS;
 use nv_entry::Cqe;
 use nv_world::World;
 use nv_world_model::Event;

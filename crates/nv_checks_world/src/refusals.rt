@@ -1,7 +1,8 @@
 //! A call that had no memory, and the same call again. With `rt try --test --fail-alloc N` the N-th allocation of a
 //! test is refused; the log has to be the same whichever it is, or none.
 
-use crate::bench::{self, WHOLE, bytes_of, completion_at};
+use crate::bench::{self, WHOLE, completion_at};
+use nv_bringup::{CREATE_COMPLETION_QUEUE, CREATE_SUBMISSION_QUEUE, LIMIT, bytes_of};
 use nv_mem::{BoxedBytes, NoMemory};
 use nv_model::{Act, Reply};
 use nv_plan::{Plan, Planned, make_plan};
@@ -53,8 +54,8 @@ const DESCRIPTOR: [u32; 16] = [0x3002, 0, 512, 0, 0, 0, 0, 0, 0, 0, 0, 0, 0, 0, 
 
 /// The guest is brought up, its command is taken and its list is read: 16 events, so that the log has no room left for the next.
 const BEFORE: &[Deed] = &[
-    Deed::Entry(0x1_0000, bench::CREATE_COMPLETION_QUEUE),
-    Deed::Entry(0x1_0040, bench::CREATE_SUBMISSION_QUEUE),
+    Deed::Entry(0x1_0000, CREATE_COMPLETION_QUEUE),
+    Deed::Entry(0x1_0040, CREATE_SUBMISSION_QUEUE),
     Deed::Register(0x24, 0x001f_001f),
     Deed::Register(0x28, 0x1_0000),
     Deed::Register(0x30, 0x1_1000),
@@ -140,7 +141,7 @@ fn planned(world: &World, alloc: Global) -> Option<Planned> {
     let job = world.job(alloc, 0, 0).ok()??;
     let map = world.map(job.guest)?;
     let ns = world.range(job.guest)?;
-    Some(make_plan(alloc, alloc, job, map, ns, 1024))
+    Some(make_plan(alloc, alloc, job, map, ns, LIMIT))
 }
 
 // Whether the command of tag 0 is planned, and its plan carried out; none where there was no memory.

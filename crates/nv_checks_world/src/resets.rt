@@ -1,20 +1,12 @@
 //! A guest that resets its controller while a command of several parts is on its way: between any two of the events by which the parts are handed on,
 //! taken, moved, posted and reaped. The command runs out without a completion, its tags come free, and the guest is served as ever afterwards.
 
-use crate::bench::{Bench, COMPLETIONS, SLOTS, TAGS};
+use crate::bench::Bench;
 use crate::failing::{READ, THREE, entry};
+use nv_bringup::{CC, COMPLETIONS, CSTS, DISABLED, ENABLED, SLOTS};
 use nv_model::{Act, Reply};
 use nv_world_model::Event;
 use std::process::Abort;
-
-/// CC and CSTS, and what disables and enables the controller.
-const CC: u32 = 0x14;
-
-const CSTS: u32 = 0x1c;
-
-const DISABLED: u32 = 0x0046_0000;
-
-const ENABLED: u32 = 0x0046_0001;
 
 /// How many events a command of three parts has behind its doorbell, the last of which completes it.
 const STEPS: u8 = 15;

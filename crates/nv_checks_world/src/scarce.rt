@@ -1,6 +1,7 @@
 //! A command that needs two tags where one is free: it waits in its queue, and is taken once another has come free.
 
-use crate::bench::{Bench, Span, bytes_of};
+use crate::bench::Bench;
+use nv_bringup::{Span, bytes_of};
 use nv_entry::Sqe;
 use nv_model::Reply;
 use nv_world_model::Event;

@@ -1,8 +1,8 @@
 //! Sizes at and beyond each limit of a set-up.
 
-use crate::bench::Span;
+use nv_bringup::{Span, extents_of};
 use nv_mem::{GuestMap, Region};
-use nv_world::{Extent, GuestSetup, Refusal, Setup, World};
+use nv_world::{GuestSetup, Refusal, Setup, World};
 use nv_world_model::Logged;
 use std::alloc::Global;
 use std::process::Abort;
@@ -458,18 +458,6 @@ fn plain_seat(number: u8, made_for: u64) -> Seat {
     }
 }
 
-// The extents that these are.
-fn extents(alloc: Global, spans: &[Span]) -> Result<Vec<Extent>, Fail> {
-    let mut extents = Vec::new(alloc);
-    for span in spans {
-        extents.push(Extent {
-            base: span.base,
-            blocks: span.blocks,
-        })?;
-    }
-    Ok(extents)
-}
-
 // A guest with that, and these blocks.
 fn guest(alloc: Global, seat: &Seat, spans: &[Span]) -> Result<GuestSetup, Fail> {
     let mut regions = Vec::new(alloc);
@@ -482,7 +470,7 @@ fn guest(alloc: Global, seat: &Seat, spans: &[Span]) -> Result<GuestSetup, Fail>
     }
     Ok(GuestSetup {
         map: GuestMap::new(seat.made_for, regions)?,
-        extents: extents(alloc, spans)?,
+        extents: extents_of(alloc, spans)?,
         limit: seat.limit,
     })
 }

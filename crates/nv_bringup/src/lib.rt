@@ -1,0 +1,26 @@
+//! What tests of worlds have in common: set-ups, the bring-up of a guest, entries as bytes, and numbers that look random.
+//!
+//! A guest under test is given 128 KiB of memory and what [`Span`]s it is to have of the disk: by [`guest_at`] in one region, by [`guest_of`] in any.
+//! [`setup_of`] makes the set-up of guests. [`BRING_UP`] is what a guest does to get queue pair 1, and [`act_of`] makes an act of each such deed.
+//! [`Fields`] are what a command's entry says, [`bytes_of`] are an entry's bytes.
+//!
+//! Proved is that the bytes of an entry are its dwords', the lowest byte first; that a guest has the regions and the limit that it is to have, and
+//! the set-up the guests; and that a number of [`Random`] is below its bound. The rest is tested by its use alone, in `nv_checks_threads`,
+//! `nv_checks_world`, `nv_checks_hostile` and `nv_checks_mediator`: that the bring-up makes the queues that it names, and which numbers come.
+#![tactic(auto)]
+
+mod bring_up;
+mod entry;
+mod random;
+mod set_up;
+
+pub use bring_up::{
+    ADMIN_SUBMISSIONS, ADMIN_TAIL, BRING_UP, CC, COMPLETIONS, CREATE_COMPLETION_QUEUE,
+    CREATE_SUBMISSION_QUEUE, CSTS, DISABLED, Deed, ENABLED, HEAD, SLOTS, SUBMISSIONS, TAIL, act_of,
+};
+pub use entry::{Fields, bytes_of};
+pub use random::Random;
+pub use set_up::{
+    BLOCKS, DISK, LIMIT, MEDIATOR, MEMORY, Span, TAGS, extents_of, guest_at, guest_of, region,
+    setup_of,
+};
