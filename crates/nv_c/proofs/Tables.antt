@@ -1,5 +1,5 @@
 -- Tables that are gone through, one member at a time.
-use Rattle.std.proofs.Common.{◌≡◌, ◌∙◌, ℕ, ◌+◌, ◌==◌, ◌<◌, false, List, [], ◌∷◌, ◌++◌, length, get_or, take, ap, arith, sym, eq-eqb}
+use Rattle.std.proofs.Common.{◌≡◌, ◌∙◌, ℕ, zero, suc, ◌+◌, ◌==◌, ◌<◌, nat_lt, false, true, List, [], ◌∷◌, ◌++◌, length, get_or, slice_get, take, ap, arith, refl, sym, eq-eqb, Some}
 use Rattle.std.specs.Prelude.{flat_map}
 use Rattle.std.proofs.lemmas.Bool.Decides.{nat_tests}
 use Rattle.std.proofs.lemmas.List.{append-nil, flat_map_more, length-take-le, take_more}
@@ -9,6 +9,7 @@ use Rattle.nv_c.specs.declared.setup.Region.{Region}
 use Rattle.nv_mem.specs.declared.region.Region as mem
 use Rattle.nv_ns.specs.BlockRange as ns
 use Rattle.nv_world_model.specs.Geometry.{Guest}
+use Rattle.nv_world_model.specs.SetUp.{SetUp, TooManyGuests, most_guests, refusal_of}
 
 -- one more member, of which something is put behind the rest, or nothing
 flat_map_next : {A B : Type 0} (f : A → List B) (xs : List A) (i : ℕ) (d : A) → i < length xs
@@ -78,3 +79,24 @@ given_next h rs es limits i d now guest below so_far is =
     ∙ ap (λ (g : Guest). all_given h rs es 0 (take i limits) ++ g ∷ []) is
     ∙ sym (given_behind h rs es 0 (take i limits) (get_or limits i d) i (omega (arith, many)))
     ∙ ap (all_given h rs es 0) (sym (take_more limits i d below))
+
+-- the guest of a number is the one of its limit, and there are as many as limits
+pub given_at : (host_bytes : ℕ) (regions : List Region) (extents : List Extent) (from : ℕ) (limits : List ℕ) (i d number : ℕ) → i < length limits
+    → from + i ≡ number → slice_get (all_given host_bytes regions extents from limits) i ≡ Some (given host_bytes regions extents number (get_or limits i d))
+unfolding all_given
+given_at h rs es from [] i d number below is = absurd (omega (arith, below))
+given_at h rs es from (l ∷ ls) zero d number below is = ap (λ (n : ℕ). Some (given h rs es n l)) (omega (arith, is))
+given_at h rs es from (l ∷ ls) (suc i) d number below is = given_at h rs es (from + 1) ls i d number (omega (arith, below)) (omega (arith, is))
+
+pub given_count : (host_bytes : ℕ) (regions : List Region) (extents : List Extent) (from : ℕ) (limits : List ℕ)
+    → length (all_given host_bytes regions extents from limits) ≡ length limits
+unfolding all_given
+given_count h rs es from [] = refl
+given_count h rs es from (l ∷ ls) = ap suc (given_count h rs es (from + 1) ls)
+
+-- where they are more than 16 the set-up is refused
+pub too_many : (s : SetUp) → 16 < length s.geometry.guests → refusal_of s ≡ Some TooManyGuests
+unfolding refusal_of
+too_many s more =
+    let is : nat_lt most_guests (length s.geometry.guests) ≡ true = grind (arith, nat_tests, more) in
+    rw is refl

@@ -1,5 +1,5 @@
 -- What a call by C is answered, and what it does to the mediator behind a handle.
-use Rattle.std.specs.Prelude.{◌≡◌, ◌⊎◌, ◌<◌, ◌≤◌, ◌==◌, ℕ, Bool, if◌then◌else◌, length, nat_lt, List, Option, Some, None}
+use Rattle.std.specs.Prelude.{◌≡◌, ◌⊎◌, ◌<◌, ◌≤◌, ◌==◌, ℕ, Bool, if◌then◌else◌, length, nat_lt, slice_get, IsSome, List, Option, Some, None}
 use Rattle.std.specs.Int.{from_le_bytes, w32}
 use Rattle.nv_core.specs.Seat.{bytes_told}
 use Rattle.nv_core.specs.Shown.{mark_shown}
@@ -8,10 +8,17 @@ use Rattle.nv_c.specs.Names.{Names}
 use Rattle.nv_c.specs.Work.{IsWorked}
 use Rattle.nv_c.specs.declared.working.Scope.{Scope}
 use Rattle.nv_mediator.specs.Hosted.{Hosted, IsAtStart, IsMade, hosted_world}
+use Rattle.nv_mediator.specs.Refused.{refused}
+use Rattle.nv_mediator.specs.declared.refusal.Refusal.{Refusal}
+use Rattle.nv_mediator.specs.declared.refusal.Refusal.TheVariants as refusal
+use Rattle.nv_mem.specs.MapRefusal.{refusal_of as map_refused}
+use Rattle.nv_mem.specs.declared.map_error.MapError.{MapError}
+use Rattle.nv_mem.specs.declared.map_error.MapError.TheVariants as map
 use Rattle.nv_model.specs.declared.reply.Reply.{Reply}
 use Rattle.nv_model.specs.declared.reply.Reply.TheVariants as reply
 use Rattle.nv_world_model.specs.declared.event.Event.{Event}
-use Rattle.nv_world_model.specs.SetUp.{SetUp}
+use Rattle.nv_world_model.specs.Geometry.{Guest}
+use Rattle.nv_world_model.specs.SetUp.{SetUp, refusal_of}
 use Rattle.nv_world_model.specs.Due.{due}
 
 -- ---- the numbers of `enum nvmed_status`, as the header has them
@@ -24,6 +31,23 @@ no_mediator = 16
 
 abbrev pub no_such : ℕ
 no_such = 18
+
+abbrev pub in_use : ℕ
+in_use = 17
+
+-- what a guest's regions are answered that are no map
+abbrev pub status_of_map : MapError → ℕ
+status_of_map map.Unaligned = 13
+status_of_map map.Overlap = 14
+status_of_map map.OutsideHost = 15
+
+-- what a set-up is answered that is no world
+abbrev pub status_of_refusal : Refusal → ℕ
+status_of_refusal refusal.NoMemory = no_memory
+status_of_refusal refusal.TooManyGuests = 9
+status_of_refusal refusal.RangesMeet = 10
+status_of_refusal refusal.MapsMeet = 11
+status_of_refusal refusal.BadSize = 12
 
 -- what an event is answered
 abbrev pub status_of : Reply → ℕ
@@ -111,7 +135,22 @@ On Does before status after =
 abbrev pub OfGuest : (number : ℕ) → (Does : Hosted → ℕ → Hosted → Type 0) → (before : Option Hosted) → (status : ℕ) → (after : Option Hosted) → Type 0
 OfGuest number Does before status after = (256 ≤ number) × (status ≡ no_such) × (after ≡ before) ⊎ On Does before status after
 
--- a handle that held no mediator holds one at the start of the set-up; or it was refused, and the handle is as it was
+-- what a guest was to have was refused, and the answer tells a reason that holds: there was no memory, or its regions are no map
+abbrev pub IsGuestRefused : Guest → (status : ℕ) → Type 0
+IsGuestRefused guest status =
+    (status ≡ no_memory)
+    ⊎ ((error : MapError) × (map_refused guest.memory_map.host_len guest.memory_map.regions ≡ Some error) × (status ≡ status_of_map error))
+
+-- so was a set-up: a guest's part of it, or the whole
+abbrev pub IsRefused : SetUp → (status : ℕ) → Type 0
+IsRefused s status =
+    (status ≡ no_memory)
+    ⊎ ((number : ℕ) × (guest : Guest) × (slice_get s.geometry.guests number ≡ Some guest) × IsGuestRefused guest status)
+    ⊎ ((reason : Refusal) × (refused (refusal_of s) ≡ Some reason) × (status ≡ status_of_refusal reason))
+
+-- a handle that held no mediator holds one at the start of the set-up, or stays without, since it was refused; one that held one keeps it
 abbrev pub IsOpened : SetUp → (before : Option Hosted) → (status : ℕ) → (after : Option Hosted) → Type 0
-IsOpened setup before status after =
-    (status ≡ 0) × (before ≡ None) × ((h : Hosted) × (after ≡ Some h) × IsAtStart setup h) ⊎ (0 < status) × (after ≡ before)
+IsOpened s before status after =
+    ((status ≡ 0) × (before ≡ None) × ((h : Hosted) × (after ≡ Some h) × IsAtStart s h))
+    ⊎ ((before ≡ None) × (after ≡ None) × IsRefused s status)
+    ⊎ (IsSome before × (after ≡ before) × (status ≡ in_use))

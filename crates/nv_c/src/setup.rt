@@ -1,6 +1,7 @@
 //! The set-up, in plain structs.
 
-ghost use Rattle.std.specs.Prelude.{◌≡◌, ◌<◌, IfErr, IfOk};
+ghost use Rattle.std.specs.Prelude.{◌≡◌, IfErr, IfOk};
+ghost use Rattle.nv_c.specs.Calls.{IsGuestRefused, IsRefused};
 ghost use Rattle.nv_c.specs.Tables.{extents_of, given, regions_of, setup_of};
 
 use crate::status;
@@ -61,7 +62,7 @@ pub(crate) fn setup_of(
     extents: &[Extent],
 ) -> Result<Setup, u32>
     ensures ok { IfOk result (λ setup. setup ≡ setup_of sizes.now limits.now regions.now extents.now) }
-    ensures err { IfErr result (λ answer. 0 < answer) }
+    ensures err { IfErr result (λ answer. IsRefused (setup_of sizes.now limits.now regions.now extents.now) answer) }
 {
     if limits.len() > MOST_GUESTS {
         return Err(status::TOO_MANY_GUESTS);
@@ -99,7 +100,7 @@ impl Own<'_> {
     // What the guest is to have, with that limit.
     fn given(&self, alloc: Global, host_bytes: u64, limit: u32) -> Result<GuestSetup, u32>
         ensures ok { IfOk result (λ guest. guest ≡ given host_bytes self.now.regions.now self.now.extents.now self.now.guest limit) }
-        ensures err { IfErr result (λ answer. 0 < answer) }
+        ensures err { IfErr result (λ answer. IsGuestRefused (given host_bytes self.now.regions.now self.now.extents.now self.now.guest limit) answer) }
     {
         let Ok(regions) = regions_of(alloc, self.guest, self.regions) else {
             return Err(status::NO_MEMORY);

@@ -1,7 +1,7 @@
 //! What a call is answered: the numbers of `enum nvmed_status`.
 
-ghost use Rattle.std.specs.Prelude.{◌≡◌, ◌<◌};
-ghost use Rattle.nv_c.specs.Calls.{status_of};
+ghost use Rattle.std.specs.Prelude.{◌≡◌};
+ghost use Rattle.nv_c.specs.Calls.{status_of, status_of_map, status_of_refusal};
 
 use nv_mediator::Refusal;
 use nv_mem::MapError;
@@ -43,7 +43,7 @@ pub(crate) fn of_reply(reply: &Reply) -> u32
 
 /// What a set-up is answered, by the reason for which it was refused.
 pub(crate) fn of_refusal(refusal: Refusal) -> u32
-    ensures { 0 < result }
+    ensures { result ≡ status_of_refusal refusal }
 {
     match refusal {
         Refusal::NoMemory => NO_MEMORY,
@@ -56,7 +56,7 @@ pub(crate) fn of_refusal(refusal: Refusal) -> u32
 
 /// What a set-up is answered, by the reason for which a guest's regions are no map.
 pub(crate) fn of_map_error(error: MapError) -> u32
-    ensures { 0 < result }
+    ensures { result ≡ status_of_map error }
 {
     match error {
         MapError::Unaligned => 13,
