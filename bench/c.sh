@@ -6,6 +6,7 @@
 # library is proved first, where it is not yet.
 #
 #     bench/c.sh                     builds the library and all of the above
+#     bench/c.sh time                tells how long nvmed_work takes (bench/work.c), and runs nothing else
 #     LIBRARY=libnv_c.a bench/c.sh   takes a library that is there
 set -euo pipefail
 export LC_ALL=C
@@ -46,6 +47,12 @@ run() {
     fi
 }
 
+if [[ ${1:-} == time ]]; then
+    warnings+=(-O2)
+    build "$top/bench/work.c" work
+    "$room/work-c"
+    exit
+fi
 build "$top/examples/host.c" host
 build "$top/bench/wrong/c.c" wrong
 for language in c cxx; do
