@@ -1,7 +1,7 @@
 #!/usr/bin/env python3
 """try.py LIST [NAME..]: tries wrong definitions or bugs, one by one, in the repository that this file stands in, which it changes
-and puts back; so run it in a clone. LIST is LISTS, WORLD, MORE_LISTS or MORE_WORLD (definitions.py), ONCE, WORKERS, PRINT or RUN_SCRIPT
-(bugs.py; at_once.py asks the proofs alone, and of a whole list in one check).
+and puts back; so run it in a clone. LIST is LISTS, WORLD, MORE_LISTS or MORE_WORLD (definitions.py), ONCE, WORKERS, PRINT, RUN_SCRIPT,
+ONCE_SCRIPT_MORE or REPLAY_SCRIPT (bugs.py; at_once.py asks the proofs alone, and of a whole list in one check).
 
 A definition is tried against the computed examples, lowest crate first; a bug against the proofs of its crate and, where these let it
 through, the tests that run it. Prints of each who refused it, or THROUGH, and the seconds that it took."""
@@ -27,6 +27,8 @@ TRIALS = {
     "WORKERS": (bugs.WORKERS, [("nv_threads", ["check"]), ("nv_checks_threads", ["try", "--test"])]),
     "PRINT": (bugs.PRINT, [("nv_print", ["check"]), ("nv_checks_program", ["try", "--test"])]),
     "RUN_SCRIPT": (bugs.RUN_SCRIPT, [("nv_run_script", ["check"]), ("nv_checks_script", ["try", "--test"])]),
+    "ONCE_SCRIPT_MORE": (bugs.ONCE_SCRIPT_MORE, [("nv_once_script", ["check"]), ("nv_checks_script", ["try", "--test"]), ("nv_checks_program", ["try", "--test"])]),
+    "REPLAY_SCRIPT": (bugs.REPLAY_SCRIPT, [("nv_replay_script", ["check"]), ("nv_checks_script", ["try", "--test"])]),
 }
 
 
