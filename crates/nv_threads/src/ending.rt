@@ -8,7 +8,7 @@ use crate::notes::Notes;
 use crate::planning::GuestPlanner;
 use crate::simulated::{go_on, planned};
 use crate::simulated_guest::{Guest, entry_of, rings};
-use crate::simulated_worlds::{Extents, MANY, ONE, opened};
+use crate::simulated_worlds::{Extents, MANY, ONE, TWO, opened};
 use crate::tasks::Turn;
 use nv_mem::BoxedBytes;
 use nv_model::Act;
@@ -20,9 +20,6 @@ use std::test::Fail;
 
 /// How many turns a planner has at most.
 const TURNS: u32 = 1_000;
-
-/// Guests of two extents.
-const TWO: Extents = [[30, 34, 0, 0, 0, 0, 0, 0]; 3];
 
 /// A Dataset Management of guest 0 with one range, by its first block and how many it has; whether there is no memory for its plan; and how many
 /// parts it has, and how many of them have ended behind it.
@@ -123,8 +120,8 @@ fn give(world: &mut World, alloc: Global, start: u8, count: u8) -> Result<(), Fa
     Ok(())
 }
 
-// A world in which guest 0 has queue pair 1.
-fn brought_up(alloc: Global, extents: &Extents) -> Result<World, Fail> {
+/// A world in which guest 0 has queue pair 1.
+pub(crate) fn brought_up(alloc: Global, extents: &Extents) -> Result<World, Fail> {
     let mut world = opened(alloc, extents)?;
     let mut acts = Vec::new(alloc);
     Guest::new(false).bring_up(alloc, &mut acts)?;

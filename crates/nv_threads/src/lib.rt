@@ -24,6 +24,8 @@ mod bells;
 mod bits;
 mod calls;
 mod concern;
+#[cfg(test)]
+mod concerning;
 mod counting;
 mod device_side;
 #[cfg(test)]

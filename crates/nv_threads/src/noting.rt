@@ -1,6 +1,8 @@
 //! Notes of each guest and of each lane, where there are as many as there may be.
 
 use crate::bits::bit;
+use crate::device_side::LaneDevice;
+use crate::locked::Locked;
 use crate::notes::{LANES, Notes};
 use crate::shared::Shared;
 use crate::simulated_guest::{Guest, entry_of, rings};
@@ -19,6 +21,9 @@ const LAST: u8 = 15;
 
 /// The last lane.
 const LAST_LANE: u8 = 7;
+
+/// How many turns the physical controller has at most.
+const TURNS: u32 = 100;
 
 /// How many bytes the host has.
 const HOST: u64 = 0x800_0000;
@@ -113,16 +118,13 @@ fn each_lane_may_be_short_of_tags(rt: HostRuntime) -> Result<(), Fail> {
     Ok(())
 }
 
-/// What is done of the last guest's command, on the last lane: the physical controller takes both its parts.
-const UNDER_WAY: [Event; 4] = [
-    Event::Take(LAST, 1, LAST_LANE),
-    Event::Submit(LAST_LANE, 0),
-    Event::DevTake(LAST_LANE),
-    Event::DevTake(LAST_LANE),
-];
+/// What is done of the last guest's command, on the last lane: it is handed on, and the physical controller takes both its parts.
+const HANDED_ON: [Event; 2] = [Event::Take(LAST, 1, LAST_LANE), Event::Submit(LAST_LANE, 0)];
 
-// A world in which the last guest has queue pair 1, and a Write Zeroes that lies in both its extents is under way.
-fn under_way(rt: &impl Abort, alloc: Global) -> Result<World, Fail> {
+const TAKEN: [Event; 2] = [Event::DevTake(LAST_LANE), Event::DevTake(LAST_LANE)];
+
+// A world in which the last guest has queue pair 1, and a Write Zeroes that lies in both its extents waits there.
+fn waiting(alloc: Global) -> Result<World, Fail> {
     let mut world = widest(alloc)?;
     let mut acts = Vec::new(alloc);
     Guest::new(false).bring_up(alloc, &mut acts)?;
@@ -137,10 +139,14 @@ fn under_way(rt: &impl Abort, alloc: Global) -> Result<World, Fail> {
     world.step(alloc, Event::Admin(LAST));
     world.step(alloc, Event::Admin(LAST));
     world.step(alloc, Event::Guest(LAST, rings(0x1008, 1)));
-    for event in UNDER_WAY {
+    Ok(world)
+}
+
+// Both events are done.
+fn expect_done(rt: &impl Abort, world: &mut World, alloc: Global, events: [Event; 2]) {
+    for event in events {
         assert!(rt; matches!(world.step(alloc, event), Reply::Done));
     }
-    Ok(world)
 }
 
 // What is noted of a lane on which a command is under way, or none.
@@ -164,13 +170,59 @@ fn expect_noted(rt: &impl Abort, notes: &Notes) {
     assert_eq!(rt; notes.owner(LAST_LANE, 0), Some(LAST));
 }
 
+// Both parts may have ended, and no more: with one of another command, which is posted before this one, one is left and then none. Behind the
+// command's own post nothing is noted of it.
+fn expect_posted(rt: &impl Abort, notes: &mut Notes) {
+    let _concern = notes.post(LAST_LANE, 63);
+    assert!(rt; notes.has_ended(LAST_LANE), "fewer than two");
+    let mut behind = *notes;
+    let _concern = behind.post(LAST_LANE, 63);
+    assert!(rt; !behind.has_ended(LAST_LANE), "more than two");
+    let _concern = notes.post(LAST_LANE, 0);
+    expect_lane(rt, notes, LAST_LANE, false);
+    assert_eq!(rt; notes.size(LAST_LANE, 0), 1);
+}
+
 #[test]
 fn what_was_under_way_is_noted(rt: HostRuntime) -> Result<(), Fail> {
-    let world = under_way(&rt, rt.alloc())?;
-    expect_noted(&rt, &Notes::of(&world));
+    let mut world = waiting(rt.alloc())?;
+    expect_done(&rt, &mut world, rt.alloc(), HANDED_ON);
+    expect_done(&rt, &mut world, rt.alloc(), TAKEN);
+    let mut notes = Notes::of(&world);
+    expect_noted(&rt, &notes);
+    expect_posted(&rt, &mut notes);
     let shared = Shared::new(world);
     for lane in 0..LANES as u8 {
         assert_eq!(rt; shared.was_used(lane), lane == LAST_LANE);
     }
+    Ok(())
+}
+
+// Turns of the physical controller on the last lane until it has nothing to do; how many commands it has completed.
+fn completed(device: &mut LaneDevice, locked: &mut Locked, alloc: Global) -> usize {
+    let before = locked.world.log().len();
+    for _turn in 0..TURNS {
+        if device.turn(locked, alloc).is_none() {
+            break;
+        }
+    }
+    let behind = locked.world.log().iter().skip(before);
+    behind
+        .filter(|logged| matches!(logged.event, Event::DevPost(_, _)))
+        .count()
+}
+
+// The physical controller looks at all slots first, and then at those alone that are noted: it goes on with each part of a command.
+#[test]
+fn each_part_of_a_command_goes_on(rt: HostRuntime) -> Result<(), Fail> {
+    let world = waiting(rt.alloc())?;
+    let notes = Notes::of(&world);
+    let mut locked = Locked { world, notes };
+    let mut device = LaneDevice::new(LAST_LANE, false);
+    assert_eq!(rt; completed(&mut device, &mut locked, rt.alloc()), 0);
+    expect_done(&rt, &mut locked.world, rt.alloc(), HANDED_ON);
+    let taken = locked.notes.take(&locked.world, LAST_LANE, LAST);
+    assert_eq!(rt; taken, Some(0));
+    assert_eq!(rt; completed(&mut device, &mut locked, rt.alloc()), 2);
     Ok(())
 }

@@ -12,7 +12,7 @@ use crate::port::Port;
 use crate::reaping::reaper;
 use crate::shared::Shared;
 use crate::simulated_guest::{Guest, entry_of, rings};
-use crate::simulated_worlds::{Extents, MANY, ONE, opened};
+use crate::simulated_worlds::{Extents, MANY, ONE, TWO, opened};
 use nv_mem::{BoxedBytes, GuestMap, NoMemory};
 use nv_model::Act;
 use nv_ns::VirtualNs;
@@ -29,6 +29,9 @@ use std::time::{Clock, Duration};
 
 /// How often is looked whether a bell was rung, a millisecond apart.
 const LOOKS: u32 = 5_000;
+
+/// How often a guest waits for news that there is.
+const WAITS: u32 = 200_000;
 
 /// A heap with room for a plan.
 const HEAP: u64 = 65_536;
@@ -102,6 +105,10 @@ fn each_guest_has_its_own_news(rt: HostRuntime) -> Result<(), Fail> {
     shared.bells.ring(Concern::guest(5));
     for guest in 0..16 {
         assert_eq!(rt; shared.news(guest), u64::from(guest == 5));
+    }
+    // None of them waits. A millisecond for each would be too long.
+    for _wait in 0..WAITS {
+        shared.wait_for_news(&rt, 5, 0);
     }
     Ok(())
 }
@@ -177,11 +184,8 @@ fn a_reset_rings_where_commands_have_ended(rt: HostRuntime) -> Result<(), Fail> 
     Ok(())
 }
 
-/// Guests of two extents.
-const TWO: Extents = [[30, 34, 0, 0, 0, 0, 0, 0]; 3];
-
 /// Worlds, and how many tags their largest commands take.
-const SHORT: [(Extents, u32); 2] = [(TWO, 2), (MANY, 8)];
+const SHORT: [(Extents, u32); 3] = [(ONE, 1), (TWO, 2), (MANY, 8)];
 
 // Tags of lane 1 are taken one by one: it is short while fewer are free than a command may take, but some.
 fn expect_short(rt: &impl Abort, world: &World, most: u32) {
@@ -197,6 +201,27 @@ fn expect_short(rt: &impl Abort, world: &World, most: u32) {
 fn a_lane_is_short_of_tags(rt: HostRuntime) -> Result<(), Fail> {
     for (extents, most) in SHORT {
         expect_short(&rt, &opened(rt.alloc(), &extents)?, most);
+    }
+    Ok(())
+}
+
+// Tags of lane 1 are taken one by one. A post of one rings for all planners where fewer were free than a command may take, and else for none.
+fn expect_post_rings(rt: &impl Abort, world: &World, most: u32) {
+    let mut notes = Notes::of(world);
+    for taken in 1..=64u32 {
+        let _tag = notes.take(world, 1, 2);
+        let mut behind = notes;
+        let told = behind.post(1, 0);
+        let planners = if 64 - taken < most { u64::MAX } else { 0 };
+        assert_eq!(rt; told.planners, planners, "{taken} taken");
+        assert_eq!(rt; told.guests, bit(2));
+    }
+}
+
+#[test]
+fn a_post_rings_for_planners_where_tags_were_few(rt: HostRuntime) -> Result<(), Fail> {
+    for (extents, most) in SHORT {
+        expect_post_rings(&rt, &opened(rt.alloc(), &extents)?, most);
     }
     Ok(())
 }

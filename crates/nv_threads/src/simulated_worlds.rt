@@ -21,6 +21,9 @@ pub(crate) type Extents = [[u64; 8]; GUESTS as usize];
 /// Guests of one extent.
 pub(crate) const ONE: Extents = [[64, 0, 0, 0, 0, 0, 0, 0]; GUESTS as usize];
 
+/// Guests of two extents.
+pub(crate) const TWO: Extents = [[30, 34, 0, 0, 0, 0, 0, 0]; GUESTS as usize];
+
 /// Guests of two extents, of three and of one.
 pub(crate) const FEW: Extents = [
     [30, 34, 0, 0, 0, 0, 0, 0],
