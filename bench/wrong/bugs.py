@@ -141,6 +141,20 @@ WORKERS = [
     ("t77", "nv_threads", "src/reaping.rt", "        locked.notes.end(self.lane, 1);", "        locked.notes.end(self.lane, 2);"),
     ("t78", "nv_threads", "src/reaping.rt", "            concern.planners |= locked.with_admin(guest) | locked.with_other_front(guest);", "            concern.planners |= locked.with_other_front(guest);"),
     ("t79", "nv_threads", "src/shared.rt", "            Some(used) => *used,", "            Some(used) => *used && lane < 4,"),
+    ("t80", "nv_threads", "src/device_side.rt", "        self.earlier = self.earlier.saturating_add(1);", "        self.earlier = self.earlier.saturating_add(2);"),
+    ("t81", "nv_threads", "src/notes.rt", "self.used.count_zeros() < u32::from(most)", "self.used.count_zeros() <= u32::from(most)"),
+    ("t82", "nv_threads", "src/notes.rt", "self.used.count_zeros() < u32::from(most)", "self.used.count_zeros() + 1 < u32::from(most)"),
+    ("t83", "nv_threads", "src/locked.rt", "                reapers: self.notes.with_ended(),", "                reapers: 0,"),
+    ("t84", "nv_threads", "src/locked.rt", "                planners: self.with_admin(guest),", "                planners: 0,"),
+    ("t85", "nv_threads", "src/reaping.rt", "            concern.planners |= locked.with_admin(guest) | locked.with_other_front(guest);", "            concern.planners |= locked.with_admin(guest);"),
+    ("t86", "nv_threads", "src/planning.rt", "                planners: locked.with_other_front(self.guest),", "                planners: 0,"),
+    ("t87", "nv_threads", "src/locked.rt", "            Errand::Bytes => Concern::planners(self.with_other_front(guest)),", "            Errand::Bytes => Concern::nobody(),"),
+    ("t88", "nv_threads", "src/planning.rt", "        locked.notes.end(self.lane, parts);\n        Concern::reaper(self.lane)", "        locked.notes.end(self.lane, parts);\n        Concern::nobody()"),
+    ("t89", "nv_threads", "src/device_side.rt", "            _ => (0, Concern::reaper(self.lane)),", "            _ => (0, Concern::nobody()),"),
+    ("t90", "nv_threads", "src/planning.rt", "                if !self.thorough {\n                    self.tag = noted.unwrap_or(self.tag);\n                }", "                self.tag = noted.unwrap_or(self.tag);"),
+    ("t91", "nv_threads", "src/planning.rt", "            self.thorough = false;\n", "            "),
+    ("t92", "nv_threads", "src/device_side.rt", "        self.thorough = false;\n        None", "        None"),
+    ("t93", "nv_threads", "src/shared.rt", "        let _rung = self.bells.guest(guest).wait(rt, seen);", "        let _rung = self.bells.guest(guest ^ 1).wait(rt, seen);"),
 ]
 
 # of what is printed
