@@ -1,7 +1,7 @@
 //! How many parts of a command are noted as ended once its planner is through with it.
 //!
 //! A Dataset Management has a part in each extent. Those that none of its ranges meets have ended once it is handed on, and all have where it is
-//! answered or given up.
+//! answered or given up. Then the lane's reaper is rung for, and else the physical controller.
 
 use crate::locked::Locked;
 use crate::notes::Notes;
@@ -133,19 +133,22 @@ pub(crate) fn brought_up(alloc: Global, extents: &Extents) -> Result<World, Fail
     Ok(world)
 }
 
-// Turns of guest 0's planner on lane 0, until it has nothing to do.
-fn plan(locked: &mut Locked, alloc: Global, is_starved: bool) {
+// Turns of guest 0's planner on lane 0, until it has nothing to do: which reapers it rings for, and which physical controllers.
+fn plan(locked: &mut Locked, alloc: Global, is_starved: bool) -> [u64; 2] {
     let mut planner = GuestPlanner::new(0, 0);
+    let mut rung = [0, 0];
     for _turn in 0..TURNS {
-        match planner.turn(locked, alloc) {
+        let told = match planner.turn(locked, alloc) {
             Turn::Job(job) => {
                 let planned = planned(&locked.world, alloc, job, is_starved);
-                let _concern = go_on(&mut planner, locked, planned);
+                go_on(&mut planner, locked, planned)
             }
-            Turn::Done(_concern) => {}
-            Turn::Nothing => return,
-        }
+            Turn::Done(told) => told,
+            Turn::Nothing => return rung,
+        };
+        rung = [rung[0] | told.reapers, rung[1] | told.devices];
     }
+    rung
 }
 
 // So many parts are noted as ended, no more and no fewer: with the others and one of another command, which is posted behind this one, one is left
@@ -178,7 +181,9 @@ fn parts_that_are_no_commands_have_ended(rt: HostRuntime) -> Result<(), Fail> {
         give(&mut world, alloc, case.start, case.count)?;
         let notes = Notes::of(&world);
         let mut locked = Locked { world, notes };
-        plan(&mut locked, alloc, case.is_starved);
+        let rung = plan(&mut locked, alloc, case.is_starved);
+        let have_all = case.ended == case.parts;
+        assert_eq!(rt; rung, [u64::from(have_all), u64::from(!have_all)]);
         expect_ended(&rt, &mut locked.notes, case);
     }
     Ok(())

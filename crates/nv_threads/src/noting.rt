@@ -123,6 +123,12 @@ const HANDED_ON: [Event; 2] = [Event::Take(LAST, 1, LAST_LANE), Event::Submit(LA
 
 const TAKEN: [Event; 2] = [Event::DevTake(LAST_LANE), Event::DevTake(LAST_LANE)];
 
+/// Then a block of each part is moved, and the other is left.
+const MOVED: [Event; 2] = [
+    Event::DevMove(LAST_LANE, 0, 0),
+    Event::DevMove(LAST_LANE, 1, 1),
+];
+
 // A world in which the last guest has queue pair 1, and a Write Zeroes that lies in both its extents waits there.
 fn waiting(alloc: Global) -> Result<World, Fail> {
     let mut world = widest(alloc)?;
@@ -223,6 +229,20 @@ fn each_part_of_a_command_goes_on(rt: HostRuntime) -> Result<(), Fail> {
     expect_done(&rt, &mut locked.world, rt.alloc(), HANDED_ON);
     let taken = locked.notes.take(&locked.world, LAST_LANE, LAST);
     assert_eq!(rt; taken, Some(0));
+    assert_eq!(rt; completed(&mut device, &mut locked, rt.alloc()), 2);
+    Ok(())
+}
+
+// What was moved before the physical controller came is passed by, and what is left is not.
+#[test]
+fn units_that_were_left_are_moved(rt: HostRuntime) -> Result<(), Fail> {
+    let mut world = waiting(rt.alloc())?;
+    expect_done(&rt, &mut world, rt.alloc(), HANDED_ON);
+    expect_done(&rt, &mut world, rt.alloc(), TAKEN);
+    expect_done(&rt, &mut world, rt.alloc(), MOVED);
+    let notes = Notes::of(&world);
+    let mut locked = Locked { world, notes };
+    let mut device = LaneDevice::new(LAST_LANE, true);
     assert_eq!(rt; completed(&mut device, &mut locked, rt.alloc()), 2);
     Ok(())
 }
