@@ -1,5 +1,5 @@
 -- What a call by C is answered, and what it does to the mediator behind a handle.
-use Rattle.std.specs.Prelude.{◌≡◌, ◌⊎◌, ◌<◌, ◌≤◌, ◌==◌, ℕ, Bool, if◌then◌else◌, length, nat_lt, slice_get, IsSome, List, Option, Some, None}
+use Rattle.std.specs.Prelude.{◌≡◌, ◌⊎◌, ◌≤◌, ◌==◌, ℕ, Bool, if◌then◌else◌, length, nat_lt, slice_get, IsSome, List, Option, Some, None}
 use Rattle.std.specs.Int.{from_le_bytes, w32}
 use Rattle.nv_core.specs.Seat.{bytes_told}
 use Rattle.nv_core.specs.Shown.{mark_shown}
