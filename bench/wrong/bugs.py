@@ -419,9 +419,9 @@ RUN_SCRIPT = [
      "                words.check_count(arguments)?;\n                self.lines.clear();\n                Err(LineFault::Faulty(FaultKind::OutOfPlace))"),
 ]
 
-# of a script of `once`, and of the lines, words and numbers of every script. By reading all compile. Their one check was cut off; of 21 it was seen what
-# it says: w2 to w4, w6, w9, w12, w14, w19, w21, w23, w28 to w31, w34 and w37 are refused for a goal that fails (of w4 it was not seen which), w0, w1,
-# w24, w26 and w27 by names alone, whose contracts are equations that their values do not meet, by reading. Of the others it was not seen.
+# of a script of `once`, and of the lines, words and numbers of every script. By reading all compile. Their one check was cut off, and no verdict of
+# at_once.py was seen: the whole list is to be run again. By what the check had said so far w2, w3, w6, w9, w12, w14, w19, w21, w23, w28, w29, w31, w34
+# and w37 are refused for a goal that fails, w4 and w30 for what was not seen, and w0, w1, w24, w26 and w27 by names alone.
 ONCE_SCRIPT_MORE = [
     # numbers
     ("w0", "nv_once_script", "src/once/number.rt", "            .checked_add(u64::from(digit))?;", "            .wrapping_add(u64::from(digit));"),
