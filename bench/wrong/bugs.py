@@ -66,7 +66,7 @@ WORKERS = [
     ("t2", "nv_threads", "src/planning.rt", "            _ => Turn::Nothing,\n        }\n    }\n\n    // The job of a tag as it stands.", "            _ => {\n                self.task = Task::Search(0);\n                Turn::Nothing\n            }\n        }\n    }\n\n    // The job of a tag as it stands."),
     ("t3", "nv_threads", "src/planning.rt", "            Planned::Need(job, addr, len) => Task::Read(job.tag, addr, len),", "            Planned::Need(job, _, _) => Task::GiveUp(job.tag),"),
     ("t4", "nv_threads", "src/planning.rt", "            Planned::NoMemory(job) => Task::GiveUp(job.tag),", "            Planned::NoMemory(job) => Task::Plan(job.tag),"),
-    ("t5", "nv_threads", "src/planning.rt", "            Reply::Done => (Task::TakeUp, self.handed_on(locked, idle)),\n            _ => (Task::Plan(tag), Concern::nobody()),", "            _ => (Task::Search(tag), self.handed_on(locked, idle)),"),
+    ("t5", "nv_threads", "src/planning.rt", "            Reply::Done => Task::TakeUp,\n            _ => Task::Plan(tag),", "            Reply::Done => Task::TakeUp,\n            _ => Task::Search(tag),"),
     ("t6", "nv_threads", "src/planning.rt", "                self.tag = tag;\n                self.task = Task::Plan(tag);", "                self.task = Task::Plan(tag);"),
     ("t7", "nv_threads", "src/planning.rt", "    if looked < TAGS {", "    if looked < TAGS - 1 {"),
     ("t8", "nv_threads", "src/planning.rt", "            Reply::NoMemory => Turn::Nothing,\n            _ => {\n                self.task = Task::Plan(tag);\n                Turn::Done", "            _ => {\n                self.task = Task::GiveUp(tag);\n                Turn::Done"),

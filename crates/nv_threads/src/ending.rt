@@ -143,8 +143,11 @@ fn plan(locked: &mut Locked, alloc: Global, is_starved: bool) -> [u64; 2] {
                 let planned = planned(&locked.world, alloc, job, is_starved);
                 go_on(&mut planner, locked, planned)
             }
-            Turn::Done(told) => told,
-            Turn::Nothing => return rung,
+            Turn::Done(told) => Some(told),
+            Turn::Nothing => None,
+        };
+        let Some(told) = told else {
+            return rung;
         };
         rung = [rung[0] | told.reapers, rung[1] | told.devices];
     }

@@ -52,13 +52,17 @@ pub fn planner<G: Gate, R: Wait + Clock>(
             break;
         }
         let turn = planner.turn(&mut shared.lock(rt), alloc);
-        match turn {
+        let told = match turn {
             Turn::Job(job) => {
                 let planned = planned(rt, alloc, &heap, gate, &given, job);
-                planner.go_on(rt, shared, planned);
+                planner.go_on(rt, shared, planned)
             }
-            Turn::Done(concern) => shared.bells.ring(concern),
-            Turn::Nothing => {
+            Turn::Done(concern) => Some(concern),
+            Turn::Nothing => None,
+        };
+        match told {
+            Some(concern) => shared.bells.ring(concern),
+            None => {
                 let _rung = bell.wait(rt, rings);
             }
         }
@@ -140,28 +144,31 @@ impl GuestPlanner {
         }
     }
 
-    // Goes on with what came of a job.
-    fn go_on<R: Wait>(&mut self, rt: &R, shared: &Shared, planned: Planned) {
+    // Goes on with what came of a job: whom that concerns. `None` where there was no memory to hand a plan over.
+    fn go_on<R: Wait>(&mut self, rt: &R, shared: &Shared, planned: Planned) -> Option<Concern> {
         self.task = match planned {
             Planned::Need(job, addr, len) => Task::Read(job.tag, addr, len),
             Planned::NoMemory(job) => Task::GiveUp(job.tag),
-            Planned::Plan(plan) => {
-                let (task, concern) = self.submit(&mut shared.lock(rt), plan);
-                shared.bells.ring(concern);
-                task
-            }
+            Planned::Plan(plan) => return self.submit(&mut shared.lock(rt), plan),
         };
+        Some(Concern::nobody())
     }
 
-    // Hands a plan over: what comes next, and whom it concerns. Where it is stale, or there was no memory, its job is looked at again.
-    pub(crate) fn submit(&mut self, locked: &mut Locked, plan: Plan) -> (Task, Concern) {
+    // Hands a plan over: whom it concerns. Where it is stale its job is looked at again; where there was no memory, too, and this is `None`.
+    pub(crate) fn submit(&mut self, locked: &mut Locked, plan: Plan) -> Option<Concern> {
         let tag = plan.job().tag;
         let is_answer = matches!(plan.kind(), PlanKind::Answer(_));
         let idle = idle_parts(&plan);
-        match self.share.submit(&mut locked.world, plan) {
-            Reply::Done if is_answer => (Task::TakeUp, self.ended(locked, tag)),
-            Reply::Done => (Task::TakeUp, self.handed_on(locked, idle)),
-            _ => (Task::Plan(tag), Concern::nobody()),
+        let reply = self.share.submit(&mut locked.world, plan);
+        self.task = match reply {
+            Reply::Done => Task::TakeUp,
+            _ => Task::Plan(tag),
+        };
+        match reply {
+            Reply::Done if is_answer => Some(self.ended(locked, tag)),
+            Reply::Done => Some(self.handed_on(locked, idle)),
+            Reply::NoMemory => None,
+            _ => Some(Concern::nobody()),
         }
     }
 

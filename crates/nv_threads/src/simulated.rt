@@ -531,7 +531,7 @@ impl Simulation {
                     self.parted = self.parted.saturating_add(u64::from(plan.parts() > 1));
                     self.idle = self.idle.saturating_add(u64::from(has_idle_part(plan)));
                 }
-                Some(go_on(&mut seat.worker, &mut self.locked, planned))
+                go_on(&mut seat.worker, &mut self.locked, planned)
             }
             Turn::Done(concern) => Some(concern),
             Turn::Nothing => None,
@@ -605,15 +605,18 @@ fn planner_at(guest: u8, lane: u8) -> usize {
     usize::from(guest) * usize::from(LANES) + usize::from(lane)
 }
 
-// Goes on with what came of a job, as a planner does that took the lock for it: whom that concerns.
-pub(crate) fn go_on(planner: &mut GuestPlanner, locked: &mut Locked, planned: Planned) -> Concern {
-    let (task, concern) = match planned {
-        Planned::Need(job, addr, len) => (Task::Read(job.tag, addr, len), Concern::nobody()),
-        Planned::NoMemory(job) => (Task::GiveUp(job.tag), Concern::nobody()),
-        Planned::Plan(plan) => planner.submit(locked, plan),
+// Goes on with what came of a job, as a planner does that took the lock for it: whom that concerns. `None` where there was no memory.
+pub(crate) fn go_on(
+    planner: &mut GuestPlanner,
+    locked: &mut Locked,
+    planned: Planned,
+) -> Option<Concern> {
+    planner.task = match planned {
+        Planned::Need(job, addr, len) => Task::Read(job.tag, addr, len),
+        Planned::NoMemory(job) => Task::GiveUp(job.tag),
+        Planned::Plan(plan) => return planner.submit(locked, plan),
     };
-    planner.task = task;
-    concern
+    Some(Concern::nobody())
 }
 
 // Whether a part of a plan is no physical command, since it manages no range.
