@@ -5,6 +5,8 @@
 #[cfg(test)]
 mod digits;
 #[cfg(test)]
+mod many;
+#[cfg(test)]
 mod refusals;
 #[cfg(test)]
 mod replay;
