@@ -8,4 +8,5 @@ pub mod Breaches
 pub mod WrongWorlds
 pub mod SecondStory
 pub mod Edges
+pub mod Deleting
 pub mod Twice

@@ -1,12 +1,14 @@
 //! Words of the private controller, each told apart from a near one that the other rows let pass.
 
 ghost use Rattle.std.specs.Prelude.{◌≡◌, [], ◌∷◌, ◌++◌, Some, true, false, replicate, slice_set};
+ghost use Rattle.nv_examples.specs.Deleting.{deleting};
+ghost use Rattle.nv_model.specs.Admin.{NothingToDo, QueueFull, admin};
 ghost use Rattle.nv_model.specs.Controller.{opening, ran_out};
 ghost use Rattle.nv_model.specs.Footprint.{Destination, ListBytes, is_destination, named_as, names};
 ghost use Rattle.nv_model.specs.Memory.{image, put_image};
 ghost use Rattle.nv_model.specs.Private.{AdminQueueStep, TakeStep, start, verdict_in};
 ghost use Rattle.nv_model.specs.Rows.{by_sgl, guest, holding, last_segment, one_block, read, refusal};
-ghost use Rattle.nv_model.specs.RowsRuns.{admin_entry, after, at_start, bring_up, can_run, deletion_done, done_third, dword_in, first_taken};
+ghost use Rattle.nv_model.specs.RowsRuns.{admin_entry, after, at_start, bring_up, can_run, deletion_done, done_third, dword_in, first_answer, first_taken};
 ghost use Rattle.nv_model.specs.RowsRuns.{new_completion_queue, new_submission_queue, read_register, replied_to, ring, store, third_answer, write_register};
 ghost use Rattle.nv_model.specs.declared.reply.Reply.TheVariants as reply;
 
@@ -18,10 +20,37 @@ pub fn admins()
     ensures a_completion_queue_of_nine_bits { third_answer (new_submission_queue 2 1 1 0x101 0x14000) ≡ Some 0x82030003 }
     ensures a_feature_beside_select { third_answer (admin_entry 0x0a 3 0 0 0 0x107 0) ≡ Some 0x00010003 }
     ensures a_refusal_has_no_result { after (done_third (admin_entry 0x03 3 0 0 0 0 0)) start (dword_in 0x11020) ≡ Some 0 }
+    ensures an_identify_has_no_result { after (done_third (admin_entry 0x06 3 1 0x15000 0 0x00 0)) start (dword_in 0x11020) ≡ Some 0 }
+    ensures a_queue_in_pieces_that_interrupts { third_answer (admin_entry 0x05 3 0 0x14000 0 0x000f0002 2) ≡ Some 0x80050003 }
     ensures a_queue_that_leaves_the_memory_by_a_slot { third_answer (new_completion_queue 2 256 1 0x1f000) ≡ Some 0x80090003 }
     ensures the_controllers_structure_whatever_the_namespace { third_answer (admin_entry 0x06 3 1 0x15000 0 0x01 0) ≡ Some 0x00010003 }
     ensures a_queue_is_there_once { after (bring_up ++ store 0x10080 (new_completion_queue 8 1 1 0x14000 ++ new_completion_queue 8 1 1 0x15000) ∷ ring 0x1000 4 ∷ AdminQueueStep ∷ AdminQueueStep ∷ [])
         start (dword_in 0x1103c) ≡ Some 0x82030003 }
+{}
+
+/// Queues, where they lie and whose they are, and features.
+#[tactic(none)]
+pub fn queues_and_features()
+    ensures a_queue_beside_a_page { third_answer (new_completion_queue 2 1 1 0x14040) ≡ Some 0x80270003 }
+    ensures a_queue_that_just_fits { third_answer (new_completion_queue 2 255 1 0x1f000) ≡ Some 0x00010003 }
+    ensures a_submission_queue_that_leaves_the_memory { third_answer (new_submission_queue 2 64 1 1 0x1f000) ≡ Some 0x80090003 }
+    ensures a_feature_behind_the_only_one { third_answer (admin_entry 0x0a 3 0 0 0 0x08 0) ≡ Some 0x80050003 }
+    ensures a_feature_behind_it_is_not_set { first_answer (admin_entry 0x09 3 0 0 0 0x08 0) ≡ Some 0x80050003 }
+    ensures too_many_submission_queues_beside_completion_queues { first_answer (admin_entry 0x09 3 0 0 0 0x07 0x0001ffff) ≡ Some 0x80050003 }
+    ensures a_completion_queue_that_is_not_the_first { after (bring_up ++ store 0x10080 (new_completion_queue 2 1 1 0x14000 ++ new_submission_queue 2 1 1 2 0x15000 ++ admin_entry 0x04 3 0 0 0 2 0)
+        ∷ ring 0x1000 5 ∷ AdminQueueStep ∷ AdminQueueStep ∷ AdminQueueStep ∷ []) start (dword_in 0x1104c) ≡ Some 0x82190003 }
+    ensures a_completion_queue_below_one_in_use { after (bring_up ++ store 0x10080 (new_completion_queue 2 1 1 0x14000 ++ new_completion_queue 3 1 1 0x16000 ++ new_submission_queue 2 1 1 3 0x15000 ++ admin_entry 0x04 3 0 0 0 2 0)
+        ∷ ring 0x1000 6 ∷ AdminQueueStep ∷ AdminQueueStep ∷ AdminQueueStep ∷ AdminQueueStep ∷ []) start (dword_in 0x1105c) ≡ Some 0x00010003 }
+{}
+
+/// Steps that do nothing, and the one that waits for room.
+#[tactic(none)]
+pub fn admin_steps()
+    ensures none_where_it_is_not_ready { admin (λ _. true) 64 (deleting false) (λ _. 0) ≡ NothingToDo }
+    ensures none_where_commands_are_taken { admin (λ _. true) 64 (record (deleting true) { taken = slice_set opening.taken 1 1 }) (λ _. 0) ≡ NothingToDo }
+    ensures none_where_the_completion_queue_is_full { admin (λ _. true) 64 (record (deleting true) {
+      completion_queues = slice_set opening.completion_queues 0 (Some (record { base = 0x11000; size = 2; head = 0; tail = 1; phase = true }));
+    }) (λ _. 0) ≡ QueueFull }
 {}
 
 /// Deletions.

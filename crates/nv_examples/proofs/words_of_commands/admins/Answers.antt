@@ -38,6 +38,16 @@ unfolding number_at dword qword bits bytes_of_dwords completion everywhere addre
     move_units judge opening register reg_write doorbell front took post ran_out admin_command admin start differs step run_of image put_image
 returns-clause-a_refusal_has_no_result c = refl
 
+pub returns-clause-an_identify_has_no_result : goal.returns-clause-an_identify_has_no_result
+unfolding number_at dword qword bits bytes_of_dwords completion everywhere addresses bytes_from stored gathered scattered in_memory and_then read_array read_sgl
+    move_units judge opening register reg_write doorbell front took post ran_out admin_command admin start differs step run_of image put_image
+returns-clause-an_identify_has_no_result c = refl
+
+pub returns-clause-a_queue_in_pieces_that_interrupts : goal.returns-clause-a_queue_in_pieces_that_interrupts
+unfolding number_at dword qword bits bytes_of_dwords completion everywhere addresses bytes_from stored gathered scattered in_memory and_then read_array read_sgl
+    move_units judge opening register reg_write doorbell front took post ran_out admin_command admin start differs step run_of image put_image
+returns-clause-a_queue_in_pieces_that_interrupts c = refl
+
 pub returns-clause-a_queue_that_leaves_the_memory_by_a_slot : goal.returns-clause-a_queue_that_leaves_the_memory_by_a_slot
 unfolding number_at dword qword bits bytes_of_dwords completion everywhere addresses bytes_from stored gathered scattered in_memory and_then read_array read_sgl
     move_units judge opening register reg_write doorbell front took post ran_out admin_command admin start differs step run_of image put_image
