@@ -1,6 +1,8 @@
 //! A guest of 20000h bytes of memory, which lie in the host from 100000h on, and of 64 blocks, which lie on the disk from block
 //! 1,000 on or in extents of its own; and what comes of its commands.
 
+ghost use Rattle.std.specs.Prelude.{◌≡◌, IfOk};
+
 use nv_entry::{Sqe, StatusCode};
 use nv_mem::{Bytes, GuestMap, NoMemory, Piece, Region};
 use nv_model::limits::MOST_DESCRIPTORS;
@@ -147,8 +149,16 @@ impl Guest {
         len: u64,
         to: &mut Transcript,
     ) -> Result<(), NoMemory> {
+        let read = self.done(alloc, addr, len)?;
+        to.push(read)
+    }
+
+    /// A read of bytes of the guest's memory.
+    pub fn done(&self, alloc: Global, addr: u64, len: u64) -> Result<ReadDone, NoMemory>
+        ensures { IfOk result (λ read. read.addr ≡ addr) }
+    {
         let bytes = Bytes::from_slice(alloc, self.bytes(addr, len))?;
-        to.push(ReadDone::new(addr, bytes))
+        Ok(ReadDone::new(addr, bytes))
     }
 
     /// A job of the command with these reads.

@@ -1,9 +1,11 @@
-//! Tests of plans, and of a lane's tags, by public calls alone: a crate with tests is proved twice, so they stand here and not beside
+//! Tests of plans, and of a lane's tags, by public calls alone: a crate with tests is proved twice, so they are here and not beside
 //! the code.
 #![tactic(auto)]
 
 #[cfg(test)]
 mod answers;
+#[cfg(test)]
+mod fed;
 #[cfg(test)]
 mod guest;
 #[cfg(test)]

@@ -10,7 +10,7 @@ use std::test::Fail;
 const TWO: Changes = &[(0, 0x0007_4009), (8, 32), (10, 1), (11, 4)];
 
 /// The same ranges, whose bytes lie apart: 8 at 3000h and 24 at 5001h.
-const PARTED: Changes = &[
+pub const PARTED: Changes = &[
     (0, 0x0007_4009),
     (6, 0x6000),
     (8, 32),
@@ -37,7 +37,7 @@ pub fn has_part_ranges(plan: &Plan, part: u8, ranges: &[[u8; 16]]) -> bool {
 }
 
 // Whether a plan bounces these ranges.
-fn has_ranges(planned: &Planned, ranges: &[[u8; 16]]) -> bool {
+pub fn has_ranges(planned: &Planned, ranges: &[[u8; 16]]) -> bool {
     match planned {
         Planned::Plan(plan) => {
             plan.kind() == PlanKind::Bounced
@@ -49,7 +49,7 @@ fn has_ranges(planned: &Planned, ranges: &[[u8; 16]]) -> bool {
 }
 
 /// Blocks 5 and 6, and block 0, as the disk has them: without attributes, from block 1,005 and 1,000 on.
-const TRANSLATED: &[[u8; 16]] = &[
+pub const TRANSLATED: &[[u8; 16]] = &[
     [0, 0, 0, 0, 2, 0, 0, 0, 0xed, 3, 0, 0, 0, 0, 0, 0],
     [0, 0, 0, 0, 1, 0, 0, 0, 0xe8, 3, 0, 0, 0, 0, 0, 0],
 ];
@@ -68,15 +68,21 @@ fn two_ranges(rt: HostRuntime) -> Result<(), Fail> {
     Ok(())
 }
 
-#[test]
-fn ranges_that_lie_apart(rt: HostRuntime) -> Result<(), Fail> {
-    let alloc = rt.alloc();
+/// A guest whose ranges, as `TRANSLATED` has them, are in two runs: 8 bytes and 24.
+pub fn lying_apart(alloc: Global) -> Result<Guest, Fail> {
     let mut guest = Guest::new(alloc)?;
     guest.put_range(0x4ff9, 5, 2);
     guest.put_range(0x5009, 0, 1);
     guest.put_range(0x3000, 0, 2);
     guest.put_descriptor(0x6000, crate::guest::DATA, 0x3000, 8);
     guest.put_descriptor(0x6010, crate::guest::DATA, 0x5001, 24);
+    Ok(guest)
+}
+
+#[test]
+fn ranges_that_lie_apart(rt: HostRuntime) -> Result<(), Fail> {
+    let alloc = rt.alloc();
+    let guest = lying_apart(alloc)?;
     let first = guest.job(
         alloc,
         command(&rt, PARTED),

@@ -1,6 +1,7 @@
 //! What is wanted of a list, and which reads meet it.
 ghost use Rattle.std.specs.Prelude.{◌<◌, ◌≤◌};
 
+use crate::fed::fed;
 use crate::guest::{
     Case, Changes, DATA, Expected, Guest, LAST, Row, SEGMENT, check_all, command, is_expected,
     range,
@@ -162,17 +163,24 @@ struct Limited {
     wants: u32,
 }
 
-// Whether what comes of such a list is what is expected, behind as many wants.
+// Whether what comes of such a list is what is expected, by a plan that is made anew after each read and by one that is fed.
 fn is_as_expected(alloc: Global, sqe: Sqe, list: &Limited) -> Result<bool, Fail> {
     let guest = Guest::with(alloc, list.rows)?;
     let limit = list.limit;
     if limit == 0 || limit > 4096 {
         return Ok(false);
     }
-    Ok(match driven(alloc, &guest, sqe, limit)? {
-        Some((planned, wants)) => wants == list.wants && is_expected(&planned, &list.expected),
+    let made = driven(alloc, &guest, sqe, limit)?;
+    let fed = fed(alloc, &guest, sqe, limit)?;
+    Ok(comes_to(&made, list) && comes_to(&fed, list))
+}
+
+// Whether that comes after as many wants.
+fn comes_to(came: &Option<(Planned, u32)>, list: &Limited) -> bool {
+    match came {
+        Some((planned, wants)) => *wants == list.wants && is_expected(planned, &list.expected),
         None => false,
-    })
+    }
 }
 
 /// Last Segments of so many descriptors at 8000h, all of length 0 but the last, which has 512 bytes; a Segment that names itself; and

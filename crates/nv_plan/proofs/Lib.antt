@@ -4,9 +4,11 @@ pub mod KeptPortions
 pub mod CutPlaces
 pub mod MetRanges
 pub mod ReadsTaken
-pub mod ListReads
-pub mod RangeReads
 pub mod PlanCases
+pub mod RangeReads
+pub mod ListParts
+pub mod StageReads
+pub mod DraftSteps
 pub mod PlanFollows
 pub mod MadeShares
 pub mod OwnParts

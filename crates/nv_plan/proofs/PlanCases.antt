@@ -1,5 +1,5 @@
 -- What a plan says, by what its command's fields and list say
-use Rattle.std.proofs.Common.{◌≡◌, ℕ, ◌*◌, ◌/◌, ◌<◌, ◌≤◌, Bool, true, false, ◌⊎◌, inl, inr, All, List, [], ◌∷◌, Option, Result, Ok, Err, Some, None, length, map, replicate, arith, refl, sym, ap, subst, ◌∙◌}
+use Rattle.std.proofs.Common.{◌≡◌, ℕ, ◌*◌, ◌/◌, ◌<◌, ◌≤◌, Bool, true, false, ◌⊎◌, inl, inr, List, [], ◌∷◌, Option, Ok, Err, Some, None, length, map, replicate, arith, refl, sym, ap, ◌∙◌}
 use Rattle.std.specs.List.{enumerate_from, list_all}
 use Rattle.nv_entry.specs.Opcode.{data_pointer, io_opcode}
 use Rattle.nv_entry.specs.Status.{StatusField}
@@ -12,49 +12,30 @@ use Rattle.nv_judge.specs.Ranges.{ranges_verdict}
 use Rattle.nv_judge.specs.declared.need.Need.{Need}
 use Rattle.nv_judge.proofs.FieldLemmas.{count-at_most, field_verdict-err, field_verdict-ok}
 use Rattle.nv_judge.proofs.RangeLemmas.{ranges-leave}
+use Rattle.nv_mem.specs.GuestMap.{mapped}
 use Rattle.nv_mem.specs.declared.piece.Piece.{Piece}
 use Rattle.nv_mem.specs.declared.region.Region.{Region}
-use Rattle.nv_model.specs.Judge.{Go, Refuse, Transfer, Verdict, Work, count_of, field_refusal, form_has_buffer, form_of, has_blocks, has_buffer, judge_ranges}
+use Rattle.nv_model.specs.Dialogue.{Dialogue, End, and_then}
+use Rattle.nv_model.specs.Judge.{Go, Refuse, Transfer, Verdict, Work, count_of, field_refusal, form_has_blocks, form_has_buffer, form_of, has_buffer, judge, judge_ranges}
 use Rattle.nv_model.specs.Judge.{judge_reading, range_count_of, range_fits, ranges_in, transfer_len, work_of}
-use Rattle.nv_model.specs.Reading.{Spells}
+use Rattle.nv_model.specs.Reading.{Reading, Spells}
 use Rattle.nv_model.specs.Transcript.{Outcome as Come, ReadDone, Settled as Ended, Wanted as Asked, in_transcript}
 use Rattle.nv_model.proofs.InParts.{ranges-short}
-use Rattle.nv_model.proofs.ListsFed.{AreSpelled}
-use Rattle.nv_mem.specs.GuestMap.{mapped}
 use Rattle.nv_model.proofs.JudgeCases.{judge-listed, judge-refused, judge-unlisted, judge_ranges-fits, judge_ranges-refused}
 use Rattle.nv_ns.specs.Extents.{Cut, Namespace, Placed, blocks_in, cuts, placed}
 use Rattle.nv_prp.specs.Fits.{places_fit}
-use Rattle.nv_world_model.specs.Geometry.{Guest, regions_of, shape_of}
-use Rattle.nv_world_model.specs.Plan.{Answer, Bounced, Direct, NoData, Plan, plan_of, plan_over, planned, transfer_plan}
+use Rattle.nv_world_model.specs.Geometry.{Guest, regions_of}
+use Rattle.nv_world_model.specs.Plan.{Bounced, Direct, NoData, Plan, plan_of, planned, transfer_plan}
 use Rattle.nv_world_model.specs.Share.{block_share, form_tags, range_share, tags_by, tags_of_entry}
-use Rattle.nv_plan.specs.Drawn.{plan_of_list}
-use Rattle.nv_plan.specs.Listed.{HasLen, IsFetched, IsJudgedAs, IsSpelled, judged_list, list_of, made_of, verdict_over}
+use Rattle.nv_plan.specs.Drafted.{IsKnown}
+use Rattle.nv_plan.specs.Listed.{list_of}
 use Rattle.nv_plan.specs.Outline.{Outline, Portion, outline_of, outlined, portion_of}
-use Rattle.nv_plan.specs.Parts.{HasBytes}
 use Rattle.nv_plan.specs.Told.{portion_cut, portion_met}
 use Rattle.nv_plan.specs.declared.kind.PlanKind.{PlanKind}
 use Rattle.nv_plan.specs.declared.kind.PlanKind.TheVariants as kind
-use Rattle.nv_plan.specs.declared.outcome.Outcome.{Outcome}
-use Rattle.nv_plan.specs.declared.outcome.Outcome.TheVariants.{Wanted, Settled}
 use Rattle.nv_plan.proofs.MetRanges.{portions_from}
 
 -- ---- by the fields
-
--- a command that its fields refuse is answered
-pub plan_over-refused : (given : Guest) (entry : List ℕ) (reads : List ReadDone) (st : StatusField)
-    → field_verdict (blocks_in given.namespace) entry ≡ Err st
-    → plan_over given entry reads ≡ Ended (Answer st)
-unfolding plan_over in_transcript
-plan_over-refused given entry reads st refused =
-    let by = field_verdict-err (blocks_in given.namespace) entry st refused in
-    ap (λ d. planned (regions_of given) (in_transcript d [] reads)) (judge-refused (shape_of given).mapped given.limit (blocks_in given.namespace) entry by.0 by.1)
-    ∙ ap (λ (s : StatusField). Ended (Answer s)) (sym by.2)
-
--- what is known of a command whose fields are in order
-pub record IsKnown (given : Guest) (entry : List ℕ) (opcode : IoOpcode) (need : Need) : Type 0 where
-  pub unrefused : field_refusal (blocks_in given.namespace) entry ≡ None
-  pub known : io_opcode (opcode_of entry) ≡ Some opcode
-  pub needs : need ≡ need_of entry opcode
 
 pub known-by : (given : Guest) (entry : List ℕ) (opcode : IoOpcode) (need : Need)
     → field_verdict (blocks_in given.namespace) entry ≡ Ok need → io_opcode (opcode_of entry) ≡ Some opcode
@@ -101,20 +82,95 @@ bare-cuts : (ns : Namespace) (work : Work) (parts : List Cut)
 bare-cuts ns work [] = refl
 bare-cuts ns work (cut ∷ rest) = ap (λ (ps : List Portion). nothing ∷ ps) (bare-cuts ns work rest)
 
--- ---- what becomes of it
+-- ---- how it begins
+
+-- a command that its fields refuse
+pub left-refused : (given : Guest) (entry : List ℕ) (st : StatusField)
+    → field_verdict (blocks_in given.namespace) entry ≡ Err st
+    → End (Refuse st) ≡ judge (mapped (regions_of given)) given.limit (blocks_in given.namespace) entry
+left-refused given entry st refused =
+    let by = field_verdict-err (blocks_in given.namespace) entry st refused in
+    ap (λ (s : StatusField). End (Refuse s)) by.2
+    ∙ sym (judge-refused (mapped (regions_of given)) given.limit (blocks_in given.namespace) entry by.0 by.1)
+
+-- one without a buffer
+pub left-bare : (given : Guest) (entry : List ℕ) (opcode : IoOpcode) (need : Need)
+    → IsKnown given entry opcode need → has_buffer opcode ≡ false
+    → End (Go (work_of (blocks_in given.namespace) opcode entry [] [])) ≡ judge (mapped (regions_of given)) given.limit (blocks_in given.namespace) entry
+left-bare given entry opcode need is buffer =
+    sym (judge-unlisted (mapped (regions_of given)) given.limit (blocks_in given.namespace) entry opcode is.unrefused is.known buffer)
+
+-- one with a buffer, of whose list this is still to be read
+pub left-listed : (given : Guest) (entry : List ℕ) (opcode : IoOpcode) (need : Need) (d : Dialogue Reading)
+    → IsKnown given entry opcode need → has_buffer opcode ≡ true
+    → d ≡ list_of (data_pointer (psdt_of entry)) (regions_of given) given.limit need entry
+    → and_then d (judge_reading (blocks_in given.namespace) entry opcode) ≡ judge (mapped (regions_of given)) given.limit (blocks_in given.namespace) entry
+left-listed given entry opcode need d is buffer whole =
+    ap (λ (x : Dialogue Reading). and_then x (judge_reading (blocks_in given.namespace) entry opcode)) whole
+    ∙ ap (λ (n : Need). and_then (list_of (data_pointer (psdt_of entry)) (regions_of given) given.limit n entry) (judge_reading (blocks_in given.namespace) entry opcode)) is.needs
+    ∙ sym (judge-listed (mapped (regions_of given)) given.limit (blocks_in given.namespace) entry opcode is.unrefused is.known buffer)
+
+-- how many bytes a buffer has
+pub transfer-len : (given : Guest) (entry : List ℕ) (opcode : IoOpcode) (need : Need) (dest : Bool)
+    → IsKnown given entry opcode need → form_of opcode ≡ Transfer dest → need.bytes ≡ 512 * count_of entry
+transfer-len given entry opcode need dest is form = ap (λ (n : Need). n.bytes) is.needs ∙ len_of opcode dest form
+  where
+    len_of : (o : IoOpcode) (d : Bool) → form_of o ≡ Transfer d → transfer_len o entry ≡ 512 * count_of entry
+    len_of Flush d e = (cc)
+    len_of WriteZeroes d e = (cc)
+    len_of Read d e = refl
+    len_of Write d e = refl
+    len_of Compare d e = refl
+    len_of DatasetManagement d e = (cc)
+
+transfer-some : (given : Guest) (entry : List ℕ) (opcode : IoOpcode) (need : Need) (dest : Bool)
+    → IsKnown given entry opcode need → form_of opcode ≡ Transfer dest
+    → (0 < need.bytes) × (need.bytes ≤ 131072)
+transfer-some given entry opcode need dest is form =
+    let few : count_of entry ≤ 256 = count-at_most (blocks_in given.namespace) entry opcode is.unrefused is.known (ap form_has_buffer form) (ap form_has_blocks form) in
+    let many = transfer-len given entry opcode need dest is form in
+    (omega arith, omega arith)
+
+pub ranges-some : (entry : List ℕ) (need : Need) → need ≡ need_of entry DatasetManagement
+    → (need.bytes ≡ 16 * range_count_of entry) × ((0 < need.bytes) × (need.bytes ≤ 4096))
+ranges-some entry need needs =
+    let short = ranges-short entry in
+    let many : need.bytes ≡ 16 * range_count_of entry = ap (λ (n : Need). n.bytes) needs in
+    (many, (omega arith, omega arith))
+
+-- any buffer
+pub buffer-some : (given : Guest) (entry : List ℕ) (opcode : IoOpcode) (need : Need)
+    → IsKnown given entry opcode need → has_buffer opcode ≡ true → (0 < need.bytes) × (need.bytes ≤ 131072)
+buffer-some given entry Flush need is buffer = absurd (cc)
+buffer-some given entry WriteZeroes need is buffer = absurd (cc)
+buffer-some given entry Read need is buffer = transfer-some given entry Read need true is refl
+buffer-some given entry Write need is buffer = transfer-some given entry Write need false is refl
+buffer-some given entry Compare need is buffer = transfer-some given entry Compare need false is refl
+buffer-some given entry DatasetManagement need is buffer =
+    let some = ranges-some entry need is.needs in
+    let least = some.1.0 in
+    let most = some.1.1 in
+    (least, omega arith)
+
+-- ---- what the plan says
+
+-- one that is refused is answered
+pub says-refused : (given : Guest) (entry : List ℕ) (st : StatusField) (reads : List ReadDone)
+    → Ended (record { kind = kind.Answer st; portions = [] })
+    ≡ outlined given.namespace entry (planned (regions_of given) (in_transcript (End (Refuse st)) [] reads))
+unfolding in_transcript
+says-refused given entry st reads = refl
 
 -- one without a buffer moves no data
-pub plan_over-no_data : (given : Guest) (entry : List ℕ) (reads : List ReadDone) (opcode : IoOpcode) (need : Need)
+pub says-no_data : (given : Guest) (entry : List ℕ) (reads : List ReadDone) (opcode : IoOpcode) (need : Need)
     → IsKnown given entry opcode need → has_buffer opcode ≡ false
-    → outlined given.namespace entry (plan_over given entry reads)
-    ≡ Ended (record { kind = kind.NoData; portions = replicate (tags_of_entry given.namespace entry) nothing })
-unfolding plan_over in_transcript
-plan_over-no_data given entry reads opcode need is buffer =
-    ap (λ d. outlined given.namespace entry (planned (regions_of given) (in_transcript d [] reads)))
-    (judge-unlisted (shape_of given).mapped given.limit (blocks_in given.namespace) entry opcode is.unrefused is.known buffer)
-    ∙ by_opcode opcode buffer
-    ∙ ap (λ (n : ℕ). Ended (record { kind = kind.NoData; portions = replicate n nothing }))
-    (sym (tags-known given.namespace entry opcode is.unrefused is.known))
+    → Ended (record { kind = kind.NoData; portions = replicate (tags_of_entry given.namespace entry) nothing })
+    ≡ outlined given.namespace entry (planned (regions_of given) (in_transcript (End (Go (work_of (blocks_in given.namespace) opcode entry [] []))) [] reads))
+unfolding in_transcript
+says-no_data given entry reads opcode need is buffer =
+    ap (λ (n : ℕ). Ended (record { kind = kind.NoData; portions = replicate n nothing }))
+    (tags-known given.namespace entry opcode is.unrefused is.known)
+    ∙ sym (by_opcode opcode buffer)
   where
     by_opcode : (o : IoOpcode) → has_buffer o ≡ false
         → outlined given.namespace entry (Ended (plan_of (regions_of given) (Go (work_of (blocks_in given.namespace) o entry [] []))))
@@ -127,91 +183,6 @@ plan_over-no_data given entry reads opcode need is buffer =
     by_opcode Write none = (cc)
     by_opcode Compare none = (cc)
     by_opcode DatasetManagement none = (cc)
-
--- one with a buffer goes by its list
-pub plan_over-listed : (given : Guest) (entry : List ℕ) (reads : List ReadDone) (opcode : IoOpcode) (need : Need)
-    → IsKnown given entry opcode need → has_buffer opcode ≡ true
-    → plan_over given entry reads ≡ plan_of_list given opcode entry reads
-unfolding plan_over
-plan_over-listed given entry reads opcode need is buffer =
-    ap (λ d. planned (regions_of given) (in_transcript d [] reads))
-    (judge-listed (shape_of given).mapped given.limit (blocks_in given.namespace) entry opcode is.unrefused is.known buffer)
-
--- how many bytes a buffer has
-pub transfer-some : (given : Guest) (entry : List ℕ) (opcode : IoOpcode) (need : Need) (dest : Bool)
-    → IsKnown given entry opcode need → form_of opcode ≡ Transfer dest
-    → (0 < need.bytes) × (need.bytes ≤ 131072)
-transfer-some given entry opcode need dest is form =
-    let few : count_of entry ≤ 256 = count-at_most (blocks_in given.namespace) entry opcode is.unrefused is.known (buffered opcode dest form) (ranged opcode dest form) in
-    let many : need.bytes ≡ 512 * count_of entry = ap (λ (n : Need). n.bytes) is.needs ∙ len_of opcode dest form in
-    (omega arith, omega arith)
-  where
-    buffered : (o : IoOpcode) (d : Bool) → form_of o ≡ Transfer d → has_buffer o ≡ true
-    buffered Flush d e = (cc)
-    buffered WriteZeroes d e = (cc)
-    buffered Read d e = refl
-    buffered Write d e = refl
-    buffered Compare d e = refl
-    buffered DatasetManagement d e = (cc)
-
-    ranged : (o : IoOpcode) (d : Bool) → form_of o ≡ Transfer d → has_blocks o ≡ true
-    ranged Flush d e = (cc)
-    ranged WriteZeroes d e = (cc)
-    ranged Read d e = refl
-    ranged Write d e = refl
-    ranged Compare d e = refl
-    ranged DatasetManagement d e = (cc)
-
-    len_of : (o : IoOpcode) (d : Bool) → form_of o ≡ Transfer d → transfer_len o entry ≡ 512 * count_of entry
-    len_of Flush d e = (cc)
-    len_of WriteZeroes d e = (cc)
-    len_of Read d e = refl
-    len_of Write d e = refl
-    len_of Compare d e = refl
-    len_of DatasetManagement d e = (cc)
-
-pub ranges-some : (entry : List ℕ) (need : Need) → need ≡ need_of entry DatasetManagement
-    → (need.bytes ≡ 16 * range_count_of entry) × ((0 < need.bytes) × (need.bytes ≤ 4096))
-ranges-some entry need needs =
-    let short = ranges-short entry in
-    let many : need.bytes ≡ 16 * range_count_of entry = ap (λ (n : Need). n.bytes) needs in
-    (many, (omega arith, omega arith))
-
--- ---- by the list
-
--- places that were spelled
-pub spelled-places : (listed : Outcome (Result (List Piece) StatusField)) (regions : List Region) (need : Need) (pieces : List Piece)
-    → IsSpelled listed regions need → listed ≡ Settled (Ok pieces)
-    → AreSpelled (mapped regions) need.dest need.bytes pieces × All HasBytes pieces
-spelled-places listed regions need pieces spelled is =
-    subst (λ (l : Outcome (Result (List Piece) StatusField)). IsSpelled l regions need) is spelled
-
--- what comes of a command whose list was read
-planned-list : (given : Guest) (opcode : IoOpcode) (entry : List ℕ) (reads behind : List ReadDone) (listed : Outcome (Result (List Piece) StatusField)) (need : Need)
-    → IsJudgedAs listed behind (list_of (data_pointer (psdt_of entry)) (regions_of given) given.limit need entry) reads entry
-    → need ≡ need_of entry opcode
-    → planned (regions_of given) (judged_list listed behind (blocks_in given.namespace) entry opcode) ≡ plan_of_list given opcode entry reads
-planned-list given opcode entry reads behind listed need judged needs =
-    ap (planned (regions_of given)) (judged (blocks_in given.namespace) opcode)
-    ∙ ap (λ (n : Need). planned (regions_of given) (verdict_over (list_of (data_pointer (psdt_of entry)) (regions_of given) given.limit n entry) reads (blocks_in given.namespace) entry opcode)) needs
-
--- more of it is wanted
-pub list-wanted : (given : Guest) (opcode : IoOpcode) (entry : List ℕ) (reads behind : List ReadDone) (listed : Outcome (Result (List Piece) StatusField)) (need : Need) (addr len : ℕ)
-    → IsJudgedAs listed behind (list_of (data_pointer (psdt_of entry)) (regions_of given) given.limit need entry) reads entry
-    → need ≡ need_of entry opcode → listed ≡ Wanted addr len
-    → Asked addr len ≡ outlined given.namespace entry (plan_of_list given opcode entry reads)
-list-wanted given opcode entry reads behind listed need addr len judged needs is =
-    ap (λ (l : Outcome (Result (List Piece) StatusField)). outlined given.namespace entry (planned (regions_of given) (judged_list l behind (blocks_in given.namespace) entry opcode))) (sym is)
-    ∙ ap (outlined given.namespace entry) (planned-list given opcode entry reads behind listed need judged needs)
-
--- it is refused
-pub list-refused : (given : Guest) (opcode : IoOpcode) (entry : List ℕ) (reads behind : List ReadDone) (listed : Outcome (Result (List Piece) StatusField)) (need : Need) (st : StatusField)
-    → IsJudgedAs listed behind (list_of (data_pointer (psdt_of entry)) (regions_of given) given.limit need entry) reads entry
-    → need ≡ need_of entry opcode → listed ≡ Settled (Err st)
-    → Ended (record { kind = kind.Answer st; portions = [] }) ≡ outlined given.namespace entry (plan_of_list given opcode entry reads)
-list-refused given opcode entry reads behind listed need st judged needs is =
-    ap (λ (l : Outcome (Result (List Piece) StatusField)). outlined given.namespace entry (planned (regions_of given) (judged_list l behind (blocks_in given.namespace) entry opcode))) (sym is)
-    ∙ ap (outlined given.namespace entry) (planned-list given opcode entry reads behind listed need judged needs)
 
 -- it spells the places of a transfer
 abbrev pub kind_by : Bool → PlanKind
@@ -263,7 +234,7 @@ transfer-portions ns blocks Write dest entry pieces false form = sym (bounced-po
 transfer-portions ns blocks Compare dest entry pieces true form = sym (direct-portions ns entry (work_of blocks Compare entry pieces []) (λ cut. refl))
 transfer-portions ns blocks Compare dest entry pieces false form = sym (bounced-portions ns entry (work_of blocks Compare entry pieces []) (λ cut. refl))
 
-transfer-outline : (given : Guest) (opcode : IoOpcode) (dest : Bool) (entry : List ℕ) (behind : List ReadDone) (pieces : List Piece) (fit : Bool)
+pub transfer-outline : (given : Guest) (opcode : IoOpcode) (dest : Bool) (entry : List ℕ) (behind : List ReadDone) (pieces : List Piece) (fit : Bool)
     → form_of opcode ≡ Transfer dest → fit ≡ places_fit (regions_of given) pieces
     → Ended (record { kind = kind_by fit; portions = portions_cut given.namespace entry pieces })
     ≡ outlined given.namespace entry (planned (regions_of given) (in_transcript (judge_reading (blocks_in given.namespace) entry opcode (Spells pieces)) [] behind))
@@ -283,60 +254,7 @@ transfer-outline given opcode dest entry behind pieces fit form fits =
     by_opcode Compare d e = refl
     by_opcode DatasetManagement d e = (cc)
 
-pub list-transfers : (given : Guest) (opcode : IoOpcode) (dest : Bool) (entry : List ℕ) (reads behind : List ReadDone) (listed : Outcome (Result (List Piece) StatusField)) (need : Need) (pieces : List Piece) (fit : Bool)
-    → IsJudgedAs listed behind (list_of (data_pointer (psdt_of entry)) (regions_of given) given.limit need entry) reads entry
-    → form_of opcode ≡ Transfer dest → need ≡ need_of entry opcode → listed ≡ Settled (Ok pieces)
-    → fit ≡ places_fit (regions_of given) pieces
-    → Ended (record { kind = kind_by fit; portions = portions_cut given.namespace entry pieces })
-    ≡ outlined given.namespace entry (plan_of_list given opcode entry reads)
-list-transfers given opcode dest entry reads behind listed need pieces fit judged form needs is fits =
-    transfer-outline given opcode dest entry behind pieces fit form fits
-    ∙ ap (λ (l : Outcome (Result (List Piece) StatusField)). outlined given.namespace entry (planned (regions_of given) (judged_list l behind (blocks_in given.namespace) entry opcode))) (sym is)
-    ∙ ap (outlined given.namespace entry) (planned-list given opcode entry reads behind listed need judged needs)
-
 -- ---- Dataset Management
-
--- what comes of one whose list spells these pieces, by the bytes that were fetched there
-pub list-manages : (given : Guest) (entry : List ℕ) (reads behind : List ReadDone) (listed : Outcome (Result (List Piece) StatusField)) (need : Need) (pieces : List Piece) (fetched : Outcome (List ℕ))
-    → IsJudgedAs listed behind (list_of (data_pointer (psdt_of entry)) (regions_of given) given.limit need entry) reads entry
-    → need ≡ need_of entry DatasetManagement → listed ≡ Settled (Ok pieces) → IsFetched fetched pieces behind
-    → outlined given.namespace entry (planned (regions_of given) (made_of fetched (λ bytes. judge_ranges (blocks_in given.namespace) DatasetManagement entry pieces (ranges_in (range_count_of entry) bytes))))
-    ≡ outlined given.namespace entry (plan_of_list given DatasetManagement entry reads)
-list-manages given entry reads behind listed need pieces fetched judged needs is shows =
-    ap (λ v. outlined given.namespace entry (planned (regions_of given) v))
-    (shows (λ bytes. judge_ranges (blocks_in given.namespace) DatasetManagement entry pieces (ranges_in (range_count_of entry) bytes)))
-    ∙ ap (λ (l : Outcome (Result (List Piece) StatusField)). outlined given.namespace entry (planned (regions_of given) (judged_list l behind (blocks_in given.namespace) entry DatasetManagement))) (sym is)
-    ∙ ap (outlined given.namespace entry) (planned-list given DatasetManagement entry reads behind listed need judged needs)
-
--- some of the bytes are wanted
-pub ranges-wanted : (given : Guest) (entry : List ℕ) (reads behind : List ReadDone) (listed : Outcome (Result (List Piece) StatusField)) (need : Need) (pieces : List Piece) (fetched : Outcome (List ℕ)) (addr len : ℕ)
-    → IsJudgedAs listed behind (list_of (data_pointer (psdt_of entry)) (regions_of given) given.limit need entry) reads entry
-    → need ≡ need_of entry DatasetManagement → listed ≡ Settled (Ok pieces) → IsFetched fetched pieces behind
-    → fetched ≡ Wanted addr len
-    → Asked addr len ≡ outlined given.namespace entry (plan_of_list given DatasetManagement entry reads)
-ranges-wanted given entry reads behind listed need pieces fetched addr len judged needs is shows wanted =
-    ap (λ (o : Outcome (List ℕ)). outlined given.namespace entry (planned (regions_of given) (made_of o (λ bytes. judge_ranges (blocks_in given.namespace) DatasetManagement entry pieces (ranges_in (range_count_of entry) bytes))))) (sym wanted)
-    ∙ list-manages given entry reads behind listed need pieces fetched judged needs is shows
-
--- all of them were fetched
-pub ranges-fetched : (given : Guest) (entry : List ℕ) (reads behind : List ReadDone) (listed : Outcome (Result (List Piece) StatusField)) (need : Need) (pieces : List Piece) (fetched : Outcome (List ℕ)) (bytes : List ℕ) (outline : Outline)
-    → IsJudgedAs listed behind (list_of (data_pointer (psdt_of entry)) (regions_of given) given.limit need entry) reads entry
-    → need ≡ need_of entry DatasetManagement → listed ≡ Settled (Ok pieces) → IsFetched fetched pieces behind
-    → fetched ≡ Settled bytes → length bytes ≡ need.bytes
-    → outline ≡ outline_of given.namespace entry (plan_of (regions_of given) (judge_ranges (blocks_in given.namespace) DatasetManagement entry pieces (ranges_in (length bytes / 16) bytes)))
-    → Ended outline ≡ outlined given.namespace entry (plan_of_list given DatasetManagement entry reads)
-ranges-fetched given entry reads behind listed need pieces fetched bytes outline judged needs is shows came whole says =
-    let many = (ranges-some entry need needs).0 in
-    let count : length bytes / 16 ≡ range_count_of entry = omega arith in
-    ap Ended says
-    ∙ ap (λ (n : ℕ). Ended (outline_of given.namespace entry (plan_of (regions_of given) (judge_ranges (blocks_in given.namespace) DatasetManagement entry pieces (ranges_in n bytes))))) count
-    ∙ ap (λ (o : Outcome (List ℕ)). outlined given.namespace entry (planned (regions_of given) (made_of o (λ b. judge_ranges (blocks_in given.namespace) DatasetManagement entry pieces (ranges_in (range_count_of entry) b))))) (sym came)
-    ∙ list-manages given entry reads behind listed need pieces fetched judged needs is shows
-
--- as many as were asked for
-pub fetched-len : (fetched : Outcome (List ℕ)) (n : ℕ) (bytes : List ℕ) → HasLen fetched n → fetched ≡ Settled bytes
-    → length bytes ≡ n
-fetched-len fetched n bytes has came = subst (λ (o : Outcome (List ℕ)). HasLen o n) came has
 
 -- what one says whose ranges are refused
 pub ranged-refused : (ns : Namespace) (regions : List Region) (entry : List ℕ) (pieces : List Piece) (bytes : List ℕ) (st : StatusField)

@@ -1,9 +1,9 @@
 -- The bytes of a source, as a transcript shows them
-use Rattle.std.proofs.Common.{◌≡◌, ℕ, ◌+◌, ◌≤◌, All, List, [], ◌∷◌, ◌++◌, Option, Some, None}
+use Rattle.std.proofs.Common.{◌≡◌, ℕ, zero, suc, ◌+◌, ◌-◌, ◌<◌, ◌≤◌, All, List, [], ◌∷◌, ◌++◌, Option, Some, None}
 use Rattle.std.proofs.Common.{drop}
-use Rattle.std.proofs.Common.{length, length-append, take, arith, sym, ap, subst, ◌∙◌}
-use Rattle.std.proofs.lemmas.List.{drop_all}
-use Rattle.std.proofs.lemmas.List.Elements.{All-head, All-tail}
+use Rattle.std.proofs.Common.{length, take, arith, refl, sym, ap, subst, ◌∙◌}
+use Rattle.std.proofs.lemmas.List.{drop_all, length-drop}
+use Rattle.std.proofs.lemmas.List.Elements.{All-head}
 use Rattle.std.proofs.lemmas.List.Sums.{sum_by-cons}
 use Rattle.std.proofs.Math.Seq.{take-length}
 use Rattle.nv_mem.specs.Places.{piece_len, total_len}
@@ -11,16 +11,18 @@ use Rattle.nv_mem.specs.declared.piece.Piece.{Piece}
 use Rattle.nv_mem.specs.declared.piece.Piece.TheVariants.{Bucket, Run}
 use Rattle.nv_model.specs.Dialogue.{End, and_then}
 use Rattle.nv_model.specs.Judge.{Verdict, read_source}
-use Rattle.nv_model.specs.Transcript.{Outcome, ReadDone, Settled, Wanted, first_read, in_transcript, met_by, part}
+use Rattle.nv_model.specs.Transcript.{Outcome, ReadDone, Wanted, first_read, in_transcript, met_by, part}
 use Rattle.nv_model.proofs.RunPieces.{IsRunPiece}
 use Rattle.nv_model.proofs.Shown.{first_read-length}
+use Rattle.nv_plan.specs.Drafted.{front_of}
+use Rattle.nv_plan.specs.declared.draft.Ahead.TheVariants as ahead
 
 -- what comes of a source of these pieces behind these bytes, over these reads
 abbrev pub source_over : List Piece → (bytes : List ℕ) → List ReadDone → (List ℕ → Verdict) → Outcome Verdict
 source_over pieces bytes reads f = in_transcript (and_then (read_source pieces bytes) (λ b. End (f b))) [] reads
 
 -- a run that no read meets is wanted
-source-wanted : (addr len : ℕ) (pieces : List Piece) (bytes : List ℕ) (reads : List ReadDone) (f : List ℕ → Verdict)
+pub source-wanted : (addr len : ℕ) (pieces : List Piece) (bytes : List ℕ) (reads : List ReadDone) (f : List ℕ → Verdict)
     → len ≤ 4096 → first_read addr len reads ≡ None
     → source_over (Run addr len ∷ pieces) bytes reads f ≡ Wanted addr len
 unfolding read_source and_then in_transcript
@@ -34,7 +36,7 @@ take-all : (n : ℕ) (xs : List ℕ) → length xs ≡ n → take n xs ≡ xs
 take-all n xs many = subst (λ (k : ℕ). take k xs ≡ xs) many (take-length xs)
 
 -- one that a read meets goes on with its bytes
-source-met : (addr len : ℕ) (pieces : List Piece) (bytes : List ℕ) (reads : List ReadDone) (f : List ℕ → Verdict) (run : List ℕ) (behind : List ReadDone)
+pub source-met : (addr len : ℕ) (pieces : List Piece) (bytes : List ℕ) (reads : List ReadDone) (f : List ℕ → Verdict) (run : List ℕ) (behind : List ReadDone)
     → len ≤ 4096 → first_read addr len reads ≡ Some (run, behind)
     → source_over pieces (bytes ++ run) behind f ≡ source_over (Run addr len ∷ pieces) bytes reads f
 unfolding read_source and_then in_transcript
@@ -47,79 +49,46 @@ source-met addr len pieces bytes reads f run behind short found =
     ∙ ap (λ (b : List ℕ). in_transcript (and_then (read_source pieces (bytes ++ b)) (λ all. End (f all))) (drop len run) behind) (take-all len run many)
     ∙ ap (λ (b : List ℕ). in_transcript (and_then (read_source pieces (bytes ++ run)) (λ all. End (f all))) b behind) (drop_all len run (omega arith)))
 
--- what a loop over the pieces keeps: of all pieces with all reads, these are left, behind these bytes and over these reads
-pub record IsFetching (pieces : List Piece) (all : List ReadDone) (left : List Piece) (bytes : List ℕ) (reads : List ReadDone) : Type 0 where
-  pub goes : (f : List ℕ → Verdict) → source_over left bytes reads f ≡ source_over pieces [] all f
-  pub short : total_len left ≤ 4096
-  pub runs : All IsRunPiece left
-  pub many : length bytes + total_len left ≡ total_len pieces
+-- ---- the run in front of what is left
 
-pub IsFetching-start : (pieces : List Piece) (all : List ReadDone) (left : List Piece) (bytes : List ℕ)
-    → left ≡ pieces → bytes ≡ [] → total_len pieces ≤ 4096 → All IsRunPiece pieces
-    → IsFetching pieces all left bytes all
-IsFetching-start pieces all left bytes same none short runs =
-    let nothing : length bytes ≡ 0 = ap length none in
-    let len : total_len left ≡ total_len pieces = ap total_len same in
-    record {
-      goes = λ f. ap (λ (ps : List Piece). source_over ps bytes all f) same ∙ ap (λ (b : List ℕ). source_over pieces b all f) none;
-      short = omega arith;
-      runs = subst (λ (ps : List Piece). All IsRunPiece ps) (sym same) runs;
-      many = omega arith;
-    }
+pub record IsNextRun (left : List Piece) (addr len : ℕ) (rest : List Piece) : Type 0 where
+  pub is : left ≡ Run addr len ∷ rest
+  pub sized : total_len left ≡ len + total_len rest
 
--- the run in front of what is left
-record IsNextRun (left : List Piece) (addr len : ℕ) (behind : List Piece) : Type 0 where
-  is : left ≡ Run addr len ∷ behind
-  sized : total_len left ≡ len + total_len behind
+next-run : (left : List Piece) (addr len : ℕ) (rest : List Piece) → left ≡ Run addr len ∷ rest → IsNextRun left addr len rest
+next-run left addr len rest is = record { is = is; sized = ap total_len is ∙ sum_by-cons piece_len (Run addr len) rest }
 
-next-run : (left : List Piece) (p : Piece) (addr len : ℕ) (behind : List Piece) → left ≡ p ∷ behind → p ≡ Run addr len
-    → IsNextRun left addr len behind
-next-run left p addr len behind split run =
-    let is : left ≡ Run addr len ∷ behind = split ∙ ap (λ (x : Piece). x ∷ behind) run in
-    record { is = is; sized = ap total_len is ∙ sum_by-cons piece_len (Run addr len) behind }
+-- it is what comes next
+pub front-run : (left : List Piece) (addr len : ℕ) → front_of left ≡ ahead.Read addr len → (rest : List Piece) × IsNextRun left addr len rest
+front-run [] addr len e = absurd (cc)
+front-run (Run a n ∷ rest) addr len e =
+    let at : a ≡ addr = (cc) in
+    let size : n ≡ len = (cc) in
+    (rest, next-run (Run a n ∷ rest) addr len rest (ap (λ (x : ℕ). Run x n ∷ rest) at ∙ ap (λ (x : ℕ). Run addr x ∷ rest) size))
+front-run (Bucket n ∷ rest) addr len e = absurd (cc)
 
-pub IsFetching-wanted : (pieces : List Piece) (all : List ReadDone) (left : List Piece) (bytes : List ℕ) (reads : List ReadDone) (p : Piece) (addr len : ℕ) (behind : List Piece)
-    → IsFetching pieces all left bytes reads → left ≡ p ∷ behind → p ≡ Run addr len → first_read addr len reads ≡ None
-    → (f : List ℕ → Verdict) → Wanted addr len ≡ source_over pieces [] all f
-IsFetching-wanted pieces all left bytes reads p addr len behind so_far split run none f =
-    let next = next-run left p addr len behind split run in
-    let short = so_far.short in
-    let sized = next.sized in
-    sym (source-wanted addr len behind bytes reads f (omega arith) none)
-    ∙ ap (λ (ps : List Piece). source_over ps bytes reads f) (sym next.is) ∙ so_far.goes f
-
-pub IsFetching-more : (pieces : List Piece) (all : List ReadDone) (left : List Piece) (bytes : List ℕ) (reads : List ReadDone) (p : Piece) (addr len : ℕ) (behind : List Piece) (run : List ℕ) (rest : List ReadDone) (next : List ℕ)
-    → IsFetching pieces all left bytes reads → left ≡ p ∷ behind → p ≡ Run addr len → first_read addr len reads ≡ Some (run, rest)
-    → next ≡ bytes ++ run
-    → IsFetching pieces all behind next rest
-IsFetching-more pieces all left bytes reads p addr len behind run rest next so_far split is found grown =
-    let front = next-run left p addr len behind split is in
-    let short = so_far.short in
-    let sized = front.sized in
-    let so_many = so_far.many in
-    let read : length run ≡ len = first_read-length addr len reads (run, rest) found in
-    let longer : length next ≡ length bytes + length run = ap length grown ∙ length-append bytes run in
-    record {
-      goes = λ f.
-          ap (λ (b : List ℕ). source_over behind b rest f) grown
-          ∙ source-met addr len behind bytes reads f run rest (omega arith) found
-          ∙ ap (λ (ps : List Piece). source_over ps bytes reads f) (sym front.is) ∙ so_far.goes f;
-      short = omega arith;
-      runs = All-tail IsRunPiece (Run addr len) behind (subst (λ (ps : List Piece). All IsRunPiece ps) front.is so_far.runs);
-      many = omega arith;
-    }
-
--- no bucket comes
-pub IsFetching-no_bucket : (pieces : List Piece) (all : List ReadDone) (left : List Piece) (bytes : List ℕ) (reads : List ReadDone) (p : Piece) (len : ℕ) (behind : List Piece)
-    → IsFetching pieces all left bytes reads → left ≡ p ∷ behind → p ≡ Bucket len → ⊥
+-- where nothing comes next of runs, none is left
+pub front-none : (left : List Piece) → All IsRunPiece left → front_of left ≡ ahead.End → left ≡ []
 unfolding IsRunPiece
-IsFetching-no_bucket pieces all left bytes reads p len behind so_far split is =
-    All-head IsRunPiece (Bucket len) behind (subst (λ (ps : List Piece). All IsRunPiece ps) (split ∙ ap (λ (x : Piece). x ∷ behind) is) so_far.runs)
+front-none [] runs e = refl
+front-none (Run a n ∷ rest) runs e = absurd (cc)
+front-none (Bucket n ∷ rest) runs e = absurd (All-head IsRunPiece (Bucket n) rest runs)
 
--- at the end
-pub IsFetching-end : (pieces : List Piece) (all : List ReadDone) (left : List Piece) (bytes : List ℕ) (reads : List ReadDone)
-    → IsFetching pieces all left bytes reads → length left ≡ 0
-    → ((f : List ℕ → Verdict) → Settled (f bytes) ≡ source_over pieces [] all f) × (length bytes ≡ total_len pieces)
-unfolding read_source and_then in_transcript
-IsFetching-end pieces all [] bytes reads so_far none = let many = so_far.many in (λ f. so_far.goes f, omega arith)
-IsFetching-end pieces all (p ∷ left) bytes reads so_far none = absurd (omega arith)
+-- a source never comes to a list's end
+pub front-no_turn : (left : List Piece) → front_of left ≡ ahead.Turn → ⊥
+front-no_turn [] e = (cc)
+front-no_turn (Run a n ∷ rest) e = (cc)
+front-no_turn (Bucket n ∷ rest) e = (cc)
+
+-- what is left after one more
+pub drop-one : {X : Type 0} (n : ℕ) (xs : List X) (x : X) (rest : List X) → drop n xs ≡ x ∷ rest → drop (n + 1) xs ≡ rest
+drop-one zero xs x rest e = ap (drop 1) e
+drop-one (suc n) [] x rest e = absurd (cc)
+drop-one (suc n) (y ∷ ys) x rest e =
+    let next : suc n + 1 ≡ suc (n + 1) = omega arith in
+    ap (λ (k : ℕ). drop k (y ∷ ys)) next ∙ drop-one n ys x rest e
+
+pub drop-within : {X : Type 0} (n : ℕ) (xs : List X) (x : X) (rest : List X) → drop n xs ≡ x ∷ rest → n < length xs
+drop-within n xs x rest e =
+    let left : length xs - n ≡ length (x ∷ rest) = sym (length-drop n xs) ∙ ap length e in
+    omega arith

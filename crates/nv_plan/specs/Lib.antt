@@ -2,8 +2,10 @@ pub mod Parts
 pub mod Outline
 pub mod Made
 pub mod Planned
+pub mod Fed
 pub mod Listed
 pub mod Drawn
+pub mod Drafted
 pub mod Runs
 pub mod Told
 pub mod Laws

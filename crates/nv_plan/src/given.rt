@@ -4,7 +4,7 @@ use nv_mem::GuestMap;
 use nv_ns::VirtualNs;
 
 /// A guest's memory and namespace, and the most descriptors of a list of its.
-#[derive(Drop)]
+#[derive(Clone, Copy)]
 pub(crate) struct Given<'a> {
     pub(crate) map: &'a GuestMap,
     pub(crate) ns: &'a VirtualNs,

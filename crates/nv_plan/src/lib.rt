@@ -1,18 +1,20 @@
 //! What the mediator does with a guest's command: it is answered at once, moves no data, or transfers directly or by way of bounce pages.
 //!
-//! - [`make_plan`] makes the [`Plan`] of a [`Job`]: a command, what was read of its lists so far (a [`Transcript`]), and whose tag it
-//!   has. Where something is wanted that was not read, it says what. No guest memory is looked at here: a list is what was read of it,
-//!   and a read that is not the next want is skipped.
+//! - [`Planning`] is a plan under way. It is made of a [`Job`]: a command, what was read of its lists so far (a [`Transcript`]), and
+//!   whose tag it has. It says which bytes it wants next, and is fed them; in the end it gives the [`Plan`]. A want costs the same
+//!   however much was read before it.
+//! - [`make_plan`] does that with what the job's transcript has, and says what is wanted where more is. No guest memory is read here: a
+//!   list is what was read of it, and a read that is not the next want is skipped.
 //! - A [`Plan`] carries its job, the guest's map and namespace and the limit on descriptors, and its type keeps that it is what the
-//!   definition says of these. So a plan may be made anywhere, without a lock, and whoever takes it compares these four with what
-//!   stands now, and need not know who made it.
-//! - A plan is one physical command for each share of it. [`Plan::parts`] says how many, and of each part the plan tells its places,
-//!   its ranges, how many bytes it transfers and its blocks on the disk. [`tags_wanted`] says how many a command is before it is planned.
-//! - [`laws`] states what the definition comes to: a plan follows from its job and what the guest was given; the places of a part are
+//!   definition says of these. So a plan may be made anywhere, without a lock. Whoever takes it compares these four with the world, and
+//!   need not know who made it.
+//! - A plan is one physical command for each share of it. [`Plan::parts`] says how many. Of each part the plan has its places, its
+//!   ranges, how many bytes it transfers and its blocks on the disk. [`tags_wanted`] says how many a command is before it is planned.
+//! - [`laws`] states what follows from the definition: a plan follows from its job and what the guest was given; the places of a part are
 //!   mapped and as long as its transfer; what is direct can be named by PRP, and spells exactly those addresses; and the ranges of a
-//!   plan lie in the guest's namespace.
+//!   plan are in the guest's namespace.
 //!
-//! What is read of an SGL lives in an allocator of the caller's choice, and a plan in `Global`; where memory is refused, the job comes
+//! What is read of an SGL is kept in an allocator of the caller's choice, and a plan in `Global`. Where memory is refused, the job comes
 //! back as it was. A list is gone through once, and so is the transcript; once more for each part, where there are several. A transfer
 //! in one part through one descriptor takes three blocks of memory: for the descriptor, the places and the copy of the map. Each array
 //! of descriptors takes two more, and a Dataset Management two, for its bytes and its ranges. A namespace of several extents takes one
@@ -22,27 +24,29 @@
 
 mod copies;
 mod cutting;
+mod draft;
 mod ends;
 mod given;
 mod job;
 mod kept_ns;
 mod kind;
 pub mod laws;
-mod lists;
-mod outcome;
+mod next;
 mod outline;
 mod plan;
 mod planned;
 mod planning;
 mod portions;
 mod ranges;
+mod source;
 mod tags;
 mod transcript;
 
 pub use job::Job;
 pub use kind::PlanKind;
+pub use next::Next;
 pub use plan::Plan;
 pub use planned::Planned;
-pub use planning::make_plan;
+pub use planning::{Planning, make_plan};
 pub use tags::tags_wanted;
 pub use transcript::{ReadDone, Transcript};

@@ -1,46 +1,202 @@
 //! How a job becomes a plan.
 
-ghost use Rattle.std.specs.Prelude.{◌≡◌, ◌<◌, ◌≤◌, ◌*◌, ◌/◌, ◌%◌, ℕ, All, Bool, List, IfOk, length, map, true};
+ghost use Rattle.std.specs.Prelude.{◌≡◌, ◌<◌, ◌≤◌, ◌*◌, ◌/◌, ◌%◌, [], ◌∷◌, ◌++◌, ℕ, All, List, true, IfErr, IfOk, OnErr, OnOk, length, map};
 ghost use Rattle.nv_entry.specs.Submission.{slba_of};
-ghost use Rattle.nv_entry.specs.declared.opcode.IoOpcode.{IoOpcode};
 ghost use Rattle.nv_entry.specs.declared.opcode.IoOpcode.TheVariants as opcode;
-ghost use Rattle.nv_judge.specs.Need.{need_of};
 ghost use Rattle.nv_mem.specs.GuestMap.{mapped};
 ghost use Rattle.nv_mem.specs.Places.{total_len};
 ghost use Rattle.nv_mem.specs.declared.piece.Piece.{Piece};
-ghost use Rattle.nv_model.specs.Judge.{Transfer, count_of, form_of, judge_ranges, ranges_in};
+ghost use Rattle.nv_model.specs.Judge.{count_of, judge_ranges, ranges_in};
 ghost use Rattle.nv_model.specs.Laws.{IsMappedPiece};
-ghost use Rattle.nv_model.specs.Limits.{block, most_bytes, part_size, range_size};
+ghost use Rattle.nv_model.specs.Limits.{block, part_size, range_size};
+ghost use Rattle.nv_model.specs.Transcript.{Wanted};
 ghost use Rattle.nv_ns.specs.BlockRange.{in_namespace};
 ghost use Rattle.nv_ns.specs.Extents.{blocks_in, cuts};
 ghost use Rattle.nv_world_model.specs.Plan.{plan_of};
 ghost use Rattle.nv_world_model.specs.SetUp.{most_limit};
-ghost use Rattle.nv_plan.specs.Drawn.{drawn, given_of, plan_of_list};
+ghost use Rattle.nv_plan.specs.Drafted.{IsFed, IsGoingOn, IsSound, IsUnderWay, ahead_of, next_at};
+ghost use Rattle.nv_plan.specs.Drawn.{given_of};
+ghost use Rattle.nv_plan.specs.Fed.{IsNext, with_read};
 ghost use Rattle.nv_plan.specs.Made.{outcome_of};
-ghost use Rattle.nv_plan.specs.Outline.{outline_of, outlined};
+ghost use Rattle.nv_plan.specs.Outline.{outline_of};
 ghost use Rattle.nv_plan.specs.Parts.{HasBytes};
 ghost use Rattle.nv_plan.specs.Planned.{IsPlanned};
 ghost use Rattle.nv_plan.specs.Told.{portion_cut};
 
 use crate::cutting::cut_up;
+use crate::draft::{Ahead, Draft};
 use crate::given::Given;
 use crate::job::Job;
 use crate::kept_ns::KeptNs;
 use crate::kind::PlanKind;
-use crate::outcome::Outcome;
+use crate::next::Next;
 use crate::outline::Outline;
 use crate::plan::Plan;
 use crate::planned::Planned;
 use crate::portions::Portions;
-use crate::ranges::{fetch, portions_met};
-use crate::tags::{parts_of, tags_wanted};
-use crate::transcript::ReadsLeft;
-use nv_entry::{IoOpcode, Sqe};
-use nv_judge::{Need, judge_fields, judge_ranges};
+use crate::ranges::portions_met;
+use crate::tags::parts_of;
+use crate::transcript::{ReadDone, Transcript};
+use nv_entry::Sqe;
+use nv_judge::judge_ranges;
 use nv_mem::{GuestMap, NoMemory, Places};
 use nv_ns::VirtualNs;
-use nv_prp::fits;
 use std::alloc::{Allocator, Global};
+use std::marker::Model;
+
+/// A plan under way, which is fed: it says which bytes of the guest's memory it wants next, and takes each read as it comes. What is
+/// wanted next costs the same however much was read.
+///
+/// What is read of an SGL is kept in an allocator of the caller's choice.
+#[derive(Drop)]
+pub struct Planning<'a, A: Allocator + Clone> {
+    draft: Draft<'a, A>,
+    job: Job,
+    alloc: Global,
+}
+
+impl<'a, A: Allocator + Clone> Model for Planning<'a, A> {
+    ghost use Rattle.nv_plan.specs.Drafted.{IsUnderWay};
+    ghost use Rattle.nv_plan.specs.Drawn.{given_of};
+    ghost use Rattle.nv_plan.specs.Fed.{UnderWay};
+
+    ghost Value = { UnderWay };
+
+    ghost view = { λ p. record { job = p.job; given = given_of p.draft.given } };
+
+    ghost invariant = { λ p. IsUnderWay p.draft p.job };
+}
+
+impl<'a, A: Allocator + Clone> Planning<'a, A> {
+    /// The plan of a job of a guest that was given this map, this namespace and this limit on descriptors, 1 to 4,096. What the job's
+    /// transcript has is taken first.
+    ///
+    /// # Errors
+    ///
+    /// There was no memory: the job comes back as it was.
+    pub fn new(
+        heap: A,
+        alloc: Global,
+        job: Job,
+        map: &'a GuestMap,
+        ns: &'a VirtualNs,
+        limit: u32,
+    ) -> Result<Self, Job>
+        requires some { 0 < limit }
+        requires most { limit ≤ most_limit }
+        ensures ok { IfOk result (λ planning. planning ≡ record { job = job; given = record { memory_map = map.now; namespace = ns.now; limit = limit } }) }
+        ensures err { IfErr result (λ back. back ≡ job) }
+    {
+        let given = Given { map, ns, limit };
+        let Ok(mut draft) = given.draft(heap, alloc, &job.sqe) else {
+            return Err(job);
+        };
+        match draft.catch_up(alloc, &job) {
+            Ok(_next) => Ok(Planning { draft, job, alloc }),
+            Err(NoMemory) => Err(job),
+        }
+    }
+
+    /// The job, with what was read so far.
+    pub fn job(&self) -> &Job
+        ensures { result.now ≡ self.now.job }
+    {
+        &self.job
+    }
+
+    /// The job, with what was read so far. The heap has what was kept there back.
+    pub fn into_job(self) -> Job
+        ensures { result ≡ self.entry.job }
+    {
+        self.job
+    }
+
+    /// What is wanted next: the bytes that `make_plan` would want of the job with what was read so far.
+    ///
+    /// # Errors
+    ///
+    /// There was no memory. The plan is as it was, and may be asked again.
+    pub fn wants(&mut self) -> Result<Next, NoMemory>
+        ensures next { IfOk result (λ next. IsNext next self.old) }
+        ensures same { self.new ≡ self.old }
+    {
+        self.draft.wants(self.alloc)
+    }
+
+    /// Takes the read that is wanted next.
+    ///
+    /// # Errors
+    ///
+    /// There was no memory. The plan is as it was, and may be fed again.
+    pub fn feed(&mut self, read: ReadDone) -> Result<(), NoMemory>
+        requires { outcome_of self.old.given self.old.job ≡ Wanted read.addr (length read.bytes) }
+        ensures ok { OnOk result (self.new ≡ with_read self.old read) }
+        ensures err { OnErr result (self.new ≡ self.old) }
+    {
+        // A Dataset Management whose list was read goes on to its ranges first.
+        let _next = self.draft.wants(self.alloc)?;
+        read_on(&mut self.draft, &mut self.job.reads, read)
+    }
+
+    /// The plan, or what is still wanted, or that there was no memory: what `make_plan` answers of the job with what was read so far.
+    pub fn finish(self) -> Planned
+        ensures { IsPlanned result self.entry.job self.entry.given }
+    {
+        let Planning {
+            mut draft,
+            job,
+            alloc,
+        } = self;
+        match draft.wants(alloc) {
+            Ok(next) => settled(alloc, &draft, next, job),
+            Err(NoMemory) => Planned::NoMemory(job),
+        }
+    }
+}
+
+// Feeds a draft the read that comes next, and adds that to the reads of its job. Room for it is taken first, so that nothing can fail after
+// the draft was fed.
+fn read_on<'a, A: Allocator + Clone>(
+    draft: &mut Draft<'a, A>,
+    reads: &mut Transcript,
+    read: ReadDone,
+) -> Result<(), NoMemory>
+    requires sound { IsSound draft.old }
+    requires wanted { next_at draft.old.stage ≡ Ahead.Read read.addr (length read.bytes) }
+    ensures ok_reads { OnOk result (reads.new ≡ reads.old ++ read ∷ []) }
+    ensures ok_draft { OnOk result (IsFed draft.old read.bytes draft.new) }
+    ensures err_reads { OnErr result (reads.new ≡ reads.old) }
+    ensures err_draft { OnErr result (IsGoingOn draft.old draft.new) }
+{
+    reads.reads.reserve(1)?;
+    draft.feed(read.bytes())?;
+    reads.reads.push_reserved(read);
+    Ok(())
+}
+
+// What comes of a job that wants this next.
+#[inline(always)]
+fn settled<'a, A: Allocator + Clone>(
+    alloc: Global,
+    draft: &Draft<'a, A>,
+    next: Next,
+    job: Job,
+) -> Planned
+    requires under_way { IsUnderWay draft.now job }
+    requires next { next_at draft.now.stage ≡ ahead_of next }
+    ensures { IsPlanned result job (given_of draft.now.given) }
+{
+    if let Next::Read { addr, len } = next {
+        return Planned::Need(job, addr, len);
+    }
+    let Ok(outline) = draft.outline(alloc) else {
+        return Planned::NoMemory(job);
+    };
+    match draft.given.kept(alloc) {
+        Ok((map, ns)) => Planned::Plan(Plan::new(job, map, ns, draft.given.limit, outline)),
+        Err(NoMemory) => Planned::NoMemory(job),
+    }
+}
 
 /// The plan of a job, or the bytes that are wanted next.
 ///
@@ -59,12 +215,11 @@ pub fn make_plan<A: Allocator + Clone>(
     ensures { IsPlanned result job (record { memory_map = map.now; namespace = ns.now; limit = limit }) }
 {
     let given = Given { map, ns, limit };
-    match given.outline(heap, alloc, &job) {
-        Ok(Outcome::Wanted { addr, len }) => Planned::Need(job, addr, len),
-        Ok(Outcome::Settled(outline)) => match given.kept(alloc) {
-            Ok((map, ns)) => Planned::Plan(Plan::new(job, map, ns, limit, outline)),
-            Err(NoMemory) => Planned::NoMemory(job),
-        },
+    let Ok(mut draft) = given.draft(heap, alloc, &job.sqe) else {
+        return Planned::NoMemory(job);
+    };
+    match draft.catch_up(alloc, &job) {
+        Ok(next) => settled(alloc, &draft, next, job),
         Err(NoMemory) => Planned::NoMemory(job),
     }
 }
@@ -79,102 +234,13 @@ impl<'a> Given<'a> {
         Ok((map, ns))
     }
 
-    // What the plan of a job says.
-    fn outline<A: Allocator + Clone>(
-        &self,
-        heap: A,
-        alloc: Global,
-        job: &Job,
-    ) -> Result<Outcome<Outline>, NoMemory>
-        requires { 0 < self.now.limit }
-        ensures { IfOk result (λ outline. drawn outline ≡ outlined self.now.ns.now job.now.sqe (outcome_of (given_of self.now) job.now)) }
-    {
-        let need = match judge_fields(&job.sqe, self.ns) {
-            Ok(need) => need,
-            Err(status) => return Ok(Outcome::Settled(Outline::answer(status))),
-        };
-        let Some(opcode) = job.sqe.io_opcode() else {
-            unreachable!()
-        };
-        let mut reads = ReadsLeft::all(&job.reads);
-        match opcode {
-            IoOpcode::Flush | IoOpcode::WriteZeroes => {
-                let portions = Portions::bare(tags_wanted(&job.sqe, self.ns));
-                Ok(Outcome::Settled(Outline::new(PlanKind::NoData, portions)))
-            }
-            IoOpcode::Read | IoOpcode::Write | IoOpcode::Compare => self.transfer(
-                heap, alloc, &job.sqe, need, &mut reads,
-            ),
-            IoOpcode::DatasetManagement => self.manage(heap, alloc, &job.sqe, need, &mut reads),
-        }
-    }
-
-    // What the plan of a Read, Write or Compare says, whose fields are in order.
-    fn transfer<A: Allocator + Clone>(
-        &self,
-        heap: A,
-        alloc: Global,
-        sqe: &Sqe,
-        need: Need,
-        reads: &mut ReadsLeft,
-    ) -> Result<Outcome<Outline>, NoMemory>
-        requires limit { 0 < self.now.limit }
-        requires inside { in_namespace (slba_of sqe.now) (count_of sqe.now) (blocks_in self.now.ns.now) ≡ true }
-        requires len { need.bytes ≡ block * count_of sqe.now }
-        requires most { need.bytes ≤ most_bytes }
-        ensures { IfOk result (λ outline. (opcode : IoOpcode) (dest : Bool) →
-            form_of opcode ≡ Transfer dest → need ≡ need_of sqe.now opcode →
-            drawn outline ≡ outlined self.now.ns.now sqe.now (plan_of_list (given_of self.now) opcode sqe.now reads.old)) }
-    {
-        match self.read_list(heap, alloc, sqe, need, reads)? {
-            Outcome::Wanted { addr, len } => Ok(Outcome::Wanted { addr, len }),
-            Outcome::Settled(Err(status)) => Ok(Outcome::Settled(Outline::answer(status))),
-            Outcome::Settled(Ok(places)) => {
-                let kind = if fits(self.map, &places) {
-                    PlanKind::Direct
-                } else {
-                    PlanKind::Bounced
-                };
-                let portions = self.parted(alloc, sqe, places)?;
-                Ok(Outcome::Settled(Outline::new(kind, portions)))
-            }
-        }
-    }
-
-    // What the plan of a Dataset Management says, whose fields are in order.
-    fn manage<A: Allocator + Clone>(
-        &self,
-        heap: A,
-        alloc: Global,
-        sqe: &Sqe,
-        need: Need,
-        reads: &mut ReadsLeft,
-    ) -> Result<Outcome<Outline>, NoMemory>
-        requires limit { 0 < self.now.limit }
-        requires need { need ≡ need_of sqe.now opcode.DatasetManagement }
-        ensures { IfOk result (λ outline.
-            drawn outline ≡ outlined self.now.ns.now sqe.now (plan_of_list (given_of self.now) opcode.DatasetManagement sqe.now reads.old)) }
-    {
-        match self.read_list(heap, alloc, sqe, need, reads)? {
-            Outcome::Wanted { addr, len } => Ok(Outcome::Wanted { addr, len }),
-            Outcome::Settled(Err(status)) => Ok(Outcome::Settled(Outline::answer(status))),
-            Outcome::Settled(Ok(places)) => match fetch(
-                alloc,
-                &places,
-                need.bytes as usize,
-                reads,
-            )? {
-                Outcome::Wanted { addr, len } => Ok(Outcome::Wanted { addr, len }),
-                Outcome::Settled(bytes) => Ok(Outcome::Settled(self.ranged(
-                    alloc,
-                    bytes.as_slice(),
-                )?)),
-            },
-        }
-    }
-
     // What the parts of a transfer of blocks have of these places, as many bytes as the blocks have.
-    fn parted(&self, alloc: Global, sqe: &Sqe, places: Places) -> Result<Portions, NoMemory>
+    pub(crate) fn parted(
+        &self,
+        alloc: Global,
+        sqe: &Sqe,
+        places: Places,
+    ) -> Result<Portions, NoMemory>
         requires inside { in_namespace (slba_of sqe.now) (count_of sqe.now) (blocks_in self.now.ns.now) ≡ true }
         requires len { total_len places ≡ block * count_of sqe.now }
         requires some { All HasBytes places }
@@ -194,7 +260,7 @@ impl<'a> Given<'a> {
     }
 
     // What the plan of a Dataset Management says at whose list's places these bytes stood.
-    fn ranged(&self, alloc: Global, bytes: &[u8]) -> Result<Outline, NoMemory>
+    pub(crate) fn ranged(&self, alloc: Global, bytes: &[u8]) -> Result<Outline, NoMemory>
         requires whole { length bytes.now % range_size ≡ 0 }
         requires short { length bytes.now ≤ part_size }
         ensures { IfOk result (λ outline. (entry : List ℕ) (pieces : List Piece) →

@@ -1,56 +1,24 @@
-//! The ranges of a Dataset Management: their bytes, and where they lie on the disk.
+//! The ranges of a Dataset Management: where they are on the disk.
 
-ghost use Rattle.std.specs.Prelude.{◌≡◌, ◌≤◌, ◌/◌, ◌++◌, All, IfOk, ℕ, OnOk, Some, length, map, slice_get, true};
+ghost use Rattle.std.specs.Prelude.{◌≡◌, ◌≤◌, ◌/◌, ◌++◌, IfOk, ℕ, OnOk, Some, length, map, slice_get, true};
 ghost use Rattle.std.specs.List.{enumerate_from, list_all};
 ghost use Rattle.std.specs.Option.{option_map};
 ghost use Rattle.nv_entry.specs.Layout.{number_bytes};
-ghost use Rattle.nv_mem.specs.Places.{total_len};
 ghost use Rattle.nv_model.specs.Judge.{range_fits, ranges_in};
 ghost use Rattle.nv_model.specs.Limits.{part_size, range_size};
-ghost use Rattle.nv_model.proofs.RunPieces.{IsRunPiece};
 ghost use Rattle.nv_ns.specs.Extents.{Placed, blocks_in, placed};
-ghost use Rattle.nv_plan.specs.Listed.{HasLen, IsFetched};
 ghost use Rattle.nv_plan.specs.Told.{portion_met, standing};
 ghost use Rattle.nv_world_model.specs.Area.{translated_range};
 ghost use Rattle.nv_world_model.specs.Share.{range_in, ranges_met};
 
 use crate::ends::Ends;
-use crate::outcome::Outcome;
 use crate::portions::Portions;
-use crate::transcript::ReadsLeft;
 use byteorder::{ByteOrder, LittleEndian};
 use nv_entry::Range;
-use nv_mem::{Bytes, NoMemory, Piece, Places};
+use nv_mem::NoMemory;
 use nv_model::limits::RANGE_SIZE;
 use nv_ns::{Extent, Part, VirtualNs};
 use std::alloc::Global;
-
-/// The bytes of a source of `len` bytes, as the transcript shows them, run by run. The reads that it wants are taken.
-pub(crate) fn fetch(
-    alloc: Global,
-    places: &Places,
-    len: usize,
-    reads: &mut ReadsLeft,
-) -> Result<Outcome<Bytes>, NoMemory>
-    requires short { total_len places.now ≤ part_size }
-    requires runs { All IsRunPiece places.now }
-    ensures fetched { IfOk result (λ fetched. IsFetched fetched places.now reads.old) }
-    ensures whole { IfOk result (λ fetched. HasLen fetched (total_len places.now)) }
-{
-    let mut bytes = Vec::with_capacity(alloc, len)?;
-    let mut pieces = places.pieces();
-    while let Some((piece, behind)) = pieces.split_first() {
-        if let Piece::Run { addr, len } = *piece {
-            let Some(run) = reads.take(addr, len) else {
-                return Ok(Outcome::Wanted { addr, len });
-            };
-            bytes.extend_from_slice(run)?;
-        }
-        pieces = behind;
-    }
-    let fetched = Bytes::new(alloc, bytes)?;
-    Ok(Outcome::Settled(fetched))
-}
 
 /// An extent as it stands in its namespace: its number, and how many blocks of the namespace come before its own.
 #[derive(Debug, Drop)]

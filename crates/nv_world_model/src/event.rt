@@ -9,7 +9,7 @@ pub enum Event {
     Guest(u8, Act),
     /// One admin command of the guest, or its waiting deletion.
     Admin(u8),
-    /// The front entry of the guest's I/O queue gets a tag of the lane: guest, queue, lane.
+    /// The front entry of the guest's I/O queue is taken, with a tag of the lane for each extent that it meets: guest, queue, lane.
     Take(u8, u16, u8),
     /// Bytes of the guest's memory join the tag's transcript: lane, tag, guest address, number of bytes.
     List(u8, u8, u64, u64),
