@@ -1,5 +1,5 @@
 -- What a call by C is answered, and what it does to the mediator behind a handle.
-use Rattle.std.specs.Prelude.{◌≡◌, ◌⊎◌, ◌≤◌, ◌==◌, ℕ, Bool, if◌then◌else◌, length, nat_lt, slice_get, IsSome, List, Option, Some, None}
+use Rattle.std.specs.Prelude.{◌≡◌, ◌⊎◌, ◌≤◌, ◌==◌, ℕ, Bool, if◌then◌else◌, length, nat_lt, slice_get, IsSome, IsTrue, List, Option, Some, None}
 use Rattle.std.specs.Int.{from_le_bytes, w32}
 use Rattle.nv_core.specs.Seat.{bytes_told}
 use Rattle.nv_core.specs.Shown.{mark_shown}
@@ -7,7 +7,7 @@ use Rattle.nv_c.specs.declared.event.Event as c
 use Rattle.nv_c.specs.Names.{Names}
 use Rattle.nv_c.specs.Work.{IsWorked}
 use Rattle.nv_c.specs.declared.working.Scope.{Scope}
-use Rattle.nv_mediator.specs.Hosted.{Hosted, IsAtStart, IsMade, hosted_world}
+use Rattle.nv_mediator.specs.Hosted.{Hosted, IsAtStart, IsMade, hosted_world, may_want}
 use Rattle.nv_mediator.specs.Refused.{refused}
 use Rattle.nv_mediator.specs.declared.refusal.Refusal.{Refusal}
 use Rattle.nv_mediator.specs.declared.refusal.Refusal.TheVariants as refusal
@@ -34,6 +34,10 @@ no_such = 18
 
 abbrev pub in_use : ℕ
 in_use = 17
+
+-- any of them but NVMED_OK: what a call was to hand out is then not there
+abbrev pub IsError : (status : ℕ) → Type 0
+IsError status = status ≡ 0 → ⊥
 
 -- what a guest's regions are answered that are no map
 abbrev pub status_of_map : MapError → ℕ
@@ -79,14 +83,13 @@ dword_told reply.NoMemory = 0
 abbrev pub IsDone : Event → (old : Hosted) → (status : ℕ) → (new : Hosted) → Type 0
 IsDone e old status new = (r : Reply) × (status ≡ status_of r) × IsMade e old r new
 
--- or there was no memory for it, and nothing has changed
+-- or, of an event that may need memory, there was none for it, and nothing has changed
 abbrev pub IsStepped : Event → (old : Hosted) → (status : ℕ) → (new : Hosted) → Type 0
-IsStepped e old status new = IsDone e old status new ⊎ (status ≡ no_memory) × (new ≡ old)
+IsStepped e old status new = IsDone e old status new ⊎ IsTrue (may_want e) × (status ≡ no_memory) × (new ≡ old)
 
--- the dword that was read stands in its place, or there was no memory for it, and nothing has changed
-abbrev pub IsRead : Event → (before after : ℕ) → (old : Hosted) → (status : ℕ) → (new : Hosted) → Type 0
-IsRead e before after old status new =
-    ((r : Reply) × (status ≡ status_of r) × IsMade e old r new × (after ≡ dword_told r)) ⊎ (status ≡ no_memory) × (new ≡ old) × (after ≡ before)
+-- the event was made, and the value after it is the dword that was read; it needs no memory
+abbrev pub IsRead : Event → (after : ℕ) → (old : Hosted) → (status : ℕ) → (new : Hosted) → Type 0
+IsRead e after old status new = (r : Reply) × (status ≡ status_of r) × IsMade e old r new × (after ≡ dword_told r)
 
 -- of the event that a struct names, which is no guest's act
 abbrev pub IsNamedStep : c.Event → (old : Hosted) → (status : ℕ) → (new : Hosted) → Type 0
@@ -113,13 +116,13 @@ abbrev pub IsNamedTold : c.Event → (told : ℕ) → (old : Hosted) → (status
 IsNamedTold named told old status new = (e : Event) × Names named e × IsTold e told old status new
 
 -- it was told whether the block is kept, or that the disk has no such block; nothing has changed
-abbrev pub IsMark : Option Bool → (before after status : ℕ) → Type 0
-IsMark None before after status = (status ≡ no_such) × (after ≡ before)
-IsMark (Some is) before after status = (status ≡ 0) × (after ≡ (if is then 1 else 0))
+abbrev pub IsMark : Option Bool → (mark status : ℕ) → Type 0
+IsMark None mark status = status ≡ no_such
+IsMark (Some is) mark status = (status ≡ 0) × (mark ≡ (if is then 1 else 0))
 
-abbrev pub IsKeptTold : (block before after : ℕ) → (old : Hosted) → (status : ℕ) → (new : Hosted) → Type 0
-IsKeptTold block before after old status new =
-    (new ≡ old) × IsMark (mark_shown old.geometry.disk_blocks (hosted_world old) block) before after status
+abbrev pub IsKeptTold : (block mark : ℕ) → (old : Hosted) → (status : ℕ) → (new : Hosted) → Type 0
+IsKeptTold block mark old status new =
+    (new ≡ old) × IsMark (mark_shown old.geometry.disk_blocks (hosted_world old) block) mark status
 
 -- the disk has the block or has not; nothing has changed
 abbrev pub IsBlockTold : (block : ℕ) → (old : Hosted) → (status : ℕ) → (new : Hosted) → Type 0

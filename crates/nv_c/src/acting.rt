@@ -1,7 +1,7 @@
 //! What is done to the mediator of a handle.
 
-ghost use Rattle.std.specs.Prelude.{◌≡◌, None, length};
-ghost use Rattle.nv_c.specs.Calls.{IsDone, IsLoaded, IsRead, IsStepped, IsTold, IsWorkTold, On, dword_told};
+ghost use Rattle.std.specs.Prelude.{◌≡◌, ◌⊎◌, None, length};
+ghost use Rattle.nv_c.specs.Calls.{IsDone, IsError, IsLoaded, IsRead, IsStepped, IsTold, IsWorkTold, On, dword_told};
 
 use crate::handle::Nvmed;
 use crate::status;
@@ -11,7 +11,7 @@ use nv_model::{Act, Reply};
 use nv_world_model::Event;
 use std::alloc::Global;
 
-/// Carries out an event: what it is answered. After a refusal of memory nothing has changed.
+/// Carries out an event: what it is answered. Where there was no memory for it, which only some events need, nothing has changed.
 pub(crate) fn step(alloc: Global, handle: &mut Nvmed, event: &Event) -> u32
     ensures { On (IsStepped event.now) handle.old.hosted result handle.new.hosted }
 {
@@ -52,7 +52,8 @@ fn stored(mediator: &mut Mediator, guest: u8, address: u64, bytes: &[u8]) -> u32
     status::of_reply(&mediator.store(guest, address, bytes))
 }
 
-/// A guest loads as many bytes as there is room for from its address `address` on: what it is answered. It takes no memory.
+/// A guest loads as many bytes as there is room for from its address `address` on: what it is answered. It takes no memory. After an error the room
+/// is as it was.
 pub(crate) fn load(
     alloc: Global,
     handle: &mut Nvmed,
@@ -60,7 +61,8 @@ pub(crate) fn load(
     address: u64,
     room: &mut [u8],
 ) -> u32
-    ensures { On (IsLoaded (Event.Guest guest (Act.Load address (length room.old))) room.old room.new) handle.old.hosted result handle.new.hosted }
+    ensures value { On (IsLoaded (Event.Guest guest (Act.Load address (length room.old))) room.old room.new) handle.old.hosted result handle.new.hosted }
+    ensures unchanged { IsError result → room.new ≡ room.old }
 {
     let Some(hosted) = handle.take(alloc) else {
         return status::NO_MEDIATOR;
@@ -72,12 +74,13 @@ pub(crate) fn load(
 
 // A load from the mediator itself.
 fn loaded(mediator: &Mediator, guest: u8, address: u64, room: &mut [u8]) -> u32
-    ensures { IsLoaded (Event.Guest guest (Act.Load address (length room.old))) room.old room.new mediator.now result mediator.now }
+    ensures value { IsLoaded (Event.Guest guest (Act.Load address (length room.old))) room.old room.new mediator.now result mediator.now }
+    ensures unchanged { IsError result → room.new ≡ room.old }
 {
     status::of_reply(&mediator.load(guest, address, room))
 }
 
-/// A guest reads the dword of a register: what it is answered.
+/// A guest reads the dword of a register: what it is answered. It takes no memory. After an error the value is as it was, or 0.
 pub(crate) fn reg_read(
     alloc: Global,
     handle: &mut Nvmed,
@@ -85,7 +88,8 @@ pub(crate) fn reg_read(
     offset: u32,
     value: &mut u32,
 ) -> u32
-    ensures { On (IsRead (Event.Guest guest (Act.RegRead offset)) value.old value.new) handle.old.hosted result handle.new.hosted }
+    ensures value { On (IsRead (Event.Guest guest (Act.RegRead offset)) value.new) handle.old.hosted result handle.new.hosted }
+    ensures none { IsError result → (value.new ≡ value.old) ⊎ (value.new ≡ 0) }
 {
     let Some(mut hosted) = handle.take(alloc) else {
         return status::NO_MEDIATOR;
@@ -97,14 +101,16 @@ pub(crate) fn reg_read(
 
 // A register of the mediator itself.
 fn read(alloc: Global, mediator: &mut Mediator, guest: u8, offset: u32, value: &mut u32) -> u32
-    ensures { IsRead (Event.Guest guest (Act.RegRead offset)) value.old value.new mediator.old result mediator.new }
+    ensures value { IsRead (Event.Guest guest (Act.RegRead offset)) value.new mediator.old result mediator.new }
+    ensures none { IsError result → value.new ≡ 0 }
 {
     match mediator.step(alloc, &Event::Guest(guest, Act::RegRead { offset })) {
         Ok(reply) => {
             *value = dword_of(&reply);
             status::of_reply(&reply)
         }
-        Err(_) => status::NO_MEMORY,
+        // It reads without memory.
+        Err(_) => unreachable!(),
     }
 }
 
@@ -121,9 +127,10 @@ fn dword_of(reply: &Reply) -> u32
     }
 }
 
-/// Whether an event is due: it is answered that it was told, and 1 where it is, and else 0.
+/// Whether an event is due: it is answered that it was told, and 1 where it is, and else 0. After an error the answer is as it was.
 pub(crate) fn due(alloc: Global, handle: &mut Nvmed, event: &Event, told: &mut u32) -> u32
-    ensures { On (IsTold event.now told.new) handle.old.hosted result handle.new.hosted }
+    ensures value { On (IsTold event.now told.new) handle.old.hosted result handle.new.hosted }
+    ensures unchanged { IsError result → told.new ≡ told.old }
 {
     let Some(hosted) = handle.take(alloc) else {
         return status::NO_MEDIATOR;

@@ -6,8 +6,8 @@
 #![tactic(auto)]
 
 ghost use Rattle.std.specs.Prelude.{◌≡◌, ◌⊎◌, IsSome, MatchOption, None, length};
-ghost use Rattle.nv_c.specs.Calls.{IsBlockTold, IsDone, IsKeptTold, IsLoaded, IsNamedStep, IsNamedTold, IsOpened, IsRead, IsStepped, IsWorkTold, OfGuest, On};
-ghost use Rattle.nv_c.specs.Calls.{no_mediator, no_such};
+ghost use Rattle.nv_c.specs.Calls.{IsBlockTold, IsDone, IsError, IsKeptTold, IsLoaded, IsNamedStep, IsNamedTold, IsOpened, IsRead, IsStepped, IsWorkTold};
+ghost use Rattle.nv_c.specs.Calls.{OfGuest, On, no_mediator, no_such};
 ghost use Rattle.nv_c.specs.Names.{NamesNone};
 ghost use Rattle.nv_c.specs.Tables.{setup_of};
 ghost use Rattle.nv_c.specs.Views.{IsShown};
@@ -94,7 +94,7 @@ pub extern "C" fn nvmed_raw_store(
     }
 }
 
-/// A guest loads bytes, as many as there is room for.
+/// A guest loads bytes, as many as there is room for. After an error the room is as it was.
 #[unsafe(no_mangle)]
 pub extern "C" fn nvmed_raw_load(
     alloc: Global,
@@ -103,7 +103,8 @@ pub extern "C" fn nvmed_raw_load(
     address: u64,
     room: &mut [u8],
 ) -> u32
-    ensures { OfGuest guest (IsLoaded (Made.Guest guest (Act.Load address (length room.old))) room.old room.new) handle.old.hosted result handle.new.hosted }
+    ensures value { OfGuest guest (IsLoaded (Made.Guest guest (Act.Load address (length room.old))) room.old room.new) handle.old.hosted result handle.new.hosted }
+    ensures unchanged { IsError result → room.new ≡ room.old }
 {
     match event::byte(guest) {
         Some(guest) => acting::load(alloc, handle, guest, address, room),
@@ -111,7 +112,7 @@ pub extern "C" fn nvmed_raw_load(
     }
 }
 
-/// A guest reads the dword of a register.
+/// A guest reads the dword of a register. After an error the value is as it was, or 0.
 #[unsafe(no_mangle)]
 pub extern "C" fn nvmed_raw_reg_read(
     alloc: Global,
@@ -120,7 +121,8 @@ pub extern "C" fn nvmed_raw_reg_read(
     offset: u32,
     value: &mut u32,
 ) -> u32
-    ensures { OfGuest guest (IsRead (Made.Guest guest (Act.RegRead offset)) value.old value.new) handle.old.hosted result handle.new.hosted }
+    ensures value { OfGuest guest (IsRead (Made.Guest guest (Act.RegRead offset)) value.new) handle.old.hosted result handle.new.hosted }
+    ensures none { IsError result → (value.new ≡ value.old) ⊎ (value.new ≡ 0) }
 {
     match event::byte(guest) {
         Some(guest) => acting::reg_read(alloc, handle, guest, offset, value),
@@ -182,7 +184,7 @@ pub extern "C" fn nvmed_raw_step(alloc: Global, handle: &mut Nvmed, event: &Even
     }
 }
 
-/// Whether an event would be done now: 1 where it is due, and else 0.
+/// Whether an event would be done now: 1 where it is due, and else 0. After an error the answer is as it was.
 #[unsafe(no_mangle)]
 pub extern "C" fn nvmed_raw_due(
     alloc: Global,
@@ -190,8 +192,9 @@ pub extern "C" fn nvmed_raw_due(
     event: &Event,
     due: &mut u32,
 ) -> u32
-    ensures { NamesNone event.now × (result ≡ no_such) × (handle.new.hosted ≡ handle.old.hosted)
+    ensures value { NamesNone event.now × (result ≡ no_such) × (handle.new.hosted ≡ handle.old.hosted)
         ⊎ On (IsNamedTold event.now due.new) handle.old.hosted result handle.new.hosted }
+    ensures unchanged { IsError result → due.new ≡ due.old }
 {
     let Some(event) = event::made_of(event) else {
         return status::NO_SUCH;
@@ -264,7 +267,7 @@ pub extern "C" fn nvmed_raw_block(
     answer
 }
 
-/// Whether a block of the disk is kept when power is lost: 1 where it is, and else 0.
+/// Whether a block of the disk is kept when power is lost: 1 where it is, and else 0. After an error the answer is as it was.
 #[unsafe(no_mangle)]
 pub extern "C" fn nvmed_raw_kept(
     alloc: Global,
@@ -272,8 +275,8 @@ pub extern "C" fn nvmed_raw_kept(
     block: u64,
     kept: &mut u32,
 ) -> u32
-    ensures value { On (IsKeptTold block kept.old kept.new) handle.old.hosted result handle.new.hosted }
-    ensures none { handle.old.hosted ≡ None → kept.new ≡ kept.old }
+    ensures value { On (IsKeptTold block kept.new) handle.old.hosted result handle.new.hosted }
+    ensures unchanged { IsError result → kept.new ≡ kept.old }
 {
     let Some(hosted) = handle.take(alloc) else {
         return status::NO_MEDIATOR;
