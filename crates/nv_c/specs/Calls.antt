@@ -1,8 +1,10 @@
 -- What a call by C is answered, and what it does to the mediator behind a handle.
-use Rattle.std.specs.Prelude.{◌≡◌, ◌⊎◌, ◌≤◌, ◌==◌, ℕ, Bool, if◌then◌else◌, length, nat_lt, slice_get, IsSome, IsTrue, List, Option, Some, None}
+use Rattle.std.specs.Prelude.{◌≡◌, ◌⊎◌, ◌≤◌, ◌==◌, ℕ, Bool, if◌then◌else◌, length, slice_get, IsSome, IsTrue, List, Option, Some, None}
+use Rattle.std.specs.Borrow.{Bor}
 use Rattle.std.specs.Int.{from_le_bytes, w32}
+use Rattle.std.specs.Ptr.{Ptr, as_ptr}
 use Rattle.nv_core.specs.Seat.{bytes_told}
-use Rattle.nv_core.specs.Shown.{mark_shown}
+use Rattle.nv_core.specs.Shown.{IsBlock, mark_shown}
 use Rattle.nv_c.specs.declared.event.Event as c
 use Rattle.nv_c.specs.Names.{Names}
 use Rattle.nv_c.specs.Work.{IsWorked}
@@ -124,9 +126,16 @@ abbrev pub IsKeptTold : (block mark : ℕ) → (old : Hosted) → (status : ℕ)
 IsKeptTold block mark old status new =
     (new ≡ old) × IsMark (mark_shown old.geometry.disk_blocks (hosted_world old) block) mark status
 
--- the disk has the block or has not; nothing has changed
-abbrev pub IsBlockTold : (block : ℕ) → (old : Hosted) → (status : ℕ) → (new : Hosted) → Type 0
-IsBlockTold block old status new = (new ≡ old) × (status ≡ (if nat_lt block old.geometry.disk_blocks then 0 else no_such))
+-- a reference to the bytes of a block was handed out, by its pointer
+abbrev pub IsBlockShown : Hosted → (block : ℕ) → (shown : Bor (List ℕ)) → (at : Ptr) → Type 0
+IsBlockShown h block shown at = IsBlock h.geometry.disk_blocks (hosted_world h) block shown.now × (at ≡ as_ptr shown)
+
+-- it was, or the disk has no such block; nothing has changed
+abbrev pub IsBlockTold : (block : ℕ) → (at : Ptr) → (old : Hosted) → (status : ℕ) → (new : Hosted) → Type 0
+IsBlockTold block at old status new =
+    (new ≡ old)
+    × ((status ≡ 0) × ((shown : Bor (List ℕ)) × IsBlockShown old block shown at)
+    ⊎ (status ≡ no_such) × (old.geometry.disk_blocks ≤ block))
 
 -- what is done to the mediator of a handle; a handle without one is answered so, and stays without
 abbrev pub On : (Does : Hosted → ℕ → Hosted → Type 0) → (before : Option Hosted) → (status : ℕ) → (after : Option Hosted) → Type 0

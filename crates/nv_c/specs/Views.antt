@@ -1,5 +1,7 @@
 -- What a view of a guest's memory shows.
 use Rattle.std.specs.Prelude.{◌≡◌, ◌⊎◌, ◌<◌, ◌≤◌, ℕ, List, Some, None, length, slice_get}
+use Rattle.std.specs.Borrow.{Bor}
+use Rattle.std.specs.Ptr.{Ptr, as_ptr}
 use Rattle.nv_mediator.specs.Hosted.{Hosted, hosted_world}
 use Rattle.nv_mem.specs.GuestMap.{host_of}
 use Rattle.nv_mem.specs.MapRuns.{IsLongestRun}
@@ -20,8 +22,16 @@ IsNoView h guest address status =
     (status ≡ 5) × ((given : Guest) × (slice_get h.geometry.guests guest ≡ Some given) × (host_of (regions_of given) address ≡ None))
     ⊎ (status ≡ 6) × (slice_get h.geometry.guests guest ≡ None)
 
--- a view is shown, which has that many bytes, or none is; and nothing has changed
-abbrev pub IsShown : (guest address most count : ℕ) → (old : Hosted) → (status : ℕ) → (new : Hosted) → Type 0
-IsShown guest address most count old status new =
+-- a slice is handed out: the pointer is that of the slice, and the count that of its bytes. Of a slice without bytes no pointer is
+pub record IsHandedOut (bytes : Bor (List ℕ)) (before after : Ptr) (count : ℕ) : Type 0 where
+  pub counted : count ≡ length bytes.now
+  pub there : 0 < length bytes.now → after ≡ as_ptr bytes
+  pub none : length bytes.now ≡ 0 → after ≡ before
+
+-- a reference to a view is handed out, or nothing is shown; and nothing has changed. How long the bytes stay at that pointer no contract can say once
+-- the mediator is back in its handle
+abbrev pub IsShown : (guest address most : ℕ) → (before after : Ptr) → (count : ℕ) → (old : Hosted) → (status : ℕ) → (new : Hosted) → Type 0
+IsShown guest address most before after count old status new =
     (new ≡ old)
-    × ((status ≡ 0) × ((bytes : List ℕ) × IsView old guest address most bytes × (count ≡ length bytes)) ⊎ IsNoView old guest address status)
+    × ((status ≡ 0) × ((shown : Bor (List ℕ)) × IsView old guest address most shown.now × IsHandedOut shown before after count)
+    ⊎ IsNoView old guest address status)

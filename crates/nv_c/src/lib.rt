@@ -28,7 +28,6 @@ use nv_model::Act;
 use nv_world_model::Event as Made;
 pub use setup::{Extent, Region, Sizes};
 use std::alloc::Global;
-use std::ptr;
 use working::Scope;
 
 /// Makes the mediator of a set-up, and puts it into a handle that holds none. There are as many guests as limits.
@@ -224,7 +223,7 @@ pub extern "C" fn nvmed_raw_work(
 }
 
 /// Shows bytes of a guest's memory, as many as there is room for and lie in a row in the host: where they lie, or are put into the room, until the
-/// next call that is not const, and how many there are.
+/// next call that changes something, and how many there are. After an error both outputs are as they were.
 #[unsafe(no_mangle)]
 pub extern "C" fn nvmed_raw_memory(
     alloc: Global,
@@ -235,7 +234,8 @@ pub extern "C" fn nvmed_raw_memory(
     at: &mut *const u8,
     count: &mut u64,
 ) -> u32
-    ensures { OfGuest guest (IsShown guest address (length room.old) count.new) handle.old.hosted result handle.new.hosted }
+    ensures value { OfGuest guest (IsShown guest address (length room.old) at.old at.new count.new) handle.old.hosted result handle.new.hosted }
+    ensures unchanged { IsError result → (at.new ≡ at.old) × (count.new ≡ count.old) }
 {
     match event::byte(guest) {
         Some(guest) => showing::memory(alloc, handle, guest, address, room, at, count),
@@ -243,7 +243,7 @@ pub extern "C" fn nvmed_raw_memory(
     }
 }
 
-/// Where the 512 bytes of a block of the disk lie, until the next call that is not const.
+/// Where the 512 bytes of a block of the disk lie, until the next call that changes something. After an error the pointer is as it was.
 #[unsafe(no_mangle)]
 pub extern "C" fn nvmed_raw_block(
     alloc: Global,
@@ -251,20 +251,10 @@ pub extern "C" fn nvmed_raw_block(
     block: u64,
     at: &mut *const u8,
 ) -> u32
-    ensures { On (IsBlockTold block) handle.old.hosted result handle.new.hosted }
+    ensures value { On (IsBlockTold block at.new) handle.old.hosted result handle.new.hosted }
+    ensures unchanged { IsError result → at.new ≡ at.old }
 {
-    let Some(hosted) = handle.take(alloc) else {
-        return status::NO_MEDIATOR;
-    };
-    let answer = match hosted.block(block) {
-        Some(bytes) => {
-            *at = ptr::from_ref(&bytes[0]);
-            status::OK
-        }
-        None => status::NO_SUCH,
-    };
-    handle.put(alloc, hosted);
-    answer
+    showing::block(alloc, handle, block, at)
 }
 
 /// Whether a block of the disk is kept when power is lost: 1 where it is, and else 0. After an error the answer is as it was.
