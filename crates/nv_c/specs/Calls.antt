@@ -7,6 +7,7 @@ use Rattle.nv_core.specs.Seat.{bytes_told}
 use Rattle.nv_core.specs.Shown.{IsBlock, mark_shown}
 use Rattle.nv_c.specs.declared.event.Event as c
 use Rattle.nv_c.specs.Names.{Names}
+use Rattle.nv_c.specs.Promise.{IsPromised}
 use Rattle.nv_c.specs.Work.{IsWorked}
 use Rattle.nv_c.specs.declared.working.Scope.{Scope}
 use Rattle.nv_mediator.specs.Hosted.{Hosted, IsAtStart, IsMade, hosted_world, may_want}
@@ -137,11 +138,11 @@ IsBlockTold block at old status new =
     × ((status ≡ 0) × ((shown : Bor (List ℕ)) × IsBlockShown old block shown at)
     ⊎ (status ≡ no_such) × (old.geometry.disk_blocks ≤ block))
 
--- what is done to the mediator of a handle; a handle without one is answered so, and stays without
+-- what is done to the mediator of a handle, of which the promise holds afterwards; a handle without one is answered so, and stays without
 abbrev pub On : (Does : Hosted → ℕ → Hosted → Type 0) → (before : Option Hosted) → (status : ℕ) → (after : Option Hosted) → Type 0
 On Does before status after =
     (before ≡ None) × (after ≡ None) × (status ≡ no_mediator)
-    ⊎ ((old : Hosted) × (new : Hosted) × (before ≡ Some old) × (after ≡ Some new) × Does old status new)
+    ⊎ ((old : Hosted) × (new : Hosted) × (before ≡ Some old) × (after ≡ Some new) × Does old status new × IsPromised new)
 
 -- a call that names a guest; a number above 255 is answered so, and nothing is done
 abbrev pub OfGuest : (number : ℕ) → (Does : Hosted → ℕ → Hosted → Type 0) → (before : Option Hosted) → (status : ℕ) → (after : Option Hosted) → Type 0
@@ -160,9 +161,10 @@ IsRefused s status =
     ⊎ ((number : ℕ) × (guest : Guest) × (slice_get s.geometry.guests number ≡ Some guest) × IsGuestRefused guest status)
     ⊎ ((reason : Refusal) × (refused (refusal_of s) ≡ Some reason) × (status ≡ status_of_refusal reason))
 
--- a handle that held no mediator holds one at the start of the set-up, or stays without, since it was refused; one that held one keeps it
+-- a handle that held no mediator holds one at the start of the set-up, which was accepted, and the promise holds of it; or it stays without, since
+-- the set-up was refused; one that held one keeps it
 abbrev pub IsOpened : SetUp → (before : Option Hosted) → (status : ℕ) → (after : Option Hosted) → Type 0
 IsOpened s before status after =
-    ((status ≡ 0) × (before ≡ None) × ((h : Hosted) × (after ≡ Some h) × IsAtStart s h))
+    ((status ≡ 0) × (before ≡ None) × (refusal_of s ≡ None) × ((h : Hosted) × (after ≡ Some h) × IsAtStart s h × IsPromised h))
     ⊎ ((before ≡ None) × (after ≡ None) × IsRefused s status)
     ⊎ (IsSome before × (after ≡ before) × (status ≡ in_use))

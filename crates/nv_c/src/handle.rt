@@ -2,6 +2,7 @@
 
 ghost use Rattle.std.specs.Prelude.{◌≡◌, MatchOption, Option, None, Some};
 ghost use Rattle.nv_c.specs.Held.{hosted_coded};
+ghost use Rattle.nv_c.specs.Promise.{IsPromised};
 ghost use Rattle.nv_mediator.specs.Hosted.{Hosted};
 
 mod parts;
@@ -38,10 +39,12 @@ impl Nvmed {
         Some(parts.into_box())
     }
 
-    /// Puts a mediator into the handle. What it held before is given back.
+    /// Puts a mediator into the handle, with what is promised of it. What it held before is given back.
     pub(crate) fn put(&mut self, alloc: Global, hosted: Box<Mediator>)
-        ensures { self.new.hosted ≡ Some hosted.value }
+        ensures held { self.new.hosted ≡ Some hosted.value }
+        ensures promised { IsPromised hosted.value }
     {
+        hosted.promise();
         let before = mem::replace(self, Nvmed::of_parts(Parts::of(hosted)));
         if let Some(parts) = before.into_parts(alloc) {
             drop(parts.into_box());
