@@ -1,5 +1,5 @@
 -- What a call by C is answered, and what it does to the mediator behind a handle.
-use Rattle.std.specs.Prelude.{◌≡◌, ◌⊎◌, ◌≤◌, ◌==◌, ℕ, Bool, if◌then◌else◌, length, slice_get, IsSome, IsTrue, List, Option, Some, None}
+use Rattle.std.specs.Prelude.{◌≡◌, ◌⊎◌, ◌<◌, ◌≤◌, ◌==◌, ℕ, Bool, if◌then◌else◌, length, slice_get, IsSome, IsTrue, List, Option, Some, None}
 use Rattle.std.specs.Borrow.{Bor}
 use Rattle.std.specs.Int.{from_le_bytes, w32}
 use Rattle.std.specs.Ptr.{Ptr, as_ptr}
@@ -144,9 +144,10 @@ On Does before status after =
     (before ≡ None) × (after ≡ None) × (status ≡ no_mediator)
     ⊎ ((old : Hosted) × (new : Hosted) × (before ≡ Some old) × (after ≡ Some new) × Does old status new × IsPromised new)
 
--- a call that names a guest; a number above 255 is answered so, and nothing is done
+-- a call that names a guest; a number above 255 alone is answered so, and nothing is done
 abbrev pub OfGuest : (number : ℕ) → (Does : Hosted → ℕ → Hosted → Type 0) → (before : Option Hosted) → (status : ℕ) → (after : Option Hosted) → Type 0
-OfGuest number Does before status after = (256 ≤ number) × (status ≡ no_such) × (after ≡ before) ⊎ On Does before status after
+OfGuest number Does before status after =
+    (256 ≤ number) × (status ≡ no_such) × (after ≡ before) ⊎ (number < 256) × On Does before status after
 
 -- what a guest was to have was refused, and the answer tells a reason that holds: there was no memory, or its regions are no map
 abbrev pub IsGuestRefused : Guest → (status : ℕ) → Type 0

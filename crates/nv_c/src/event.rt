@@ -1,12 +1,12 @@
 //! Events, by a plain struct.
 
-ghost use Rattle.std.specs.Prelude.{◌≡◌, ◌≤◌, MatchOption};
-ghost use Rattle.nv_c.specs.Names.{IsStatus, Names, NamesNone};
+ghost use Rattle.std.specs.Prelude.{◌≤◌, MatchOption};
+ghost use Rattle.nv_c.specs.Names.{IsByte, IsStatus, IsWord, Names, NamesNone};
 
 use nv_entry::Status;
 use nv_world_model::Event as Made;
 
-/// An event that is no guest's act: C's `nvmed_event`. What its kind does not name is not looked at.
+/// An event that is no guest's act: C's `nvmed_event`. A number that its kind does not look at may be any.
 #[repr(C)]
 #[derive(Clone, Copy)]
 pub struct Event {
@@ -34,7 +34,7 @@ pub struct Event {
     pub number: u64,
 }
 
-/// The event that it is; `None` where there is no such kind, or a number fits no guest, queue, lane, tag, slot or status.
+/// The event that it is; `None` where there is no such kind, or a number that the kind looks at fits no guest, queue, lane, tag, slot or status.
 pub(crate) fn made_of(event: &Event) -> Option<Made>
     ensures { MatchOption result (NamesNone event.now) (Names event.now) }
 {
@@ -60,7 +60,7 @@ pub(crate) fn made_of(event: &Event) -> Option<Made>
 
 /// A number as a byte; `None` where it is above 255.
 pub(crate) fn byte(number: u32) -> Option<u8>
-    ensures { MatchOption result (256 ≤ number) (λ byte. byte ≡ number) }
+    ensures { MatchOption result (256 ≤ number) (λ byte. IsByte byte number) }
 {
     if number > 255 {
         return None;
@@ -70,7 +70,7 @@ pub(crate) fn byte(number: u32) -> Option<u8>
 
 // A number as 16 bits; `None` where it is above 65,535.
 fn word(number: u32) -> Option<u16>
-    ensures { MatchOption result (65536 ≤ number) (λ word. word ≡ number) }
+    ensures { MatchOption result (65536 ≤ number) (λ word. IsWord word number) }
 {
     if number > 65535 {
         return None;
