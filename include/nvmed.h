@@ -1,23 +1,35 @@
 /* nvmed.h: a proved NVMe mediator, as a library. docs/EMBEDDING.md says how it is used.
  *
- * A mediator is a host's memory, guests whose memory lies in it, a virtual NVMe controller for each guest, a physical controller with a disk, and
- * what stands between them. The physical controller is the library's own: a disk in memory.
+ * A mediator has a host's memory, guests whose memory lies in it, a virtual NVMe controller for each guest, and a physical controller with a disk,
+ * which the guests share. The physical controller is the library's own: a disk in memory.
  *
- * What stands behind the calls. The library is written in Rattle and proved. Of each call on a handle that holds a mediator:
- *   SAFE      it is memory safe, ends, and answers one of the numbers below, whatever numbers and bytes it is given;
- *   EXACT     an event is the step of the definition, whole: the answer, and the world behind it;
- *   CONTAINED an event reads and changes nothing of a guest but its owner's;
- *   PRIVATE   what a disciplined guest has seen, its memory and its blocks are those of a run of its own commands on a private controller.
- * A fifth promise, of threads, is about a mediator behind a lock of Rattle's. Here C orders the calls.
+ * The library is written in Rattle and proved. Each call below names what is proved of it, on a handle that holds a mediator:
+ *   SAFE      The call is memory safe, ends, and returns one of the numbers below, whatever numbers and bytes it is given.
+ *   EXACT     An event is one step of the definition, whole: the answer, and the world after it.
+ *   CONTAINED An event reads and changes nothing of any guest but its owner: no memory, block, register or queue. This holds whatever guests do, and
+ *             whichever commands failed. (A guest may see that one of its blocks became kept.)
+ *   PRIVATE   What a guest has seen, its memory and its blocks are those of a run of its own commands on a private controller. There are two premises:
+ *             none of the guest's physical commands was failed (NVMED_DEV_FAIL; nvmed_work makes none), and the guest is disciplined (below).
+ *             A command that was given up (NVMED_GIVE_UP) ends with Internal Error; the private controller may answer so, too. The bytes of a Read
+ *             may arrive in its buffer at any time before its completion.
+ *             Of a guest for which a premise does not hold PRIVATE says nothing. The other three hold for it, and PRIVATE for the other guests.
+ *
+ * A command is outstanding from its submission to its completion. It names its entry, until that is taken, its lists, and the buffers that it reads
+ * or writes. A guest is disciplined if, in every state since the set-up,
+ *   - no byte that an outstanding command writes (of a Read or an Identify) is named a second time, by it or by another one;
+ *   - no slot of its completion queues has a byte that an outstanding command names;
+ *   - it stores nothing into what an outstanding command names, and loads nothing from what one writes.
  *
  * What C has to keep to, which nothing checks:
  *   - A pointer is null, or points to as much as is said. What is written does not overlap what else is passed, nor what a view showed.
- *   - One caller at a time for each handle, const calls too. A handle may go from thread to thread, with a lock or a join between the calls.
+ *   - A handle has one caller at a time, for every call: while a call runs it writes to the handle, even if it changes nothing of the mediator. A handle
+ *     may go from thread to thread, with a lock or a join between the calls.
  *   - A handle is zero before its first use (NVMED_INIT), and is not copied while it holds a mediator.
  *   - malloc, realloc and free come from one allocator. No call is made from a signal handler.
  *
- * A null pointer is answered NVMED_NULL, and nothing else is done. A null pointer with a length of 0 is an empty list. The lines of this file that
- * test pointers are C, and not proved; all else is. Nothing aborts, prints, waits, or is kept outside the handle.
+ * For a null pointer a call returns NVMED_NULL and does nothing else. A null pointer with a length of 0 is an empty list. The lines of this file that
+ * test pointers, and those that set an output to 0 or to null, are C and not proved; all else is. Nothing aborts, prints, waits, or is kept outside the
+ * handle.
  */
 #ifndef NVMED_H
 #define NVMED_H
@@ -29,7 +41,7 @@
 extern "C" {
 #endif
 
-/* What a call answers. */
+/* What a call returns. All but NVMED_OK are errors. */
 typedef enum nvmed_status {
     NVMED_OK = 0,              /* it was done */
     NVMED_IDLE = 1,            /* there is nothing to do */
@@ -38,7 +50,7 @@ typedef enum nvmed_status {
     NVMED_STALE = 4,           /* the tag is not at that point */
     NVMED_UNMAPPED = 5,        /* not all of these addresses are mapped */
     NVMED_IGNORED = 6,         /* an access that has no effect, or no such guest, queue, lane, tag or slot */
-    NVMED_NO_MEMORY = 8,       /* there was no memory for it: nothing has changed, or, of nvmed_work, what was done is told */
+    NVMED_NO_MEMORY = 8,       /* out of memory: nothing has changed, or, of nvmed_work, *done events were made */
     NVMED_TOO_MANY_GUESTS = 9, /* a set-up of more than 16 guests */
     NVMED_RANGES_MEET = 10,    /* two extents have a block in common */
     NVMED_MAPS_MEET = 11,      /* two guests' memories meet in the host, or one and the mediator's area */
@@ -48,7 +60,7 @@ typedef enum nvmed_status {
     NVMED_OUTSIDE_HOST = 15,   /* a region leaves the host's memory */
     NVMED_NO_MEDIATOR = 16,    /* the handle holds no mediator */
     NVMED_IN_USE = 17,         /* the handle holds one already */
-    NVMED_NO_SUCH = 18,        /* a number above 255 (of a queue 65,535), no such kind of event, scope, status or block */
+    NVMED_NO_SUCH = 18,        /* a number that is looked at is above 255 (of a queue 65,535), or no such kind of event, scope, status or block */
     NVMED_NULL = 19            /* a pointer is null that may not be */
 } nvmed_status;
 
@@ -86,13 +98,13 @@ typedef struct nvmed_extent {
     uint64_t blocks; /* how many, at least 1 */
 } nvmed_extent;
 
-/* The events that are no guest's act, and what each looks at. */
+/* The events that are no guest's act, and the members of nvmed_event that each looks at. The others may have any value. */
 typedef enum nvmed_kind {
     NVMED_ADMIN = 1,    /* guest: one admin command, or its deletion that waits */
     NVMED_TAKE = 2,     /* guest, queue (1 to 8), lane: the queue's front entry gets tags of the lane */
     NVMED_LIST = 3,     /* lane, tag, address, bytes: bytes of the guest's memory are read for the tag's command */
     NVMED_SUBMIT = 4,   /* lane, tag: the command is carried out, as far as the mediator does it */
-    NVMED_GIVE_UP = 5,  /* lane, tag: the command ends with Internal Error */
+    NVMED_GIVE_UP = 5,  /* lane, tag: the command, which was not submitted, ends with Internal Error */
     NVMED_DEV_TAKE = 6, /* lane: the physical controller takes the front entry */
     NVMED_DEV_MOVE = 7, /* lane, slot, number: it moves the unit of that number */
     NVMED_DEV_POST = 8, /* lane, slot: it completes the command */
@@ -157,41 +169,43 @@ static inline nvmed_status nvmed_new(nvmed *m, const nvmed_sizes *sizes, const u
  * Errors: NULL, NO_MEDIATOR. */
 static inline nvmed_status nvmed_free(nvmed *m) { return m ? (nvmed_status)nvmed_raw_free(m) : NVMED_NULL; }
 
-/* A guest stores `length` bytes from its address `address` on. It takes no memory. SAFE, EXACT, CONTAINED, PRIVATE.
+/* A guest stores `length` bytes from its address `address` on. It needs no memory. SAFE, EXACT, CONTAINED, PRIVATE.
  * Errors: NULL, NO_MEDIATOR, NO_SUCH, UNMAPPED (nothing is stored), IGNORED (no such guest). */
 static inline nvmed_status nvmed_store(nvmed *m, uint32_t guest, uint64_t address, const void *bytes, uint64_t length) {
     if (!m || (!bytes && length)) return NVMED_NULL;
     return (nvmed_status)nvmed_raw_store(m, guest, address, (const uint8_t *)nvmed_some(bytes, length), length);
 }
 
-/* A guest loads `length` bytes from its address `address` on. Nothing of the mediator changes, and no memory is taken. SAFE, EXACT, CONTAINED,
- * PRIVATE. Errors: as of nvmed_store; then the bytes are as they were. */
+/* A guest loads `length` bytes from its address `address` on. Nothing of the mediator changes. It needs no memory. SAFE, EXACT, CONTAINED, PRIVATE.
+ * Errors: as of nvmed_store; then all of `bytes` is as it was. */
 static inline nvmed_status nvmed_load(nvmed *m, uint32_t guest, uint64_t address, void *bytes, uint64_t length) {
     uint8_t none = 0;
     if (!m || (!bytes && length)) return NVMED_NULL;
     return (nvmed_status)nvmed_raw_load(m, guest, address, length ? (uint8_t *)bytes : &none, length);
 }
 
-/* A guest reads the 32 bits of the register at `offset`, a multiple of 4. SAFE, EXACT, CONTAINED, PRIVATE.
- * Errors: NULL, NO_MEDIATOR, NO_SUCH, IGNORED (no such register or guest; *value is 0). */
+/* A guest reads the 32 bits of the register at `offset`, a multiple of 4. Where there is no register they are 0. It needs no memory. SAFE, EXACT,
+ * CONTAINED, PRIVATE. Errors: NULL, NO_MEDIATOR, NO_SUCH, IGNORED (`offset` is no multiple of 4, or there is no such guest); *value is 0 then. */
 static inline nvmed_status nvmed_reg_read(nvmed *m, uint32_t guest, uint32_t offset, uint32_t *value) {
     if (!m || !value) return NVMED_NULL;
     *value = 0;
     return (nvmed_status)nvmed_raw_reg_read(m, guest, offset, value);
 }
 
-/* A guest writes the 32 bits of the register at `offset`, a multiple of 4. SAFE, EXACT, CONTAINED, PRIVATE.
- * Errors: NULL, NO_MEDIATOR, NO_SUCH, IGNORED. */
+/* A guest writes the 32 bits of the register at `offset`, a multiple of 4. It needs no memory. SAFE, EXACT, CONTAINED, PRIVATE.
+ * Errors: NULL, NO_MEDIATOR, NO_SUCH, IGNORED (nothing there can be written, or not now, or there is no such guest). */
 static inline nvmed_status nvmed_reg_write(nvmed *m, uint32_t guest, uint32_t offset, uint32_t value) {
     return m ? (nvmed_status)nvmed_raw_reg_write(m, guest, offset, value) : NVMED_NULL;
 }
 
-/* A guest writes the doorbell at `offset`, 4,096 and up. SAFE, EXACT, CONTAINED, PRIVATE. Errors: NULL, NO_MEDIATOR, NO_SUCH, IGNORED. */
+/* A guest writes the doorbell at `offset`, 4,096 and up. It needs no memory. SAFE, EXACT, CONTAINED, PRIVATE.
+ * Errors: NULL, NO_MEDIATOR, NO_SUCH, IGNORED (no such queue, its controller is not ready, a value that is out of range, or no such guest). */
 static inline nvmed_status nvmed_doorbell(nvmed *m, uint32_t guest, uint32_t offset, uint32_t value) {
     return m ? (nvmed_status)nvmed_raw_doorbell(m, guest, offset, value) : NVMED_NULL;
 }
 
-/* Carries out an event that is no guest's act: that of its kind, with the numbers that the kind looks at. SAFE, EXACT, CONTAINED, PRIVATE.
+/* Carries out an event that is no guest's act: that of its kind, with the numbers that the kind looks at. SAFE, EXACT, CONTAINED, PRIVATE. After
+ * DEV_FAIL of a guest's command PRIVATE says nothing of that guest. LIST, SUBMIT and DEV_TAKE may need memory; no other kind does.
  * Errors: NULL, NO_MEDIATOR, NO_SUCH, IDLE to IGNORED as the event has it, and NO_MEMORY of LIST, SUBMIT and DEV_TAKE alone. */
 static inline nvmed_status nvmed_step(nvmed *m, const nvmed_event *event) {
     return m && event ? (nvmed_status)nvmed_raw_step(m, event) : NVMED_NULL;
@@ -219,13 +233,14 @@ static inline nvmed_status nvmed_work(nvmed *m, uint32_t scope, uint32_t number,
 }
 
 /* Shows bytes of a guest's memory from its address `address` on, to be read: *at is where the first lies, and *count how many there are. Of `length`
- * bytes they are all that lie in a row in the host from the first on; the next view begins behind them. Where the host keeps them in one place they
+ * bytes they are all that lie in a row in the host from the first on; the next view begins after them. Where the host keeps them in one place they
  * are shown there, and nothing is copied. Where it doesn't (bytes never written, or across one of its parts of 262,144 bytes), they are put into
  * `room`, which has `length` bytes, and *at is `room`. They are there until the next call on the handle but nvmed_load, nvmed_due, nvmed_memory,
- * nvmed_block and nvmed_kept, and as long as the room is left alone. Read only: a byte written there would be a store that no event tells.
- * SAFE, EXACT (of the bytes and their number; that *at is where they lie is tested), CONTAINED, PRIVATE; what is read behind them C has to see to.
+ * nvmed_block and nvmed_kept, and as long as the room is left alone. Read only: a byte written there would be a store that is no event.
+ * SAFE, EXACT (the bytes, their number, and that *at is the pointer at which the library has them; that they stay there is tested), CONTAINED,
+ * PRIVATE. C has to read no further than *count bytes.
  * Errors: NULL, NO_MEDIATOR, NO_SUCH, UNMAPPED (the first is mapped nowhere), IGNORED (no such guest); *at is null then, and *count is 0. With a
- * length of 0 nothing is shown. */
+ * length of 0 nothing is shown: *at is null, and *count is 0. */
 static inline nvmed_status nvmed_memory(nvmed *m, uint32_t guest, uint64_t address, void *room, uint64_t length, const uint8_t **at, uint64_t *count) {
     uint8_t none = 0;
     if (!m || (!room && length) || !at || !count) return NVMED_NULL;
@@ -234,15 +249,16 @@ static inline nvmed_status nvmed_memory(nvmed *m, uint32_t guest, uint64_t addre
     return (nvmed_status)nvmed_raw_memory(m, guest, address, length ? (uint8_t *)room : &none, length, at, count);
 }
 
-/* Where the 512 bytes of a block of the disk lie, to be read. They are there until the next call on the handle but nvmed_load, nvmed_due,
- * nvmed_memory, nvmed_block and nvmed_kept. SAFE; what is read behind it C has to see to. Errors: NULL, NO_MEDIATOR, NO_SUCH; *at is null then. */
+/* Where the 512 bytes of a block of the disk lie, to be read. They are there as long as those that nvmed_memory shows. SAFE, EXACT (as nvmed_memory).
+ * Errors: NULL, NO_MEDIATOR, NO_SUCH (no such block); *at is null then. */
 static inline nvmed_status nvmed_block(nvmed *m, uint64_t block, const uint8_t **at) {
     if (!m || !at) return NVMED_NULL;
     *at = NULL;
     return (nvmed_status)nvmed_raw_block(m, block, at);
 }
 
-/* Whether a block of the disk is kept when power is lost: *kept is 1 then, and else 0. SAFE, EXACT. Errors: NULL, NO_MEDIATOR, NO_SUCH; *kept is 0 then. */
+/* Whether a block of the disk is kept when power is lost: *kept is 1 then, and else 0. SAFE, EXACT.
+ * Errors: NULL, NO_MEDIATOR, NO_SUCH (no such block); *kept is 0 then. */
 static inline nvmed_status nvmed_kept(nvmed *m, uint64_t block, uint32_t *kept) {
     if (!m || !kept) return NVMED_NULL;
     *kept = 0;
