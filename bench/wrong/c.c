@@ -240,6 +240,72 @@ static void views(void) {
     want("free", NVMED_OK, nvmed_free(&m));
 }
 
+/* What a call has left where it puts its outputs. */
+static void left(const char *what, int right) {
+    if (!right) {
+        wrong++;
+        printf("%s: another output\n", what);
+    }
+}
+
+/* Each kind of event with one number that fits nothing: it is refused where the kind looks at that number, and nowhere else. */
+static void looked_at(nvmed *m) {
+    enum { GUEST = 1, QUEUE = 2, LANE = 4, TAG = 8, SLOT = 16, STATUS = 32, FIELDS = 6, TOO_HIGH = 65536 };
+    static const int looks[13] = {0, GUEST, GUEST | QUEUE | LANE, LANE | TAG, LANE | TAG, LANE | TAG, LANE, LANE | SLOT, LANE | SLOT, LANE | SLOT | STATUS,
+                                  0, LANE, LANE | TAG};
+    for (uint32_t kind = 1; kind <= 12; kind++)
+        for (int i = 0; i < FIELDS; i++) {
+            nvmed_event event;
+            uint32_t *const fields[FIELDS] = {&event.guest, &event.queue, &event.lane, &event.tag, &event.slot, &event.status};
+            uint32_t due = 7;
+            int looks_at = looks[kind] >> i & 1;
+            memset(&event, 0, sizeof event);
+            event.kind = kind;
+            *fields[i] = TOO_HIGH;
+            want("a number that fits nothing", looks_at ? NVMED_NO_SUCH : NVMED_OK, nvmed_due(m, &event, &due));
+            left("due", due == 0);
+            if (looks_at) want("a number that fits nothing", NVMED_NO_SUCH, nvmed_step(m, &event));
+        }
+}
+
+/* After each error what a call would have put is 0 or null, and the bytes of a load are as they were. */
+static void outputs(nvmed *m) {
+    static const uint32_t guests[3] = {1, 256, 0};
+    static const nvmed_status errors[3] = {NVMED_IGNORED, NVMED_NO_SUCH, NVMED_NO_MEDIATOR};
+    nvmed nothing = NVMED_INIT;
+    uint8_t bytes[8], before[8];
+    uint32_t word;
+    uint64_t count;
+    const uint8_t *at;
+    memset(bytes, 0x5a, sizeof bytes);
+    memcpy(before, bytes, sizeof bytes);
+    for (int i = 0; i < 3; i++) {
+        nvmed *of = i == 2 ? &nothing : m;
+        word = 7, count = 7, at = bytes;
+        want("load", errors[i], nvmed_load(of, guests[i], 0, bytes, sizeof bytes));
+        want("reg_read", errors[i], nvmed_reg_read(of, guests[i], 0, &word));
+        left("reg_read", word == 0);
+        want("memory", errors[i], nvmed_memory(of, guests[i], 0, bytes, sizeof bytes, &at, &count));
+        left("memory", at == NULL && count == 0);
+    }
+    count = 7, at = bytes;
+    want("load", NVMED_UNMAPPED, nvmed_load(m, 0, 0x20000 - 4, bytes, sizeof bytes));
+    want("memory", NVMED_UNMAPPED, nvmed_memory(m, 0, 0x20000, bytes, sizeof bytes, &at, &count));
+    left("memory", at == NULL && count == 0);
+    left("load", memcmp(bytes, before, sizeof bytes) == 0);
+    word = 7;
+    want("no register there", NVMED_OK, nvmed_reg_read(m, 0, 0x40, &word));
+    left("no register there", word == 0);
+    word = 7;
+    want("between two registers", NVMED_IGNORED, nvmed_reg_read(m, 0, 0x0a, &word));
+    left("between two registers", word == 0);
+    word = 7, count = 7, at = bytes;
+    want("work", NVMED_NO_SUCH, nvmed_work(m, 4, 0, 1, &count));
+    want("block", NVMED_NO_SUCH, nvmed_block(m, 4096, &at));
+    want("kept", NVMED_NO_SUCH, nvmed_kept(m, 4096, &word));
+    left("work, block and kept", count == 0 && at == NULL && word == 0);
+}
+
 int main(void) {
     nvmed m = NVMED_INIT;
     set_ups();
@@ -248,6 +314,8 @@ int main(void) {
     on_nothing(&m, NVMED_NO_MEDIATOR);
     want("new", NVMED_OK, nvmed_new(&m, &good, limits, 1, regions, 1, extents, 1));
     nulls(&m);
+    looked_at(&m);
+    outputs(&m);
     numbers_everywhere(&m);
     want("free", NVMED_OK, nvmed_free(&m));
     want("free again", NVMED_NO_MEDIATOR, nvmed_free(&m));
