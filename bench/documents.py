@@ -1,12 +1,12 @@
 #!/usr/bin/env python3
 """documents.py [--write]: whether the documents keep their limits and say what the crates say. Prints a line for each thing that is off,
-and ends with status 1 where there is one. With --write the tables of docs/CRATES.md and docs/EDITS.md, and the numbers of lines in
-docs/DEFINITIONS.md, are written anew first, and docs/GATE.md gets a row for each new crate.
+and ends with status 1 where there is one. With --write the table of docs/EDITS.md and the numbers of lines in docs/DEFINITIONS.md are
+written anew first, and docs/GATE.md gets a row for each new crate.
 
-Looked at are: the README's lines and their width; the width of docs/; the lines of each crate in docs/DESIGN.md; the first line of
-docs/PERF.md; each crate's line of docs/CRATES.md, which is the first sentence of its own page; the edits of docs/EDITS.md, and whether
-the code has what each turns; the lines of each file in docs/DEFINITIONS.md; a row of docs/GATE.md for each crate; links, and names of
-files, crates and code that stand in backquotes; and long lines of code, definitions and proofs."""
+Checked are: the lines of pages that have a limit, the width of all, and the words of all together; words of the private dialect; the
+glossary's size; the sentence of each crate in docs/DESIGN.md; the codes of docs/STATUS.md; the first line and the history of
+docs/PERF.md; the edits of docs/EDITS.md, and whether the code has what each turns; the lines of each file in docs/DEFINITIONS.md; a row of
+docs/GATE.md for each crate; links, and names of files, crates and code in backquotes; and long lines of code, definitions and proofs."""
 import fnmatch
 import glob
 import os
@@ -16,18 +16,36 @@ import sys
 import turns
 
 ROOT = os.path.dirname(os.path.dirname(os.path.abspath(__file__)))
-README_LINES = 120
+# the most lines of these pages
+LINES = {"README.md": 120, "docs/PLAN.md": 60, "docs/AUDITS.md": 120, "docs/PROMISES.md": 250, "docs/DESIGN.md": 200}
 README_WIDTH = 120
 WIDTH = 160
-CRATE_LINES = 10
-# of a crate's first sentence in its table
-SENTENCE = 130
+# of all pages together, as `wc -w` counts them
+WORDS = 20_000
+GLOSSARY_WORDS = 30
+# of a crate's sentence in docs/DESIGN.md, and of the history in docs/PERF.md
+CRATE_LINES = 3
+HISTORY_LINES = 60
+# words of the private dialect, which a page has only in names of code, each with what to write
+DIALECT = {
+    "behind": "after",
+    "told": "reported",
+    "tell": "report",
+    "tells": "reports",
+    "in vain": "never met",
+    "rung": "notified",
+    "want of memory": "out of memory",
+    "wrong body": "wrong implementation",
+    "wrong bodies": "wrong implementations",
+}
 LONG = 200
 LONG_LINES = 300
 PERF = "Start: 4466b48d1733cc7975d6a2b277906902cf51a675 is the last commit landed before the work for speed began."
 BEGIN = "<!-- written by bench/%s.py -->"
 END = "<!-- as far as here -->"
 DEFINITIONS = "docs/DEFINITIONS.md"
+# statuses that no check gives
+GIVEN_BY_THE_DRIVE = {"UnrecoveredReadError"}
 # crates all of whose definitions are logs
 LOGS = {"nv_examples", "nv_extents_examples"}
 # names of the toolchain's that documents speak of
@@ -58,44 +76,12 @@ def groups():
     return found
 
 
-def first_sentence(crate):
-    """The first sentence of a crate's page, without what stands in parentheses; of a long one a beginning, to a colon or else a comma."""
-    roots = (f"crates/{crate}/src/lib.rt", f"crates/{crate}/src/main.rt")
-    root = next(path for path in roots if os.path.exists(os.path.join(ROOT, path)))
-    page = []
-    for line in read(root).splitlines():
-        if not line.startswith("//!") or line == "//!":
-            break
-        page.append(line[3:].strip())
-    text = re.sub(r"\[(`[^`]+`)\]", r"\1", " ".join(page))
-    text = re.sub(r" \([^()]*(\([^()]*\)[^()]*)*\)", "", text)
-    sentence = re.match(r".*?[^.\d](?=\.( |$))", text)
-    if not sentence:
-        return text
-    for ends in (":;", ","):
-        places = [len(sentence[0]), *(found.start() for found in re.finditer(f"[{ends}] ", sentence[0]))]
-        fitting = [place for place in places if place <= SENTENCE]
-        if fitting:
-            return sentence[0][: max(fitting)]
-    return sentence[0]
-
-
-def crates_table():
-    lines = []
-    for name, says, crates in groups():
-        lines += [f"## {name[0].upper()}{name[1:]}", "", f"{says[0].upper()}{says[1:]}.", "", "| Crate | Is |", "|---|---|"]
-        lines += [f"| `{crate}` | {first_sentence(crate)} |" for crate in crates]
-        lines.append("")
-    return lines[:-1]
-
-
 def edits_of(crate):
     return sorted(os.path.basename(path)[: -len(".edit")] for path in glob.glob(os.path.join(ROOT, "crates", crate, "must-fail", "*.edit")))
 
 
 def edits_table():
-    rows = [f"| `{crate}` | `{edit}` |" for _, _, crates in groups() for crate in crates for edit in edits_of(crate)]
-    return ["| Crate | Edit |", "|---|---|", *rows]
+    return [f"- `{crate}`: `{edit}`" for _, _, crates in groups() for crate in crates for edit in edits_of(crate)]
 
 
 def lines_of(cell):
@@ -115,7 +101,7 @@ def counted(text):
     return re.sub(r"^(\| (`\w+/specs/[^|]+) \| )(\d+) \|", lambda row: f"{row[1]}{lines_of(row[2])} |", text, flags=re.M)
 
 
-TABLES = {"docs/CRATES.md": crates_table, "docs/EDITS.md": edits_table}
+TABLES = {"docs/EDITS.md": edits_table}
 
 
 def parts_of(path, by="documents"):
@@ -162,10 +148,45 @@ def check_tables():
         yield f"{DEFINITIONS}: a file has another number of lines, or is not there: bench/documents.py --write"
 
 
+def check_sizes():
+    for path, most in LINES.items():
+        lines = len(read(path).splitlines())
+        if lines > most:
+            yield f"{path}: {lines} lines, and {most} are the most"
+    words = sum(len(read(path).split()) for path in pages())
+    if words > WORDS:
+        yield f"README.md and docs/: {words} words, and {WORDS} are the most"
+    rows = len(re.findall(r"^\| ", read("docs/GLOSSARY.md"), re.M)) - 1
+    if rows > GLOSSARY_WORDS:
+        yield f"docs/GLOSSARY.md: {rows} words, and {GLOSSARY_WORDS} are the most"
+
+
+def prose(path):
+    """The lines of a page with their numbers, without code, names in backquotes and what a program writes."""
+    is_code = is_written = False
+    for number, line in enumerate(read(path).splitlines(), 1):
+        is_written = is_written and line != END or re.fullmatch(BEGIN % r"\w+", line) is not None
+        is_code = is_code != line.startswith("```")
+        if not is_code and not is_written:
+            yield number, re.sub(r"`[^`]*`", "", line)
+
+
+def check_dialect():
+    for path in pages():
+        for number, line in prose(path):
+            for word in re.findall(rf"\b(?:{'|'.join(DIALECT)})\b", line, re.I):
+                yield f"{path}:{number}: \"{word}\", where plain words are \"{DIALECT[word.lower()]}\""
+
+
+def check_status():
+    """Whether the table of statuses has each code that a check gives."""
+    text = read("docs/STATUS.md")
+    for name, code in re.findall(r"^sc_of (\w+) = 0x(\w+)", read("crates/nv_entry/specs/StatusCode.antt"), re.M):
+        if name not in GIVEN_BY_THE_DRIVE and f"{code.upper()}h" not in text:
+            yield f"docs/STATUS.md: nothing of {code.upper()}h, {name}"
+
+
 def check_widths():
-    lines = read("README.md").splitlines()
-    if len(lines) > README_LINES:
-        yield f"README.md: {len(lines)} lines, and {README_LINES} are the most"
     for path in pages():
         most = README_WIDTH if path == "README.md" else WIDTH
         for number, line in enumerate(read(path).splitlines(), 1):
@@ -178,15 +199,18 @@ def check_design():
     for crate in (crate for name, _, crates in groups() for crate in crates if name != "checks"):
         if crate not in named:
             yield f"docs/DESIGN.md: nothing of {crate}"
-    for paragraph in read("docs/DESIGN.md").split("\n\n"):
-        lines = paragraph.count("\n") + 1
-        if paragraph.startswith("**nv") and lines > CRATE_LINES:
-            yield f"docs/DESIGN.md: {lines} lines of {paragraph.split()[0].strip('*:,')}, and {CRATE_LINES} are the most"
+    for item in re.findall(r"^- \*\*nv.*(?:\n  .*)*", read("docs/DESIGN.md"), re.M):
+        lines = item.count("\n") + 1
+        if lines > CRATE_LINES:
+            yield f"docs/DESIGN.md: {lines} lines of {item.split()[1].strip('*:,')}, and {CRATE_LINES} are the most"
 
 
 def check_perf():
     if read("docs/PERF.md").splitlines()[0] != PERF:
         yield "docs/PERF.md: its first line is another"
+    history = read("docs/PERF.md").partition("\n## History\n")[2].count("\n")
+    if history > HISTORY_LINES:
+        yield f"docs/PERF.md: {history} lines of history, and {HISTORY_LINES} are the most"
 
 
 def check_gate(crates):
@@ -279,7 +303,10 @@ def main():
     crates = [crate for _, _, names in groups() for crate in names]
     off = [
         *check_crates(crates),
+        *check_sizes(),
         *check_widths(),
+        *check_dialect(),
+        *check_status(),
         *check_design(),
         *check_perf(),
         *check_tables(),
