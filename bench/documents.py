@@ -98,7 +98,7 @@ def lines_of(cell):
 
 def counted(text):
     """The page of definitions with the number of lines in each row as it is now."""
-    return re.sub(r"^(\| (`\w+/specs/[^|]+) \| )(\d+) \|", lambda row: f"{row[1]}{lines_of(row[2])} |", text, flags=re.M)
+    return re.sub(r"^((`\w+/specs/[^|]+) \| )(\d+) \|", lambda row: f"{row[1]}{lines_of(row[2])} |", text, flags=re.M)
 
 
 TABLES = {"docs/EDITS.md": edits_table}
@@ -118,12 +118,17 @@ def put(path, lines, by="documents"):
         file.write(before + "\n".join(["", *lines, "", ""]) + after)
 
 
+def gate_row(*cells):
+    """A row of the gate's table, without the empty cells at its end."""
+    return f"| {' | '.join(map(str, cells)).rstrip(' |')} |"
+
+
 def gate_rows():
     """What gate.py wrote, with a row for each crate that there is: one without numbers for a crate that is newer."""
     lines = parts_of("docs/GATE.md", "gate")[1].strip().splitlines()
     rows = {name[1]: line for line in lines if (name := re.match(r"\| `(\w+)` \|", line))}
     first = next(number for number, line in enumerate(lines) if line in rows.values())
-    new = [rows.get(crate, f"| `{crate}` |  |  | {len(edits_of(crate)) or ''} |  |") for _, _, crates in groups() for crate in crates]
+    new = [rows.get(crate, gate_row(f"`{crate}`", "", "", len(edits_of(crate)) or "")) for _, _, crates in groups() for crate in crates]
     return [*lines[:first], *new, *(line for line in lines[first:] if line not in rows.values())]
 
 
@@ -156,7 +161,7 @@ def check_sizes():
     words = sum(len(read(path).split()) for path in pages())
     if words > WORDS:
         yield f"README.md and docs/: {words} words, and {WORDS} are the most"
-    rows = len(re.findall(r"^\| ", read("docs/GLOSSARY.md"), re.M)) - 1
+    rows = len(re.findall(r"^\w.* \| ", read("docs/GLOSSARY.md"), re.M)) - 1
     if rows > GLOSSARY_WORDS:
         yield f"docs/GLOSSARY.md: {rows} words, and {GLOSSARY_WORDS} are the most"
 

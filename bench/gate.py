@@ -93,7 +93,7 @@ def table(rows):
         for crate in crates:
             edits = len(documents.edits_of(crate))
             cells = [f"{rows[crate].get(kind, 0):.0f}" if rows[crate].get(kind) else "" for kind in KINDS]
-            lines.append(f"| `{crate}` | {cells[0]} | {cells[1]} | {edits or ''} | {cells[2]} |")
+            lines.append(documents.gate_row(f"`{crate}`", cells[0], cells[1], edits or "", cells[2]))
             sums.update({**rows[crate], "number": edits})
     lines.append(f"| all | {sums['proof']:.0f} | {sums['tests']:.0f} | {sums['number']} | {sums['edits']:.0f} |")
     return lines
