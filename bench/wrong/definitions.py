@@ -171,7 +171,7 @@ WORLD = [
     ("p16", "nv_world_model", "specs/SetUp.antt", "between 1 most_extents (length g.namespace)", "between 1 1 (length g.namespace)"),
 ]
 
-# of entries, lists, commands, controllers and memory, of definitions that none of the above turns; docs/PLAN.md says which were tried
+# of entries, lists, commands, controllers and memory, of definitions that none of the above turns; docs/AUDITS.md says which were tried
 MORE_LISTS = [
     ("layout-1", "nv_entry", "specs/Layout.antt", "number_at entry first count = little_from first count entry", "number_at entry first count = little_from first 1 entry"),
     ("layout-2", "nv_entry", "specs/Layout.antt", "number_bytes count number = little_bytes count number", "number_bytes count number = little_bytes 8 number"),
@@ -422,7 +422,7 @@ MORE_LISTS = [
     ("admin-28", "nv_model", "specs/Admin.antt", "admin mapped blocks c memory = if is_ready c then admin_ready", "admin mapped blocks c memory = if c.ready then admin_ready"),
 ]
 
-# of the mediated world, of definitions that none of the above turns; docs/PLAN.md says which were tried
+# of the mediated world, of definitions that none of the above turns; docs/AUDITS.md says which were tried
 MORE_WORLD = [
     ("geometry-1", "nv_world_model", "specs/Geometry.antt", "shape_of guest =\n    record { mapped = mapped (regions_of guest); blocks = blocks_in guest.namespace;", "shape_of guest =\n    record { mapped = mapped (regions_of guest); blocks = 64;"),
     ("plan-1", "nv_world_model", "specs/Plan.antt", "transfer_plan fits work = if fits then Direct work else Bounced work", "transfer_plan fits work = Bounced work"),
