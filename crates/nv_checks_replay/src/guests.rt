@@ -7,7 +7,7 @@ use std::process::Abort;
 use std::sync::Wait;
 use std::test::Fail;
 use std::thread::Threads;
-use std::time::Clock;
+use std::time::{Clock, Duration, Instant};
 
 /// The first guest's queue pair 1, of 16 slots each.
 const BRING_UP: &str = "\
@@ -195,6 +195,30 @@ const IN_VAIN: Case = Case {
 #[test]
 fn waits_in_vain(rt: HostRuntime) -> Result<(), Fail> {
     expect(&rt, SET_UP, "", &IN_VAIN)
+}
+
+/// Behind the bring-up: a Read of block 5 is under way, and the wait for its completion is for another than it has.
+const NEVER_MET: Case = Case {
+    lines: "store 0 0x13000 0240070001000000000000000000000000000000000000000030000000000000000200000000\
+0000050000000000000000000000000000000000000000000000
+bell 0 0x1008 1
+await 0 0x1200c 0x00010008
+",
+    printed: "",
+    told: "line 19: no completion\n",
+    status: ExitStatus::ScriptFault,
+};
+
+/// How many milliseconds a wait that is never met lasts at least, so that workers have time to do what it waits for.
+const LEAST: u64 = 1_000;
+
+#[test]
+fn a_wait_that_is_never_met_lasts_a_second(rt: HostRuntime) -> Result<(), Fail> {
+    let set_up = format!(in rt.alloc(); "{SET_UP}{BRING_UP}")?;
+    let begun = Instant::now(&rt)?;
+    expect(&rt, &set_up, "", &NEVER_MET)?;
+    assert!(rt; begun.elapsed(&rt)? >= Duration::from_millis(LEAST));
+    Ok(())
 }
 
 /// A Read of block 5 by a Last Segment of 1,000 Data Blocks, of which the last alone has bytes; and a Read by PRP.

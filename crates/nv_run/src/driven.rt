@@ -4,31 +4,20 @@ ghost use Rattle.std.specs.Prelude.{◌≡◌, ◌↔◌, IsTrue, IfErr, IfOk, O
 ghost use Rattle.nv_run.specs.Driving.{Grows, HasWaited, IsEarly, IsGone, IsMet, IsThrough, look_of, shown};
 ghost use Rattle.nv_run.specs.Shown.{shows};
 
+use crate::pace::Pace;
 use nv_mem::NoMemory;
 use nv_model::{Act, Reply};
 use nv_run_script::{Line, Task};
 use nv_threads::{Port, Shared};
 use std::alloc::Global;
 use std::sync::Wait;
-use std::thread;
-use std::time::{Clock, Duration};
+use std::time::Clock;
 
-/// How often a line that waits looks.
+/// How often a line that waits polls.
 const POLLS: u32 = 1_000_000;
 
 /// How many bytes a line that waits loads.
 const DWORD: u64 = 4;
-
-/// How many looks of a line that waits come only where there is news for the guest, or after a millisecond or so without. A line that
-/// has looked so often in vain mostly waits in vain.
-const PATIENT_LOOKS: u32 = 32;
-
-/// After how many of the others a thread that waits sleeps. Behind the rest it looks again at once: on a machine with other work, each time that
-/// it let others run it would wait for its turn, and so a million times.
-const LOOKS_A_NAP: u32 = 4096;
-
-/// How long it sleeps then, in microseconds.
-const NAP: u64 = 50;
 
 /// How a guest's thread ended.
 #[derive(Clone, Copy, Debug, PartialEq, Eq)]
@@ -162,7 +151,7 @@ impl Probe {
     }
 }
 
-// Looks until the value is met, and whether it was.
+// Polls until the value is met, and whether it was.
 fn wait_for<R: Wait + Clock>(
     rt: &R,
     alloc: Global,
@@ -174,13 +163,14 @@ fn wait_for<R: Wait + Clock>(
     ensures guest { port.new.guest ≡ port.old.guest }
     ensures ok { IfOk result (λ met. Grows port.old.calls port.new.calls (HasWaited port.old.guest (look_of probe) value met)) }
 {
-    for look in 0..POLLS {
+    let mut pace = Pace::new(rt);
+    for _poll in 0..POLLS {
         let seen = shared.news(port.guest());
         let reply = port.act(rt, alloc, shared, probe.act())?;
         if shows(&reply, value) {
             return Ok(true);
         }
-        pause(rt, shared, port.guest(), seen, look);
+        pace.pause(rt, shared, port.guest(), seen);
     }
     Ok(false)
 }
@@ -193,15 +183,5 @@ pub(crate) fn shows(reply: &Reply, value: u32) -> bool
     match reply {
         Reply::Bytes(bytes) => bytes.as_slice() == value.to_le_bytes().as_slice(),
         _ => false,
-    }
-}
-
-// Waits before the next look: for more news than the guest had seen, as long as it is patient. Each look is an act that is logged, so one
-// that is not made spares time and memory.
-fn pause<R: Wait + Clock>(rt: &R, shared: &Shared, guest: u8, seen: u64, look: u32) {
-    if look < PATIENT_LOOKS {
-        shared.wait_for_news(rt, guest, seen);
-    } else if look % LOOKS_A_NAP == LOOKS_A_NAP - 1 {
-        thread::sleep(rt, Duration::from_micros(NAP));
     }
 }

@@ -7,12 +7,16 @@
 //! and the log alone (`specs/Shown`): `specs/Played` says of which log. Of what threads do beside each other nothing is claimed but what
 //! `nv_threads` says.
 //!
-//! That its world is the one that the text opens, and which line a wait in vain names, is tested and not proved.
+//! A line that waits polls a million times at most. It paces its polls by the clock, so that workers have at least a second to do what it
+//! waits for; nothing is proved of time.
+//!
+//! That its world is the one that the text opens, and which line a wait that is never met names, is tested and not proved.
 #![tactic(auto)]
 
 mod driven;
 mod fault;
 mod opening;
+mod pace;
 mod part;
 mod played;
 mod printing;

@@ -123,6 +123,41 @@ fn a_wait_tells_whether_the_bell_was_rung(rt: HostRuntime) -> Result<(), Fail> {
     Ok(())
 }
 
+// Takes the lock again and again, until the workers are to stop.
+fn takes<R: Wait>(rt: &R, shared: &Shared) {
+    for _ in rt.forever() {
+        if shared.is_stopped() {
+            return;
+        }
+        drop(shared.lock(rt));
+    }
+}
+
+// Holds the lock until a thread sleeps on it, and tells the workers to stop; whether one did.
+fn holds<R: Wait + Clock>(rt: &R, shared: &Shared) -> bool {
+    let locked = shared.lock(rt);
+    for _look in 0..LOOKS {
+        if shared.is_awaited() {
+            break;
+        }
+        thread::sleep(rt, Duration::from_millis(1));
+    }
+    let is_awaited = shared.is_awaited();
+    shared.stop();
+    drop(locked);
+    is_awaited
+}
+
+#[test]
+fn who_sleeps_on_the_lock_is_awaited(rt: HostRuntime) -> Result<(), Fail> {
+    let shared = Shared::new(opened(rt.alloc(), &ONE)?);
+    assert!(rt; !shared.is_awaited());
+    let (was_awaited, _) = join(&rt, || holds(&rt, &shared), || takes(&rt, &shared));
+    assert!(rt; was_awaited);
+    assert!(rt; !shared.is_awaited());
+    Ok(())
+}
+
 /// A guest's controller is enabled with a completion queue of two slots, and it rings for two admin commands.
 const ENABLE: [Act; 5] = [
     Act::RegWrite {

@@ -11,7 +11,7 @@ use crate::locked::Locked;
 use crate::notes::{LANES, Notes};
 use nv_world::World;
 use std::hint;
-use std::sync::atomic::{AtomicBool, Ordering};
+use std::sync::atomic::{AtomicBool, AtomicU32, Ordering};
 use std::sync::{Mutex, MutexGuard, Wait};
 
 /// How often a thread tries to take the world's lock before it sleeps: for some 15 microseconds.
@@ -21,6 +21,8 @@ const TRIES: u32 = 300;
 #[derive(Drop)]
 pub struct Shared {
     locked: Mutex<Locked>,
+    // how many threads sleep on the lock
+    sleepers: AtomicU32,
     // what those who found nothing to do wait for, outside the lock
     pub(crate) bells: Bells,
     // the lanes on which the physical controller took commands before the world was shared
@@ -35,6 +37,7 @@ impl Shared {
         Shared {
             used: notes.served(),
             locked: Mutex::new(Locked { world, notes }),
+            sleepers: AtomicU32::new(0),
             bells: Bells::new(),
             stopped: AtomicBool::new(false),
         }
@@ -63,6 +66,12 @@ impl Shared {
         let _rung = self.bells.guest(guest).wait(rt, seen);
     }
 
+    /// Whether a thread sleeps on the world's lock: whoever only polls lets it go first. It is read without the lock, and nothing is claimed
+    /// of it.
+    pub fn is_awaited(&self) -> bool {
+        self.sleepers.load(Ordering::SeqCst) != 0
+    }
+
     /// Takes the world's lock. It is held for as long as one event takes, mostly less than a microsecond, so a thread tries for a while before it
     /// sleeps: whoever gives the lock back has to wake one that sleeps, which takes longer than what is done under the lock.
     pub(crate) fn lock<R: Wait>(&self, rt: &R) -> MutexGuard<'_, Locked> {
@@ -72,7 +81,10 @@ impl Shared {
             }
             hint::spin_loop();
         }
-        self.locked.lock(rt)
+        self.sleepers.fetch_add(1, Ordering::SeqCst);
+        let guard = self.locked.lock(rt);
+        self.sleepers.fetch_sub(1, Ordering::SeqCst);
+        guard
     }
 
     // Whether the physical controller took commands on a lane before the world was shared.
@@ -93,6 +105,7 @@ impl Shared {
     {
         let Shared {
             locked,
+            sleepers: _,
             bells: _,
             used: _,
             stopped: _,
