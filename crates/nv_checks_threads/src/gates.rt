@@ -161,3 +161,26 @@ fn gives_up_where_the_gate_has_no_memory(rt: HostRuntime) -> Result<(), Fail> {
     run_beside(&rt, rt.alloc(), false, 0x000d_0007, 1);
     Ok(())
 }
+
+/// A heap with room for a list of 1,000 descriptors.
+const LARGE_HEAP: u64 = 1_048_576;
+
+// Of a list that is read in four parts the gate is asked before the first and behind the last, and of the Read by PRP behind it once.
+#[test]
+fn asks_the_gate_twice_however_often_a_list_is_read(rt: HostRuntime) -> Result<(), Fail> {
+    let alloc = rt.alloc();
+    let shared = Shared::new(opened(alloc).expect(&rt, "a world"));
+    let posted = AtomicBool::new(true);
+    let gate = First {
+        waits: true,
+        posted: &posted,
+        calls: AtomicU64::new(0),
+        plans: AtomicU64::new(0),
+    };
+    let parts = [Part::ReadBySegment(0x0001_0007), Part::Rest];
+    let ran = run(&rt, alloc, &shared, &gate, LARGE_HEAP, parts, &posted);
+    let plans = gate.plans.load(Ordering::SeqCst);
+    expect(&rt, &shared.close(), &ran, plans, 0);
+    assert_eq!(rt; gate.calls.load(Ordering::SeqCst), 3);
+    Ok(())
+}

@@ -3,11 +3,14 @@
 //! A Dataset Management has a part in each extent. Those that none of its ranges meets have ended once it is handed on, and all have where it is
 //! answered or given up. Then the lane's reaper is rung for, and else the physical controller.
 
+use crate::concern::Concern;
 use crate::locked::Locked;
+use crate::maker::Prepared;
 use crate::notes::Notes;
 use crate::planning::GuestPlanner;
-use crate::simulated::{go_on, planned};
+use crate::simulated::go_on;
 use crate::simulated_guest::{Guest, entry_of, rings};
+use crate::simulated_start::planned;
 use crate::simulated_worlds::{Extents, MANY, ONE, TWO, opened};
 use crate::tasks::Turn;
 use nv_mem::BoxedBytes;
@@ -141,8 +144,10 @@ fn plan(locked: &mut Locked, alloc: Global, is_starved: bool) -> [u64; 2] {
         let told = match planner.turn(locked, alloc) {
             Turn::Job(job) => {
                 let planned = planned(&locked.world, alloc, job, is_starved);
-                go_on(&mut planner, locked, planned)
+                go_on(&mut planner, locked, Prepared::of(planned))
             }
+            // with no plan that is fed, the job is looked at again
+            Turn::Read(_, _) => Some(Concern::nobody()),
             Turn::Done(told) => Some(told),
             Turn::Nothing => None,
         };

@@ -6,7 +6,8 @@
 //!   keeps the whole promise. So the log that threads made together is one history, and whatever is proved of logs holds of it.
 //! - [`Port`] is what a guest acts by. It keeps its own list of events with the replies that it gave back.
 //! - [`planner`], [`reaper`] and [`device_loop`] are the workers. They make an event only where it is due under the same hold of the
-//!   lock, so waiting logs nothing. Plans are made outside the lock, by a [`Gate`], in a heap of the planner's own.
+//!   lock, so waiting logs nothing. What is wanted of a command's lists is found outside the lock, by a plan that is fed, read by read; once all
+//!   is read, a [`Gate`] makes the plan. Both live in a heap of the planner's own.
 //! - A worker that finds nothing to do waits outside the lock, for a bell. Whoever has made an event rings for those whom it concerns, and
 //!   a wait ends by itself after a millisecond or so. So may a guest wait for what was posted to it ([`Shared::wait_for_news`]). Beside the
 //!   world is noted which tags are not free, and whose they are, so that workers need not look at others. Nothing is claimed of bells or
@@ -30,12 +31,14 @@ mod counting;
 mod device_side;
 #[cfg(test)]
 mod ending;
+mod feeder;
 mod finishing;
 mod gate;
 mod given;
 #[cfg(test)]
 mod holding;
 mod locked;
+mod maker;
 mod mismatch;
 mod notes;
 #[cfg(test)]
@@ -53,6 +56,8 @@ mod simulated;
 mod simulated_counts;
 #[cfg(test)]
 mod simulated_guest;
+#[cfg(test)]
+mod simulated_start;
 #[cfg(test)]
 mod simulated_worlds;
 #[cfg(test)]

@@ -5,13 +5,14 @@ use crate::concern::Concern;
 use crate::gate::Gate;
 use crate::given::Given;
 use crate::locked::Locked;
+use crate::maker::{PlanMaker, Prepared};
 use crate::share::Share;
 use crate::shared::Shared;
 use crate::tasks::{Task, Turn};
 use linked_list_allocator::LocalHeap;
 use nv_mem::NoMemory;
 use nv_model::Reply;
-use nv_plan::{Job, Plan, PlanKind, Planned};
+use nv_plan::{Job, Plan, PlanKind, ReadDone};
 use nv_world::World;
 use nv_world_model::Event;
 use std::alloc::Global;
@@ -25,10 +26,11 @@ const TAGS: u8 = 64;
 const LAST_QUEUE: u16 = 8;
 
 /// Takes and plans the commands of a guest by a lane, until the workers are to stop: its admin commands, and those of its I/O queues.
-/// Where a plan wants bytes that were not read, they are read; where there is no memory for one, the command is given up. Plans are made
-/// by the gate outside the lock, in a heap of `heap_bytes` bytes; where there is no memory for the heap itself, every command is given up.
-/// Where there is no memory for a job, for the copy of the guest's map or for a step, it is tried again. A guest that isn't there has
-/// nothing to be planned.
+/// Where a plan wants bytes that were not read, they are read; where there is no memory for one, the command is given up. What is wanted
+/// next is found by a plan that is fed, read by read, so that each read costs the same however many were made before. Plans are made by the
+/// gate. Both happen outside the lock, in a heap of `heap_bytes` bytes, and the gate has all of it; where there is no memory for the heap
+/// itself, every command is given up. Where there is no memory for a job, for the copy of the guest's map or for a step, it is tried again.
+/// A guest that isn't there has nothing to be planned.
 ///
 /// This waits for the world's lock, and for the gate. It tells how many events it put into the log.
 pub fn planner<G: Gate, R: Wait + Clock>(
@@ -45,6 +47,7 @@ pub fn planner<G: Gate, R: Wait + Clock>(
         return planner.share;
     };
     let heap = LocalHeap::new(alloc, heap_bytes as usize).ok();
+    let mut maker = maker_in(gate, &heap, alloc, &given);
     let bell = shared.bells.planner(guest);
     for _ in rt.forever() {
         let rings = bell.rings();
@@ -54,8 +57,18 @@ pub fn planner<G: Gate, R: Wait + Clock>(
         let turn = planner.turn(&mut shared.lock(rt), alloc);
         let told = match turn {
             Turn::Job(job) => {
-                let planned = planned(rt, alloc, &heap, gate, &given, job);
-                planner.go_on(rt, shared, planned)
+                let prepared = match &mut maker {
+                    Some(maker) => maker.plan(rt, job),
+                    None => Prepared::NoMemory(job.tag),
+                };
+                planner.go_on(rt, shared, prepared)
+            }
+            Turn::Read(tag, read) => {
+                let prepared = match &mut maker {
+                    Some(maker) => maker.feed(rt, tag, read),
+                    None => Prepared::NoMemory(tag),
+                };
+                planner.go_on(rt, shared, prepared)
             }
             Turn::Done(concern) => Some(concern),
             Turn::Nothing => None,
@@ -89,18 +102,16 @@ fn given<R: Wait + Clock>(rt: &R, alloc: Global, shared: &Shared, guest: u8) -> 
     unreachable!()
 }
 
-// What comes of a job, by the gate. Without a heap there is no memory for its plan.
-fn planned<G: Gate, R: Wait + Clock>(
-    rt: &R,
+// What makes the plans; without a heap there is nothing.
+fn maker_in<'a, G: Gate>(
+    gate: &'a G,
+    heap: &'a Option<LocalHeap>,
     alloc: Global,
-    heap: &Option<LocalHeap>,
-    gate: &G,
-    given: &Given,
-    job: Job,
-) -> Planned {
+    given: &'a Given,
+) -> Option<PlanMaker<'a, G, &'a LocalHeap>> {
     match heap {
-        Some(heap) => gate.plan(rt, heap, alloc, job, given.map(), given.ns(), given.limit()),
-        None => Planned::NoMemory(job),
+        Some(heap) => Some(PlanMaker::new(gate, heap, alloc, given)),
+        None => None,
     }
 }
 
@@ -145,11 +156,12 @@ impl GuestPlanner {
     }
 
     // Goes on with what came of a job: whom that concerns. `None` where there was no memory to hand a plan over.
-    fn go_on<R: Wait>(&mut self, rt: &R, shared: &Shared, planned: Planned) -> Option<Concern> {
-        self.task = match planned {
-            Planned::Need(job, addr, len) => Task::Read(job.tag, addr, len),
-            Planned::NoMemory(job) => Task::GiveUp(job.tag),
-            Planned::Plan(plan) => return self.submit(&mut shared.lock(rt), plan),
+    fn go_on<R: Wait>(&mut self, rt: &R, shared: &Shared, prepared: Prepared) -> Option<Concern> {
+        self.task = match prepared {
+            Prepared::Wanted(tag, addr, len) => Task::Read(tag, addr, len),
+            Prepared::NoMemory(tag) => Task::GiveUp(tag),
+            Prepared::Again(tag) => Task::Plan(tag),
+            Prepared::Plan(plan) => return self.submit(&mut shared.lock(rt), plan),
         };
         Some(Concern::nobody())
     }
@@ -294,15 +306,32 @@ impl GuestPlanner {
         }
     }
 
-    // Reads bytes for the command of a tag, which is to be planned with them.
+    // Reads bytes for the command of a tag, whose plan is to be fed with them. Where the tag has no command of the guest's any more, there is
+    // another to be taken up. Where nothing was read, or nobody feeds a plan with what was, the job is taken from the world again.
     fn read(&mut self, world: &mut World, alloc: Global, tag: u8, addr: u64, len: u64) -> Turn {
+        if !self.holds(world, tag) {
+            self.task = Task::TakeUp;
+            return Turn::Done(Concern::nobody());
+        }
         let list = Event::List(self.lane, tag, addr, len);
         match self.share.step(world, alloc, list) {
             Reply::NoMemory => Turn::Nothing,
+            Reply::Bytes(bytes) => {
+                self.task = Task::Plan(tag);
+                Turn::Read(tag, ReadDone::new(addr, bytes))
+            }
             _ => {
                 self.task = Task::Plan(tag);
                 Turn::Done(Concern::nobody())
             }
+        }
+    }
+
+    // Whether a tag has a command of the guest's.
+    fn holds(&self, world: &World, tag: u8) -> bool {
+        match world.holder(self.lane, tag) {
+            Some(holder) => holder.guest == self.guest,
+            None => false,
         }
     }
 

@@ -10,23 +10,29 @@ use crate::alike::{same_act, same_reply};
 use crate::bits::bit;
 use crate::concern::Concern;
 use crate::device_side::LaneDevice;
+use crate::gate::Open;
+use crate::given::Given;
 use crate::locked::{Errand, Locked};
+use crate::maker::{PlanMaker, Prepared};
 use crate::notes::Notes;
 use crate::planning::GuestPlanner;
 use crate::reaping::LaneReaper;
+use crate::shared::Shared;
 use crate::simulated_counts::{Ended, are_sizes_noted};
 use crate::simulated_guest::{Chance, Guest, is_reset, is_store};
+use crate::simulated_start::{LOOKS, PASSES, Start};
 use crate::simulated_worlds::{Extents, FEW, GUESTS, LANES, MANY, ONE, most_of, opened};
-use crate::start;
 use crate::tasks::{Task, Turn};
 use crate::telling::tell;
 use nv_model::Act;
-use nv_plan::{Job, Plan, PlanKind, Planned, make_plan};
+use nv_plan::{Plan, PlanKind, ReadDone};
 use nv_world::World;
 use nv_world_model::{Event, Logged};
 use std::alloc::Global;
 use std::process::Abort;
+use std::sync::Wait;
 use std::test::Fail;
+use std::time::Clock;
 
 /// How many tags a lane has.
 const TAGS: u8 = 64;
@@ -42,11 +48,6 @@ const TURNS: u32 = 60_000;
 const PHASE: u32 = 2_000;
 
 const PHASES: u32 = 7;
-
-/// How many turns without an event a planner, and the physical controller on a lane, may have one behind the other.
-const LOOKS: u32 = 200;
-
-const PASSES: u32 = 140_000;
 
 /// Behind how many turns notes are held against the world.
 const CHECKED: u32 = 61;
@@ -97,100 +98,6 @@ fn are_alike(one: &Logged, other: &Logged) -> bool {
     same && same_reply(&one.reply, &other.reply)
 }
 
-// ---- the workers of the start
-
-/// The workers of the start, in their world.
-#[derive(Drop)]
-struct Start {
-    alloc: Global,
-    world: World,
-    planners: Vec<start::planning::GuestPlanner>,
-    devices: Vec<start::device_side::LaneDevice>,
-    reapers: Vec<start::reaping::LaneReaper>,
-}
-
-impl Start {
-    // A world without workers.
-    fn new(alloc: Global, extents: &Extents) -> Result<Self, Fail> {
-        Ok(Start {
-            alloc,
-            world: opened(alloc, extents)?,
-            planners: Vec::new(alloc),
-            devices: Vec::new(alloc),
-            reapers: Vec::new(alloc),
-        })
-    }
-
-    // Workers come to the world as it is, in the place of others.
-    fn share(&mut self) -> Result<(), Fail> {
-        let used = start::shared::used_lanes(self.world.log());
-        self.planners = Vec::new(self.alloc);
-        self.devices = Vec::new(self.alloc);
-        self.reapers = Vec::new(self.alloc);
-        for guest in 0..GUESTS {
-            for lane in 0..LANES {
-                self.planners
-                    .push(start::planning::GuestPlanner::new(guest, lane))?;
-            }
-        }
-        for (lane, was_used) in (0..LANES).zip(used) {
-            self.devices
-                .push(start::device_side::LaneDevice::new(lane, was_used))?;
-            self.reapers.push(start::reaping::LaneReaper::new(lane))?;
-        }
-        Ok(())
-    }
-
-    // A planner's turns until it has made an event or has none to make; whether they came to an end.
-    fn planner_turn(&mut self, at: usize, is_starved: bool) -> bool {
-        let before = self.world.log().len();
-        let Some(planner) = self.planners.get_mut(at) else {
-            return false;
-        };
-        for _ in 0..LOOKS {
-            match planner.turn(&mut self.world, self.alloc) {
-                start::Turn::Job(job) => {
-                    let planned = planned(&self.world, self.alloc, job, is_starved);
-                    planner.go_on(&mut self.world, planned);
-                }
-                start::Turn::Done => {}
-                start::Turn::Nothing => return true,
-            }
-            if self.world.log().len() != before {
-                return true;
-            }
-        }
-        false
-    }
-
-    // Turns of the physical controller on a lane until it has made an event or has none to make; whether they came to an end. Behind a turn in
-    // vain it may go on to units further behind, and behind two it doesn't.
-    fn device_turn(&mut self, lane: u8) -> bool {
-        let before = self.world.log().len();
-        let Some(device) = self.devices.get_mut(usize::from(lane)) else {
-            return false;
-        };
-        let mut was_vain = false;
-        for _ in 0..PASSES {
-            let is_vain = !device.turn(&mut self.world, self.alloc);
-            if is_vain && was_vain || self.world.log().len() != before {
-                return true;
-            }
-            was_vain = is_vain;
-        }
-        false
-    }
-
-    // A reaper's turn.
-    fn reaper_turn(&mut self, lane: u8) {
-        if let Some(reaper) = self.reapers.get_mut(usize::from(lane)) {
-            let _done = reaper.turn(&mut self.world, self.alloc);
-        }
-    }
-}
-
-// ---- the workers now
-
 /// A worker, and whether it waits for its bell, and whether that was rung since it looked last.
 #[derive(Drop)]
 struct Seat<T> {
@@ -214,16 +121,30 @@ impl<T> Seat<T> {
     }
 }
 
+/// The gate of all planners.
+const GATE: &Open = &Open;
+
+/// Where a planner makes its plans, and what it has read and not fed to one: it does so at its next turn, when there may be no memory for it.
+#[derive(Drop)]
+struct MakerSeat<'a> {
+    maker: PlanMaker<'a, Open, Global>,
+    read: Option<(u8, ReadDone)>,
+}
+
 /// Both worlds with their guests and workers.
 #[derive(Drop)]
-struct Simulation {
+struct Simulation<'a> {
     alloc: Global,
+    // what each guest was given
+    givens: &'a [Given],
     start: Start,
     locked: Locked,
     // how many extents the guest has that has most
     most: u32,
     guests: Vec<Guest>,
     planners: Vec<Seat<GuestPlanner>>,
+    // where they make their plans, in their order
+    makers: Vec<MakerSeat<'a>>,
     devices: Vec<Seat<LaneDevice>>,
     reapers: Vec<Seat<LaneReaper>>,
     // whose command each tag of a lane had last, lane by lane
@@ -242,11 +163,13 @@ struct Simulation {
     passed: u64,
     // how often a guest disabled its controller
     resets: u64,
+    // how many reads plans were fed with
+    fed: u64,
 }
 
-impl Simulation {
+impl<'a> Simulation<'a> {
     // Worlds without workers.
-    fn new(alloc: Global, extents: &Extents) -> Result<Self, Fail> {
+    fn new(alloc: Global, extents: &Extents, givens: &'a [Given]) -> Result<Self, Fail> {
         let world = opened(alloc, extents)?;
         let notes = Notes::of(&world);
         let mut guests = Vec::new(alloc);
@@ -255,11 +178,13 @@ impl Simulation {
         }
         Ok(Simulation {
             alloc,
+            givens,
             start: Start::new(alloc, extents)?,
             locked: Locked { world, notes },
             most: most_of(extents),
             guests,
             planners: Vec::new(alloc),
+            makers: Vec::new(alloc),
             devices: Vec::new(alloc),
             reapers: Vec::new(alloc),
             owners: vec![in alloc; 0; usize::from(LANES) * usize::from(TAGS)]?,
@@ -271,6 +196,7 @@ impl Simulation {
             idle: 0,
             passed: 0,
             resets: 0,
+            fed: 0,
         })
     }
 
@@ -304,12 +230,17 @@ impl Simulation {
     fn sit_down(&mut self) -> Result<(), Fail> {
         let used = self.locked.notes.served();
         self.planners = Vec::new(self.alloc);
+        self.makers = Vec::new(self.alloc);
         self.devices = Vec::new(self.alloc);
         self.reapers = Vec::new(self.alloc);
-        for guest in 0..GUESTS {
+        for (guest, given) in (0..GUESTS).zip(self.givens) {
             for lane in 0..LANES {
                 self.planners
                     .push(Seat::new(GuestPlanner::new(guest, lane)))?;
+                self.makers.push(MakerSeat {
+                    maker: PlanMaker::new(GATE, self.alloc, self.alloc, given),
+                    read: None,
+                })?;
             }
         }
         for (lane, was_used) in (0..LANES).zip(used) {
@@ -474,7 +405,13 @@ impl Simulation {
     }
 
     // Turns of a planner until it has made an event or has none to make; whether they came to an end, and told whom they should.
-    fn planner_turn(&mut self, at: usize, is_late: bool, is_starved: bool) -> Result<bool, Fail> {
+    fn planner_turn<R: Wait + Clock>(
+        &mut self,
+        rt: &R,
+        at: usize,
+        is_late: bool,
+        is_starved: bool,
+    ) -> Result<bool, Fail> {
         let before = self.locked.world.log().len();
         if !self.start.planner_turn(at, is_starved) {
             return Ok(false);
@@ -490,7 +427,7 @@ impl Simulation {
         }
         seat.is_rung = false;
         for _ in 0..LOOKS {
-            let Some(told) = self.planner_step(at, is_starved) else {
+            let Some(told) = self.planner_step(rt, at, is_starved) else {
                 return Ok(true);
             };
             self.ring(told);
@@ -518,24 +455,43 @@ impl Simulation {
         }
     }
 
-    // A turn of a planner, which goes on with what comes of a job: whom that concerns, or `None` where there was nothing to do.
-    fn planner_step(&mut self, at: usize, is_starved: bool) -> Option<Concern> {
+    // A turn of a planner, which goes on with what comes of a job or of what was read for it: whom that concerns, or `None` where there was nothing
+    // to do.
+    fn planner_step<R: Wait + Clock>(
+        &mut self,
+        rt: &R,
+        at: usize,
+        is_starved: bool,
+    ) -> Option<Concern> {
         let seat = self.planners.get_mut(at)?;
-        let turn = seat.worker.turn(&mut self.locked, self.alloc);
-        seat.waits = matches!(turn, Turn::Nothing);
-        match turn {
-            Turn::Job(job) => {
-                let planned = planned(&self.locked.world, self.alloc, job, is_starved);
-                if let Planned::Plan(plan) = &planned {
-                    self.ended.see(plan);
-                    self.parted = self.parted.saturating_add(u64::from(plan.parts() > 1));
-                    self.idle = self.idle.saturating_add(u64::from(has_idle_part(plan)));
-                }
-                go_on(&mut seat.worker, &mut self.locked, planned)
+        let making = self.makers.get_mut(at)?;
+        let prepared = match making.read.take() {
+            Some((tag, _)) if is_starved => Prepared::NoMemory(tag),
+            Some((tag, read)) => {
+                self.fed = self.fed.saturating_add(1);
+                making.maker.feed(rt, tag, read)
             }
-            Turn::Done(concern) => Some(concern),
-            Turn::Nothing => None,
+            None => {
+                let turn = seat.worker.turn(&mut self.locked, self.alloc);
+                seat.waits = matches!(turn, Turn::Nothing);
+                match turn {
+                    Turn::Job(job) if is_starved => Prepared::NoMemory(job.tag),
+                    Turn::Job(job) => making.maker.plan(rt, job),
+                    Turn::Read(tag, read) => {
+                        making.read = Some((tag, read));
+                        return Some(Concern::nobody());
+                    }
+                    Turn::Done(concern) => return Some(concern),
+                    Turn::Nothing => return None,
+                }
+            }
+        };
+        if let Prepared::Plan(plan) = &prepared {
+            self.ended.see(plan);
+            self.parted = self.parted.saturating_add(u64::from(plan.parts() > 1));
+            self.idle = self.idle.saturating_add(u64::from(has_idle_part(plan)));
         }
+        go_on(&mut seat.worker, &mut self.locked, prepared)
     }
 
     // Counts lanes without a free tag, and with few.
@@ -568,7 +524,12 @@ impl Simulation {
 
     // One turn of somebody, by chance; whether it was what it should be. In one phase of four the physical controller stands still, in one
     // the reapers, and in one no guest tells that it has looked at completions. One plan in sixteen finds no memory.
-    fn turn(&mut self, number: u32, chance: &mut Chance) -> Result<bool, Fail> {
+    fn turn<R: Wait + Clock>(
+        &mut self,
+        rt: &R,
+        number: u32,
+        chance: &mut Chance,
+    ) -> Result<bool, Fail> {
         let before = self.locked.world.log().len();
         let phase = number / PHASE % 4;
         let is_late = chance.below(8) == 0;
@@ -578,7 +539,7 @@ impl Simulation {
             0 | 1 => self.guest_turn(guest, chance, phase != 3)?,
             2 | 3 | 4 => {
                 let is_starved = chance.below(16) == 0;
-                self.planner_turn(planner_at(guest, lane), is_late, is_starved)?
+                self.planner_turn(rt, planner_at(guest, lane), is_late, is_starved)?
             }
             5 | 6 => phase == 1 || self.device_turn(lane, is_late),
             _ => phase == 2 || self.reaper_turn(lane, is_late),
@@ -587,12 +548,12 @@ impl Simulation {
     }
 
     // One turn of some worker, by chance; whether it was what it should be.
-    fn workers_turn(&mut self, chance: &mut Chance) -> Result<bool, Fail> {
+    fn workers_turn<R: Wait + Clock>(&mut self, rt: &R, chance: &mut Chance) -> Result<bool, Fail> {
         let before = self.locked.world.log().len();
         let guest = chance.below(u64::from(GUESTS)) as u8;
         let lane = chance.below(u64::from(LANES)) as u8;
         let is_right = match chance.below(6) {
-            0 | 1 | 2 => self.planner_turn(planner_at(guest, lane), true, false)?,
+            0 | 1 | 2 => self.planner_turn(rt, planner_at(guest, lane), true, false)?,
             3 | 4 => self.device_turn(lane, true),
             _ => self.reaper_turn(lane, true),
         };
@@ -609,12 +570,13 @@ fn planner_at(guest: u8, lane: u8) -> usize {
 pub(crate) fn go_on(
     planner: &mut GuestPlanner,
     locked: &mut Locked,
-    planned: Planned,
+    prepared: Prepared,
 ) -> Option<Concern> {
-    planner.task = match planned {
-        Planned::Need(job, addr, len) => Task::Read(job.tag, addr, len),
-        Planned::NoMemory(job) => Task::GiveUp(job.tag),
-        Planned::Plan(plan) => return planner.submit(locked, plan),
+    planner.task = match prepared {
+        Prepared::Wanted(tag, addr, len) => Task::Read(tag, addr, len),
+        Prepared::NoMemory(tag) => Task::GiveUp(tag),
+        Prepared::Again(tag) => Task::Plan(tag),
+        Prepared::Plan(plan) => return planner.submit(locked, plan),
     };
     Some(Concern::nobody())
 }
@@ -630,32 +592,34 @@ fn place_of(lane: u8, tag: u8) -> usize {
     usize::from(lane) * usize::from(TAGS) + usize::from(tag)
 }
 
-// What comes of a job; as where there is no memory, where it is starved or there is no such guest.
-pub(crate) fn planned(world: &World, alloc: Global, job: Job, is_starved: bool) -> Planned {
-    let guest = job.guest;
-    match (world.map(guest), world.range(guest), world.limit(guest)) {
-        (Some(map), Some(ns), Some(limit)) if !is_starved => {
-            make_plan(alloc, alloc, job, map, ns, limit)
+// What guests with these extents are given.
+fn givens<R: Wait>(rt: &R, alloc: Global, extents: &Extents) -> Result<Vec<Given>, Fail> {
+    let shared = Shared::new(opened(alloc, extents)?);
+    let mut givens = Vec::new(alloc);
+    for guest in 0..GUESTS {
+        if let Some(given) = Given::of(rt, alloc, &shared, guest)? {
+            givens.push(given)?;
         }
-        _ => Planned::NoMemory(job),
     }
+    Ok(givens)
 }
 
 // A simulation of so many turns; the test ends where a worker did something else than it should.
-fn simulated(
-    rt: &impl Abort,
+fn simulated<'a, R: Abort + Wait + Clock>(
+    rt: &R,
     alloc: Global,
     extents: &Extents,
+    givens: &'a [Given],
     seed: u64,
     turns: u32,
-) -> Result<Simulation, Fail> {
-    let mut simulation = Simulation::new(alloc, extents)?;
+) -> Result<Simulation<'a>, Fail> {
+    let mut simulation = Simulation::new(alloc, extents, givens)?;
     let mut chance = Chance::new(seed);
     for number in 0..turns {
         if number % (PHASE * PHASES) == 0 {
             simulation.share(&mut chance)?;
         }
-        let is_right = simulation.turn(number, &mut chance)?;
+        let is_right = simulation.turn(rt, number, &mut chance)?;
         let events = simulation.locked.world.log().len();
         assert!(rt; is_right, "turn {number} behind {events} events");
         if number % CHECKED == 0 {
@@ -667,27 +631,28 @@ fn simulated(
     Ok(simulation)
 }
 
-// Ends the test where a worker did something else than it should, or where a lane never was full or nobody was ever rung for.
-fn simulate(
-    rt: &impl Abort,
+// Ends the test where a worker did something else than it should, or where a lane never was full, nobody was ever rung for or no plan was fed.
+fn simulate<'a, R: Abort + Wait + Clock>(
+    rt: &R,
     alloc: Global,
-    extents: &Extents,
+    givens: &'a [Given],
     seed: u64,
-) -> Result<Simulation, Fail> {
-    let simulation = simulated(rt, alloc, extents, seed, TURNS)?;
+) -> Result<Simulation<'a>, Fail> {
+    let simulation = simulated(rt, alloc, &ONE, givens, seed, TURNS)?;
     let events = simulation.locked.world.log().len();
-    let (full, woken) = (simulation.full, simulation.woken);
+    let (full, woken, fed) = (simulation.full, simulation.woken, simulation.fed);
     assert!(rt;
-        full > 0 && woken > 0 && events > 10_000,
-        "{full} {woken} {events}"
+        full > 0 && woken > 0 && fed > 0 && events > 10_000,
+        "{full} {woken} {fed} {events}"
     );
     Ok(simulation)
 }
 
 #[test]
 fn workers_choose_as_at_the_start(rt: HostRuntime) -> Result<(), Fail> {
+    let givens = givens(&rt, rt.alloc(), &ONE)?;
     for seed in 1..=SIMULATIONS {
-        let simulation = simulate(&rt, rt.alloc(), &ONE, seed)?;
+        let simulation = simulate(&rt, rt.alloc(), &givens, seed)?;
         assert_eq!(rt; simulation.parted, 0);
     }
     Ok(())
@@ -734,10 +699,15 @@ impl Met {
 }
 
 // Ends the test where a worker did something else than it should, or where the simulations did not meet with all that they are for.
-fn simulate_apart(rt: &impl Abort, alloc: Global, extents: &Extents) -> Result<(), Fail> {
+fn simulate_apart<R: Abort + Wait + Clock>(
+    rt: &R,
+    alloc: Global,
+    extents: &Extents,
+) -> Result<(), Fail> {
+    let givens = givens(rt, alloc, extents)?;
     let mut met = Met::new();
     for seed in 1..=SIMULATIONS_APART {
-        met.add(&simulated(rt, alloc, extents, seed, TURNS)?);
+        met.add(&simulated(rt, alloc, extents, &givens, seed, TURNS)?);
     }
     assert!(rt; met.has_all(), "{met:?}");
     Ok(())
@@ -756,8 +726,14 @@ fn workers_choose_as_at_the_start_where_tags_are_short(rt: HostRuntime) -> Resul
 }
 
 // Guests reset their controllers, and workers get turns alone until all commands have run out: then no tag is noted as taken, and none as ended.
-fn run_out(rt: &impl Abort, alloc: Global, extents: &Extents, seed: u64) -> Result<(), Fail> {
-    let mut simulation = simulated(rt, alloc, extents, seed, PHASE * 4)?;
+fn run_out<R: Abort + Wait + Clock>(
+    rt: &R,
+    alloc: Global,
+    extents: &Extents,
+    seed: u64,
+) -> Result<(), Fail> {
+    let givens = givens(rt, alloc, extents)?;
+    let mut simulation = simulated(rt, alloc, extents, &givens, seed, PHASE * 4)?;
     for guest in 0..GUESTS {
         let reset = Act::RegWrite {
             offset: 0x14,
@@ -767,7 +743,7 @@ fn run_out(rt: &impl Abort, alloc: Global, extents: &Extents, seed: u64) -> Resu
     }
     let mut chance = Chance::new(seed);
     for number in 0..LAST_TURNS {
-        let is_right = simulation.workers_turn(&mut chance)?;
+        let is_right = simulation.workers_turn(rt, &mut chance)?;
         assert!(rt; is_right, "last turn {number}");
     }
     let notes = &simulation.locked.notes;

@@ -1,7 +1,7 @@
 //! What a planner does next, and how a turn of its ends.
 
 use crate::concern::Concern;
-use nv_plan::Job;
+use nv_plan::{Job, ReadDone};
 
 /// What a planner does next.
 #[derive(Clone, Copy, Debug)]
@@ -23,6 +23,8 @@ pub(crate) enum Task {
 pub(crate) enum Turn {
     /// A job is to be planned, outside the lock.
     Job(Job),
+    /// This was read for the command of that tag, whose plan is to be fed with it, outside the lock.
+    Read(u8, ReadDone),
     /// Something was done, which concerns these.
     Done(Concern),
     /// There was nothing to do, or no memory for it.
