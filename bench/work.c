@@ -1,7 +1,8 @@
 /* work.c: how long nvmed_work takes, of the library for C, in processor time. bench/c.sh time builds and runs it.
  *
  * First many guests with a command each on the way at once, again and again. Then one guest whose completion queue has two slots, so that of 63
- * Reads that the physical controller has carried out 62 wait until it looks. */
+ * Reads that the physical controller has carried out 62 wait until it acknowledges one. Last Reads of one guest whose list names itself, so that it
+ * is read until the limit on descriptors ends it: alone, and beside another guest that always has something to be done. */
 #include "nvmed.h"
 #include <stdio.h>
 #include <string.h>
@@ -18,14 +19,14 @@ static void enter(nvmed *m, uint32_t guest, uint64_t at, uint32_t opcode, uint32
 }
 
 /* Guests with 128 KiB and 64 blocks each, and a queue pair 1 of so many completions and of 64 submissions. */
-static int open_guests(nvmed *m, uint32_t guests, uint64_t lanes, uint32_t completions) {
+static int open_guests(nvmed *m, uint32_t guests, uint64_t lanes, uint32_t completions, uint32_t limit) {
     nvmed_sizes sizes = {0x8000000, 0x1000000, 4096, lanes};
     uint32_t limits[16];
     nvmed_region regions[16];
     nvmed_extent extents[16];
     uint64_t done;
     for (uint32_t g = 0; g < guests; g++) {
-        limits[g] = 1024;
+        limits[g] = limit;
         regions[g] = (nvmed_region){g, 0, 0x100000 + (uint64_t)IMAGE * g, IMAGE};
         extents[g] = (nvmed_extent){g, (uint64_t)BLOCKS * g, BLOCKS};
     }
@@ -42,11 +43,11 @@ static int open_guests(nvmed *m, uint32_t guests, uint64_t lanes, uint32_t compl
     return nvmed_work(m, NVMED_OF_ALL, 0, 1000000, &done) != NVMED_OK;
 }
 
-/* Each guest has a Read or a Write carried out, and looks at its completion, in so many rounds. */
+/* Each guest has a Read or a Write carried out, and acknowledges its completion, in so many rounds. */
 static int many(uint32_t guests, uint64_t lanes) {
     nvmed m = {0};
     uint64_t events = 0, done;
-    if (open_guests(&m, guests, lanes, SLOTS)) return 1;
+    if (open_guests(&m, guests, lanes, SLOTS, 1024)) return 1;
     double begun = seconds();
     for (uint32_t round = 0; round < ROUNDS; round++) {
         for (uint32_t g = 0; g < guests; g++) {
@@ -66,7 +67,7 @@ static int many(uint32_t guests, uint64_t lanes) {
 static int held(void) {
     nvmed m = {0};
     uint64_t done, none;
-    if (open_guests(&m, 1, 1, 2)) return 1;
+    if (open_guests(&m, 1, 1, 2, 1024)) return 1;
     for (uint32_t k = 0; k < SLOTS - 1; k++) enter(&m, 0, 0x13000 + 64 * k, 2 | k << 16, 1, 0x4000, 5, 0);
     nvmed_doorbell(&m, 0, 0x1008, SLOTS - 1);
     double begun = seconds();
@@ -79,4 +80,43 @@ static int held(void) {
     return 0;
 }
 
-int main(void) { return many(1, 1) || many(16, 1) || many(16, 8) || held(); }
+/* Guest 0 has a Read whose list is one Segment that names itself, and so is each of the others. */
+static void loop(nvmed *m, uint32_t round) {
+    uint32_t segment[4] = {0x8000, 0, 16, 0x20000000};
+    uint32_t dwords[16] = {2 | 1 << 14 | round << 16, 1, 0, 0, 0, 0, 0x8000, 0, 16, 0x20000000, 5, 0};
+    nvmed_store(m, 0, 0x8000, segment, sizeof segment);
+    nvmed_store(m, 0, 0x13000 + 64 * (round % SLOTS), dwords, sizeof dwords);
+    nvmed_doorbell(m, 0, 0x1008, (round + 1) % SLOTS);
+}
+
+/* Such Reads, and as many Writes of the other guests as they have room for while one is under way. */
+static int looped(uint32_t limit, uint32_t guests) {
+    enum { READS = 20 };
+    nvmed m = {0};
+    uint64_t events = 0, done;
+    double longest = 0, least = 1e9, whole = 0;
+    if (open_guests(&m, guests, 1, SLOTS, limit)) return 1;
+    for (uint32_t round = 0; round < READS; round++) {
+        loop(&m, round);
+        for (uint32_t g = 1; g < guests; g++) {
+            for (uint32_t k = 0; k < 40; k++) enter(&m, g, 0x13000 + 64 * ((40 * round + k) % SLOTS), 1 | k << 16, 1, 0x4000, 5, 0);
+            nvmed_doorbell(&m, g, 0x1008, 40 * (round + 1) % SLOTS);
+        }
+        double begun = seconds();
+        nvmed_work(&m, NVMED_OF_ALL, 0, 1000000, &done);
+        double took = seconds() - begun;
+        events += done;
+        whole += took;
+        if (took > longest) longest = took;
+        if (took < least) least = took;
+        for (uint32_t g = 0; g < guests; g++) nvmed_doorbell(&m, g, 0x100c, (g ? 40 : 1) * (round + 1) % SLOTS);
+    }
+    printf("a list that names itself, limit %u, %u guests: %.3f milliseconds, %llu events (least %.3f, most %.3f)\n", limit, guests, whole * 1e3 / READS,
+           (unsigned long long)(events / READS), least * 1e3, longest * 1e3);
+    nvmed_free(&m);
+    return 0;
+}
+
+int main(void) {
+    return many(1, 1) || many(16, 1) || many(16, 8) || held() || looped(1024, 1) || looped(4096, 1) || looped(1024, 2) || looped(4096, 2);
+}

@@ -3,3 +3,5 @@ pub mod Tables
 pub mod Views
 pub mod Rests
 pub mod Works
+pub mod ListJobs
+pub mod Readings

@@ -147,6 +147,8 @@ pub choice_guest : (h : Hosted) (number : ℕ) (c : Choice) → number < 16
     → IsChoice (scope.Guest number) h (Rests (scope.Guest number) h) c → IsChoice scope.All h (PartyRests h number) c
 choice_guest h number (choice.Make e) below is = record { own = tt; next = is.next }
 choice_guest h number (choice.Submit plan) below is = (is.0, record { own = tt; next = is.1.next })
+choice_guest h number (choice.Read job) below is = (is.0, record { waits = is.1.waits; own = tt })
+choice_guest h number (choice.GiveUp lane tag) below is = record { own = tt; waits = is.waits }
 choice_guest h number choice.Nothing below is = record { guest = λ less. is; lane = λ beyond. absurd (omega (arith, below, beyond)) }
 choice_guest h number choice.Starved below is = λ rests. is (λ e work. rests e (record { own = tt; next = work.next }))
 
@@ -154,6 +156,8 @@ pub choice_lane : (h : Hosted) (number lane : ℕ) (c : Choice) → 16 ≤ numbe
     → IsChoice (scope.Lane lane) h (Rests (scope.Lane lane) h) c → IsChoice scope.All h (PartyRests h number) c
 choice_lane h number lane (choice.Make e) beyond same is = record { own = tt; next = is.next }
 choice_lane h number lane (choice.Submit plan) beyond same is = (is.0, record { own = tt; next = is.1.next })
+choice_lane h number lane (choice.Read job) beyond same is = (is.0, record { waits = is.1.waits; own = tt })
+choice_lane h number lane (choice.GiveUp at tag) beyond same is = record { own = tt; waits = is.waits }
 choice_lane h number lane choice.Nothing beyond same is =
     record { guest = λ below. absurd (omega (arith, below, beyond)); lane = λ more. subst (λ (n : ℕ). Rests (scope.Lane n) h) same is }
 choice_lane h number lane choice.Starved beyond same is = λ rests. is (λ e work. rests e (record { own = tt; next = work.next }))
@@ -162,6 +166,8 @@ choice_lane h number lane choice.Starved beyond same is = λ rests. is (λ e wor
 pub choice_more : (s : Scope) (h : Hosted) (nothing more : Type 0) (c : Choice) → (nothing → more) → IsChoice s h nothing c → IsChoice s h more c
 choice_more s h nothing more (choice.Make e) so is = is
 choice_more s h nothing more (choice.Submit plan) so is = is
+choice_more s h nothing more (choice.Read job) so is = is
+choice_more s h nothing more (choice.GiveUp lane tag) so is = is
 choice_more s h nothing more choice.Nothing so is = so is
 choice_more s h nothing more choice.Starved so is = is
 
@@ -200,7 +206,7 @@ module _ (h : Hosted) (guest : ℕ) where
         (ap (λ (n : ℕ). due h.geometry (event.Take n queue lane) w) (some-same g guest own) ∙ takes-not queue lane)
     guest_event (event.List lane tag addr len) own next = waits-not lane tag next.0 own next.2.taken
     guest_event (event.Submit lane tag) own next = waits-not lane tag next.0 own next.3.taken
-    guest_event (event.GiveUp lane tag) own next = (let some = some-job (job_of w lane tag) next in waits-not lane tag some.0 own some.1)
+    guest_event (event.GiveUp lane tag) own next = next
     guest_event (event.DevTake lane) own next = none-some guest own
     guest_event (event.DevMove lane slot number) own next = none-some guest own
     guest_event (event.DevPost lane slot) own next = none-some guest own
@@ -294,10 +300,7 @@ module _ (h : Hosted) (is : IsConsistent h.geometry (hosted_world h)) (few_guest
   all_event (event.List n tag addr len) next =
       of_job (event.List n tag addr len) n tag next.0 next.1 next.2.taken next.2.whose next refl
   all_event (event.Submit n tag) next = of_job (event.Submit n tag) n tag next.0 next.1 next.3.taken next.3.whose next refl
-  all_event (event.GiveUp n tag) next =
-      let some = some-job (job_of all n tag) next in
-      let given = given-there h.geometry all is n tag some.0 some.1 in
-      of_job (event.GiveUp n tag) n tag some.0 given.0 some.1 given.1 next refl
+  all_event (event.GiveUp n tag) next = next
   all_event (event.DevTake n) next = elim (cases_lt n 8) [
     | inl below ↦ of_lane n below (event.DevTake n) (record { own = refl; next = next })
     | inr beyond ↦ true-false (due h.geometry (event.DevTake n) all) next (dev_take-no_lane h.geometry all n (past-device n beyond))

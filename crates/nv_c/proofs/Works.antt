@@ -1,9 +1,11 @@
 -- Events that work makes in a row, and what is left of a world where nothing of a scope comes next.
-use Rattle.std.proofs.Common.{◌≡◌, refl, sym, subst, ap, ◌∙◌, ℕ, ◌+◌, ◌<◌, Bool, true, false, ◌&&◌, cond, arith}
-use Rattle.std.proofs.Common.{List, [], ◌∷◌, ◌++◌, length-append, slice_get, Option, Some, None}
+use Rattle.std.proofs.Common.{◌≡◌, refl, sym, subst, ap, ◌∙◌, ℕ, zero, suc, ◌+◌, ◌-◌, ◌<◌, ◌≤◌, Bool, true, false, ◌&&◌, cond, arith}
+use Rattle.std.proofs.Common.{List, [], ◌∷◌, ◌++◌, length, length-append, slice_get, Option, Some, None}
 use Rattle.std.proofs.lemmas.Option.{none-some}
-use Rattle.nv_c.specs.Work.{AreMade, IsWork, IsWorked, Leads, Rests}
+use Rattle.nv_c.specs.Work.{AreMade, HasEnough, IsStarved, IsTurn, IsWork, Leads, LeadsUp, MayGiveUp, Rests, turn_with}
 use Rattle.nv_c.specs.declared.working.Scope.{Scope}
+use Rattle.nv_c.specs.declared.working.Turn.{Turn}
+use Rattle.nv_c.specs.declared.working.Turn.TheVariants as turn
 use Rattle.nv_mediator.specs.Hosted.{Hosted, IsMade}
 use Rattle.nv_model.specs.Controller.{front}
 use Rattle.nv_model.specs.declared.reply.Reply.{Reply}
@@ -44,6 +46,15 @@ leads_more s m n a b c first then =
       counted = length-append first.events then.events ∙ (let one = first.counted in let two = then.counted in omega (arith, one, two));
     }
 
+-- none lead nowhere
+leads_zero : (s : Scope) (a b : Hosted) → Leads s 0 a b → b ≡ a
+unfolding AreMade
+leads_zero s a b leads = nowhere leads.events leads.made leads.counted
+  where
+    nowhere : (es : List Event) → AreMade s es a b → length es ≡ 0 → b ≡ a
+    nowhere [] made none = made
+    nowhere (e ∷ es) made none = absurd (omega (arith, none))
+
 picked : Bool → Option ℕ
 picked true = Some 0
 picked false = None
@@ -56,36 +67,66 @@ true-false b is isnt = none-some 0 (ap picked (sym isnt ∙ is))
 
 -- nothing was left
 pub worked_idle : (s : Scope) (most done : ℕ) (a b c : Hosted) → Leads s done a b → done < most → c ≡ b → Rests s b
-    → IsWorked s most (record { done = done; starved = false }) a c
+    → HasEnough s most done a c
 worked_idle s most done a b c leads below same rests =
     record {
       leads = subst (λ (x : Hosted). Leads s done a x) (sym same) leads;
       few = omega (arith, below);
-      rests = λ fed less. subst (λ (x : Hosted). Rests s x) (sym same) rests;
-      starved = λ is. absurd (true-false false is refl);
+      rests = λ less. subst (λ (x : Hosted). Rests s x) (sym same) rests;
     }
 
 -- there was no memory for what was
 pub worked_starved : (s : Scope) (most done : ℕ) (a b c : Hosted) → Leads s done a b → done < most → c ≡ b → (Rests s b → ⊥)
-    → IsWorked s most (record { done = done; starved = true }) a c
+    → IsStarved s most done a c
 worked_starved s most done a b c leads below same some =
     record {
       leads = subst (λ (x : Hosted). Leads s done a x) (sym same) leads;
-      few = omega (arith, below);
-      rests = λ fed less. absurd (true-false true refl fed);
-      starved = λ is. (below, λ rests. some (subst (λ (x : Hosted). Rests s x) same rests));
+      few = below;
+      some = λ rests. some (subst (λ (x : Hosted). Rests s x) same rests);
     }
 
 -- as many were made as were asked for
-pub worked_all : (s : Scope) (most done : ℕ) (a b : Hosted) → Leads s done a b → done ≡ most
-    → IsWorked s most (record { done = most; starved = false }) a b
-worked_all s most done a b leads same =
+pub worked_all : (s : Scope) (most done : ℕ) (a b : Hosted) → Leads s done a b → done ≤ most → most ≤ done
+    → HasEnough s most done a b
+worked_all s most done a b leads few all =
+    record { leads = leads; few = few; rests = λ less. absurd (omega (arith, less, all)) }
+
+-- a command was given up after some
+pub leads_up : (s : Scope) (m n : ℕ) (a b c : Hosted) → Leads s m a b → LeadsUp s n b c → LeadsUp s (m + n) a c
+leads_up s m n a b c first up =
     record {
-      leads = subst (λ (n : ℕ). Leads s n a b) same leads;
-      few = omega arith;
-      rests = λ fed less. absurd (omega (arith, less));
-      starved = λ is. absurd (true-false false is refl);
+      less = m + up.less;
+      before = up.before;
+      leads = leads_more s m up.less a b up.before first up.leads;
+      counted = (let one = up.counted in omega (arith, one));
+      lane = up.lane;
+      tag = up.tag;
+      own = up.own;
+      waits = up.waits;
+      reply = up.reply;
+      made = up.made;
     }
+
+pub leads_give : (s : Scope) (lane tag : ℕ) (a b : Hosted) (r : Reply) → MayGiveUp s a lane tag → IsMade (event.GiveUp lane tag) a r b → LeadsUp s 1 a b
+leads_give s lane tag a b r may made =
+    record { less = 0; before = a; leads = leads_none s a a refl; counted = refl; lane = lane; tag = tag; own = may.own; waits = may.waits; reply = r; made = made }
+
+-- a turn after some events
+pub turn_after : (done : ℕ) (t : Turn) (s : Scope) (most : ℕ) (a b c : Hosted) → Leads s done a b → done < most → IsTurn s (most - done) b t c
+    → IsTurn s most a (turn_with done t) c
+turn_after done (turn.Served count) s most a b c first below made =
+    (leads_more s done count a b c first made.0, (let some = made.1 in omega (arith, some)), (let few = made.2 in omega (arith, few, below)))
+turn_after done (turn.GaveUp count) s most a b c first below made = (leads_up s done count a b c first made.0, (let few = made.1 in omega (arith, few, below)))
+turn_after zero turn.Idle s most a b c first below made =
+    let same = leads_zero s a b first in
+    (made.0 ∙ same, subst (λ (x : Hosted). Rests s x) same made.1)
+turn_after (suc n) turn.Idle s most a b c first below made =
+    (subst (λ (x : Hosted). Leads s (suc n) a x) (sym made.0) first, omega arith, omega (arith, below))
+turn_after zero turn.Starved s most a b c first below made =
+    let same = leads_zero s a b first in
+    (made.0 ∙ same, λ rests. made.1 (subst (λ (x : Hosted). Rests s x) (sym same) rests))
+turn_after (suc n) turn.Starved s most a b c first below made =
+    (subst (λ (x : Hosted). Leads s (suc n) a x) (sym made.0) first, omega arith, omega (arith, below))
 
 -- ---- what is due nowhere
 

@@ -8,8 +8,10 @@ use Rattle.nv_core.specs.Shown.{IsBlock, mark_shown}
 use Rattle.nv_c.specs.declared.event.Event as c
 use Rattle.nv_c.specs.Names.{Names}
 use Rattle.nv_c.specs.Promise.{IsPromised}
-use Rattle.nv_c.specs.Work.{IsWorked}
+use Rattle.nv_c.specs.Work.{IsWorkedFor}
 use Rattle.nv_c.specs.declared.working.Scope.{Scope}
+use Rattle.nv_c.specs.declared.working.Why.{Why}
+use Rattle.nv_c.specs.declared.working.Why.TheVariants as why
 use Rattle.nv_mediator.specs.Hosted.{Hosted, IsAtStart, IsMade, hosted_world, may_want}
 use Rattle.nv_mediator.specs.Refused.{refused}
 use Rattle.nv_mediator.specs.declared.refusal.Refusal.{Refusal}
@@ -98,10 +100,16 @@ IsRead e after old status new = (r : Reply) × (status ≡ status_of r) × IsMad
 abbrev pub IsNamedStep : c.Event → (old : Hosted) → (status : ℕ) → (new : Hosted) → Type 0
 IsNamedStep named old status new = (e : Event) × Names named e × IsStepped e old status new
 
--- what is due of a scope was carried out, and so many events were told; the answer tells whether there was memory
+-- what a call that carries out what is due returns, by why it ended
+abbrev pub status_of_end : Why → ℕ
+status_of_end why.Enough = 0
+status_of_end why.Starved = no_memory
+status_of_end why.GaveUp = no_memory
+
+-- what is due of a scope was carried out, so many events; the answer says whether there was memory
 abbrev pub IsWorkTold : Scope → (most done : ℕ) → (old : Hosted) → (status : ℕ) → (new : Hosted) → Type 0
 IsWorkTold s most done old status new =
-    (starved : Bool) × (status ≡ (if starved then no_memory else 0)) × IsWorked s most (record { done = done; starved = starved }) old new
+    (end : Why) × (status ≡ status_of_end end) × IsWorkedFor s most done end old new
 
 -- the bytes of a load stand in the room; or none were loaded, and the room is as it was. Nothing else changes
 abbrev pub IsLoaded : Event → (before after : List ℕ) → (old : Hosted) → (status : ℕ) → (new : Hosted) → Type 0

@@ -1,5 +1,8 @@
 -- What `nvmed_work` does: what is due of a scope, event by event, until nothing is or as many were made as were asked for (profile).
-use Rattle.std.specs.Prelude.{◌≡◌, ◌-◌, ◌<◌, ◌≤◌, ◌==◌, ℕ, ⊤, true, false, if◌then◌else◌, List, [], ◌∷◌, length, nat_lt, slice_get, IsSome, Option, Some, None, option_map}
+use Rattle.std.specs.Prelude.{◌≡◌, ◌+◌, ◌-◌, ◌^◌, ◌<◌, ◌≤◌, ◌==◌, ℕ, zero, suc, ⊤, true, false, if◌then◌else◌, List, [], ◌∷◌, length, nat_lt, slice_get, IsSome, Option, Some, None, option_map}
+use Rattle.nv_c.specs.declared.reading.Given.{Given}
+use Rattle.nv_c.specs.declared.reading.Stride.{Stride}
+use Rattle.nv_c.specs.declared.reading.Stride.TheVariants as stride
 use Rattle.nv_c.specs.declared.working.Choice.{Choice}
 use Rattle.nv_c.specs.declared.working.Choice.TheVariants as choice
 use Rattle.nv_c.specs.declared.working.Ended.{Ended}
@@ -7,11 +10,14 @@ use Rattle.nv_c.specs.declared.working.Scope.{Scope}
 use Rattle.nv_c.specs.declared.working.Scope.TheVariants as scope
 use Rattle.nv_c.specs.declared.working.Turn.{Turn}
 use Rattle.nv_c.specs.declared.working.Turn.TheVariants as turn
+use Rattle.nv_c.specs.declared.working.Why.{Why}
+use Rattle.nv_c.specs.declared.working.Why.TheVariants as why
 use Rattle.nv_core.specs.Jobs.{holder_of, job_of}
-use Rattle.nv_core.specs.Submit.{IsCurrent}
+use Rattle.nv_core.specs.Submit.{IsCurrent, IsLimit}
 use Rattle.nv_mediator.specs.Hosted.{Hosted, IsMade, hosted_world}
 use Rattle.nv_model.specs.Transcript.{Settled, Wanted}
 use Rattle.nv_model.specs.declared.reply.Reply.{Reply}
+use Rattle.nv_plan.specs.Fed.{UnderWay}
 use Rattle.nv_plan.specs.Made.{outcome_of}
 use Rattle.nv_plan.specs.declared.job.Job.{Job}
 use Rattle.nv_world_model.specs.Due.{due}
@@ -62,14 +68,14 @@ pub record Waits (h : Hosted) (lane tag : ℕ) (job : Job) (given : Guest) : Typ
   pub taken : job_of (hosted_world h) lane tag ≡ Some job
   pub whose : slice_get h.geometry.guests job.guest ≡ Some given
 
--- an event is due; or it is what a command wants that waits for its plan: bytes of its list, to be handed on, or, where there is no memory for
--- the plan, to be given up. No act of a guest's is, no failure of the physical controller, and no block that it keeps of its own accord
+-- an event is due; or it is what a command wants that waits for its plan: bytes of its list, or to be handed on. No act of a guest's is, no
+-- failure of the physical controller, no block that it keeps of its own accord, and no command that is given up
 abbrev pub IsNext : Hosted → Event → Type 0
 IsNext h (event.List lane tag addr len) =
     (job : Job) × (given : Guest) × Waits h lane tag job given × (outcome_of given job ≡ Wanted addr len)
 IsNext h (event.Submit lane tag) =
     (job : Job) × (given : Guest) × (plan : Plan) × Waits h lane tag job given × (outcome_of given job ≡ Settled plan)
-IsNext h (event.GiveUp lane tag) = IsSome (job_of (hosted_world h) lane tag)
+IsNext h (event.GiveUp lane tag) = ⊥
 IsNext h e = due h.geometry e (hosted_world h) ≡ true
 
 -- it is, and of that scope
@@ -94,26 +100,106 @@ pub record Leads (s : Scope) (count : ℕ) (old new : Hosted) : Type 0 where
   pub made : AreMade s events old new
   pub counted : length events ≡ count
 
--- as many events as were asked for, or fewer: then nothing is left to be done, or there was no memory for what is
-pub record IsWorked (s : Scope) (most : ℕ) (ended : Ended) (old new : Hosted) : Type 0 where
-  pub leads : Leads s ended.done old new
-  pub few : ended.done ≤ most
-  pub rests : ended.starved ≡ false → ended.done < most → Rests s new
-  pub starved : ended.starved ≡ true → (ended.done < most) × (Rests s new → ⊥)
+-- so many do, of which the last gives a command of the scope up that waits for its plan
+pub record LeadsUp (s : Scope) (count : ℕ) (old new : Hosted) : Type 0 where
+  pub less : ℕ
+  pub before : Hosted
+  pub leads : Leads s less old before
+  pub counted : count ≡ less + 1
+  pub lane : ℕ
+  pub tag : ℕ
+  pub own : IsIn s (hosted_world before) (event.GiveUp lane tag)
+  pub waits : IsSome (job_of (hosted_world before) lane tag)
+  pub reply : Reply
+  pub made : IsMade (event.GiveUp lane tag) before reply new
+
+-- as many events as were asked for, or fewer, and then nothing is left to be done
+pub record HasEnough (s : Scope) (most done : ℕ) (old new : Hosted) : Type 0 where
+  pub leads : Leads s done old new
+  pub few : done ≤ most
+  pub rests : done < most → Rests s new
+
+-- there was no memory for what is left
+pub record IsStarved (s : Scope) (most done : ℕ) (old new : Hosted) : Type 0 where
+  pub leads : Leads s done old new
+  pub few : done < most
+  pub some : Rests s new → ⊥
+
+-- there was no memory for the plan of a command, which was given up
+pub record HasGivenUp (s : Scope) (most done : ℕ) (old new : Hosted) : Type 0 where
+  pub leads : LeadsUp s done old new
+  pub few : done ≤ most
+
+abbrev pub IsWorkedFor : Scope → (most done : ℕ) → Why → (old new : Hosted) → Type 0
+IsWorkedFor s most done why.Enough old new = HasEnough s most done old new
+IsWorkedFor s most done why.Starved old new = IsStarved s most done old new
+IsWorkedFor s most done why.GaveUp old new = HasGivenUp s most done old new
+
+abbrev pub IsWorked : Scope → (most : ℕ) → Ended → (old new : Hosted) → Type 0
+IsWorked s most ended old new = IsWorkedFor s most ended.done ended.why old new
 
 -- ---- what the calls below need
 
--- one event was made; or none, since nothing was left or there was no memory
-abbrev pub IsTurn : Scope → (old : Hosted) → Turn → (new : Hosted) → Type 0
-IsTurn s old turn.Served new = Leads s 1 old new
-IsTurn s old turn.Idle new = (new ≡ old) × Rests s old
-IsTurn s old turn.Starved new = (new ≡ old) × (Rests s old → ⊥)
+-- so many events were made, at least one; or none, since nothing was left or there was no memory; or some, of which the last gave a command up
+abbrev pub IsTurn : Scope → (most : ℕ) → (old : Hosted) → Turn → (new : Hosted) → Type 0
+IsTurn s most old (turn.Served count) new = Leads s count old new × (0 < count) × (count ≤ most)
+IsTurn s most old (turn.GaveUp count) new = LeadsUp s count old new × (count ≤ most)
+IsTurn s most old turn.Idle new = (new ≡ old) × Rests s old
+IsTurn s most old turn.Starved new = (new ≡ old) × (Rests s old → ⊥)
 
--- what was chosen comes next; or nothing was found, which says that much; or there was no memory to tell
+-- a turn after so many events: where it came to nothing, these are the turn
+abbrev pub turn_with : (done : ℕ) → Turn → Turn
+turn_with done (turn.Served count) = turn.Served (done + count)
+turn_with done (turn.GaveUp count) = turn.GaveUp (done + count)
+turn_with zero turn.Idle = turn.Idle
+turn_with (suc n) turn.Idle = turn.Served (suc n)
+turn_with zero turn.Starved = turn.Starved
+turn_with (suc n) turn.Starved = turn.Served (suc n)
+
+-- a command of that scope waits for its plan, and its guest was given this
+pub record IsWaiting (s : Scope) (h : Hosted) (job : Job) (given : Guest) : Type 0 where
+  pub waits : Waits h job.lane job.tag job given
+  pub own : IsIn s (hosted_world h) (event.GiveUp job.lane job.tag)
+
+-- a plan under way is that of such a command
+abbrev pub IsReading : Scope → Hosted → UnderWay → Type 0
+IsReading s h p = IsWaiting s h p.job p.given
+
+-- a copy of what a guest was given, with a limit that may be
+pub record IsGiven (h : Hosted) (guest : ℕ) (copy : Given) : Type 0 where
+  pub is : slice_get h.geometry.guests guest ≡ Some (record { memory_map = copy.map; namespace = copy.ns; limit = copy.limit })
+  pub limit : IsLimit copy.limit
+
+-- a turn that comes after so many events counts on within 64 bits
+abbrev pub IsWithin : (done : ℕ) → Turn → Type 0
+IsWithin done (turn.Served count) = done + count < 2 ^ 64
+IsWithin done (turn.GaveUp count) = done + count < 2 ^ 64
+IsWithin done turn.Idle = ⊤
+IsWithin done turn.Starved = ⊤
+
+-- a command of that scope may be given up
+pub record MayGiveUp (s : Scope) (h : Hosted) (lane tag : ℕ) : Type 0 where
+  pub own : IsIn s (hosted_world h) (event.GiveUp lane tag)
+  pub waits : IsSome (job_of (hosted_world h) lane tag)
+
+-- one more read was made for a plan under way, which has it; or its plan can be made, or there was no memory, and nothing has changed; or one
+-- event was made that the plan has not got
+abbrev pub IsStride : Scope → (old : Hosted) → (before : UnderWay) → Stride → (new : Hosted) → (after : UnderWay) → Type 0
+IsStride s old before stride.Read new after = Leads s 1 old new × IsReading s new after
+IsStride s old before stride.Planned new after =
+    (new ≡ old) × (after ≡ before) × ((plan : Plan) × (outcome_of before.given before.job ≡ Settled plan))
+IsStride s old before stride.Starved new after = (new ≡ old) × (after ≡ before)
+IsStride s old before stride.Full new after = (new ≡ old) × (Rests s old → ⊥)
+IsStride s old before stride.Lost new after = Leads s 1 old new
+
+-- what was chosen comes next: an event, a plan, bytes of a command's lists, or a command that is given up; or nothing was found, which says that
+-- much; or there was no memory to see
 abbrev pub IsChoice : Scope → Hosted → (nothing : Type 0) → Choice → Type 0
 IsChoice s h nothing (choice.Make e) = IsWork s h e
 IsChoice s h nothing (choice.Submit plan) =
     IsCurrent h.geometry (hosted_world h) plan × IsWork s h (event.Submit plan.job.lane plan.job.tag)
+IsChoice s h nothing (choice.Read job) = (given : Guest) × IsWaiting s h job given
+IsChoice s h nothing (choice.GiveUp lane tag) = MayGiveUp s h lane tag
 IsChoice s h nothing choice.Nothing = nothing
 IsChoice s h nothing choice.Starved = Rests s h → ⊥
 

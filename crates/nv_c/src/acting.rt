@@ -5,7 +5,7 @@ ghost use Rattle.nv_c.specs.Calls.{IsDone, IsError, IsLoaded, IsRead, IsStepped,
 
 use crate::handle::Nvmed;
 use crate::status;
-use crate::working::{self, Scope};
+use crate::working::{self, Scope, Why};
 use nv_mediator::Mediator;
 use nv_model::{Act, Reply};
 use nv_world_model::Event;
@@ -157,9 +157,8 @@ pub(crate) fn work(
     let ended = working::work(alloc, &mut hosted, scope, most);
     handle.put(alloc, hosted);
     *done = ended.done;
-    if ended.starved {
-        status::NO_MEMORY
-    } else {
-        status::OK
+    match ended.why {
+        Why::Enough => status::OK,
+        Why::Starved | Why::GaveUp => status::NO_MEMORY,
     }
 }

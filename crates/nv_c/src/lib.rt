@@ -16,6 +16,7 @@ ghost use Rattle.nv_c.specs.Work.{scope_numbered};
 mod acting;
 mod event;
 mod handle;
+mod reading;
 mod setup;
 mod showing;
 mod status;

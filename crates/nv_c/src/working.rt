@@ -8,8 +8,9 @@ ghost use Rattle.nv_mediator.specs.Hosted.{hosted_world};
 ghost use Rattle.nv_world_model.specs.Due.{due};
 
 use crate::event::byte;
+use crate::reading::{give_up, read_lists};
 use nv_mediator::{Holder, Mediator};
-use nv_plan::{Plan, Planned, make_plan};
+use nv_plan::{Job, Plan, Planned, make_plan};
 use nv_world_model::Event;
 use std::alloc::Global;
 
@@ -50,6 +51,12 @@ impl Scope {
     }
 }
 
+/// How many guests and lanes there may be, in a row.
+const PARTIES: u8 = GUESTS + LANES;
+
+/// How many events a guest gets in a row, at most, while another guest or a lane has something, too.
+pub(crate) const TURN: u64 = 64;
+
 /// What is to be done next.
 #[derive(Drop)]
 pub(crate) enum Choice {
@@ -57,28 +64,36 @@ pub(crate) enum Choice {
     Make(Event),
     /// this plan is carried out
     Submit(Plan),
+    /// bytes of the lists of this job's command are read
+    Read(Job),
+    /// the command of this lane and tag is given up: there was no memory for its plan
+    GiveUp(u8, u8),
     /// nothing is due
     Nothing,
-    /// there was no memory to tell
+    /// there was no memory to see what is
     Starved,
 }
 
 /// What was done.
 #[derive(Clone, Copy)]
 pub(crate) enum Turn {
-    /// one event
-    Served,
+    /// so many events, at least one
+    Served(u64),
+    /// so many events, of which the last gave a command up, since there was no memory for its plan
+    GaveUp(u64),
     /// nothing was due
     Idle,
     /// there was no memory for what is
     Starved,
 }
 
-// Where something was due last: it is looked there first. What is done does not depend on it, but for the order.
+// Where something was due last, where the next search begins. What is done does not depend on it, but for the order.
 #[derive(Clone, Copy)]
-struct Last {
+pub(crate) struct Last {
     // the number of the one who was served, in a row of the guests and then the lanes
     party: u8,
+    // how many events it got in a row
+    events: u64,
     // a slot of the physical controller
     slot: u8,
     // the unit that comes next there
@@ -90,10 +105,48 @@ impl Last {
     fn new() -> Self {
         Last {
             party: 0,
+            events: 0,
             slot: 0,
             unit: 0,
         }
     }
+
+    // Notes whom the search begins with: after a guest's whole turn the next one. What a lane has to do ends by itself.
+    fn go_round(&mut self) {
+        if self.party < GUESTS && self.events >= TURN {
+            self.party = self.party.wrapping_add(1) % PARTIES;
+            self.events = 0;
+        }
+    }
+
+    // Notes who is served.
+    fn found(&mut self, party: u8) {
+        if self.party != party {
+            self.party = party;
+            self.events = 0;
+        }
+    }
+
+    // Notes so many events more.
+    fn served(&mut self, events: u64) {
+        self.events = self.events.saturating_add(events);
+    }
+
+    /// How many events are left of the turn.
+    pub(crate) fn left(&self) -> u64 {
+        TURN.saturating_sub(self.events)
+    }
+}
+
+/// Why a call ended.
+#[derive(Clone, Copy)]
+pub(crate) enum Why {
+    /// as many events were made as were asked for, or nothing is left
+    Enough,
+    /// there was no memory for what is left
+    Starved,
+    /// there was no memory for the plan of a command, which was given up
+    GaveUp,
 }
 
 /// How a call went.
@@ -101,8 +154,8 @@ impl Last {
 pub(crate) struct Ended {
     /// how many events were made
     pub(crate) done: u64,
-    /// whether there was no memory for another
-    pub(crate) starved: bool,
+    /// why there were no more
+    pub(crate) why: Why,
 }
 
 /// Carries out what is due of a scope, `most` events at most.
@@ -110,62 +163,98 @@ pub(crate) fn work(alloc: Global, mediator: &mut Mediator, scope: Scope, most: u
     ensures { IsWorked scope most result mediator.old mediator.new }
 {
     let mut last = Last::new();
-    for done in 0..most {
-        match serve(alloc, mediator, scope, &mut last) {
-            Turn::Served => {}
+    let mut done: u64 = 0;
+    while done < most {
+        match serve(alloc, mediator, scope, &mut last, most - done) {
+            Turn::Served(count) => {
+                last.served(count);
+                done += count;
+            }
+            Turn::GaveUp(count) => {
+                return Ended {
+                    done: done + count,
+                    why: Why::GaveUp,
+                };
+            }
             Turn::Idle => {
                 return Ended {
                     done,
-                    starved: false,
+                    why: Why::Enough,
                 };
             }
             Turn::Starved => {
                 return Ended {
                     done,
-                    starved: true,
+                    why: Why::Starved,
                 };
             }
         }
     }
     Ended {
-        done: most,
-        starved: false,
+        done,
+        why: Why::Enough,
     }
 }
 
-// Makes the event of a scope that comes next.
-fn serve(alloc: Global, mediator: &mut Mediator, scope: Scope, last: &mut Last) -> Turn
-    ensures { IsTurn scope mediator.old result mediator.new }
+// Makes the events of a scope that come next, `most` at most.
+fn serve(alloc: Global, mediator: &mut Mediator, scope: Scope, last: &mut Last, most: u64) -> Turn
+    requires { 0 < most }
+    ensures { IsTurn scope most mediator.old result mediator.new }
 {
     match next_of(alloc, mediator, scope, last) {
-        Choice::Make(event) => make(alloc, mediator, scope, &event),
-        Choice::Submit(plan) => submit(mediator, scope, plan),
+        Choice::Make(event) => make(alloc, mediator, scope, &event, most),
+        Choice::Submit(plan) => submit(mediator, scope, plan, most),
+        Choice::Read(job) => read_lists(alloc, mediator, scope, last, job, most),
+        Choice::GiveUp(lane, tag) => give_up(alloc, mediator, scope, lane, tag, most),
         Choice::Nothing => Turn::Idle,
         Choice::Starved => Turn::Starved,
     }
 }
 
 // Makes an event.
-fn make(alloc: Global, mediator: &mut Mediator, _scope: Scope, event: &Event) -> Turn
-    requires { IsWork _scope mediator.old event.now }
-    ensures { IsTurn _scope mediator.old result mediator.new }
+fn make(alloc: Global, mediator: &mut Mediator, _scope: Scope, event: &Event, _most: u64) -> Turn
+    requires some { 0 < _most }
+    requires work { IsWork _scope mediator.old event.now }
+    ensures { IsTurn _scope _most mediator.old result mediator.new }
 {
     match mediator.step(alloc, event) {
-        Ok(_reply) => Turn::Served,
+        Ok(_reply) => Turn::Served(1),
         Err(_) => Turn::Starved,
     }
 }
 
-// Carries out a plan that was made of what stands.
-fn submit(mediator: &mut Mediator, _scope: Scope, plan: Plan) -> Turn
+// Carries out a plan that was made of the world as it is.
+pub(crate) fn submit(mediator: &mut Mediator, _scope: Scope, plan: Plan, _most: u64) -> Turn
+    requires some { 0 < _most }
     requires current { IsCurrent mediator.old.geometry (hosted_world mediator.old) plan }
     requires work { IsWork _scope mediator.old (Event.Submit plan.job.lane plan.job.tag) }
-    ensures { IsTurn _scope mediator.old result mediator.new }
+    ensures { IsTurn _scope _most mediator.old result mediator.new }
 {
     let Some(_reply) = mediator.submit_plan(plan) else {
         unreachable!()
     };
-    Turn::Served
+    Turn::Served(1)
+}
+
+/// Whether another than the one who is served has something, or there was no memory to see.
+pub(crate) fn is_another_waiting(
+    alloc: Global,
+    mediator: &Mediator,
+    scope: Scope,
+    last: &Last,
+) -> bool {
+    let Scope::All = scope else {
+        return false;
+    };
+    let mut search = *last;
+    let party = last.party;
+    let next = party.saturating_add(1);
+    let after = next_among(alloc, mediator, next, PARTIES, &mut search);
+    !matches!(after, Choice::Nothing)
+        || !matches!(
+            next_among(alloc, mediator, 0, party, &mut search),
+            Choice::Nothing
+        )
 }
 
 // What comes next of a scope.
@@ -179,13 +268,14 @@ fn next_of(alloc: Global, mediator: &Mediator, scope: Scope, last: &mut Last) ->
     }
 }
 
-// What comes next of the one who was served last, or else of the next who has something.
+// What comes next of the one who was served last, where its turn is not over, or else of the next who has something.
 fn next_of_all(alloc: Global, mediator: &Mediator, last: &mut Last) -> Choice
     ensures { IsChoice Scope.All mediator.now (Rests Scope.All mediator.now) result }
 {
     mediator.promise();
+    last.go_round();
     let first = last.party;
-    match next_among(alloc, mediator, first, GUESTS + LANES, last) {
+    match next_among(alloc, mediator, first, PARTIES, last) {
         Choice::Nothing => next_among(alloc, mediator, 0, first, last),
         choice => choice,
     }
@@ -199,7 +289,7 @@ fn next_among(alloc: Global, mediator: &Mediator, from: u8, to: u8, last: &mut L
         match next_of_one(alloc, mediator, number, last) {
             Choice::Nothing => {}
             choice => {
-                last.party = number;
+                last.found(number);
                 return choice;
             }
         }
@@ -264,8 +354,8 @@ fn is_own(mediator: &Mediator, guest: u8, lane: u8, tag: u8) -> bool
     }
 }
 
-// What comes next of a guest's command that goes by a tag, where it waits for its plan: what is wanted of its lists is read, its plan is carried
-// out, or it is given up.
+// What comes next of a guest's command that goes by a tag, where it waits for its plan: what it wants of its lists is read, its plan is carried
+// out, or it is given up where there is no memory for the plan.
 fn plan(alloc: Global, mediator: &Mediator, guest: u8, lane: u8, tag: u8) -> Choice
     requires { holder_of (hosted_world mediator.now) lane tag ≡ Some (record { guest = guest; leader = tag }) }
     ensures { IsChoice (Scope.Guest guest) mediator.now (job_of (hosted_world mediator.now) lane tag ≡ None) result }
@@ -285,9 +375,9 @@ fn plan(alloc: Global, mediator: &Mediator, guest: u8, lane: u8, tag: u8) -> Cho
         unreachable!()
     };
     match make_plan(alloc, alloc, job, map, ns, limit) {
-        Planned::Need(_, address, bytes) => Choice::Make(Event::List(lane, tag, address, bytes)),
+        Planned::Need(job, _, _) => Choice::Read(job),
         Planned::Plan(plan) => Choice::Submit(plan),
-        Planned::NoMemory(_) => Choice::Make(Event::GiveUp(lane, tag)),
+        Planned::NoMemory(_) => Choice::GiveUp(lane, tag),
     }
 }
 

@@ -9,7 +9,7 @@ use Rattle.nv_c.proofs.working.next_of_all.Goals as goal
 pub returns-in-Nothing : goal.returns-in-Nothing
 returns-in-Nothing c =
     let h = c.args.mediator.now in
-    let first = c.args.last.now.party in
+    let first = c.go_round.new.self.party in
     let few = few_of (setup_of h) c.promise.ensures.accepted in
     choice_more scope.All h ((number : ℕ) → 0 ≤ number → number < first → PartyRests h number) (Rests scope.All h) c.next_among-in-Nothing.result
     (λ low. all-rests h c.promise.ensures.consistent few.0 few.1 (λ number below. elim (cases_lt number first) [
