@@ -7,6 +7,7 @@
 //! - `host-without-log`: the same host of a mediator that keeps no log, and so the same digest;
 //! - `lists`: a script of `nvmed once` with long lists;
 //! - `guests`: a script of `nvmed run`, 4 guests in threads on 2 lanes;
+//! - `loops`: the same with Reads whose list names itself, and is read until the limit of 1,024 descriptors ends it;
 //! - `awkward`: a host whose guests' memory is scattered, on the largest disk, and some of whose guests are hostile or slow;
 //! - `extents`: a host of 16 guests on 8 lanes, each of which has eight extents, with one command in four over a join.
 //!
@@ -16,7 +17,7 @@
 //! `nv_workloads forever SEED EVENTS` goes on for so many events, in rounds of a million: 16 guests of a mediator that keeps no log, some of
 //! them hostile, slow or reset. Each round is of the same commands, and prints how many events there were so far and a digest of their answers.
 //!
-//! It is proved to be safe, and to end but for the threads that `guests` waits for. What it prints is not proved.
+//! It is proved to be safe, and to end but for the threads that `guests` and `loops` wait for. What it prints is not proved.
 #![tactic(auto)]
 
 mod digest;
@@ -113,7 +114,7 @@ fn main(rt: HostRuntime) -> io::Result<()> {
     match reading_of(&words) {
         Some(asked) => answer(&rt, rt.alloc(), &asked),
         None => println!(rt;
-            "usage: nv_workloads replay|host|host-without-log|lists|guests|awkward|extents SEED COUNT [script] | forever SEED EVENTS"
+            "usage: nv_workloads replay|host|host-without-log|lists|guests|loops|awkward|extents SEED COUNT [script] | forever SEED EVENTS"
         ),
     }
 }

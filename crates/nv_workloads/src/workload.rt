@@ -31,6 +31,8 @@ pub enum Workload {
     Lists,
     /// a script of `nvmed run`
     Guests,
+    /// a script of `nvmed run` whose guests have lists that name themselves
+    Loops,
     /// a host that steps a world which is as awkward as may be
     Awkward,
     /// a host that steps a world whose guests have several extents
@@ -112,6 +114,7 @@ impl Workload {
             "host-without-log" => Some(Workload::HostWithoutLog),
             "lists" => Some(Workload::Lists),
             "guests" => Some(Workload::Guests),
+            "loops" => Some(Workload::Loops),
             "awkward" => Some(Workload::Awkward),
             "extents" => Some(Workload::Extents),
             _ => None,
@@ -128,6 +131,7 @@ impl Workload {
             Workload::Awkward => replay_script(alloc, AWKWARD, seed, count),
             Workload::Lists => Lists::script(alloc, seed, count),
             Workload::Guests => guests::script(alloc, seed, count),
+            Workload::Loops => guests::looped_script(alloc, count),
             Workload::Extents => extents_script(alloc, seed, count),
         }
     }
@@ -147,7 +151,7 @@ impl Workload {
             Workload::Extents => return extended(alloc, seed, count),
             Workload::Replay => Request::Alone(Command::Replay),
             Workload::Lists => Request::Alone(Command::Once),
-            Workload::Guests => Request::Run,
+            Workload::Guests | Workload::Loops => Request::Run,
         };
         let text = self.script(alloc, seed, count)?;
         let mut input = text.as_slice();
