@@ -220,12 +220,12 @@ static inline nvmed_status nvmed_due(nvmed *m, const nvmed_event *event, uint32_
 }
 
 /* Carries out what is due of a guest (its admin commands; its commands that wait are taken and planned), of a lane (the physical controller's side,
- * completions, and those for guests), or of all (`number` counts for nothing then), `most` events at most: *done tells how many there were. Where it
- * is less than `most`, nothing of that scope is left to be done; what a full completion queue holds up is not due. SAFE, EXACT (each event was due,
- * or was wanted for a command's plan, and of that scope; as many as *done tells; no act and no failure), CONTAINED, PRIVATE. Of all, guests come
- * before lanes, the lowest number first: where `most` is small, a guest that always has something holds up the others. A host that wants another order
- * goes by guests and lanes.
- * Errors: NULL, NO_MEDIATOR, NO_SUCH (*done is 0), NO_MEMORY (*done events were made, and something is left). */
+ * completions, and those for guests), or of all (`number` counts for nothing then), `most` events at most: *done is how many there were. Where the
+ * answer is OK and *done is less than `most`, nothing of that scope is left to be done; what a full completion queue holds up is not due. SAFE, EXACT
+ * (each event was due, or was wanted for a command's plan, and of that scope; *done counts them; no act, no failure, and with the answer OK no command
+ * was given up), CONTAINED, PRIVATE. Of all, a guest gets at most 64 events before the next guest or lane that has something. This order is not proved.
+ * Errors: NULL, NO_MEDIATOR, NO_SUCH (*done is 0), NO_MEMORY: *done events were made. Then there was no memory for what is left, or none for the plan of
+ * a command: its last event gave that command up, which ends with Internal Error, and the other commands go on at the next call. */
 static inline nvmed_status nvmed_work(nvmed *m, uint32_t scope, uint32_t number, uint64_t most, uint64_t *done) {
     if (!m || !done) return NVMED_NULL;
     *done = 0;
