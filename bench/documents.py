@@ -4,7 +4,7 @@ and ends with status 1 where there is one. With --write the table of docs/EDITS.
 written anew first, and docs/GATE.md gets a row for each new crate.
 
 Checked are: the lines of pages that have a limit, the width of all, and the words of all together; words of the private dialect; the
-glossary's size; the sentence of each crate in docs/DESIGN.md; the codes of docs/STATUS.md; the first line and the history of
+glossary's size; a row of docs/CRATES.md for each crate; the codes of docs/STATUS.md; the first line and the history of
 docs/PERF.md; the edits of docs/EDITS.md, and whether the code has what each turns; the lines of each file in docs/DEFINITIONS.md; a row of
 docs/GATE.md for each crate; links, and names of files, crates and code in backquotes; and long lines of code, definitions and proofs."""
 import fnmatch
@@ -23,8 +23,7 @@ WIDTH = 160
 # of all pages together, as `wc -w` counts them
 WORDS = 20_000
 GLOSSARY_WORDS = 30
-# of a crate's sentence in docs/DESIGN.md, and of the history in docs/PERF.md
-CRATE_LINES = 3
+# of the history in docs/PERF.md
 HISTORY_LINES = 60
 # words of the private dialect, which a page has only in names of code, each with what to write
 DIALECT = {
@@ -199,15 +198,10 @@ def check_widths():
                 yield f"{path}:{number}: {len(line)} characters, and {most} are the most"
 
 
-def check_design():
-    named = set(re.findall(r"\*\*(\w+)\*\*", read("docs/DESIGN.md")))
-    for crate in (crate for name, _, crates in groups() for crate in crates if name != "checks"):
-        if crate not in named:
-            yield f"docs/DESIGN.md: nothing of {crate}"
-    for item in re.findall(r"^- \*\*nv.*(?:\n  .*)*", read("docs/DESIGN.md"), re.M):
-        lines = item.count("\n") + 1
-        if lines > CRATE_LINES:
-            yield f"docs/DESIGN.md: {lines} lines of {item.split()[1].strip('*:,')}, and {CRATE_LINES} are the most"
+def check_rows(crates):
+    rows = re.findall(r"^\| `(\w+)` \| \w", read("docs/CRATES.md"), re.M)
+    if rows != crates:
+        yield f"docs/CRATES.md: its rows are not crates.txt's, in order: {sorted(set(rows) ^ set(crates))}"
 
 
 def check_perf():
@@ -312,7 +306,7 @@ def main():
         *check_widths(),
         *check_dialect(),
         *check_status(),
-        *check_design(),
+        *check_rows(crates),
         *check_perf(),
         *check_tables(),
         *check_gate(crates),
