@@ -10,13 +10,13 @@ use Rattle.nv_admin.specs.declared.data_structure.DataStructure.{DataStructure}
 use Rattle.nv_admin.specs.declared.outcome.Outcome.{Outcome}
 use Rattle.nv_admin.specs.declared.outcome.Outcome.TheVariants as outcome
 
--- the effect of a command with this outcome, or that was refused, behind which controller and memory are these
+-- the effect of a command with this outcome, or of one that was refused, after which controller and memory are these
 abbrev pub effect : Result Outcome StatusCode → Controller → (ℕ → ℕ) → AdminEffect
 effect (Ok (outcome.Done dw0)) c memory = answered dw0 c memory
 effect (Ok outcome.Pending) c memory = unanswered c memory
 effect (Err why) c memory = refused why c memory
 
--- a command had this outcome: the controller behind it is this, and the host has its memory in the map
+-- a command had this outcome: the controller after it is this, and the host has its memory in the map
 pub record IsDone (done : AdminEffect) (outcome : Result Outcome StatusCode) (c : Controller) (regions : List Region)
     (before after : ℕ → ℕ) : Type 0 where
   pub effect_is : done ≡ effect outcome c done.memory

@@ -19,19 +19,19 @@ is_stepped NothingToDo = false
 is_stepped QueueFull = false
 is_stepped (Stepped c memory) = true
 
--- the controller behind it
+-- the controller after it
 abbrev pub controller_behind : Controller → AdminStep → Controller
 controller_behind c NothingToDo = c
 controller_behind c QueueFull = c
 controller_behind c (Stepped d memory) = d
 
--- and the host's bytes, with the guest's memory behind it in the map
+-- and the host's bytes, with the guest's memory after it in the map
 abbrev pub host_behind : List Region → (host : ℕ → ℕ) → AdminStep → ℕ → ℕ
 host_behind regions host NothingToDo = host
 host_behind regions host QueueFull = host
 host_behind regions host (Stepped d memory) = put_image regions memory host
 
--- a step was done: behind it are this controller, and this host, which was `before` in front of it
+-- a step was done: after it are this controller, and this host, which was `before` before the step
 abbrev pub IsStepped : List Region → (before : ℕ → ℕ) → AdminStep → Controller → (after : ℕ → ℕ) → Type 0
 IsStepped regions before NothingToDo c after = ⊥
 IsStepped regions before QueueFull c after = ⊥

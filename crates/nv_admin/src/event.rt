@@ -21,11 +21,11 @@ const ADMIN_QUEUE: u16 = 0;
 
 /// One event of a guest's admin queue, on a namespace of `blocks` blocks. See the crate's page for what it does.
 ///
-/// Nothing changes where the reply is [`Admin::Idle`] or [`Admin::Held`]. Of the host, no byte changes outside the map. The queues
-/// that are there lie in the map as before.
+/// Nothing changes where the reply is [`Admin::Idle`] or [`Admin::Held`]. Of the host, no byte changes outside the map. The queues that are there
+/// are in the map as before.
 ///
-/// The caller knows that the map was made for a host of this length ([`GuestMap::host_len`] tells it), and that the queues that are there
-/// lie wholly in the map, as every call keeps it ([`Vctl::lies_in`] tests it).
+/// The caller knows that the map was made for a host of this length ([`GuestMap::host_len`] returns it), and that the queues that are there are
+/// wholly in the map, as every call keeps it ([`Vctl::lies_in`] tests it).
 pub fn admin(vctl: &mut Vctl, blocks: u64, map: &GuestMap, host: &mut Host) -> Admin
     requires host { map.now.host_len ≡ length host.old }
     requires in_place { QueuesInPlace (mapped map.now.regions) vctl.old }

@@ -51,7 +51,7 @@ pub(crate) fn get_features(vctl: &Vctl, sqe: &Sqe) -> Result<Outcome, StatusCode
     })
 }
 
-/// Asynchronous Event Request: held and never answered, as there are no events, up to the limit that AERL tells.
+/// Asynchronous Event Request: held and never answered, as there are no events, up to the limit that AERL gives.
 pub(crate) fn request_event(vctl: &mut Vctl) -> Result<Outcome, StatusCode>
     ensures effect { (memory : ℕ → ℕ) → request_event vctl.old memory ≡ effect result vctl.new memory }
     ensures keeps { Keeps vctl.old vctl.new }

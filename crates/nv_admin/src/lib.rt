@@ -1,9 +1,9 @@
 //! A guest's admin queue: one event of it, whole (Base Specification 2.0, "Admin Command Set").
 //!
-//! [`admin`] does what there is to do for a guest's admin queue: it finishes a deletion that waits, or takes the command at the front,
-//! carries it out and posts its completion. It is the definition `admin` of `nv_model/specs/Admin`, word for word: the reply, the
-//! controller behind it, and every byte of the host. Which commands, features and data structures there are, the order of the checks
-//! and the status that each fault gets are the project's own choice (profile):
+//! [`admin`] does what there is to do for a guest's admin queue: it finishes a deletion that waits, or takes the command at the front, carries it
+//! out and posts its completion. It is the definition `admin` of `nv_model/specs/Admin`, word for word: the reply, the controller after it, and
+//! every byte of the host. Which commands, features and data structures there are, the order of the checks and the status that each fault gets are
+//! the project's own choice (profile):
 //!
 //! | Opcode | Command | What it does, and its checks in order |
 //! |---|---|---|
@@ -18,7 +18,7 @@
 //! | 0Ah | Get Features | the number of queues alone |
 //! | 0Ch | Asynchronous Event Request | the first four are held and never answered |
 //!
-//! Before these, a fused command, an unknown opcode and a data pointer that is no PRP are refused, in this order. A refusal has DNR 1, and
+//! Before these checks, a fused command, an unknown opcode and a data pointer that is no PRP are refused, in this order. A refusal has DNR 1, and
 //! where a command is refused nothing else changes. Nothing here takes memory.
 #![tactic(auto)]
 

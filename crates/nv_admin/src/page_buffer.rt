@@ -63,7 +63,7 @@ impl PageBuffer {
     }
 }
 
-// The checks of an entry whose address must be a multiple of `alignment`, and which stands for `len` bytes there.
+// The checks of an entry whose address must be a multiple of `alignment`, and which represents `len` bytes there.
 fn check_entry(map: &GuestMap, alignment: u64, addr: u64, len: u64) -> Result<(), StatusCode>
     requires { 0 < alignment }
     ensures fault { result_err result ≡ entry_fault (mapped map.now.regions) alignment addr len }

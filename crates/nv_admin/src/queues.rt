@@ -108,8 +108,7 @@ pub(crate) fn delete_completion_queue(vctl: &mut Vctl, sqe: &Sqe) -> Result<Outc
     Ok(Outcome::Done { dw0: 0 })
 }
 
-// The checks of a new queue's number, size and contiguity, where `there` tells whether a queue of that number is there. Its size is
-// given back.
+// The checks of a new queue's number, size and contiguity, where `there` says whether a queue of that number is there. Its size is returned.
 fn check_new_queue(sqe: &Sqe, there: bool) -> Result<u16, StatusCode>
     ensures fault { result_err result ≡ first_failing (new_queue_checks there sqe.now) }
     ensures number { IfOk result (λ size. IsIoQueue (qid sqe.now)) }

@@ -13,11 +13,11 @@ use nv_mem::{GuestMap, Host, Piece};
 /// Copies the bytes at a guest's places to the slot, in order. No other byte of the host changes.
 ///
 /// `slot` is the host address of the slot's first byte. The caller knows
-/// - that the map was made for a host of this length ([`GuestMap::host_len`] tells it),
-/// - that the places' addresses are mapped ([`crate::are_mapped`] tests it), and that no place is a bucket
-///   ([`crate::name_no_bucket`]), as for every source,
-/// - that as many bytes from `slot` on as the places name ([`crate::total_len`]) lie in the host ([`Host::holds`]), and that the map
-///   has none of them ([`GuestMap::meets_host`]).
+/// - that the map was made for a host of this length ([`GuestMap::host_len`] returns it),
+/// - that the places' addresses are mapped ([`crate::are_mapped`] tests it), and that no place is a bucket ([`crate::name_no_bucket`]), as for
+///   every source,
+/// - that as many bytes from `slot` on as the places name ([`crate::total_len`]) are in the host ([`Host::holds`]), and that the map has none of
+///   them ([`GuestMap::meets_host`]).
 pub fn gather(places: &[Piece], map: &GuestMap, host: &mut Host, slot: u64)
     requires host { map.now.host_len ≡ length host.old }
     requires mapped { All (IsMappedPiece (mapped map.now.regions)) places.now }

@@ -7,8 +7,8 @@ use nv_mem::{GuestMap, Host};
 
 /// Reads the bytes from guest address `addr` on, as many as `out` has, into `out`.
 ///
-/// The caller knows that the map was made for a host of this length ([`GuestMap::host_len`] tells it), and that each of the bytes is
-/// mapped ([`GuestMap::holds`] tests it).
+/// The caller knows that the map was made for a host of this length ([`GuestMap::host_len`] returns it), and that each of the bytes is mapped
+/// ([`GuestMap::holds`] tests it).
 pub fn load(addr: u64, map: &GuestMap, host: &Host, out: &mut [u8])
     requires host { map.now.host_len ≡ length host.now }
     requires mapped { everywhere (mapped map.now.regions) addr (length out.old) ≡ true }
@@ -30,8 +30,8 @@ pub fn load(addr: u64, map: &GuestMap, host: &Host, out: &mut [u8])
 
 /// Writes the bytes to guest address `addr` on. No other byte of the guest's memory or of the host changes.
 ///
-/// The caller knows that the map was made for a host of this length ([`GuestMap::host_len`] tells it), and that each of the bytes is
-/// mapped ([`GuestMap::holds`] tests it).
+/// The caller knows that the map was made for a host of this length ([`GuestMap::host_len`] returns it), and that each of the bytes is mapped
+/// ([`GuestMap::holds`] tests it).
 pub fn store(bytes: &[u8], addr: u64, map: &GuestMap, host: &mut Host)
     requires host { map.now.host_len ≡ length host.old }
     requires mapped { everywhere (mapped map.now.regions) addr (length bytes.now) ≡ true }

@@ -10,14 +10,14 @@ ghost use Rattle.nv_bounce.specs.Bounce.{scattered_from};
 use crate::pieces::len_of;
 use nv_mem::{GuestMap, Host, Piece};
 
-/// Copies the bytes of the slot, as many as the places name, to a guest's places, in order. A bucket discards its bytes, and an
-/// address that is named twice keeps the last byte meant for it. No other byte of the host changes.
+/// Copies the bytes of the slot, as many as the places name, to a guest's places, in order. A bucket discards its bytes, and an address that is
+/// named twice keeps the last byte meant for it. No other byte of the host changes.
 ///
 /// `slot` is the host address of the slot's first byte. The caller knows
-/// - that the map was made for a host of this length ([`GuestMap::host_len`] tells it),
+/// - that the map was made for a host of this length ([`GuestMap::host_len`] returns it),
 /// - that the places' addresses are mapped ([`crate::are_mapped`] tests it),
-/// - that as many bytes from `slot` on as the places name ([`crate::total_len`]) lie in the host ([`Host::holds`]), and that the map
-///   has none of them ([`GuestMap::meets_host`]).
+/// - that as many bytes from `slot` on as the places name ([`crate::total_len`]) are in the host ([`Host::holds`]), and that the map has none of
+///   them ([`GuestMap::meets_host`]).
 pub fn scatter(slot: u64, places: &[Piece], map: &GuestMap, host: &mut Host)
     requires host { map.now.host_len ≡ length host.old }
     requires mapped { All (IsMappedPiece (mapped map.now.regions)) places.now }

@@ -92,7 +92,7 @@ pub enum Deed {
     Doorbell(u32, u32),
 }
 
-/// What a guest does to get queue pair 1. Behind it two admin commands wait, and once these are answered the queues are made.
+/// What a guest does to get queue pair 1. After it two admin commands wait, and once these are answered the queues are made.
 pub const BRING_UP: &[Deed] = &[
     Deed::Entry(ADMIN_SUBMISSIONS, CREATE_COMPLETION_QUEUE),
     Deed::Entry(ADMIN_SUBMISSIONS + 64, CREATE_SUBMISSION_QUEUE),

@@ -1,13 +1,13 @@
-//! What tests of worlds have in common: set-ups, the bring-up of a guest, entries as bytes, and numbers that look random.
+//! What tests of worlds have in common: set-ups, the bring-up of a guest, entries as bytes, and pseudorandom numbers.
 //!
-//! A guest under test is given 128 KiB of memory and what [`Span`]s it is to have of the disk: by [`guest_at`] in one region, by [`guest_of`] in any.
-//! [`setup_of`] makes the set-up of guests. [`BRING_UP`] is what a guest does to get queue pair 1, and [`act_of`] makes an act of each such deed.
-//! [`Fields`] are what a command's entry says, [`bytes_of`] are an entry's bytes.
+//! A guest under test is given 128 KiB of memory, and the [`Span`]s of the disk that it is to have: by [`guest_at`] in one region, by [`guest_of`]
+//! in any. [`setup_of`] makes the set-up of guests. [`BRING_UP`] is what a guest does to get queue pair 1, and [`act_of`] makes an act of each such
+//! deed. [`Fields`] are what a command's entry says, [`bytes_of`] are an entry's bytes.
 //!
-//! Proved is that the bytes of an entry are its dwords', the lowest byte first; that an entry has the data pointer and the dwords of its fields, and
-//! namespace 1; that an act is its deed's; that extents are the spans', that a guest has the regions and the limit that it is to have, and the set-up
-//! the guests; and that a number of [`Random`] is below its bound. By its use alone it is tested, in `nv_checks_threads`, `nv_checks_world`,
-//! `nv_checks_hostile` and `nv_checks_mediator`, that the bring-up makes the queues that it names, and which numbers come.
+//! It is proved that the bytes of an entry are those of its dwords, the lowest byte first; that an entry has the data pointer and the dwords of its
+//! fields, and namespace 1; that an act is its deed's; that extents are the spans', that a guest has the regions and the limit that it is to have,
+//! and the set-up the guests; and that a number of [`Random`] is below its bound. It is tested by its use alone, in `nv_checks_threads`,
+//! `nv_checks_world`, `nv_checks_hostile` and `nv_checks_mediator`, that the bring-up makes the queues that it names, and which numbers come.
 #![tactic(auto)]
 
 mod bring_up;

@@ -1,4 +1,4 @@
-//! Numbers that look random, the same for each seed.
+//! Pseudorandom numbers, the same for each seed.
 
 ghost use Rattle.std.specs.Prelude.{◌≡◌, ◌<◌, IsTrue};
 

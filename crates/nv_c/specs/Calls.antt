@@ -1,4 +1,4 @@
--- What a call by C is answered, and what it does to the mediator behind a handle.
+-- What a call from C returns, and what it does to the mediator of a handle.
 use Rattle.std.specs.Prelude.{◌≡◌, ◌⊎◌, ◌<◌, ◌≤◌, ◌==◌, ℕ, Bool, if◌then◌else◌, length, slice_get, IsSome, IsTrue, List, Option, Some, None}
 use Rattle.std.specs.Borrow.{Bor}
 use Rattle.std.specs.Int.{from_le_bytes, w32}
@@ -70,7 +70,7 @@ status_of reply.Unmapped = 5
 status_of reply.Ignored = 6
 status_of reply.NoMemory = no_memory
 
--- the dword that a reply tells, 0 where it tells none
+-- the dword that a reply returns, 0 where it returns none
 abbrev pub dword_told : Reply → ℕ
 dword_told (reply.Bytes bytes) = if length bytes == 4 then from_le_bytes w32 bytes else 0
 dword_told reply.Done = 0
@@ -111,13 +111,13 @@ abbrev pub IsWorkTold : Scope → (most done : ℕ) → (old : Hosted) → (stat
 IsWorkTold s most done old status new =
     (end : Why) × (status ≡ status_of_end end) × IsWorkedFor s most done end old new
 
--- the bytes of a load stand in the room; or none were loaded, and the room is as it was. Nothing else changes
+-- the bytes of a load are in the room; or none were loaded, and the room is as it was. Nothing else changes
 abbrev pub IsLoaded : Event → (before after : List ℕ) → (old : Hosted) → (status : ℕ) → (new : Hosted) → Type 0
 IsLoaded e before after old status new =
     (r : Reply) × (status ≡ status_of r) × (new ≡ old)
     × ((r ≡ reply.Done) × IsMade e old (reply.Bytes after) old ⊎ (bytes_told r ≡ None) × (after ≡ before) × IsMade e old r old)
 
--- it was told whether the event is due, and nothing has changed
+-- it was reported whether the event is due, and nothing has changed
 abbrev pub IsTold : Event → (told : ℕ) → (old : Hosted) → (status : ℕ) → (new : Hosted) → Type 0
 IsTold e told old status new =
     (status ≡ 0) × (new ≡ old) × (told ≡ (if due old.geometry e (hosted_world old) then 1 else 0))
@@ -126,7 +126,7 @@ IsTold e told old status new =
 abbrev pub IsNamedTold : c.Event → (told : ℕ) → (old : Hosted) → (status : ℕ) → (new : Hosted) → Type 0
 IsNamedTold named told old status new = (e : Event) × Names named e × IsTold e told old status new
 
--- it was told whether the block is kept, or that the disk has no such block; nothing has changed
+-- it was reported whether the block is kept, or that the disk has no such block; nothing has changed
 abbrev pub IsMark : Option Bool → (mark status : ℕ) → Type 0
 IsMark None mark status = status ≡ no_such
 IsMark (Some is) mark status = (status ≡ 0) × (mark ≡ (if is then 1 else 0))
@@ -157,7 +157,7 @@ abbrev pub OfGuest : (number : ℕ) → (Does : Hosted → ℕ → Hosted → Ty
 OfGuest number Does before status after =
     (256 ≤ number) × (status ≡ no_such) × (after ≡ before) ⊎ (number < 256) × On Does before status after
 
--- what a guest was to have was refused, and the answer tells a reason that holds: there was no memory, or its regions are no map
+-- what a guest was to have was refused, and the answer gives a reason that holds: there was no memory, or its regions are no map
 abbrev pub IsGuestRefused : Guest → (status : ℕ) → Type 0
 IsGuestRefused guest status =
     (status ≡ no_memory)

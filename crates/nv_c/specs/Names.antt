@@ -16,7 +16,7 @@ IsWord value number = (value ≡ number) × (number < 65536)
 abbrev pub IsStatus : c.Event → StatusField → Type 0
 IsStatus e st = (st.sct ≡ e.status / 256) × (st.sc ≡ e.status % 256) × (st.dnr ≡ not (e.dnr == 0)) × (e.status < 2048)
 
--- the event is that of its kind, with the numbers that the kind looks at, each of which fits; a guest's act is none
+-- the event is that of its kind, with the numbers that the kind uses, each of which fits; a guest's act is no such event
 abbrev pub Names : c.Event → Event → Type 0
 Names e (event.Guest guest a) = ⊥
 Names e (event.Admin guest) = (e.kind ≡ 1) × IsByte guest e.guest
@@ -32,7 +32,7 @@ Names e (event.Keep block) = (e.kind ≡ 10) × (block ≡ e.number)
 Names e (event.Reap lane) = (e.kind ≡ 11) × IsByte lane e.lane
 Names e (event.Post lane tag) = (e.kind ≡ 12) × IsByte lane e.lane × IsByte tag e.tag
 
--- there is no such kind, or a number that the kind looks at does not fit; what it does not look at may be any number
+-- there is no such kind, or a number that the kind uses does not fit; what it does not use may be any number
 abbrev pub NamesNone : c.Event → Type 0
 NamesNone e =
     (e.kind ≡ 0)

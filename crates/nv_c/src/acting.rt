@@ -114,7 +114,7 @@ fn read(alloc: Global, mediator: &mut Mediator, guest: u8, offset: u32, value: &
     }
 }
 
-// The dword that a reply tells, 0 where it tells none.
+// The dword that a reply returns, 0 where it returns none.
 fn dword_of(reply: &Reply) -> u32
     ensures { result ≡ dword_told reply.now }
 {
@@ -127,7 +127,8 @@ fn dword_of(reply: &Reply) -> u32
     }
 }
 
-/// Whether an event is due: it is answered that it was told, and 1 where it is, and else 0. After an error the answer is as it was.
+/// Whether an event is due. The call returns that this was reported, and the answer is 1 where the event is due and 0 otherwise. After an error the
+/// answer is as it was.
 pub(crate) fn due(alloc: Global, handle: &mut Nvmed, event: &Event, told: &mut u32) -> u32
     ensures value { On (IsTold event.now told.new) handle.old.hosted result handle.new.hosted }
     ensures unchanged { IsError result → told.new ≡ told.old }

@@ -6,7 +6,7 @@ ghost use Rattle.nv_c.specs.Names.{IsByte, IsStatus, IsWord, Names, NamesNone};
 use nv_entry::Status;
 use nv_world_model::Event as Made;
 
-/// An event that is no guest's act: C's `nvmed_event`. A number that its kind does not look at may be any.
+/// An event that is no guest's act: C's `nvmed_event`. A number that its kind does not use may be any number.
 #[repr(C)]
 #[derive(Clone, Copy)]
 pub struct Event {
@@ -34,7 +34,7 @@ pub struct Event {
     pub number: u64,
 }
 
-/// The event that it is; `None` where there is no such kind, or a number that the kind looks at fits no guest, queue, lane, tag, slot or status.
+/// The event that it is; `None` where there is no such kind, or a number that the kind uses fits no guest, queue, lane, tag, slot or status.
 pub(crate) fn made_of(event: &Event) -> Option<Made>
     ensures { MatchOption result (NamesNone event.now) (Names event.now) }
 {

@@ -1,8 +1,8 @@
-//! The library that a hypervisor links: the mediator without a log behind calls of C.
+//! The library that a hypervisor links: the mediator without a log, used through calls from C.
 //!
-//! `include/nvmed.h` has the calls as C sees them. It tests each pointer for null, and hands over what stands here, by references and slices: a
-//! handle ([`Nvmed`]) and plain structs ([`Sizes`], [`Region`], [`Extent`], [`Event`]). Each call answers one of the numbers of `enum
-//! nvmed_status` for any numbers and any bytes. Nothing here aborts, prints, waits, or keeps anything outside the handle.
+//! `include/nvmed.h` has the calls as C sees them. It tests each pointer for null, and passes on what is defined here, by references and slices: a
+//! handle ([`Nvmed`]) and plain structs ([`Sizes`], [`Region`], [`Extent`], [`Event`]). Each call returns one of the numbers of `enum nvmed_status`
+//! for any numbers and any bytes. Nothing here aborts, prints, waits, or keeps anything outside the handle.
 #![tactic(auto)]
 
 ghost use Rattle.std.specs.Prelude.{◌≡◌, ◌⊎◌, IsSome, MatchOption, None, length};
@@ -202,8 +202,8 @@ pub extern "C" fn nvmed_raw_due(
     acting::due(alloc, handle, &event, due)
 }
 
-/// Carries out what is due of a guest (scope 1), of a lane (2) or of all (3), `most` events at most, and tells how many there were. Where they are
-/// fewer nothing is left to be done, or there was no memory for what is.
+/// Carries out what is due of a guest (scope 1), of a lane (2) or of all (3), `most` events at most, and returns how many there were. Where there
+/// are fewer, nothing is left to be done, or there was no memory for what is left.
 #[unsafe(no_mangle)]
 pub extern "C" fn nvmed_raw_work(
     alloc: Global,

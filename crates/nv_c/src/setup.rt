@@ -88,7 +88,7 @@ pub(crate) fn setup_of(
     })
 }
 
-// What stands in a set-up for the guest of that number, among what stands there for others.
+// What a set-up has for the guest of that number, among what it has for others.
 #[derive(Clone, Copy)]
 struct Own<'a> {
     guest: u64,

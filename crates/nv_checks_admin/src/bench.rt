@@ -86,7 +86,7 @@ impl Bench {
         true
     }
 
-    /// Whether these bytes, 64 at most, stand from a guest address on.
+    /// Whether these bytes, 64 at most, are in memory from a guest address on.
     pub(crate) fn shows(&self, addr: u64, bytes: &[u8]) -> bool {
         let len = bytes.len();
         if len > 64 || !self.map.holds(addr, len as u64) {
@@ -141,7 +141,7 @@ impl Bench {
             && self.write(0x14, 0x0046_0001)
     }
 
-    /// Enters commands into the admin queue from slot `at` on, and rings the doorbell behind them.
+    /// Enters commands into the admin queue from slot `at` on, and rings the doorbell with the tail after them.
     pub(crate) fn enter(&mut self, at: u32, commands: &[Command]) -> bool {
         let mut slot = at;
         for command in commands {
@@ -161,7 +161,7 @@ impl Bench {
             && self.admin() == Admin::Done
     }
 
-    /// Whether a completion in the first pass stands in a slot of the admin completion queue, with this DW0 and last dword.
+    /// Whether a completion in the first pass is in a slot of the admin completion queue, with this DW0 and last dword.
     pub(crate) fn completed(&self, slot: u64, dw0: u32, dword3: u32) -> bool {
         slot < 32
             && self.shows(0x1_1000 + 16 * slot, &dw0.to_le_bytes())

@@ -32,7 +32,7 @@ fn a_deletion_waits_for_taken_commands(rt: HostRuntime) -> Result<(), Fail> {
 #[test]
 fn a_queue_without_taken_commands_goes_at_once(rt: HostRuntime) -> Result<(), Fail> {
     let mut bench = brought_up(rt.alloc())?;
-    // what is rung and not taken is dropped
+    // what the doorbell has announced and is not taken is dropped
     assert!(rt; bench.ring(0x1008, 1) && bench.enter(2, &[DELETION]));
     assert!(rt; bench.admin() == Admin::Done && bench.shows(0x1_1020, &COMPLETION));
     assert!(rt; !bench.take(1) && !bench.ring(0x1008, 2));

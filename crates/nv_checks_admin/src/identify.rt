@@ -5,7 +5,7 @@ use crate::command::{Command, command};
 use nv_admin::Admin;
 use std::test::Fail;
 
-/// Bytes that stand somewhere in a guest's memory behind a command.
+/// Bytes that are somewhere in a guest's memory after a command.
 struct Shown {
     command: Command,
     addr: u64,
@@ -90,7 +90,7 @@ const SHOWN: &[Shown] = &[
     },
 ];
 
-/// Whether a command behind bring-up succeeds, and these bytes stand there then.
+/// Whether a command after bring-up succeeds, and these bytes are there then.
 fn is_shown(bench: &mut Bench, shown: &Shown) -> bool {
     bench.store(0x1_5000, &[0xee; 0x3000])
         && bench.enter(2, &[shown.command])

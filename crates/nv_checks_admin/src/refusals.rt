@@ -31,7 +31,7 @@ macro_rules! row {
     };
 }
 
-/// Commands that come third, behind bring-up.
+/// Commands that come third, after bring-up.
 const THIRD: &[Row] = &[
     row!("a completion queue in use", 0x04, 1, 0, 0, 0x8219_0003),
     row!("completion queue 0", 0x04, 0, 0, 0, 0x8203_0003),
@@ -154,7 +154,7 @@ const THIRD: &[Row] = &[
     },
 ];
 
-/// New completion queues: each fails one check, and each check behind it that it can.
+/// New completion queues: each fails one check, and each check after it that it can.
 const COMPLETION_QUEUES: &[Row] = &[
     row!("number 0", 0x05, 0x0000_0000, 0, 0x2_0001, 0x8203_0003),
     row!("number 9", 0x05, 0x0000_0009, 0, 0x2_0001, 0x8203_0003),
@@ -190,7 +190,7 @@ const COMPLETION_QUEUES: &[Row] = &[
     row!("1,024 slots", 0x05, 0x03ff_0008, 1, 0x1_4000, 0x0001_0003),
 ];
 
-/// New submission queues likewise. The completion queue stands in the upper half of CDW11.
+/// New submission queues likewise. The completion queue is in the upper half of CDW11.
 const SUBMISSION_QUEUES: &[Row] = &[
     row!("number 0", 0x01, 0x0000_0000, 0, 0x2_0001, 0x8203_0003),
     row!("number 9", 0x01, 0x0000_0009, 0, 0x2_0001, 0x8203_0003),
@@ -292,14 +292,14 @@ const FIRST: &[Row] = &[
     },
 ];
 
-/// Whether the command in a slot of the admin queue is answered as told.
+/// Whether the command in a slot of the admin queue is answered as given.
 fn is_answered(bench: &mut Bench, slot: u32, row: &Row) -> bool {
     bench.enter(slot, &[row.command])
         && bench.admin() == Admin::Done
         && bench.completed(u64::from(slot), row.dw0, row.dword3)
 }
 
-/// Checks each row behind bring-up.
+/// Checks each row after bring-up.
 fn check_third(rt: &impl Abort, alloc: std::alloc::Global, rows: &[Row]) -> Result<(), Fail> {
     for row in rows {
         let mut bench = brought_up(alloc)?;

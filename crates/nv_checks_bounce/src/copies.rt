@@ -1,4 +1,4 @@
-//! A host of 24 KiB and a guest's map of it, and copies whose outcome is told byte by byte.
+//! A host of 24 KiB and a guest's map of it, and copies whose outcome is given byte by byte.
 use nv_bounce::{are_mapped, gather, name_no_bucket, scatter, total_len};
 use nv_mem::{GuestMap, Host, NoMemory, Piece, Places, Region};
 use std::alloc::Global;
@@ -92,7 +92,7 @@ fn store_all(host: &mut Host, spans: &[Span]) -> bool {
     true
 }
 
-/// Makes each copy, and asserts that what it changes is as told.
+/// Makes each copy, and asserts that what it changes is as given.
 pub(crate) fn check_all(
     rt: &impl Abort,
     alloc: Global,

@@ -26,7 +26,7 @@ fn loads(addr: u64, map: &GuestMap, host: &Host, want: [u8; 4]) -> bool {
     bytes == want
 }
 
-// Whether these bytes stand at a host address.
+// Whether these bytes are at a host address.
 fn shows(host: &Host, addr: u64, want: &[u8]) -> bool {
     let len = want.len() as u64;
     host.holds(addr, len) && host.equals(addr, want)

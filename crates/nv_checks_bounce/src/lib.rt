@@ -1,5 +1,5 @@
-//! Tests of the copies between a guest's places and a slot of the host, by public calls alone: a crate with tests is proved twice, so
-//! they stand here and not beside the code.
+//! Tests of the copies between a guest's places and a slot of the host, by public calls alone: a crate with tests is proved twice, so they are here
+//! and not beside the code.
 #![tactic(auto)]
 
 #[cfg(test)]

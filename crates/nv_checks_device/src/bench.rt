@@ -11,7 +11,7 @@ pub const MEDIATOR: u64 = 0x40_0000;
 /// The bytes of a lane's area.
 const LANE: u64 = 2115 * 4096;
 
-/// The most bytes that [`Bench::is_filled`] looks at.
+/// The most bytes that [`Bench::is_filled`] checks.
 const ROOM: usize = 12_288;
 
 /// A host and a device.
@@ -82,7 +82,7 @@ impl Bench {
         true
     }
 
-    /// Whether these bytes stand at an address.
+    /// Whether these bytes are at an address.
     pub fn shows(&self, addr: u64, bytes: &[u8]) -> bool {
         let len = bytes.len() as u64;
         self.host.holds(addr, len) && self.host.equals(addr, bytes)
@@ -100,14 +100,14 @@ impl Bench {
                 .all(|b| *b == byte)
     }
 
-    /// Whether the bytes of a block are this one, and its mark is as told.
+    /// Whether the bytes of a block are all this one, and its mark is as given.
     pub fn block_is(&self, block: u64, byte: u8, kept: bool) -> bool {
         block < self.device.blocks()
             && self.device.block(block).iter().all(|b| *b == byte)
             && self.device.kept(block) == kept
     }
 
-    /// Puts an entry into a slot of a lane's submission ring, and rings the doorbell behind it.
+    /// Puts an entry into a slot of a lane's submission ring, and rings the doorbell with the tail after it.
     pub fn enter(&mut self, lane: u8, at: u16, entry: &Entry) -> bool {
         if lane >= self.device.lanes() || lane >= 8 || at >= 65 {
             return false;

@@ -17,7 +17,7 @@ fn sizes_of_a_device(rt: HostRuntime) {
             && !Device::fits(MEDIATOR, 9, 1)
     );
     assert!(rt; !Device::fits(MEDIATOR, 1, 0) && !Device::fits(MEDIATOR, 1, 2_097_153));
-    // an area of 2,115 pages that ends at 2 to the 64, and one a page behind it
+    // an area of 2,115 pages that ends at 2 to the 64, and one a page after it
     assert!(rt;
         Device::fits(0u64.wrapping_sub(2115 * 4096), 1, 1)
             && !Device::fits(0u64.wrapping_sub(2114 * 4096), 1, 1)
@@ -35,7 +35,7 @@ fn entries_that_may_not_be_taken(rt: HostRuntime) -> Result<(), Fail> {
         ..Entry::new(2)
     };
     let refused = [
-        // an identifier above 63; a block behind the disk; two, of which one is
+        // an identifier above 63; a block past the end of the disk; two blocks, of which one is
         Entry {
             identifier: 64,
             ..read

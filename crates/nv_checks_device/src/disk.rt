@@ -10,11 +10,11 @@ const COUNT: usize = 600;
 // What is done to a block, or to all of them.
 #[derive(Clone, Copy)]
 enum Step {
-    // it is filled with that byte, and its mark is as told
+    // it is filled with that byte, and its mark is as given
     Write(usize, u8, bool),
-    // it becomes zeros, and its mark is as told
+    // it becomes zeros, and its mark is as given
     Clear(usize, bool),
-    // so many blocks from that one on become zeros, and their marks are as told
+    // so many blocks from that one on become zeros, and their marks are as given
     ClearRange(usize, usize, bool),
     // all are kept
     Flush,
@@ -259,7 +259,7 @@ fn few_blocks_that_are_cleared_lie_in_a_row_with_those_around_them(
 /// How many blocks are shown.
 const FEW: usize = 20;
 
-/// How many steps are made between two looks, and how many looks there are.
+/// How many steps are made between two checks, and how many checks there are.
 const STEPS_A_LOOK: u32 = 7;
 
 const LOOKS: u32 = 24;

@@ -112,7 +112,7 @@ fn manages_ranges(rt: HostRuntime) -> Result<(), Fail> {
         &rt,
         "a device of these sizes",
     );
-    // two blocks from 5 on, and none from far behind the disk
+    // two blocks from 5 on, and none from far past the end of the disk
     let mut bytes = [0; 32];
     range(&mut bytes, 0, 2, 5);
     range(&mut bytes, 16, 0, u64::MAX);
@@ -127,7 +127,7 @@ fn manages_ranges(rt: HostRuntime) -> Result<(), Fail> {
     let deallocate = Entry { cdw11: 4, ..manage };
     assert!(rt; bench.runs(rt.alloc(), 0, 2, &deallocate, 2) && bench.block_is(5, 0, false));
     assert!(rt; dword_is(&bench, 2, 0x0001_0000));
-    // a range is read as it stands when it moves
+    // a range is read as it is when it moves
     assert!(rt; writes(&mut bench, rt.alloc(), 3, 0x55, 0));
     assert!(rt;
         bench.enter(0, 4, &deallocate) && bench.take(rt.alloc(), 0) == Some(Response::Done)

@@ -1,5 +1,5 @@
-//! Tests of the physical controller and its rings by their public calls alone: a crate with tests is proved twice, so they
-//! stand here and not beside the code.
+//! Tests of the physical controller and its rings by their public calls alone: a crate with tests is proved twice, so they are here and not beside
+//! the code.
 #![tactic(auto)]
 
 #[cfg(test)]

@@ -1,4 +1,4 @@
-//! Where entries and completions stand in the rings of a lane.
+//! Where entries and completions are in the rings of a lane.
 
 use crate::bench::{Bench, Entry, MEDIATOR};
 use nv_device::Response;
@@ -50,7 +50,7 @@ fn one_command_on_the_last_lane(rt: HostRuntime) -> Result<(), Fail> {
         "a device of these sizes",
     );
     assert!(rt; bench.runs(rt.alloc(), 7, 0, &READ, 1));
-    // queue 8, behind seven lanes of 2,115 pages
+    // queue 8, after seven lanes of 2,115 pages
     let completion = [0, 0, 0, 0, 0, 0, 0, 0, 1, 0, 8, 0, 0, 0, 1, 0];
     assert!(rt; bench.shows(0x40_0000 + 7 * 2115 * 4096 + 0x2000, &completion));
     // another lane has seen nothing of it
@@ -72,7 +72,7 @@ fn rings_go_round(rt: HostRuntime) -> Result<(), Fail> {
     // the completion of the 65th has phase 1 and head 0
     let last = [0, 0, 0, 0, 0, 0, 0, 0, 0, 0, 1, 0, 0, 0, 1, 0];
     assert!(rt; bench.shows(MEDIATOR + 0x2000 + 16 * 64, &last));
-    // that of the 66th stands in slot 0, with phase 0 and head 1
+    // that of the 66th is in slot 0, with phase 0 and head 1
     assert!(rt; bench.runs(rt.alloc(), 0, 0, &READ, 1));
     let first = [0, 0, 0, 0, 0, 0, 0, 0, 1, 0, 1, 0, 0, 0, 0, 0];
     assert!(rt; bench.shows(MEDIATOR + 0x2000, &first));

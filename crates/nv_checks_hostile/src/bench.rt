@@ -23,7 +23,7 @@ pub const HONEST_IMAGE: u64 = 0x20_0000;
 /// The same of the other guest, which may have two regions more.
 pub const HOSTILE_IMAGES: [u64; 3] = [0x10_0000, 0x30_0000, 0x34_0000];
 
-/// The honest guest's extents: they lie right behind the first of the other guest's, apart from both, right before its first, and right behind its
+/// The honest guest's extents: they are right after the first of the other guest's, apart from both, right before its first, and right after its
 /// second.
 pub const HONEST_SPANS: &[Span] = &[
     Span {
@@ -101,17 +101,17 @@ pub fn slot(number: u16) -> u16 {
     number % SLOTS
 }
 
-/// Where the entry of that number stands.
+/// Where the entry of that number is.
 pub fn entry_at(number: u16) -> u64 {
     SUBMISSIONS + 64 * u64::from(slot(number))
 }
 
-/// Where the completion of that number stands.
+/// Where the completion of that number is.
 pub fn completion_at(number: u16) -> u64 {
     COMPLETIONS + 16 * u64::from(slot(number))
 }
 
-/// The doorbell's value behind the entry, or the completion, of that number.
+/// The doorbell's value after the entry, or the completion, of that number.
 pub fn behind(number: u16) -> u32 {
     u32::from(slot(number.wrapping_add(1)))
 }

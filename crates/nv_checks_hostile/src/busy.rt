@@ -75,7 +75,7 @@ impl Busy {
         }
     }
 
-    /// Goes on somewhere: a command is put into the queue, taken, carried on, or looked for in the completion queue.
+    /// Goes on somewhere: a command is put into the queue, taken, carried on, or polled for in the completion queue.
     pub fn turn(&mut self, runs: &mut Runs, random: &mut Random) {
         match random.below(8) {
             0 | 1 => self.enter(runs, random),
@@ -114,7 +114,7 @@ impl Busy {
         self.entered = self.entered.wrapping_add(1);
     }
 
-    // Looks for the next completion, and for the command's data where it is there.
+    // Polls for the next completion, and reads the command's data where the completion is there.
     fn look(&mut self, runs: &mut Runs) {
         let number = self.ended;
         runs.load(HONEST, completion_at(number), 16);
@@ -167,7 +167,7 @@ fn carry(runs: &mut Runs, random: &mut Random) {
     }
 }
 
-// A command, and what stands in memory for it.
+// A command, and what is in memory for it.
 fn command(runs: &mut Runs, random: &mut Random, area: Area) -> Fields {
     match random.below(12) {
         0 => plain(0, [0, 0, 0]),
@@ -241,7 +241,7 @@ fn listed(runs: &mut Runs, random: &mut Random, area: Area) -> (u32, [u32; 4], u
     }
 }
 
-// 17 blocks or more, which end in a third page: two page entries stand in a list.
+// 17 blocks or more, which end in a third page: two page entries are in a list.
 fn three_pages(runs: &mut Runs, area: Area, more: u32) -> (u32, [u32; 4], u32) {
     let Area { data, list } = area;
     let third = u64::from(data | 0x2000);

@@ -10,9 +10,9 @@ use nv_world_model::Event;
 const UNITS: u64 = 256;
 
 impl Runs {
-    /// Takes the command of a tag one event on, if it can go on: its list is read as it is wanted, it is submitted, the device takes it, moves
-    /// its units and posts its completion, which is reaped, and the guest is told. Another command that stands before it in the lane goes on in
-    /// its place.
+    /// Advances the command of a tag by one event, if it can go on. Its list is read as it is wanted, it is submitted, the device takes it, moves
+    /// its units and posts its completion, which is reaped, and it is reported to the guest. Another command that is before it in the lane goes on
+    /// in its place.
     pub fn carry(&mut self, tag: Tag, backwards: bool) {
         if let Some(event) = self.next(tag, backwards) {
             self.play(event);
@@ -71,7 +71,7 @@ impl Runs {
         }
     }
 
-    // What comes of the job of a tag as it stands; none where it was planned already.
+    // What planning gives for the job of a tag as it is; none where it was planned already.
     fn planned(&self, tag: Tag) -> Option<Planned> {
         let job = self.both.job(self.alloc, tag.lane, tag.number).ok()??;
         let map = self.both.map(job.guest)?;

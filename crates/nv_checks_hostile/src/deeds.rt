@@ -10,7 +10,7 @@ use nv_model::Reply;
 use nv_world_model::Event;
 use std::process::Abort;
 
-/// A step of the guest, or of the mediator or the device on its one command, or a look at what is there.
+/// A step of the guest, or of the mediator or the device on its one command, or a check of what is there.
 #[derive(Clone, Copy)]
 pub enum Deed {
     /// It makes its queues.
@@ -29,7 +29,7 @@ pub enum Deed {
     Take,
     List(u64, u64),
     Submit,
-    /// The device takes what stands in the lane, until it has taken the command.
+    /// The device takes what is in the lane, until it has taken the command.
     DevTake,
     Move(u64),
     DevPost,
@@ -37,7 +37,7 @@ pub enum Deed {
     /// What the device has posted is reaped, until the command has ended.
     Reap,
     Post,
-    /// The command goes on until it has ended and was told.
+    /// The command goes on until it has ended and was reported.
     Carry,
     /// The dword at an address is this.
     Dword(u64, u32),
@@ -65,7 +65,7 @@ pub enum Told {
 /// A step, and what is answered.
 pub type Row = (Deed, Told);
 
-/// The honest guest beside the other: how many steps it makes behind each of the other's, and whether by the same lane.
+/// The honest guest beside the other: how many steps it makes after each of the other's, and whether by the same lane.
 #[derive(Clone, Copy)]
 pub struct Beside {
     pub name: &'static str,
@@ -165,7 +165,7 @@ fn handle(runs: &mut Runs, tag: Tag, deed: Deed) {
     }
 }
 
-// The device takes what stands in the lane, until it has taken the command.
+// The device takes what is in the lane, until it has taken the command.
 fn until_taken(runs: &mut Runs, tag: Tag) {
     let first = Event::DevMove(tag.lane, tag.number, 0);
     for _ in 0..65 {
@@ -185,7 +185,7 @@ fn until_ended(runs: &mut Runs, tag: Tag) {
     }
 }
 
-// Whether what is looked at is so.
+// Whether what is checked is so.
 fn shows(runs: &Runs, tag: Tag, deed: Deed) -> bool {
     match deed {
         Deed::Dword(_, dword) => runs.has_told(&dword.to_le_bytes()),

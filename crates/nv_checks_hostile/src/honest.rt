@@ -7,7 +7,7 @@ use nv_bringup::{Fields, HEAD, SLOTS, TAIL, bytes_of};
 use nv_world_model::Event;
 use std::process::Abort;
 
-/// A command, what its guest stores before, and what it finds behind.
+/// A command, what its guest stores before it, and what it finds after it.
 struct Command {
     name: &'static str,
     /// addresses of 512 bytes, and what each of these is
@@ -122,7 +122,7 @@ pub const ROUND: u16 = 7;
 /// What the guest does next.
 #[derive(Clone, Copy)]
 enum Stage {
-    /// It stores what stands in memory for the command.
+    /// It stores what is to be in memory for the command.
     Lay,
     /// It stores the entry.
     Enter,
@@ -130,7 +130,7 @@ enum Stage {
     /// The command is taken, and goes on until it has ended.
     Take,
     Carry,
-    /// The guest looks at what came of it.
+    /// The guest checks what came of it.
     Look,
 }
 
@@ -203,7 +203,7 @@ impl Honest {
     }
 }
 
-// Stores what stands in memory for a command.
+// Stores what is to be in memory for a command.
 fn lay(runs: &mut Runs, command: &Command) {
     for (addr, byte) in command.fills {
         runs.store(HONEST, *addr, &[*byte; 512]);
@@ -223,7 +223,7 @@ fn dwords(command: &Command, identifier: u16) -> [u32; 16] {
     fields.entry(identifier)
 }
 
-// The completion of a command: the head behind its entry, queue 1, its identifier, the phase tag of the pass, and its status.
+// The completion of a command: the head after its entry, queue 1, its identifier, the phase tag of the pass, and its status.
 fn completion(command: &Command, number: u16) -> [u8; 16] {
     let phase = u32::from(number / SLOTS % 2 == 0);
     let queue = behind(number) | 1 << 16;

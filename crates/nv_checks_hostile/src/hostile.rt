@@ -11,7 +11,7 @@ use nv_bringup::{
 use nv_entry::Status;
 use nv_world_model::Event;
 
-/// Addresses: its data, its lists, its queues, its last bytes, those behind them, the host addresses of both guests' memory and queues, those of the
+/// Addresses: its data, its lists, its queues, its last bytes, those after them, the host addresses of both guests' memory and queues, those of the
 /// mediator's rings, lists and bounce pages, and the last of all.
 const ADDRESSES: &[u64] = &[
     0x3000,
@@ -102,7 +102,7 @@ const TYPES: &[u32] = &[
     0x0100_0000,
 ];
 
-/// Blocks: its own, those behind them, those of the disk that are both guests', and the last of all.
+/// Blocks: its own, those after them, those of the disk that are both guests', and the last of all.
 const BLOCKS: &[u32] = &[
     0,
     1,

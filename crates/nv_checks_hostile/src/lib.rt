@@ -1,5 +1,6 @@
-//! Tests of what an honest guest sees beside one that is not, by public calls of the world alone: the run of both guests stands beside a run of each
-//! alone, and neither guest is answered otherwise there, nor has other memory or blocks. So nothing of one reaches the other, whichever way.
+//! Tests of what an honest guest sees beside one that is not honest, by public calls of the world alone. The run of both guests is compared with a
+//! run of each guest alone: neither guest is answered otherwise there, nor has other memory or blocks. So nothing of one guest reaches the other,
+//! in either direction.
 #![tactic(auto)]
 
 #[cfg(test)]

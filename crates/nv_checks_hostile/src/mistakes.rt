@@ -26,7 +26,7 @@ fn serve(rt: &impl Abort, runs: &mut Runs) {
     runs.expect_alike(rt, "alike so far");
 }
 
-// A byte of memory is found where it stands, and where it is loaded.
+// A byte of memory is found where it is stored, and where it is loaded.
 fn expect_byte_found(rt: &impl Abort, runs: &mut Runs) {
     let bytes = BoxedBytes::from_slice(runs.alloc, &[1]).expect(rt, "a byte");
     let addr = LAST;
@@ -88,7 +88,7 @@ fn expect_block_found(rt: &impl Abort, runs: &mut Runs) {
     assert!(rt; runs.differs.is_none() && !runs.has_same_state());
 }
 
-/// What differs beside another guest, behind a round of the honest guest's commands.
+/// What differs beside another guest, after a round of the honest guest's commands.
 #[derive(Clone, Copy)]
 enum Mistake {
     Byte,

@@ -10,8 +10,8 @@ use std::process::Abort;
 /// How many seeds a test has, from its first on.
 const SEEDS: u32 = 50;
 
-/// How many stretches a run has, and how many turns each of these; about half of them are the honest guest's. Memory and blocks are compared behind
-/// each stretch, replies behind each event.
+/// How many stretches a run has, and how many turns each stretch has; about half of the turns are the honest guest's. Memory and blocks are
+/// compared after each stretch, replies after each event.
 const STRETCHES: u32 = 16;
 
 const TURNS: u32 = 50;

@@ -30,7 +30,7 @@ const SEGMENT: u32 = 0x2000_0000;
 
 const LAST: u32 = 0x3000_0000;
 
-/// Where the last dword of the first completion stands, and of the second.
+/// Where the last dword of the first completion is, and that of the second.
 const FIRST: u64 = 0x1_200c;
 
 const SECOND: u64 = 0x1_201c;
@@ -338,10 +338,10 @@ const FAILED_IN_A_USED_SLOT: &[Row] = &[
 /// No rows.
 const NONE: &[Row] = &[];
 
-/// How many steps the honest guest makes behind each of the other's.
+/// How many steps the honest guest makes after each of the other's.
 const PACES: [u16; 4] = [0, 1, 2, 5];
 
-/// Rows that are played one list behind another, with the honest guest beside.
+/// Rows that are played one list after another, with the honest guest beside them.
 #[derive(Clone, Copy)]
 struct Scene {
     beside: Beside,

@@ -23,7 +23,7 @@ pub struct Runs {
     honest: World,
     hostile: World,
     pub tags: Tags,
-    /// how many events the run of both guests had behind the first that was answered otherwise in the run of its guest alone
+    /// how many events the run of both guests had directly after the first that was answered otherwise in the run of its guest alone
     pub differs: Option<usize>,
     /// whether memory was refused
     pub lost: bool,
@@ -159,7 +159,7 @@ impl Runs {
         Some(entry)
     }
 
-    /// Whether these bytes stand at an address of the host, in the run of both guests.
+    /// Whether these bytes are at an address of the host, in the run of both guests.
     pub fn host_shows(&self, addr: u64, bytes: &[u8]) -> bool {
         let host = self.both.host();
         host.holds(addr, bytes.len() as u64) && host.equals(addr, bytes)

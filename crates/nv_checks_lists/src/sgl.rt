@@ -44,7 +44,7 @@ fn store(memory: &mut [u8], at: usize, row: Row) {
     }
 }
 
-// A memory of zeros, which are Data Blocks of length 0, in which these descriptors stand.
+// A memory of zeros, which are Data Blocks of length 0, with these descriptors in it.
 fn memory_of(alloc: Global, rows: &[(usize, Row)]) -> Result<Vec<u8>, NoMemory> {
     let mut memory = vec![in alloc; 0u8; 0x20000]?;
     for (at, row) in rows {
@@ -77,7 +77,7 @@ fn guest_of(alloc: Global, memory: Vec<u8>) -> Result<Guest, Fail> {
     Ok(Guest { memory, map })
 }
 
-/// A guest in whose memory these descriptors stand.
+/// A guest with these descriptors in its memory.
 pub(crate) fn guest_with(alloc: Global, rows: &[(usize, Row)]) -> Result<Guest, Fail> {
     guest_of(alloc, memory_of(alloc, rows)?)
 }

@@ -1,4 +1,4 @@
-//! Events that look random, the same for each seed, of a guest that was brought up before.
+//! Pseudorandom events, the same for each seed, of a guest that was brought up before.
 
 use nv_bringup::{HEAD, Random, SUBMISSIONS, TAIL, bytes_of};
 use nv_entry::{Status, StatusCode};

@@ -1,4 +1,4 @@
-//! What a caller has of the promises: each word of the contracts of [`nv_world::World`] and [`nv_mediator::Mediator`] gives what it stands for.
+//! What a caller has of the promises: each word of the contracts of [`nv_world::World`] and [`nv_mediator::Mediator`] gives what it means.
 //!
 //! There is no code here. A word that said less would be refused.
 
@@ -40,7 +40,7 @@ pub fn of_a_mediator()
     ensures contained { (h : Hosted) (log : List Logged) → IsPromised h → IsLog log h → AreContained h.geometry log (world_at_start (setup_of h)) }
     // There is such a log, and it leads to the world.
     ensures led { (h : Hosted) → HasLog h → (log : List Logged) × IsLog log h × IsReplay h.geometry (world_at_start (setup_of h)) log (hosted_world h) }
-    // A caller that keeps a log has one: of nothing at the start, and with one more member behind each event that was carried out.
+    // A caller that keeps a log has one: it is empty at the start, and has one more member after each event that was carried out.
     ensures at_start { (s : SetUp) (h : Hosted) → IsAtStart s h → IsLog [] h }
     ensures one_more { (old new : Hosted) (log : List Logged) (l : Logged) → IsLog log old → IsMade l.event old l.reply new → IsLog (log ++ l ∷ []) new }
 {}

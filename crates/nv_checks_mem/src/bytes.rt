@@ -5,7 +5,7 @@ use std::mem::{align_of, size_of};
 use std::process::Abort;
 use std::test::Fail;
 
-/// How many bytes: none, up to all that stand in place, and more.
+/// How many bytes: none, up to all that are stored in place, and more.
 const LENGTHS: [usize; 5] = [0, 1, 7, 8, 512];
 
 // Ends the test where so many bytes are not kept, or not exchanged for others.
@@ -21,7 +21,7 @@ fn expect(rt: &(impl Abort + AllocGlobal), len: usize) -> Result<(), Fail> {
     Ok(())
 }
 
-// The same of bytes behind one pointer.
+// The same of bytes that one pointer points to.
 fn expect_boxed(rt: &(impl Abort + AllocGlobal), len: usize) -> Result<(), Fail> {
     let sevens = vec![in rt.alloc(); 7u8; len]?;
     let nines = vec![in rt.alloc(); 9u8; len]?;

@@ -150,7 +150,7 @@ const REFUSALS: &[(u64, &[Region], Option<MapError>)] = &[
         ],
         Some(MapError::OutsideHost),
     ),
-    // guest addresses up to 2 to the 64, and past it: the wrapped addresses are not looked at
+    // guest addresses up to 2 to the 64, and past it: the wrapped addresses are not checked
     (
         0x3000,
         &[
@@ -313,7 +313,7 @@ fn runs_as_far_as_guest_and_host_go_on(rt: HostRuntime) -> Result<(), Fail> {
     Ok(())
 }
 
-// 64 pages of a guest, the last first, behind the first page of the host.
+// 64 pages of a guest, the last first, after the first page of the host.
 fn sixty_four(alloc: Global) -> Result<Vec<Region>, NoMemory> {
     let mut regions = Vec::new(alloc);
     for i in 0..64u64 {
@@ -331,7 +331,7 @@ fn is_map_of(map: &GuestMap, host_len: u64, regions: &[Region]) -> bool {
     map.host_len() == host_len && map.regions() == regions
 }
 
-// Whether a map of 64 pages, and its clone, tell these regions.
+// Whether a map of 64 pages, and its clone, return these regions.
 fn are_told(alloc: Global, map: &GuestMap) -> Result<bool, NoMemory> {
     let regions = sixty_four(alloc)?;
     let clone = map.try_clone(alloc)?;

@@ -1,5 +1,5 @@
-//! Tests of host memory, maps, namespaces and the checks of a command, by public calls alone: a crate with tests is proved twice, so
-//! they stand here and not beside the code.
+//! Tests of host memory, maps, namespaces and the checks of a command, by public calls alone: a crate with tests is proved twice, so they are here
+//! and not beside the code.
 #![tactic(auto)]
 
 #[cfg(test)]

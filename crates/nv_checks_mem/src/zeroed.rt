@@ -3,7 +3,7 @@
 use nv_zeroed::Zeroed;
 use std::test::Fail;
 
-// Whether these bytes, 16 at most, are loaded, lent and told equal, and others are not.
+// Whether these bytes, 16 at most, are loaded, lent and reported equal, and others are not.
 fn shows(zeroed: &Zeroed, at: usize, want: &[u8]) -> bool {
     let mut bytes = [9; 16];
     let mut room = [9; 16];

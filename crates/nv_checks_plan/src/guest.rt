@@ -21,7 +21,7 @@ pub const SEGMENT: u8 = 0x20;
 
 pub const LAST: u8 = 0x30;
 
-/// A descriptor in the guest's memory: where it stands, its last byte, its address and its length.
+/// A descriptor in the guest's memory: where it is, its last byte, its address and its length.
 pub type Row = (usize, u8, u64, u32);
 
 /// Dwords of an entry that differ from those of a Read of one block from LBA 5 by one Data Block of 512 bytes at 3000h, CID 7.
@@ -94,7 +94,7 @@ impl Guest {
         Guest::mapped(alloc, &[region])
     }
 
-    /// The guest, in whose memory these descriptors stand.
+    /// The guest, with these descriptors in its memory.
     pub fn with(alloc: Global, rows: &[Row]) -> Result<Self, Fail> {
         let mut guest = Guest::new(alloc)?;
         for (at, kind, addr, len) in rows {

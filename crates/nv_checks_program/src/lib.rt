@@ -1,5 +1,4 @@
-//! Tests of the crates below the program, by their public calls alone. They stand in a crate of their own because a crate with tests is
-//! proved twice.
+//! Tests of the crates below the program, by their public calls alone. They are in a crate of their own because a crate with tests is proved twice.
 #![tactic(auto)]
 
 #[cfg(test)]

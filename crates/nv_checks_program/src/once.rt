@@ -256,7 +256,7 @@ impl Read for FailingReader<'_> {
     }
 }
 
-/// How many bytes of the first run are read before the reader fails, how it fails, and what is told.
+/// How many bytes of the first run are read before the reader fails, how it fails, and what is reported.
 type FailedRead = (usize, ErrorKind, ExitStatus, &'static str);
 
 const FAILED_READS: [FailedRead; 5] = [
@@ -441,7 +441,7 @@ fn a_replay_whose_writer_fails(rt: HostRuntime) -> Result<(), Fail> {
     Ok(())
 }
 
-/// Refusals of words, what is told, and how the program ends.
+/// Refusals of words, what is reported, and how the program ends.
 const REFUSALS: [(Refusal, &str, ExitStatus); 2] = [
     (
         Refusal::Usage,
@@ -508,7 +508,7 @@ fn status_of_first_run(alloc: Global, room: usize, faults: &mut FailingWriter) -
     ExitStatus::of(&ended)
 }
 
-// A fault is told and flushed; where it cannot be told, the program ends as ever.
+// A fault is reported and flushed; where it cannot be reported, the program ends as it would otherwise.
 #[test]
 fn tells_of_an_output_that_fails(rt: HostRuntime) {
     let mut faults = writer(rt.alloc(), 1000, true);
@@ -604,8 +604,8 @@ impl Write for Page {
     }
 }
 
-// It passes whichever allocation of the process is refused: the run ends well, or for want of memory, and what it printed is a
-// beginning of its output.
+// It passes whichever allocation of the process is refused: the run succeeds, or ends because it is out of memory, and what it printed is a prefix
+// of its output.
 #[test]
 fn a_script_where_memory_is_refused(rt: HostRuntime) {
     let mut output = Page::new();

@@ -14,7 +14,7 @@ const SET_UP: &str = "memory 0x10000\nblocks 64\n";
 const READ: &str =
     "02400700010000000000000000000000000000000000000000300000000000000002000000000000050000000000000000000000000000000000000000000000";
 
-/// Lines behind the set-up.
+/// Lines after the set-up.
 const LINES: &str = "\
 store 0x3000 abCD|[Store { addr: 12288, bytes: [171, 205] }]
 store 65535 00|[Store { addr: 65535, bytes: [0] }]
@@ -238,7 +238,7 @@ fn answer(rt: &impl AllocGlobal, text: &[u8]) -> Result<String, Fail> {
     }
 }
 
-// One text behind another.
+// One text after another.
 fn joined(alloc: Global, front: &str, back: &str) -> Result<String, AllocError> {
     format!(in alloc; "{front}{back}")
 }
@@ -260,7 +260,7 @@ fn expect(
     Ok(())
 }
 
-// What comes of the script of a row behind a beginning is what the row says behind another.
+// The script of a row after a beginning gives what the row says after another beginning.
 fn expect_row(
     rt: &(impl Abort + AllocGlobal),
     beginning: &str,

@@ -48,7 +48,7 @@ impl Env for Process<'_> {
     }
 }
 
-// Ends the test where a process with these words has others behind its name.
+// Ends the test where a process with these words has others after its name.
 fn expect_words(rt: &(impl Abort + AllocGlobal), given: &[&[u8]], want: &[&str]) {
     let process = Process {
         words: given,
@@ -117,7 +117,7 @@ impl Read for Given<'_> {
     }
 }
 
-/// The words of a process, its input, the number that it ends with, what it prints, and what it tells.
+/// The words of a process, its input, the number that it exits with, what it prints, and what it reports.
 type Ended = (
     &'static [&'static [u8]],
     Option<&'static [u8]>,
@@ -128,7 +128,7 @@ type Ended = (
 
 const USAGE: &str = "usage: nvmed once | replay | run | decode KIND HEX\n";
 
-/// A guest that looks at its memory.
+/// A guest that reads its memory.
 const ONE_GUEST: &[u8] = b"host 0x1000000
 mediator 0x400000
 disk 4096

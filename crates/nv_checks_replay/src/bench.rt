@@ -20,7 +20,7 @@ map 0 0x0 0x100000 0x20000
 map 1 0x0 0x200000 0x20000
 ";
 
-/// What a run printed and told, and how it ended.
+/// What a run printed and reported, and how it ended.
 #[derive(Drop)]
 pub(crate) struct Outcome {
     pub(crate) status: ExitStatus,

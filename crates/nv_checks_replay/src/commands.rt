@@ -98,7 +98,7 @@ load 0 0x3200 4 => bytes 5a5aeeee
 load 0 0x12010 16 => bytes 00000000000000000200010008000100
 ";
 
-/// A reset with a Read in flight: the guest is told that it is off, and can go on, once the Read has ended.
+/// A reset with a Read in flight: the guest is shown that it is off, and can go on, once the Read has ended.
 const RESET: &str = "\
 fill 0 0x3000 512 0xee
 store 0 0x13000 024007000100000000000000000000000000000000000000003000000000000000020000000000000500\
@@ -212,7 +212,7 @@ load 0 0x1202c 4 => bytes 09000100
 load 0 0x3000 4 => bytes 00000000
 ";
 
-/// Two Writes and a Flush at once on a lane, moved, posted and told in other orders; and a Read of what they wrote.
+/// Two Writes and a Flush at once on a lane, moved, posted and reported in other orders; and a Read of what they wrote.
 const AT_ONCE: &str = "\
 fill 0 0x3000 512 0x11
 fill 0 0x4000 512 0x22
@@ -329,7 +329,7 @@ load 0 0x61fc 8 => bytes 1111111122222222
 load 0 0x63fc 8 => bytes 2222222233333333
 ";
 
-/// A list that the guest changes behind its first part: what was read of it holds.
+/// A list that the guest changes after its first part: what was read of it holds.
 const CHANGED: &str = "\
 fill 0 0x3000 12288 0xee
 fill 0 0x4000 512 0xa5
@@ -477,7 +477,7 @@ take 0 2 0 => idle
 submit 0 9
 ";
 
-// Ends the test where these events, behind what the guests do first, reply otherwise.
+// Ends the test where these events, after what the guests do first, reply otherwise.
 fn expect(
     rt: &(impl Abort + AllocGlobal),
     set_up: &str,

@@ -8,7 +8,7 @@ use std::test::Fail;
 /// The digits that are printed.
 const DIGITS: &[u8; 16] = b"0123456789abcdef";
 
-/// How often all bytes stand behind one another in the memory.
+/// How many times all bytes are in the memory, one time after another.
 const TIMES: u8 = 6;
 
 /// More bytes than a short line has, and no whole number of blocks of those that are written at once.

@@ -5,8 +5,8 @@ use nv_commands::ExitStatus;
 use std::alloc::{AllocError, Global};
 use std::process::Abort;
 
-/// What a guest does first: its word, and what stands behind the guest's number. It makes its admin queues of 32 slots, and with them queue
-/// pair 1, of 16 slots each: the completion queue at 12000h, the submission queue at 13000h.
+/// What a guest does first: its word, and what comes after the guest's number. It makes its admin queues of 32 slots, and with them queue pair 1,
+/// of 16 slots each: the completion queue at 12000h, the submission queue at 13000h.
 const BRING_UP: [(&str, &str); 9] = [
     (
         "store",
@@ -59,7 +59,7 @@ impl Script {
         self.printed.push_str(&told)
     }
 
-    /// Adds the events of these lines. Behind ` => ` stands what an event replies, where that is not `done`.
+    /// Adds the events of these lines. After ` => ` comes what an event replies, where that is not `done`.
     pub(crate) fn play(&mut self, lines: &str) -> Result<(), AllocError> {
         for line in lines.lines() {
             let (event, reply) = line.split_once(" => ").unwrap_or((line, "done"));

@@ -1,6 +1,6 @@
-//! Extents of guests' namespaces, as a set-up names them. Expected answers are read off the rules by hand.
+//! Extents of guests' namespaces, as a set-up names them. Expected answers are derived from the rules by hand.
 //!
-//! A row of a table is lines behind the set-up and what is told of them, with `|` between them and `;` for each line feed.
+//! A row of a table has the lines after the set-up and what is reported of them, with `|` between them and `;` for each line feed.
 
 use crate::bench::{Outcome, replayed, same_text, served};
 use crate::events::Script;
@@ -96,7 +96,7 @@ extent 0 3000 32;map 1 0x20000 0x100000 0x1000|setup refused: 3 MapsMeet
 /// All that are refused.
 const TABLES: [&str; 5] = [FAULTS, MEETING, TOO_MANY, BAD_SIZES, BEFORE];
 
-// The script of a row, and what is told of it.
+// The script of a row, and what is reported of it.
 fn script_of(alloc: Global, row: &str) -> Result<(String, String), Fail> {
     let (lines, told) = row.split_once('|').ok_or("a row without a bar")?;
     let lines = lines.replace(alloc, ';', "\n")?;

@@ -35,7 +35,7 @@ const BROUGHT_UP: &str = "\
 0 met
 ";
 
-/// Lines, what they print, what is told, and how the program ends.
+/// Lines, what they print, what is reported, and how the program ends.
 struct Case {
     lines: &'static str,
     printed: &'static str,
@@ -43,7 +43,7 @@ struct Case {
     status: ExitStatus,
 }
 
-// Ends the test where the program prints or tells something else of these lines behind a beginning.
+// Ends the test where the program prints or reports something else for these lines after a beginning.
 fn expect<T: Abort + AllocGlobal + Threads + Wait + Clock + Sync>(
     rt: &T,
     beginning: &str,
@@ -65,7 +65,7 @@ fn expect<T: Abort + AllocGlobal + Threads + Wait + Clock + Sync>(
     Ok(())
 }
 
-/// Behind the set-up: nothing; looks of both guests, the later guest's first; a map and a line that are refused.
+/// After the set-up: nothing; accesses of both guests, the later guest's first; a map and a line that are refused.
 const LOOKS: [Case; 2] = [
     Case {
         lines: "",
@@ -89,7 +89,7 @@ fn prints_guest_by_guest(rt: HostRuntime) -> Result<(), Fail> {
     Ok(())
 }
 
-/// A list of two Data Blocks behind a Last Segment, three descriptors in all, with CID 7.
+/// A list of two Data Blocks after a Last Segment, three descriptors in all, with CID 7.
 const LIST: &str = "\
 store 0 0x6000 003e000000000000000200000000000000500000000000000002000000000000
 store 0 0x13000 024007000100000000000000000000000000000000000000006000000000000020000000000000300500\
@@ -116,7 +116,7 @@ fn a_planner_goes_by_its_guests_limit(rt: HostRuntime) -> Result<(), Fail> {
     Ok(())
 }
 
-/// Behind the set-up: what is refused before any guest acts.
+/// After the set-up: what is refused before any guest acts.
 const REFUSED: [Case; 3] = [
     Case {
         lines: "load 0 0x0 4\nadmin 0\n",
@@ -146,7 +146,7 @@ fn refuses_before_any_guest_acts(rt: HostRuntime) -> Result<(), Fail> {
     Ok(())
 }
 
-/// Behind the bring-up: a Read of block 5 by a list; and a reset with that Read in flight.
+/// After the bring-up: a Read of block 5 by a list; and a reset with that Read in flight.
 const READS: [Case; 2] = [
     Case {
         lines: "store 0 0x13000 0240070001000000000000000000000000000000000000000030000000000000000200000000\
@@ -184,7 +184,7 @@ fn reads_and_resets(rt: HostRuntime) -> Result<(), Fail> {
     Ok(())
 }
 
-/// Two waits that are never met: the lower line is told, and nothing printed.
+/// Two waits that are never met: the lower line is reported, and nothing is printed.
 const IN_VAIN: Case = Case {
     lines: "load 1 0x0 4\nawaitreg 1 0x1c 1\nawait 0 0x0 0x00000001\nload 0 0x0 4\n",
     printed: "",
@@ -197,7 +197,7 @@ fn waits_in_vain(rt: HostRuntime) -> Result<(), Fail> {
     expect(&rt, SET_UP, "", &IN_VAIN)
 }
 
-/// Behind the bring-up: a Read of block 5 is under way, and the wait for its completion is for another than it has.
+/// After the bring-up: a Read of block 5 is under way, and the wait for its completion is for another completion than it has.
 const NEVER_MET: Case = Case {
     lines: "store 0 0x13000 0240070001000000000000000000000000000000000000000030000000000000000200000000\
 0000050000000000000000000000000000000000000000000000

@@ -1,5 +1,4 @@
-//! Tests of what `replay` and `run` print, by public calls alone: a crate with tests is proved twice, so they stand here and not beside the
-//! code.
+//! Tests of what `replay` and `run` print, by public calls alone: a crate with tests is proved twice, so they are here and not beside the code.
 #![tactic(auto)]
 
 #[cfg(test)]

@@ -110,7 +110,7 @@ const READ_AGAIN: &str = "list 0 0 0x6000 32";
 /// What it holds.
 const AS_BEFORE: &str = "bytes 0030000000000000000000000000000000600000000000002000000000000020";
 
-// A script whose first guest has this limit, behind what it does first.
+// A script whose first guest has this limit, after what the guest does first.
 fn script(rt: &impl AllocGlobal, limit: u64) -> Result<Script, AllocError> {
     let set_up = format!(in rt.alloc(); "{SET_UP}descriptors 0 {limit}\n")?;
     let mut script = Script::new(rt.alloc(), &set_up)?;
@@ -180,7 +180,7 @@ fn a_list_without_end_is_read_as_often_as_the_limit_says(rt: HostRuntime) -> Res
     Ok(())
 }
 
-/// Limits that none may be, and what is told of each.
+/// Limits that are not allowed, and what is reported of each.
 const REFUSED: [&str; 4] = ["0", "4097", "0x100000001", "0xffffffffffffffff"];
 
 #[test]

@@ -30,8 +30,8 @@ map 2 0x0 0x300000 0x20000
 map 3 0x0 0x380000 0x20000
 ";
 
-/// What each guest does: its word, and what stands behind the guest's number. It brings queue pair 1 up, writes its first block from 4000h,
-/// and reads it at 3000h.
+/// What each guest does: its word, and what comes after the guest's number. It brings queue pair 1 up, writes its first block from 4000h, and reads
+/// it at 3000h.
 const ACTS: [(&str, &str); 16] = [
     (
         "store",
@@ -67,7 +67,7 @@ const ACTS: [(&str, &str); 16] = [
     ("load", "0x31fc 4"),
 ];
 
-/// What they print, behind the guest's number.
+/// What they print, after the guest's number.
 const TOLD: [&str; 14] = [
     "done", "done", "done", "done", "done", "done", "done", "met", "done", "done", "met", "done",
     "done", "met",

@@ -5,7 +5,7 @@ use nv_commands::ExitStatus;
 use std::process::Abort;
 use std::test::Fail;
 
-/// A script, what is printed of it, what is told, and how the program ends.
+/// A script, what is printed for it, what is reported, and how the program ends.
 #[derive(Drop)]
 struct Case {
     script: &'static str,
@@ -14,7 +14,7 @@ struct Case {
     status: ExitStatus,
 }
 
-// Ends the test where the program does otherwise with the script of a case behind a beginning.
+// Ends the test where the program does otherwise with the script of a case after a beginning.
 fn expect(rt: &(impl Abort + AllocGlobal), beginning: &str, case: &Case) -> Result<(), Fail> {
     let script = case.script;
     let text = format!(in rt.alloc(); "{beginning}{script}")?;
@@ -109,7 +109,7 @@ fn brings_a_guest_up(rt: HostRuntime) -> Result<(), Fail> {
     expect_all(&rt, SET_UP, &BRING_UP)
 }
 
-/// Lines behind the set-up, and why nothing of them runs.
+/// Lines after the set-up, and why nothing of them runs.
 const REFUSED: [(&str, &str); 9] = [
     ("store 0 0x3000 abc", "line 9: bad bytes\n"),
     (

@@ -6,7 +6,7 @@ use std::alloc::{AllocError, Global};
 use std::process::Abort;
 use std::test::Fail;
 
-/// The beginning of a script whose last line stores what is written behind it.
+/// The beginning of a script whose last line stores what is written after it.
 const FRONT: &[u8] = b"memory 4096\nblocks 1\nstore 0 ";
 
 /// The digits in either case.

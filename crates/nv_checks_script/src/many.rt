@@ -1,4 +1,4 @@
-//! Scripts of a hundred thousand lines, and lines with many bytes. The contract of a parse lets it answer want of memory at any time: it doesn't
+//! Scripts of a hundred thousand lines, and lines with many bytes. The contract of a parse lets it return out of memory at any time: it doesn't
 //! where there is memory.
 
 use nv_model::Act;

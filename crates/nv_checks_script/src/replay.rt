@@ -22,7 +22,7 @@ map 1 0x0 0x200000 0x20000
 /// Sizes alone, on one line of a row each.
 const SIZES: &str = "host 8192\nmediator 4096\ndisk 1\nlanes 1\n";
 
-/// Lines behind the set-up, and their events.
+/// Lines after the set-up, and their events.
 const EVENTS: &str = "\
 |[]
 store 0 0x10000 abCD|[Guest(0, Store { addr: 65536, bytes: BoxedBytes { bytes: [171, 205] } })]
@@ -56,7 +56,7 @@ post 0 1|[Post(0, 1)]
 load 0 0x0 4;take 5 1 0;post 0 0|[Guest(0, Load { addr: 0, len: 4 }), Take(5, 1, 0), Post(0, 0)]
 ";
 
-/// Faults of line 9, behind the set-up.
+/// Faults of line 9, after the set-up.
 const FAULTS: &str = "\
 store 0 0x3000 abc|bad bytes
 frob 0|unknown word
@@ -160,7 +160,7 @@ lanes 1;disk 1;mediator 0;host 0;guest 0 range 0 1 heap 256;reap 0;descriptors 0
 lanes 1;disk 1;mediator 0;host 0;guest 0 range 0 1 heap 256;reap 0;descriptors 0|line 7: missing word
 ";
 
-/// Guests behind sizes alone.
+/// Guests after sizes alone.
 const GUESTS: &str = "\
 |[]
 guest 0 range 18446744073709551615 0 heap 256|\
@@ -190,7 +190,7 @@ Region { guest: 4, host: 5, len: 6 }] }, \
 GuestSetUp { extents: [Extent { base: 2, blocks: 3 }], heap: 256, limit: None, regions: [] }]
 ";
 
-/// What of a script a test looks at.
+/// What a test checks of a script.
 #[derive(Clone, Copy)]
 enum Part {
     Guests,
@@ -206,12 +206,12 @@ fn answer(rt: &impl AllocGlobal, text: &str, part: Part) -> Result<String, Fail>
     }
 }
 
-// One text behind another.
+// One text after another.
 pub(crate) fn joined(alloc: Global, front: &str, back: &str) -> Result<String, AllocError> {
     format!(in alloc; "{front}{back}")
 }
 
-// Each row of the table behind a beginning gives what the row says behind another.
+// The script of each row of the table after a beginning gives what the row says after another beginning.
 fn expect_rows(
     rt: &(impl Abort + AllocGlobal),
     beginning: &str,

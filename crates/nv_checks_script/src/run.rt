@@ -1,6 +1,6 @@
-//! Scripts of `run` and their faults. Expected values are read off the rules by hand.
+//! Scripts of `run` and their faults. Expected values are derived from the rules by hand.
 //!
-//! A row of a table is lines behind the set-up and what comes of them, the lines or the fault, with `|` between them and `;` for each line
+//! A row of a table has the lines after the set-up and what comes of them, the lines or the fault, with `|` between them and `;` for each line
 //! feed.
 
 use crate::replay::{SET_UP, joined};
@@ -8,7 +8,7 @@ use nv_run_script::parse;
 use std::process::Abort;
 use std::test::Fail;
 
-/// Lines behind the set-up, and what they are.
+/// Lines after the set-up, and what they are.
 const LINES: &str = "\
 |[]
 store 0 0x10000 abCD|[Line { number: 9, guest: 0, task: Act(Store { addr: 65536, bytes: BoxedBytes { bytes: [171, 205] } }) }]
@@ -21,7 +21,7 @@ await 1 0xffffffffffffffff 0xffffffff|[Line { number: 9, guest: 1, task: Await {
 awaitreg 1 0x1c 0|[Line { number: 9, guest: 1, task: AwaitReg { offset: 28, value: 0 } }]
 ";
 
-/// Faults of line 9, behind the set-up.
+/// Faults of line 9, after the set-up.
 const FAULTS: &str = "\
 store 0 0x3000 abc|bad bytes
 frob 0|unknown word
@@ -71,7 +71,7 @@ guest 1 range 0 1 heap 256|out of place
 guest 2 range 0 1 heap 255|bad number
 ";
 
-// Each row of the table gives what the row says behind a beginning.
+// Each row of the table gives what the row says after a beginning.
 fn expect_rows(rt: &(impl Abort + AllocGlobal), expected: &str, table: &str) -> Result<(), Fail> {
     for row in table.lines() {
         let (lines, rest) = row.split_once('|').ok_or("a row without a bar")?;

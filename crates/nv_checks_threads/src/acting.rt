@@ -9,7 +9,7 @@ use std::sync::Wait;
 use std::thread;
 use std::time::{Clock, Duration};
 
-/// How often a guest looks for a completion, 100 microseconds apart.
+/// How often a guest polls for a completion, 100 microseconds apart.
 const LOOKS: u32 = 200_000;
 
 /// A guest at its port.
@@ -37,7 +37,7 @@ pub fn stores<R: Wait>(
     is_done(rt, seat, Act::Store { addr, bytes })
 }
 
-/// Whether these bytes stand in the guest's memory.
+/// Whether these bytes are in the guest's memory.
 pub fn finds<R: Wait>(
     rt: &R,
     seat: &mut Seat<'_>,

@@ -21,7 +21,7 @@ use std::time::{Clock, Duration};
 /// A heap with room for any plan.
 const HEAP: u64 = 65536;
 
-/// How often the gate looks whether guest 1's commands are posted, a millisecond apart.
+/// How often the gate polls whether guest 1's commands are posted, a millisecond apart.
 const TURNS: u32 = 10_000;
 
 /// A gate that does something else at its first call for guest 0: it waits until guest 1's commands are posted, or answers that there
@@ -165,7 +165,8 @@ fn gives_up_where_the_gate_has_no_memory(rt: HostRuntime) -> Result<(), Fail> {
 /// A heap with room for a list of 1,000 descriptors.
 const LARGE_HEAP: u64 = 1_048_576;
 
-// Of a list that is read in four parts the gate is asked before the first and behind the last, and of the Read by PRP behind it once.
+// About a list that is read in four parts the gate is asked before the first part and after the last. About the Read by PRP that comes after the
+// list it is asked once.
 #[test]
 fn asks_the_gate_twice_however_often_a_list_is_read(rt: HostRuntime) -> Result<(), Fail> {
     let alloc = rt.alloc();

@@ -88,7 +88,7 @@ fn begins_to_read(world: &mut World, alloc: Global) -> bool {
     true
 }
 
-// Whether the guest finds both completions; then the workers are told to stop.
+// Whether the guest finds both completions; then the workers get the signal to stop.
 fn finds_completions<R: Wait + Clock>(rt: &R, alloc: Global, shared: &Shared) -> bool {
     let mut port = Port::new(alloc, 0);
     let mut seat = Seat {
@@ -128,7 +128,7 @@ fn are_planned_and_ended<R: Threads + Wait + Clock + Sync>(
     found
 }
 
-// No command comes behind them, so the planner takes none.
+// No command comes after them, so the planner takes none.
 #[test]
 fn all_commands_that_were_taken_are_planned(rt: HostRuntime) -> Result<(), Fail> {
     let alloc = rt.alloc();

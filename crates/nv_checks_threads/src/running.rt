@@ -12,12 +12,12 @@ use std::sync::atomic::{AtomicBool, Ordering};
 use std::thread::{Threads, join};
 use std::time::Clock;
 
-/// What a guest does behind its bring-up.
+/// What a guest does after its bring-up.
 #[derive(Clone, Copy)]
 pub enum Part {
     /// It reads a block by a list of one Data Block, and the completion's last dword is this.
     Read(u32),
-    /// It writes a block, flushes, reads the block back, and tells that these three are posted.
+    /// It writes a block, flushes, reads the block back, and reports that these three are posted.
     WriteAndRead,
     /// It reads through a list of 1,000 descriptors, and the completion's last dword is this; then by PRP.
     ReadBySegment(u32),
@@ -121,7 +121,7 @@ fn guest<R: Wait + Clock>(
     (port, met)
 }
 
-// Both guests; then the workers are told to stop.
+// Both guests; then the workers get the signal to stop.
 fn guests<R: Threads + Wait + Clock + Sync>(
     rt: &R,
     alloc: Global,

@@ -21,7 +21,7 @@ use std::time::{Clock, Duration};
 /// A heap with room for any plan.
 const HEAP: u64 = 1_048_576;
 
-/// How often is looked whether both plans are made, a millisecond apart.
+/// How often it is polled whether both plans are made, a millisecond apart.
 const LOOKS: u32 = 10_000;
 
 /// Submission queue 8 of 16 slots at 14000h is created, for completion queue 1.
@@ -119,7 +119,7 @@ fn fills(world: &mut World, alloc: Global) -> bool {
         && rings(world, alloc, 0x1040, 1)
 }
 
-// Tells the planner to stop once both plans are made.
+// Signals the planner to stop once both plans are made.
 fn stops<C: Clock>(clock: &C, shared: &Shared, gate: &Second) {
     for _look in 0..LOOKS {
         if gate.plans.load(Ordering::SeqCst) == 2 {
@@ -130,7 +130,7 @@ fn stops<C: Clock>(clock: &C, shared: &Shared, gate: &Second) {
     shared.stop();
 }
 
-// The world behind the planner.
+// The world after the planner.
 fn planned<R: Threads + Wait + Clock + Abort + Sync>(rt: &R, alloc: Global, world: World) -> World {
     let shared = Shared::new(world);
     let gate = Second {

@@ -1,5 +1,5 @@
-//! What waits ends by itself, however often and in whatever order it is done: guests for news, threads for the world's lock, workers for
-//! bells until they are told to stop.
+//! Each wait ends by itself, however often and in whatever order it is done: guests wait for news, threads for the world's lock, workers for bells
+//! until they get the signal to stop.
 
 ghost use Rattle.std.specs.Prelude.{◌<◌};
 
@@ -31,13 +31,13 @@ const TAKERS: usize = 8;
 
 const ACTS: u32 = 10_000;
 
-/// How often workers are started, and told to stop.
+/// How often workers are started, and get the signal to stop.
 const ROUNDS: u32 = 150;
 
 /// A heap with room for a plan.
 const HEAP: u64 = 4_096;
 
-// A thread that waits in vain sleeps, and doesn't look all the time.
+// A thread whose wait is never met sleeps, and doesn't poll all the time.
 #[test]
 fn a_wait_that_nobody_rings_for_ends(rt: HostRuntime) -> Result<(), Fail> {
     let shared = Shared::new(opened(rt.alloc()).expect(&rt, "a world"));
@@ -88,7 +88,7 @@ fn waits_while_others_ring_end(rt: HostRuntime) -> Result<(), Fail> {
     Ok(())
 }
 
-// Reads a register over and over; how often it was told.
+// Reads a register over and over; how often its value was returned.
 fn reads<R: Wait>(rt: &R, alloc: Global, shared: &Shared, guest: u8) -> u32
     requires { guest < 16 }
 {
@@ -116,7 +116,7 @@ fn each_thread_gets_the_lock_each_time(rt: HostRuntime) -> Result<(), Fail> {
     Ok(())
 }
 
-// Tells the workers to stop: at once, once they have looked around, or while they sleep.
+// Signals the workers to stop: at once, once they have polled, or while they sleep.
 fn stops<C: Clock>(clock: &C, shared: &Shared, round: u32) {
     match round % 3 {
         0 => {}

@@ -90,7 +90,7 @@ pub enum Act {
         addr: u64,
         cid: u16,
     },
-    /// A completion stands at this address: head, queue, and the last dword.
+    /// A completion is at this address: head, queue, and the last dword.
     Completion {
         addr: u64,
         head: u16,
@@ -193,7 +193,7 @@ pub const BRING_UP: &[Act] = &[
     },
 ];
 
-/// Behind the bring-up: queue pair 1 with 16 slots each, the completion queue at 12000h, the submission queue at 13000h.
+/// After the bring-up: queue pair 1 with 16 slots each, the completion queue at 12000h, the submission queue at 13000h.
 pub const PAIR: &[Act] = &[
     Act::MakeCompletion {
         queue: 1,

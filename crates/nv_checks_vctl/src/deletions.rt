@@ -4,7 +4,7 @@ use crate::acts::{Act, BRING_UP, PAIR, check};
 use crate::desk::Desk;
 use std::test::Fail;
 
-/// Behind queue pair 1: a queue with a taken command closes, and goes once the command is completed.
+/// After queue pair 1: a queue with a taken command closes, and goes once the command is completed.
 const WAITS: &[Act] = &[
     Act::Ring {
         offset: 0x1008,

@@ -59,7 +59,7 @@ impl Desk {
         true
     }
 
-    /// Whether these bytes stand at a guest address.
+    /// Whether these bytes are at a guest address.
     pub fn shows(&self, addr: u64, bytes: &[u8]) -> bool {
         let Some(at) = addr.checked_add(GUEST_AT) else {
             return false;

@@ -16,7 +16,7 @@ const NOT_READY: &[Act] = &[
     },
 ];
 
-/// Behind the bring-up, with queue pair 1.
+/// After the bring-up, with queue pair 1.
 const DOORBELLS: &[Act] = &[
     // before the doorbells, between two of them, and of queues that are not there
     Act::Unrung {

@@ -70,7 +70,7 @@ const REGISTERS: &[Act] = &[
     },
 ];
 
-/// Behind the bring-up: ready, every register as written, and the admin queues' registers closed to writes.
+/// After the bring-up: ready, every register as written, and the admin queues' registers closed to writes.
 const READY: &[Act] = &[
     Act::Reads {
         offset: 0x1c,
@@ -140,7 +140,7 @@ fn registers_read_what_was_written(rt: HostRuntime) -> Result<(), Fail> {
     Ok(())
 }
 
-// Whether enabling fails with a value of a register, and then, behind a reset, does not with the other.
+// Whether enabling fails with a value of a register, and then, after a reset, does not with the other.
 fn fails_then_works(desk: &mut Desk, offset: u32, wrong: u32, right: u32) -> bool {
     desk.vctl.reg_write(offset, wrong, &desk.map)
         && desk.vctl.reg_write(0x14, 1, &desk.map)

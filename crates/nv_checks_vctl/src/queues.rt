@@ -40,7 +40,7 @@ const ADMIN: &[Act] = &[
     },
 ];
 
-/// Behind the bring-up: a completion queue of two slots takes one completion until its head moves.
+/// After the bring-up: a completion queue of two slots takes one completion until its head moves.
 const TWO_SLOTS: &[Act] = &[
     Act::MakeCompletion {
         queue: 1,
@@ -95,7 +95,7 @@ const TWO_SLOTS: &[Act] = &[
     Act::Taken { queue: 1, count: 0 },
 ];
 
-/// Behind the bring-up: a submission queue of two slots holds one entry.
+/// After the bring-up: a submission queue of two slots holds one entry.
 const TWO_ENTRIES: &[Act] = &[
     Act::MakeCompletion {
         queue: 8,
@@ -140,7 +140,7 @@ const TWO_ENTRIES: &[Act] = &[
     },
 ];
 
-/// Behind the bring-up: queues of 1,024 slots, the submission queue's tail at the last one.
+/// After the bring-up: queues of 1,024 slots, the submission queue's tail at the last one.
 const LARGEST: &[Act] = &[
     Act::MakeCompletion {
         queue: 1,
@@ -208,7 +208,7 @@ fn queues_of_1024_slots(rt: HostRuntime) -> Result<(), Fail> {
     check(&rt, &mut desk, LARGEST);
     assert!(rt; runs(&mut desk, 0, 1023) && desk.vctl.doorbell(0x1008, 2));
     assert!(rt; desk.take(1) && desk.post(1, 1023) == Some(Posted::Held));
-    // the last slot has the first pass's phase tag, and the slot behind it the next one's
+    // the last slot has the first pass's phase tag, and the slot after it the next one's
     assert!(rt; desk.vctl.doorbell(0x100c, 1023) && desk.post(1, 1023) == Some(Posted::Done));
     assert!(rt; runs(&mut desk, 1024, 1) && desk.front(1).is_some());
     let (last, first) = ([0, 0, 1, 0, 0xff, 3, 1, 0], [1, 0, 1, 0, 0, 4, 0, 0]);

@@ -4,7 +4,7 @@ use crate::acts::{Act, BRING_UP, PAIR, check};
 use crate::desk::Desk;
 use std::test::Fail;
 
-/// Behind queue pair 1: two commands run out after a reset, and RDY falls with the last.
+/// After queue pair 1: two commands run out after a reset, and RDY falls with the last.
 const RUN_OUT: &[Act] = &[
     Act::Ring {
         offset: 0x1008,

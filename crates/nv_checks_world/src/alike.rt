@@ -23,7 +23,7 @@ macro_rules! spans {
     };
 }
 
-/// Namespaces of 64 blocks, of one extent to eight. Joins lie behind the middle block, before the last, within pages of a transfer, within a
+/// Namespaces of 64 blocks, of one extent to eight. Joins are after the middle block, before the last, within pages of a transfer, within a
 /// descriptor's bytes, within a range of Dataset Management, and up to seven in one transfer.
 const NAMESPACES: &[&[Span]] = &[
     WHOLE,
@@ -229,7 +229,7 @@ fn expect_queued(rt: &impl Abort, ended: Option<Cqe>, number: u16, row: &Row) {
     );
 }
 
-// Ends the test where the two end a command otherwise than is wanted, or differ behind it.
+// Ends the test where the two end a command otherwise than is wanted, or differ after it.
 fn expect(rt: &impl Abort, alloc: Global, pair: &mut Pair, number: u16, row: &Row) {
     let sqe = entry(row, number);
     let flat = pair.flat.one(alloc, &sqe).expect(rt, "a completion");

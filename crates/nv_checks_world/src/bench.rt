@@ -184,17 +184,17 @@ impl Bench {
         self.ring(guest, TAIL, self.slot(number.wrapping_add(1)));
     }
 
-    /// The completion of that number, as it stands in the guest's queue.
+    /// The completion of that number, as it is in the guest's queue.
     pub fn completion(&self, guest: u8, number: u16) -> Option<Cqe> {
         completion_at(&self.world, guest, self.slot(number))
     }
 
-    /// A guest has looked at the completion of that number.
+    /// A guest has read the completion of that number.
     pub fn look(&mut self, guest: u8, number: u16) {
         self.ring(guest, HEAD, self.slot(number.wrapping_add(1)));
     }
 
-    /// Whether these bytes stand at an address of a guest's memory.
+    /// Whether these bytes are at an address of a guest's memory.
     pub fn shows(&self, guest: u8, addr: u64, bytes: &[u8]) -> bool {
         let at = image_of(guest).wrapping_add(addr);
         let host = self.world.host();
@@ -224,7 +224,7 @@ impl Bench {
         true
     }
 
-    // What comes of the job of a tag as it stands; none where no command waits there for its plan.
+    // What planning gives for the job of a tag as it is; none where no command waits there for its plan.
     fn planned(&self, lane: u8, tag: u8) -> Option<Planned> {
         let job = self.world.job(self.alloc, lane, tag).ok()??;
         let map = self.world.map(job.guest)?;

@@ -1,4 +1,4 @@
-//! Commands of all six kinds, and what stands in the guest's memory for them.
+//! Commands of all six kinds, and what is in the guest's memory for them.
 
 use nv_bringup::bytes_of;
 use nv_entry::{Sqe, StatusCode};
@@ -16,7 +16,7 @@ pub struct Row {
     pub want: StatusCode,
 }
 
-/// Dword 0 of each kind: lists are SGLs, but where PRP is told.
+/// Dword 0 of each kind: lists are SGLs, except where PRP is named.
 const FLUSH: u32 = 0x00;
 
 const WRITE: u32 = 0x4001;
@@ -312,8 +312,7 @@ pub const ROWS: &[Row] = &[
     ),
 ];
 
-/// Bytes that stand in the guest's memory from the start, in rows of 16: two descriptors, slots of region pages, or
-/// ranges.
+/// Bytes that are in the guest's memory from the start, in rows of 16: two descriptors, slots of region pages, or ranges.
 pub const TABLES: &[(u64, u64, u64)] = &[
     // a Last Segment: two Data Blocks
     (0x6000, 0xa200, 512),
@@ -329,7 +328,7 @@ pub const TABLES: &[(u64, u64, u64)] = &[
     // pages of a Write and of a Read
     (0x7000, 0xc000, 0xe000),
     (0x7100, 0x1_8000, 0x1_7000),
-    // two ranges, one of no block, and one behind the last block
+    // two ranges, one of no block, and one past the last block
     (0x8000, 2 << 32, 24),
     (0x8010, 1 << 32, 30),
     (0x8020, 0, 40),

@@ -1,5 +1,5 @@
-//! Commands of several parts of which some fail: the guest is told the first status that isn't success, in the order of the parts, whichever part
-//! ends first; a bounced Read is shown where all parts succeeded, and not at all where one failed.
+//! Commands of several parts of which some fail. The guest gets the first status that isn't success, in the order of the parts, whichever part ends
+//! first. A bounced Read is shown where all parts succeeded, and not at all where one failed.
 
 use crate::bench::Bench;
 use nv_bringup::{SLOTS, Span, bytes_of};
@@ -33,7 +33,7 @@ const SOURCE: u64 = 0xa000;
 
 const DESTINATION: u64 = 0x3002;
 
-/// What stands at the destination before.
+/// What is at the destination before.
 const BEFORE: [u8; LEN] = [0xee; LEN];
 
 /// Blocks 1 to 3 in a Write, a Read that is bounced, and a Compare, but for the identifier.
@@ -49,7 +49,7 @@ const COMMANDS: &[[u32; 16]] = &[WRITE, WRITE, READ, READ, COMPARE, COMPARE];
 /// A status that a part fails with: code type, code and DNR.
 type Failure = Option<(u8, u8, bool)>;
 
-/// How a part may fail: by Unrecovered Read Error, Write Fault or Data Transfer Error. The guest is told of the last as Internal Error, since it is no
+/// How a part may fail: by Unrecovered Read Error, Write Fault or Data Transfer Error. The guest gets the last as Internal Error, since it is no
 /// media error.
 const MEDIA: Failure = Some((2, 0x81, false));
 
@@ -59,7 +59,7 @@ const TRANSFER: Failure = Some((0, 0x04, true));
 
 const INTERNAL: Failure = Some((0, 0x06, false));
 
-/// Which parts of a command fail, in the order of the parts, and what the guest is told.
+/// Which parts of a command fail, in the order of the parts, and what the guest gets.
 struct Case {
     name: &'static str,
     fails: [Failure; 3],
@@ -174,7 +174,8 @@ fn expect_told(rt: &impl Abort, bench: &mut Bench, number: u16, case: &Case) {
     assert!(rt; bench.is_free(0) && !bench.failed, "{}", case.name);
 }
 
-// Ends the test where the destination shows other bytes: those of the blocks behind a Read all of whose parts succeeded, and else those of before.
+// Ends the test where the destination shows other bytes than these: those of the blocks after a Read all of whose parts succeeded, and otherwise
+// those of before.
 fn expect_shown(rt: &impl Abort, bench: &Bench, dwords: &[u32; 16], case: &Case) {
     let is_read = dwords[0] == READ[0];
     let shown = if is_read && case.told.is_none() {

@@ -1,9 +1,8 @@
-//! Tests of the world by itself, by public calls alone: a crate with tests is proved twice, so they stand here and
-//! not beside the code.
+//! Tests of the world by itself, by public calls alone: a crate with tests is proved twice, so they are here and not beside the code.
 //!
 //! Guests have namespaces of one extent to eight. Their commands end as on a flat controller of their own, one after the other and by the thousand
-//! side by side; where parts fail, the first of them decides; a command runs out behind a reset, and waits where tags are scarce. Set-ups are
-//! tried at each limit, calls again where memory was refused, and phase tags beside positions.
+//! side by side. Where parts fail, the first of them decides. A command runs out after a reset, and waits where tags are scarce. Set-ups are tried
+//! at each limit, calls again where memory was refused, and phase tags beside positions.
 #![tactic(auto)]
 
 #[cfg(test)]

@@ -36,7 +36,7 @@ fn step_of(number: u8) -> Event {
     }
 }
 
-// Whether the slot that is reaped next, behind so many completions, has the phase tag that a driver waits for there.
+// Whether the slot that is reaped next, after so many completions, has the phase tag that a driver waits for there.
 fn is_found(world: &World, reaped: u64) -> bool {
     let addr = FIRST_SLOT + 16 * (reaped % RING);
     let host = world.host();
@@ -48,7 +48,7 @@ fn is_found(world: &World, reaped: u64) -> bool {
     Cqe::of(&bytes).phase() == (reaped / RING % 2 == 0)
 }
 
-// Ends the test where position and phase tag say different things along a Flush, behind so many completions.
+// Ends the test where position and phase tag say different things along a Flush, after so many completions.
 fn expect_agreement(rt: &impl Abort, bench: &mut Bench, completed: u16) {
     for number in 0..STEPS {
         let reaped = u64::from(completed) + u64::from(number > REAP);

@@ -30,7 +30,7 @@ enum Deed {
     Post,
 }
 
-/// A Read of one block by a Last Segment at 6000h, whose one descriptor is stored with what stands behind it.
+/// A Read of one block by a Last Segment at 6000h, whose one descriptor is stored with what comes after it.
 const READ: [u32; 16] = [
     0x0007_4002,
     1,
@@ -114,7 +114,7 @@ fn does(world: &mut World, alloc: Global, deed: &Deed, runs: bool) -> Option<boo
     is_done(replies.first()?)
 }
 
-// Whether a reply tells that something was done; none where there was no memory.
+// Whether a reply says that something was done; none where there was no memory.
 fn is_done(reply: &Reply) -> Option<bool> {
     match reply {
         Reply::NoMemory => None,

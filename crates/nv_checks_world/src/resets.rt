@@ -8,7 +8,7 @@ use nv_model::{Act, Reply};
 use nv_world_model::Event;
 use std::process::Abort;
 
-/// How many events a command of three parts has behind its doorbell, the last of which completes it.
+/// How many events a command of three parts has after its doorbell, the last of which completes it.
 const STEPS: u8 = 15;
 
 /// A completion queue in which nothing was posted.
@@ -59,14 +59,14 @@ fn is_enabled(bench: &mut Bench) -> bool {
     ))
 }
 
-// The guest makes its queues, in which nothing stands, and puts the Read into one.
+// The guest makes its queues, with nothing in them, and puts the Read into one.
 fn begin(bench: &mut Bench) {
     bench.bring_up(0);
     bench.store(0, COMPLETIONS, &NOTHING);
     bench.enter(0, 0, &entry(&READ, 9));
 }
 
-// Ends the test where a reset behind so many events lets the command complete, or lose a tag, or ends before the command does.
+// Ends the test where a reset after so many events lets the command complete, or lose a tag, or ends before the command does.
 fn expect_runs_out(rt: &impl Abort, bench: &mut Bench, behind: u8) {
     begin(bench);
     play(bench, 0, behind);
@@ -90,7 +90,7 @@ fn expect_served(rt: &impl Abort, bench: &mut Bench) {
     bench.write_register(0, CC, DISABLED);
 }
 
-// Ends the test where it is so behind a reset between some two of the events.
+// Ends the test where it is so after a reset between some two of the events.
 fn expect_all(rt: &impl Abort, bench: &mut Bench) {
     for behind in 1..STEPS {
         expect_runs_out(rt, bench, behind);

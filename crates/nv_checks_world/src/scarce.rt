@@ -7,7 +7,7 @@ use nv_model::Reply;
 use nv_world_model::Event;
 use std::process::Abort;
 
-/// A namespace with a join behind block 31.
+/// A namespace with a join after block 31.
 const TWO: &[Span] = &[
     Span {
         base: 3000,

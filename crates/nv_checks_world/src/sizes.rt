@@ -343,7 +343,7 @@ const MEETING: Seat = Seat {
     made_for: HOST,
 };
 
-/// Set-ups with more than one fault: the lowest is told.
+/// Set-ups with more than one fault: the lowest is reported.
 const LOWEST: &[(Refusal, Case)] = &[
     (
         Refusal::TooManyGuests,
@@ -554,7 +554,7 @@ fn expect_lowest(rt: &impl Abort, alloc: Global, cases: &[(Refusal, Case)]) -> R
     Ok(())
 }
 
-/// How many bytes a member of the log has at most, beside the bytes that it carries behind a pointer.
+/// How many bytes a member of the log has at most, besides the bytes that it holds through a pointer.
 const LOGGED: usize = 64;
 
 #[test]

@@ -16,7 +16,7 @@ IsScript text = IfSome text (λ bytes. is_ok (script_of bytes) ≡ true)
 abbrev pub IsScriptOf : Option (List ℕ) → ScriptValue → Type 0
 IsScriptOf text script = IfSome text (λ bytes. script_of bytes ≡ Ok script)
 
--- how a run can end that ends not well: its output fails only behind a whole script, and a fault of the script is the definition's
+-- how a run can fail: its output fails only after a whole script, and a fault of the script is the definition's
 abbrev pub IsOnceFault : Option (List ℕ) → Fault → Type 0
 IsOnceFault text BadBytes = ⊥
 IsOnceFault text Usage = ⊥

@@ -14,8 +14,7 @@ IsReplayOf text value = IfSome text (λ bytes. replay_of bytes ≡ Ok value)
 abbrev pub Opens : Option (List ℕ) → Type 0
 Opens text = IfSome text (λ bytes. is_ok (replay_of bytes) ≡ true)
 
--- how a run can end that ends not well: its output fails only behind a world that was opened, and a fault of the script or of its set-up
--- is the definition's
+-- how a run can fail: its output fails only after a world was opened, and a fault of the script or of its set-up is the definition's
 abbrev pub IsReplayFault : Option (List ℕ) → Fault → Type 0
 IsReplayFault text BadBytes = ⊥
 IsReplayFault text Usage = ⊥

@@ -10,8 +10,8 @@ use Rattle.nv_commands.specs.declared.fault.Fault.TheVariants.{BadBytes, Usage, 
 abbrev pub RunOpens : Option (List ℕ) → Type 0
 RunOpens text = IfSome text (λ bytes. is_ok (run_of bytes) ≡ true)
 
--- how a run can end that ends not well: a fault of the script or of its set-up is the definition's, and only behind a world that was opened
--- does a wait go unmet, differ the log from what was told, or fail the output
+-- how a run can fail: a fault of the script or of its set-up is the definition's, and only after a world was opened is a wait never met, does the
+-- log differ from what was reported, or does the output fail
 abbrev pub IsRunFault : Option (List ℕ) → Fault → Type 0
 IsRunFault text BadBytes = ⊥
 IsRunFault text Usage = ⊥
@@ -23,7 +23,7 @@ IsRunFault text CannotWrite = RunOpens text
 IsRunFault text (NoCompletion line) = RunOpens text
 IsRunFault text (Mismatch guest place) = RunOpens text
 
--- the fault of guests that act: one was refused memory, waited in vain, or the log differs from what was told
+-- the fault of guests that act: one was refused memory, one had a wait that is never met, or the log differs from what was reported
 abbrev pub IsPlayFault : Fault → Type 0
 IsPlayFault BadBytes = ⊥
 IsPlayFault Usage = ⊥

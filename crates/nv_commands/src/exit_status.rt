@@ -6,7 +6,7 @@ ghost use Rattle.nv_commands.specs.Fault.{status_of};
 use crate::command::Failure;
 use std::process::ExitCode;
 
-/// How the program ended, as its exit status tells.
+/// How the program ended, as its exit status says.
 #[derive(Clone, Copy, Debug, PartialEq, Eq)]
 pub enum ExitStatus {
     /// 0: all was done

@@ -37,7 +37,7 @@ pub enum Fault {
     CannotWrite,
     /// what this line of a run waits for was not met
     NoCompletion { line: u64 },
-    /// the log of a run differs at this place from what this guest's port was told, or from the sum of all
+    /// the log of a run differs at this place from what this guest's port got, or from the sum of all
     Mismatch { guest: u8, place: u64 },
 }
 
@@ -49,7 +49,7 @@ impl Fault {
         Self::CannotWrite
     }
 
-    /// The fault of an input that failed: want of memory is told as such, and nothing else is.
+    /// The fault of an input that failed: out of memory is reported as such, and nothing else is.
     pub fn of_input(error: io::Error) -> Self
         ensures { (error_kind error ≡ ErrorKind.OutOfMemory) × (result ≡ Fault.NoMemory)
             ⊎ (error_kind error ≢ ErrorKind.OutOfMemory) × (result ≡ Fault.CannotRead) }
@@ -77,7 +77,7 @@ impl Fault {
     }
 }
 
-/// Tells of a fault on one line, and flushes it.
+/// Reports a fault on one line, and flushes it.
 pub fn report<E: Write>(fault: Fault, faults: &mut E) -> io::Result<()>
     ensures { OnOk result (Appends (E.contents faults.old) (E.contents faults.new) (text_of fault ++ line_feed)) }
 {

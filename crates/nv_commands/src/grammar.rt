@@ -43,7 +43,7 @@ fn begins_with_dash(word: &str) -> bool
     word.as_bytes().first() == Some(&b'-')
 }
 
-/// The words behind the program's name. Words that are no text are none that the program knows.
+/// The words after the program's name. Words that are no text are none that the program knows.
 pub fn words(rt: &(impl Env + AllocGlobal)) -> Result<Vec<String>, Refusal> {
     let all = env::args(rt).map_err(Refusal::of_words)?;
     let words = all.skip(1).collect(rt.alloc())?;

@@ -1,14 +1,13 @@
-//! What the program `nvmed` does, but for which words are a command: `decode` prints the fields of an entry, `once` runs a script of
-//! commands on a controller over flat memory, `replay` puts a mediated world through the events of a script, and `run` lets the guests of a
-//! script act in threads of their own.
+//! What the program `nvmed` does, except which words are a command: `decode` prints the fields of an entry, `once` runs a script of commands on a
+//! controller over flat memory, `replay` puts a mediated world through the events of a script, and `run` lets the guests of a script act in threads
+//! of their own.
 //!
-//! [`program`] is the whole of it over a process and a [`Grammar`]; [`serve`] does what is asked for over a reader and two writers, on any
-//! kind of controller that runs one command at a time, and [`run`] all of that which waits for nobody. It is proved what is printed: the line
-//! of an entry, field by field, and of a script,
-//! where it is known what there is to read, what its lines print one after another on a run of the controller, or the replies to its
-//! events along the world; of the guests of `run`, what each guest's lines came to in one log that keeps the whole promise. A command ends with a
-//! fault only as its definition says, the output is left as it was but behind want of memory and failed output, `decode` reads nothing,
-//! and each outcome has its exit status. What a writer holds that failed is tested and not proved.
+//! [`program`] is the whole of it over a process and a [`Grammar`]. [`serve`] does what is asked for over a reader and two writers, on any kind of
+//! controller that runs one command at a time, and [`run`] does all of that which waits for nobody. It is proved what is printed. For an entry it
+//! is the line, field by field. For a script, where it is known what there is to read, it is what its lines print one after another on a run of the
+//! controller, or the replies to its events along the world. For the guests of `run` it is what each guest's lines gave in one log that keeps the
+//! whole promise. A command ends with a fault only as its definition says, the output is left as it was except after out of memory and failed
+//! output, `decode` reads nothing, and each outcome has its exit status. What a writer that failed holds is tested and not proved.
 #![tactic(auto)]
 
 mod command;

@@ -1,4 +1,4 @@
-//! The fields of a line: a label, and what stands behind it.
+//! The fields of a line: a label, and what comes after it.
 ghost use Rattle.std.specs.Prelude.{◌++◌, OnOk};
 ghost use Rattle.std.specs.Fmt.{decimal};
 ghost use Rattle.std.specs.Io.KnownBytes.{Appends};
@@ -8,7 +8,7 @@ ghost use Rattle.nv_commands.specs.Printed.{flag};
 use nv_print::{CannotWrite, print_bytes, print_text};
 use std::io::Write;
 
-/// Prints a label, and bytes as hexadecimal digits behind it.
+/// Prints a label, and then bytes as hexadecimal digits.
 pub fn print_hex<W: Write>(label: &[u8], bytes: &[u8], output: &mut W) -> Result<(), CannotWrite>
     ensures { OnOk result (Appends (W.contents output.old) (W.contents output.new) (label.now ++ encode_lower bytes.now)) }
 {
@@ -16,7 +16,7 @@ pub fn print_hex<W: Write>(label: &[u8], bytes: &[u8], output: &mut W) -> Result
     print_bytes(bytes, output)
 }
 
-/// Prints a label, and a number in base 10 behind it.
+/// Prints a label, and then a number in base 10.
 pub fn print_number<W: Write>(label: &[u8], number: u8, output: &mut W) -> Result<(), CannotWrite>
     ensures { OnOk result (Appends (W.contents output.old) (W.contents output.new) (label.now ++ decimal number)) }
 {
@@ -25,7 +25,7 @@ pub fn print_number<W: Write>(label: &[u8], number: u8, output: &mut W) -> Resul
     Ok(())
 }
 
-/// Prints a label, and a bit as a digit behind it.
+/// Prints a label, and then a bit as a digit.
 pub fn print_flag<W: Write>(label: &[u8], is_set: bool, output: &mut W) -> Result<(), CannotWrite>
     ensures { OnOk result (Appends (W.contents output.old) (W.contents output.new) (label.now ++ flag is_set)) }
 {

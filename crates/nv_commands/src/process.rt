@@ -46,7 +46,7 @@ pub fn run<C: One, R: Read, W: Write + Drop, E: Write>(
     ended
 }
 
-// Tells of the fault with which a command ended, if it did. Where that cannot be told, nobody is left to tell of it.
+// Reports the fault with which a command ended, if it ended with one. Where that cannot be reported, nobody is left to report it to.
 fn tell<W, E: Write>(ended: &Result<W, Failure<W>>, faults: &mut E)
     ensures { OnOk ended.now (faults.new ≡ faults.old) }
 {

@@ -16,8 +16,8 @@ pub enum Refusal {
 }
 
 impl Refusal {
-    /// The refusal of words that could not be had: want of memory is told as such, and words that are no text are none that the program
-    /// knows.
+    /// The refusal of words that could not be obtained. Out of memory is reported as such. Words that are not text are words that the program does
+    /// not know.
     pub fn of_words(error: io::Error) -> Self
         ensures { (error_kind error ≡ ErrorKind.OutOfMemory) × (result ≡ Refusal.NoMemory)
             ⊎ (error_kind error ≢ ErrorKind.OutOfMemory) × (result ≡ Refusal.Usage) }

@@ -12,8 +12,8 @@ use std::sync::Wait;
 use std::thread::Threads;
 use std::time::Clock;
 
-/// The run of a script's guests, once all are through and the log was compared with what they were told. The script is read whole before
-/// any guest acts.
+/// The run of a script's guests, once all have finished and the log was compared with what they were shown. The script is read whole before any
+/// guest acts.
 pub fn played<P: Threads + Wait + Clock + Sync, R: Read>(
     rt: &P,
     alloc: Global,

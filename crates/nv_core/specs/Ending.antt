@@ -52,7 +52,7 @@ is_bounced (kind.Answer st) = false
 abbrev pub delivers : PlanKind → (entry : List ℕ) → StatusField → Bool
 delivers plan entry st = is_bounced plan && is_read_of (io_opcode (opcode_of entry)) && is_success st
 
--- the host behind what a part delivers to a guest of these regions: the bytes of a bounced Read, place by place in order
+-- the host after what a part delivers to a guest of these regions: the bytes of a bounced Read, place by place in order
 abbrev pub part_delivered : Plan → (slot : ℕ) → List Region → (host : ℕ → ℕ) → ℕ → ℕ
 part_delivered (Answer answer) slot regions host = host
 part_delivered (NoData work) slot regions host = host
@@ -142,7 +142,7 @@ pub record Settled : Type 0 where
   pub host : ℕ → ℕ
   pub controller : Controller
 
--- the completion behind what was delivered; where there is no room nothing is delivered either
+-- the completion after what was delivered; where there is no room, nothing is delivered either
 abbrev pub settled_by : Option Posted → (delivered : ℕ → ℕ) → List Region → (host : ℕ → ℕ) → Controller → Settled
 settled_by None delivered regions host c = record { became = became.Held; host = host; controller = c }
 settled_by (Some posted) delivered regions host c =

@@ -47,7 +47,7 @@ parts_kept (tag ∷ tags) [] part at kept = kept
 parts_kept (tag ∷ tags) (share ∷ shares) part at kept =
     parts_kept tags shares (part + 1) (slot_behind (is_no_command share) at) (slice_set kept tag (part_kept (is_no_command share) part at))
 
--- another place where a part stands that was handed on
+-- another place for a part that was handed on
 abbrev pub stood_at : Place → Progress → Progress
 stood_at at progress.Nothing = progress.Nothing
 stood_at at (progress.Reading reads) = progress.Reading reads

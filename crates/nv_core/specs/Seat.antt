@@ -1,4 +1,4 @@
--- What an act comes to in a guest's seat: its host and its controller behind it, and the reply (profile).
+-- What an act gives in a guest's seat: its host and its controller after the act, and the reply (profile).
 use Rattle.std.specs.Prelude.{◌≡◌, ◌⊎◌, ℕ, Bool, false, nat_lt, List, Option, Some, None}
 use Rattle.nv_admin.specs.declared.reply.Admin.{Admin}
 use Rattle.nv_admin.specs.declared.reply.Admin.TheVariants as admin
@@ -43,7 +43,7 @@ told_by admin.Done = reply.Done
 told_by admin.Idle = reply.Idle
 told_by admin.Held = reply.Held
 
--- the bytes that a reply tells, where it tells some
+-- the bytes that a reply returns, where it returns some
 abbrev pub bytes_told : Reply → Option (List ℕ)
 bytes_told reply.Done = None
 bytes_told (reply.Bytes bytes) = Some bytes
@@ -55,7 +55,7 @@ bytes_told reply.Unmapped = None
 bytes_told reply.Ignored = None
 bytes_told reply.NoMemory = None
 
--- the bytes of a load stand in the room that was lent for them, which is answered by Done; or nothing was loaded, and the room is as it was
+-- the bytes of a load are in the buffer that was lent for them, which is answered by Done; or nothing was loaded, and the buffer is as it was
 abbrev pub IsLoaded : (IsReply : Reply → Type 0) → Reply → (before after : List ℕ) → Type 0
 IsLoaded IsReply r before after =
     (r ≡ reply.Done) × IsReply (reply.Bytes after) ⊎ (bytes_told r ≡ None) × (after ≡ before) × IsReply r

@@ -58,7 +58,7 @@ pub record IsSameSize (old new : State) : Type 0 where
   pub mediator : new.device.mediator ≡ old.device.mediator
   pub blocks : length new.device.disk ≡ length old.device.disk
 
--- the event was carried out: its reply, and the world behind it
+-- the event was carried out: its reply, and the world after it
 pub record IsStep (geometry : Geometry) (e : Event) (old : State) (reply : Reply) (new : State) : Type 0 where
   pub after : record { world = world_of new; reply = reply } ≡ step geometry e (world_of old)
   pub size : IsSameSize old new

@@ -60,7 +60,7 @@ pub record IsJobOf (lane tag : ℕ) (command : Command) (reads : List ReadDone) 
   pub entry : job.sqe ≡ command.entry
   pub read : job.reads ≡ reads
 
--- a job is that of a tag as it stands, which its command goes by
+-- a job is that of a tag as it is, which its command goes by
 abbrev pub IsOfTag : Option Tag → Job → Type 0
 IsOfTag None job = ⊥
 IsOfTag (Some Free) job = ⊥
@@ -68,7 +68,7 @@ IsOfTag (Some (Taken command reads)) job = (command.leader ≡ job.tag) × IsJob
 IsOfTag (Some (Flying command share at)) job = ⊥
 IsOfTag (Some (Ended command st share)) job = ⊥
 
--- a plan was made of what stands: its job is that of its tag, and it was made with what the guest was given
+-- a plan was made of the state as it is: its job is that of its tag, and it was made with what the guest was given
 pub record IsCurrent (geometry : Geometry) (w : World) (p : MadePlan) : Type 0 where
   pub of_tag : IsOfTag (tag_of w p.job.lane p.job.tag) p.job
   pub made_with : slice_get geometry.guests p.job.guest ≡ Some p.given
@@ -91,7 +91,8 @@ IsGoing (Bounced work) = Unit {0}
 
 -- ---- share by share
 
--- the host behind a share that is carried out in a tag, and the device's side of the lane: where it is no physical command they are as they were
+-- the host after a share that is carried out in a tag, and the device's side of the lane: where the share is no physical command, both are as they
+-- were
 abbrev pub host_carried : Share → Guest → (entry : List ℕ) → (mediator lane tag at : ℕ) → (host : ℕ → ℕ) → ℕ → ℕ
 host_carried share guest entry mediator lane tag at host =
     if is_no_command share then host else share_written share guest entry mediator lane tag at host
@@ -113,7 +114,7 @@ lane_handed (tag ∷ tags) (share ∷ shares) d = lane_handed tags shares (lane_
 
 -- ---- a plan
 
--- the host behind a plan that was carried out: an answer writes nothing
+-- the host after a plan that was carried out: an answer writes nothing
 abbrev pub host_behind : Plan → (tags : List ℕ) → Guest → (entry : List ℕ) → (mediator lane : ℕ) → DeviceLane → (host : ℕ → ℕ) → ℕ → ℕ
 host_behind (Answer st) tags guest entry mediator lane d host = host
 host_behind (NoData work) tags guest entry mediator lane d host =
@@ -123,14 +124,14 @@ host_behind (Direct work) tags guest entry mediator lane d host =
 host_behind (Bounced work) tags guest entry mediator lane d host =
     host_handed tags (shares_of guest.namespace entry (Bounced work)) guest entry mediator lane d host
 
--- the device's side of the lane behind it: an answer rings nothing
+-- the device's side of the lane after it: an answer rings no doorbell
 abbrev pub lane_behind : Plan → (tags : List ℕ) → Namespace → (entry : List ℕ) → DeviceLane → DeviceLane
 lane_behind (Answer st) tags ns entry d = d
 lane_behind (NoData work) tags ns entry d = lane_handed tags (shares_of ns entry (NoData work)) d
 lane_behind (Direct work) tags ns entry d = lane_handed tags (shares_of ns entry (Direct work)) d
 lane_behind (Bounced work) tags ns entry d = lane_handed tags (shares_of ns entry (Bounced work)) d
 
--- the tags behind it
+-- the tags after it
 abbrev pub tags_behind : Plan → (tags : List ℕ) → Namespace → Command → (at : ℕ) → Lane → Lane
 tags_behind (Answer st) tags ns command at l = all_ended tags command st l
 tags_behind (NoData work) tags ns command at l = all_handed tags (shares_of ns command.entry (NoData work)) at command l

@@ -18,7 +18,7 @@ use Rattle.nv_world_model.specs.Area.{ring_size, tag_count}
 use Rattle.nv_world_model.specs.Share.{Share}
 use Rattle.nv_world_model.specs.World.{Answered, Command, Ended, Flying, Free, InDevice, Queued, Standing, Tag, Taken}
 
--- where a command stands
+-- where a command is
 abbrev pub standing_of : Place → Standing
 standing_of (place.Queued at) = Queued at
 standing_of place.InDevice = InDevice

@@ -1,4 +1,4 @@
-//! Whether what a plan was made of is what stands now.
+//! Whether what a plan was made of is what is there now.
 
 ghost use Rattle.std.specs.Prelude.{◌≡◌, ◌↔◌, IsTrue};
 

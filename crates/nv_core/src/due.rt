@@ -50,8 +50,8 @@ impl Core {
         }
     }
 
-    /// The lowest unit that DevMove is due for, of the command that the physical controller holds in a slot of a lane; `None` where it holds
-    /// none there, or all units have moved. It looks through the units that have moved, and through nothing else.
+    /// The lowest unit that DevMove is due for, of the command that the physical controller holds in a slot of a lane; `None` where it holds none
+    /// there, or all units have moved. It scans the units that have moved, and nothing else.
     pub fn next_unit(&self, _layout: &Layout, lane: u8, slot: u8) -> Option<u64>
         requires { IsOf _layout.now self.now }
         ensures { IsLowest (λ number. due _layout.now (Event.DevMove lane slot number) (world_of self.now)) result }

@@ -64,8 +64,7 @@ fn hand_parts(plan: &Plan, place: TagPlace, tags: Group, host: &mut Host, device
     }
 }
 
-// Hands a part on in a tag: what it wants is written, and the doorbell is rung. A part without a range is no physical command, and nothing is
-// done.
+// Hands a part on in a tag: what it needs is written, and the doorbell is rung. A part without a range is no physical command, and nothing is done.
 fn hand_part(plan: &Plan, part: u8, place: TagPlace, host: &mut Host, device: &mut Device)
     requires part { part < length (shares_made plan.now) }
     requires room { HasRoom place.mediator place.lane place.tag plan.now.given host.old }
@@ -85,7 +84,7 @@ fn hand_part(plan: &Plan, part: u8, place: TagPlace, host: &mut Host, device: &m
     device.ring(place.lane, next_slot(at));
 }
 
-// The slot behind a slot of a submission ring, going round.
+// The slot after a slot of a submission ring, wrapping around.
 fn next_slot(at: u16) -> u16
     requires { at < ring_size }
     ensures value { result ≡ next_slot ring_size at }

@@ -22,9 +22,9 @@ use nv_ring::Ring;
 use nv_tags::{Group, Tags};
 
 impl Lane {
-    /// The command that was taken and goes by this tag is handed on by this plan: part by part, each in its tag, in order. The entry of the
-    /// first that is a physical command waits in slot `at` of the submission ring, and those of the others behind it. A part without a range
-    /// of its Dataset Management has ended.
+    /// The command that was taken and goes by this tag is handed on by this plan: part by part, each in its tag, in order. The entry of the first
+    /// part that is a physical command waits in slot `at` of the submission ring. Those of the others wait after it. A part without a range of its
+    /// Dataset Management has ended.
     ///
     /// All its tags were taken, and no more.
     pub(crate) fn fly(&mut self, tag: u8, plan: Plan, at: u16)

@@ -1,4 +1,4 @@
-//! Where the part of a tag stands.
+//! Where the part of a tag is.
 
 ghost use Rattle.std.specs.Prelude.{◌≡◌, Some, slice_get};
 ghost use Rattle.nv_core.specs.Handing.{stood_at};
@@ -12,7 +12,7 @@ use crate::progress::Progress;
 use crate::standing::Standing;
 
 impl Lane {
-    /// The part of a tag that was handed on stands there now.
+    /// The part of a tag that was handed on is there now.
     pub(crate) fn stands(&mut self, tag: u8, standing: Standing)
         requires { state_in (slice_get self.old.tags tag) ≡ Some state.Flying }
         ensures { (command : Command) (share : Share) (before : Stand) → slice_get self.old.tags tag ≡ Some (Flying command share before) →
@@ -23,7 +23,7 @@ impl Lane {
     }
 }
 
-// What is kept of a part that was handed on, and stands there now.
+// What is kept of a part that was handed on, and is there now.
 fn stand_at(kept: &mut Progress, standing: Standing)
     ensures { kept.new ≡ stood_at standing kept.old }
 {

@@ -1,17 +1,15 @@
 //! The mediated world on lists: one call for each event, which does to the state what `nv_world_model/specs/Step` does to the world.
 //!
-//! A [`Core`] holds the host's memory, the physical controller, the mediator's side of each lane and each guest's controller. What stays
-//! as it is while the world runs, a [`Layout`], is lent to each call. Each call is its event of the definition, whole: the reply, and the
-//! world behind it. The caller knows that the state is of that layout and that its world is consistent, as `nv_laws_sound` keeps it.
+//! A [`Core`] holds the host's memory, the physical controller, the mediator's side of each lane and each guest's controller. What stays as it is
+//! while the world runs, a [`Layout`], is lent to each call. Each call is its event of the definition, whole: the reply, and the world after it.
+//! The caller knows that the state is of that layout and that its world is consistent, as `nv_laws_sound` keeps it.
 //!
-//! [`Core::new`] is the world at its start. The events are [`Core::act`] and [`Core::admin`] of guests; [`Core::take`], [`Core::list`],
-//! [`Core::submit`], [`Core::give_up`], [`Core::reap`] and [`Core::post`] of the mediator; [`Core::dev_take`], [`Core::dev_move`],
-//! [`Core::dev_post`], [`Core::dev_fail`] and [`Core::keep`] of the physical controller.
-//! [`Core::submit_plan`] is the Submit of a plan that was made elsewhere, without the state at hand, of the
-//! [`Core::job`] that whoever made it was given; [`Core::due`] tells which events a worker finds something to do by, and [`Core::holder`]
-//! whose command a tag has.
-//! [`Core::store`] and [`Core::load`] are a guest's own, of bytes that are lent, and take no memory.
-//! [`Core::host`], [`Core::block`] and [`Core::kept`] show the host's memory and the disk.
+//! [`Core::new`] is the world at its start. The events of guests are [`Core::act`] and [`Core::admin`]. Those of the mediator are [`Core::take`],
+//! [`Core::list`], [`Core::submit`], [`Core::give_up`], [`Core::reap`] and [`Core::post`]. Those of the physical controller are [`Core::dev_take`],
+//! [`Core::dev_move`], [`Core::dev_post`], [`Core::dev_fail`] and [`Core::keep`]. [`Core::submit_plan`] is the Submit of a plan that was made
+//! elsewhere, without the state at hand. The plan is of the [`Core::job`] that its maker was given. [`Core::due`] reports by which events a worker
+//! finds something to do, and [`Core::holder`] whose command a tag has. [`Core::store`] and [`Core::load`] are a guest's own, of bytes that are
+//! lent, and take no memory. [`Core::host`], [`Core::block`] and [`Core::kept`] show the host's memory and the disk.
 #![tactic(auto)]
 
 mod acting;

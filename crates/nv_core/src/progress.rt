@@ -14,11 +14,11 @@ pub(crate) enum Progress {
     Nothing,
     /// The command was taken, and these reads of its lists were made.
     Reading(Transcript),
-    /// The command was handed on by this plan, and its first part stands there.
+    /// The command was handed on by this plan, and its first part is there.
     Going(Plan, Standing),
     /// The command's first part has ended, and this was the command's plan.
     Over(Plan),
-    /// A further part, by its number, stands there.
+    /// A further part, by its number, is there.
     Part(u8, Standing),
     /// A further part, by its number, has ended.
     PartOver(u8),

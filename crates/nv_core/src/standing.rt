@@ -1,7 +1,6 @@
-//! Where a command that was handed on stands.
+//! Where a command that was handed on is.
 
-/// A command that was handed on stands in a slot of the lane's submission ring, in the physical controller, or in a slot of the lane's
-/// completion ring.
+/// A command that was handed on is in a slot of the lane's submission ring, in the physical controller, or in a slot of the lane's completion ring.
 #[derive(Clone, Copy, Debug, PartialEq, Eq)]
 pub(crate) enum Standing {
     /// Its entry waits in that slot.

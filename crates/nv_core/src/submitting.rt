@@ -58,9 +58,9 @@ impl Core {
         Ok(reply)
     }
 
-    /// Carries out a plan that was made elsewhere, where it was made of what stands: its tag was taken, by the guest's command of its
-    /// job, with the same reads of its lists, and the guest's map, namespace and limit are those that it was made with. `None` where
-    /// not, and nothing has changed.
+    /// Carries out a plan that was made elsewhere, where it was made of the state as it is: its tag was taken, by the guest's command of its job,
+    /// with the same reads of its lists, and the guest's map, namespace and limit are those that it was made with. `None` where not, and nothing
+    /// has changed.
     pub fn submit_plan(&mut self, layout: &Layout, plan: Plan) -> Option<Reply>
         requires { IsOf layout.now self.old }
         ensures some { IfSome result (λ reply.
@@ -83,7 +83,7 @@ impl Core {
         Some(Reply::Done)
     }
 
-    // Whether a plan was made of what stands.
+    // Whether a plan was made of the state as it is.
     fn is_current(&self, layout: &Layout, plan: &Plan) -> bool
         ensures { IsTrue result ↔ IsCurrent layout.now (world_of self.now) plan.now }
     {
@@ -174,7 +174,7 @@ fn carry_out(plan: Plan, place: TagPlace, host: &mut Host, device: &mut Device, 
     }
 }
 
-// Hands the command that waits for its plan and goes by a tag to the physical controller: what each part of the plan wants is written, and the
+// Hands the command that waits for its plan and goes by a tag to the physical controller: what each part of the plan needs is written, and the
 // doorbell is rung for it.
 fn hand_on(plan: Plan, place: TagPlace, host: &mut Host, device: &mut Device, ring: &mut Lane)
     requires is_plan { IsJobsPlan plan }

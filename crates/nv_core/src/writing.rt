@@ -1,4 +1,4 @@
-//! What is written for a physical command: the list that names its transfer, what stands in the bounce pages, and its entry.
+//! What is written for a physical command: the list that names its transfer, what is in the bounce pages, and its entry.
 
 ghost use Rattle.std.specs.Prelude.{◌≡◌, ◌+◌, ◌*◌, ◌<◌, ◌≤◌, List, [], ℕ, Some, false, length};
 ghost use Rattle.std.specs.List.{flat_map};
@@ -79,7 +79,7 @@ fn nothing() -> Prps
     }
 }
 
-// Writes what stands in the bounce pages of a part: the bytes of a source, or the ranges of a Dataset Management as the disk has them.
+// Writes what is in the bounce pages of a part: the bytes of a source, or the ranges of a Dataset Management as the disk has them.
 fn write_bounced(plan: &Plan, part: u8, bounce: u64, host: &mut Host)
     requires part { part < length (shares_made plan.now) }
     requires host { plan.now.given.memory_map.host_len ≡ length host.old }

@@ -47,7 +47,7 @@ MayMove lane slot number host p =
 
 -- ---- what it does
 
--- host, blocks and marks behind a unit of a command, and whether it has differed
+-- host, blocks and marks after a unit of a command, and whether it has differed
 abbrev pub unit_of : (number : ℕ) → Held → (host : List ℕ) → (disk : List (List ℕ)) → (kept : List Bool) → Moved
 unit_of number h host disk kept = device_unit number (length disk) h (byte_in host) (byte_of_block disk) (mark_of kept)
 

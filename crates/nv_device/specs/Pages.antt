@@ -22,11 +22,11 @@ piece_in host_len (Bucket len) = true
 unfoldable pub host_reading : (host : List ℕ) → (prp1 prp2 len : ℕ) → Reading
 host_reading host prp1 prp2 len = in_memory (byte_in host) (read_prp (in_host (length host)) prp1 prp2 len)
 
--- what is read behind PRP1's page, where so many pages are left, behind these pieces
+-- what is read after PRP1's page, where so many pages are left, after these pieces
 unfoldable pub behind_reading : (host : List ℕ) → (pages prp2 bytes : ℕ) → List Piece → Reading
 behind_reading host pages prp2 bytes pieces = in_memory (byte_in host) (read_prp2 (in_host (length host)) pages prp2 bytes pieces)
 
--- what is read of a list's entries for the last pages, behind these pieces
+-- what is read of a list's entries for the last pages, after these pieces
 unfoldable pub entries_reading : (host : List ℕ) → (pages slots from bytes : ℕ) → List Piece → Reading
 entries_reading host pages slots from bytes pieces =
     in_memory (byte_in host) (read_entries (in_host (length host)) pages slots from bytes pieces)
@@ -37,8 +37,8 @@ spells (Faulty code) = false
 spells TooLong = false
 spells (Spells pieces) = true
 
--- where the entry of the next page stands, with so many slots to the end of its list page: reading goes on from there, and
--- the slots that are needed lie in the host
+-- where the entry of the next page is, with so many slots to the end of its list page: reading goes on from there, and the slots that are needed
+-- are in the host
 pub record IsEntryAt (host : List ℕ) (pages slots from entry_slots entry : ℕ) : Type 0 where
   pub same : (bytes : ℕ) (pieces r : List Piece) → entries_reading host pages slots from bytes pieces ≡ Spells r
       → entries_reading host pages entry_slots entry bytes pieces ≡ Spells r

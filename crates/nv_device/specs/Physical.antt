@@ -1,5 +1,5 @@
--- The parts of the physical controller as it stands, and what it keeps. What its calls do is told in the words of the
--- mediated world (profile: the limits and the layout of the area).
+-- The parts of the physical controller as it is, and what it keeps. What its calls do is stated in the terms of the mediated world (profile: the
+-- limits and the layout of the area).
 use Rattle.std.specs.Prelude.{◌≡◌, ℕ, ◌+◌, ◌==◌, ◌%◌, ◌^◌, ◌<◌, ◌≤◌, Bool, true, false}
 use Rattle.std.specs.Prelude.{if◌then◌else◌, List, [], ◌∷◌, All, IfSome, length, replicate, slice_set, Option, Some, None}
 use Rattle.std.specs.List.{list_any, slice_index_or}
@@ -39,7 +39,7 @@ opening_physical mediator lanes blocks =
 
 -- ---- its parts
 
--- what stands where there is no lane
+-- what is there where no lane exists
 abbrev pub no_lane : DeviceLane
 no_lane = record { head = 0; tail = 0; posted = 0; phase = true; held = [] }
 

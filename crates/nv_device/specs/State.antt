@@ -1,5 +1,5 @@
--- The physical controller as it stands: where the mediator's area begins in the host's memory, the bytes of the blocks and their marks, and
--- its lanes (profile)
+-- The physical controller as it is: where the mediator's area begins in the host's memory, the bytes of the blocks and their marks, and its lanes
+-- (profile)
 use Rattle.std.specs.Prelude.{ℕ, Bool, List}
 use Rattle.nv_world_model.specs.Device.{DeviceLane}
 

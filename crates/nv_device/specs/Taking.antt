@@ -22,15 +22,15 @@ pub record IsTakeable (disk_blocks : ℕ) (host : List ℕ) (held : Option Held)
   pub identifier : cid_of entry < tag_count
   pub free : held ≡ None
 
--- the entry that stands at the front of a lane
+-- the entry that is at the front of a lane
 abbrev pub front_of : (lane : ℕ) → (host : List ℕ) → Physical → List ℕ
 front_of lane host p = front_entry p.mediator lane (lane_of p lane) (byte_in host)
 
--- whether an entry stands there
+-- whether an entry is there
 abbrev pub waits : (lane : ℕ) → Physical → Bool
 waits lane p = not (is_empty (lane_of p lane).head (lane_of p lane).tail)
 
--- where one stands there the device may take it
+-- where one is there, the device may take it
 abbrev pub MayTake : (lane : ℕ) → (host : List ℕ) → Physical → Type 0
 MayTake lane host p =
     waits lane p ≡ true →
@@ -38,7 +38,7 @@ MayTake lane host p =
 
 -- ---- what it does
 
--- the device behind it
+-- the device after it
 abbrev pub taken : (lane : ℕ) → (host : List ℕ) → Physical → Physical
 taken lane host p =
     if waits lane p then with_lane lane (entry_taken (front_of lane host p) (byte_in host) (lane_of p lane)) p else p

@@ -46,7 +46,7 @@ impl Model for Command {
 }
 
 impl Command {
-    /// The command of an entry, of which no unit has moved. The bytes that it names are looked up in the host.
+    /// The command of an entry, of which no unit has moved. The bytes that it names are found in the host.
     pub(crate) fn new(alloc: Global, sqe: Sqe, host: &Host) -> Result<Self, NoMemory>
         requires { 0 < len_of (io_opcode (opcode_of sqe)) sqe →
             spells (host_reading host.now (prp1_of sqe) (prp2_of sqe) (len_of (io_opcode (opcode_of sqe)) sqe)) ≡ true }
@@ -76,7 +76,7 @@ impl Command {
         &self.places
     }
 
-    /// What is left of these places behind the first `count`.
+    /// What is left of these places after the first `count`.
     pub(crate) fn buffer_behind(&self, count: u64) -> Buffer<'_>
         requires { AreBelow (2 ^ 64) (named self.now.pieces) }
         ensures { result ≡ drop count (named self.now.pieces) }
@@ -156,7 +156,7 @@ impl Command {
         }
     }
 
-    /// A unit has moved, and whether the command differed so far is as told.
+    /// A unit has moved, and whether the command differed so far is as given.
     pub(crate) fn unit_done(&mut self, number: u64, differed: bool)
         requires { list_any (λ k. k == number) self.old.left ≡ true }
         ensures { self.new ≡ unit_gone number differed self.old }

@@ -111,7 +111,7 @@ impl Device {
         area <= host.len() && self.mediator <= host.len() - area
     }
 
-    /// The doorbell of a lane's submission ring: entries stand up to the slot before `tail`.
+    /// The doorbell of a lane's submission ring: there are entries up to the slot before `tail`.
     pub fn ring(&mut self, lane: u8, tail: u16)
         requires lane { lane < length self.old.lanes }
         requires tail { tail < ring_size }
@@ -120,7 +120,7 @@ impl Device {
         self.lanes[usize::from(lane)].ring(tail);
     }
 
-    /// The tail of a lane's submission ring, as it was rung: the slot in which the next entry will stand.
+    /// The tail of a lane's submission ring, as it was rung: the slot in which the next entry will be.
     pub fn tail(&self, lane: u8) -> u16
         requires { lane < length self.now.lanes }
         ensures value { result ≡ (lane_of self.now lane).tail }

@@ -18,8 +18,8 @@ pub const RING_SLOTS: u16 = 65;
 /// The identifiers of a lane's commands: 0 to 63.
 pub const IDENTIFIERS: u8 = 64;
 
-/// A lane: where its submission ring stands, which slot of its completion ring is written next and with which phase tag,
-/// and the commands in the device, by identifier.
+/// A lane: the positions of its submission ring, which slot of its completion ring is written next and with which phase tag, and the commands in
+/// the device, by identifier.
 #[derive(Debug, Drop)]
 pub(crate) struct Lane {
     submissions: Ring,
@@ -73,7 +73,7 @@ impl Lane {
         self.submissions.head()
     }
 
-    /// The slot of the submission ring behind the last entry that stands there.
+    /// The slot of the submission ring after the last entry that is there.
     pub(crate) fn tail(&self) -> u16
         ensures value { result ≡ self.now.tail }
         ensures fits { result < ring_size }
@@ -96,7 +96,7 @@ impl Lane {
         self.phase.expected()
     }
 
-    /// The tail of the submission ring is rung.
+    /// The doorbell of the submission ring is rung with this tail.
     pub(crate) fn ring(&mut self, tail: u16)
         requires { tail < ring_size }
         ensures { self.new ≡ record self.old { tail = tail } }
@@ -124,7 +124,7 @@ impl Lane {
         self.held[usize::from(slot)] = Some(command);
     }
 
-    /// A unit of a command has moved, and whether the command differed so far is as told.
+    /// A unit of a command has moved, and whether the command differed so far is as given.
     pub(crate) fn unit_done(&mut self, slot: u8, number: u64, differed: bool)
         requires there { MatchOption (slice_index_or self.old.held slot None) ⊥ (λ h. list_any (λ k. k == number) h.left ≡ true) }
         requires slot { slot < tag_count }

@@ -66,8 +66,8 @@ impl Device {
         Response::Done
     }
 
-    /// The lowest unit that is left of the command at a slot; `None` where no command is there, or one that has no unit left. It looks
-    /// through the units that have moved.
+    /// The lowest unit that is left of the command at a slot; `None` where no command is there, or one that has no unit left. It scans the units
+    /// that have moved.
     pub fn next_unit(&self, lane: u8, slot: u8) -> Option<u64>
         requires lane { lane < length self.now.lanes }
         requires slot { slot < tag_count }
@@ -190,8 +190,8 @@ fn clear_unit(command: &Command, number: u64, disk: &mut Blocks, kept: &mut Mark
     command.has_differed()
 }
 
-/// A range of a Dataset Management: where the command deallocates, its blocks become zeros that are not kept. Where a range
-/// that has no blocks begins is not looked at.
+/// A range of a Dataset Management: where the command deallocates, its blocks become zeros that are not kept. Where a range that has no blocks
+/// begins is not checked.
 fn manage_unit(
     command: &Command,
     number: u64,
@@ -213,7 +213,7 @@ fn manage_unit(
     command.has_differed()
 }
 
-/// A range of a Dataset Management, by its number, as it stands in the host now.
+/// A range of a Dataset Management, by its number, as it is in the host now.
 fn range_of(command: &Command, number: u64, host: &Host) -> Range
     requires bytes { AreBelow (length host.now) (places_of command.now.pieces) }
     requires number { number < 2 ^ 8 }
@@ -294,7 +294,7 @@ fn keep_unit(command: &Command, kept: &mut Marks) -> bool
     command.has_differed()
 }
 
-/// Where a block of a command stands: its LBA, and its places in the host with those behind it.
+/// Where a block of a command is: its LBA, and its places in the host with those after it.
 fn block_of<'a>(command: &'a Command, number: u64, host: &Host, disk: &Blocks) -> (u64, Buffer<'a>)
     requires ready { IsReady (length disk.now) host.now number command.now }
     requires transfer { moves_blocks (io_opcode (opcode_of command.now.entry)) ≡ true }

@@ -8,7 +8,7 @@ ghost use Rattle.nv_device.specs.Pages.{ArePaged};
 use nv_mem::{PAGE_SIZE, Piece};
 use nv_moves::Buffer;
 
-/// What is left of the pieces behind the first `count` of their bytes. It takes as long however many pages these are on.
+/// What is left of the pieces after the first `count` of their bytes. It takes the same time however many pages these are on.
 pub(crate) fn buffer_behind(pieces: &[Piece], count: u64) -> Buffer<'_>
     requires paged { ArePaged pieces.now }
     requires in_range { AreBelow (2 ^ 64) (places_of pieces.now) }
@@ -21,7 +21,8 @@ pub(crate) fn buffer_behind(pieces: &[Piece], count: u64) -> Buffer<'_>
     buffer
 }
 
-/// How many pieces lie before the first `count` bytes end, where these end on a page, and how many of the bytes are in the pieces behind.
+/// How many pieces are before the end of the first `count` bytes, where these end on a page, and how many of the bytes are in the pieces after
+/// that.
 fn pieces_passed(pieces: &[Piece], count: u64) -> (usize, u64)
     requires { ArePaged pieces.now }
     ensures there { result.0 ≤ length pieces.now }

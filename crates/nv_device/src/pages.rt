@@ -51,7 +51,7 @@ pub(crate) fn pages_of(bytes: u64) -> u64
     (bytes + (PAGE_SIZE - 1)) / PAGE_SIZE
 }
 
-/// Adds the pages behind PRP1's: none, the one that PRP2 names, or those of the list to which it points.
+/// Adds the pages after PRP1's: none, the one that PRP2 names, or those of the list to which it points.
 fn read_behind(host: &Host, prp2: u64, bytes: u64, places: &mut Places) -> Result<(), NoMemory>
     requires most { bytes < 2 ^ 32 }
     requires spelled { spells (behind_reading host.now (pages_of bytes) prp2 bytes places.old) ≡ true }
@@ -87,7 +87,7 @@ fn read_list(
     ensures read { OnOk result (entries_reading host.now pages (slots_of list) list bytes places.old ≡ Spells places.new) }
     ensures paged { OnOk result (ArePaged places.new) }
 {
-    // The end of the host fits in 64 bits, and so does the place behind a slot.
+    // The end of the host fits in 64 bits, and so does the address after a slot.
     let _size = host.len();
     let mut from = list;
     let mut slots = (PAGE_SIZE - list % PAGE_SIZE) / 8;
@@ -106,8 +106,8 @@ fn read_list(
     Ok(())
 }
 
-/// Where the entry of the next page stands, and how many slots there are from there to the end of its list page: where more
-/// pages are left than slots, the last slot points to the next list page.
+/// Where the entry of the next page is, and how many slots there are from there to the end of its list page. Where more pages are left than slots,
+/// the last slot points to the next list page.
 fn entry_at(host: &Host, from: u64, slots: u64, pages: u64) -> (u64, u64)
     requires pages { 0 < pages }
     requires slots { 0 < slots }

@@ -18,7 +18,7 @@ pub(crate) fn spells(host: &Host, prp1: u64, prp2: u64, len: u64) -> bool
     fits(host, 4, prp1, first) && behind_spells(host, prp2, len - first)
 }
 
-/// The same of what is behind PRP1's page.
+/// The same of what is after PRP1's page.
 fn behind_spells(host: &Host, prp2: u64, bytes: u64) -> bool
     requires most { bytes < 2 ^ 32 }
     ensures { (pieces : List Piece) → result ≡ spells (behind_reading host.now (pages_of bytes) prp2 bytes pieces) }
@@ -42,7 +42,7 @@ fn list_spells(host: &Host, list: u64, pages: u64, bytes: u64) -> bool
     requires there { list + 8 * min (slots_of list) pages ≤ length host.now }
     ensures { (pieces : List Piece) → result ≡ spells (entries_reading host.now pages (slots_of list) list bytes pieces) }
 {
-    // The end of the host fits in 64 bits, and so does the place behind a slot.
+    // The end of the host fits in 64 bits, and so does the address after a slot.
     let _size = host.len();
     let mut from = list;
     let mut slots = (PAGE_SIZE - list % PAGE_SIZE) / 8;
@@ -65,8 +65,8 @@ fn list_spells(host: &Host, list: u64, pages: u64, bytes: u64) -> bool
     true
 }
 
-/// Where the entry of the next page stands, and how many slots there are from there to the end of its list page, or none
-/// where a pointer to the next list page is not as PRP has it.
+/// Where the entry of the next page is, and how many slots there are from there to the end of its list page, or none where a pointer to the next
+/// list page is not as PRP requires it.
 fn next_entry(host: &Host, from: u64, slots: u64, pages: u64) -> Option<(u64, u64)>
     requires pages { 0 < pages }
     requires slots { 0 < slots }
@@ -86,7 +86,7 @@ fn next_entry(host: &Host, from: u64, slots: u64, pages: u64) -> Option<(u64, u6
     }
 }
 
-/// Whether an entry or pointer is a multiple of `alignment`, and the bytes that it stands for lie in the host.
+/// Whether an entry or pointer is a multiple of `alignment`, and the bytes that it names are in the host.
 fn fits(host: &Host, alignment: u64, addr: u64, len: u64) -> bool
     requires { 0 < alignment }
     ensures { result ≡ is_none (entry_fault (in_host (length host.now)) alignment addr len) }

@@ -101,7 +101,7 @@ impl Blocks {
         &self.stored[entry / 2 - 1]
     }
 
-    /// The front of the `most` blocks from `block` on that lie in a row, one behind the other: at least one.
+    /// The front of the `most` blocks from `block` on that are stored in a row, one after the other: at least one.
     pub fn row(&self, block: usize, most: usize) -> &[[u8; BLOCK_SIZE]]
         requires some { 0 < most }
         requires within { block + most ≤ length self.now }
@@ -181,7 +181,7 @@ impl Blocks {
         }
     }
 
-    /// Takes the bytes of a block from the first of the places that are left of a buffer, which goes on behind these.
+    /// Takes the bytes of a block from the first of the places that are left of a buffer. The buffer goes on after these.
     #[inline(always)]
     pub fn fetch(&mut self, block: usize, memory: &Host, buffer: &mut Buffer)
         requires block { block < length self.old }
@@ -222,8 +222,8 @@ fn settle(entries: &mut Vec<u32>, stored: &mut Vec<[u8; BLOCK_SIZE]>, block: usi
     settle_one(entries, stored, block)
 }
 
-// Gives places, one behind the other, to the blocks of a block's group: those that are next to each other lie so, whatever is written between, and
-// share pages of the system's.
+// Gives places, one after the other, to the blocks of a block's group. Those that are next to each other are stored so, whatever is written in
+// between, and share pages of the system.
 #[inline(never)]
 fn settle_group(entries: &mut Vec<u32>, stored: &mut Vec<[u8; BLOCK_SIZE]>, block: usize)
     requires stored { IsStored (vec_capacity stored.old) (places_of entries.old.items) stored.old.items }

@@ -118,7 +118,7 @@ fn anew(since: &mut Vec<u32>)
     since.fill(0);
 }
 
-// From which flush on a block is kept whose mark is this, behind so many flushes.
+// From which flush on a block with this mark is kept, after so many flushes.
 fn first_flush(flushes: u32, mark: bool) -> u32
     requires { flushes + 1 < 2 ^ 32 }
     ensures mark { is_kept flushes result ≡ mark }

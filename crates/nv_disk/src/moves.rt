@@ -192,8 +192,8 @@ pub fn compare_blocks(
     differs
 }
 
-// Whether the bytes of the `count` blocks from `start` on are others than those of the buffer. Blocks that lie in a row are compared at once, and
-// none behind a row that differs.
+// Whether the bytes of the `count` blocks from `start` on differ from those of the buffer. Blocks that are stored in a row are compared at once,
+// and none after a row that differs.
 fn blocks_differ(
     memory: &Host,
     disk: &Blocks,

@@ -9,7 +9,7 @@ pub enum DescriptorType {
     DataBlock,
     /// 1h: bytes that are discarded
     BitBucket,
-    /// 2h: an array of descriptors, behind which more may follow
+    /// 2h: an array of descriptors, after which more may follow
     Segment,
     /// 3h: the last array of descriptors
     LastSegment,

@@ -1,4 +1,4 @@
-//! The status of a completion, and where it stands in a completion queue entry.
+//! The status of a completion, and where it is in a completion queue entry.
 
 ghost use Rattle.std.specs.Prelude.{◌≡◌, ◌+◌, ◌*◌, ◌^◌, ◌<◌, ◌↔◌, IsTrue, true};
 ghost use Rattle.nv_entry.specs.Status.{bit, status};

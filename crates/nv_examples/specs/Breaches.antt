@@ -36,8 +36,8 @@ HasPrivateRun events =
 
 -- ---- which clause is kept
 
--- the clauses of discipline, each by itself: no destination names a byte twice or shares one; no completion slot stands where bytes are
--- named; the next act is no store into them; and no load from a destination
+-- the clauses of discipline, each by itself: no destination names a byte twice or shares one; no completion slot is where bytes are named; the next
+-- act is no store into them; and no load from a destination
 abbrev pub Clause : Type 0
 Clause = Option Act → List (List Named) → List (ℕ × ℕ) → Bool
 
@@ -73,9 +73,9 @@ clauses_kept events =
     holds_along shares_none events opened ∷ holds_along has_no_slot events opened ∷ holds_along stores_elsewhere events opened
     ∷ holds_along loads_elsewhere events opened ∷ []
 
--- ---- looking
+-- ---- observing
 
--- the last byte that a guest was told
+-- the last byte that a guest was shown
 abbrev pub byte_told : (otherwise : ℕ) → Reply → ℕ
 byte_told otherwise reply.Done = otherwise
 byte_told otherwise (reply.Bytes bytes) = slice_index bytes 0
@@ -102,7 +102,7 @@ abbrev pub code_in : Option Taken → Option ℕ
 code_in None = None
 code_in (Some t) = code_of t.progress
 
--- that of the private controller's command named 1, behind all of these events but the last
+-- that of the private controller's command named 1, after all of these events but the last
 abbrev pub refused_before_last : List Event → Option ℕ
 refused_before_last events =
     code_in ((behind_run (run_of (shape_of first)

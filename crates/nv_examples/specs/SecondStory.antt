@@ -80,14 +80,14 @@ besides_acts steps = filter (λ s. not (is_act s)) steps
 abbrev pub replies_seen : List Seen → List Reply
 replies_seen seen = map (λ s. s.reply) seen
 
--- those of this log: bring-up, stores and doorbells are done; then what was read, the first 128 bytes behind the odd address and the last 256 in
+-- those of this log: bring-up, stores and doorbells are done; then what was read, the first 128 bytes from the odd address on and the last 256 in
 -- the other piece; and the status and identifier of the last completion, which is the deallocation's
 abbrev pub replies_told : List Reply
 replies_told =
     replicate 14 reply.Done
     ++ reply.Bytes (0 ∷ 7 ∷ 8 ∷ 9 ∷ []) ∷ reply.Bytes (5 ∷ 6 ∷ 0 ∷ []) ∷ reply.Bytes (7 ∷ 0 ∷ 1 ∷ 0 ∷ []) ∷ []
 
--- ---- what is looked at
+-- ---- what is examined
 
 -- bytes of a block: its first, and those where the second piece begins
 abbrev pub block_bytes : (disk : ℕ → ℕ → ℕ) → (lba : ℕ) → List ℕ

@@ -15,7 +15,7 @@ Stepping = Event → World → After
 
 -- ---- along events
 
--- the world behind these events, and their log
+-- the world after these events, and their log
 unfoldable pub replay_by : Stepping → List Event → World → World
 replay_by by [] w = w
 replay_by by (e ∷ events) w = replay_by by events (by e w).world
@@ -24,7 +24,7 @@ unfoldable pub logged_by : Stepping → List Event → World → List Logged
 logged_by by [] w = []
 logged_by by (e ∷ events) w = (record { event = e; reply = (by e w).reply }) ∷ logged_by by events (by e w).world
 
--- the steps of the first guest's private controller that they stand for, and whether that guest is disciplined along them
+-- the steps of the first guest's private controller that they represent, and whether that guest is disciplined along them
 unfoldable pub steps_by : Guest → Stepping → List Event → World → List Step
 steps_by first by [] w = []
 steps_by first by (e ∷ events) w = steps_of 0 first w e (by e w).reply ++ steps_by first by events (by e w).world
@@ -35,7 +35,7 @@ disciplined_by first by (e ∷ events) w = in_order (act_of 0 e) 0 first w && di
 
 -- ---- runs
 
--- what the guest sees along a run, and the private controller behind it
+-- what the guest sees along a run, and the private controller after it
 abbrev pub seen_along : Option Run → List Seen
 seen_along None = []
 seen_along (Some run) = run.seen
@@ -45,7 +45,7 @@ behind_run None = start
 behind_run (Some run) = run.state
 
 -- the steps of the log of these events, from that world on, are a run of the first guest's private controller, in which the guest sees its acts
--- with the logged replies, and which ends in a state that agrees with the world behind them
+-- with the logged replies, and which ends in a state that agrees with the world after them
 pub record IsFollowed (first : Guest) (opened : World) (by : Stepping) (events : List Event) : Type 0 where
   pub run : Run
   pub runs : run_of (shape_of first) (steps_by first by events opened) start ≡ Some run

@@ -111,7 +111,7 @@ two_reads =
 
 -- ---- a reset with a command in flight
 
--- RDY stays until the command has run out, and its bytes come behind the reset; the neighbour's Flush moves, and then fails
+-- RDY stays until the command has run out, and its bytes arrive after the reset; the neighbour's Flush moves, and then fails
 abbrev pub reset_in_flight : List Logged
 reset_in_flight =
     done (own (act.Store 0x30c0 (read 6 0 0x3401)))

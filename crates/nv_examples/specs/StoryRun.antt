@@ -39,7 +39,7 @@ steps_of_reads =
     ∷ ActStep (act.Load 0x0a00 3) ∷ ActStep (act.Load 0x201c 4) ∷ ActStep (act.Doorbell 0x100c 0) ∷ PostStep 1
     ∷ ActStep (act.Load 0x0c00 4) ∷ ActStep (act.Load 0x200c 4) ∷ ActStep (act.Doorbell 0x100c 1) ∷ []
 
--- a Read runs out behind a reset, and the neighbour's Flush keeps both blocks
+-- a Read runs out after a reset, and the neighbour's Flush keeps both blocks
 abbrev pub steps_of_reset : List Step
 steps_of_reset =
     ActStep (act.Store 0x30c0 (read 6 0 0x3401)) ∷ ActStep (act.Doorbell 0x1008 0) ∷ TakeStep 1 0 ∷ JudgeStep 0
@@ -60,18 +60,18 @@ story_steps = steps_of_bring_up ++ steps_of_write ++ steps_of_reads ++ steps_of_
 
 -- ---- its end
 
--- the world behind the log
+-- the world after the log
 abbrev pub story_end : World
 story_end = replay set_up.geometry (events_of story) opened
 
--- the run of these steps, and the private controller behind it
+-- the run of these steps, and the private controller after it
 abbrev pub story_run : Option Run
 story_run = run_of (shape_of first) story_steps start
 
 abbrev pub story_private : Private
 story_private = behind_run story_run
 
--- what is looked at: the first bytes of each of its buffers, its completion slots, and four of its admin queue's
+-- what is examined: the first bytes of each of its buffers, its completion slots, and four of its admin queue's
 abbrev pub places : List (ℕ × ℕ)
 places = (0x0800, 4) ∷ (0x0a00, 4) ∷ (0x0c00, 5) ∷ (0x3400, 5) ∷ (0x2000, 16) ∷ (0x2010, 16) ∷ (0x1000, 64) ∷ []
 
@@ -82,8 +82,8 @@ bytes_at_places memory = map (λ s. bytes_from memory s.0 s.1) places
 abbrev pub memory_in : World → ℕ → ℕ
 memory_in w = image (regions_of first) w.host
 
--- what stands there: what was written in all buffers, behind a byte that is no buffer's where their addresses are odd; the completions of a
--- Flush, in a queue's second life, and of a Read; and those of the admin queue's second life
+-- what is there: what was written in all buffers, after a byte that is no buffer's where their addresses are odd; the completions of a Flush, in a
+-- queue's second life, and of a Read; and those of the admin queue's second life
 abbrev pub bytes_at_end : List (List ℕ)
 bytes_at_end =
     (7 ∷ 8 ∷ 9 ∷ 0 ∷ []) ∷ (7 ∷ 8 ∷ 9 ∷ 0 ∷ []) ∷ (0 ∷ 7 ∷ 8 ∷ 9 ∷ 0 ∷ []) ∷ (0 ∷ 7 ∷ 8 ∷ 9 ∷ 0 ∷ [])

@@ -1,4 +1,4 @@
--- Worlds whose step is wrong, and logs by which that is told
+-- Worlds whose step is wrong, and logs that show it
 use Rattle.std.specs.Prelude.{ℕ, ◌+◌, Bool, true, ◌&&◌, ◌==◌, if◌then◌else◌, List, [], ◌∷◌, ◌++◌, slice_get, slice_set, Option, Some, None}
 use Rattle.nv_entry.specs.Status.{StatusField}
 use Rattle.nv_entry.specs.StatusCode.{done_with}
@@ -41,7 +41,7 @@ flushed = up ++ stores 0x3000 (flush 3) ∷ rings 1 ∷ event.Take 0 1 0 ∷ eve
 
 -- ---- FUA is dropped
 
--- the byte of CDW12 of an entry that has FUA is cleared, of the entry that stands in front of the tail
+-- the byte of CDW12 of an entry that has FUA is cleared, of the entry that is just before the tail
 abbrev pub without_fua : Option DeviceLane → (lane : ℕ) → After → After
 without_fua None lane after = after
 without_fua (Some d) lane after =
@@ -72,13 +72,13 @@ abbrev pub phases_kept : Option Controller → World → World
 phases_kept None w = w
 phases_kept (Some c) w = with_controller 0 (phase_kept (slice_get c.completion_queues 1) c) w
 
--- a Post of the first guest behind which its completion queue has phase tag 1 still
+-- a Post of the first guest after which its completion queue still has phase tag 1
 abbrev pub phase_not_inverted : Stepping
 phase_not_inverted (event.Post lane tag) w =
     (let after = right (event.Post lane tag) w in record after { world = phases_kept (slice_get after.world.controllers 0) after.world })
 phase_not_inverted e w = right e w
 
--- three Flushes, one behind the other, and a completion queue of two slots; the last dword of the third completion is loaded
+-- three Flushes, one after the other, and a completion queue of two slots; the last dword of the third completion is loaded
 abbrev pub three_flushes : List Event
 three_flushes =
     up_with 2 ++ stores 0x3000 (flush 3 ++ flush 4 ++ flush 5) ∷ rings 3 ∷ whole ++ own (act.Doorbell 0x100c 1) ∷ whole
@@ -101,7 +101,7 @@ bytes_dropped (event.Post lane tag) w =
     else dropped_by (statuses_of lane tags w) command.queue lane tags o w)))
 bytes_dropped e w = right e w
 
--- a bounced Read of zeros to where a 7 stands, which runs out behind a reset; that byte is loaded then
+-- a bounced Read of zeros to where a 7 is, which runs out after a reset; that byte is loaded then
 abbrev pub read_run_out : List Event
 read_run_out =
     up ++ stores 0x0801 (7 ∷ []) ∷ stores 0x3000 (read 3 0 0x0801) ∷ rings 1 ∷ begins 0 ++ own (act.RegWrite 0x14 0x00460000)
@@ -117,20 +117,20 @@ abbrev pub ready_fallen : Option Controller → World → World
 ready_fallen None w = w
 ready_fallen (Some c) w = with_controller 0 (fallen c) w
 
--- an act of the first guest behind which RDY has fallen with EN
+-- an act of the first guest after which RDY has fallen with EN
 abbrev pub ready_falls_early : Stepping
 ready_falls_early (event.Guest guest a) w =
     (let after = right (event.Guest guest a) w in record after { world = ready_fallen (slice_get after.world.controllers 0) after.world })
 ready_falls_early e w = right e w
 
--- a reset with a Read taken, behind which CSTS is read
+-- a reset with a Read taken, after which CSTS is read
 abbrev pub reset_with_read : List Event
 reset_with_read =
     up ++ stores 0x3000 (read 3 0 0x0801) ∷ rings 1 ∷ begins 0 ++ own (act.RegWrite 0x14 0x00460000) ∷ own (act.RegRead 0x1c) ∷ []
 
 -- ---- a completion bears the tag
 
--- a Post whose completion has the tag as its identifier: that is what stands in the first slot of completion queue 1
+-- a Post whose completion has the tag as its identifier: that is what is in the first slot of completion queue 1
 abbrev pub tag_as_identifier : Stepping
 tag_as_identifier (event.Post lane tag) w =
     (let after = right (event.Post lane tag) w in record after { world = with_host (stored after.world.host 0x1200c (tag ∷ 0 ∷ [])) after.world })

@@ -1,10 +1,10 @@
-//! What discipline is for: of each clause that counts a log that breaks it and no other, and along which the guest is not followed by its
-//! private controller.
+//! What discipline is for: for each clause that counts, a log that breaks it and no other, and along which the guest is not followed by its private
+//! controller.
 //!
-//! Of each log the four clauses are told: that no destination names a byte twice or shares one with anything else that is named, that no
-//! completion slot stands where bytes are named, that nothing is stored into such bytes, and that nothing is loaded from a destination. A
-//! store into an entry that is rung and not taken, and a destination over its command's own list or entry, are forbidden so that what is
-//! named stays what it is: in both worlds the command is the same.
+//! For each log the four clauses are given: that no destination names a byte twice or shares one with anything else that is named, that no
+//! completion slot is where bytes are named, that nothing is stored into such bytes, and that nothing is loaded from a destination. Two things are
+//! forbidden so that what is named stays what it is: a store into an entry whose doorbell was rung and that is not taken, and a destination over
+//! its command's own list or entry. In both worlds the command is the same.
 
 ghost use Rattle.std.specs.Prelude.{◌≡◌, ◌&&◌, ℕ, List, [], ◌∷◌, Option, Some, true, false};
 ghost use Rattle.nv_model.specs.Footprint.{Named};
@@ -66,7 +66,7 @@ pub fn byte_named_twice()
     ensures it_has_no_such_run { HasPrivateRun byte_named_twice → ⊥ }
 {}
 
-/// Two destinations that meet: in the world the one that is completed last stands there.
+/// Two destinations that overlap: in the world, the one that is completed last is there.
 #[tactic(none)]
 pub fn destination_in_destination()
     ensures no_command_failed { none_failed_in destination_in_destination ≡ true }

@@ -11,7 +11,7 @@ ghost use Rattle.nv_examples.specs.Logs.{told};
 /// A clause each.
 #[tactic(none)]
 pub fn examples()
-    // A look at CSTS whose four bytes are not in the log.
+    // A read of CSTS whose four bytes are not in the log.
     ensures another_reply { IsReplay set_up.geometry opened (told (own (act.RegRead 0x1c)) reply.Done ∷ []) opened → ⊥ }
     // Another byte of it.
     ensures another_byte { IsReplay set_up.geometry opened (told (own (act.RegRead 0x1c)) (reply.Bytes (0 ∷ 0 ∷ 0 ∷ 1 ∷ [])) ∷ []) opened → ⊥ }

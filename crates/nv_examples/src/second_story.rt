@@ -29,10 +29,10 @@ pub fn examples()
     // What is discarded goes nowhere.
     ensures what_is_discarded { bytes_from (private_behind second_story).memory 0x0d80 2 ≡ 0 ∷ 0 ∷ [] }
     ensures what_is_discarded_in_the_world { bytes_from (memory_in (world_behind second_story)) 0x0d80 2 ≡ 0 ∷ 0 ∷ [] }
-    // Behind the Write its block is made of both pieces; the guest's block 1 is the disk's block 3.
+    // After the Write its block is made of both pieces; the guest's block 1 is the disk's block 3.
     ensures the_block_that_was_written { block_bytes (private_behind up_to_write).disk 1 ≡ 7 ∷ 8 ∷ 9 ∷ 0 ∷ 5 ∷ 6 ∷ 0 ∷ [] }
     ensures the_block_that_was_written_on_the_disk { block_bytes (world_behind up_to_write).disk 3 ≡ 7 ∷ 8 ∷ 9 ∷ 0 ∷ 5 ∷ 6 ∷ 0 ∷ [] }
-    // Behind the deallocation it is zero.
+    // After the deallocation it is zero.
     ensures the_block_that_was_deallocated { block_bytes (private_behind second_story).disk 1 ≡ replicate 7 0 }
     ensures the_block_that_was_deallocated_on_the_disk { block_bytes (world_behind second_story).disk 3 ≡ replicate 7 0 }
 {}

@@ -35,7 +35,7 @@ pub fn premises()
 /// Its private run, a clause each.
 #[tactic(none)]
 pub fn private_run()
-    // The steps that the log stands for are these.
+    // The steps that the log represents are these.
     ensures the_steps { private_steps set_up.geometry 0 first story opened ≡ story_steps }
     // They can be made from the start of a private controller.
     ensures they_can_be_made { is_some story_run ≡ true }
@@ -58,7 +58,7 @@ pub fn private_run()
 {}
 
 /// What is promised, computed: the log's steps are that run, the guest sees in it what was logged, and it ends in a state that agrees with the
-/// world behind the log, in every byte, block and mark.
+/// world after the log, in every byte, block and mark.
 #[tactic(none)]
 pub fn the_promise()
     ensures { IsPrivateRun set_up.geometry 0 first story opened story_end }

@@ -1,4 +1,4 @@
-//! Words of the promise and of the world's step, each told apart from a near one that every other example lets pass.
+//! Terms of the promise and of the world's step, each distinguished from a similar one that every other example lets pass.
 
 ghost use Rattle.std.specs.Prelude.{◌≡◌, [], ◌∷◌, ◌++◌, replicate, Some, false, true};
 ghost use Rattle.nv_entry.specs.StatusCode.{done_with};
@@ -54,7 +54,7 @@ pub fn in_its_world()
         (submitted_untranslated low_set_up 0 0 (replay low_set_up (event.Take 0 1 0 ∷ []) (one_command (by_sgl 0x08 6 0 (data_block 0x3000 512))))).world → ⊥ }
 {}
 
-/// The promise tells where a log leads: one of no events to the world at the start, and not to one with other bytes.
+/// The promise says where a log leads: one of no events leads to the world at the start, and not to one with other bytes.
 #[tactic(none)]
 pub fn where_a_log_leads()
     ensures { Headline (record { host_bytes = 0x1000000; lanes = 1; geometry = set_up }) [] (with_host (λ _. 7) at_start) → ⊥ }
@@ -79,7 +79,7 @@ pub fn steps()
 pub fn statuses()
     // Success has type 0 and code 0: code 0 of another type is a failure.
     ensures code_zero_of_another_type { told (in_device ++ event.DevFail 0 0 (record { sct = 1; sc = 0; dnr = false }) ∷ []) (one_command first_example) ≡ replicate 4 reply.Done }
-    // A media error tells of no difference,
+    // A media error reports no difference,
     ensures a_media_error { behind (in_device ++ event.DevFail 0 0 (record { sct = 2; sc = 0x81; dnr = false }) ∷ []) (one_command first_example) how_far ≡ Some ([], false) }
     // and neither does the code of one that does, of another type.
     ensures the_code_of_a_difference { behind (in_device ++ event.DevFail 0 0 (record { sct = 1; sc = 0x85; dnr = false }) ∷ []) (one_command first_example) how_far ≡ Some ([], false) }

@@ -1,4 +1,4 @@
-//! Words of the private controller, each told apart from a near one that the other rows let pass.
+//! Terms of the private controller, each distinguished from a similar one that the other rows let pass.
 
 ghost use Rattle.std.specs.Prelude.{◌≡◌, [], ◌∷◌, ◌++◌, Some, true, false, replicate, slice_set};
 ghost use Rattle.nv_examples.specs.Deleting.{deleting};

@@ -1,4 +1,4 @@
-//! Words of maps, of region pages and of physical entries, each told apart from a near one that the other rows let pass.
+//! Terms of maps, of region pages and of physical entries, each distinguished from a similar one that the other rows let pass.
 
 ghost use Rattle.std.specs.Prelude.{◌≡◌, [], ◌∷◌, ◌++◌, ◌+◌, ◌==◌, Some, None, true, false, map, not, replicate};
 ghost use Rattle.std.specs.List.{range_with_len};

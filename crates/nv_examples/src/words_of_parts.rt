@@ -1,4 +1,4 @@
-//! Words of the world, each told apart from a near one that the other rows let pass.
+//! Terms of the world, each distinguished from a similar one that the other rows let pass.
 
 ghost use Rattle.std.specs.Prelude.{◌≡◌, [], ◌∷◌, ◌++◌, replicate, map, Some, None, false, true};
 ghost use Rattle.std.specs.Option.{option_map};

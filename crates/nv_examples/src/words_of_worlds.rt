@@ -1,4 +1,4 @@
-//! Words of the promise and of the world, each told apart from a near one that the other rows let pass.
+//! Terms of the promise and of the world, each distinguished from a similar one that the other rows let pass.
 
 ghost use Rattle.std.specs.Prelude.{◌≡◌, [], ◌∷◌, ◌++◌, replicate, Some, None, false, true, is_some, slice_get};
 ghost use Rattle.nv_entry.specs.StatusCode.{done_with};

@@ -1,7 +1,6 @@
-//! Worlds whose step is wrong: each is told by a log, along which the first guest is disciplined and is not followed by its private
-//! controller.
+//! Worlds whose step is wrong: each is shown by a log, along which the first guest is disciplined and is not followed by its private controller.
 //!
-//! Of each, the world's own step has what the private controller has at the same place.
+//! For each, the world's own step has what the private controller has at the same place.
 
 ghost use Rattle.std.specs.Prelude.{◌≡◌, ℕ, List, true, false, is_some};
 ghost use Rattle.nv_model.specs.Private.{run_of, start};
@@ -45,7 +44,7 @@ pub fn a_phase_tag_that_is_not_inverted()
     ensures it_is_not_followed { IsFollowed first opened phase_not_inverted three_flushes → ⊥ }
 {}
 
-/// A Read's bytes that are dropped where it runs out behind a reset.
+/// A Read's bytes that are dropped where it runs out after a reset.
 #[tactic(none)]
 pub fn bytes_that_are_dropped()
     ensures disciplined { disciplined_by first bytes_dropped read_run_out opened ≡ true }

@@ -40,7 +40,7 @@ reads_around =
     event.Take 0 1 0 ∷ event.List 0 0 0x6000 48 ∷ event.Submit 0 0 ∷ event.DevTake 0 ∷ event.DevTake 0 ∷ event.DevMove 0 1 0 ∷ event.DevMove 0 0 0
     ∷ event.DevPost 0 0 ∷ event.DevPost 0 1 ∷ event.Reap 0 ∷ event.Reap 0 ∷ event.Post 0 0 ∷ []
 
--- the first and the last byte of both quarters, and the bytes before and behind each
+-- the first and the last byte of both quarters, and the bytes before and after each
 abbrev pub both_quarters : World → List (List ℕ)
 both_quarters w =
     host_bytes 0x103dff 2 w ∷ host_bytes 0x103eff 2 w ∷ host_bytes 0x104fff 2 w ∷ host_bytes 0x1050ff 2 w ∷ []

@@ -40,8 +40,8 @@ neighbour_comes =
 
 -- ---- a Write is two physical commands
 
--- of two blocks each, which move one among the other; the neighbour's Write Zeroes, whose entry it writes once it was rung, is three, in tags
--- 2 to 4. The second part of the Write ends first, and by none of its tags is it completed before the first part has ended
+-- of two blocks each, whose moves are interleaved; the neighbour's Write Zeroes, whose entry it writes once the doorbell was rung, is three, in
+-- tags 2 to 4. The second part of the Write ends first, and by none of its tags is the Write completed before the first part has ended
 abbrev pub write_of_all : List Logged
 write_of_all =
     done (own (act.Store 0x0800 (1 ∷ 2 ∷ [])))
@@ -144,7 +144,7 @@ two_reads =
 
 -- ---- a range over the join is deallocated
 
--- blocks 1 and 2; the range of no blocks behind it is the first part's, too. The neighbour's Flush moves between, and keeps all blocks
+-- blocks 1 and 2; the range of no blocks after it is the first part's, too. The neighbour's Flush moves in between, and keeps all blocks
 abbrev pub range_over_the_join : List Logged
 range_over_the_join =
     done (own (act.Store 0x3800 (block_range 1 2 ++ block_range 3 0)))

@@ -54,18 +54,18 @@ story_steps = steps_of_bring_up ++ steps_of_write ++ steps_of_reads ++ steps_of_
 
 -- ---- its end
 
--- the world behind the log
+-- the world after the log
 abbrev pub story_end : World
 story_end = replay set_up (events_of story) opened
 
--- the run of these steps, and the private controller behind it
+-- the run of these steps, and the private controller after it
 abbrev pub story_run : Option Run
 story_run = run_of (shape_of first) story_steps start
 
 abbrev pub story_private : Private
 story_private = behind_run story_run
 
--- what is looked at: the first bytes of each block of its buffers, and its completion slots
+-- what is examined: the first bytes of each block of its buffers, and its completion slots
 abbrev pub places : List (ℕ × ℕ)
 places =
     (0x0800, 3) ∷ (0x0a00, 4) ∷ (0x0c00, 3) ∷ (0x0e00, 2) ∷ (0x2400, 4) ∷ (0x2600, 3) ∷ (0x1800, 5) ∷ (0x1a00, 4) ∷ (0x2000, 16)
@@ -78,8 +78,7 @@ bytes_at_places memory = map (λ s. bytes_from memory s.0 s.1) places
 abbrev pub memory_in : World → ℕ → ℕ
 memory_in w = image (regions_of first) w.host
 
--- what stands there: what was written in all buffers, behind a byte that is no buffer's where their addresses are odd; and one completion a
--- command
+-- what is there: what was written in all buffers, after a byte that is no buffer's where their addresses are odd; and one completion a command
 abbrev pub bytes_at_end : List (List ℕ)
 bytes_at_end =
     (1 ∷ 2 ∷ 0 ∷ []) ∷ (7 ∷ 8 ∷ 9 ∷ 0 ∷ []) ∷ (5 ∷ 6 ∷ 0 ∷ []) ∷ (4 ∷ 0 ∷ []) ∷ (7 ∷ 8 ∷ 9 ∷ 0 ∷ []) ∷ (5 ∷ 6 ∷ 0 ∷ [])
@@ -90,7 +89,7 @@ bytes_at_end =
     ∷ (0 ∷ 0 ∷ 0 ∷ 0 ∷ 0 ∷ 0 ∷ 0 ∷ 0 ∷ 4 ∷ 0 ∷ 1 ∷ 0 ∷ 6 ∷ 0 ∷ 1 ∷ 0 ∷ [])
     ∷ []
 
--- a block of these bytes, and zeros behind them
+-- a block of these bytes, and zeros after them
 abbrev pub block_of : List ℕ → (offset : ℕ) → ℕ
 block_of bytes offset = stored (λ _. 0) 0 (bytes ++ replicate (512 - length bytes) 0) offset
 

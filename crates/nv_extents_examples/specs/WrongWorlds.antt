@@ -1,4 +1,4 @@
--- Worlds whose step is wrong where a command is several physical ones, and logs by which that is told
+-- Worlds whose step is wrong where a command is several physical ones, and logs that show it
 use Rattle.std.specs.Prelude.{ℕ, Bool, false, ◌==◌, if◌then◌else◌, List, [], ◌∷◌, ◌++◌, filter, map, Option, Some, None}
 use Rattle.std.specs.List.{enumerate_from}
 use Rattle.nv_entry.specs.Status.{StatusField}
@@ -31,7 +31,7 @@ right e w = step set_up e w
 abbrev pub HasPrivateRun : List Event → Type 0
 HasPrivateRun events = IsPrivateRun set_up 0 first (logged set_up events opened) opened (replay set_up events opened)
 
--- ---- what is looked at
+-- ---- what is examined
 
 -- the private controller's run of these events, and where it ends
 abbrev pub run_by : Stepping → List Event → Option Run
@@ -44,12 +44,12 @@ private_by by events = behind_run (run_by by events)
 abbrev pub world_by : Stepping → List Event → World
 world_by by events = replay_by by events opened
 
--- the bytes that a reply tells
+-- the bytes that a reply returns
 abbrev pub bytes_told : Reply → List ℕ
 bytes_told (reply.Bytes bytes) = bytes
 bytes_told other = []
 
--- those that the guest was told, in order
+-- those that the guest was shown, in order
 unfoldable pub all_told : List Seen → List ℕ
 all_told [] = []
 all_told (s ∷ seen) = bytes_told s.reply ++ all_told seen
@@ -63,7 +63,7 @@ first_bytes disk blocks = map (λ at. disk at 0) blocks
 
 -- ---- logs
 
--- a Write of blocks 1 and 2, of which the first begins with 7 and the second with 5; behind its buffer stands 4. A unit that there isn't moves
+-- a Write of blocks 1 and 2, of which the first begins with 7 and the second with 5; after its buffer is 4. A unit that does not exist moves
 -- nothing
 abbrev pub first_moved : List Event
 first_moved =
@@ -79,8 +79,8 @@ read_back =
     written_over ++ stores 0x3040 (read_over 4 0x1801) ∷ rings 2
     ∷ begins 0 ++ moves 0 0 ∷ moves 1 0 ∷ ends ++ loads 0x1801 1 ∷ loads 0x1a01 1 ∷ []
 
--- a direct Read of them, whose parts end one behind the other and are posted one by one; each time the identifier in the next completion slot
--- is loaded
+-- a direct Read of them, whose parts end one after the other and are posted one by one; each time the identifier in the next completion slot is
+-- loaded
 abbrev pub read_in_parts : List Event
 read_in_parts =
     up 0 ++ stores 0x3000 (read_over 3 0x2400) ∷ rings 1
@@ -107,7 +107,7 @@ read_behind_the_neighbour =
 
 -- ---- a part with the whole's length
 
--- a Submit behind which both entries at the ring's front have the NLB of a command of two blocks in CDW12
+-- a Submit after which both entries at the ring's front have the NLB of a command of two blocks in CDW12
 abbrev pub whole_length : Stepping
 whole_length (event.Submit lane tag) w =
     (let after = right (event.Submit lane tag) w in
@@ -116,7 +116,7 @@ whole_length e w = right e w
 
 -- ---- parts swapped
 
--- a Submit behind which both entries at the ring's front have each other's first block, in CDW10
+-- a Submit after which both entries at the ring's front have each other's first block, in CDW10
 abbrev pub swapped : (ℕ → ℕ) → ℕ → ℕ
 swapped host = stored (stored host 0x30028 (bytes_from host 0x30068 4)) 0x30068 (bytes_from host 0x30028 4)
 

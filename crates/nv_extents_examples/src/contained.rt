@@ -1,5 +1,5 @@
-//! Containment where namespaces have several extents: of the first guest's events, a unit that moves in its second extent is contained, and
-//! steps that are wrong of a block in a last extent, or of one right behind a first extent, are not.
+//! Containment where namespaces have several extents. Of the first guest's events, a unit that moves in its second extent is contained. Steps that
+//! are wrong about a block in a last extent, or about one right after a first extent, are not.
 
 ghost use Rattle.nv_world_model.specs.Contained.{Contained};
 ghost use Rattle.nv_world_model.specs.RowsAlone.{block_of, changes, mark_of};
@@ -17,7 +17,7 @@ pub fn changed()
     ensures its_last_block { IsFirstGuests (changes (block_of 13)) → ⊥ }
     // The mark of that is lost.
     ensures its_last_mark { IsFirstGuests (changes (mark_of 13)) → ⊥ }
-    // The mark of its first block is lost, which lies right behind the first guest's first extent.
+    // The mark of its first block, which is right after the first guest's first extent, is lost.
     ensures its_first_mark { IsFirstGuests (changes (mark_of 4)) → ⊥ }
 {}
 
@@ -26,7 +26,7 @@ pub fn changed()
 pub fn followed()
     // A byte of its memory follows the neighbour's last block.
     ensures the_last_block { IsFirstGuests (follows 13 own_byte) → ⊥ }
-    // It follows the neighbour's first block, which lies right behind the first guest's first extent.
+    // It follows the neighbour's first block, which is right after the first guest's first extent.
     ensures the_first_block { IsFirstGuests (follows 4 own_byte) → ⊥ }
     // The first guest's own last block, which lies in its second extent, follows the neighbour's.
     ensures its_own_last_block { IsFirstGuests (follows 13 (block_of 10)) → ⊥ }

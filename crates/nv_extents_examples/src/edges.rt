@@ -10,7 +10,7 @@ ghost use Rattle.nv_world_model.specs.World.{group};
 ghost use Rattle.nv_extents_examples.specs.Edges.{are_kept, behind_eight, both_quarters, eight_bytes, eight_end, eight_in_device, list_at, read_all};
 ghost use Rattle.nv_extents_examples.specs.Edges.{read_around, reads_around, starts, write_with_fua};
 
-/// A clause each. Of a physical entry are told opcode, identifier, PRP1, PRP2, and CDW10 to CDW12.
+/// A clause each. Of a physical entry the opcode, the identifier, PRP1, PRP2, and CDW10 to CDW12 are given.
 #[tactic(none)]
 pub fn parts()
     // Each part of five pages has a PRP list of its own, in its tag's list page; the second begins where the first ends, within a page.
@@ -23,7 +23,7 @@ pub fn parts()
     // The last block of each part is block 31 of its extent: 1031 and 3031 of the disk.
     ensures the_last_of_the_first { behind (in_device ++ event.DevMove 0 0 31 ∷ []) (one_command read_all) (host_number 0x108000 1) ≡ 0x07 }
     ensures the_last_of_the_second { behind (in_device ++ event.DevMove 0 1 31 ∷ []) (one_command read_all) (host_number 0x10c000 1) ≡ 0xd7 }
-    // FUA stands in each part's CDW12, beside its own NLB, and keeps the blocks of both.
+    // FUA is in each part's CDW12, beside its own NLB, and keeps the blocks of both.
     ensures fua_in_each { behind (event.Take 0 1 0 ∷ event.Submit 0 0 ∷ []) (one_command write_with_fua) both_entries
         ≡ (0x01 ∷ 0 ∷ 0x103e00 ∷ 0 ∷ 1031 ∷ 0 ∷ with_fua 0 ∷ []) ∷ (0x01 ∷ 1 ∷ 0x104000 ∷ 0 ∷ 3000 ∷ 0 ∷ with_fua 0 ∷ []) ∷ [] }
     ensures fua_keeps_both { behind (in_device ++ ends 0 ++ ends 1) (one_command write_with_fua) (are_kept (1030 ∷ 1031 ∷ 1032 ∷ 2999 ∷ 3000 ∷ 3001 ∷ []))
@@ -42,7 +42,7 @@ pub fn eight_parts()
     ensures its_entries { behind_eight (event.Take 0 1 0 ∷ event.Submit 0 0 ∷ []) starts
         ≡ (0x00002 ∷ 807 ∷ []) ∷ (0x10002 ∷ 706 ∷ []) ∷ (0x20002 ∷ 605 ∷ []) ∷ (0x30002 ∷ 504 ∷ []) ∷ (0x40002 ∷ 403 ∷ []) ∷ (0x50002 ∷ 302 ∷ [])
         ∷ (0x60002 ∷ 201 ∷ []) ∷ (0x70002 ∷ 100 ∷ []) ∷ [] }
-    // Behind all of them it is completed once, and each block is where it belongs.
+    // After all of them it is completed once, and each block is where it belongs.
     ensures its_blocks { behind_eight (eight_in_device ++ eight_end) eight_bytes ≡ 39 ∷ 194 ∷ 93 ∷ 248 ∷ 147 ∷ 46 ∷ 201 ∷ 100 ∷ [] }
     ensures its_completion { behind_eight (eight_in_device ++ eight_end) answer ≡ 0x00010007 }
 {}

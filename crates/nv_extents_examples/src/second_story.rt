@@ -21,7 +21,7 @@ pub fn examples()
     // No command fails, and the guest keeps to its discipline.
     ensures no_command_failed { none_failed set_up 1 second_story opened ≡ true }
     ensures the_guest_is_disciplined { is_disciplined set_up 1 neighbour second_story opened ≡ true }
-    // The steps that the log stands for are these: each command is taken, judged and completed once, by the name of the lowest of its tags.
+    // The steps that the log represents are these: each command is taken, judged and completed once, by the name of the lowest of its tags.
     ensures the_steps { private_steps set_up 1 neighbour second_story opened ≡ second_steps }
     // They can be made.
     ensures they_can_be_made { is_some second_run ≡ true }

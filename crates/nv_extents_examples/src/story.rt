@@ -35,7 +35,7 @@ pub fn premises()
 /// Its private run, a clause each.
 #[tactic(none)]
 pub fn private_run()
-    // The steps that the log stands for are these.
+    // The steps that the log represents are these.
     ensures the_steps { private_steps set_up 0 first story opened ≡ story_steps }
     // They can be made from the start of a private controller.
     ensures they_can_be_made { is_some story_run ≡ true }
@@ -56,13 +56,13 @@ pub fn private_run()
     ensures block_9_of_the_disk { (offset : ℕ) → story_end.disk 9 offset ≡ block_of [] offset }
     ensures block_3 { (offset : ℕ) → story_private.disk 3 offset ≡ block_of (4 ∷ []) offset }
     ensures block_10_of_the_disk { (offset : ℕ) → story_end.disk 10 offset ≡ block_of (4 ∷ []) offset }
-    // All are kept but that which was deallocated behind the Flush.
+    // All are kept but the one that was deallocated after the Flush.
     ensures the_marks { map story_private.kept (0 ∷ 1 ∷ 2 ∷ 3 ∷ []) ≡ true ∷ false ∷ true ∷ true ∷ [] }
     ensures the_marks_of_the_disk { map story_end.kept (2 ∷ 3 ∷ 9 ∷ 10 ∷ []) ≡ true ∷ false ∷ true ∷ true ∷ [] }
 {}
 
 /// What is promised, computed: the log's steps are that run, the guest sees in it what was logged, and it ends in a state that agrees with the
-/// world behind the log, in every byte, block and mark.
+/// world after the log, in every byte, block and mark.
 #[tactic(none)]
 pub fn the_promise()
     ensures { IsPrivateRun set_up 0 first story opened story_end }

@@ -1,7 +1,7 @@
-//! Worlds whose step is wrong where a command is several physical ones: each is told by a log, along which the first guest is disciplined and
-//! is not followed by its private controller.
+//! Worlds whose step is wrong where a command is several physical ones: each is shown by a log, along which the first guest is disciplined and is
+//! not followed by its private controller.
 //!
-//! Of each, the world's own step has what the private controller has at the same place.
+//! For each, the world's own step has what the private controller has at the same place.
 
 ghost use Rattle.std.specs.Prelude.{◌≡◌, ℕ, List, [], ◌∷◌, true, false, is_some};
 ghost use Rattle.nv_world_model.specs.Contained.{Contained, IsContained};
@@ -23,8 +23,8 @@ pub fn the_worlds_own_step()
     ensures { (events : List Event) → HasPrivateRun events → IsFollowed first opened right events }
 {}
 
-/// A part with the whole's length: each part of a Write takes as many blocks as the whole, so that the first runs on into the neighbour's block
-/// behind its extent, and the second into one that the guest did not name.
+/// A part with the whole's length: each part of a Write takes as many blocks as the whole. So the first runs on into the neighbour's block after
+/// its extent, and the second into one that the guest did not name.
 #[tactic(none)]
 pub fn a_part_with_the_whole_length()
     ensures disciplined { disciplined_by first whole_length written_over opened ≡ true }
@@ -33,7 +33,7 @@ pub fn a_part_with_the_whole_length()
     ensures the_wrong_step { first_bytes (world_by whole_length written_over).disk (3 ∷ 4 ∷ 9 ∷ 10 ∷ []) ≡ 7 ∷ 5 ∷ 5 ∷ 4 ∷ [] }
     ensures the_private_run { first_bytes (private_by whole_length written_over).disk (1 ∷ 2 ∷ 3 ∷ []) ≡ 7 ∷ 5 ∷ 0 ∷ [] }
     ensures it_is_not_followed { IsFollowed first opened whole_length written_over → ⊥ }
-    // The device's next event, in the world behind it, changes what is another guest's.
+    // The device's next event, in the world after it, changes what is another guest's.
     ensures it_is_not_contained { Contained set_up (moves 0 1) (world_by whole_length first_moved) → ⊥ }
 {}
 
@@ -74,15 +74,15 @@ pub fn a_scatter_of_the_parts_that_succeeded()
     ensures disciplined { disciplined_by first parts_scattered read_that_fails opened ≡ true }
     ensures its_own_step { told_by right read_that_fails ≡ 0 ∷ 0 ∷ [] }
     ensures the_wrong_step { told_by parts_scattered read_that_fails ≡ 7 ∷ 0 ∷ [] }
-    // The private controller has no failure: it reads both blocks, or none where the command is given up. Of a guest one of whose commands
-    // failed the promise tells nothing, so that it is the step alone that this breaks.
+    // The private controller has no failure: it reads both blocks, or none where the command is given up. The promise says nothing of a guest one
+    // of whose commands failed. So it is the step alone that this breaks.
     ensures the_private_run { all_told (seen_along (run_by parts_scattered read_that_fails)) ≡ 7 ∷ 5 ∷ [] }
     ensures a_command_failed { none_failed set_up 0 (logged set_up read_that_fails opened) opened ≡ false }
     ensures it_is_not_followed { IsFollowed first opened parts_scattered read_that_fails → ⊥ }
 {}
 
-/// A scatter of all parts: the second part of a bounced Read fails before its block has moved, and what stands in its bounce pages reaches the
-/// guest, although it is the neighbour's, who had that tag before.
+/// A scatter of all parts: the second part of a bounced Read fails before its block has moved. What is in its bounce pages reaches the guest,
+/// although it is the neighbour's, who had that tag before.
 #[tactic(none)]
 pub fn a_scatter_of_all_parts()
     ensures its_own_step { memory_in (right (event.Post 0 0) (world_by right read_behind_the_neighbour)).world 0x1a01 ≡ 0 }

@@ -15,7 +15,7 @@ read_to_half lba = by_sgl read lba 0 (data_block 0x200 512)
 abbrev pub write_from_half : List ℕ
 write_from_half = by_sgl write 0 0 (data_block 0x200 512)
 
--- behind the Read of block 1
+-- after the Read of block 1
 abbrev pub block_read : Flat
 block_read = flat (replicate 512 0x11 ++ replicate 512 0x44) (replicate 512 0x33 ∷ replicate 512 0x44 ∷ []) (true ∷ false ∷ [])
 
@@ -27,7 +27,7 @@ block_read_elsewhere = flat (replicate 512 0x44 ++ replicate 512 0x22) (replicat
 abbrev pub block_read_in_part : Flat
 block_read_in_part = flat (replicate 512 0x11 ++ replicate 511 0x44 ++ 0x22 ∷ []) (replicate 512 0x33 ∷ replicate 512 0x44 ∷ []) (true ∷ false ∷ [])
 
--- behind the Write, which has no FUA bit: its block is not kept
+-- after the Write, which has no FUA bit: its block is not kept
 abbrev pub block_written : Flat
 block_written = flat (replicate 512 0x11 ++ replicate 512 0x22) (replicate 512 0x22 ∷ replicate 512 0x44 ∷ []) (false ∷ false ∷ [])
 

@@ -1,4 +1,4 @@
--- The flat controller as it stands: the map of its guest, its parts, and its limits
+-- The flat controller as it is: the map of its guest, its parts, and its limits
 use Rattle.std.specs.Prelude.{◌≡◌, ℕ, ◌%◌, ◌<◌, ◌≤◌, Bool, List, [], ◌∷◌, length}
 use Rattle.nv_mem.specs.GuestMap.{Mapping}
 use Rattle.nv_model.specs.Limits.{largest_memory, largest_namespace, page}

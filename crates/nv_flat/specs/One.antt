@@ -23,8 +23,8 @@ use Rattle.nv_judge.specs.Need.{need_of}
 use Rattle.nv_flat.specs.Flat.{identity_map}
 use Rattle.nv_moves.specs.Flat.{Flat, byte_of_block}
 
--- a controller with queue pair 1 behind a bring-up, from which one command was taken. The queues have few slots and lie at the memory's
--- start; nothing depends on where they lie.
+-- a controller with queue pair 1 after a bring-up, from which one command was taken. The queues have few slots and are at the memory's start;
+-- nothing depends on where they are.
 abbrev pub serving : Controller
 serving = record {
   cc = 0x00460001;

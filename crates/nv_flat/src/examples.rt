@@ -52,7 +52,7 @@ pub fn a_write_writes_block_and_mark()
     ensures kept { (st : StatusField) → IsRun small write_from_half st block_written_and_kept → ⊥ }
 {}
 
-/// A Read of the block behind the last is refused, and changes nothing.
+/// A Read of the block after the last is refused, and changes nothing.
 #[tactic(none)]
 pub fn a_read_past_the_end_has_a_run()
     ensures { IsRun small (read_to_half 2) (refused_with LbaOutOfRange) small }
@@ -91,7 +91,7 @@ pub fn plain_commands()
     ensures a_flush { is_plain (command (dword0 flush 0 1) 1 one_block 0 0 0) ≡ false }
     ensures a_dataset_management { is_plain (manage true 0 (data_block 0x3000 16)) ≡ false }
     ensures an_unknown_opcode { is_plain (by_sgl 0x03 5 0 one_block) ≡ false }
-    // None by PRP is, whatever stands there.
+    // No command by PRP is, whatever its PRP fields hold.
     ensures by_region_pages { is_plain (by_prp read 5 0 0x3000 0) ≡ false }
     ensures by_two_region_pages { is_plain (by_prp write 5 7 0x3200 0x5000) ≡ false }
     // Of scatter gather lists the own descriptor is a Data Block, wherever it lies, however long it is and whatever its subtype.

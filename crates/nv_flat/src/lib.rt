@@ -1,11 +1,11 @@
 //! A slow private controller over flat memory.
 //!
-//! [`FlatController::one`] runs one command to its end: the completion, and the memory, the blocks and the marks behind it, are those of
-//! some run of the private controller that judges the command and moves its units (`specs/One`). Where memory is refused, nothing has
-//! changed. [`One`] asks the same of any controller that runs one command at a time: it may leave commands out, but no plain Read or Write.
+//! [`FlatController::one`] runs one command to its end. The completion, and the memory, the blocks and the marks after it, are those of some run of
+//! the private controller that judges the command and moves its units (`specs/One`). Where memory is refused, nothing has changed. [`One`] asks the
+//! same of any controller that runs one command at a time: it may leave commands out, but no plain Read or Write.
 //!
-//! [`laws`] states what the theorem rules out: a refused command changes nothing, each unit moves once, all but a Read of several blocks
-//! have one outcome, and a byte or a block that no unit names stays as it was. [`examples`] are computed.
+//! [`laws`] states what the theorem rules out: a refused command changes nothing, each unit moves once, all but a Read of several blocks have one
+//! outcome, and a byte or a block that no unit names stays as it was. [`examples`] are computed.
 #![tactic(auto)]
 
 mod carrying_out;

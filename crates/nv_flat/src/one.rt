@@ -17,8 +17,8 @@ use nv_mem::NoMemory;
 use nv_model::limits::BLOCK_SIZE;
 use std::alloc::Global;
 
-/// A controller of one guest that runs one command at a time, as the guest sees it: memory from address 0 on, and blocks of 512 bytes
-/// with a mark `kept` each. What stands behind them is the implementation's own.
+/// A controller of one guest that runs one command at a time, as the guest sees it: memory from address 0 on, and blocks of 512 bytes with a mark
+/// `kept` each. What they are made of is the implementation's own.
 pub trait One: Drop {
     // the memory, the blocks and the marks as the guest sees them
     ghost seen: { Self → Flat };
@@ -37,9 +37,9 @@ pub trait One: Drop {
 
     /// Runs one command to its end, as the first command of a fresh queue 1: its completion has head 1 and phase 1.
     ///
-    /// The completion, the memory, the blocks and the marks behind it are those of some run of the private controller that judges the
-    /// command and moves it to its end. A command that is not built ends with Internal Error where its fields are in order, and changes
-    /// nothing. Where no memory is left, nothing has changed.
+    /// The completion, and the memory, the blocks and the marks after the command, are those of some run of the private controller that judges the
+    /// command and moves it to its end. A command that is not built ends with Internal Error where its fields are in order, and changes nothing.
+    /// Where no memory is left, nothing has changed.
     fn one(&mut self, alloc: Global, sqe: &Sqe) -> Result<Cqe, NoMemory>
         ensures ok { IfOk result (λ cqe. (st : StatusField) × (IsDone built (seen self.old) sqe.now st (seen self.new) × (cqe ≡ completion 0 1 1 (cid_of sqe.now) true st))) }
         ensures memory_size { length (seen self.new).memory ≡ length (seen self.old).memory }

@@ -1,4 +1,4 @@
-//! The checks of a command that look at its fields alone.
+//! The checks of a command that read its fields alone.
 
 ghost use Rattle.std.specs.Prelude.{◌≡◌, ◌^◌, ◌≤◌};
 ghost use Rattle.nv_judge.specs.Need.{field_verdict, need_of};

@@ -1,7 +1,7 @@
 //! The checks of an I/O command's fields, in their order, and of the ranges of Dataset Management.
 //!
 //! [`judge_fields`] answers with the refusal by the first check that fails, or with what the command needs ([`Need`]). [`judge_ranges`] says
-//! whether each range lies in the namespace. Neither looks at memory or takes any.
+//! whether each range is in the namespace. Neither reads memory or allocates any.
 #![tactic(auto)]
 
 mod fields;

@@ -1,4 +1,4 @@
--- What is asked of an event, and of the second of two worlds that look alike to a guest, of which the first is one that events lead to (profile).
+-- What is required of an event, and of the second of two worlds that are alike to a guest, of which the first is one that events lead to (profile).
 use Rattle.std.specs.Prelude.{◌≡◌, ℕ, ◌<◌, true, slice_get, Some, None}
 use Rattle.std.specs.Bool.{⊤}
 use Rattle.nv_world_model.specs.declared.event.Event.{Event}

@@ -11,7 +11,7 @@ use Rattle.nv_world_model.specs.World.{World, with_host}
 abbrev pub type_eight : StatusField
 type_eight = record { sct = 8; sc = 0; dnr = false }
 
--- a bounced Read is in the device, and in its bounce pages stands a byte that an earlier command left there
+-- a bounced Read is in the device, and in its bounce pages is a byte that an earlier command left there
 abbrev pub left_over : World
 left_over =
     behind in_device (one_command (by_sgl 0x02 5 0 (data_block 0x3002 512)))

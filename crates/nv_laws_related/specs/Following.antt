@@ -26,15 +26,15 @@ pub record IsReached (host_bytes : ℕ) (geometry : Geometry) (w : World) : Type
 abbrev pub fails_one : Geometry → (number : ℕ) → Event → World → Bool
 fails_one geometry number e w = is_failure e && is_done (step geometry e w).reply && is_that number (owner e w)
 
--- a disciplined guest, before an event and behind it, none of whose commands the event fails
+-- a guest that is disciplined before an event and after it, and none of whose commands the event fails
 pub record IsDisciplinedAt (geometry : Geometry) (number : ℕ) (guest : Guest) (e : Event) (w : World) : Type 0 where
   pub given : slice_get geometry.guests number ≡ Some guest
   pub before : in_order (act_of number e) number guest w ≡ true
   pub behind : in_order None number guest (step geometry e w).world ≡ true
   pub not_failed : fails_one geometry number e w ≡ false
 
--- the private controller makes the steps that an event with this reply stands for: the guest sees the reply where the event is its act, and both
--- stand for one another behind it
+-- the private controller makes the steps that an event with this reply represents: the guest sees the reply where the event is its act, and both
+-- correspond to each other after it
 pub record GoesAlong (geometry : Geometry) (number : ℕ) (guest : Guest) (e : Event) (w : World) (p : Private) (done : After) : Type 0 where
   pub run : Run
   pub runs : run_of (shape_of guest) (steps_of number guest w e done.reply) p ≡ Some run

@@ -1,7 +1,7 @@
--- When a guest's private controller and the world stand for one another. Registers, queues, blocks and commands are the same in both, each
--- command under the name of the tag that it goes by, with what has come of the shares of all its tags; memory is, but for what a bounced Read
--- has read and not delivered yet, which the private controller has and the guest's memory hasn't. No promise cites it; the laws behind them rest
--- on it (profile).
+-- When a guest's private controller and the world correspond to each other. Registers, queues, blocks and commands are the same in both. Each
+-- command is under the name of the tag that it goes by, with what has come of the shares of all its tags. Memory is the same, but for what a
+-- bounced Read has read and not delivered yet, which the private controller has and the guest's memory hasn't. No promise cites it; the laws that
+-- support the promises rest on it (profile).
 use Rattle.std.specs.Prelude.{◌≡◌, ℕ, ◌+◌, ◌*◌, ◌<◌, Bool, true, false, not, ◌&&◌, ◌==◌, if◌then◌else◌, List, All, slice_get, Option, Some, None}
 use Rattle.std.specs.Bool.{⊤}
 use Rattle.std.specs.List.{list_any}
@@ -74,12 +74,12 @@ hides (Some (Ended command st share)) held addr = ended_hides share addr
 
 -- ---- bounce pages
 
--- the bytes of a block of a transfer stand in its bounce pages as in this memory; what a bucket takes has no meaning
+-- the bytes of a block of a transfer are in its bounce pages as in this memory; what a bucket takes has no meaning
 abbrev pub IsOnPage : Work → (index bounce : ℕ) → (host memory : ℕ → ℕ) → Type 0
 IsOnPage work index bounce host memory =
     (i addr : ℕ) → slice_get (places_of_block work index) i ≡ Some (At addr) → host (bounce + block * index + i) ≡ memory addr
 
--- whether a block's bytes stand there: of a source while the block is left, of a destination once it has moved
+-- whether a block's bytes are there: of a source while the block is left, of a destination once it has moved
 abbrev pub form_has_bytes : Form → (left : Bool) → Bool
 form_has_bytes (Transfer dest) left = if dest then not left else left
 form_has_bytes Clear left = false
@@ -115,7 +115,7 @@ StandsWell InDevice plan None status_at = ⊤
 StandsWell InDevice plan (Some h) status_at = NoReadDiffers plan h.differed
 StandsWell (Answered at) plan held status_at = IsMovedStatus plan (status_at at)
 
--- what was read of a command's lists is what stands there, wherever it is judged by that
+-- what was read of a command's lists is what is there, wherever the command is judged by that
 abbrev pub AreReadsShown : Guest → (entry : List ℕ) → (host : ℕ → ℕ) → List ReadDone → Type 0
 AreReadsShown guest entry host reads =
     All (ShowsOn (image (regions_of guest) host)

@@ -1,5 +1,5 @@
--- What holds of every world that events lead to: each tag that was handed on stands in one place, where its command's bytes are, and
--- each entry and completion that waits in a ring is that of one tag. No promise cites it; the laws behind them rest on it (profile).
+-- What holds of every world that events lead to: each tag that was handed on is in one place, where its command's bytes are, and each entry and
+-- completion that waits in a ring is that of one tag. No promise cites it; the laws that support the promises rest on it (profile).
 use Rattle.std.specs.Prelude.{◌≡◌, ℕ, ◌<◌, Bool, true, false, List, All, length, map, slice_get, Option, Some, None}
 use Rattle.std.specs.Bool.{⊤}
 use Rattle.std.specs.List.{Contains, count_by}
@@ -50,7 +50,7 @@ pub record IsCommand (geometry : Geometry) (command : Command) (guest : Guest) :
 
 -- ---- a command that was handed on
 
--- what of its share stands in its tag's pages: the list that names its transfer, and the ranges of a Dataset Management
+-- what of its share is in its tag's pages: the list that names its transfer, and the ranges of a Dataset Management
 pub record HasPages (geometry : Geometry) (guest : Guest) (share : Share) (lane tag : ℕ) (host : ℕ → ℕ) : Type 0 where
   pub list : Shows host (list_page geometry.mediator lane tag)
       (list_bytes (prps_of share.plan guest (list_page geometry.mediator lane tag) (bounce_page geometry.mediator lane tag)))
@@ -78,7 +78,7 @@ pub record IsAnswered (geometry : Geometry) (lane tag at : ℕ) (host : ℕ → 
   pub slot : IsBetween head d.posted at
   pub identifier : completed_cid (bytes_from host (completion_slot geometry.mediator lane at) cqe_size) ≡ tag
 
--- where it stands, and what the device holds under its identifier
+-- where it is, and what the device holds under its identifier
 abbrev pub StandsThere : Standing → Geometry → Guest → (entry : List ℕ) → Share → (lane tag : ℕ) → (host : ℕ → ℕ) → (head : ℕ) → DeviceLane
     → Option Held → Type 0
 StandsThere (Queued at) geometry guest entry share lane tag host head d held =
@@ -96,7 +96,7 @@ abbrev pub IsPlannedOr : Guest → (entry : List ℕ) → Option Share → Type 
 IsPlannedOr guest entry None = ⊤
 IsPlannedOr guest entry (Some share) = IsPlanned guest entry share
 
--- a tag that was handed on: whose command it is of, its share, which is a physical command, and where it stands
+-- a tag that was handed on: whose command it is of, its share, which is a physical command, and where it is
 pub record IsFlying (geometry : Geometry) (command : Command) (share : Share) (standing : Standing) (lane tag : ℕ) (host : ℕ → ℕ)
     (head : ℕ) (d : DeviceLane) (held : Option Held) : Type 0 where
   pub guest : Guest
@@ -122,7 +122,7 @@ IsTag geometry lane tag host head d held (Ended command st share) = IsTaken geom
 
 -- ---- lanes
 
--- some tag stands so
+-- some tag is where the test requires
 pub record SomeStands (test : Standing → Bool) (tags : List Tag) : Type 0 where
   pub tag : ℕ
   pub there : Tag
@@ -140,7 +140,7 @@ waits_for_mediator (Queued at) = false
 waits_for_mediator InDevice = false
 waits_for_mediator (Answered at) = true
 
--- how many tags stand so
+-- how many tags are where the test requires
 abbrev pub standing_count : (Standing → Bool) → List Tag → ℕ
 standing_count test tags = count_by (tag_stands test) tags
 

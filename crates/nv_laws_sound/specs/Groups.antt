@@ -53,8 +53,8 @@ group_of leader parts = filter (goes_by leader) parts
 
 -- ---- the tags of a command
 
--- together, in order: as many as the command may become physical commands, all without a plan; the shares of its plan; or those of one
--- that ended at once, the first with its status, which tells of a failure, and the others with success
+-- together, in order: as many as the command may become physical commands, all without a plan; the shares of its plan; or those of one that ended
+-- at once, the first with its status, which reports a failure, and the others with success
 pub data IsGroup (ns : Namespace) (command : Command) (parts : List Part) : Type 0 where
   AllRead : parts ≡ replicate (tags_of_entry ns command.entry) (Reading command) → IsGroup ns command parts
   AllHanded : (whole : Plan) → parts ≡ map (Handed command) (shares_of ns command.entry whole) → IsGroup ns command parts

@@ -23,6 +23,6 @@ delivered_places (Some (Flying command share standing)) = []
 delivered_places (Some (Ended command st None)) = []
 delivered_places (Some (Ended command st (Some share))) = plan_delivered share.plan
 
--- a memory has at these places what stands in the host from there on
+-- a memory has at these places what is in the host from there on
 abbrev pub HasPage : (memory host : ℕ → ℕ) → (bounce : ℕ) → List Place → Type 0
 HasPage memory host bounce places = HasAt memory places (bytes_from host bounce (length places))

@@ -11,8 +11,7 @@ use Rattle.nv_world_model.specs.declared.event.Event.TheVariants as event
 abbrev pub SameMarks : Namespace → (own whole : ℕ → Bool) → Type 0
 SameMarks ns own whole = (lba : ℕ) → lba < blocks_in ns → own lba ≡ whole (place_in ns lba)
 
--- these steps are a run of a guest's private controller that changes marks alone, and behind it its marks are those
--- of the disk
+-- these steps are a run of a guest's private controller that changes marks alone, and after it the controller's marks are those of the disk
 pub record RunsToMarks (guest : Guest) (steps : List Step) (p : Private) (whole : ℕ → Bool) : Type 0 where
   pub marks : ℕ → Bool
   pub runs : run_of (shape_of guest) steps p ≡ Some (record { state = record p { kept = marks }; seen = [] })

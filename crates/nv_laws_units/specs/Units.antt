@@ -1,6 +1,5 @@
--- What a unit of a share of a guest's command in the device is to its private controller: the units of the command that
--- the device's unit stands for, and where a block's bytes lie in the host; and when the guest's own blocks are those of
--- the disk (profile).
+-- What a unit of a share of a guest's command in the device is to its private controller: the units of the command that the device's unit
+-- represents, and where a block's bytes are in the host; and when the guest's own blocks are those of the disk (profile).
 use Rattle.std.specs.Prelude.{◌≡◌, ℕ, ◌*◌, ◌<◌, ◌==◌, not, Bool, List, [], ◌∷◌, drop, filter, flat_map, length, map}
 use Rattle.std.specs.Prelude.{option_to_list, slice_get, take, Some}
 use Rattle.std.specs.List.{list_any}
@@ -20,11 +19,11 @@ use Rattle.nv_world_model.specs.World.{Command, Flying, InDevice, World, tag_of}
 
 -- ---- a unit
 
--- the units of a work that a unit of the device's stands for, in their order
+-- the units of a work that a unit of the device represents, in their order
 abbrev pub part_units : Work → (number : ℕ) → List WorkUnit
 part_units work number = flat_map (λ k. option_to_list (slice_get work.units k)) (units_behind work (number ∷ []))
 
--- the units of a guest's command that a unit of the device's stands for where the device has a share of it, in their order
+-- the units of a guest's command that a unit of the device represents where the device has a share of it, in their order
 abbrev pub own_units : Work → Share → (number : ℕ) → List WorkUnit
 own_units whole share number =
     flat_map (λ k. option_to_list (slice_get whole.units k)) (numbers_behind share (number ∷ []))

@@ -66,7 +66,7 @@ pub record IsAtStart (s : SetUp) (h : Hosted) : Type 0 where
   pub setup : setup_of h ≡ s
   pub world : world_of h.state ≡ world_at_start s
 
--- the event was carried out as the definition's step, reply and whole world, in the same set-up; and it may stand in a log
+-- the event was carried out as the definition's step, reply and whole world, in the same set-up; and it may be in a log
 pub record IsMade (e : Event) (old : Hosted) (r : Reply) (new : Hosted) : Type 0 where
   pub after : record { world = world_of new.state; reply = r } ≡ step old.geometry e (world_of old.state)
   pub setup : setup_of new ≡ setup_of old

@@ -56,8 +56,8 @@ impl Mediator {
         self.core.due(&self.layout, event)
     }
 
-    /// The lowest unit that DevMove is due for, of the command that the physical controller holds in a slot of a lane; `None` where it holds
-    /// none there, or all units have moved. It looks through the units that have moved, and through nothing else.
+    /// The lowest unit for which DevMove is due, of the command that the physical controller holds in a slot of a lane; `None` where it holds none
+    /// there, or all units have moved. It searches the units that have moved, and nothing else.
     #[inline]
     pub fn next_unit(&self, lane: u8, slot: u8) -> Option<u64>
         ensures { IsLowest (λ number. due self.now.geometry (Event.DevMove lane slot number) (world_of self.now.state)) result }

@@ -53,8 +53,8 @@ pub(crate) fn refusal_of(setup: &Setup) -> Option<Refusal>
     }
 }
 
-// Whether some two extents, of one guest or of two, have a block in common. Each is compared with each behind it: with E extents that
-// is about half of E times E.
+// Whether some two extents, of one guest or of two, have a block in common. Each is compared with each after it: with E extents that is about half
+// of E times E.
 fn extents_meet(guests: &[GuestSetup]) -> bool
     ensures { result ≡ any_two blocks_meet (all_extents guests.now) }
 {
@@ -144,8 +144,8 @@ fn area_met(setup: &Setup) -> bool
     setup.guests.iter().any(|guest| meets_area(setup, guest))
 }
 
-// Whether a guest's memory and the mediator's area have a byte in common. No map has a byte behind 2 to the 64, so an area that
-// reaches beyond may be cut there.
+// Whether a guest's memory and the mediator's area have a byte in common. No map has a byte past 2 to the 64, so an area that reaches beyond that
+// may be cut there.
 fn meets_area(setup: &Setup, guest: &GuestSetup) -> bool
     ensures { result ≡ meets_area setup.now guest.now }
 {

@@ -33,7 +33,7 @@ pub(crate) fn twice(
     }
 }
 
-// Two replies without bytes, where none came once more: nothing has to be given back, and so nothing is looked at.
+// Two replies without bytes, where no bytes came a second time: nothing has to be given back, and so nothing is examined.
 #[inline(always)]
 fn words(first: Reply, second: Reply, none: Option<Bytes>) -> (Reply, Reply)
     requires { none ≡ None }

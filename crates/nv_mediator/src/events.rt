@@ -50,8 +50,8 @@ impl Mediator {
         self.core.take(alloc, &self.layout, guest, queue, lane)
     }
 
-    /// The command of a tag that was taken ends with Internal Error, as what can't be planned for want of memory. Stale where the tag is at
-    /// another point, Ignored where there is no such tag.
+    /// The command of a tag that was taken ends with Internal Error, like one that can't be planned because memory ran out. Stale where the tag is
+    /// at another point, Ignored where there is no such tag.
     #[inline(always)]
     pub fn give_up(&mut self, lane: u8, tag: u8) -> Reply
         ensures { IsMade (Event.GiveUp lane tag) self.old result self.new }

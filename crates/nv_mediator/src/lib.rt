@@ -1,20 +1,20 @@
-//! The mediator that runs for ever: guests, the physical controller and what stands between them, event by event, with nothing kept of what has happened.
+//! The mediator that runs for ever: guests, the physical controller and what is between them, event by event, with no record of what has happened.
 //!
-//! [`Mediator::new`] makes the world of a [`Setup`], or tells the first reason for which it is refused: too many guests, ranges or maps that meet,
-//! sizes that may not be. Each other call is an event of the definition (`nv_world_model/specs/Step`), whole: the reply, and the world behind it.
-//! [`Mediator::step`] makes any event; where memory is refused nothing is changed. Four kinds of events may want memory: a load of more than 7
-//! bytes, and List, Submit and DevTake. The others are never refused: register accesses and doorbells by [`Mediator::step`], and the rest by calls of
-//! their own, which have no refusal: [`Mediator::store`], [`Mediator::load`] into room that is lent, [`Mediator::admin`], [`Mediator::take`],
-//! [`Mediator::give_up`], [`Mediator::dev_move`], [`Mediator::dev_post`], [`Mediator::dev_fail`], [`Mediator::keep`], [`Mediator::reap`] and
-//! [`Mediator::post`]. [`Mediator::submit_plan`] takes a plan that was made elsewhere of a [`Mediator::job`]. [`Mediator::due`] tells what there is to
-//! do, and [`Mediator::host`], [`Mediator::block`] and [`Mediator::kept`] show memory and disk.
+//! [`Mediator::new`] makes the world of a [`Setup`], or returns the first reason for which it is refused: too many guests, ranges or maps that
+//! overlap, sizes that are not allowed. Each other call is a whole event of the definition (`nv_world_model/specs/Step`): the reply, and the world
+//! after it. [`Mediator::step`] makes any event; where memory is refused nothing is changed. Four kinds of events may need memory: a load of more
+//! than 7 bytes, and List, Submit and DevTake. The others are never refused. These are register accesses and doorbells by [`Mediator::step`], and
+//! the rest by calls of their own, which have no refusal: [`Mediator::store`], [`Mediator::load`] into a buffer that is lent, [`Mediator::admin`],
+//! [`Mediator::take`], [`Mediator::give_up`], [`Mediator::dev_move`], [`Mediator::dev_post`], [`Mediator::dev_fail`], [`Mediator::keep`],
+//! [`Mediator::reap`] and [`Mediator::post`]. [`Mediator::submit_plan`] takes a plan that was made elsewhere from a [`Mediator::job`].
+//! [`Mediator::due`] reports what there is to do, and [`Mediator::host`], [`Mediator::block`] and [`Mediator::kept`] show memory and disk.
 //!
-//! The type keeps that some log of events leads to the world from the start of the set-up. [`Mediator::promise`] does nothing: its contract
-//! says that whichever log leads there keeps the whole promise. So whoever keeps a log has the promise of that log, and whoever keeps none has
-//! it of the one that could have been kept.
+//! The type guarantees that some log of events leads to the world from the start of the set-up. [`Mediator::promise`] does nothing: its contract
+//! says that every log that leads there keeps the whole promise. So a caller that keeps a log has the promise of that log. A caller that keeps none
+//! has the promise of the one that could have been kept.
 //!
-//! Nothing counts without end. A flush marks blocks by a number, and with the last number all marks are made anew (`nv_disk`). The positions of
-//! a ring go round, and its phase tag changes with each pass (`nv_ring`). A queue has no more taken commands than there are tags, 64 for each
+//! No counter grows without end. A flush marks blocks by a number, and with the last number all marks are made anew (`nv_disk`). The positions of a
+//! ring wrap around, and its phase tag changes with each pass (`nv_ring`). A queue has no more taken commands than there are tags, 64 for each
 //! lane, and a disk no more stored blocks than it has blocks.
 #![tactic(auto)]
 

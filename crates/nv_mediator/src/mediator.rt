@@ -50,12 +50,12 @@ impl Mediator {
         Self::open(alloc, setup).map_err(|_| Refusal::NoMemory)
     }
 
-    /// What is promised of the world as it stands; it does nothing.
+    /// What is promised of the world as it is; it does nothing.
     ///
-    /// The set-up was accepted. Of every log that leads from the set-up's start to this world the whole promise holds: each event is contained, it
-    /// reads and changes nothing of a guest but its owner's; and what a disciplined guest has seen, its memory and its namespace are those of a
-    /// run of its own commands on a private controller, where the physical controller failed none of them. There is such a log: what each call
-    /// ensures of its event is what one more member of a log needs. And the world is consistent: each tag that was handed on stands in one place.
+    /// The set-up was accepted. Of every log that leads from the set-up's start to this world the whole promise holds. Each event is contained: it
+    /// reads and changes nothing of any guest but its owner. What a disciplined guest has seen, its memory and its namespace are those of a run of
+    /// its own commands on a private controller, where the physical controller failed none of them. There is such a log: what each call ensures of
+    /// its event is what one more member of a log needs. And the world is consistent: each tag that was handed on is in one place.
     #[inline(always)]
     pub fn promise(&self)
         ensures accepted { refusal_of (setup_of self.now) ≡ None }

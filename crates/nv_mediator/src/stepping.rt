@@ -43,8 +43,8 @@ impl Mediator {
         performing::perform_twice(alloc, &self.layout, &mut self.core, event)
     }
 
-    /// Carries out a plan that was made elsewhere, as the event Submit of its tag. `None`, with nothing changed, where it was not made of
-    /// what stands now: its job is not its tag's, or the guest's map, namespace or limit is another. It takes no memory.
+    /// Carries out a plan that was made elsewhere, as the event Submit of its tag. `None`, with nothing changed, where it was not made from what is
+    /// there now: its job is not its tag's, or the guest's map, namespace or limit is another. It takes no memory.
     #[inline]
     pub fn submit_plan(&mut self, plan: Plan) -> Option<Reply>
         ensures some { IfSome result (λ reply.

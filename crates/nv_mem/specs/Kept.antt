@@ -1,4 +1,4 @@
--- What bytes that are kept as a value of their own mean: a list, wherever they stand (profile).
+-- What bytes that are kept as a value of their own mean: a list, wherever they are stored (profile).
 use Rattle.std.specs.Prelude.{ℕ, List, take}
 use Rattle.nv_mem.specs.declared.bytes.Kept.{Kept}
 use Rattle.nv_mem.specs.declared.bytes.Kept.TheVariants as kept

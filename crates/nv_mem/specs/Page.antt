@@ -1,5 +1,5 @@
 -- The page, the unit of memory maps. Its size is the one that a controller's memory pages may have (Base Specification 2.0, "Controller
--- Configuration", MPS); the limits of `nv_model`, which stands above, name this number too.
+-- Configuration", MPS); the limits of `nv_model`, which is above this crate, name this number too.
 use Rattle.std.specs.Prelude.{ℕ}
 
 -- the bytes of a memory page

@@ -1,4 +1,4 @@
-//! Bytes behind one pointer.
+//! Bytes held by one pointer.
 
 ghost use Rattle.std.specs.Prelude.{◌≡◌, IfOk, length};
 
@@ -6,7 +6,7 @@ use crate::NoMemory;
 use std::alloc::Global;
 use std::marker::Model;
 
-/// Bytes behind one pointer, so that what carries them stays small: a script holds millions of acts, and few of them carry any.
+/// Bytes held by one pointer, so that what carries them stays small: a script holds millions of acts, and few of them carry any.
 #[derive(Debug, Drop)]
 pub struct BoxedBytes {
     bytes: Box<Vec<u8>>,

@@ -7,8 +7,8 @@ use crate::{BoxedBytes, NoMemory};
 use std::alloc::Global;
 use std::marker::Model;
 
-/// Bytes that a reply carries. A few stand in the value itself and take no memory; more stand behind one pointer, so that what carries
-/// them stays small: a log holds millions of replies, and few of them have many bytes.
+/// Bytes that a reply carries. A few are stored in the value itself and take no memory. More are held by one pointer, so that what carries them
+/// stays small: a log holds millions of replies, and few of them have many bytes.
 #[derive(Debug, Drop)]
 pub struct Bytes {
     kept: Kept,
@@ -23,12 +23,12 @@ impl Model for Bytes {
     ghost view = { λ b. kept_bytes b.kept };
 }
 
-// Where the bytes stand.
+// Where the bytes are stored.
 #[derive(Debug, Drop)]
 enum Kept {
     // in the value itself
     Few(Few),
-    // behind a pointer
+    // held by a pointer
     Many(BoxedBytes),
 }
 

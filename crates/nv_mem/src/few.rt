@@ -2,7 +2,7 @@
 
 ghost use Rattle.std.specs.Prelude.{◌≡◌, ◌≤◌, length, take};
 
-/// How many bytes stand in a value of [`crate::Bytes`] itself, at most.
+/// How many bytes are stored in a value of [`crate::Bytes`] itself, at most.
 pub const FEW: usize = 7;
 
 /// So many bytes, the first of these: one word together, which a copy loads and stores at once.
@@ -10,7 +10,7 @@ pub const FEW: usize = 7;
 pub(crate) struct Few {
     len: u8,
     bytes: [u8; FEW],
-    // Of no length: it has the value stand where words do.
+    // Of no length: it gives the value the alignment of a word.
     place: [u64; 0],
     ghost in_range: { len ≤ 7 },
 }

@@ -33,7 +33,7 @@ struct Stretch {
     host: u64,
     // How many bytes its region has from there on.
     left: u64,
-    // The rank of the region behind, as `Ranked` has it.
+    // The rank of the next region, as `Ranked` has it.
     next: usize,
 }
 
@@ -82,9 +82,8 @@ impl GuestMap {
         }
     }
 
-    /// Whether each of the `len` guest addresses from `addr` on is mapped. No addresses always
-    /// are. It takes time by the number of regions at most, whatever `len` is. Of 64 regions or
-    /// fewer it looks at a few, and at those that the addresses lie in.
+    /// Whether each of the `len` guest addresses from `addr` on is mapped. No addresses always are. It takes time by the number of regions at most,
+    /// whatever `len` is. Of 64 regions or fewer it reads a few, and those that the addresses are in.
     pub fn holds(&self, addr: u64, len: u64) -> bool
         ensures value { result ≡ all_mapped self.now.regions addr len }
         ensures all_mapped { IsTrue result ↔ AllMapped self.now.regions addr len }
@@ -95,10 +94,9 @@ impl GuestMap {
         }
     }
 
-    /// The host address of guest address `addr`, and how many of the `len` bytes from there on lie
-    /// in a row in the host, across regions that touch in both. `None` exactly where `addr` is not
-    /// mapped. It takes time by the square of the number of regions at most, whatever `len` is. Of
-    /// 64 regions or fewer it looks at a few, and at those that the run lies in.
+    /// The host address of guest address `addr`, and how many of the `len` bytes from there on are contiguous in the host, across regions that
+    /// touch in both. `None` exactly where `addr` is not mapped. It takes time by the square of the number of regions at most, whatever `len` is.
+    /// Of 64 regions or fewer it reads a few, and those that the run is in.
     pub fn run(&self, addr: u64, len: u64) -> Option<(u64, u64)>
         requires { 0 < len }
         ensures { MatchOption result (host_of self.now.regions addr ≡ None)
@@ -193,8 +191,8 @@ impl GuestMap {
         Some((host, self.run_len(addr, len, host, left, next)))
     }
 
-    // Whether each of the `len` guest addresses from `addr` on is mapped, as the first `front` of
-    // them are, behind which the region of rank `rank` most likely begins.
+    // Whether each of the `len` guest addresses from `addr` on is mapped. The first `front` of them are, and after these the region of rank `rank`
+    // most likely begins.
     #[inline(never)]
     fn holds_across(&self, addr: u64, len: u64, front: u64, mut rank: usize) -> bool
         requires mapped { AllMapped self.now.regions addr front }
@@ -220,8 +218,8 @@ impl GuestMap {
         true
     }
 
-    // The length, up to `len`, of the longest run that begins with this one of `front` bytes,
-    // behind which the region of rank `rank` most likely begins.
+    // The length, up to `len`, of the longest run that begins with this one of `front` bytes. After these the region of rank `rank` most likely
+    // begins.
     #[inline(never)]
     fn run_len(&self, addr: u64, len: u64, host: u64, front: u64, mut rank: usize) -> u64
         requires run { IsContiguous self.now.regions addr host front }

@@ -11,17 +11,15 @@ use std::array;
 /// A list of so many regions at most is kept in order.
 pub const RANKS: usize = 64;
 
-/// Where the regions of a list stand in it, the lowest guest address first, so that the list itself
-/// stays as it was handed in.
+/// Where the regions of a list are in it, the lowest guest address first, so that the list itself stays as it was handed in.
 ///
-/// The rank of a region is its number in this order. Of a list of more than [`RANKS`] regions
-/// nothing is kept.
+/// The rank of a region is its number in this order. Of a list of more than [`RANKS`] regions nothing is kept.
 #[derive(Clone, Copy)]
 pub struct GuestOrder {
     places: [u8; RANKS],
 }
 
-/// A region that has an address, and the rank of the one behind it.
+/// A region that has an address, and the rank of the one after it.
 #[derive(Clone, Copy)]
 pub struct Ranked {
     /// The region.
@@ -57,8 +55,8 @@ impl GuestOrder {
         self.find_ranked(regions, addr, rank)
     }
 
-    /// The same of an address at which the region of rank `rank` most likely begins, if any does:
-    /// where the one before it ends there, a few looks tell, and nothing is searched.
+    /// The same for an address at which the region of rank `rank` most likely begins, if any does. Where the one before it ends there, a few reads
+    /// decide, and nothing is searched.
     #[inline(always)]
     pub fn find_at(&self, regions: &[Region], addr: u64, rank: usize) -> Option<Ranked>
         requires few { length regions.now ≤ 64 }
@@ -98,8 +96,8 @@ impl GuestOrder {
 
     // The rank of the last region that begins at or before the address, or 0 where none does.
     //
-    // Three looks a step leave a quarter of the ranks. They do not wait for each other, as those of
-    // twice as many steps of one look would, and what they find is counted: no branch is guessed.
+    // Three reads per step leave a quarter of the ranks. They do not wait for each other, as those of twice as many steps of one read would. Their
+    // results are counted: no branch is predicted.
     #[inline(never)]
     fn rank_of(&self, regions: &[Region], addr: u64) -> usize
         requires few { length regions.now ≤ 64 }
@@ -136,7 +134,7 @@ impl GuestOrder {
             && (rank + 1 == regions.len() || self.begun(regions, rank + 1, addr) == 0)
     }
 
-    // 1 where the region of a rank begins at or before the address, and 0 where it begins behind it.
+    // 1 where the region of a rank begins at or before the address, and 0 where it begins after it.
     fn begun(&self, regions: &[Region], rank: usize, addr: u64) -> usize
         requires few { rank < 64 }
         requires within { slice_index self.now.places rank < length regions.now }

@@ -1,29 +1,26 @@
-//! Where a guest's bytes lie in the memory of the host.
+//! Where a guest's bytes are in the memory of the host.
 //!
 //! - [`Host`] is the host's memory: bytes from address 0 on, read and written in ranges.
-//! - [`GuestMap`] is a guest's memory map: [`Region`]s of whole pages, apart in guest and in host
-//!   addresses and inside the host. It means a finite function from guest to host addresses.
-//! - [`Places`] is where the bytes of a transfer lie in a guest's memory, as the guest's list named
-//!   them: [`Piece`]s, which are runs of addresses or bytes that go nowhere.
-//! - [`Bytes`] are bytes as a value of their own, of which [`FEW`] take no memory; [`BoxedBytes`] are bytes behind one pointer.
+//! - [`GuestMap`] is a guest's memory map: [`Region`]s of whole pages, disjoint in guest and in host addresses and inside the host. It means a
+//!   finite function from guest to host addresses.
+//! - [`Places`] is where the bytes of a transfer are in a guest's memory, as the guest's list named them: [`Piece`]s, which are runs of addresses
+//!   or bytes that go nowhere.
+//! - [`Bytes`] are bytes as a value of their own, of which [`FEW`] take no memory; [`BoxedBytes`] are bytes held by one pointer.
 //! - [`NoMemory`] is the one answer to a refused growth, here and in every crate above.
-//! - [`laws`] states what the definitions come to: different guest addresses lie at different host
-//!   addresses, maps that do not meet share no byte, a store changes the bytes that it names.
+//! - [`laws`] states what the definitions amount to: different guest addresses are at different host addresses, maps that do not overlap share no
+//!   byte, a store changes the bytes that it names.
 //!
-//! NVM Express says nothing of memory maps: they are the hypervisor's, and so is every rule on them
-//! here. Sums are taken in whole numbers, so a region may end exactly at 2 to the 64.
+//! NVM Express says nothing of memory maps: they are the hypervisor's, and so is every rule on them here. Sums are taken in whole numbers, so a
+//! region may end exactly at 2 to the 64.
 //!
-//! [`GuestMap::new`] refuses a list of regions with the lowest number of [`MapError`] that
-//! applies, and makes the map where none does. Two calls are exact over a map, of any number of
-//! regions: [`GuestMap::holds`] says whether each of the addresses is mapped, and
-//! [`GuestMap::run`] where the first one lies in the host and how many lie there in a row, across
-//! regions that touch.
+//! [`GuestMap::new`] refuses a list of regions with the lowest number of [`MapError`] that applies, and makes the map where none does. Two calls
+//! are exact over a map, of any number of regions. [`GuestMap::holds`] says whether each of the addresses is mapped. [`GuestMap::run`] says where
+//! the first one is in the host and how many are contiguous there, across regions that touch.
 //!
-//! [`Host::new`], [`Places::reserve`], [`Places::push`], the two `try_clone`, [`BoxedBytes::new`] and [`BoxedBytes::from_slice`],
-//! and [`Bytes::new`] and [`Bytes::from_slice`] where there are more than [`FEW`] bytes, take memory, and nothing else does. Each
-//! is called with ample memory in a test of `nv_checks_mem` that compares its answer. There `rt try --test --fail-alloc N`
-//! was run for each N up to 22: the test whose Nth allocation is refused ends with that call's
-//! error, and all others pass.
+//! [`Host::new`], [`Places::reserve`], [`Places::push`], the two `try_clone`, [`BoxedBytes::new`] and [`BoxedBytes::from_slice`], and
+//! [`Bytes::new`] and [`Bytes::from_slice`] where there are more than [`FEW`] bytes, take memory, and nothing else does. Each is called with ample
+//! memory in a test of `nv_checks_mem` that compares its answer. There `rt try --test --fail-alloc N` was run for each N up to 22: the test whose
+//! Nth allocation is refused ends with that call's error, and all others pass.
 #![tactic(auto)]
 
 pub use boxed_bytes::BoxedBytes;

@@ -7,8 +7,7 @@ use thiserror::Error;
 
 /// A growth of memory was refused.
 ///
-/// It is the one answer to want of memory in every crate of the mediator. `?` makes it of the
-/// library's allocation errors.
+/// It is the one answer to being out of memory in every crate of the mediator. `?` makes it from the library's allocation errors.
 #[derive(Clone, Copy, Debug, PartialEq, Eq, Error)]
 #[error("no memory")]
 pub struct NoMemory;

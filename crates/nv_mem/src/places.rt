@@ -43,7 +43,7 @@ impl Places {
         Ok(())
     }
 
-    /// Adds a piece behind the others. Where no memory is left, the places are as they were.
+    /// Adds a piece after the others. Where no memory is left, the places are as they were.
     pub fn push(&mut self, piece: Piece) -> Result<(), NoMemory>
         ensures ok { OnOk result (self.new ≡ self.old ++ piece ∷ []) }
         ensures err { OnErr result (self.new ≡ self.old) }

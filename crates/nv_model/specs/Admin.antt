@@ -25,7 +25,7 @@ use Rattle.nv_model.specs.Queue.{SubmissionQueue, CompletionQueue, cqe_size, is_
 use Rattle.nv_model.specs.Controller.{Controller, Deletion, Posted, completion_queue, front, is_ready, post, submission_queue, took, with_completion, with_submission}
 use Rattle.nv_model.specs.Limits.{last_queue, most_requests, most_slots, page}
 
--- what a command did: the controller and the guest's memory behind it, and the answer that is posted now, if one is: DW0 and status
+-- what a command did: the controller and the guest's memory after it, and the answer that is posted now, if one is: DW0 and status
 pub record AdminEffect : Type 0 where
   pub controller : Controller
   pub memory : ℕ → ℕ
@@ -59,7 +59,7 @@ selector entry = bits (cdw_of 10 entry) 7 0
 abbrev pub refused : StatusCode → Controller → (ℕ → ℕ) → AdminEffect
 refused why c memory = record { controller = c; memory = memory; answer = Some (0, refused_with why) }
 
--- done, with this DW0 and this controller behind it
+-- done, with this DW0 and this controller after it
 abbrev pub answered : (dw0 : ℕ) → Controller → (ℕ → ℕ) → AdminEffect
 answered dw0 c memory = record { controller = c; memory = memory; answer = Some (dw0, done_with code.Success) }
 

@@ -11,7 +11,7 @@ moved_on unit work m =
     (let n = unit_moved unit work m.memory m.disk m.kept in
     record { memory = n.memory; disk = n.disk; kept = n.kept; differed = m.differed || n.differed })
 
--- memory, disk and marks behind the units in order, and whether a Compare has differed
+-- memory, disk and marks after the units in order, and whether a Compare has differed
 unfoldable pub units_moved : List WorkUnit → Work → Moved → Moved
 units_moved [] work m = m
 units_moved (unit ∷ units) work m = units_moved units work (moved_on unit work m)

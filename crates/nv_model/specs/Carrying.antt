@@ -48,7 +48,7 @@ at_work name t work left m p =
       bag = with_progress p.bag name t (AtWork work left m.differed);
     }
 
--- the state behind all units of a command in order
+-- the state after all units of a command in order
 abbrev pub all_moved : (name : ℕ) → Taken → Work → Private → Private
 all_moved name t work p = at_work name t work [] (units_moved work.units work (unmoved p)) p
 

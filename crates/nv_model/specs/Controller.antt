@@ -224,7 +224,7 @@ doorbell c offset value =
 
 -- ---- commands
 
--- where the front entry of a queue stands, or none where nothing may be taken
+-- where the front entry of a queue is, or none where nothing may be taken
 abbrev pub front_of : Option SubmissionQueue → Option ℕ
 front_of None = None
 front_of (Some q) =
@@ -249,7 +249,7 @@ took_of (Some q) c y = record (with_submission c y (Some (front_taken q))) { tak
 unfoldable pub took : Controller → ℕ → Controller
 took c y = took_of (submission_queue c y) c y
 
--- a completion as it is posted: where its entry goes, the entry, and the controller behind it
+-- a completion as it is posted: where its entry goes, the entry, and the controller after it
 pub record Posted : Type 0 where
   pub addr : ℕ
   pub entry : List ℕ

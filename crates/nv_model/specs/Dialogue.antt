@@ -3,8 +3,7 @@
 use Rattle.std.specs.Prelude.{ℕ, List, [], ◌∷◌}
 use Rattle.nv_model.specs.Memory.{bytes_from}
 
--- `Ask addr unit left next`: the next `unit` bytes stand at `addr`; with them, `left` bytes are still wanted of their array or
--- list page
+-- `Ask addr unit left next`: the next `unit` bytes are at `addr`; with them, `left` bytes are still wanted of their array or list page
 pub data Dialogue (A : Type 0) : Type 0 where
   End : A → Dialogue A
   Ask : ℕ → ℕ → ℕ → (List ℕ → Dialogue A) → Dialogue A
@@ -19,7 +18,7 @@ unfoldable pub asked : {A : Type 0} → (ℕ → ℕ) → Dialogue A → List (�
 asked memory (End value) = []
 asked memory (Ask addr unit left next) = (addr, unit) ∷ asked memory (next (bytes_from memory addr unit))
 
--- one dialogue, and behind it another that depends on its value
+-- one dialogue, and then another that depends on its value
 unfoldable pub and_then : {A B : Type 0} → Dialogue A → (A → Dialogue B) → Dialogue B
 and_then (End value) more = more value
 and_then (Ask addr unit left next) more = Ask addr unit left (λ bytes. and_then (next bytes) more)

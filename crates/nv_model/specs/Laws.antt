@@ -144,14 +144,14 @@ pub record LookAlike (shape : Shape) (p q : Private) : Type 0 where
   pub disk : (lba offset : ℕ) → lba < shape.blocks → offset < block → p.disk lba offset ≡ q.disk lba offset
   pub kept : (lba : ℕ) → lba < shape.blocks → p.kept lba ≡ q.kept lba
 
--- both steps can't be made, or both can: the guest sees the same of both, and they lead to states that look alike
+-- neither step can be made, or both can: the guest sees the same of both, and they lead to states that look alike
 abbrev pub StepsAlike : Shape → Option After → Option After → Type 0
 StepsAlike shape None None = ⊤
 StepsAlike shape None (Some b) = ⊥
 StepsAlike shape (Some a) None = ⊥
 StepsAlike shape (Some a) (Some b) = (a.seen ≡ b.seen) × LookAlike shape a.state b.state
 
--- both runs can't be made, or both can: the guest sees the same of both, and they lead to states that look alike
+-- neither run can be made, or both can: the guest sees the same of both, and they lead to states that look alike
 abbrev pub RunsAlike : Shape → Option Run → Option Run → Type 0
 RunsAlike shape None None = ⊤
 RunsAlike shape None (Some s) = ⊥

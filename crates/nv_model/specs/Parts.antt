@@ -11,8 +11,8 @@ use Rattle.nv_model.specs.Transcript.{ReadDone, first_read, part}
 abbrev pub in_hand : (rest left : ℕ) → ℕ
 in_hand rest left = if rest == 0 then part left else rest
 
--- of the part that was met last `rest` bytes are left, from `from` on: the dialogue uses them up where they stand, unit
--- by unit, before it asks elsewhere; and so with each part that is met then
+-- of the part that was met last `rest` bytes are left, from `from` on: the dialogue uses them up where they are, unit by unit, before it asks
+-- elsewhere; and so with each part that is met then
 abbrev pub UsesUp : {A : Type 0} → (from rest : ℕ) → Dialogue A → Type 0
 UsesUp from rest (End value) = ⊤
 UsesUp from rest (Ask addr unit left next) =

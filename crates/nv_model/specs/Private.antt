@@ -92,7 +92,7 @@ differs [] (y ∷ ys) = true
 differs (x ∷ xs) [] = true
 differs (x ∷ xs) (y ∷ ys) = not (x == y) || differs xs ys
 
--- memory, disk and marks behind a unit, and whether it was a Compare that differed
+-- memory, disk and marks after a unit, and whether it was a Compare that differed
 pub record Moved : Type 0 where
   pub memory : ℕ → ℕ
   pub disk : ℕ → ℕ → ℕ
@@ -202,7 +202,7 @@ pub record Seen : Type 0 where
   pub act : Act
   pub reply : Reply
 
--- what a step gives: the state behind it, and what the guest sees of it, if it is an act
+-- what a step gives: the state after it, and what the guest sees of it, if it is an act
 pub record After : Type 0 where
   pub state : Private
   pub seen : Option Seen
@@ -211,7 +211,7 @@ pub record After : Type 0 where
 abbrev pub unseen : Private → Option After
 unseen p = Some (record { state = p; seen = None })
 
--- what an act does: the state behind it, and its reply
+-- what an act does: the state after it, and its reply
 pub record Acted : Type 0 where
   pub state : Private
   pub reply : Reply
@@ -328,7 +328,7 @@ abbrev pub administered : AdminStep → Private → Option After
 administered (Stepped c memory) p = unseen (record p { memory = memory; controller = c })
 administered _ p = None
 
--- the state behind a step, or none where the step can't be made
+-- the state after a step, or none where the step can't be made
 unfoldable pub step : Shape → Step → Private → Option After
 step shape (ActStep a) p = Some (act_seen a (acted shape a p))
 step shape (TakeStep queue name) p =
@@ -349,7 +349,7 @@ pub record Run : Type 0 where
   pub state : Private
   pub seen : List Seen
 
--- what is seen of a step, and behind it
+-- what is seen of a step, and after it
 abbrev pub with_seen : Option Seen → List Seen → List Seen
 with_seen None seen = seen
 with_seen (Some a) seen = a ∷ seen

@@ -29,8 +29,8 @@ abbrev pub read_page : (ℕ → Bool) → (bytes : ℕ) → List Piece → (List
 read_page mapped bytes pieces follow addr =
     unless_faulty (entry_fault mapped page addr (min bytes page)) (follow (pieces ++ run addr (min bytes page)))
 
--- the entries of the last `pages` pages, which hold the last `bytes` bytes; the next slot stands at `from`, with `slots` slots to
--- the end of its list page. Where more pages remain than slots, the last slot is a pointer to the next list page, with offset 0.
+-- the entries of the last `pages` pages, which hold the last `bytes` bytes; the next slot is at `from`, with `slots` slots to the end of its list
+-- page. Where more pages remain than slots, the last slot is a pointer to the next list page, with offset 0.
 unfoldable pub read_entries : (ℕ → Bool) → (pages slots from bytes : ℕ) → List Piece → Dialogue Reading
 read_entries mapped zero slots from bytes pieces = End (Spells pieces)
 read_entries mapped (suc pages) slots from bytes pieces =
@@ -47,7 +47,7 @@ read_entries mapped (suc pages) slots from bytes pieces =
     read_page mapped bytes pieces (λ ps. read_entries mapped pages (slots - 1) (from + 8) (bytes - page) ps)
     (number_at entry 0 8))
 
--- what PRP2 is for the bytes behind PRP1's page: unused, a page entry, or a pointer to a list, which may start within a page
+-- what PRP2 is for the bytes after PRP1's page: unused, a page entry, or a pointer to a list, which may start within a page
 abbrev pub read_prp2 : (ℕ → Bool) → (pages prp2 bytes : ℕ) → List Piece → Dialogue Reading
 read_prp2 mapped zero prp2 bytes pieces = End (Spells pieces)
 read_prp2 mapped (suc zero) prp2 bytes pieces = read_page mapped bytes pieces (λ ps. End (Spells ps)) prp2

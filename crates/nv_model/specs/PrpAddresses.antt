@@ -1,20 +1,19 @@
--- Where each byte of a transfer by physical region pages lies. Base Specification 2.0, "Physical Region Page Entry and
--- List": PRP1 names the first byte; each memory page behind it has an entry. Where one page is behind it, PRP2 is its
--- entry; where there are more, PRP2 points to a list of them, in which the last slot of a memory page points to the
--- next list page, if entries are left that it can't hold.
+-- Where each byte of a transfer by physical region pages is. Base Specification 2.0, "Physical Region Page Entry and List": PRP1 names the first
+-- byte; each memory page after it has an entry. Where one page is after it, PRP2 is its entry. Where there are more, PRP2 points to a list of them,
+-- in which the last slot of a memory page points to the next list page, if entries are left that it can't hold.
 use Rattle.std.specs.Prelude.{ℕ, zero, suc, ◌+◌, ◌-◌, ◌*◌, ◌/◌, ◌%◌, ◌||◌, ◌==◌, nat_le, nat_lt, if◌then◌else◌}
 use Rattle.nv_entry.specs.Layout.{number_at}
 use Rattle.nv_model.specs.Memory.{bytes_from}
 use Rattle.nv_model.specs.Prp.{slots_of}
 use Rattle.nv_model.specs.Limits.{page}
 
--- what stands in the slot at an address
+-- what is in the slot at an address
 abbrev pub slot_at : (ℕ → ℕ) → ℕ → ℕ
 slot_at memory addr = number_at (bytes_from memory addr 8) 0 8
 
--- where the slot of entry i stands, counted from 0, in a list of `entries` entries that begins at `pointer`. As many
--- entries as there are slots to the end of the pointer's page stand there; of more, the last slot is the pointer to the
--- others. (A list of n entries goes on at most n times, which `times` counts.)
+-- where the slot of entry i is, counted from 0, in a list of `entries` entries that begins at `pointer`. As many entries as there are slots to the
+-- end of the pointer's page are there; of more, the last slot is the pointer to the others. (A list of n entries goes on at most n times, which
+-- `times` counts.)
 unfoldable pub slot_of : (ℕ → ℕ) → (times pointer entries i : ℕ) → ℕ
 slot_of memory zero pointer entries i = pointer + 8 * i
 slot_of memory (suc times) pointer entries i =

@@ -1,6 +1,6 @@
--- The entries that a transfer by physical region pages meets, in order. Base Specification 2.0, "Physical Region Page
--- Entry and List": PRP1; then PRP2, as the entry of the second page, or as the pointer to a list; then the entries of
--- the list, page by page, and behind those of a list page that can't hold all the pointer to the next.
+-- The entries that a transfer by physical region pages meets, in order. Base Specification 2.0, "Physical Region Page Entry and List": PRP1; then
+-- PRP2, as the entry of the second page, or as the pointer to a list; then the entries of the list, page by page, and after those of a list page
+-- that can't hold all, the pointer to the next.
 use Rattle.std.specs.Prelude.{◌≡◌, ℕ, zero, suc, ◌+◌, ◌-◌, ◌*◌, ◌%◌, ◌==◌, nat_le, min, Bool, if◌then◌else◌, List, [], ◌∷◌, ◌++◌, Option, None}
 use Rattle.nv_entry.specs.declared.status_code.StatusCode.{StatusCode}
 use Rattle.nv_model.specs.Prp.{entry_fault, slots_of}
@@ -29,7 +29,7 @@ page_entry addr bytes = record { alignment = page; addr = addr; needed = min byt
 abbrev pub list_pointer : (alignment addr entries : ℕ) → PrpEntry
 list_pointer alignment addr entries = record { alignment = alignment; addr = addr; needed = 8 * min (slots_of addr) entries }
 
--- the n entries that stand from a slot on, for `bytes` bytes
+-- the n entries from a slot on, for `bytes` bytes
 unfoldable pub entries_at : (ℕ → ℕ) → (slot n bytes : ℕ) → List PrpEntry
 entries_at memory slot zero bytes = []
 entries_at memory slot (suc n) bytes = page_entry (slot_at memory slot) bytes ∷ entries_at memory (slot + 8) n (bytes - page)
@@ -45,7 +45,7 @@ list_entries memory (suc times) pointer entries bytes =
     ++ list_pointer page next (entries - here)
     ∷ list_entries memory times next (entries - here) (bytes - page * here)
 
--- those behind PRP1, for so many pages behind its page and `bytes` bytes in them
+-- those after PRP1, for so many pages after its page and `bytes` bytes in them
 abbrev pub entries_behind : (ℕ → ℕ) → (prp2 pages bytes : ℕ) → List PrpEntry
 entries_behind memory prp2 pages bytes =
     if pages == 0 then [] else

@@ -51,7 +51,7 @@ new_submission base size completes_to =
 abbrev pub new_completion : (base size : ℕ) → CompletionQueue
 new_completion base size = record { base = base; size = size; head = 0; tail = 0; phase = true }
 
--- how many entries are rung and not taken
+-- how many entries are not taken, of those for which the doorbell was rung
 abbrev pub waiting : SubmissionQueue → ℕ
 waiting q = ahead q.size q.head q.tail
 

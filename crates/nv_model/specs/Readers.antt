@@ -16,7 +16,7 @@ unfoldable pub given_all : {A : Type 0} → Dialogue A → List ReadDone → Dia
 given_all d [] = d
 given_all d (r ∷ rs) = given_all (given d r) rs
 
--- how a dialogue stands: it wants a part where it asks, or has ended
+-- the state of a dialogue: it wants a part where it asks, or has ended
 abbrev pub standing : {A : Type 0} → Dialogue A → Outcome A
 standing (End value) = Settled value
 standing (Ask addr unit left next) = Wanted addr (part left)

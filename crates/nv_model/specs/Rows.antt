@@ -124,7 +124,7 @@ by_sgl opcode slba nlb own = command (dword0 opcode 0 1) 1 own slba (slba / 0x10
 abbrev pub by_prp : (opcode slba nlb prp1 prp2 : ℕ) → List ℕ
 by_prp opcode slba nlb prp1 prp2 = command (dword0 opcode 0 0) 1 (prps prp1 prp2) slba (slba / 0x100000000) nlb
 
--- Dataset Management of so many ranges, counted from 0, which stand where this descriptor says; deallocate set, or clear
+-- Dataset Management of so many ranges, counted from 0, which are where this descriptor says; deallocate set, or clear
 abbrev pub manage : (deallocate : Bool) → (nr : ℕ) → List ℕ → List ℕ
 manage deallocate nr own = command (dword0 dataset_management 0 1) 1 own nr (if deallocate then 4 else 0) 0
 
@@ -145,7 +145,7 @@ first_example =
     ∷ 0x05 ∷ 0x00 ∷ 0x00 ∷ 0x00 ∷ 0x00 ∷ 0x00 ∷ 0x00 ∷ 0x00 ∷ 0x00 ∷ 0x00 ∷ 0x00 ∷ 0x00 ∷ 0x00 ∷ 0x00 ∷ 0x00 ∷ 0x00
     ∷ 0x00 ∷ 0x00 ∷ 0x00 ∷ 0x00 ∷ 0x00 ∷ 0x00 ∷ 0x00 ∷ 0x00 ∷ []
 
--- 255 ranges of block 0 alone, from 3000h on, and this one behind them
+-- 255 ranges of block 0 alone, from 3000h on, and this one after them
 abbrev pub many_ranges : (last : List ℕ) → ℕ → ℕ
 many_ranges last addr = stored (λ at. if at % 16 == 4 then 1 else 0) 0x3ff0 last addr
 

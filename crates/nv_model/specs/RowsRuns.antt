@@ -14,9 +14,9 @@ use Rattle.nv_model.specs.Footprint.{Destination, Entry, Named, Source, footprin
 use Rattle.nv_model.specs.Queue.{SubmissionQueue}
 use Rattle.nv_model.specs.Rows.{command, data_block, first_example, guest, prps}
 
--- ---- looking at a run
+-- ---- observing a run
 
--- what is seen in the state behind a run, or none where the run can't be made
+-- what is seen in the state after a run, or none where the run can't be made
 abbrev pub seen : {A : Type 0} → (Private → A) → Option Run → Option A
 seen look None = None
 seen look (Some run) = Some (look run.state)
@@ -148,13 +148,13 @@ two_admin_slots =
     store 0x10000 (create_completion_queue 16) ∷ store 0x10040 create_submission_queue
     ∷ enable_with 0x0001001f ++ ring 0x1000 2 ∷ AdminQueueStep ∷ []
 
--- ---- I/O commands behind the bring-up
+-- ---- I/O commands after the bring-up
 
--- an I/O command is rung
+-- the doorbell is rung for an I/O command
 abbrev pub rung : List ℕ → List Step
 rung entry = bring_up ++ store 0x13000 entry ∷ ring 0x1008 1 ∷ []
 
--- an I/O command is rung, and these bytes stand in memory
+-- the doorbell is rung for an I/O command, and these bytes are in memory
 abbrev pub rung_with : (addr : ℕ) → (bytes entry : List ℕ) → List Step
 rung_with addr bytes entry = store addr bytes ∷ rung entry
 
@@ -162,7 +162,7 @@ rung_with addr bytes entry = store addr bytes ∷ rung entry
 abbrev pub flush_of : (cid : ℕ) → List ℕ
 flush_of cid = command (0x10000 * cid) 1 (prps 0 0) 0 0 0
 
--- the first example is rung and taken, under the name 0
+-- the doorbell is rung for the first example, and it is taken, under the name 0
 abbrev pub first_taken : List Step
 first_taken = bring_up ++ store 0x13000 first_example ∷ ring 0x1008 1 ∷ TakeStep 1 0 ∷ []
 
@@ -174,8 +174,8 @@ first_ended = first_taken ++ carried 1
 abbrev pub first_posted : List Step
 first_posted = first_ended ++ PostStep 0 ∷ []
 
--- the first example, and behind it a Write of 512 bytes 11h at 5000h to block 5 with identifier 8, under the name 1; the Read's unit
--- moves first, and the Write is completed first
+-- the first example, and after it a Write of 512 bytes 11h at 5000h to block 5 with identifier 8, under the name 1; the Read's unit moves first,
+-- and the Write is completed first
 abbrev pub write_posted_before_read : List Step
 write_posted_before_read =
     bring_up ++ store 0x5000 (replicate 512 0x11) ∷ store 0x13000 (first_example ++ command 0x00084001 1 (data_block 0x5000 512) 5 0 0)
@@ -188,9 +188,9 @@ three_ended =
     ∷ TakeStep 1 1 ∷ TakeStep 1 2 ∷ TakeStep 1 3 ∷ JudgeStep 1 ∷ JudgeStep 2 ∷ JudgeStep 3
     ∷ MoveStep 3 0 ∷ MoveStep 2 0 ∷ MoveStep 1 0 ∷ []
 
--- ---- admin commands behind the bring-up
+-- ---- admin commands after the bring-up
 
--- an admin command is rung and done as the third
+-- the doorbell is rung for an admin command, and it is done as the third
 abbrev pub done_third : List ℕ → List Step
 done_third entry = bring_up ++ store 0x10080 entry ∷ ring 0x1000 3 ∷ AdminQueueStep ∷ []
 

@@ -77,6 +77,6 @@ pub record HasTaken (bag : Bag) : Type 0 where
   pub command : Taken
   pub is_there : bag name ≡ Some command
 
--- this holds behind every run from the start
+-- this holds after every run from the start
 abbrev pub AlongEveryRun : (Private → Type 0) → Type 0
 AlongEveryRun P = (shape : Shape) (steps : List Step) (r : Run) → run_of shape steps start ≡ Some r → P r.state

@@ -1,6 +1,6 @@
--- The reading of a scatter gather list: Base Specification 2.0, "Scatter Gather List (SGL)". Descriptors are read in order; a
--- Segment or Last Segment stands last in its array and goes on with the array that it names. The order of the checks, the
--- alignment of 8 and the limit on descriptors are the project's own (profile).
+-- The reading of a scatter gather list: Base Specification 2.0, "Scatter Gather List (SGL)". Descriptors are read in order; a Segment or Last
+-- Segment is last in its array, and the list goes on with the array that it names. The order of the checks, the alignment of 8 and the limit on
+-- descriptors are the project's own (profile).
 use Rattle.std.specs.Prelude.{ℕ, zero, suc, ◌+◌, ◌*◌, ◌/◌, ◌%◌, Bool, true, false, not, ◌&&◌}
 use Rattle.std.specs.Prelude.{◌||◌, ◌==◌, if◌then◌else◌, List, [], ◌∷◌, ◌++◌, Option, Some, None}
 use Rattle.nv_entry.specs.Descriptor.{address_of, length_of, kind_of}
@@ -14,17 +14,17 @@ use Rattle.nv_mem.specs.declared.piece.Piece.TheVariants.{Bucket}
 use Rattle.nv_model.specs.Dialogue.{Dialogue, End, Ask}
 use Rattle.nv_model.specs.Reading.{Reading, TooLong, Spells, first_failing, unless_faulty, run}
 
--- what is left of an array of descriptors: where the next one stands, how many there are, and whether a Last Segment named the array
+-- what is left of an array of descriptors: where the next one is, how many there are, and whether a Last Segment named the array
 pub record Array : Type 0 where
   pub from : ℕ
   pub left : ℕ
   pub by_last : Bool
 
--- behind the command's own descriptor: it is the first of the list and last in an array of one
+-- after the command's own descriptor: it is the first of the list and last in an array of one
 abbrev pub behind_own : Array
 behind_own = record { from = 0; left = 0; by_last = false }
 
--- the fault of a Segment or Last Segment, where `rest` is behind it
+-- the fault of a Segment or Last Segment, where `rest` is after it
 abbrev pub segment_fault : (ℕ → Bool) → Array → List ℕ → Option StatusCode
 segment_fault mapped rest d =
     first_failing (
@@ -35,14 +35,14 @@ segment_fault mapped rest d =
     ∷ (not (everywhere mapped (address_of d) (length_of d)), DataTransferError) ∷ []
     )
 
--- the first check that a descriptor of this kind fails; a Data Block of length 0 moves nothing, and its address isn't looked at
+-- the first check that a descriptor of this kind fails; a Data Block of length 0 moves nothing, and its address isn't checked
 abbrev pub fault_by : Option DescriptorType → (ℕ → Bool) → Array → List ℕ → Option StatusCode
 fault_by None mapped rest d = Some SglTypeInvalid
 fault_by (Some DataBlock) mapped rest d = first_failing ((not (everywhere mapped (address_of d) (length_of d)), DataTransferError) ∷ [])
 fault_by (Some BitBucket) mapped rest d = None
 fault_by (Some _) mapped rest d = segment_fault mapped rest d
 
--- what is read behind a descriptor of this kind
+-- what is read after a descriptor of this kind
 abbrev pub array_by : Option DescriptorType → Array → List ℕ → Array
 array_by (Some Segment) rest d = record { from = address_of d; left = length_of d / 16; by_last = false }
 array_by (Some LastSegment) rest d = record { from = address_of d; left = length_of d / 16; by_last = true }
@@ -54,7 +54,7 @@ pieces_by (Some DataBlock) dest d = run (address_of d) (length_of d)
 pieces_by (Some BitBucket) dest d = if dest && not (length_of d == 0) then Bucket (length_of d) ∷ [] else []
 pieces_by _ dest d = []
 
--- a descriptor with `rest` behind it, and then what follows
+-- a descriptor with `rest` after it, and then what follows
 abbrev pub read_descriptor : (ℕ → Bool) → Bool → Array → List Piece → (Array → List Piece → Dialogue Reading) → List ℕ → Dialogue Reading
 read_descriptor mapped dest rest pieces follow d =
     unless_faulty (fault_by (kind_of d) mapped rest d) (follow (array_by (kind_of d) rest d) (pieces ++ pieces_by (kind_of d) dest d))

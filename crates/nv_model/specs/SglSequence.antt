@@ -10,7 +10,7 @@ use Rattle.nv_mem.specs.declared.piece.Piece.{Piece}
 use Rattle.nv_model.specs.Memory.{bytes_from}
 use Rattle.nv_model.specs.Sgl.{Array, behind_own, fault_by, pieces_by}
 
--- a descriptor in its place: its 16 bytes, and what is left of its array behind it
+-- a descriptor in its place: its 16 bytes, and what is left of its array after it
 pub record Member : Type 0 where
   pub descriptor : List ℕ
   pub rest : Array
@@ -40,8 +40,7 @@ named_by (Some DataBlock) memory d = None
 named_by (Some BitBucket) memory d = None
 named_by None memory d = None
 
--- the one that follows: the next of its array; and behind the last of it, if that has no fault, the first of the array
--- that it names
+-- the one that follows: the next of its array; and after the last of it, if that has no fault, the first of the array that it names
 abbrev pub member_behind : (ℕ → Bool) → (ℕ → ℕ) → Member → Option Member
 member_behind mapped memory m =
     if nat_lt 0 m.rest.left then Some (member_at memory m.rest.from (m.rest.left - 1) m.rest.by_last)

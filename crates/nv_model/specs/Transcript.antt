@@ -19,7 +19,7 @@ pub data Outcome (A : Type 0) : Type 0 where
 abbrev pub part : ℕ → ℕ
 part left = min left part_size
 
--- the first read of that address and length, and the reads behind it
+-- the first read of that address and length, and the reads after it
 unfoldable pub first_read : (addr len : ℕ) → List ReadDone → Option (List ℕ × List ReadDone)
 first_read addr len [] = None
 first_read addr len (r ∷ rs) =

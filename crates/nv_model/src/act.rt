@@ -1,4 +1,4 @@
-//! The acts of a guest, as values that a run can be told by.
+//! The acts of a guest, as values by which a run can be described.
 
 ghost use Rattle.std.specs.Prelude.{◌≡◌, IfOk};
 

@@ -5,7 +5,7 @@ use nv_entry::Status;
 /// What a parse wants next, or how it ended.
 #[derive(Clone, Copy, Debug, PartialEq, Eq)]
 pub enum Want {
-    /// The bytes of the guest's memory that stand there, 4,096 at most.
+    /// The bytes of the guest's memory that are there, 4,096 at most.
     Read {
         /// The guest address of the first byte.
         addr: u64,

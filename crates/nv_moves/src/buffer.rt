@@ -15,7 +15,7 @@ use std::marker::Model;
 pub struct Buffer<'a> {
     /// What is left of the piece that is under way.
     under_way: Piece,
-    /// The pieces behind it.
+    /// The pieces after it.
     behind: &'a [Piece],
 }
 
@@ -46,7 +46,7 @@ impl<'a> Buffer<'a> {
         }
     }
 
-    /// Goes on behind the first `count` of the places that are left.
+    /// Goes on after the first `count` of the places that are left.
     pub fn skip(&mut self, count: u64)
         requires in_range { AreBelow (2 ^ 64) self.old }
         ensures { self.new ≡ drop count self.old }
@@ -76,7 +76,7 @@ impl<'a> Buffer<'a> {
         Some(front)
     }
 
-    /// Gives the bytes to the first of the places that are left, and goes on behind these.
+    /// Gives the bytes to the first of the places that are left, and goes on after these.
     #[inline(always)]
     pub fn put(&mut self, memory: &mut Host, bytes: &[u8])
         requires in_memory { AreBelow (length memory.old) self.old }
@@ -97,7 +97,7 @@ impl<'a> Buffer<'a> {
         }
     }
 
-    /// Takes the bytes from the first of the places that are left, and goes on behind these.
+    /// Takes the bytes from the first of the places that are left, and goes on after these.
     #[inline(always)]
     pub fn fetch(&mut self, memory: &Host, out: &mut [u8])
         requires in_memory { AreBelow (length memory.now) self.old }
@@ -118,7 +118,7 @@ impl<'a> Buffer<'a> {
         }
     }
 
-    /// Whether the bytes of the first of the places that are left are others than these. It goes on behind these places.
+    /// Whether the bytes of the first of the places that are left differ from these. It goes on after these places.
     #[inline(always)]
     pub fn differs(&mut self, memory: &Host, bytes: &[u8]) -> bool
         requires in_memory { AreBelow (length memory.now) self.old }
@@ -152,7 +152,7 @@ fn len_of(piece: &Piece) -> u64
     }
 }
 
-// What is left of a piece and of those behind it, behind the first `count` of their places.
+// What is left of a piece and of those after it, after the first `count` of their places.
 fn skipped(under_way: Piece, behind: &[Piece], count: u64) -> (Piece, &[Piece])
     requires in_range { AreBelow (2 ^ 64) (places_of_piece under_way ++ places_of behind.now) }
     ensures { places_of_piece result.0 ++ places_of result.1.now ≡ drop count (places_of_piece under_way ++ places_of behind.now) }

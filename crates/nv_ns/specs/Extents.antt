@@ -1,4 +1,4 @@
--- A guest's namespace as several ranges of the disk, one behind the other, and what a run of its blocks is on the disk.
+-- A guest's namespace as several ranges of the disk, one after the other, and what a run of its blocks is on the disk.
 use Rattle.std.specs.Prelude.{ℕ, ◌+◌, ◌-◌, ◌^◌, min, max, Bool, ◌&&◌, nat_lt, nat_le, if◌then◌else◌, List, [], ◌∷◌}
 use Rattle.std.specs.Prelude.{length, Option, Some, None}
 use Rattle.std.specs.List.{filter_map, list_all}
@@ -13,7 +13,7 @@ abbrev pub blocks_in : Namespace → ℕ
 blocks_in [] = 0
 blocks_in (extent ∷ rest) = extent.blocks + blocks_in rest
 
--- where on the disk a block of it lies: in the first extent, or as many blocks on in those behind it (0 where it has no such block)
+-- where on the disk a block of it is: in the first extent, or, so many blocks further on, in those after it (0 where it has no such block)
 abbrev pub place_in : Namespace → ℕ → ℕ
 place_in [] lba = 0
 place_in (extent ∷ rest) lba = if nat_lt lba extent.blocks then extent.base + lba else place_in rest (lba - extent.blocks)
@@ -32,13 +32,13 @@ is_namespace ns = nat_lt 0 (length ns) && nat_le (length ns) most_extents && lis
 
 -- ---- what a run of blocks is on the disk
 
--- blocks in a row that lie in one extent: how far behind the first block asked for they begin, where on the disk, and how many they are
+-- contiguous blocks that are in one extent: how far after the first block asked for they begin, where on the disk, and how many they are
 pub record Cut : Type 0 where
   pub first : ℕ
   pub start : ℕ
   pub count : ℕ
 
--- an extent as it stands in a namespace: so many of the namespace's blocks come before its own
+-- an extent as it is in a namespace: so many of the namespace's blocks come before its own
 pub record Placed : Type 0 where
   pub before : ℕ
   pub extent : Extent
@@ -57,7 +57,7 @@ common at slba count =
       count = min (slba + count) (at.before + at.extent.blocks) - max slba at.before;
     }
 
--- a cut is told of only where it has blocks
+-- a cut is given only where it has blocks
 abbrev pub if_any : Cut → Option Cut
 if_any cut = if nat_lt 0 cut.count then Some cut else None
 

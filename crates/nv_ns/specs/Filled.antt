@@ -1,5 +1,5 @@
--- A list of at most eight that stands in place: it is filled up to eight with one value. How the types of this crate keep their lists;
--- no contract names it.
+-- A list of at most eight that is stored in place: it is filled up to eight with one value. The types of this crate keep their lists so; no
+-- contract names it.
 use Rattle.std.specs.Prelude.{◌≡◌, ℕ, ◌+◌, ◌-◌, ◌<◌, ◌≤◌, List, ◌++◌, length, replicate, set, take, drop}
 use Rattle.std.proofs.Common.{ap, ◌∙◌, sym, arith}
 use Rattle.std.proofs.lemmas.List.{drop-drop, drop-replicate, drop-set-lt, length-set, length-take-le, take-append-drop}
@@ -23,7 +23,7 @@ pub record IsFilled {X : Type 0} (filler : X) (xs : List X) (len : ℕ) : Type 0
   pub within : len ≤ 8
   pub rest : drop len xs ≡ replicate (8 - len) filler
 
--- the list filled up is what stands there
+-- the list filled up is what is stored there
 pub filled_back : {X : Type 0} (filler : X) (xs : List X) (len : ℕ) → IsFilled filler xs len → filled filler (take len xs) ≡ xs
 filled_back {X = X} filler xs len is =
     let size = is.size in

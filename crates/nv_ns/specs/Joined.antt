@@ -1,4 +1,4 @@
--- The extents of a namespace that stand in place, and how many blocks they have.
+-- The extents of a namespace that are stored in place, and how many blocks they have.
 use Rattle.std.specs.Prelude.{◌≡◌, ℕ, IsTrue, take}
 use Rattle.nv_ns.specs.Extents.{Namespace, blocks_in, is_namespace}
 use Rattle.nv_ns.specs.Filled.{IsFilled, nowhere}

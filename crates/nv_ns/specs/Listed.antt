@@ -17,7 +17,7 @@ IsKept None = Unit {0}
 IsKept (One part) = Unit {0}
 IsKept (More parts) = (2 ≤ length parts) × (length parts ≤ 8)
 
--- how a list of them stands
+-- how a list of them is stored
 abbrev pub kept_of : List Cut → Kept
 kept_of [] = None
 kept_of (part ∷ []) = One part
@@ -28,7 +28,7 @@ several_back [] some = absurd (omega arith)
 several_back (part ∷ []) some = absurd (omega arith)
 several_back (part ∷ next ∷ rest) some = refl
 
--- and it stands so
+-- and it is stored so
 pub listed_back : (kept : Kept) → IsKept kept → kept_of (listed kept) ≡ kept
 listed_back None is = refl
 listed_back (One part) is = refl

@@ -4,10 +4,9 @@ ghost use Rattle.std.specs.Prelude.{◌≡◌, ◌+◌, ◌^◌, ◌<◌, ◌↔
 
 use std::marker::Model;
 
-/// An extent of a namespace: `blocks` blocks that lie on the disk from block `base` on.
+/// An extent of a namespace: `blocks` blocks that are on the disk from block `base` on.
 ///
-/// The type keeps that `base + blocks` is below 2 to the 64, so that each of its blocks, and the place behind them, has a number on the
-/// disk.
+/// The type guarantees that `base + blocks` is below 2 to the 64, so that each of its blocks, and the place after them, has a number on the disk.
 #[derive(Clone, Copy, Debug, PartialEq, Eq)]
 pub struct Extent {
     base: u64,

@@ -7,8 +7,8 @@ ghost use Rattle.nv_ns.specs.Laws.{AreApart, LiesInOne, NamesBlocks};
 ghost use Rattle.nv_ns.specs.Extents.{blocks_in, cuts, has_block, place_in};
 ghost use Rattle.nv_ns.specs.Laws.{blocks_cut, places_of_cut};
 
-/// A range that has blocks is in the namespace exactly when every block of it is, and a range of
-/// no blocks exactly when it starts no later than behind the last block.
+/// A range that has blocks is in the namespace exactly when every block of it is, and a range of no blocks exactly when it starts no later than
+/// just after the last block.
 pub fn in_namespace_is_every_block()
     ensures some_blocks { (slba count blocks : ℕ) → 0 < count →
         InNamespace slba count blocks ↔ ((i : ℕ) → i < count → slba + i < blocks) }
@@ -21,8 +21,8 @@ pub fn in_namespace_is_tested()
         IsTrue (in_namespace slba count blocks) ↔ InNamespace slba count blocks }
 {}
 
-/// The blocks of an extent lie in a row from its base, behind the blocks of the extents before it; in a namespace of one extent each block
-/// lies in the disk's range that the extent is, and no two in one place.
+/// The blocks of an extent are contiguous from its base, after the blocks of the extents before it. In a namespace of one extent each block is in
+/// the disk's range that the extent is, and no two are in one place.
 pub fn blocks_lie_in_a_row()
     ensures row { (front rest : Namespace) (extent : Extent) (i : ℕ) → i < extent.blocks →
         place_in (front ++ extent ∷ rest) (blocks_in front + i) ≡ extent.base + i }
@@ -32,7 +32,7 @@ pub fn blocks_lie_in_a_row()
         place_in (extent ∷ []) lba ≡ place_in (extent ∷ []) other → lba ≡ other }
 {}
 
-/// What the cuts of a run of blocks name, one behind the other, is where each of its blocks lies.
+/// What the cuts of a run of blocks name, one after the other, is where each of its blocks is.
 pub fn cuts_spell_the_blocks()
     ensures { (ns : Namespace) (slba count : ℕ) → InNamespace slba count (blocks_in ns) →
         flat_map places_of_cut (cuts ns slba count) ≡ map (place_in ns) (range_with_len slba count) }
@@ -46,7 +46,7 @@ pub fn each_cut_is_a_part_of_one_extent()
     ensures few { (ns : Namespace) (slba count : ℕ) → length (cuts ns slba count) ≤ length ns }
 {}
 
-/// The cuts of a run have all its blocks, each cut begins behind those before it, and a run of no blocks has no cuts.
+/// The cuts of a run have all its blocks, each cut begins after those before it, and a run of no blocks has no cuts.
 pub fn cuts_are_the_run()
     ensures all { (ns : Namespace) (slba count : ℕ) → InNamespace slba count (blocks_in ns) →
         blocks_cut (cuts ns slba count) ≡ count }

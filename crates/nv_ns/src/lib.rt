@@ -1,10 +1,9 @@
-//! A guest's namespace of one to eight extents, and where on the disk its blocks lie.
+//! A guest's namespace of one to eight extents, and where on the disk its blocks are.
 //!
-//! A guest names blocks of its namespace from 0; the disk holds them in ranges of its own blocks, the extents, which are joined in their
-//! order. An [`Extent`] is one of them, and a [`VirtualNs`] is one to eight. [`VirtualNs::translate`] gives the [`Parts`] of a run of
-//! blocks, one [`Part`] for each extent that it meets, and answers `None` exactly where the run leaves the namespace, which
-//! [`VirtualNs::holds`] tells by itself. All sums are taken in whole numbers: none wraps, whatever the guest names. Nothing here takes
-//! memory.
+//! A guest names blocks of its namespace from 0. The disk holds them in ranges of its own blocks, the extents, which are joined in their order. An
+//! [`Extent`] is one of them, and a [`VirtualNs`] is one to eight. [`VirtualNs::translate`] gives the [`Parts`] of a run of blocks, one [`Part`]
+//! for each extent that it meets. It answers `None` exactly where the run leaves the namespace, which [`VirtualNs::holds`] reports by itself. All
+//! sums are taken in whole numbers: none wraps, whatever the guest names. Nothing here takes memory.
 #![tactic(auto)]
 
 pub use extent::Extent;

@@ -6,11 +6,11 @@ ghost use Rattle.nv_ns.specs.Extents.{Cut, common, if_any};
 use crate::extent::Extent;
 use std::marker::Model;
 
-/// Blocks in a row that lie in one extent of a namespace: how far behind the first block of the run they begin, where on the disk, and
-/// how many they are.
+/// Contiguous blocks that are in one extent of a namespace: how far after the first block of the run they begin, where on the disk, and how many
+/// they are.
 ///
-/// The type keeps that it has a block, and that `start + count` is below 2 to the 64, so that each of its blocks, and the place behind
-/// them, has a number on the disk.
+/// The type guarantees that it has a block, and that `start + count` is below 2 to the 64, so that each of its blocks, and the place after them,
+/// has a number on the disk.
 #[derive(Clone, Copy, Debug, PartialEq, Eq)]
 pub struct Part {
     first: u64,

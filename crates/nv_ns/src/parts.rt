@@ -54,7 +54,7 @@ impl Parts {
         }
     }
 
-    /// Adds a part behind the others, of which there are less than eight.
+    /// Adds a part after the others, of which there are fewer than eight.
     pub fn push(&mut self, part: Part)
         requires { length self.old < 8 }
         ensures { self.new ≡ self.old ++ part ∷ [] }

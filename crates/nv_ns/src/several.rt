@@ -42,7 +42,7 @@ impl Several {
         Several { parts, len: 2 }
     }
 
-    /// Adds a part behind the others.
+    /// Adds a part after the others.
     pub fn push(&mut self, part: Part)
         requires { length self.old < 8 }
         ensures { self.new ≡ self.old ++ part ∷ [] }

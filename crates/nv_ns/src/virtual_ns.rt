@@ -55,8 +55,8 @@ impl VirtualNs {
         }
     }
 
-    /// Whether a namespace may have one extent more behind the others: whether there are at most eight then, and no sum of a base and of
-    /// all blocks, in whole numbers, reaches 2 to the 64. It is what [`VirtualNs::push`] requires.
+    /// Whether a namespace may have one more extent after the others: whether there are at most eight then, and no sum of a base and of all blocks,
+    /// in whole numbers, reaches 2 to the 64. It is what [`VirtualNs::push`] requires.
     pub fn fits_behind(&self, next: Extent) -> bool
         ensures { result ≡ is_namespace (self.now ++ next ∷ []) }
     {
@@ -67,7 +67,7 @@ impl VirtualNs {
         walk::all_within(self.as_slice(), blocks) && next.base() <= u64::MAX - blocks
     }
 
-    /// Adds an extent behind the others.
+    /// Adds an extent after the others.
     ///
     /// The caller knows that it may be there ([`VirtualNs::fits_behind`] tests it).
     pub fn push(&mut self, next: Extent)
@@ -111,18 +111,18 @@ impl VirtualNs {
         self.blocks
     }
 
-    /// Whether the run of `count` blocks from the namespace's block `slba` is in it; where it is not, a command that names it is refused
-    /// (LBA Out of Range).
+    /// Whether the run of `count` blocks from the namespace's block `slba` is in it; where it is not, a command that names it is refused (LBA Out
+    /// of Range).
     ///
-    /// A run of no blocks is in the namespace up to and with the place behind its last block.
+    /// A run of no blocks is in the namespace up to and including the place after its last block.
     pub fn holds(&self, slba: u64, count: u64) -> bool
         ensures { result ≡ in_namespace slba count (blocks_in self.now) }
     {
         count <= self.blocks && slba <= self.blocks - count
     }
 
-    /// The parts of the run of `count` blocks from the namespace's block `slba`, one for each extent that they meet, or `None` exactly
-    /// where that run is not in the namespace (LBA Out of Range; [`VirtualNs::holds`] tells it, too).
+    /// The parts of the run of `count` blocks from the namespace's block `slba`, one for each extent that they meet, or `None` exactly where that
+    /// run is not in the namespace (LBA Out of Range; [`VirtualNs::holds`] reports it, too).
     ///
     /// A run of no blocks has no parts.
     pub fn translate(&self, slba: u64, count: u64) -> Option<Parts>

@@ -14,7 +14,7 @@ abbrev pub ◌>>=◌ : {E A B : Type 0} → Result A E → (A → Result B E) �
 Ok x >>= f = f x
 Err e >>= f = Err e
 
--- this refusal is the definition's fault, or one for want of memory, which no definition speaks of
+-- this refusal is the definition's fault, or one for being out of memory, which no definition speaks of
 abbrev pub Refuses : {A : Type 0} → Result A FaultKind → LineFault → Type 0
 Refuses answer (refusal.Faulty kind) = answer ≡ Err kind
 Refuses answer refusal.NoMemory = ⊤

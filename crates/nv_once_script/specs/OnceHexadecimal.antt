@@ -13,7 +13,7 @@ unfoldable pub paired : List ℕ → List ℕ
 paired (high ∷ low ∷ values) = (high * 16 + low) ∷ paired values
 paired values = []
 
--- what a text spells: these bytes, and behind them what its rest spells
+-- what a text spells: these bytes, and after them what its rest spells
 abbrev pub behind : List ℕ → Result (List ℕ) FromHexError → Result (List ℕ) FromHexError
 behind bytes (Ok more) = Ok (bytes ++ more)
 behind bytes (Err error) = Err error

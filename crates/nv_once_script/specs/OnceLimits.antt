@@ -1,5 +1,5 @@
--- The limits of a script, each under one name (profile). This crate stands beside `nv_model`, whose limits name the first three, too: a
--- controller of one guest has them, and that of a fill is the most bytes of a transfer.
+-- The limits of a script, each under one name (profile). This crate is beside `nv_model`, whose limits name the first three, too: a controller of
+-- one guest has them, and the limit of a fill is the most bytes of a transfer.
 use Rattle.std.specs.Prelude.{ℕ}
 
 -- the bytes of a page: a memory has whole ones

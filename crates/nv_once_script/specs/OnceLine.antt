@@ -1,4 +1,4 @@
--- One line of a script, behind its set-up
+-- One line of a script, after its set-up
 use Rattle.std.specs.Prelude.{ℕ, ◌+◌, ◌==◌, ◌||◌, nat_le, nat_lt, Bool, true, List, [], ◌∷◌, length, Result, Ok, Err, if◌then◌else◌}
 use Rattle.nv_once_script.specs.declared.once.fault.FaultKind.{FaultKind}
 use Rattle.nv_once_script.specs.declared.once.fault.FaultKind.TheVariants.{OutOfPlace, OutOfRange}
@@ -46,7 +46,7 @@ is_there sizes (Block block) = nat_lt block sizes.blocks
 abbrev pub if_there : Sizes → LineValue → Result LineValue FaultKind
 if_there sizes line = if is_there sizes line then Ok line else Err OutOfRange
 
--- the line that a keyword and the words behind it make
+-- the line that a keyword and the words after it make
 abbrev pub line_of : Sizes → Keyword → List (List ℕ) → Result LineValue FaultKind
 line_of sizes keyword.Store (addr ∷ digits ∷ []) = do
   a ← number_of addr

@@ -17,7 +17,7 @@ use Rattle.nv_once_script.specs.OnceSizes.{block_count, is_block_count, is_memor
 use Rattle.nv_once_script.specs.OnceVocabulary.{arguments_of, count_check, keyword_of}
 use Rattle.nv_once_script.specs.OnceWords.{lines_of, words_of}
 
--- a script: the sizes of its set-up, and its lines behind it
+-- a script: the sizes of its set-up, and its lines after it
 pub record ScriptValue : Type 0 where
   pub sizes : Sizes
   pub lines : List LineValue
@@ -52,14 +52,14 @@ both memory blocks = None
 abbrev pub sizes_in : Progress → Option Sizes
 sizes_in so_far = both so_far.memory so_far.blocks
 
--- what a line behind the set-up adds
+-- what a line after the set-up adds
 abbrev pub after_body : Progress → Keyword → List (List ℕ) → Result Progress FaultKind
 after_body so_far keyword words = do
   sizes ← ok_or (sizes_in so_far) OutOfPlace
   line ← line_of sizes keyword words
   Ok (record so_far { lines = so_far.lines ++ line ∷ [] })
 
--- what a line with this keyword and these words behind it adds
+-- what a line with this keyword and these words after it adds
 unfoldable pub after_keyword : Progress → Keyword → List (List ℕ) → Result Progress FaultKind
 after_keyword so_far keyword.Memory (word ∷ []) = do
   size ← first_time so_far.memory (memory_size word)

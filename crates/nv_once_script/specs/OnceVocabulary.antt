@@ -7,8 +7,8 @@ use Rattle.nv_once_script.specs.declared.once.fault.FaultKind.TheVariants.{Missi
 use Rattle.nv_once_script.specs.declared.once.vocabulary.Keyword.{Keyword}
 use Rattle.nv_once_script.specs.declared.once.vocabulary.Keyword.TheVariants.{Memory, Blocks, Store, Fill, Paint, Cmd, Dump, Block, Foreign}
 
--- the first words, and the lines that they begin. A line of another subcommand keeps only how many words stand behind its
--- first; of `store` and `fill` it is the count of `once`.
+-- the first words, and the lines that they begin. A line of another subcommand keeps only how many words come after its first; of `store` and
+-- `fill` it is the count of `once`.
 unfoldable pub vocabulary : List (List ℕ × Keyword)
 vocabulary =
     (codes "memory", Memory) ∷ (codes "blocks", Blocks) ∷ (codes "store", Store) ∷ (codes "fill", Fill)
@@ -26,7 +26,7 @@ vocabulary =
 unfoldable pub keyword_of : List ℕ → Option Keyword
 keyword_of word = lookup (λ name. bytes_eq name word) vocabulary
 
--- how many words stand behind the first
+-- how many words come after the first
 abbrev pub arguments_of : Keyword → ℕ
 arguments_of Memory = 1
 arguments_of Blocks = 1

@@ -15,7 +15,7 @@ abbrev pub lines_left : (is_over : Bool) → List ℕ → List (List ℕ)
 lines_left true text = []
 lines_left false text = slice_split (λ b. b == 10) text
 
--- the words in a text: what stands between its spaces
+-- the words in a text: what is between its spaces
 unfoldable pub words_in : List ℕ → List (List ℕ)
 words_in text = filter (λ word. nat_lt 0 (length word)) (slice_split (λ b. b == 32) text)
 

@@ -1,5 +1,5 @@
--- What a plan says: what is done with the command, and of each physical command where its bytes lie in the guest's memory and the ranges that
--- go into the bounce page (profile). It is a plan of nv_world_model and its shares without what the command's 64 bytes tell.
+-- What a plan says: what is done with the command, and of each physical command where its bytes are in the guest's memory and the ranges that go
+-- into the bounce page (profile). It is a plan of nv_world_model and its shares without what the command's 64 bytes give.
 use Rattle.std.specs.Prelude.{ℕ, List, map}
 use Rattle.nv_mem.specs.declared.piece.Piece.{Piece}
 use Rattle.nv_model.specs.Transcript.{Outcome, Settled, Wanted}

@@ -43,7 +43,7 @@ abbrev pub namespace_of : Extents → Namespace
 namespace_of (extents.One extent) = extent ∷ []
 namespace_of (extents.Several ns) = ns.value
 
--- `len` bytes of a buffer behind its first `skip`, in pieces that have bytes
+-- `len` bytes of a buffer after its first `skip`, in pieces that have bytes
 abbrev pub cut_places : (skip len : ℕ) → List Piece → List Piece
 cut_places skip len pieces = filter has_bytes (cut_pieces skip len pieces)
 
@@ -60,6 +60,6 @@ portion_cut pieces cut = record { places = cut_places (block * cut.first) (block
 abbrev pub portion_met : Namespace → (ranges : List (List ℕ)) → (number : ℕ) → Placed → Portion
 portion_met ns ranges number at = record { places = []; ranges = map (translated_range ns) (ranges_met number at ranges) }
 
--- an extent as it stands in its namespace
+-- an extent as it is in its namespace
 abbrev pub standing : Standing → Placed
 standing s = record { before = s.before; extent = s.extent }

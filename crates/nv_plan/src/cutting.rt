@@ -33,7 +33,7 @@ pub(crate) fn cut_up(alloc: Global, pieces: &[Piece], parts: &[Part]) -> Result<
     Portions::placed(alloc, places, ends)
 }
 
-// Adds `len` bytes of a buffer behind its first `skip` to these places.
+// Adds `len` bytes of a buffer after its first `skip` to these places.
 fn cut_out(pieces: &[Piece], skip: u64, len: u64, places: &mut Places) -> Result<(), NoMemory>
     requires { All IsAddressed pieces.now }
     ensures { OnOk result (places.new ≡ places.old ++ cut_places skip len pieces.now) }
@@ -66,7 +66,7 @@ fn len_of(piece: Piece) -> u64
     }
 }
 
-// So many bytes of a piece behind its first `skip`.
+// So many bytes of a piece after its first `skip`.
 fn cut(piece: Piece, skip: u64, len: u64) -> Piece
     requires some { skip < piece_len piece }
     requires fits { len ≤ piece_len piece - skip }

@@ -33,7 +33,7 @@ impl Ends {
         }
     }
 
-    /// Adds a part behind the others, of which there are less than eight.
+    /// Adds a part after the others, of which there are fewer than eight.
     pub(crate) fn push(&mut self, end: u32)
         requires { length self.old < 8 }
         ensures { self.new ≡ self.old ++ end ∷ [] }

@@ -14,7 +14,7 @@ use std::alloc::Global;
 use std::marker::Model;
 use std::slice;
 
-/// How the extents stand: most guests have one.
+/// How the extents are stored: most guests have one.
 #[derive(Debug, Drop)]
 enum Extents {
     /// One, in place.

@@ -7,8 +7,7 @@ use nv_entry::Status;
 pub enum PlanKind {
     /// A transfer whose bytes the physical command names where they lie in the guest's own memory.
     Direct,
-    /// A transfer by way of the mediator's bounce pages. So are the ranges of a Dataset Management, which stand there
-    /// translated.
+    /// A transfer by way of the mediator's bounce pages. So are the ranges of a Dataset Management, which are stored there translated.
     Bounced,
     /// A physical command that moves no bytes to or from memory.
     NoData,

@@ -259,7 +259,7 @@ impl<'a> Given<'a> {
         Ok(Portions::one(places))
     }
 
-    // What the plan of a Dataset Management says at whose list's places these bytes stood.
+    // What the plan of a Dataset Management says, where these bytes were at its list's places.
     pub(crate) fn ranged(&self, alloc: Global, bytes: &[u8]) -> Result<Outline, NoMemory>
         requires whole { length bytes.now % range_size ≡ 0 }
         requires short { length bytes.now ≤ part_size }

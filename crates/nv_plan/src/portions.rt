@@ -11,7 +11,7 @@ use nv_mem::{NoMemory, Piece, Places};
 use std::alloc::Global;
 use std::marker::Model;
 
-/// How the portions stand: several have one list together, which is cut where each of them ends, in a block of its own.
+/// How the portions are stored: several have one list together, which is cut where each of them ends, in a block of its own.
 #[derive(Debug, Drop)]
 enum Kept {
     /// So many portions of no bytes and no ranges.

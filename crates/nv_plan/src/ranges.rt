@@ -20,7 +20,7 @@ use nv_model::limits::RANGE_SIZE;
 use nv_ns::{Extent, Part, VirtualNs};
 use std::alloc::Global;
 
-/// An extent as it stands in its namespace: its number, and how many blocks of the namespace come before its own.
+/// An extent as it is in its namespace: its number, and how many blocks of the namespace come before its own.
 #[derive(Debug, Drop)]
 struct Standing {
     number: usize,
@@ -85,7 +85,7 @@ fn range_met(ns: &VirtualNs, at: &Standing, range: Range) -> Option<Range>
     requires there { slice_get (placed 0 ns.now) at.now.number ≡ Some (standing at.now) }
     ensures { result ≡ option_map (translated_range ns.now) (range_in at.now.number (standing at.now) range) }
 {
-    // The blocks of a namespace, and the places behind its extents, have numbers of 64 bits.
+    // The blocks of a namespace, and the places after its extents, have numbers of 64 bits.
     let _extents = ns.as_slice();
     let start = range.start();
     let blocks = range.blocks();

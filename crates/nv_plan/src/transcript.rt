@@ -7,7 +7,7 @@ use nv_mem::{Bytes, NoMemory};
 use std::alloc::Global;
 use std::marker::Model;
 
-/// One read of a guest's memory: where it was made, and the bytes that stood there.
+/// One read of a guest's memory: where it was made, and the bytes that were there.
 #[derive(Debug, Drop)]
 pub struct ReadDone {
     addr: u64,
@@ -77,7 +77,7 @@ impl Transcript {
         }
     }
 
-    /// Adds a read behind the others. Where no memory is left, they are as they were.
+    /// Adds a read after the others. Where no memory is left, they are as they were.
     pub fn push(&mut self, read: ReadDone) -> Result<(), NoMemory>
         ensures ok { OnOk result (self.new ≡ self.old ++ read ∷ []) }
         ensures err { OnErr result (self.new ≡ self.old) }
@@ -94,7 +94,7 @@ impl Transcript {
     }
 }
 
-/// The reads of a transcript that are left: those behind the last one that was taken.
+/// The reads of a transcript that are left: those after the last one that was taken.
 #[derive(Drop)]
 pub(crate) struct ReadsLeft<'a> {
     reads: &'a [ReadDone],

@@ -10,7 +10,7 @@ line_feed = 10 ∷ []
 abbrev pub hex_line : List ℕ → List ℕ
 hex_line bytes = encode_lower bytes ++ line_feed
 
--- a line of bytes that may be none: a dash stands for none
+-- a line of bytes that may be none: a dash means none
 abbrev pub dump_line : List ℕ → List ℕ
 dump_line [] = codes "-" ++ line_feed
 dump_line (byte ∷ bytes) = hex_line (byte ∷ bytes)

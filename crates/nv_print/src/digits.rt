@@ -9,7 +9,8 @@ const DIGITS: [u8; 16] = [
     b'0', b'1', b'2', b'3', b'4', b'5', b'6', b'7', b'8', b'9', b'a', b'b', b'c', b'd', b'e', b'f',
 ];
 
-// The digits of sixteen bytes. Each is looked up in a vector of all sixteen digits: that takes one operation, and to reckon it takes three.
+// The digits of sixteen bytes. Each digit is found by a lookup in a vector of all sixteen digits. A lookup takes one operation, and computing the
+// digit takes three.
 #[inline(always)]
 fn sixteen(bytes: u8x16) -> u8x32
     ensures { result ≡ encode_lower bytes }

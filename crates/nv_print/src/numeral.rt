@@ -1,4 +1,4 @@
-//! Numbers with a text behind them.
+//! Numbers followed by a text.
 ghost use Rattle.std.specs.Prelude.{◌≡◌, ◌+◌, ◌<◌, ◌^◌, ◌++◌, ◌∷◌, [], ℕ, decimal, if◌then◌else◌, OnOk};
 ghost use Rattle.std.specs.Io.KnownBytes.{Appends};
 
@@ -17,7 +17,7 @@ const DIGITS: usize = 20;
 #[derive(Debug, Drop)]
 pub struct Numeral {
     number: u64,
-    // the digits stand at the end of their place
+    // the digits are at the end of their array
     digits: [u8; DIGITS],
     start: usize,
 }
@@ -82,8 +82,8 @@ fn increase_digits(digits: &mut [u8]) -> bool
     increase_digits(front)
 }
 
-/// Prints a number in decimal digits and a text behind it. It stands where it is called, so that a text whose length is known there is copied
-/// with no call.
+/// Prints a number in decimal digits, and then a text. It is inlined into its caller, so that a text whose length is known there is copied without
+/// a call.
 #[inline(always)]
 pub fn print_numbered<W: Write>(
     number: &Numeral,

@@ -1,5 +1,5 @@
--- What is built: PRP1, PRP2 and a list that name host addresses: Base Specification 2.0, "Physical Region Page Entry and List". The
--- list stands in a page of its own, from the first slot on (profile: PRP lets it begin at other slots, too).
+-- What is built: PRP1, PRP2 and a list that name host addresses: Base Specification 2.0, "Physical Region Page Entry and List". The list is in a
+-- page of its own, from the first slot on (profile: PRP lets it begin at other slots, too).
 use Rattle.std.specs.Prelude.{ℕ, ◌+◌, ◌-◌, ◌%◌, Bool, ◌==◌, List, [], ◌∷◌, ◌++◌, length, drop, replicate, slice_index}
 use Rattle.std.specs.List.{filter}
 use Rattle.nv_model.specs.Limits.{page}
@@ -11,7 +11,7 @@ use Rattle.nv_prp.specs.declared.prps.Prps.{Prps}
 abbrev pub starts_page : ℕ → Bool
 starts_page addr = addr % page == 0
 
--- the page entries of a transfer: the page starts behind its first address
+-- the page entries of a transfer: the page starts after its first address
 abbrev pub entries_of : List ℕ → List ℕ
 entries_of addresses = filter starts_page (drop 1 addresses)
 
@@ -21,12 +21,12 @@ prp2_by list_page [] = 0
 prp2_by list_page (entry ∷ []) = entry
 prp2_by list_page (entry ∷ next ∷ entries) = list_page
 
--- the entries that stand in the list
+-- the entries that are in the list
 abbrev pub listed : List ℕ → List ℕ
 listed (entry ∷ next ∷ entries) = entry ∷ next ∷ entries
 listed _ = []
 
--- 32 numbers: these, and zeros behind them
+-- 32 numbers: these, and then zeros
 abbrev pub padded : List ℕ → List ℕ
 padded numbers = numbers ++ replicate (32 - length numbers) 0
 

@@ -1,5 +1,5 @@
--- Where a parse stands between two slots of a list: Base Specification 2.0, "Physical Region Page Entry and List" (PRP list: the
--- last slot of a list page points to the next one where more than one page is left)
+-- The position of a parse between two slots of a list: Base Specification 2.0, "Physical Region Page Entry and List" (PRP list: the last slot of a
+-- list page points to the next list page where more than one page is left)
 use Rattle.std.specs.Prelude.{ℕ, ◌+◌, ◌-◌, ◌*◌, ◌/◌, ◌^◌, ◌<◌, ◌≤◌, min, Bool, ◌&&◌, ◌==◌, nat_lt, if◌then◌else◌, is_none, List, length}
 use Rattle.nv_mem.specs.declared.piece.Piece.{Piece}
 use Rattle.nv_mem.specs.declared.region.Region.{Region}
@@ -18,7 +18,7 @@ is_asking c = is_none c.fault && nat_lt 0 c.pages
 abbrev pub ahead : Cursor → ℕ
 ahead c = slots_left c.fault c.pages c.slots
 
--- what is read from there on, behind these runs
+-- what is read from there on, after these runs
 unfoldable pub reading_from : (ℕ → Bool) → Cursor → List Piece → Dialogue Reading
 reading_from mapped c runs = unless_faulty c.fault (read_entries mapped c.pages c.slots c.from c.bytes runs)
 
@@ -49,7 +49,7 @@ pub record IsInRange (c : Cursor) (runs : List Piece) : Type 0 where
   pub pages : page * c.pages < c.bytes + page
   pub room : length runs + c.pages ≤ 33
 
--- the parse that stands there
+-- the parse at that position
 abbrev pub parse_at : List Region → Cursor → List Piece → Parse
 parse_at regions c runs =
     record { regions = regions; fault = c.fault; pages = c.pages; slots = c.slots; from = c.from; bytes = c.bytes; runs = runs }

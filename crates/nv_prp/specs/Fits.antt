@@ -1,5 +1,5 @@
--- Which host addresses a PRP transfer can name: Base Specification 2.0, "Physical Region Page Entry and List". PRP1 is a multiple of
--- 4, and behind it the bytes lie in a row, but that each page end may be followed by any page start. There is at least one byte.
+-- Which host addresses a PRP transfer can name: Base Specification 2.0, "Physical Region Page Entry and List". PRP1 is a multiple of 4. After it
+-- the bytes are contiguous, except that each page end may be followed by any page start. There is at least one byte.
 use Rattle.std.specs.Prelude.{ℕ, ◌+◌, ◌%◌, Bool, true, false, ◌&&◌, ◌||◌, ◌==◌, List, [], ◌∷◌, Option, Some, None, is_some, option_to_list}
 use Rattle.std.specs.List.{flat_map, list_all}
 use Rattle.nv_mem.specs.GuestMap.{host_of}
@@ -31,7 +31,7 @@ abbrev pub may_follow : (end : Option ℕ) → (addr : ℕ) → Bool
 may_follow None addr = addr % 4 == 0
 may_follow (Some end) addr = addr == end || end % page == 0 && addr % page == 0
 
--- whether these fit behind bytes that end before `end`, or are the first, of which there is one at least
+-- whether these fit after bytes that end before `end`, or are the first, of which there is at least one
 unfoldable pub fit_behind : (end : Option ℕ) → List ℕ → Bool
 fit_behind end [] = is_some end
 fit_behind end (addr ∷ addresses) = may_follow end addr && fit_behind (Some (addr + 1)) addresses
@@ -45,7 +45,7 @@ abbrev pub is_run : Piece → Bool
 is_run (piece.Run addr len) = true
 is_run (piece.Bucket len) = false
 
--- whether these pieces name no bucket and the host addresses of their bytes fit behind bytes that end before `end`
+-- whether these pieces name no bucket and the host addresses of their bytes fit after bytes that end before `end`
 abbrev pub places_fit_behind : List Region → (end : Option ℕ) → List Piece → Bool
 places_fit_behind regions end pieces = list_all is_run pieces && fit_behind end (host_addresses regions pieces)
 

@@ -5,7 +5,7 @@ use Rattle.std.specs.List.{filter}
 use Rattle.nv_prp.specs.Built.{prps_of, starts_page}
 use Rattle.nv_prp.specs.declared.prps.Prps.{Prps}
 
--- the first address, and the page starts behind it
+-- the first address, and the page starts after it
 pub record Met : Type 0 where
   pub first : Option ℕ
   pub entries : List ℕ
@@ -14,17 +14,17 @@ pub record Met : Type 0 where
 abbrev pub nothing_met : Met
 nothing_met = record { first = None; entries = [] }
 
--- behind these addresses, the first of them not being the transfer's first
+-- after these addresses, the first of which is not the transfer's first
 abbrev pub met_later : Met → List ℕ → Met
 met_later m addresses = record { first = m.first; entries = m.entries ++ filter starts_page addresses }
 
--- behind these addresses, where this is the first
+-- after these addresses, where this is the first
 abbrev pub met_by : Option ℕ → List ℕ → List ℕ → Met
 met_by (Some first) entries addresses = record { first = Some first; entries = entries ++ filter starts_page addresses }
 met_by None entries [] = record { first = None; entries = entries }
 met_by None entries (addr ∷ addresses) = record { first = Some addr; entries = entries ++ filter starts_page addresses }
 
--- behind these addresses
+-- after these addresses
 unfoldable pub met_more : Met → List ℕ → Met
 met_more m addresses = met_by m.first m.entries addresses
 
@@ -32,7 +32,7 @@ met_more m addresses = met_by m.first m.entries addresses
 abbrev pub prps_met : (list_page : ℕ) → Met → Prps
 prps_met list_page m = prps_of list_page (unwrap_or m.first 0) m.entries
 
--- entries stand in front of an array of 32 numbers, and zeros behind them
+-- entries are at the front of an array of 32 numbers, followed by zeros
 pub record IsFilled (used : ℕ) (list : List ℕ) : Type 0 where
   pub count : used ≤ 32
   pub zeros : drop used list ≡ replicate (32 - used) 0

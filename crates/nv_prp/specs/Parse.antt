@@ -1,5 +1,5 @@
--- What a parse of a list means: the dialogue that it has still to lead. The list's reading stands in nv_model: Base Specification
--- 2.0, "Physical Region Page Entry and List".
+-- What a parse of a list means: the dialogue that it still has to go through. The reading of the list is in nv_model: Base Specification 2.0,
+-- "Physical Region Page Entry and List".
 use Rattle.std.specs.Prelude.{ℕ, ◌+◌, ◌*◌, ◌==◌, if◌then◌else◌, List, Option, Some, None}
 use Rattle.nv_entry.specs.declared.status_code.StatusCode.{StatusCode}
 use Rattle.nv_mem.specs.declared.piece.Piece.{Piece}
@@ -9,8 +9,8 @@ use Rattle.nv_model.specs.Dialogue.{Dialogue}
 use Rattle.nv_model.specs.Prp.{read_entries}
 use Rattle.nv_model.specs.Reading.{Reading, unless_faulty}
 
--- a parse: the guest's regions, the fault of what was read last if it has one, how many pages are left, how many slots there are
--- to the end of the list page and where the next one stands, the bytes of the pages left, and the runs that were read
+-- a parse: the guest's regions, the fault of what was read last if it has one, how many pages are left, how many slots there are to the end of the
+-- list page and where the next slot is, the bytes of the pages left, and the runs that were read
 pub record Parse : Type 0 where
   pub regions : List Region
   pub fault : Option StatusCode

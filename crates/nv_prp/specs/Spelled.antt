@@ -1,4 +1,4 @@
--- What the PRPs that are built spell, once their list stands in its page
+-- What the PRPs that are built spell, once their list is in its page
 use Rattle.std.specs.Prelude.{◌≡◌, ℕ, ◌+◌, true, List, [], ◌∷◌, map, take}
 use Rattle.std.specs.Bool.{⊤}
 use Rattle.nv_entry.specs.Layout.{number_at}
@@ -9,12 +9,12 @@ use Rattle.nv_model.specs.Prp.{read_prp}
 use Rattle.nv_model.specs.Reading.{Reading, Faulty, TooLong, Spells}
 use Rattle.nv_prp.specs.declared.prps.Prps.{Prps}
 
--- these numbers stand in the memory, one behind the other
+-- these numbers are in the memory, one after the other
 unfoldable pub HoldsNumbers : (ℕ → ℕ) → ℕ → List ℕ → Type 0
 HoldsNumbers memory at [] = ⊤
 HoldsNumbers memory at (number ∷ numbers) = (number_at (bytes_from memory at 8) 0 8 ≡ number) × HoldsNumbers memory (at + 8) numbers
 
--- the list stands in its page
+-- the list is in its page
 abbrev pub HoldsList : (ℕ → ℕ) → ℕ → Prps → Type 0
 HoldsList memory list_page p = HoldsNumbers memory list_page (take p.used p.list)
 

@@ -14,8 +14,8 @@ use crate::met::Met;
 use crate::prps::Prps;
 use nv_mem::{GuestMap, Piece};
 
-/// What names the host addresses of these places, which fit PRP and are 131,072 at most. Where there are more than two pages, the
-/// list of the page entries stands at `list_page`, which is a page's start.
+/// What names the host addresses of these places, which fit PRP and are at most 131,072 addresses. Where there are more than two pages, the list of
+/// the page entries is at `list_page`, which is the start of a page.
 pub fn build(map: &GuestMap, places: &[Piece], list_page: u64) -> Prps
     requires mapped { All (IsMappedPiece (mapped map.now.regions)) places.now }
     requires fit { places_fit map.now.regions places.now ≡ true }

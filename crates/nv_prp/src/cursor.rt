@@ -1,4 +1,4 @@
-//! Where a parse of region pages stands, and how it goes on slot by slot.
+//! The position of a parse of region pages, and how it goes on slot by slot.
 
 ghost use Rattle.std.specs.Prelude.{◌≡◌, None, Some, ◌+◌, ◌-◌, ◌*◌, ◌/◌, ◌%◌, ◌<◌, ◌≤◌, ◌^◌, [], ℕ, List, true, false, length};
 ghost use Rattle.nv_mem.specs.GuestMap.{mapped};
@@ -16,10 +16,10 @@ use nv_mem::{GuestMap, PAGE_SIZE, Piece};
 /// How many slots a whole list page has.
 const SLOTS: u32 = PAGE_SIZE as u32 / 8;
 
-/// Where a parse stands between two slots.
+/// The position of a parse between two slots.
 #[derive(Clone, Copy)]
 pub struct Cursor {
-    /// The guest address of the next slot. Behind the last one it may be 2 to the 64.
+    /// The guest address of the next slot. After the last slot it may be 2 to the 64.
     pub from: u128,
     /// How many slots there are to the end of the list page.
     pub slots: u32,
@@ -32,7 +32,7 @@ pub struct Cursor {
 }
 
 impl Cursor {
-    /// Behind PRP1 and PRP2 of a transfer of `need` bytes. The runs that they name are added.
+    /// The cursor after PRP1 and PRP2 of a transfer of `need` bytes. The runs that they name are added.
     pub fn start(map: &GuestMap, prp1: u64, prp2: u64, need: u64, runs: &mut Runs) -> Self
         requires some { 0 < need }
         requires most { need ≤ most_bytes }
@@ -63,7 +63,7 @@ impl Cursor {
         }
     }
 
-    // Behind PRP2, where `bytes` bytes are left behind PRP1's page.
+    // The cursor after PRP2, where `bytes` bytes are left after PRP1's page.
     fn behind_prp1(map: &GuestMap, prp2: u64, bytes: u64, runs: &mut Runs) -> Self
         requires most { bytes ≤ most_bytes }
         requires one { length runs.old ≡ 1 }
@@ -125,7 +125,7 @@ impl Cursor {
         self.slots == 1 && self.pages > 1
     }
 
-    // Behind the next slot, which holds `value`. The run that it names is added.
+    // The cursor after the next slot, which holds `value`. The run that it names is added.
     fn past_slot(self, map: &GuestMap, value: u64, runs: &mut Runs) -> Self
         requires asking { is_asking self ≡ true }
         requires in_range { IsInRange self runs.old }
@@ -141,7 +141,7 @@ impl Cursor {
         }
     }
 
-    // Behind a pointer to the next list page: at its start.
+    // The cursor after a pointer to the next list page: at the start of that page.
     fn past_pointer(self, map: &GuestMap, pointer: u64) -> Self
         requires sound { self.fault ≡ None }
         requires pointer { is_at_pointer self ≡ true }
@@ -168,7 +168,7 @@ impl Cursor {
         }
     }
 
-    // Behind the entry of the next page, whose run is added.
+    // The cursor after the entry of the next page, whose run is added.
     fn past_entry(self, map: &GuestMap, addr: u64, runs: &mut Runs) -> Self
         requires sound { self.fault ≡ None }
         requires pages { 0 < self.pages }
@@ -214,7 +214,7 @@ fn fault_of(map: &GuestMap, alignment: u64, addr: u64, len: u64) -> Option<Statu
     }
 }
 
-/// Reads the slots in these bytes, from the cursor on, behind `runs`, and gives the cursor behind them.
+/// Reads the slots in these bytes, from the cursor on, after `runs`, and returns the cursor after them.
 pub fn read_part(map: &GuestMap, cursor: Cursor, bytes: &[u8], runs: &mut Runs) -> Cursor
     requires whole { length bytes.now % 8 ≡ 0 }
     requires in_range { IsInRange cursor runs.old }

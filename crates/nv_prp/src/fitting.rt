@@ -29,7 +29,7 @@ pub fn fits(map: &GuestMap, places: &Places) -> bool
     end.is_some()
 }
 
-// Whether the host addresses of a run fit behind bytes that end before `end`. If so, `end` becomes where they end.
+// Whether the host addresses of a run fit after bytes that end before `end`. If so, `end` becomes where they end.
 fn run_fits(map: &GuestMap, addr: u64, len: u64, end: &mut Option<u64>) -> bool
     requires { everywhere (mapped map.now.regions) addr len ≡ true }
     ensures { (rest : List ℕ) → fit_behind end.old (hosts_of map.now.regions (addresses addr len) ++ rest)

@@ -23,8 +23,8 @@ pub fn feeding_what_a_memory_shows_keeps_the_end()
         in_memory memory (fed (dialogue_of p) (bytes_from memory addr len)) ≡ in_memory memory (dialogue_of p) }
 {}
 
-/// What is built for host addresses that fit PRP spells exactly these addresses, in any memory in which its list stands: so the PRP
-/// definition reads it. The numbers behind the list are zeros.
+/// What is built for host addresses that fit PRP spells exactly these addresses, in any memory that holds its list. That is how the PRP definition
+/// reads it. The numbers after the list are zeros.
 pub fn built_prps_spell_the_addresses()
     ensures zeros { (list_page : ℕ) (addresses : List ℕ) → let p = built list_page addresses in
         p.list ≡ take p.used p.list ++ replicate (32 - p.used) 0 }

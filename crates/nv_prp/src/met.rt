@@ -11,7 +11,7 @@ use std::marker::Model;
 /// How many entries the list of a transfer has at most.
 const MOST: usize = 32;
 
-/// What was met of a transfer's addresses while it is built: the first, and the page starts behind it.
+/// What was met of a transfer's addresses while it is built: the first, and the page starts after it.
 #[derive(Drop)]
 pub struct Met {
     first: Option<u64>,
@@ -84,7 +84,7 @@ impl Met {
         self.used += 1;
     }
 
-    /// What names the transfer. Where it has a list, this stands at `list_page`.
+    /// What names the transfer. Where it has a list, the list is at `list_page`.
     pub fn prps(&self, list_page: u64) -> Prps
         ensures { result ≡ prps_met list_page self.now }
     {

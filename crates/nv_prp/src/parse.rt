@@ -15,8 +15,7 @@ use nv_model::Want;
 use std::alloc::Global;
 use std::marker::Model;
 
-/// The reading of PRP1, PRP2 and a list, part by part. It never looks at the guest's memory itself: it says which bytes it wants,
-/// and is fed them.
+/// The reading of PRP1, PRP2 and a list, part by part. It never reads the guest's memory itself: it says which bytes it wants, and is fed them.
 #[derive(Drop)]
 pub struct PrpParse<'a> {
     map: &'a GuestMap,

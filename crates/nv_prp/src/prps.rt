@@ -7,7 +7,7 @@ pub struct Prps {
     pub prp1: u64,
     /// PRP2: 0 for one page, the second page for two, and the list page for more.
     pub prp2: u64,
-    /// The entries of the list, and zeros behind them.
+    /// The entries of the list, and then zeros.
     pub list: [u64; 32],
     /// How many entries the list has.
     pub used: usize,

@@ -39,7 +39,7 @@ impl Runs {
         }
     }
 
-    /// Adds a run behind the others.
+    /// Adds a run after the others.
     pub fn push(&mut self, run: Piece)
         requires { length self.old < 33 }
         ensures { self.new ≡ self.old ++ run ∷ [] }
@@ -56,7 +56,7 @@ impl Runs {
     }
 }
 
-/// Adds the runs behind the pieces that are there.
+/// Adds the runs after the pieces that are there.
 pub fn push_all(runs: &[Piece], places: &mut Places) -> Result<(), NoMemory>
     ensures { OnOk result (places.new ≡ places.old ++ runs.now) }
 {

@@ -1,6 +1,6 @@
-//! An allocator for tests, that refuses one allocation.
+//! An allocator for tests that refuses one allocation.
 //!
-//! That [`Refusing`] is an allocator is proved. Which allocation it refuses ([`Refusing::refuse_after`]), and that it tells of it
+//! It is proved that [`Refusing`] is an allocator. Which allocation it refuses ([`Refusing::refuse_after`]), and that it reports this
 //! ([`Refusing::has_refused`]), is tested by `nv_checks_lists` and `nv_checks_plan`, and not proved.
 #![tactic(auto)]
 

@@ -2,7 +2,7 @@
 use std::alloc::{AllocError, Allocator};
 use std::cell::Cell;
 
-/// So many allocations that the one behind them never comes.
+/// So many allocations that the one after them never comes.
 const ALL: u64 = u64::MAX / 2;
 
 /// An allocator that hands every call on to another one, but for a single allocation that it refuses.
@@ -25,7 +25,7 @@ impl<B: Allocator> Refusing<B> {
         self.left.set(ALL);
     }
 
-    /// From now on so many allocations are granted, the next one is refused, and those behind it are granted again.
+    /// From now on this many allocations are granted, the next one is refused, and those after it are granted again.
     pub fn refuse_after(&self, granted: u64) {
         self.left.set(granted);
     }

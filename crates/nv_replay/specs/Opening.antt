@@ -111,7 +111,7 @@ replay_of text = do
   script ← result_map_both (λ s. s) of_script (script_of text)
   opened_by script
 
--- a fault is the definition's, or one for want of memory, which no definition speaks of
+-- a fault is the definition's, or one for out of memory, which no definition mentions
 abbrev pub IsFaultOf : {A : Type 0} → Result A ReplayFault → ReplayFault → Type 0
 IsFaultOf answer fault = (fault ≡ NoMemory) ⊎ (answer ≡ Err fault)
 

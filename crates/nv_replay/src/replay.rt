@@ -45,14 +45,14 @@ impl Replay {
     }
 }
 
-/// Puts the world through its events, and prints the line of each reply at once, and the number of events at the end.
+/// Takes the world through its events. Prints the line of each reply at once, and the number of events at the end.
 ///
-/// The world's memory is not given back where all went well: the program ends behind this call, and the system takes all of it at once,
-/// where a walk over the log would give back the bytes of each act and reply.
+/// The world's memory is not freed where all went well. The program ends after this call, and the system takes all of the memory at once, where a
+/// walk over the log would free the bytes of each act and reply.
 ///
 /// # Errors
 ///
-/// The output failed; what it holds is then a beginning of what was to be printed.
+/// The output failed; what it holds is then a prefix of what was to be printed.
 pub fn run<W: Write>(alloc: Global, replay: Replay, output: &mut W) -> Result<(), CannotWrite>
     ensures { OnOk result (PrintsReplay replay (W.contents output.old) (W.contents output.new)) }
 {
@@ -69,7 +69,7 @@ pub fn run<W: Write>(alloc: Global, replay: Replay, output: &mut W) -> Result<()
     Ok(())
 }
 
-// Carries out an event, and prints the line of its reply, which is read where it stands in the log.
+// Carries out an event, and prints the line of its reply, which is read in place in the log.
 fn step<W: Write>(
     alloc: Global,
     world: &mut World,

@@ -35,7 +35,7 @@ status_of sct sc dnr = do
   d ← number_up_to 1 dnr
   Ok (status t c (d == 1))
 
--- the act that a kind of guest line and the words behind its guest make
+-- the act that a kind of guest line and the words after its guest make
 abbrev pub act_of : ActKind → List (List ℕ) → Result Act FaultKind
 act_of act_kind.Store (addr ∷ digits ∷ []) = do
   a ← number_of addr
@@ -63,7 +63,7 @@ act_of act_kind.Bell (offset ∷ value ∷ []) = do
   Ok (act.Doorbell o v)
 act_of kind words = Err OutOfPlace
 
--- the event that a kind of line and the words behind its first make
+-- the event that a kind of line and the words after its first make
 abbrev pub event_of : EventKind → List (List ℕ) → Result Event FaultKind
 event_of (kind.Act act) (guest ∷ words) = do
   g ← byte_of guest
@@ -126,6 +126,6 @@ counted_event kind words = do
   counted ← count_check (length words) (event_arguments kind)
   event_of kind words
 
--- the events with this one behind them
+-- the events with this one after them
 abbrev pub event_added : Result Event FaultKind → (before : List Event) → Result (List Event) FaultKind
 event_added event before = event >>= λ e. Ok (before ++ e ∷ [])

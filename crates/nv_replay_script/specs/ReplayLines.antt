@@ -11,7 +11,7 @@ use Rattle.nv_once_script.specs.OnceWords.{lines_of, words_of}
 use Rattle.nv_replay_script.specs.declared.vocabulary.Keyword.{Keyword}
 use Rattle.nv_replay_script.specs.ReplayVocabulary.{keyword_of}
 
--- what a line of these words comes to, by its keyword and the words behind it: a line with no words adds nothing
+-- what a line of these words gives, by its keyword and the words after it: a line with no words adds nothing
 unfoldable pub after_words : {P : Type 0} → (Keyword → List (List ℕ) → Result P FaultKind) → P → List (List ℕ) → Result P FaultKind
 after_words by_keyword so_far [] = Ok so_far
 after_words by_keyword so_far (first ∷ words) = do

@@ -1,4 +1,4 @@
--- Worked examples: a set-up of two guests, and lines behind it
+-- Worked examples: a set-up of two guests, and lines after it
 use Rattle.std.specs.Prelude.{ℕ, List, [], ◌∷◌, ◌++◌, codes, Some, None, Result}
 use Rattle.nv_world_model.specs.declared.event.Event.{Event}
 use Rattle.nv_once_script.specs.declared.once.fault.ScriptFault.{ScriptFault}
@@ -21,11 +21,11 @@ guest_lines =
     codes "guest 0 range 1000 64 heap 65536" ∷ codes "guest 1 range 2000 64 heap 65536"
     ∷ codes "map 0 0x0 0x100000 0x20000" ∷ codes "map 1 0x0 0x200000 0x20000" ∷ []
 
--- what these lines are behind the sizes
+-- what these lines are after the sizes
 abbrev pub behind_sizes : List (List ℕ) → Result ScriptValue ScriptFault
 behind_sizes lines = script_of (text_of (size_lines ++ lines))
 
--- what these lines are behind the whole set-up
+-- what these lines are after the whole set-up
 abbrev pub behind_set_up : List (List ℕ) → Result ScriptValue ScriptFault
 behind_set_up lines = behind_sizes (guest_lines ++ lines)
 
@@ -39,7 +39,7 @@ guest_at host base =
       regions = record { guest = 0; host = host; len = 0x20000 } ∷ [];
     }
 
--- the same guest, with these extents behind its first
+-- the same guest, with these extents after its first
 abbrev pub extended_by : List Extent → GuestValue → GuestValue
 extended_by extents guest = record guest { extents = guest.extents ++ extents }
 

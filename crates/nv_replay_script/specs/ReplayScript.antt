@@ -42,7 +42,7 @@ progress reading = record { set_up = set_up_so_far reading.set_up; events = read
 abbrev pub nothing : Progress
 nothing = record { set_up = no_set_up; events = [] }
 
--- whether no event has come: set-up lines stand before all others
+-- whether no event has come: set-up lines come before all others
 abbrev pub is_early : List Event → Bool
 is_early [] = true
 is_early (event ∷ events) = false
@@ -55,7 +55,7 @@ add_event so_far kind words = do
   event ← event_of kind words
   Ok (record so_far { events = so_far.events ++ event ∷ [] })
 
--- what a line with this keyword and these words behind it adds
+-- what a line with this keyword and these words after it adds
 abbrev pub after_keyword : Progress → Keyword → List (List ℕ) → Result Progress FaultKind
 after_keyword so_far (keyword.SetUp kind) words = do
   set_up ← counted_set_up so_far.set_up (is_early so_far.events) kind words

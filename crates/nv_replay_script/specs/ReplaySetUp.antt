@@ -40,7 +40,7 @@ with_size sizes Lanes n = record sizes { lanes = Some n }
 abbrev pub no_sizes : OpenSizes
 no_sizes = record { host = None; mediator = None; disk = None; lanes = None }
 
--- the sizes behind a line that names one: a second time is out of place
+-- the sizes after a line that names one: naming one a second time is out of place
 abbrev pub after_size : OpenSizes → Size → List ℕ → Result OpenSizes FaultKind
 after_size sizes size word = do
   n ← first_time (named sizes size) (number_of word)
@@ -77,11 +77,11 @@ smallest_heap = 256
 abbrev pub largest_heap : ℕ
 largest_heap = 16777216
 
--- where a line may stand, or it is out of place
+-- that a line may be where it is; else it is out of place
 abbrev pub in_place : Bool → Result (Unit {0}) FaultKind
 in_place may_stand = if may_stand then Ok tt else Err OutOfPlace
 
--- a word that always stands at its place
+-- a word that is always at its position
 abbrev pub fixed_word : (fixed word : List ℕ) → Result (Unit {0}) FaultKind
 fixed_word fixed word = if bytes_eq word fixed then Ok tt else Err UnknownWord
 
@@ -111,7 +111,7 @@ extent_of base blocks = do
   n ← number_of blocks
   Ok (record { base = b; blocks = n })
 
--- the guest that the words behind `guest` make, where there are so many guests: they give its first extent
+-- the guest that the words after `guest` make, where there are this many guests: the words give its first extent
 abbrev pub guest_of : (count : ℕ) → List (List ℕ) → Result GuestValue FaultKind
 guest_of count (number ∷ range ∷ base ∷ blocks ∷ heap ∷ bytes ∷ []) = do
   next ← next_guest count number
@@ -148,7 +148,7 @@ no_set_up = record { sizes = no_sizes; guests = [] }
 abbrev pub no_guest : GuestValue
 no_guest = record { extents = []; heap = 0; limit = None; regions = [] }
 
--- a guest behind a line that gives it an extent: that joins the others behind them
+-- a guest after a line that gives it an extent: the extent is added after the others
 abbrev pub extended : GuestValue → (base blocks : List ℕ) → Result GuestValue FaultKind
 extended guest base blocks = do
   extent ← extent_of base blocks
@@ -160,7 +160,7 @@ with_region guests number region =
     let guest = slice_index_or guests number no_guest in
     slice_set guests number (record guest { regions = guest.regions ++ region ∷ [] })
 
--- a guest behind a line that names its limit on descriptors: a second time is out of place
+-- a guest after a line that names its limit on descriptors: naming it a second time is out of place
 abbrev pub limited : GuestValue → (limit : List ℕ) → Result GuestValue FaultKind
 limited guest limit = do
   n ← first_time guest.limit (number_of limit)
@@ -199,7 +199,7 @@ add_descriptors so_far number limit = do
   guest ← limited (slice_index_or so_far.guests n no_guest) limit
   Ok (record so_far { guests = slice_set so_far.guests n guest })
 
--- what a set-up line of this kind and these words behind its first adds
+-- what a set-up line of this kind, with these words after its first, adds
 abbrev pub add_set_up : SetUpSoFar → SetUpKind → List (List ℕ) → Result SetUpSoFar FaultKind
 add_set_up so_far (kind.Size size) (word ∷ []) = add_size so_far size word
 add_set_up so_far kind.Guest words = add_guest so_far words
@@ -208,7 +208,7 @@ add_set_up so_far kind.Map (number ∷ guest ∷ host ∷ len ∷ []) = add_map 
 add_set_up so_far kind.Descriptors (number ∷ limit ∷ []) = add_descriptors so_far number limit
 add_set_up so_far kind words = Err OutOfPlace
 
--- the same, of words that are as many as that line wants, where it stands before all lines that are none of the set-up
+-- the same, for words that are as many as that line needs, where the line comes before all lines that are not of the set-up
 abbrev pub counted_set_up : SetUpSoFar → (is_early : Bool) → SetUpKind → List (List ℕ) → Result SetUpSoFar FaultKind
 counted_set_up so_far is_early kind words = do
   counted ← count_check (length words) (set_up_arguments kind)

@@ -12,8 +12,8 @@ use Rattle.nv_replay_script.specs.declared.vocabulary.SetUpKind.{SetUpKind}
 use Rattle.nv_replay_script.specs.declared.vocabulary.SetUpKind.TheVariants.{Size, Guest, Extent, Map, Descriptors}
 use Rattle.nv_replay_script.specs.declared.vocabulary.Keyword.TheVariants.{SetUp, Event, Await, AwaitReg, Foreign}
 
--- the first words, and the lines that they begin. A line of `once` keeps
--- only how many words stand behind its first; of `store` and `fill` it is the count of `replay` and `run`.
+-- the first words, and the lines that they begin. A line of `once` keeps only how many words follow its first; for `store` and `fill` it is the
+-- count of `replay` and `run`.
 unfoldable pub vocabulary : List (List ℕ × Keyword)
 vocabulary =
     (codes "devmove", Event kind.DevMove) ∷ (codes "devtake", Event kind.DevTake)
@@ -35,7 +35,7 @@ vocabulary =
 unfoldable pub keyword_of : List ℕ → Option Keyword
 keyword_of word = lookup (λ name. bytes_eq name word) vocabulary
 
--- how many words stand behind the number of the guest whose act a line is
+-- how many words follow the number of the guest whose act a line is
 abbrev pub act_arguments : ActKind → ℕ
 act_arguments act.Store = 2
 act_arguments act.Fill = 3
@@ -44,7 +44,7 @@ act_arguments act.RegRead = 1
 act_arguments act.RegWrite = 2
 act_arguments act.Bell = 2
 
--- how many words stand behind the first of an event's line
+-- how many words follow the first of an event's line
 abbrev pub event_arguments : EventKind → ℕ
 event_arguments (kind.Act act) = 1 + act_arguments act
 event_arguments kind.Admin = 1
@@ -60,7 +60,7 @@ event_arguments kind.Keep = 1
 event_arguments kind.Reap = 1
 event_arguments kind.Post = 2
 
--- how many words stand behind the first of a set-up line
+-- how many words follow the first of a set-up line
 abbrev pub set_up_arguments : SetUpKind → ℕ
 set_up_arguments (Size size) = 1
 set_up_arguments Guest = 6
@@ -68,6 +68,6 @@ set_up_arguments Extent = 3
 set_up_arguments Map = 4
 set_up_arguments Descriptors = 2
 
--- and behind the first of a line of `run` alone
+-- and how many follow the first of a line of `run` alone
 abbrev pub await_arguments : ℕ
 await_arguments = 3

@@ -20,7 +20,7 @@ use std::alloc::{AllocError, Global};
 /// The most bytes that one `fill` line writes.
 const FILL_MAX: u64 = 131_072;
 
-/// Makes the act of this kind and the words behind its guest, which are as many as it wants.
+/// Makes the act from this kind and the words after its guest, which are as many as the kind needs.
 pub fn make_act(alloc: Global, kind: ActKind, mut words: Words<'_>) -> Result<Act, LineFault>
     requires { length words ≡ act_arguments kind }
     ensures { let act = act_of kind words.entry

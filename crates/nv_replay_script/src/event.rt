@@ -1,4 +1,4 @@
-//! The events behind the set-up.
+//! The events after the set-up.
 ghost use Rattle.std.specs.Prelude.{◌≡◌, ◌++◌, ◌∷◌, [], Ok, MatchResult};
 ghost use Rattle.nv_once_script.specs.OnceFault.{Refuses};
 ghost use Rattle.nv_once_script.specs.declared.once.fault.LineFault.TheVariants.{NoMemory};
@@ -15,8 +15,8 @@ use nv_once_script::once::words::Words;
 use nv_world_model::Event;
 use std::alloc::Global;
 
-/// Puts the event of this kind and the words behind it behind the others, where the words are as many as it wants. Each kind pushes its own,
-/// so that an event is written once, where it stays.
+/// Appends the event of this kind and the words after it to the others, where the words are as many as the kind needs. Each kind pushes its own
+/// event, so that an event is written once, where it stays.
 ///
 /// # Errors
 ///
@@ -68,7 +68,7 @@ fn add_act(
     }
 }
 
-// Puts an event behind the others.
+// Appends an event to the others.
 #[inline(always)]
 fn push(events: &mut Vec<Event>, event: Event) -> Result<(), LineFault>
     ensures { MatchResult result (λ _. events.new.items ≡ events.old.items ++ event ∷ []) (λ fault. fault ≡ NoMemory) }

@@ -12,7 +12,7 @@ use nv_once_script::once::word::Word;
 use nv_once_script::once::words::Words;
 use std::alloc::Global;
 
-/// How many words stand behind `guest`.
+/// How many words follow `guest`.
 const GUEST_ARGUMENTS: usize = 6;
 
 /// What the set-up lines so far have said.
@@ -38,8 +38,8 @@ impl OpenSetUp {
         }
     }
 
-    /// Adds what a set-up line of this kind says, where its words are as many as it wants and it is early: it stands before all lines that
-    /// are none of the set-up.
+    /// Adds what a set-up line of this kind says, where its words are as many as it needs and it is early: it comes before all lines that are not
+    /// of the set-up.
     pub fn add(
         &mut self,
         alloc: Global,

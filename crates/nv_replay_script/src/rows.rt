@@ -24,17 +24,17 @@ pub fn examples()
     ensures an_end_without_sizes { script_of (codes "host 1\nmediator 1\ndisk 1\n\n") ≡ Err (Line 4 OutOfPlace) }
     // A size named twice.
     ensures a_second_size { behind_sizes (codes "lanes zz" ∷ []) ≡ Err (Line 5 OutOfPlace) }
-    // A map behind an event.
+    // A map after an event.
     ensures a_late_map { behind_set_up (codes "reap 0" ∷ codes "map 0 0x20000 0 4096" ∷ []) ≡ Err (Line 10 OutOfPlace) }
     // A guest that is not the next.
     ensures a_guest_too_far { behind_set_up (codes "guest 3 range zz 1 heap 256" ∷ []) ≡ Err (Line 9 OutOfPlace) }
     // A region of a guest that is not there yet.
     ensures a_map_too_early { behind_set_up (codes "map 2 zz 0 4096" ∷ []) ≡ Err (Line 9 OutOfPlace) }
-    // Two extents behind a guest's first, in the order written: they are judged with the set-up.
+    // Two extents after a guest's first, in the order written: they are judged with the set-up.
     ensures extents { behind_set_up (codes "extent 1 0xffffffffffffffff 1" ∷ codes "extent 1 2000 0" ∷ []) ≡ Ok (sized
         (guest_at 0x100000 1000
         ∷ extended_by (record { base = 0xffffffffffffffff; blocks = 1 } ∷ record { base = 2000; blocks = 0 } ∷ []) (guest_at 0x200000 2000) ∷ []) []) }
-    // One of a guest that is not there yet, and one behind an event.
+    // One of a guest that is not there yet, and one after an event.
     ensures an_extent_too_early { behind_set_up (codes "extent 2 zz 8" ∷ []) ≡ Err (Line 9 OutOfPlace) }
     ensures a_late_extent { behind_set_up (codes "reap 0" ∷ codes "extent 0 zz 8" ∷ []) ≡ Err (Line 10 OutOfPlace) }
     // A word that is no number, and one that is missing.
@@ -45,12 +45,12 @@ pub fn examples()
         ≡ Ok (sized (guest_at 0x100000 1000 ∷ limited_to 5000 (guest_at 0x200000 2000) ∷ []) []) }
     // A second one for a guest.
     ensures a_second_limit { behind_set_up (codes "descriptors 0 1" ∷ codes "descriptors 0 zz" ∷ []) ≡ Err (Line 10 OutOfPlace) }
-    // One of a guest that is not there yet, and one behind an event.
+    // One of a guest that is not there yet, and one after an event.
     ensures a_limit_too_early { behind_set_up (codes "descriptors 2 zz" ∷ []) ≡ Err (Line 9 OutOfPlace) }
     ensures a_late_limit { behind_set_up (codes "reap 0" ∷ codes "descriptors 0 1" ∷ []) ≡ Err (Line 10 OutOfPlace) }
     // A word that is no number.
     ensures a_limit_of_letters { behind_set_up (codes "descriptors 0 zz" ∷ []) ≡ Err (Line 9 BadNumber) }
-    // A word that stands where `heap` does.
+    // A word at the position of `heap`.
     ensures no_heap { behind_set_up (codes "guest 2 range 0 1 pile 0" ∷ []) ≡ Err (Line 9 UnknownWord) }
     // A heap that is one byte too small.
     ensures a_small_heap { behind_set_up (codes "guest 2 range 0 1 heap 255" ∷ []) ≡ Err (Line 9 BadNumber) }

@@ -39,7 +39,7 @@ const HEAP_MIN: u64 = 256;
 /// The most bytes of a planner's heap.
 const HEAP_MAX: u64 = 16_777_216;
 
-// That a word is the one that always stands at its place.
+// That a word is the one that is always at its position.
 fn fixed(word: Word<'_>, want: &[u8]) -> Result<(), FaultKind>
     ensures { result ≡ fixed_word want.now word.entry }
 {
@@ -85,7 +85,7 @@ pub fn known(count: usize, word: Word<'_>) -> Result<usize, FaultKind>
     }
 }
 
-/// Makes the guest of the words behind `guest`, where there are `count` guests. It has one extent and no regions.
+/// Makes the guest from the words after `guest`, where there are `count` guests. It has one extent and no regions.
 pub fn make_guest(
     alloc: Global,
     count: usize,
@@ -115,7 +115,7 @@ impl GuestSetUp {
     ghost use Rattle.nv_once_script.specs.OnceNumber.{number_of};
     ghost use Rattle.nv_replay_script.specs.ReplaySetUp.{extended};
 
-    /// Adds the extent that a line names by these words, behind the others.
+    /// Adds the extent that a line names by these words, after the others.
     pub fn add_extent(&mut self, base: Word<'_>, blocks: Word<'_>) -> Result<(), LineFault>
         ensures { let after = extended (guest_value self.old) base.entry blocks.entry
             in MatchResult result (λ _. after ≡ Ok (guest_value self.new)) (Refuses after) }

@@ -80,7 +80,7 @@ impl OpenSizes {
         }
     }
 
-    /// The sizes behind a line that names one by this word.
+    /// The sizes after a line that names one by this word.
     pub fn name(self, size: Size, word: Word<'_>) -> Result<Self, FaultKind>
         ensures { result ≡ after_size self size word.entry }
     {

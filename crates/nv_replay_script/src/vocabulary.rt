@@ -29,7 +29,7 @@ pub enum ActKind {
 impl ActKind {
     ghost use Rattle.nv_replay_script.specs.ReplayVocabulary.{act_arguments};
 
-    /// How many words stand behind the number of its guest.
+    /// How many words follow the number of its guest.
     pub fn arguments(self) -> usize
         ensures { result ≡ act_arguments self }
     {
@@ -62,7 +62,7 @@ pub enum EventKind {
 impl EventKind {
     ghost use Rattle.nv_replay_script.specs.ReplayVocabulary.{event_arguments};
 
-    /// How many words stand behind the first.
+    /// How many words follow the first.
     pub fn arguments(self) -> usize
         ensures { result ≡ event_arguments self }
     {
@@ -96,11 +96,11 @@ pub enum Keyword {
     Await,
     /// `awaitreg`, a line of `run`
     AwaitReg,
-    /// a line of `once`, with so many words behind the first
+    /// a line of `once`, with this many words after the first
     Foreign(usize),
 }
 
-/// How many words stand behind the first of a line of `run` alone.
+/// How many words follow the first of a line of `run` alone.
 pub const AWAIT_ARGUMENTS: usize = 3;
 
 /// Every first word of every subcommand.
@@ -157,8 +157,8 @@ pub fn look_up(word: Word<'_>) -> Option<Keyword>
     look_up_any(word)
 }
 
-/// What a line is that begins with the word of an event, and what stands behind that word; `None` for a line that has to be looked at otherwise.
-/// Nearly all lines are told so, with no search for the end of their first word.
+/// What a line is that begins with the word of an event, and what follows that word; `None` for a line that has to be examined otherwise. Nearly
+/// all lines are identified in this way, with no search for the end of their first word.
 #[inline(always)]
 pub(crate) fn leading(line: &[u8]) -> Option<(Keyword, &[u8])>
     ensures { IfSome result (λ found. (first : List ℕ) × (words_of line.now ≡ first ∷ words_of found.1.now) × (keyword_of first ≡ Some found.0)) }
@@ -171,8 +171,8 @@ pub(crate) fn leading(line: &[u8]) -> Option<(Keyword, &[u8])>
     }
 }
 
-// The word of an event that this one is likely to be, as its first letters say, and what its line is. Nearly all lines of a script are told so,
-// by a comparison.
+// The word of an event that this one is likely to be, by its first letters, and what its line is. Nearly all lines of a script are identified in
+// this way, by a comparison.
 #[inline(always)]
 fn likely(word: &[u8]) -> (&'static [u8], Keyword)
     ensures { keyword_of result.0.now ≡ Some result.1 }

@@ -1,10 +1,9 @@
-//! Where a ring stands: the positions of a queue's entries, and the phase tag of a pass (Base Specification 2.0,
-//! "Memory-based Transport Queue Model", "Phase Tag").
+//! The state of a ring: the positions of a queue's entries, and the phase tag of a pass (Base Specification 2.0, "Memory-based Transport Queue
+//! Model", "Phase Tag").
 //!
-//! A [`Ring`] has `size` slots, which are numbered from 0 and go round. It is empty where head equals tail, and full
-//! where head equals the slot behind the tail, so one slot always stays empty. It says where an entry stands and never
-//! looks at one. [`Phase`] is the phase tag that a completion queue's writer gives to the entries of one pass. Nothing
-//! here takes memory.
+//! A [`Ring`] has `size` slots, which are numbered from 0 and wrap around. It is empty where head equals tail. It is full where head equals the
+//! slot after the tail, so one slot always stays empty. It says where an entry is and never reads one. [`Phase`] is the phase tag that a completion
+//! queue's writer gives to the entries of one pass. Nothing here takes memory.
 #![tactic(auto)]
 
 mod phase;

@@ -45,7 +45,7 @@ impl Phase {
         self.bit = !self.bit;
     }
 
-    /// Goes on behind the slot `at` of a ring: to the next pass where that was the ring's last slot.
+    /// Goes on after the slot `at` of a ring: to the next pass where that was the ring's last slot.
     pub fn go_on(&mut self, ring: Ring, at: u16)
         requires { at < ring.size }
         ensures { self.new ≡ phase_behind ring.size at self.old }

@@ -67,7 +67,7 @@ impl Ring {
         self.head
     }
 
-    /// The slot behind the youngest entry: the next one that is written.
+    /// The slot after the youngest entry: the next one that is written.
     pub fn tail(self) -> u16
         ensures value { result ≡ self.tail }
         ensures fits { result < self.size }
@@ -75,7 +75,7 @@ impl Ring {
         self.tail
     }
 
-    /// The slot behind a slot, going round.
+    /// The slot after a slot, wrapping around.
     pub fn next(self, at: u16) -> u16
         requires { at < self.size }
         ensures value { result ≡ next_slot self.size at }
@@ -158,7 +158,7 @@ impl Ring {
         self.head = self.next(self.head);
     }
 
-    /// Puts an entry behind the others: one entry more is there.
+    /// Puts an entry after the others: there is one entry more.
     pub fn put(&mut self)
         requires { is_full self.old.size self.old.head self.old.tail ≡ false }
         ensures value { self.new ≡ record self.old { tail = next_slot self.old.size self.old.tail } }

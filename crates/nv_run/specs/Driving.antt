@@ -1,4 +1,4 @@
--- What a guest's port is told while its thread goes through its lines (profile)
+-- What a guest's port gets while its thread goes through its lines (profile)
 use Rattle.std.specs.Prelude.{◌≡◌, ◌≢◌, ℕ, ◌<◌, All, Bool, true, false, List, [], ◌∷◌, ◌++◌, length, ⊤}
 use Rattle.std.specs.Int.{w32, to_le_bytes}
 use Rattle.nv_model.specs.declared.act.Act.{Act}
@@ -16,7 +16,7 @@ use Rattle.nv_world_model.specs.declared.event.Event.TheVariants as event
 use Rattle.nv_world_model.specs.declared.logged.Logged.{Logged}
 use Rattle.nv_world_model.specs.SetUp.{most_guests}
 
--- how often a line that waits looks
+-- how often a line that waits polls
 abbrev pub polls : ℕ
 polls = 1000000
 
@@ -28,23 +28,23 @@ told guest act reply = record { event = event.Guest guest act; reply = reply }
 abbrev pub shown : (value : ℕ) → Reply
 shown value = reply.Bytes (to_le_bytes w32 value)
 
--- what a line that waits looks at
+-- what a line that waits polls
 abbrev pub look_of : Probe → Act
 look_of (Memory addr) = act.Load addr 4
 look_of (Register offset) = act.RegRead offset
 
--- a look that did not find the value
+-- a poll that did not find the value
 pub record IsUnmet (guest : ℕ) (look : Act) (value : ℕ) (call : Logged) : Type 0 where
   pub event : call.event ≡ event.Guest guest look
   pub reply : call.reply ≢ shown value
 
--- looks of which only the last found the value
+-- polls of which only the last found the value
 pub record IsMet (guest : ℕ) (look : Act) (value : ℕ) (calls : List Logged) : Type 0 where
   pub before : List Logged
   pub unmet : All (IsUnmet guest look value) before
   pub last : calls ≡ before ++ told guest look (shown value) ∷ []
 
--- as many looks as there may be, none of which found the value
+-- as many polls as there may be, none of which found the value
 pub record IsLeft (guest : ℕ) (look : Act) (value : ℕ) (calls : List Logged) : Type 0 where
   pub unmet : All (IsUnmet guest look value) calls
   pub all : length calls ≡ polls
@@ -60,13 +60,13 @@ pub record Grows (old new : List Logged) (P : List Logged → Type 0) : Type 0 w
   pub grown : new ≡ old ++ more
   pub holds : P more
 
--- a list is some calls of which this holds, and others behind them
+-- a list is some calls of which this holds, and then others
 pub record Follows (P : List Logged → Type 0) (calls rest : List Logged) : Type 0 where
   pub first : List Logged
   pub holds : P first
   pub parted : calls ≡ first ++ rest
 
--- what a guest's port is told along a line that went well
+-- what a guest's port gets along a line that went well
 abbrev pub IsGone : (guest : ℕ) → Task → (calls : List Logged) → Type 0
 IsGone guest (task.Act act) calls = (reply : Reply) × (calls ≡ told guest act reply ∷ [])
 IsGone guest (task.Await addr value) calls = IsMet guest (act.Load addr 4) value calls
@@ -81,7 +81,7 @@ AreGone guest (line ∷ lines) calls = (rest : List Logged) × AreGone guest lin
 abbrev pub AllGone : (lines : (guest : ℕ) → List Line) → (calls : (guest : ℕ) → List Logged) → Type 0
 AllGone lines calls = (guest : ℕ) → guest < most_guests → AreGone guest (lines guest) (calls guest)
 
--- a guest that went through all its lines was told just that
+-- a guest that went through all its lines got exactly that
 abbrev pub IsThrough : (guest : ℕ) → List Line → (calls : List Logged) → End → Type 0
 IsThrough guest lines calls Through = AreGone guest lines calls
 IsThrough guest lines calls (NoCompletion line) = ⊤

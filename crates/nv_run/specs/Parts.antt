@@ -13,7 +13,7 @@ abbrev pub lines_in : Option Part → List Line
 lines_in None = []
 lines_in (Some part) = part.lines.items
 
--- what a guest is to do by a list of parts, which stand by the numbers of their guests
+-- what a guest is to do by a list of parts, which are indexed by the numbers of their guests
 abbrev pub part_of : (guest : ℕ) → List Part → List Line
 part_of guest parts = lines_in (slice_get parts guest)
 

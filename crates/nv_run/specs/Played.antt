@@ -14,8 +14,8 @@ use Rattle.nv_world.specs.Mediated.{KeepsPromise, Kept}
 
 -- ---- a run
 
--- the log keeps the whole promise, it holds what the ports were told and what the workers did and nothing else, and each guest's port was
--- told just what its lines say
+-- the log keeps the whole promise, it holds what the ports got and what the workers did and nothing else, and each guest's port got exactly what
+-- its lines say
 pub record IsPlayed (parts : List Part) (played : Played) : Type 0 where
   pub kept : played.parts.items ≡ parts
   pub promise : KeepsPromise played.world
@@ -39,7 +39,7 @@ IsPlayOf text played = (parts : List Part) × AreRead text parts × IsPlayed par
 
 -- ---- what it prints
 
--- what the guests' lines came to by what their ports were told
+-- the results of the guests' lines, by what their ports got
 abbrev pub PrintsPlayed : Played → (before after : Option (List ℕ)) → Type 0
 PrintsPlayed played before after =
     Appends before after (printed (λ guest. part_of guest played.parts.items) (λ guest. told_to guest played.ports.items))

@@ -24,12 +24,12 @@ shows value reply.Unmapped = false
 shows value reply.Ignored = false
 shows value reply.NoMemory = false
 
--- the calls behind the first that shows a value
+-- the calls after the first that shows a value
 abbrev pub behind_shown : (value : ℕ) → List Logged → List Logged
 behind_shown value [] = []
 behind_shown value (call ∷ calls) = cond (shows value call.reply) calls (behind_shown value calls)
 
--- the calls behind those that a line's answer takes up
+-- the calls after those that a line's answer takes up
 abbrev pub behind : Task → List Logged → List Logged
 behind (Act act) [] = []
 behind (Act act) (call ∷ calls) = calls
@@ -45,7 +45,7 @@ first_line guest (call ∷ calls) = reply_line guest call.reply
 abbrev pub met_line : (guest : ℕ) → List ℕ
 met_line guest = decimal guest ++ codes " met" ++ line_feed
 
--- what a line of a guest came to, of which its port was told the first of these calls
+-- the result of a guest's line for which the guest's port got the first of these calls
 abbrev pub line_of : (guest : ℕ) → Task → List Logged → List ℕ
 line_of guest (Act act) calls = first_line guest calls
 line_of guest (Await addr value) calls = met_line guest

@@ -41,7 +41,7 @@ pub struct Driven {
 
 /// Drives a guest's port through its lines, in order, to the first that doesn't end well. This waits for the world's lock.
 ///
-/// A port that was told nothing before has been told, where all lines were gone through, just what they say.
+/// A port that got nothing before has, where all lines were gone through, got exactly what they say.
 pub fn drive<R: Wait + Clock>(
     rt: &R,
     alloc: Global,
@@ -130,7 +130,7 @@ fn meet<R: Wait + Clock>(
     }
 }
 
-/// What a line that waits looks at.
+/// What a line that waits polls.
 #[derive(Clone, Copy, Debug)]
 pub(crate) enum Probe {
     /// the four bytes at this address
@@ -140,7 +140,7 @@ pub(crate) enum Probe {
 }
 
 impl Probe {
-    /// One look.
+    /// One poll.
     pub(crate) fn act(self) -> Act
         ensures { result ≡ look_of self }
     {

@@ -11,7 +11,7 @@ pub enum RunFault {
     NoMemory,
     /// what this line waits for was not met; no such line is lower
     NoCompletion { line: u64 },
-    /// the log differs from what a port was told, or from the sum of all
+    /// the log differs from what a port got, or from the sum of all
     Mismatch { guest: u8, place: u64 },
 }
 

@@ -1,14 +1,14 @@
 //! What `nvmed run` does: a script's world under a lock, each guest's lines in a thread of their own, and a line of output for each of them.
 //!
-//! [`read`] takes a script whole, and opens its world. [`play`] runs its guests beside the mediator's workers until all guests are through,
-//! and compares what the guests were told with the world's log, and with their lines. [`print`] prints what the lines came to.
+//! [`read`] takes a script whole, and opens its world. [`play`] runs its guests beside the mediator's workers until all guests are through. It then
+//! compares what the guests got with the world's log, and with their lines. [`print`] prints the results of the lines.
 //!
-//! A guest's thread goes through its lines by its port: what the port's list says of that is `specs/Driving`. What is printed is by the lines
-//! and the log alone (`specs/Shown`): `specs/Played` says of which log. Of what threads do beside each other nothing is claimed but what
+//! A guest's thread goes through its lines by its port: what the port's list says of that is in `specs/Driving`. What is printed depends on the
+//! lines and the log alone (`specs/Shown`): `specs/Played` says on which log. Of what concurrent threads do, nothing is claimed but what
 //! `nv_threads` says.
 //!
-//! A line that waits polls a million times at most. It paces its polls by the clock, so that workers have at least a second to do what it
-//! waits for; nothing is proved of time.
+//! A line that waits polls a million times at most. It paces its polls by the clock, so that workers have at least a second to do what it waits
+//! for; nothing is proved of time.
 //!
 //! That its world is the one that the text opens, and which line a wait that is never met names, is tested and not proved.
 #![tactic(auto)]

@@ -17,7 +17,7 @@ pub struct Part {
 }
 
 impl Part {
-    // Adds a line behind the others.
+    // Adds a line after the others.
     fn add(&mut self, line: Line) -> Result<(), AllocError>
         ensures ok { OnOk result (self.new.lines.items ≡ self.old.lines.items ++ line ∷ []) }
     {
@@ -26,7 +26,7 @@ impl Part {
     }
 }
 
-/// Gives each guest its lines. The parts stand by the numbers of their guests, and one that has no line has one, too.
+/// Gives each guest its lines. The parts are indexed by the numbers of their guests. A guest that has no line has a part, too.
 ///
 /// # Errors
 ///

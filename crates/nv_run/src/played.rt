@@ -19,7 +19,7 @@ use std::time::Clock;
 /// A run that ended well.
 #[derive(Drop)]
 pub struct Played {
-    /// the world behind it
+    /// the world after it
     pub world: World,
     /// the guests' ports
     pub ports: Vec<Port>,
@@ -33,8 +33,8 @@ pub struct Played {
 ///
 /// # Errors
 ///
-/// Memory was refused to a guest's thread, or to what goes on around the threads; else the lowest line whose wait wasn't met; else the
-/// first difference between the log and what ports and workers kept, or between what a port was told and what its guest's lines say.
+/// Memory was refused to a guest's thread, or to what goes on around the threads; else the lowest line whose wait wasn't met; else the first
+/// difference between the log and what ports and workers kept, or between what a port got and what its guest's lines say.
 pub fn play<R: Threads + Wait + Clock + Sync>(
     rt: &R,
     alloc: Global,
@@ -73,7 +73,8 @@ fn ports_of(alloc: Global, driven: Vec<Driven>) -> Result<Vec<Port>, AllocError>
     Ok(ports)
 }
 
-// That all guests' threads went through all their lines. Want of memory goes before a wait that was not met, and of these the lowest line.
+// That all guests' threads went through all their lines. Out of memory takes precedence over a wait that was not met. Of such waits the lowest line
+// is reported.
 fn check_ends(driven: &[Driven]) -> Result<(), RunFault> {
     let mut lowest = None;
     for one in driven {

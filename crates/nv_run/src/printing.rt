@@ -17,11 +17,12 @@ use nv_threads::{Port, told_to};
 use nv_world_model::Logged;
 use std::io::Write;
 
-/// Prints what each guest's lines came to, guest by guest, and `ok` behind them: of an act its reply, and of a wait that it was met.
+/// Prints the results of each guest's lines, guest by guest, and then `ok`. The result of an act is its reply, and that of a wait is that it was
+/// met.
 ///
 /// # Errors
 ///
-/// The output failed; what it holds is then a beginning of what was to be printed.
+/// The output failed; what it holds is then a prefix of what was to be printed.
 pub fn print<W: Write>(played: &Played, output: &mut W) -> Result<(), CannotWrite>
     ensures { OnOk result (PrintsPlayed played.now (W.contents output.old) (W.contents output.new)) }
 {
@@ -40,7 +41,7 @@ fn print_guests<W: Write>(parts: &[Part], ports: &[Port], output: &mut W) -> Res
     Ok(())
 }
 
-// Prints what a guest's lines came to, of which its port was told these calls.
+// Prints the results of a guest's lines for which the guest's port got these calls.
 fn print_guest<W: Write>(
     guest: u8,
     lines: &[Line],
@@ -57,7 +58,7 @@ fn print_guest<W: Write>(
     Ok(())
 }
 
-// Prints what a line came to, of which its guest's port was told the first of these calls.
+// Prints the result of a line for which its guest's port got the first of these calls.
 fn print_line<W: Write>(
     guest: u8,
     task: &Task,

@@ -23,7 +23,7 @@ pub struct Staged {
     pub shares: Vec<Share>,
 }
 
-// Tells the workers to stop when it goes.
+// Asks the workers to stop when it is dropped.
 struct Curtain<'a>(&'a Shared);
 
 impl Drop for Curtain<'_> {
@@ -33,8 +33,8 @@ impl Drop for Curtain<'_> {
     }
 }
 
-/// Starts the workers and a thread for each guest, and waits until all guests are through and then until all workers have stopped. On each
-/// way out, want of memory among them, all threads have ended.
+/// Starts the workers and a thread for each guest. Waits until all guests are through and then until all workers have stopped. On each way out,
+/// including out of memory, all threads have ended.
 pub fn stage<R: Threads + Wait + Clock + Sync>(
     rt: &R,
     alloc: Global,

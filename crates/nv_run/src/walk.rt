@@ -1,4 +1,4 @@
-//! A guest's lines beside what its port was told.
+//! A guest's lines compared with what its port got.
 
 ghost use Rattle.std.specs.Prelude.{◌≡◌, ◌↔◌, IfSome, IsTrue, MatchOption, OnOk, ⊤};
 ghost use Rattle.nv_run.specs.Driving.{AreGone, AllGone, Follows, IsGone, IsMet, look_of};
@@ -14,11 +14,11 @@ use nv_threads::alike::same_act;
 use nv_threads::{Mismatch, Port, told_to};
 use nv_world_model::{Event, Logged};
 
-/// That each guest's port was told just what its lines say. This takes no memory and waits for nobody.
+/// That each guest's port got exactly what its lines say. This takes no memory and waits for nobody.
 ///
 /// # Errors
 ///
-/// The lowest guest whose port was told something else, and the first place in its list, from 1.
+/// The lowest guest whose port got something else, and the first place in its list, from 1.
 pub(crate) fn check_parts(parts: &[Part], ports: &[Port]) -> Result<(), Mismatch>
     ensures { OnOk result (AllGone (λ guest. part_of guest parts.now) (λ guest. told_to guest ports.now)) }
 {
@@ -54,7 +54,7 @@ fn place_of(calls: &[Logged], left: &[Logged]) -> u64 {
     passed.saturating_add(1)
 }
 
-// The calls behind those of a line that went well; `None` where the first ones are none of that.
+// The calls after those of a line that went well; `None` where the first calls are not those of such a line.
 fn gone<'a>(guest: u8, task: &Task, calls: &'a [Logged]) -> Option<&'a [Logged]>
     ensures { IfSome result (λ rest. Follows (IsGone guest task.now) calls.now rest.now) }
 {
@@ -74,7 +74,7 @@ fn gone<'a>(guest: u8, task: &Task, calls: &'a [Logged]) -> Option<&'a [Logged]>
     }
 }
 
-// The calls behind looks of which only the last found the value; `None` where the first ones are none of that.
+// The calls after polls of which only the last found the value; `None` where the first calls are no such polls.
 fn met<'a>(guest: u8, probe: Probe, value: u32, calls: &'a [Logged]) -> Option<&'a [Logged]>
     ensures { IfSome result (λ rest. Follows (IsMet guest (look_of probe) value) calls.now rest.now) }
 {
@@ -113,7 +113,7 @@ fn is_act(event: &Event, guest: u8, act: &Act) -> bool
     }
 }
 
-/// The calls behind those that a line's answer takes up: of an act one, of a wait all up to the one that found the value.
+/// The calls after those that a line's answer takes up: of an act one, of a wait all up to the one that found the value.
 pub(crate) fn behind<'a>(task: &Task, calls: &'a [Logged]) -> &'a [Logged]
     ensures { result.now ≡ behind task.now calls.now }
 {
@@ -127,7 +127,7 @@ pub(crate) fn behind<'a>(task: &Task, calls: &'a [Logged]) -> &'a [Logged]
     }
 }
 
-// The calls behind the first whose reply shows a value; none where there is none.
+// The calls after the first whose reply shows a value; none where there is no such reply.
 fn behind_shown(value: u32, calls: &[Logged]) -> &[Logged]
     ensures { result.now ≡ behind_shown value calls.now }
 {

@@ -44,7 +44,7 @@ progress reading = record { set_up = set_up_so_far reading.set_up; lines = readi
 abbrev pub nothing : Progress
 nothing = record { set_up = no_set_up; lines = [] }
 
--- whether no guest's line has come: set-up lines stand before all others
+-- whether no guest's line has come: set-up lines come before all others
 abbrev pub is_early : List Line → Bool
 is_early [] = true
 is_early (line ∷ lines) = false
@@ -93,7 +93,7 @@ add_await_register n so_far words = do
   counted ← count_check (length words) await_arguments
   add_await_register_of n so_far words
 
--- what line n with this keyword and these words behind it adds
+-- what line n with this keyword and these words after it adds
 abbrev pub after_keyword : (n : ℕ) → Progress → Keyword → List (List ℕ) → Result Progress FaultKind
 after_keyword n so_far (keyword.SetUp kind) words = do
   set_up ← counted_set_up so_far.set_up (is_early so_far.lines) kind words

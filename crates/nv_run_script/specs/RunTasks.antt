@@ -1,4 +1,5 @@
--- The lines of guests (profile): the guest's number is read first, and that it is there is seen before the words behind it are read
+-- The lines of guests (profile): the guest's number is read first, and it is checked that the guest is there before the words after the number are
+-- read
 use Rattle.std.specs.Prelude.{ℕ, List, ◌∷◌, Result, Ok, Err}
 use Rattle.nv_once_script.specs.declared.once.fault.FaultKind.{FaultKind}
 use Rattle.nv_once_script.specs.declared.once.fault.FaultKind.TheVariants.{OutOfPlace}

@@ -18,9 +18,9 @@ pub fn examples()
     ensures nothing { script_of [] ≡ Err (Line 1 OutOfPlace) }
     // Three sizes and a guest's line.
     ensures a_size_missing { script_of (codes "host 1\nmediator 1\ndisk 1\nawait zz 0 0\n") ≡ Err (Line 4 OutOfPlace) }
-    // A map behind a guest's line.
+    // A map after a guest's line.
     ensures a_late_map { behind_set_up (codes "load 0 0 4" ∷ codes "map 0 0x20000 0 4096" ∷ []) ≡ Err (Line 10 OutOfPlace) }
-    // An extent of a guest, and one behind a guest's line.
+    // An extent of a guest, and one after a guest's line.
     ensures an_extent { behind_set_up (codes "extent 0 3000 32" ∷ []) ≡ Ok (record (of_lines []) {
       guests = extended_by (record { base = 3000; blocks = 32 } ∷ []) (guest_at 0x100000 1000) ∷ guest_at 0x200000 2000 ∷ [];
     }) }
@@ -31,7 +31,7 @@ pub fn examples()
         (record { number = 9; guest = 1; task = task.Act (act.Store 0x3000 (0xab ∷ 0xcd ∷ [])) }
         ∷ record { number = 12; guest = 0; task = task.Await 0x1101c 0x00010002 }
         ∷ record { number = 13; guest = 1; task = task.AwaitReg 0x1c 0 } ∷ [])) }
-    // A guest that is not set up: that is seen before the words behind its number are read.
+    // A guest that is not set up: that is seen before the words after its number are read.
     ensures no_such_guest { behind_set_up (codes "load 2 zz 4" ∷ []) ≡ Err (Line 9 OutOfPlace) }
     // The same of a guest that waits.
     ensures no_such_waiting_guest { behind_set_up (codes "await 2 zz 0" ∷ []) ≡ Err (Line 9 OutOfPlace) }

@@ -32,7 +32,7 @@ abbrev pub begins_array : List (List (List ℕ)) → Bool
 begins_array chain =
     option_map_or (λ d. names_array (kind_of d)) (slice_get (newest chain) (length (newest chain) - 1)) false
 
--- the chain with more descriptors of one array: the array's first ones come in front, the later ones stand behind those
+-- the chain with more descriptors of one array: the array's first ones come in front, the later ones come after those
 abbrev pub grown_by : Bool → List (List (List ℕ)) → List (List ℕ) → List (List (List ℕ))
 grown_by true chain descriptors = descriptors ∷ chain
 grown_by false chain descriptors = (newest chain ++ descriptors) ∷ older_of chain

@@ -1,5 +1,5 @@
--- Where a parse stands between two descriptors of an array: Base Specification 2.0, "Scatter Gather List (SGL)" (SGL segments). The
--- limit on the descriptors that may still be read is the project's own (profile).
+-- The position of a parse between two descriptors of an array: Base Specification 2.0, "Scatter Gather List (SGL)" (SGL segments). The limit on the
+-- descriptors that may still be read is the project's own (profile).
 use Rattle.std.specs.Prelude.{◌≡◌, ℕ, ◌+◌, ◌-◌, ◌*◌, ◌^◌, ◌<◌, ◌≤◌, Bool, ◌&&◌, nat_lt, List, ◌++◌, None, is_none}
 use Rattle.nv_entry.specs.Descriptor.{kind_of}
 use Rattle.nv_mem.specs.Places.{total_len}
@@ -21,7 +21,7 @@ array_at c = record { from = c.from; left = c.left; by_last = c.by_last }
 abbrev pub is_asking : Cursor → Bool
 is_asking c = is_none c.fault && nat_lt 0 c.left && nat_lt 0 c.budget
 
--- what is read from there on, where these pieces stand before
+-- what is read from there on, where these pieces come before
 unfoldable pub reading_from : (ℕ → Bool) → Bool → Cursor → List Piece → Dialogue Reading
 reading_from mapped dest c pieces = unless_faulty c.fault (read_array mapped dest c.budget c.left c.from c.by_last pieces)
 
@@ -30,7 +30,7 @@ pub record IsInRange (c : Cursor) : Type 0 where
   pub array : c.from + 16 * c.left ≤ 2 ^ 64
   pub total : c.total + (2 ^ 32 - 1) * c.budget < 2 ^ 64
 
--- the cursor `to` is behind the descriptor `d`, where `rest` was behind it before it was looked at
+-- the cursor `to` is after the descriptor `d`, where `rest` was after it before it was examined
 pub record StandsBehind (mapped : ℕ → Bool) (dest : Bool) (rest : Cursor) (d : List ℕ) (to : Cursor) : Type 0 where
   pub fault : to.fault ≡ fault_by (kind_of d) mapped (array_at rest) d
   pub array : to.fault ≡ None → array_at to ≡ array_by (kind_of d) (array_at rest) d
@@ -56,7 +56,7 @@ pub record IsParse (dest : Bool) (c : Cursor) (chain : List (List (List ℕ))) :
   pub in_range : IsInRange c
   pub total : c.total ≡ total_len (pieces_in dest chain)
 
--- the parse that stands there
+-- the parse at that position
 abbrev pub parse_at : List Region → Bool → ℕ → Cursor → List (List (List ℕ)) → Parse
 parse_at regions dest need c chain =
     record { regions = regions; dest = dest; need = need; budget = c.budget; ahead = array_at c; fault = c.fault; chain = chain }

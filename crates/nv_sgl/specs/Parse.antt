@@ -1,6 +1,5 @@
--- What a parse of a list means: the dialogue that it has still to lead. The list's reading stands in nv_model: Base Specification
--- 2.0, "Scatter Gather List (SGL)"; a list whose bytes are not those of the transfer: "Status Field Definition" (Data SGL Length
--- Invalid).
+-- What a parse of a list means: the dialogue that it still has to go through. The reading of the list is in nv_model: Base Specification 2.0,
+-- "Scatter Gather List (SGL)"; a list whose bytes are not those of the transfer: "Status Field Definition" (Data SGL Length Invalid).
 use Rattle.std.specs.Prelude.{ℕ, Bool, List, Option}
 use Rattle.nv_entry.specs.declared.status_code.StatusCode.{StatusCode}
 use Rattle.nv_mem.specs.declared.piece.Piece.{Piece}

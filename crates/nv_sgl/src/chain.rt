@@ -105,8 +105,8 @@ impl<A: Allocator> Chain<A> {
         }
     }
 
-    /// Reads the descriptors in these bytes, from the cursor on, and gives the cursor behind them. Where no memory is left, the
-    /// chain is as it was.
+    /// Reads the descriptors in these bytes, from the cursor on, and returns the cursor after them. Where no memory is left, the chain is as it
+    /// was.
     #[inline(always)]
     pub(crate) fn read(
         &mut self,

@@ -1,4 +1,4 @@
-//! Where a parse of a scatter gather list stands, and how it goes on descriptor by descriptor.
+//! The position of a parse of a scatter gather list, and how it goes on descriptor by descriptor.
 
 ghost use Rattle.std.specs.Prelude.{◌≡◌, Bool, List, false, None, Some, ◌+◌, ◌-◌, ◌*◌, ◌<◌, ◌≤◌};
 ghost use Rattle.std.specs.Prelude.{◌^◌, ◌%◌, ◌++◌, IsTrue, IfOk, OnErr, OnOk, max, min, true, length, option_to_list};
@@ -22,10 +22,10 @@ use std::alloc::Allocator;
 /// How many descriptors of an array are wanted at once, at most.
 const PART: u32 = PART_SIZE / 16;
 
-/// Where a parse stands between two descriptors.
+/// The position of a parse between two descriptors.
 #[derive(Clone, Copy)]
 pub struct Cursor {
-    /// The guest address of the next descriptor of the array. Behind the last one it may be 2 to the 64.
+    /// The guest address of the next descriptor of the array. After the last one it may be 2 to the 64.
     pub from: u128,
     /// How many descriptors of the array are left.
     pub left: u32,
@@ -40,7 +40,7 @@ pub struct Cursor {
 }
 
 impl Cursor {
-    /// Behind the command's own descriptor, before it was looked at: it is the first of the list and last in an array of one.
+    /// The cursor after the command's own descriptor, before that was examined: it is the first of the list and last in an array of one.
     pub fn at_own(limit: u32) -> Self
         requires { 0 < limit }
         ensures { result ≡ record { from = 0; left = 0; by_last = false; budget = limit - 1; total = 0; fault = None } }
@@ -71,8 +71,8 @@ impl Cursor {
         given.max(self.left.min(self.budget) as usize)
     }
 
-    /// What a parse that stands here wants to be fed, for a transfer of `need` bytes, or how it ended. The bytes of an array are wanted
-    /// from its start on, 4,096 at a time, the last what is left.
+    /// What a parse at this position wants to be fed, for a transfer of `need` bytes, or how it ended. The bytes of an array are wanted from its
+    /// start on, 4,096 at a time, and the last time what is left.
     #[inline(always)]
     pub fn wants(&self, need: u64) -> Want
         requires { IsInRange self.now }
@@ -104,7 +104,7 @@ impl Cursor {
         }
     }
 
-    /// Goes behind the next descriptor, before it is looked at.
+    /// Moves past the next descriptor, before it is examined.
     #[inline(always)]
     pub fn pass_one(&mut self)
         requires left { 0 < self.old.left }
@@ -130,7 +130,7 @@ impl Cursor {
         }
     }
 
-    // Behind so many descriptors more, all Data Blocks that are mapped, where `total` bytes are named until there.
+    // The cursor after this many more descriptors, all Data Blocks that are mapped, where `total` bytes are named up to there.
     #[inline(always)]
     fn behind_blocks(self, count: u32, total: u64) -> Self
         requires left { count ≤ self.left }
@@ -147,7 +147,7 @@ impl Cursor {
         }
     }
 
-    /// Looks at `d`, behind which `self` is.
+    /// Examines `d`, after which `self` is.
     #[inline(always)]
     pub fn look_at(&mut self, map: &GuestMap, dest: bool, d: &Descriptor)
         requires array { self.old.from + 16 * self.old.left ≤ 2 ^ 64 }
@@ -161,8 +161,8 @@ impl Cursor {
         }
     }
 
-    // Looks at `d`, behind which `self` is, and adds the piece that it names. A Data Block, the most
-    // frequent of them, is told from the others once for both.
+    // Examines `d`, after which `self` is, and adds the piece that it names. A Data Block, the most frequent of them, is distinguished from the
+    // others once for both.
     #[inline(always)]
     fn take(
         &mut self,
@@ -223,7 +223,7 @@ impl Cursor {
         }
     }
 
-    // Goes on with the array that is read behind `d`.
+    // Goes on with the array that is read after `d`.
     #[inline(always)]
     fn follow(&mut self, d: &Descriptor)
         ensures array { array_at self.new ≡ array_by (kind_of d.now) (array_at self.old) d.now }
@@ -242,7 +242,7 @@ impl Cursor {
         }
     }
 
-    // The first check that `d` fails, where `self` is behind it.
+    // The first check that `d` fails, where `self` is after it.
     #[inline(always)]
     fn fault_of(&self, map: &GuestMap, d: &Descriptor) -> Option<StatusCode>
         ensures value { result ≡ fault_by (kind_of d.now) (mapped map.now.regions) (array_at self.now) d.now }
@@ -325,8 +325,8 @@ pub fn piece_of(d: &Descriptor, dest: bool) -> Option<Piece>
     }
 }
 
-/// Reads the descriptors in these bytes, from the cursor on, behind `blocks`, and gives the cursor behind them. Room for the array is
-/// taken at once, with its first bytes. Where no memory is left, the blocks are as they were.
+/// Reads the descriptors in these bytes, from the cursor on, after `blocks`, and returns the cursor after them. Room for the array is reserved at
+/// once, with its first bytes. Where no memory is left, the blocks are as they were.
 #[inline(always)]
 pub fn read_part<A: Allocator>(
     map: &GuestMap,
@@ -411,8 +411,8 @@ fn push_block(d: &Descriptor, _dest: bool, places: &mut Places) -> Result<(), No
     Ok(())
 }
 
-/// Reads the descriptors in these bytes, from the cursor on, adds the pieces that they name, and gives the cursor behind them. Room for
-/// those of the array is taken at once.
+/// Reads the descriptors in these bytes, from the cursor on, adds the pieces that they name, and returns the cursor after them. Room for those of
+/// the array is reserved at once.
 #[inline(always)]
 pub fn read_places(
     map: &GuestMap,

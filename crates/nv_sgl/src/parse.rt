@@ -17,7 +17,7 @@ use nv_model::limits::MOST_DESCRIPTORS;
 use std::alloc::{Allocator, Global};
 use std::marker::Model;
 
-/// The reading of a list, part by part. It never looks at the guest's memory itself: it says which bytes it wants, and is fed them.
+/// The reading of a list, part by part. It never reads the guest's memory itself: it says which bytes it wants, and is fed them.
 #[derive(Drop)]
 pub struct SglParse<'a, A: Allocator + Clone> {
     map: &'a GuestMap,

@@ -1,5 +1,5 @@
--- Tags as they are kept: states, claims and leaders, one beside the other; and of each tag that may lead, the tags behind it, as a number
--- with a bit for each. No contract of a public function names this.
+-- Tags as they are kept: states, claims and leaders, side by side; and for each tag that may lead, the tags that follow it, as a number with a bit
+-- for each. No contract of a public function names this.
 use Rattle.std.specs.Prelude.{◌≡◌, ℕ, ◌<◌, ◌==◌, ◌&&◌, not, Bool, if◌then◌else◌, List, [], ◌∷◌, length, slice_index, slice_index_or}
 use Rattle.std.specs.Int.{bit_at}
 use Rattle.std.specs.List.{filter, range_with_len}
@@ -29,7 +29,7 @@ is_free_at states tag = is_free_state (slice_index_or states tag state.Free)
 unfoldable pub free_states : List TagState → List ℕ
 free_states states = filter (is_free_at states) (range_with_len 0 (length states))
 
--- whether a tag is behind that leader in its group
+-- whether a tag follows that leader in its group
 abbrev pub is_behind : List TagState → (leaders : List ℕ) → (leader tag : ℕ) → Bool
 is_behind states leaders leader tag =
     not (is_free_at states tag) && (slice_index leaders tag == leader && not (tag == leader))
@@ -49,6 +49,6 @@ pub record AreKept (states : List TagState) (claims : List Claim) (leaders group
   pub groups_are : length groups ≡ tag_count
   -- each goes by a tag that there is
   pub led : (tag : ℕ) → tag < tag_count → slice_index leaders tag < tag_count
-  -- a bit is set exactly where the tag is behind that leader
+  -- a bit is set exactly where the tag follows that leader
   pub behind : (leader tag : ℕ) → leader < tag_count → tag < tag_count
       → bit_at (slice_index groups leader) tag ≡ bit (is_behind states leaders leader tag)

@@ -24,7 +24,7 @@ pub struct Tags {
     claims: [Claim; 64],
     // the tag that each tag's command goes by
     leaders: [u8; 64],
-    // of each tag, those behind it in the group that goes by it, a bit for each
+    // for each tag, those that follow it in the group that goes by it, a bit for each
     groups: [u64; 64],
 }
 

@@ -34,17 +34,17 @@ acts_of guest log = filter (λ l. is_act_of guest l.event) log
 abbrev pub ports_of : (guest : ℕ) → (ports : List Told) → ℕ
 ports_of guest ports = count_by (λ p. p.guest == guest) ports
 
--- what a guest's port was told; nothing where it has none
+-- what a guest's port got; nothing where it has none
 abbrev pub told_to : (guest : ℕ) → (ports : List Told) → List Logged
 told_to guest [] = []
 told_to guest (p ∷ ports) = if p.guest == guest then p.calls else told_to guest ports
 
--- a guest has no two ports, and what the log has of it is what its port was told
+-- a guest has no two ports, and what the log has of it is what its port got
 pub record IsTold (log : List Logged) (ports : List Told) (guest : ℕ) : Type 0 where
   pub single : ports_of guest ports ≤ 1
   pub same : acts_of guest log ≡ told_to guest ports
 
--- all that ports were told, and all that workers put into the log
+-- all that ports got, and all that workers put into the log
 abbrev pub counted : (ports : List Told) → (shares : List ℕ) → ℕ
 counted ports shares = sum_by (λ p. length p.calls) ports + sum shares
 
@@ -62,7 +62,7 @@ pub record DifferAt (place : ℕ) (xs ys : List Logged) : Type 0 where
   pub before : take index xs ≡ take index ys
   pub there : slice_get xs index ≢ slice_get ys index
 
--- a guest has two ports, for which place 0 stands; or it has at most one, and that is the first place at which the log differs from it
+-- a guest has two ports, which place 0 represents; or it has at most one, and that is the first place at which the log differs from it
 abbrev pub DiffersAt : (log : List Logged) → (ports : List Told) → (guest place : ℕ) → Type 0
 DiffersAt log ports guest place =
     (1 < ports_of guest ports) × (place ≡ 0)
@@ -73,7 +73,7 @@ pub record IsLowest (log : List Logged) (ports : List Told) (guest place : ℕ) 
   pub below : (lower : ℕ) → lower < guest → IsTold log ports lower
   pub here : DiffersAt log ports guest place
 
--- no guest differs, but the sum does: guest 255 and place 0 stand for it
+-- no guest differs, but the sum does: guest 255 and place 0 represent it
 pub record IsSumOff (log : List Logged) (ports : List Told) (shares : List ℕ) (guest place : ℕ) : Type 0 where
   pub last : guest ≡ 255
   pub nowhere : place ≡ 0

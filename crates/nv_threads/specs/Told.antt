@@ -1,4 +1,4 @@
--- What a port was told, and how long the answers to acts are (profile).
+-- What a port got, and how long the answers to acts are (profile).
 use Rattle.std.specs.Prelude.{ℕ, ◌%◌, ◌==◌, if◌then◌else◌, List, length, Option, Some, None}
 use Rattle.nv_mem.specs.GuestMap.{all_mapped}
 use Rattle.nv_model.specs.declared.act.Act.{Act}

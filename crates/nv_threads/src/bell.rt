@@ -4,7 +4,7 @@ use std::sync::{Condvar, Wait};
 use std::time::Duration;
 use std::{hint, thread};
 
-/// How often it looks whether the bell was rung, before it lets other threads run.
+/// How often it polls whether the bell was rung, before it lets other threads run.
 const SPINS: u32 = 30;
 
 /// How often it then lets other threads run, before it sleeps.
@@ -13,8 +13,8 @@ const YIELDS: u32 = 30;
 /// How long it sleeps then at most, in microseconds. So late is what's done at the latest that nobody rings for.
 const NAP: u64 = 1_000;
 
-/// A bell that is rung for those who wait by it. It counts how often that was, so nobody has to hold the world's lock to see whether to
-/// look at the world again, and a bell that is rung before the wait begins is not missed.
+/// A bell that notifies those who wait for it. It counts how often it was rung, so nobody has to hold the world's lock to see whether to poll the
+/// world again. A bell that is rung before the wait begins is not missed.
 #[derive(Drop)]
 pub(crate) struct Bell {
     rung: Condvar,
@@ -38,8 +38,8 @@ impl Bell {
         self.rung.notifications()
     }
 
-    /// Waits until it was rung more often than `seen`, or for a short time; whether it was rung. What is waited for mostly comes within some
-    /// microseconds, so the thread looks for a while, then lets others run between two looks, and only then sleeps.
+    /// Waits until it was rung more often than `seen`, or for a short time; returns whether it was rung. What is waited for mostly comes within
+    /// some microseconds. So the thread polls for a while, then lets others run between two polls, and only then sleeps.
     pub(crate) fn wait<R: Wait>(&self, rt: &R, seen: u64) -> bool {
         for _ in 0..SPINS {
             if self.rings() != seen {

@@ -7,7 +7,7 @@ pub(crate) fn bit(number: u8) -> u64 {
     1u64.rotate_left(u32::from(number))
 }
 
-/// The next member behind a number, going round; `None` of the empty set.
+/// The next member after a number, wrapping around; `None` for the empty set.
 pub(crate) fn next_behind(set: u64, number: u8) -> Option<u8>
     ensures { IfSome result (λ next. next < 64) }
 {

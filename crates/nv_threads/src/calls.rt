@@ -1,4 +1,4 @@
-//! What the log has of a guest, beside what its port was told.
+//! What the log has of a guest, compared with what its port got.
 
 ghost use Rattle.std.specs.Prelude.{◌≡◌, ℕ, ◌≤◌, ◌↔◌, ◌==◌, [], false, IsTrue, MatchOption, slice_get, Some};
 ghost use Rattle.nv_threads.specs.Finished.{DifferAt, DiffersAt, IsTold, acts_of, is_act_of, ports_of, told_to};
@@ -45,8 +45,8 @@ fn actor(event: &Event) -> Option<u8>
     }
 }
 
-/// Where the log's acts of a guest differ from what its port was told; `None` where they don't. The log is gone through only where
-/// one of them has some.
+/// Where the log's acts of a guest differ from what its port got; `None` where they don't. The log is gone through only where one of the two has
+/// some.
 pub(crate) fn difference(log: &[Logged], ports: &[Port], guest: u8, acts: bool) -> Option<u64>
     requires { acts ≡ false → acts_of guest log.now ≡ [] }
     ensures { MatchOption result (IsTold log.now ports.now guest) (λ place. DiffersAt log.now ports.now guest place) }
@@ -68,7 +68,7 @@ fn is_single(ports: &[Port], guest: u8) -> bool
     ports.iter().filter(|port| port.guest() == guest).count() <= 1
 }
 
-/// What a guest's port was told; nothing where it has none. Of several ports of a guest it is the first.
+/// What a guest's port got; nothing where it has none. Of several ports of a guest it is the first.
 pub fn told_to(ports: &[Port], guest: u8) -> &[Logged]
     ensures { result.now ≡ told_to guest ports.now }
 {
@@ -123,7 +123,7 @@ fn act_of(event: &Event, guest: u8) -> Option<&Act>
     }
 }
 
-// Whether a port was told what is logged, which is that act of its guest.
+// Whether a port got what is logged, which is that act of its guest.
 fn is_told(told: &Logged, guest: u8, act: &Act, logged: &Logged) -> bool
     requires { logged.now.event ≡ Event.Guest guest act.now }
     ensures { IsTrue result ↔ (told.now ≡ logged.now) }

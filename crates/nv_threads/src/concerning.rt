@@ -1,7 +1,7 @@
-//! Whom an event concerns beside the one who goes on with its command: the planners of its guest.
+//! Whom an event concerns besides the one who goes on with its command: the planners of its guest.
 //!
-//! They are rung for where another entry may be in front of a queue, or the one in front has other bytes, and a lane is short of tags; and where a
-//! deletion can be finished.
+//! They are notified where another entry may be at the front of a queue, or the one at the front has other bytes, and a lane is short of tags; and
+//! where a deletion can be finished.
 
 use crate::concern::Concern;
 use crate::ending::brought_up;
@@ -77,7 +77,7 @@ fn by_reaper(locked: &mut Locked, alloc: Global) -> Concern {
     told.unwrap_or(Concern::nobody())
 }
 
-// Guest 0's planners are rung for where they should be, and no others are.
+// Guest 0's planners are notified where they should be, and no others are.
 fn expect_planners(rt: &impl Abort, told: Concern, are_rung_for: bool, behind: &str) {
     assert_eq!(rt; told.planners, u64::from(are_rung_for), "behind {behind}");
 }

@@ -20,10 +20,10 @@ const SLOTS: usize = 64;
 /// How many units a command has at most: a block each.
 const UNITS: u64 = 65_536;
 
-/// Takes the physical commands of a lane, moves their units in order and completes them, until the workers are to stop. Where there is
-/// no memory for a step, it is tried again. Commands that were in the lane before, some of whose units may have moved, go on, too.
+/// Takes the physical commands of a lane, moves their units in order and completes them, until the workers are to stop. Where there is no memory
+/// for a step, it is tried again. Commands that were in the lane before, some of whose units may have moved, go on, too.
 ///
-/// This waits for the world's lock. It tells how many events it put into the log.
+/// This waits for the world's lock. It returns how many events it put into the log.
 pub fn device_loop<R: Wait + Clock>(rt: &R, alloc: Global, shared: &Shared, lane: u8) -> Share {
     let mut device = LaneDevice::new(lane, shared.was_used(lane));
     let bell = shared.bells.device(lane);
@@ -49,11 +49,11 @@ pub fn device_loop<R: Wait + Clock>(rt: &R, alloc: Global, shared: &Shared, lane
 #[derive(Debug, Drop)]
 pub(crate) struct LaneDevice {
     pub(crate) lane: u8,
-    // the slot that was looked at last
+    // the slot that was checked last
     pub(crate) slot: u8,
     // whether some slot may hold a command
     held: bool,
-    // whether all slots are looked at next, and not only those whose tags are noted as taken
+    // whether all slots are checked next, and not only those whose tags are noted as taken
     thorough: bool,
     // the next unit of each slot's command
     pub(crate) units: [u64; SLOTS],
@@ -101,7 +101,7 @@ impl LaneDevice {
         self.look_further()
     }
 
-    // Nobody rang for a while: all slots are looked at once more.
+    // No notification came for a while: all slots are checked once more.
     pub(crate) fn look_everywhere(&mut self) {
         self.held = true;
         self.thorough = true;
@@ -149,8 +149,8 @@ impl LaneDevice {
         Some(concern)
     }
 
-    // The next slot behind the last whose command has something due goes on. Where there is none, no slot holds a command, as far as is
-    // known. A slot has the number of its command's tag, so those of free tags hold none.
+    // After the last slot, the next slot whose command has something due goes on. Where there is none, no slot holds a command, as far as is known.
+    // A slot has the number of its command's tag, so those of free tags hold none.
     fn turn_to_another(&mut self, locked: &mut Locked, alloc: Global) -> Option<Concern> {
         let mut left = if self.thorough {
             u64::MAX

@@ -1,7 +1,7 @@
 //! How many parts of a command are noted as ended once its planner is through with it.
 //!
-//! A Dataset Management has a part in each extent. Those that none of its ranges meets have ended once it is handed on, and all have where it is
-//! answered or given up. Then the lane's reaper is rung for, and else the physical controller.
+//! A Dataset Management has a part in each extent. The parts that none of its ranges meets have ended once it is handed on. All have ended where it
+//! is answered or given up. Then the lane's reaper is notified, and else the physical controller.
 
 use crate::concern::Concern;
 use crate::locked::Locked;
@@ -25,7 +25,7 @@ use std::test::Fail;
 const TURNS: u32 = 1_000;
 
 /// A Dataset Management of guest 0 with one range, by its first block and how many it has; whether there is no memory for its plan; and how many
-/// parts it has, and how many of them have ended behind it.
+/// parts it has, and how many of them have ended after it.
 struct Case {
     extents: Extents,
     start: u8,
@@ -146,7 +146,7 @@ fn plan(locked: &mut Locked, alloc: Global, is_starved: bool) -> [u64; 2] {
                 let planned = planned(&locked.world, alloc, job, is_starved);
                 go_on(&mut planner, locked, Prepared::of(planned))
             }
-            // with no plan that is fed, the job is looked at again
+            // with no plan that is fed, the job is examined again
             Turn::Read(_, _) => Some(Concern::nobody()),
             Turn::Done(told) => Some(told),
             Turn::Nothing => None,
@@ -159,7 +159,7 @@ fn plan(locked: &mut Locked, alloc: Global, is_starved: bool) -> [u64; 2] {
     rung
 }
 
-// So many parts are noted as ended, no more and no fewer: with the others and one of another command, which is posted behind this one, one is left
+// This many parts are noted as ended, no more and no fewer: with the others and one of another command, which is posted after this one, one is left
 // and then none.
 fn expect_ended(rt: &impl Abort, notes: &mut Notes, case: &Case) {
     let others = case.parts.saturating_sub(case.ended);

@@ -13,7 +13,7 @@ pub(crate) enum Fed {
     Whole(Job),
     /// There was no memory for the plan of that tag's command.
     NoMemory(u8),
-    /// The plan is gone: the job of that tag is to be looked at again.
+    /// The plan is gone: the job of that tag is to be examined again.
     Lost(u8),
 }
 

@@ -11,14 +11,14 @@ use crate::sums::adds_up;
 use nv_world::World;
 use nv_world_model::Logged;
 
-/// Compares the log with what ports and workers kept: no guest has two ports, the log's acts of each guest with their replies are what
-/// its port was told, in order (none where it has no port), and the log is as long as all that ports were told and workers put into it.
-/// This takes no memory and waits for nobody; the log is gone through once, and once more for each guest that has a port.
+/// Compares the log with what ports and workers kept: no guest has two ports; the log's acts of each guest with their replies are what its port
+/// got, in order (none where it has no port); and the log is as long as all that ports got and workers put into it. This takes no memory and waits
+/// for nobody. The log is gone through once, and once more for each guest that has a port.
 ///
 /// # Errors
 ///
-/// The lowest guest that differs, and the first place. A guest with two ports differs at place 0, before any other place of its own; the
-/// sum comes last, as guest 255 and place 0.
+/// The lowest guest that differs, and the first place. A guest with two ports differs at place 0, before any other place of its own. The sum comes
+/// last, as guest 255 and place 0.
 pub fn finish(world: &World, ports: &[Port], shares: &[Share]) -> Result<(), Mismatch>
     ensures ok { OnOk result (IsFinished world.now.log ports.now shares.now) }
     ensures err { IfErr result (λ m. IsFirstMismatch world.now.log ports.now shares.now m.guest m.place) }

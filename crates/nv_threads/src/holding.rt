@@ -1,7 +1,7 @@
 //! A worker makes one event at most while it holds the world's lock.
 //!
-//! Each has nothing to do at first. Then somebody takes the lock, gives it several events to make, waits until it waits for the lock, and tells
-//! it to stop. So it makes one event, or none.
+//! Each worker has nothing to do at first. Then somebody takes the lock, gives the worker several events to make, waits until it waits for the
+//! lock, and asks it to stop. So it makes one event, or none.
 
 use crate::device_side::device_loop;
 use crate::gate::Open;
@@ -74,7 +74,7 @@ const FOR_DEVICE: [Event; 2] = [Event::Take(0, 1, 0), Event::Submit(0, 0)];
 
 const FOR_REAPER: [Event; 1] = [Event::DevPost(0, 0)];
 
-// Guest 0 has queue pair 1, with a Read for which it has not rung.
+// Guest 0 has queue pair 1, with a Read for which it has not rung the doorbell.
 fn brought_up(alloc: Global) -> Result<World, Fail> {
     let mut world = opened(alloc, &ONE)?;
     let mut acts = Vec::new(alloc);
@@ -128,7 +128,7 @@ fn give(world: &mut World, alloc: Global, worker: Worker) {
     }
 }
 
-// The worker works, until it is told to stop.
+// The worker works, until it is asked to stop.
 fn works<R: Wait + Clock>(rt: &R, alloc: Global, shared: &Shared, worker: Worker) -> Share {
     match worker {
         Worker::Planner => planner(rt, alloc, shared, 0, 0, &Open, HEAP),
@@ -137,7 +137,7 @@ fn works<R: Wait + Clock>(rt: &R, alloc: Global, shared: &Shared, worker: Worker
     }
 }
 
-// Gives a worker what it has to do, and tells it to stop, under one hold of the lock.
+// Gives a worker what it has to do, and asks it to stop, under one hold of the lock.
 fn gives<R: Wait + Clock>(rt: &R, alloc: Global, shared: &Shared, worker: Worker) {
     thread::sleep(rt, Duration::from_millis(A_WHILE));
     let mut locked = shared.lock(rt);

@@ -1,22 +1,22 @@
 //! The mediator under threads: a lock round the world, the ports of guests, and the workers that carry their commands out.
 //!
-//! - [`Shared`] is the world under one lock, beside a flag that tells the workers to stop, of which nothing is claimed. Each change of the
-//!   world is one `World::step` or one `World::submit_plan` while the lock is held. What a `World`'s type keeps arrives with each guard,
-//!   and is what `World::log` says: the world is where its log leads from the start of its set-up on, each step in it is contained, and it
-//!   keeps the whole promise. So the log that threads made together is one history, and whatever is proved of logs holds of it.
+//! - [`Shared`] is the world under one lock, beside a flag that asks the workers to stop. Nothing is claimed of the flag. Each change of the world
+//!   is one `World::step` or one `World::submit_plan` while the lock is held. What a `World`'s type maintains comes with each guard, and is what
+//!   `World::log` says: the world is where its log leads from the start of its set-up on, each step in it is contained, and it keeps the whole
+//!   promise. So the log that threads made together is one history, and whatever is proved of logs holds of it.
 //! - [`Port`] is what a guest acts by. It keeps its own list of events with the replies that it gave back.
-//! - [`planner`], [`reaper`] and [`device_loop`] are the workers. They make an event only where it is due under the same hold of the
-//!   lock, so waiting logs nothing. What is wanted of a command's lists is found outside the lock, by a plan that is fed, read by read; once all
-//!   is read, a [`Gate`] makes the plan. Both live in a heap of the planner's own.
-//! - A worker that finds nothing to do waits outside the lock, for a bell. Whoever has made an event rings for those whom it concerns, and
-//!   a wait ends by itself after a millisecond or so. So may a guest wait for what was posted to it ([`Shared::wait_for_news`]). Beside the
-//!   world is noted which tags are not free, and whose they are, so that workers need not look at others. Nothing is claimed of bells or
-//!   notes: which event is due the world says.
-//! - [`finish`] compares the log with what ports and workers kept. After `Ok` each reply that a port gave is that of one history, which
-//!   holds each of the port's calls once, in its order.
+//! - [`planner`], [`reaper`] and [`device_loop`] are the workers. They make an event only where it is due under the same hold of the lock, so
+//!   waiting logs nothing. What is wanted of a command's lists is found outside the lock, by a plan that is fed, read by read. Once all is read, a
+//!   [`Gate`] makes the plan. Both are in a heap of the planner's own.
+//! - A worker that finds nothing to do waits outside the lock, for a bell. The one that has made an event notifies those whom it concerns, and a
+//!   wait ends by itself after a millisecond or so. A guest may wait in the same way for what was posted to it ([`Shared::wait_for_news`]). Notes
+//!   beside the world say which tags are not free, and whose they are, so that workers need not check others. Nothing is claimed of bells or notes:
+//!   the world says which event is due.
+//! - [`finish`] compares the log with what ports and workers kept. After `Ok` each reply that a port gave is that of one history, which holds each
+//!   of the port's calls once, in its order.
 //!
-//! [`Port::act`], a gate's `plan` and the three workers may wait: what is said of them holds if they return. Nothing says that a thread
-//! gets on, or that a guest, a planner or the device ever gets a turn.
+//! [`Port::act`], a gate's `plan` and the three workers may wait: what is said of them holds if they return. Nothing says that a thread makes
+//! progress, or that a guest, a planner or the device ever gets a turn.
 #![tactic(auto)]
 
 pub mod alike;

@@ -50,7 +50,7 @@ impl Errand {
 }
 
 impl Locked {
-    /// Notes what an act tells that the guest has done, and says whom it concerns.
+    /// Notes what an act says that the guest has done, and returns whom it concerns.
     pub(crate) fn concern(&mut self, guest: u8, errand: Errand) -> Concern {
         match errand {
             Errand::Nothing => Concern::nobody(),

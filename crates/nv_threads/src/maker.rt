@@ -17,7 +17,7 @@ pub(crate) enum Prepared {
     Plan(Plan),
     /// There was no memory for the plan of that tag's command.
     NoMemory(u8),
-    /// The job of that tag is to be looked at again.
+    /// The job of that tag is to be examined again.
     Again(u8),
 }
 

@@ -17,18 +17,18 @@ const TAGS: usize = 64;
 /// How many guests there are at most.
 const GUESTS: usize = 16;
 
-/// What is noted of each lane: where workers look first, and so hold the lock for less. What is due the world alone says.
+/// What is noted of each lane: where workers check first, and so hold the lock for less time. Only the world says what is due.
 #[derive(Clone, Copy, Debug)]
 pub(crate) struct Notes {
     lanes: [LaneNotes; LANES],
-    // of each guest, for which I/O queues it has rung: no other has entries that wait
+    // for each guest, the I/O queues whose doorbells it has rung: no other has entries that wait
     queues: [u64; GUESTS],
     // how many extents the namespace has that has most: no command takes more tags
     most: u8,
 }
 
 impl Notes {
-    /// What there is to be noted of a world as it stands. Its log is gone through once.
+    /// What there is to be noted of a world as it is. Its log is gone through once.
     pub(crate) fn of(world: &World) -> Self {
         let mut notes = Notes {
             lanes: [LaneNotes::new(); LANES],
@@ -64,7 +64,7 @@ impl Notes {
         }
     }
 
-    /// The queues of a guest that may have entries, as a set: those for which it has rung.
+    /// The queues of a guest that may have entries, as a set: those whose doorbells it has rung.
     pub(crate) fn queues(&self, guest: u8) -> u64 {
         match self.queues.get(usize::from(guest)) {
             Some(queues) => *queues,
@@ -193,7 +193,7 @@ fn most_extents(world: &World) -> u8 {
     most
 }
 
-// How many tags a command has that has these behind the one that it goes by.
+// How many tags a command has that has these after the one that it goes by.
 fn size_with(behind: u64) -> u64 {
     if behind == 0 {
         1

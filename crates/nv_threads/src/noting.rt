@@ -176,7 +176,7 @@ fn expect_noted(rt: &impl Abort, notes: &Notes) {
     assert_eq!(rt; notes.owner(LAST_LANE, 0), Some(LAST));
 }
 
-// Both parts may have ended, and no more: with one of another command, which is posted before this one, one is left and then none. Behind the
+// Both parts may have ended, and no more: with one of another command, which is posted before this one, one is left and then none. After the
 // command's own post nothing is noted of it.
 fn expect_posted(rt: &impl Abort, notes: &mut Notes) {
     let _concern = notes.post(LAST_LANE, 63);
@@ -218,7 +218,7 @@ fn completed(device: &mut LaneDevice, locked: &mut Locked, alloc: Global) -> usi
         .count()
 }
 
-// The physical controller looks at all slots first, and then at those alone that are noted: it goes on with each part of a command.
+// The physical controller checks all slots first, and then only those that are noted: it goes on with each part of a command.
 #[test]
 fn each_part_of_a_command_goes_on(rt: HostRuntime) -> Result<(), Fail> {
     let world = waiting(rt.alloc())?;

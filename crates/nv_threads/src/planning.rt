@@ -25,14 +25,14 @@ const TAGS: u8 = 64;
 /// The highest number of a guest's I/O queue; the lowest is 1.
 const LAST_QUEUE: u16 = 8;
 
-/// Takes and plans the commands of a guest by a lane, until the workers are to stop: its admin commands, and those of its I/O queues.
-/// Where a plan wants bytes that were not read, they are read; where there is no memory for one, the command is given up. What is wanted
-/// next is found by a plan that is fed, read by read, so that each read costs the same however many were made before. Plans are made by the
-/// gate. Both happen outside the lock, in a heap of `heap_bytes` bytes, and the gate has all of it; where there is no memory for the heap
-/// itself, every command is given up. Where there is no memory for a job, for the copy of the guest's map or for a step, it is tried again.
-/// A guest that isn't there has nothing to be planned.
+/// Takes and plans the commands of a guest on a lane, until the workers are to stop: its admin commands, and those of its I/O queues. Where a plan
+/// wants bytes that were not read, they are read. Where there is no memory for a plan, the command is given up. What is wanted next is found by a
+/// plan that is fed, read by read, so that each read costs the same however many were made before. Plans are made by the gate. Both happen outside
+/// the lock, in a heap of `heap_bytes` bytes, and the gate has all of it. Where there is no memory for the heap itself, every command is given up.
+/// Where there is no memory for a job, for the copy of the guest's map or for a step, it is tried again. A guest that isn't there has nothing to be
+/// planned.
 ///
-/// This waits for the world's lock, and for the gate. It tells how many events it put into the log.
+/// This waits for the world's lock, and for the gate. It returns how many events it put into the log.
 pub fn planner<G: Gate, R: Wait + Clock>(
     rt: &R,
     alloc: Global,
@@ -124,7 +124,7 @@ pub(crate) struct GuestPlanner {
     pub(crate) queue: u16,
     // the tag that a command was found at last
     pub(crate) tag: u8,
-    // whether commands may be left that were taken before it came: then its own are looked for as among these
+    // whether commands may be left that were taken before it came: then its own are searched for as if among these
     thorough: bool,
     pub(crate) task: Task,
     share: Share,
@@ -144,7 +144,7 @@ impl GuestPlanner {
         }
     }
 
-    // What is done under the lock: one event, or a look at one job.
+    // What is done under the lock: one event, or a check of one job.
     pub(crate) fn turn(&mut self, locked: &mut Locked, alloc: Global) -> Turn {
         match self.task {
             Task::Search(looked) => self.search(&locked.world, alloc, looked),
@@ -166,7 +166,8 @@ impl GuestPlanner {
         Some(Concern::nobody())
     }
 
-    // Hands a plan over: whom it concerns. Where it is stale its job is looked at again; where there was no memory, too, and this is `None`.
+    // Hands a plan over, and returns whom it concerns. Where the plan is stale, its job is examined again. Where there was no memory, the job is
+    // examined again, too, and this is `None`.
     pub(crate) fn submit(&mut self, locked: &mut Locked, plan: Plan) -> Option<Concern> {
         let tag = plan.job().tag;
         let is_answer = matches!(plan.kind(), PlanKind::Answer(_));
@@ -199,8 +200,8 @@ impl GuestPlanner {
         Concern::device(self.lane)
     }
 
-    // Looks at a tag behind the last that had a command of the guest's, itself the first, for another that was taken. A tag that another
-    // planner's command has costs a copy of what was read for it.
+    // Checks a tag for another command that was taken. The tags checked are those from the last tag on that had a command of the guest's, that tag
+    // itself first. A tag that another planner's command has costs a copy of what was read for it.
     fn search(&mut self, world: &World, alloc: Global, looked: u8) -> Turn {
         let tag = self.tag.wrapping_add(looked) % TAGS;
         match self.own_job(world, alloc, tag) {
@@ -217,8 +218,8 @@ impl GuestPlanner {
         }
     }
 
-    // What is done behind a look at a tag that had nothing, where so many were looked at before it. Where no tag has a command of the guest's that
-    // was taken, only this planner's own will be to be found.
+    // What is done after a check of a tag that had nothing, where this many were checked before it. Where no tag has a command of the guest's that
+    // was taken, only this planner's own will have to be found.
     fn go_behind(&mut self, looked: u8) {
         let looked = looked.saturating_add(1);
         if looked < TAGS {
@@ -235,7 +236,7 @@ impl GuestPlanner {
         Ok(job.filter(|job| job.guest == self.guest))
     }
 
-    // Takes up an admin command, or takes a command of the next queue, behind the last, that has one. Queues for which the guest has not rung
+    // Takes up an admin command, or takes a command of the next queue, after the last, that has one. Queues whose doorbells the guest has not rung
     // have none.
     fn take_up(&mut self, locked: &mut Locked, alloc: Global) -> Turn {
         let admin = Event::Admin(self.guest);
@@ -258,7 +259,7 @@ impl GuestPlanner {
     }
 
     // What is done where there is nothing to be taken up. Several commands may have been taken before the planner came, and a search ends with the
-    // first of them: the next is looked for now, until there is none.
+    // first of them. So the next is searched for now, until there is none.
     fn search_again(&mut self) -> Turn {
         if !self.thorough {
             return Turn::Nothing;
@@ -278,8 +279,8 @@ impl GuestPlanner {
         }
     }
 
-    // Takes a command. The tag that it goes by is to be looked for: first where it should be, where there is no other. The entry behind it is
-    // in front now, and may want fewer tags than it did: it may be one for the guest's planner on another lane.
+    // Takes a command. The tag that it goes by has to be searched for: first where it should be, where there is no other. The entry after the
+    // command is at the front now, and may need fewer tags than the command did: it may be one for the guest's planner on another lane.
     fn take(&mut self, locked: &mut Locked, alloc: Global, take: Event) -> Turn {
         match self.share.step(&mut locked.world, alloc, take) {
             Reply::Done => {
@@ -294,7 +295,7 @@ impl GuestPlanner {
         }
     }
 
-    // The job of a tag as it stands. Where the command was dropped, there is another to be taken up.
+    // The job of a tag as it is. Where the command was dropped, another is to be taken up.
     fn plan(&mut self, world: &World, alloc: Global, tag: u8) -> Turn {
         match self.own_job(world, alloc, tag) {
             Ok(Some(job)) => Turn::Job(job),

@@ -14,10 +14,10 @@ use std::time::Clock;
 /// How many tags a lane has.
 const TAGS: u8 = 64;
 
-/// Reaps the completions of a lane, and posts the commands that have ended to their guests, until the workers are to stop. Where there
-/// is no memory for a step, it is tried again.
+/// Reaps the completions of a lane, and posts the commands that have ended to their guests, until the workers are to stop. Where there is no memory
+/// for a step, it is tried again.
 ///
-/// This waits for the world's lock. It tells how many events it put into the log.
+/// This waits for the world's lock. It returns how many events it put into the log.
 pub fn reaper<R: Wait + Clock>(rt: &R, alloc: Global, shared: &Shared, lane: u8) -> Share {
     let mut reaper = LaneReaper::new(lane);
     let bell = shared.bells.reaper(lane);
@@ -41,7 +41,7 @@ pub(crate) struct LaneReaper {
     pub(crate) lane: u8,
     // the tag whose command was posted last
     pub(crate) tag: u8,
-    // whether all tags are looked at, and not only those by which commands go, and these only where some have ended, as far as is noted
+    // whether all tags are checked, and not only those by which commands go, and these only where some have ended, as far as is noted
     pub(crate) thorough: bool,
     share: Share,
 }
@@ -76,8 +76,8 @@ impl LaneReaper {
         Some(Concern::nobody())
     }
 
-    // Posts the command that goes by a tag. Behind it, a deletion may be finished that waited for it; and what it wrote may lie in an entry
-    // that waits.
+    // Posts the command that goes by a tag. After it, a deletion that waited for it may be finished; and what it wrote may be in an entry that
+    // waits.
     fn post(&mut self, locked: &mut Locked, alloc: Global, tag: u8) -> Option<Concern> {
         let post = Event::Post(self.lane, tag);
         if !is_done(self.share.step(&mut locked.world, alloc, post)) {
@@ -90,7 +90,7 @@ impl LaneReaper {
         Some(concern)
     }
 
-    // The next tag whose command may be completed, behind the one that was the last.
+    // The next tag, after the last one, whose command may be completed.
     fn ended(&self, locked: &Locked) -> Option<u8> {
         let mut left = if self.thorough {
             u64::MAX

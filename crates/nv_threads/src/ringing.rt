@@ -27,7 +27,7 @@ use std::thread;
 use std::thread::{Threads, join};
 use std::time::{Clock, Duration};
 
-/// How often is looked whether a bell was rung, a millisecond apart.
+/// How often it is checked whether a bell was rung, a millisecond apart.
 const LOOKS: u32 = 5_000;
 
 /// How often a guest waits for news that there is.
@@ -36,7 +36,7 @@ const WAITS: u32 = 200_000;
 /// A heap with room for a plan.
 const HEAP: u64 = 65_536;
 
-// Which bells were rung so often, or more: those of guests, planners, reapers and physical controllers, a set each.
+// Which bells were rung at least so often: those of guests, planners, reapers and physical controllers, a set each.
 fn rung(bells: &Bells, times: u64) -> [u64; 4] {
     let mut rung = [0; 4];
     for number in 0..16 {
@@ -57,7 +57,7 @@ fn rung(bells: &Bells, times: u64) -> [u64; 4] {
     [guests, planners, reapers % 256, devices % 256]
 }
 
-/// Bells that are rung, each a number of its own and some together.
+/// Bells that are rung, each with a number of its own and some together.
 const CALLED: [Concern; 3] = [
     Concern {
         guests: 0x8005,
@@ -133,7 +133,7 @@ fn takes<R: Wait>(rt: &R, shared: &Shared) {
     }
 }
 
-// Holds the lock until a thread sleeps on it, and tells the workers to stop; whether one did.
+// Holds the lock until a thread sleeps on it, and signals the workers to stop; whether one slept on it.
 fn holds<R: Wait + Clock>(rt: &R, shared: &Shared) -> bool {
     let locked = shared.lock(rt);
     for _look in 0..LOOKS {
@@ -261,7 +261,7 @@ fn a_post_rings_for_planners_where_tags_were_few(rt: HostRuntime) -> Result<(), 
     Ok(())
 }
 
-/// A gate that tells the workers to stop, and makes the plan.
+/// A gate that signals the workers to stop, and makes the plan.
 #[derive(Drop)]
 struct Last<'a> {
     shared: &'a Shared,
@@ -305,7 +305,7 @@ fn waiting(alloc: Global) -> Result<World, Fail> {
     Ok(world)
 }
 
-// Tells the workers to stop once a bell was rung.
+// Signals the workers to stop once a bell was rung.
 fn stops<C: Clock>(clock: &C, shared: &Shared, bell: &Bell) {
     for _look in 0..LOOKS {
         if bell.rings() != 0 {
@@ -322,7 +322,7 @@ fn plans<R: Wait + Clock>(rt: &R, alloc: Global, shared: &Shared) {
     let _share = planner(rt, alloc, shared, 0, 0, &gate, HEAP);
 }
 
-// Which bells it rings, beside all of them once, and the world behind it.
+// Which bells it rings, in addition to all of them once, and the world after it.
 fn planned<R: Wait + Clock>(rt: &R, alloc: Global, world: World) -> ([u64; 4], World) {
     let shared = Shared::new(world);
     plans(rt, alloc, &shared);

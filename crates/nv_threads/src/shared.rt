@@ -31,7 +31,7 @@ pub struct Shared {
 }
 
 impl Shared {
-    /// The world under a lock that nobody holds. Its tags are looked at and its log is gone through once.
+    /// The world under a lock that nobody holds. Its tags are read and its log is read through, once each.
     pub fn new(world: World) -> Self {
         let notes = Notes::of(&world);
         Shared {
@@ -43,7 +43,7 @@ impl Shared {
         }
     }
 
-    /// Tells the workers to stop: each ends at its next turn.
+    /// Signals the workers to stop: each ends at its next turn.
     pub fn stop(&self) {
         self.stopped.store(true, Ordering::SeqCst);
         self.bells.ring_all();
@@ -60,8 +60,8 @@ impl Shared {
         self.bells.guest(guest).rings()
     }
 
-    /// Waits until there is more news for a guest than had been seen, or for a millisecond or so. A guest that asks how much news there is
-    /// before it looks at the world misses none.
+    /// Waits until there is more news for a guest than had been seen, or for a millisecond or so. A guest that asks how much news there is before
+    /// it reads the world misses none.
     pub fn wait_for_news<R: Wait>(&self, rt: &R, guest: u8, seen: u64) {
         let _rung = self.bells.guest(guest).wait(rt, seen);
     }
@@ -95,8 +95,8 @@ impl Shared {
         }
     }
 
-    /// The world behind all that was done under the lock. It is where its log leads, from the start of its set-up on; each step in the log
-    /// is contained; and the log keeps the whole promise.
+    /// The world after all that was done under the lock. It is where its log leads, from the start of its set-up on; each step in the log is
+    /// contained; and the log keeps the whole promise.
     pub fn close(self) -> World
         ensures accepted { refusal_of (setup_of result) ≡ None }
         ensures replayed { IsReplay result.geometry (world_at_start (setup_of result)) result.log (world_of result.state) }

@@ -1,10 +1,10 @@
-//! The workers without threads, one turn at a time in an order of chance, beside those of the start, whose code is in `start` as it was.
+//! The workers without threads, one turn at a time in random order, beside the original workers, whose code is in `start` as it was.
 //!
-//! Both have a world of their own, in which the same guests act. Where a worker gets a turn, that of the start gets one, too, and both must
-//! make the same event with the same answer, or none. One that waits for a bell which was not rung makes none: then that of the start must have found none
-//! where it looked at all. A guest to which something was posted has news. Its planners are rung for where another entry may be in front of its queue and
-//! a lane is short of tags. From time to time both worlds are shared anew, so that workers come to commands that are under way. Guests have one extent
-//! each, or several, so that their commands take several tags and tags run out.
+//! Both have a world of their own, in which the same guests act. Where a worker gets a turn, the original one gets one, too. Both must make the
+//! same event with the same answer, or none. A worker that waits for a bell which was not rung makes none: then the original one must have found
+//! none where it checked everything. A guest to which something was posted has news. Its planners are notified where another entry may be at the
+//! front of its queue and a lane is short of tags. From time to time both worlds are shared anew, so that workers start with commands that are
+//! under way. Guests have one extent each, or several, so that their commands take several tags and tags run out.
 
 use crate::alike::{same_act, same_reply};
 use crate::bits::bit;
@@ -49,7 +49,7 @@ const PHASE: u32 = 2_000;
 
 const PHASES: u32 = 7;
 
-/// Behind how many turns notes are held against the world.
+/// After how many turns notes are compared with the world.
 const CHECKED: u32 = 61;
 
 /// How many turns workers have alone until all commands have run out.
@@ -98,7 +98,7 @@ fn are_alike(one: &Logged, other: &Logged) -> bool {
     same && same_reply(&one.reply, &other.reply)
 }
 
-/// A worker, and whether it waits for its bell, and whether that was rung since it looked last.
+/// A worker, and whether it waits for its bell, and whether that was rung since its last poll.
 #[derive(Drop)]
 struct Seat<T> {
     worker: T,
@@ -115,7 +115,7 @@ impl<T> Seat<T> {
         }
     }
 
-    // Whether it looks now: it doesn't wait, its bell was rung, or it has waited long enough.
+    // Whether it polls now: it doesn't wait, its bell was rung, or it has waited long enough.
     fn looks(&self, is_late: bool) -> bool {
         !self.waits || self.is_rung || is_late
     }
@@ -154,12 +154,12 @@ struct Simulation<'a> {
     // how often a lane had no free tag, and how often some but fewer than a command may take
     full: u64,
     short: u64,
-    // how often a worker that waited was rung for
+    // how often a worker that waited was notified
     woken: u64,
     // how many plans had several parts, and how many of these had one that is no physical command
     parted: u64,
     idle: u64,
-    // how many commands were taken where a lane was short of tags, so that its guest's other planners were rung for
+    // how many commands were taken where a lane was short of tags, so that its guest's other planners were notified
     passed: u64,
     // how often a guest disabled its controller
     resets: u64,
@@ -200,7 +200,7 @@ impl<'a> Simulation<'a> {
         })
     }
 
-    // Workers come to both worlds as they are, in the place of others, behind commands that somebody else has taken.
+    // Workers start on both worlds as they are, in the place of others, after somebody else has taken commands.
     fn share(&mut self, chance: &mut Chance) -> Result<(), Fail> {
         for guest in 0..GUESTS {
             for lane in 0..LANES {
@@ -226,7 +226,7 @@ impl<'a> Simulation<'a> {
         }
     }
 
-    // Workers that have looked at nothing yet.
+    // Workers that have polled nothing yet.
     fn sit_down(&mut self) -> Result<(), Fail> {
         let used = self.locked.notes.served();
         self.planners = Vec::new(self.alloc);
@@ -264,7 +264,7 @@ impl<'a> Simulation<'a> {
         }
     }
 
-    // Whether both logs have the same behind so many events.
+    // Whether both logs have the same entries after so many events.
     fn went_alike(&self, before: usize) -> bool {
         let then = self.start.world.log().get(before..);
         let now = self.locked.world.log().get(before..);
@@ -280,12 +280,12 @@ impl<'a> Simulation<'a> {
         }
     }
 
-    // What the last event was, where it was made behind so many.
+    // What the last event was, where it was made after so many.
     fn made(&self, before: usize) -> Option<Move> {
         moved(&self.locked.world.log().get(before)?.event)
     }
 
-    // A guest's act, in both worlds; whether it was told to whom it should.
+    // A guest's act, in both worlds; whether those that should be notified were.
     fn act(&mut self, guest: u8, act: Act) -> Result<bool, Fail> {
         let errand = Errand::of(&act);
         let is_store = is_store(&act);
@@ -298,7 +298,7 @@ impl<'a> Simulation<'a> {
         Ok(!is_store || self.has_rung(guest, concern))
     }
 
-    // Whether a guest's planners were rung for behind an event that may have brought another entry in front, where a lane has tags free, but
+    // Whether a guest's planners were notified after an event that may have brought another entry to the front, where a lane has tags free, but
     // fewer than some command takes.
     fn has_rung(&self, guest: u8, told: Concern) -> bool {
         for lane in 0..LANES {
@@ -310,7 +310,7 @@ impl<'a> Simulation<'a> {
         true
     }
 
-    // What a guest does next, by chance; whether it was told to whom it should.
+    // What a guest does next, by chance; whether those that should be notified were.
     fn guest_turn(&mut self, guest: u8, chance: &mut Chance, heeds: bool) -> Result<bool, Fail> {
         let Some(seat) = self.guests.get_mut(usize::from(guest)) else {
             return Ok(false);
@@ -323,7 +323,7 @@ impl<'a> Simulation<'a> {
         Ok(is_right)
     }
 
-    // A turn of a lane's reaper; whether it told whom it should.
+    // A turn of a lane's reaper; whether it notified those it should.
     fn reaper_turn(&mut self, lane: u8, is_late: bool) -> bool {
         let before = self.locked.world.log().len();
         let notes = self.locked.notes;
@@ -404,7 +404,7 @@ impl<'a> Simulation<'a> {
         false
     }
 
-    // Turns of a planner until it has made an event or has none to make; whether they came to an end, and told whom they should.
+    // Turns of a planner until it has made an event or has none to make; whether they came to an end, and notified those they should.
     fn planner_turn<R: Wait + Clock>(
         &mut self,
         rt: &R,
@@ -438,7 +438,8 @@ impl<'a> Simulation<'a> {
         Ok(false)
     }
 
-    // Whether the event behind so many was told to its guest, where it has an admin command's answer. Whose commands were taken is noted.
+    // Whether the guest was notified of the event after so many, where that event has an admin command's answer. Whose commands were taken is
+    // noted.
     fn has_told(&mut self, before: usize, told: Concern) -> Result<bool, Fail> {
         let logged = self.locked.world.log().get(before);
         self.ended.follow(&self.locked.notes, logged);
@@ -522,8 +523,8 @@ impl<'a> Simulation<'a> {
             })
     }
 
-    // One turn of somebody, by chance; whether it was what it should be. In one phase of four the physical controller stands still, in one
-    // the reapers, and in one no guest tells that it has looked at completions. One plan in sixteen finds no memory.
+    // One turn of somebody, by chance; whether it was as it should be. In one phase of four the physical controller has no turns, in one the
+    // reapers have none, and in one no guest reports that it has read completions. One plan in sixteen finds no memory.
     fn turn<R: Wait + Clock>(
         &mut self,
         rt: &R,
@@ -587,7 +588,7 @@ fn has_idle_part(plan: &Plan) -> bool {
     is_bounced && (0..plan.parts()).any(|part| plan.part_len(part) == 0)
 }
 
-// Where the owner of a lane's tag stands.
+// Where the owner of a lane's tag is stored.
 fn place_of(lane: u8, tag: u8) -> usize {
     usize::from(lane) * usize::from(TAGS) + usize::from(tag)
 }
@@ -631,7 +632,7 @@ fn simulated<'a, R: Abort + Wait + Clock>(
     Ok(simulation)
 }
 
-// Ends the test where a worker did something else than it should, or where a lane never was full, nobody was ever rung for or no plan was fed.
+// Ends the test where a worker did something other than it should, or where no lane was ever full, nobody was ever notified or no plan was fed.
 fn simulate<'a, R: Abort + Wait + Clock>(
     rt: &R,
     alloc: Global,

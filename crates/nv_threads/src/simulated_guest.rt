@@ -38,7 +38,7 @@ const ADMIN: u64 = 0x1_0000;
 
 const QUEUE: u64 = 0x1_3000;
 
-/// Where it writes the ranges of Dataset Managements, and in how many places one behind the other.
+/// Where it writes the ranges of Dataset Managements, and in how many places one after the other.
 const RANGES: u64 = 0x1_8000;
 
 const PLACES: u64 = 16;
@@ -140,7 +140,7 @@ fn range(chance: &mut Chance) -> [u8; 16] {
     bytes
 }
 
-/// A guest: where it writes its next entries. It looks at no reply, so what it does is not always disciplined.
+/// A guest: where it writes its next entries. It checks no reply, so what it does is not always disciplined.
 #[derive(Drop)]
 pub(crate) struct Guest {
     admin: u32,
@@ -170,7 +170,7 @@ impl Guest {
         self.identifier
     }
 
-    /// What it does next: a few acts. It tells that it has looked at completions only where it heeds them.
+    /// What it does next: a few acts. It reports that it has read completions only where it heeds them.
     pub(crate) fn acts(
         &mut self,
         alloc: Global,

@@ -7,7 +7,7 @@ use nv_world::World;
 use std::alloc::Global;
 use std::test::Fail;
 
-/// How many turns without an event a planner, and the physical controller on a lane, may have one behind the other.
+/// How many turns in a row a planner, and the physical controller on a lane, may have without an event.
 pub(crate) const LOOKS: u32 = 200;
 
 pub(crate) const PASSES: u32 = 140_000;
@@ -76,8 +76,8 @@ impl Start {
         false
     }
 
-    /// Turns of the physical controller on a lane until it has made an event or has none to make; whether they came to an end. Behind a turn in
-    /// vain it may go on to units further behind, and behind two it doesn't.
+    /// Turns of the physical controller on a lane until it has made an event or has none to make; whether they came to an end. After one turn
+    /// without a result it may go on to later units. After two it doesn't.
     pub(crate) fn device_turn(&mut self, lane: u8) -> bool {
         let before = self.world.log().len();
         let Some(device) = self.devices.get_mut(usize::from(lane)) else {

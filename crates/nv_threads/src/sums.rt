@@ -6,7 +6,7 @@ ghost use Rattle.nv_threads.specs.Finished.{counted};
 use crate::port::Port;
 use crate::share::Share;
 
-/// Whether so many events are all that ports were told and all that workers put into the log.
+/// Whether so many events are all that were reported to ports and all that workers put into the log.
 pub(crate) fn adds_up(events: usize, ports: &[Port], shares: &[Share]) -> bool
     ensures { IsTrue result ↔ (events ≡ counted ports.now shares.now) }
 {

@@ -6,7 +6,7 @@ use nv_plan::{Job, ReadDone};
 /// What a planner does next.
 #[derive(Clone, Copy, Debug)]
 pub(crate) enum Task {
-    /// It looks for a tag of its lane with a command of its guest's that was taken, and has looked at so many.
+    /// It searches for a tag of its lane with a command of its guest's that was taken, and has examined so many.
     Search(u8),
     /// It takes up an admin command, or takes a command.
     TakeUp,

@@ -31,7 +31,7 @@ IsIoQueue queue = (0 < queue) × (queue ≤ last_queue)
 abbrev pub with_cc : (value : ℕ) → Controller → Controller
 with_cc value c = record c { cc = value }
 
--- the controller behind a call that may be ignored
+-- the controller after a call that may be ignored
 abbrev pub or_unchanged : Controller → Option Controller → Controller
 or_unchanged c None = c
 or_unchanged c (Some after) = after
@@ -46,7 +46,7 @@ abbrev pub posted_or_held : Option Posted → Reply
 posted_or_held None = reply.Held
 posted_or_held (Some p) = reply.Done
 
--- the controller behind a completion, if it is posted
+-- the controller after a completion, if it is posted
 abbrev pub controller_behind : Controller → Option Posted → Controller
 controller_behind c None = c
 controller_behind c (Some p) = p.controller

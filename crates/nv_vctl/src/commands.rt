@@ -1,4 +1,4 @@
-//! Commands: looked at, taken, completed, or run out.
+//! Commands: read, taken, completed, or run out.
 
 ghost use Rattle.std.specs.Prelude.{◌≡◌, ◌<◌, ℕ, Bool, IsSome, length, slice_index, true, false};
 ghost use Rattle.nv_mem.specs.GuestMap.{mapped};

@@ -1,4 +1,4 @@
-//! A guest's queues: where they lie in its memory, and where they stand.
+//! A guest's queues: where they are in its memory, and their positions.
 
 ghost use Rattle.std.specs.Prelude.{◌≡◌, ◌+◌, ◌*◌, ◌<◌, ◌≤◌, ◌^◌, ◌&&◌, ◌↔◌, IsTrue, if◌then◌else◌, Some, is_some, nat_le, nat_lt, not, true, false};
 ghost use Rattle.nv_model.specs.Controller.{front_of};
@@ -17,8 +17,8 @@ pub(crate) const SQE_SIZE: u64 = 64;
 /// The bytes of a completion queue entry.
 pub(crate) const CQE_SIZE: u64 = 16;
 
-/// A submission queue: where its first slot lies in the guest's memory, where it stands, the completion queue that it uses,
-/// and whether it is being deleted.
+/// A submission queue: where its first slot is in the guest's memory, its positions, the completion queue that it uses, and whether it is being
+/// deleted.
 #[derive(Clone, Copy, Debug, PartialEq, Eq)]
 pub(crate) struct SubmissionQueue {
     pub(crate) base: u64,
@@ -49,7 +49,7 @@ impl Model for SubmissionQueue {
     } };
 }
 
-/// A completion queue: where its first slot lies in the guest's memory, where it stands, and the phase tag of its pass.
+/// A completion queue: where its first slot is in the guest's memory, its positions, and the phase tag of its pass.
 #[derive(Clone, Copy, Debug, PartialEq, Eq)]
 pub(crate) struct CompletionQueue {
     pub(crate) base: u64,

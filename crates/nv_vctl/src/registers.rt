@@ -223,7 +223,7 @@ pub(crate) fn enables(value: u32) -> bool
     value & 1 == 1
 }
 
-// The size of an admin queue, which stands in the low 12 bits of AQA, or of AQA's upper half, counted from 0.
+// The size of an admin queue, which is in the low 12 bits of AQA, or of AQA's upper half, counted from 0.
 fn admin_size(sizes: u32) -> u16
     ensures value { result ≡ bits sizes 11 0 + 1 }
     ensures fits { result ≤ 4096 }

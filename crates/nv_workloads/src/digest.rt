@@ -74,7 +74,7 @@ impl Digest {
         }
     }
 
-    // Takes eight bytes in, behind those that make no whole word yet.
+    // Takes eight bytes in, after those that make no whole word yet.
     fn word(&mut self, word: u64) {
         let bits = self.bits % 64;
         let whole = self.word | word.wrapping_shl(bits);

@@ -121,20 +121,20 @@ pub fn length_and_kind(len: u64, kind: u32) -> u64 {
     len % 0x1_0000_0000 | u64::from(kind).wrapping_shl(32)
 }
 
-/// Puts a descriptor behind a list.
+/// Appends a descriptor to a list.
 pub fn push_descriptor(list: &mut Vec<u8>, addr: u64, len: u64, kind: u32) -> Result<(), NoMemory> {
     list.extend_from_slice(&addr.to_le_bytes())?;
     list.extend_from_slice(&length_and_kind(len, kind).to_le_bytes())?;
     Ok(())
 }
 
-/// Puts the address of a page behind a list.
+/// Appends the address of a page to a list.
 pub fn push_page(list: &mut Vec<u8>, addr: u64) -> Result<(), NoMemory> {
     list.extend_from_slice(&addr.to_le_bytes())?;
     Ok(())
 }
 
-/// Puts a range of blocks behind a list.
+/// Appends a range of blocks to a list.
 pub fn push_range(list: &mut Vec<u8>, start: u64, blocks: u64) -> Result<(), NoMemory> {
     list.extend_from_slice(&[0; 4])?;
     list.extend_from_slice(&halves(blocks).0.to_le_bytes())?;

@@ -21,7 +21,7 @@ pub trait Hosted {
     /// Carries out an event, and answers it.
     fn step(&mut self, alloc: Global, event: Event) -> Reply;
 
-    /// Carries out a plan that was made elsewhere; Stale where it was made of what stands no more.
+    /// Carries out a plan that was made elsewhere; Stale where what it was made of is no longer current.
     fn submit_plan(&mut self, plan: Plan) -> Reply;
 
     /// Whether an event of a worker would be done now.
@@ -39,7 +39,7 @@ pub trait Hosted {
     /// Whether a block of the disk is kept when power is lost.
     fn kept(&self, block: u64) -> Option<bool>;
 
-    /// How many events were carried out: those that were refused for want of memory and plans that were stale are none.
+    /// How many events were carried out: those that were refused because memory ran out, and plans that were stale, don't count.
     fn events(&self) -> u64;
 }
 

@@ -21,8 +21,8 @@ const TRANSFER: u64 = 0x2_0000;
 
 const PAGE: u64 = 4096;
 
-/// Where the lists stand: one array of descriptors, one of descriptors some of which discard, one whose last descriptor is faulty, arrays that
-/// are chained, a chain of pages, and ranges.
+/// Where the lists are: one array of descriptors, one of descriptors some of which discard, one whose last descriptor is faulty, arrays that are
+/// chained, a chain of pages, and ranges.
 const ARRAY: u64 = 0x10_0000;
 
 const DISCARDING: u64 = 0x11_0000;
@@ -184,7 +184,7 @@ impl Lists {
         Ok(())
     }
 
-    // The addresses of a transfer's pages behind the first, on a list page that ends early and names the next one.
+    // The addresses of a transfer's pages after the first, on a list page that ends early and names the next one.
     fn pages(&mut self) -> Result<Vec<u8>, NoMemory> {
         let mut list = Vec::new(self.alloc);
         for slot in 0..63u64 {

@@ -1,6 +1,6 @@
-//! The workloads of the benchmark: jobs that users of the mediator wait for, made from a seed and put through the crates' public calls.
+//! The workloads of the benchmark: jobs that users of the mediator wait for, made from a seed and run through the crates' public calls.
 //!
-//! `nv_workloads NAME SEED COUNT` does one with so many commands, and prints a digest of all its results:
+//! `nv_workloads NAME SEED COUNT` runs one with so many commands, and prints a digest of all its results:
 //!
 //! - `replay`: a script of `nvmed replay`, 8 guests on 4 lanes;
 //! - `host`: a host that steps a world of 16 guests on 8 lanes, with plans made outside of it;
@@ -11,13 +11,13 @@
 //! - `awkward`: a host whose guests' memory is scattered, on the largest disk, and some of whose guests are hostile or slow;
 //! - `extents`: a host of 16 guests on 8 lanes, each of which has eight extents, with one command in four over a join.
 //!
-//! With the word `script` behind these it prints the script instead, for other programs of the same language; of `host` and `awkward` it is the
-//! script of `nvmed replay` with the same events, but for plans that are stale.
+//! With the word `script` after these it prints the script instead, for other programs of the same language. For `host` and `awkward` it is the
+//! script of `nvmed replay` with the same events, except for plans that are stale.
 //!
-//! `nv_workloads forever SEED EVENTS` goes on for so many events, in rounds of a million: 16 guests of a mediator that keeps no log, some of
-//! them hostile, slow or reset. Each round is of the same commands, and prints how many events there were so far and a digest of their answers.
+//! `nv_workloads forever SEED EVENTS` goes on for so many events, in rounds of a million: 16 guests of a mediator that keeps no log, some of them
+//! hostile, slow or reset. Each round has the same commands, and prints how many events there were so far and a digest of their answers.
 //!
-//! It is proved to be safe, and to end but for the threads that `guests` and `loops` wait for. What it prints is not proved.
+//! It is proved to be safe, and to terminate except for the threads that `guests` and `loops` wait for. What it prints is not proved.
 #![tactic(auto)]
 
 mod digest;
@@ -92,7 +92,7 @@ fn answer<R: Threads + Wait + Clock + Sync + Print>(
     }
 }
 
-// Goes on for so many events, in rounds, and prints a line behind each: how many events there were so far, and the digest of their answers.
+// Goes on for so many events, in rounds, and prints a line after each: how many events there were so far, and the digest of their answers.
 fn go_on<R: Print>(rt: &R, alloc: Global, seed: u64, events: u64) -> io::Result<()> {
     let Ok(mut forever) = Forever::new(alloc, seed) else {
         return rt.println("failed");

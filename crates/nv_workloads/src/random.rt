@@ -1,6 +1,6 @@
-//! Numbers that look random, the same for each seed.
+//! Pseudorandom numbers, the same for each seed.
 
-/// A generator of numbers that look random: SplitMix64, as Steele, Lea and Flood published it.
+/// A generator of pseudorandom numbers: SplitMix64, as Steele, Lea and Flood published it.
 #[derive(Clone, Copy, Debug)]
 pub struct Random {
     state: u64,

@@ -28,13 +28,13 @@ impl Text {
         self.bytes.as_slice()
     }
 
-    /// Puts a line behind the text: a word, and numbers behind it.
+    /// Appends a line to the text: a word, and then numbers.
     pub fn line(&mut self, word: &str, numbers: &[u64]) -> Result<(), NoMemory> {
         self.words(word, numbers)?;
         self.end()
     }
 
-    /// Puts a line behind the text: a word, numbers, and bytes in digits of base 16.
+    /// Appends a line to the text: a word, numbers, and bytes in digits of base 16.
     pub fn line_with_bytes(
         &mut self,
         word: &str,
@@ -53,7 +53,7 @@ impl Text {
         self.end()
     }
 
-    /// Puts the line of a guest behind the text: its number, its range of blocks, and the bytes of its planner's heap.
+    /// Appends the line of a guest to the text: its number, its range of blocks, and the bytes of its planner's heap.
     pub fn guest(&mut self, guest: u64, base: u64, blocks: u64, heap: u64) -> Result<(), NoMemory> {
         self.words("guest", &[guest])?;
         self.words(" range", &[base, blocks])?;
@@ -61,7 +61,7 @@ impl Text {
         self.end()
     }
 
-    // Puts a word and numbers behind the text.
+    // Appends a word and numbers to the text.
     fn words(&mut self, word: &str, numbers: &[u64]) -> Result<(), NoMemory> {
         self.bytes.extend_from_slice(word.as_bytes())?;
         for number in numbers {
@@ -70,7 +70,7 @@ impl Text {
         Ok(())
     }
 
-    // Puts a space and a number behind the text. Most numbers are short.
+    // Appends a space and a number to the text. Most numbers are short.
     fn number(&mut self, number: u64) -> Result<(), NoMemory> {
         if number < 10 {
             self.bytes.extend_from_slice(&[b' ', digit(number)])?;

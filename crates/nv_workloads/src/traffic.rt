@@ -1,7 +1,7 @@
 //! Guests' traffic: rounds of commands, event by event.
 //!
-//! In a round two guests put their commands into their queues, and one lane carries all of them: they are taken, their lists read, submitted,
-//! moved unit by unit in turn, completed, reaped and posted, and the guests look at their completions.
+//! In a round two guests put their commands into their queues, and one lane carries all of them. The commands are taken, their lists read,
+//! submitted, moved unit by unit in turn, completed, reaped and posted, and the guests read their completions.
 
 pub mod extents;
 pub mod forever;
@@ -16,7 +16,7 @@ use nv_model::Act;
 use nv_world_model::Event;
 use std::alloc::Global;
 
-/// Where a guest's admin queues and its I/O queues stand.
+/// Where a guest's admin queues and its I/O queues are.
 const ADMIN_SUBMISSIONS: u64 = 0x1_0000;
 
 const ADMIN_COMPLETIONS: u64 = 0x1_1000;
@@ -51,13 +51,13 @@ const ACQ: u32 = 0x30;
 /// The bytes of a part of a list that is read at once.
 const PART: u64 = 4096;
 
-/// Where a guest stands in its queues.
+/// Where a guest is in its queues.
 #[derive(Clone, Copy, Debug)]
 struct Guest {
     number: u8,
     /// how many commands it has put into its queue since it was brought up
     made: u64,
-    /// how many completions it has, and how many of them it has told that it has seen
+    /// how many completions it has, and how many of them it has reported as seen
     completed: u64,
     seen: u64,
 }
@@ -364,7 +364,7 @@ impl<S: Sink + Drop> Traffic<S> {
         }
     }
 
-    // A guest looks at its completions, and tells that it has seen them.
+    // A guest reads its completions, and reports that it has seen them.
     fn look(&mut self, guest: u8) -> Result<(), NoMemory> {
         let (seen, completed) = match self.guests.get(usize::from(guest)) {
             Some(guest) => (guest.seen, guest.completed),

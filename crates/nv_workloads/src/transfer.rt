@@ -19,7 +19,7 @@ const LARGEST: u64 = 0x2_0000;
 /// The bytes of most transfers.
 const COMMON: u64 = 4096;
 
-/// Where the guest's lists stand, and how far they lie apart.
+/// Where the guest's lists are, and how far apart they are.
 const LISTS: u64 = 0x10_0000;
 
 const LIST_BYTES: u64 = 0x4000;
@@ -39,7 +39,7 @@ pub struct Transfer {
     pub command: Command,
     /// the list, or the ranges, that the guest stores before it
     pub list: Vec<u8>,
-    /// where that stands
+    /// where that is
     pub list_at: u64,
     /// how many units the physical controller moves; none where the command is refused
     pub units: u64,
@@ -55,7 +55,7 @@ pub struct Maker<'a> {
 }
 
 impl Maker<'_> {
-    /// The next command, the list of which stands at that place of the guest's.
+    /// The next command, whose list is at that place of the guest's.
     pub fn next(&mut self, alloc: Global, place: u64) -> Result<Transfer, NoMemory> {
         let list_at = (place % 64).wrapping_mul(LIST_BYTES).wrapping_add(LISTS);
         if self.random.once_in(self.shape.flushes) {
@@ -124,7 +124,7 @@ impl Maker<'_> {
         })
     }
 
-    // The pages of a transfer, as PRP1 and PRP2 name them. The first may begin behind its page's first byte.
+    // The pages of a transfer, as PRP1 and PRP2 name them. The first may begin after its page's first byte.
     fn pages(
         &mut self,
         list: &mut Vec<u8>,
@@ -180,7 +180,7 @@ impl Maker<'_> {
         Ok((list_at, length_and_kind(list.len() as u64, LAST_SEGMENT)))
     }
 
-    // Puts so many pieces of a transfer behind a list, which lie anywhere and have any length. Some of them are discarded where that may be.
+    // Appends so many pieces of a transfer to a list. They may be anywhere and have any length. Some of them are discarded where that is allowed.
     fn scatter(
         &mut self,
         list: &mut Vec<u8>,

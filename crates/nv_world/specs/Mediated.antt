@@ -1,4 +1,4 @@
--- The mediator as its callers see it: its set-up, the log of what has happened, and the world behind it (profile).
+-- The mediator as its callers see it: its set-up, the log of what has happened, and the world after it (profile).
 use Rattle.std.specs.Prelude.{◌≡◌, ◌⊎◌, List, [], ◌∷◌, ◌++◌, length}
 use Rattle.nv_core.specs.State.{State, world_of}
 use Rattle.nv_core.specs.Submit.{IsCurrent}
@@ -27,7 +27,7 @@ opened s = record { setup = s; log = []; world = world_at_start s }
 
 -- ---- a step
 
--- the event was carried out, and stands in the log with its reply
+-- the event was carried out, and is in the log with its reply
 pub record IsLogged (e : Event) (old : Mediated) (r : Reply) (new : Mediated) : Type 0 where
   pub after : record { world = new.world; reply = r } ≡ step old.setup.geometry e old.world
   pub log : new.log ≡ old.log ++ record { event = e; reply = r } ∷ []
@@ -41,7 +41,7 @@ IsStepped e old r new = (r ≡ reply.NoMemory) × (new ≡ old) ⊎ IsLogged e o
 abbrev pub IsAdvanced : Event → (old new : Mediated) → Type 0
 IsAdvanced e old new = (r : Reply) × IsLogged e old r new
 
--- a plan that was made elsewhere was the Submit of its tag, where it was made of what stands; or nothing has changed
+-- a plan that was made elsewhere was the Submit of its tag, where what it was made of is current; or nothing has changed
 abbrev pub IsSubmitted : MadePlan → (old : Mediated) → Reply → (new : Mediated) → Type 0
 IsSubmitted plan old r new =
     (r ≡ reply.NoMemory) × (new ≡ old)
@@ -55,7 +55,7 @@ AreStepped [] old (r ∷ rs) new = ⊥
 AreStepped (e ∷ es) old [] new = ⊥
 AreStepped (e ∷ es) old (r ∷ rs) new = (between : Mediated) × (IsStepped e old r between × AreStepped es between rs new)
 
--- and these replies were put behind others
+-- and these replies were appended to others
 pub record AreAnswered (es : List Event) (old : Mediated) (before after : List Reply) (new : Mediated) : Type 0 where
   pub replies : List Reply
   pub stepped : AreStepped es old replies new

@@ -1,11 +1,11 @@
-//! The mediator with a log of all that has happened: guests, the physical controller and what stands between them, event by event.
+//! The mediator with a log of all that has happened: guests, the physical controller and what is between them, event by event.
 //!
-//! [`World::new`] makes the world of a [`Setup`], or tells the first reason for which it is refused: too many guests, ranges or maps that meet,
-//! sizes that may not be. [`World::step`] makes one event of the definition (`nv_world_model/specs/Step`), tells its reply and writes both into
-//! the log; where memory is refused nothing is changed. [`World::submit_plan`] takes a plan that was made elsewhere, and is Stale where its job,
-//! map, namespace or limit are not what stands then. The type keeps that the world is where its log leads from the start of the set-up, so the
-//! contract of [`World::log`] says of any world that each event is contained, and that what a disciplined guest has seen is a run of its own
-//! commands on a private controller.
+//! [`World::new`] makes the world of a [`Setup`], or returns the first reason for which it is refused: too many guests, ranges or maps that meet,
+//! sizes that are not allowed. [`World::step`] makes one event of the definition (`nv_world_model/specs/Step`), returns its reply and writes both
+//! into the log. Where memory is refused nothing is changed. [`World::submit_plan`] takes a plan that was made elsewhere, and is Stale where its
+//! job, map, namespace or limit are not the current ones then. The type keeps the invariant that the world is where its log leads from the start of
+//! the set-up. So the contract of [`World::log`] says of any world that each event is contained, and that what a disciplined guest has seen is a
+//! run of its own commands on a private controller.
 #![tactic(auto)]
 
 mod copies;

@@ -11,8 +11,8 @@ use nv_world_model::Event;
 use std::alloc::Global;
 
 impl World {
-    /// Carries out these events one after another, and puts their replies behind others. A step without memory is answered so, and the
-    /// next one is made; so is an event of which there was no copy for the log. Each step in the log is contained.
+    /// Carries out these events one after another, and appends their replies to others. A step for which there is no memory is answered so, and the
+    /// next one is made. So is an event of which there was no copy for the log. Each step in the log is contained.
     ///
     /// # Errors
     ///

@@ -25,13 +25,13 @@ impl World {
         reply
     }
 
-    /// Carries out an event and logs it with its reply, which stands last in the log then, and nowhere else: nothing of it is copied.
+    /// Carries out an event and logs it with its reply, which is then last in the log, and nowhere else: nothing of it is copied.
     ///
     /// Each step in the log is contained: it reads and changes nothing of a guest but its owner's.
     ///
     /// # Errors
     ///
-    /// There was no memory for it. Nothing has changed, the log neither.
+    /// There was no memory for it. Nothing has changed, and neither has the log.
     pub fn advance(&mut self, alloc: Global, event: Event) -> Result<(), NoMemory>
         ensures ok { OnOk result (IsAdvanced event (mediated self.old) (mediated self.new)) }
         ensures err { OnErr result (mediated self.new ≡ mediated self.old) }
@@ -103,8 +103,8 @@ impl World {
         }
     }
 
-    // The step by which the physical controller moves a unit, as most are. It wants no memory but the log's, and its reply has no bytes, so little
-    // is stored that may have to be given back: what is stored behind the copy of a block waits until that copy is through.
+    // The step by which the physical controller moves a unit, as most steps do. It needs no memory but the log's, and its reply has no bytes, so
+    // little is stored that may have to be freed: what is stored after the copy of a block waits until that copy is complete.
     #[inline(never)]
     fn move_unit(&mut self, lane: u8, slot: u8, number: u64) -> Result<Reply, NoMemory>
         ensures ok { IfOk result (λ reply. IsLogged (Event.DevMove lane slot number) (mediated self.old) reply (mediated self.new)) }
@@ -130,8 +130,8 @@ impl World {
     }
 }
 
-// Puts an event into a log that has room, with its reply. Each kind of reply is written as what it is: of one without bytes nothing is read
-// where bytes would stand.
+// Puts an event into a log that has room, with its reply. Each kind of reply is written as what it is: of a reply without bytes, nothing is read
+// where bytes would be.
 #[inline(always)]
 fn put(log: &mut Vec<Logged>, event: Event, reply: Reply)
     requires { vec_len log.old < vec_capacity log.old }

@@ -9,9 +9,9 @@ use nv_plan::Plan;
 use nv_world_model::{Event, Logged};
 
 impl World {
-    /// Carries out a plan that was made elsewhere, as the event Submit of its tag, and logs it so. Stale, with nothing logged, where it was
-    /// not made of what stands now: its job is not its tag's, or the guest's map, namespace or limit is another. Where no memory is left,
-    /// nothing has changed.
+    /// Carries out a plan that was made elsewhere, as the event Submit of its tag, and logs it so. Stale, with nothing logged, where what it was
+    /// made of is not current: its job is not its tag's, or the guest's map, namespace or limit is another. Where no memory is left, nothing has
+    /// changed.
     pub fn submit_plan(&mut self, plan: Plan) -> Reply
         ensures submitted { IsSubmitted plan (mediated self.old) result (mediated self.new) }
         ensures contained { IsContained self.new }

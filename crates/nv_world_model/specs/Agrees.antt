@@ -1,4 +1,4 @@
--- When a guest's private controller and the world agree: what the guest can look at is the same in both (profile).
+-- When a guest's private controller and the world agree: what the guest can observe is the same in both (profile).
 use Rattle.std.specs.Prelude.{◌≡◌, ℕ, ◌<◌, Bool, true, false, ◌&&◌, slice_get, Some}
 use Rattle.std.specs.List.{list_any}
 use Rattle.nv_mem.specs.GuestMap.{mapped}

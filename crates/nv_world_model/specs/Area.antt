@@ -1,7 +1,6 @@
--- The mediator's own area of the host's memory: each lane's submission ring, completion ring, list pages and bounce
--- pages; and what a physical command transfers, and its entry. The layout is the project's own (profile); the physical
--- entries are Base Specification 2.0, "Submission Queue Entry", and NVM Command Set Specification 1.0, "NVM Command Set
--- Commands". What stands there of a share is `ShareArea`.
+-- The mediator's own area of the host's memory: each lane's submission ring, completion ring, list pages and bounce pages; and what a physical
+-- command transfers, and its entry. The layout is the project's own (profile); the physical entries are Base Specification 2.0, "Submission Queue
+-- Entry", and NVM Command Set Specification 1.0, "NVM Command Set Commands". What is stored there of a share is `ShareArea`.
 use Rattle.std.specs.Prelude.{ℕ, ◌+◌, ◌*◌, ◌/◌, ◌%◌, ◌^◌, if◌then◌else◌, ◌==◌, List, [], ◌∷◌, ◌++◌, flat_map, take}
 use Rattle.std.specs.List.{range_with_len}
 use Rattle.nv_entry.specs.Layout.{bytes_of_dwords, number_bytes}
@@ -77,7 +76,7 @@ abbrev pub first_base : Namespace → ℕ
 first_base [] = 0
 first_base (extent ∷ rest) = extent.base
 
--- where the disk has a range: one of no blocks as far behind the first extent's base as it starts in the namespace
+-- where the disk has a range: one of no blocks is as far after the first extent's base as its start is in the namespace
 abbrev pub range_place : Namespace → (range : List ℕ) → ℕ
 range_place ns range = if blocks_of range == 0 then first_base ns + start_of range else place_in ns (start_of range)
 

@@ -18,7 +18,7 @@ abbrev pub guest_of_one : Option Tag → Option ℕ
 guest_of_one None = None
 guest_of_one (Some t) = guest_of_tag t
 
--- whether a command stands in that slot of the submission ring, or of the completion ring
+-- whether a command is in that slot of the submission ring, or of the completion ring
 abbrev pub is_queued_at : (slot : ℕ) → Standing → Bool
 is_queued_at slot (Queued at) = at == slot
 is_queued_at slot _ = false
@@ -27,12 +27,12 @@ abbrev pub is_answered_at : (slot : ℕ) → Standing → Bool
 is_answered_at slot (Answered at) = at == slot
 is_answered_at slot _ = false
 
--- whether a tag stands so
+-- whether a tag is in such a position
 abbrev pub tag_stands : (Standing → Bool) → Tag → Bool
 tag_stands test (Flying command share standing) = test standing
 tag_stands test _ = false
 
--- the guest of the first tag that stands so
+-- the guest of the first tag that is in such a position
 unfoldable pub guest_standing : (Standing → Bool) → List Tag → Option ℕ
 guest_standing test [] = None
 guest_standing test (t ∷ tags) = if tag_stands test t then guest_of_tag t else guest_standing test tags
@@ -93,8 +93,8 @@ pub record LeavesOthers (geometry : Geometry) (whose : Option ℕ) (w z : World)
   pub blocks : (at offset : ℕ) → in_extents_of (given_to whose geometry) at ≡ false → w.disk at offset ≡ z.disk at offset
   pub marks : (at : ℕ) → in_extents_of (given_to whose geometry) at ≡ false → w.kept at ≡ true → z.kept at ≡ true
 
--- what is seen of it depends on the owner's view and the shared numbers alone: done in the world cut down to them it
--- has the same reply, and leads to a world that looks alike
+-- what is seen of it depends on the owner's view and the shared numbers alone: done in the world cut down to them it has the same reply, and leads
+-- to a world that is alike
 pub record ReadsOwn (done : World → After) (geometry : Geometry) (w : World) (number : ℕ) (guest : Guest) : Type 0 where
   pub reply : (done w).reply ≡ (done (cut number guest geometry w)).reply
   pub alike : IsAlike number guest geometry (done w).world (done (cut number guest geometry w)).world
@@ -105,8 +105,8 @@ pub record RaisesOne (block : ℕ) (w z : World) : Type 0 where
   pub marks : (at : ℕ) → (at == block) ≡ false → w.kept at ≡ z.kept at
   pub rises : w.kept block ≡ true → z.kept block ≡ true
 
--- what is done for an event is contained: it leaves all others as they were and reads its owner's alone; a Keep raises
--- one mark at most; and a reply that tells of no change is told of none
+-- what is done for an event is contained: it leaves all others as they were and reads its owner's alone; a Keep raises one mark at most; and where
+-- the reply reports no change there is none
 pub record IsContained (done : World → After) (geometry : Geometry) (e : Event) (w : World) : Type 0 where
   pub others : LeavesOthers geometry (owner e w) w (done w).world
   pub own : (number : ℕ) (guest : Guest) → slice_get geometry.guests number ≡ Some guest → owner e w ≡ Some number

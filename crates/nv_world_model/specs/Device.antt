@@ -33,8 +33,8 @@ pub record Held : Type 0 where
   pub left : List ℕ
   pub differed : Bool
 
--- a lane: head and tail of its submission ring, the tail as it was rung; the slot of its completion ring that is
--- written next, and the phase tag of this pass; and the commands in the device, by identifier
+-- a lane: head and tail of its submission ring, the tail as it was rung; the slot of its completion ring that is written next, and the phase tag of
+-- this pass; and the commands in the device, by identifier
 pub record DeviceLane : Type 0 where
   pub head : ℕ
   pub tail : ℕ
@@ -46,13 +46,13 @@ pub record DeviceLane : Type 0 where
 abbrev pub opening_device_lane : DeviceLane
 opening_device_lane = record { head = 0; tail = 0; posted = 0; phase = true; held = replicate tag_count None }
 
--- the phase tag of the pass in which the slot behind `at` lies
+-- the phase tag of the pass that has the slot after `at`
 abbrev pub next_phase : (at : ℕ) → Bool → Bool
 next_phase at phase = if next_slot ring_size at == 0 then not phase else phase
 
 -- ---- ring
 
--- the doorbell of the submission ring: one more entry stands there
+-- the doorbell of the submission ring: one more entry is there
 abbrev pub rung : DeviceLane → DeviceLane
 rung d = record d { tail = next_slot ring_size d.tail }
 
@@ -116,7 +116,7 @@ form_moves Clear number disk_blocks h host = ClearBlock (slba_of h.entry + numbe
 form_moves Manage number disk_blocks h host = one_range_units (deallocates h.entry) (range_at number h.pieces host)
 form_moves Keep number disk_blocks h host = KeepAll disk_blocks ∷ []
 
--- memory, disk and marks behind a unit of a command of that opcode
+-- memory, disk and marks after a unit of a command of that opcode
 abbrev pub moved_by : Option IoOpcode → (number disk_blocks : ℕ) → Held → Moved → Moved
 moved_by None number disk_blocks h m = m
 moved_by (Some opcode) number disk_blocks h m =
@@ -145,7 +145,7 @@ unfoldable pub completion_written : (mediator lane identifier : ℕ) → StatusF
 completion_written mediator lane identifier st d host =
     stored host (completion_slot mediator lane d.posted) (completion 0 d.head (queue_pair lane) identifier d.phase st)
 
--- the lane behind it: the command is in the device no longer
+-- the lane after it: the command is no longer in the device
 abbrev pub completion_posted : (identifier : ℕ) → DeviceLane → DeviceLane
 completion_posted identifier d =
     with_held identifier None (record d { posted = next_slot ring_size d.posted; phase = next_phase d.posted d.phase })

@@ -1,7 +1,7 @@
--- What a guest has to keep to so that it can't tell the mediator from a controller of its own: buffers overlap only
--- where both are read, and the guest leaves alone what its outstanding commands name. The standard leaves open what a
--- host finds in a buffer before the command's completion, and forbids it to change an outstanding command's entry and
--- data (Base Specification 2.0, "Memory-based Transport Queue Model", "Submission Queue Entry").
+-- What a guest has to obey so that it can't distinguish the mediator from a controller of its own: buffers overlap only where both are read, and
+-- the guest leaves alone what its outstanding commands name. The standard leaves open what a host finds in a buffer before the command's
+-- completion, and forbids it to change an outstanding command's entry and data (Base Specification 2.0, "Memory-based Transport Queue Model",
+-- "Submission Queue Entry").
 use Rattle.std.specs.Prelude.{ℕ, Bool, true, not, ◌&&◌, ◌||◌, ◌==◌, if◌then◌else◌, List, [], ◌∷◌, flat_map, slice_get, Option, Some, None}
 use Rattle.std.specs.List.{enumerate_from, list_any}
 use Rattle.nv_model.specs.Controller.{Controller}

@@ -1,6 +1,6 @@
--- The promise as a whole, of a set-up, the log of all events with their replies, and the world behind it: what a
--- disciplined guest has seen, its memory and its namespace are those of a run of its own commands on a private
--- controller; and no event reads or changes what is not its guest's, whoever is disciplined (profile).
+-- The promise as a whole, of a set-up, the log of all events with their replies, and the world after it: what a disciplined guest has seen, its
+-- memory and its namespace are those of a run of its own commands on a private controller; and no event reads or changes what is not its guest's,
+-- no matter which guests are disciplined (profile).
 use Rattle.std.specs.Prelude.{◌≡◌, ℕ, ⊤, Bool, true, false, not, ◌&&◌, List, [], ◌∷◌, slice_get, Some}
 use Rattle.nv_model.specs.Private.{Run, run_of, start}
 use Rattle.nv_world_model.specs.declared.event.Event.{Event}

@@ -19,8 +19,8 @@ use Rattle.nv_world_model.specs.Device.{DeviceLane, Held, completion_posted, ent
 
 -- ---- what happens on a lane
 
--- the doorbell of the submission ring is rung, entries standing up to the slot before the tail; the device takes the
--- front entry, moves a unit, or posts the completion of a command; the mediator reads the next completion
+-- the doorbell of the submission ring is rung, with entries up to the slot before the tail; the device takes the front entry, moves a unit, or
+-- posts the completion of a command; the mediator reads the next completion
 pub data LaneEvent : Type 0 where
   Rings : (tail : ℕ) → LaneEvent
   Takes : (entry : List ℕ) → (host : ℕ → ℕ) → LaneEvent
@@ -28,8 +28,8 @@ pub data LaneEvent : Type 0 where
   Posts : (slot : ℕ) → LaneEvent
   Reads : LaneEvent
 
--- a lane, and the slot of its completion ring that the mediator reads next; and how many entries were rung and taken,
--- and how many completions posted and read, since the start
+-- a lane, and the slot of its completion ring that the mediator reads next; and how many entries were rung and taken, and how many completions
+-- posted and read, since the start
 pub record LaneRun : Type 0 where
   pub device : DeviceLane
   pub reader : ℕ
@@ -74,7 +74,7 @@ abbrev pub posted_of : Option Held → (slot : ℕ) → LaneRun → LaneRun
 posted_of None slot r = r
 posted_of (Some h) slot r = record r { device = completion_posted slot r.device; posted = r.posted + 1 }
 
--- a completion is read where one stands
+-- a completion is read where there is one
 abbrev pub completion_read_by : LaneRun → LaneRun
 completion_read_by r =
     if is_empty r.reader r.device.posted then r
@@ -93,8 +93,8 @@ run_behind (e ∷ events) r = run_behind events (lane_behind e r)
 
 -- ---- what is asked of it
 
--- a tail is rung within the tags in flight, which are as many as there are tags at most; and an entry that is taken has
--- an identifier that no command in the device has
+-- a tail is rung within the tags in flight, which are at most as many as there are tags; and an entry that is taken has an identifier that no
+-- command in the device has
 abbrev pub IsWithinTags : LaneEvent → LaneRun → Type 0
 IsWithinTags (Rings tail) r = (tail < ring_size) × (in_flight r + newly_rung tail r.device ≤ tag_count)
 IsWithinTags (Takes entry host) r =
@@ -109,9 +109,9 @@ abbrev pub AreWithinTags : List LaneEvent → LaneRun → Type 0
 AreWithinTags [] r = ⊤
 AreWithinTags (e ∷ events) r = IsWithinTags e r × AreWithinTags events (lane_behind e r)
 
--- neither ring has been overrun: as many entries as were rung and not taken, and as many completions as were posted and
--- not read, stand there, and that is less than the ring has slots; all of them and the commands in the device are the
--- tags in flight; and the phase tag is that of the pass
+-- neither ring has been overrun: the submission ring holds as many entries as were rung and not taken, the completion ring as many completions as
+-- were posted and not read, and each number is less than the ring has slots; all of them and the commands in the device are the tags in flight; and
+-- the phase tag is that of the pass
 pub record IsNotOverrun (r : LaneRun) : Type 0 where
   pub taken_were_rung : r.taken ≤ r.rung
   pub read_were_posted : r.read ≤ r.posted
@@ -153,7 +153,7 @@ unit_places (Some opcode) number pieces = form_places (form_of opcode) number pi
 abbrev pub IsNotAmong : (at : ℕ) → List Place → Type 0
 IsNotAmong at places = All (IsAnother (At at)) places
 
--- blocks and marks are the same behind both, and so is whether a Compare has differed
+-- blocks and marks are the same after both, and so is whether a Compare has differed
 pub record IsSameEffect (m n : Moved) : Type 0 where
   pub disk : m.disk ≡ n.disk
   pub kept : m.kept ≡ n.kept

@@ -51,8 +51,8 @@ MayAnswer (event.Post lane tag) r = IsAmong (reply.Done ∷ reply.Stale ∷ repl
 
 -- ---- seats
 
--- p is a guest's private controller as it stands in the world, but for its commands: its controller, its memory where
--- it is mapped, and its blocks with their marks
+-- p is a guest's private controller as it is in the world, except for its commands: its controller, its memory where it is mapped, and its blocks
+-- with their marks
 pub record IsSeatOf (number : ℕ) (guest : Guest) (w : World) (p : Private) : Type 0 where
   pub controller : slice_get w.controllers number ≡ Some p.controller
   pub memory : (addr : ℕ) → mapped (regions_of guest) addr ≡ true → image (regions_of guest) w.host addr ≡ p.memory addr

@@ -17,7 +17,7 @@ pub data Plan : Type 0 where
   NoData : Work → Plan
   -- a transfer whose places the physical command names itself
   Direct : Work → Plan
-  -- a transfer by way of the bounce pages: a buffer's bytes, or ranges of blocks, which stand there translated
+  -- a transfer through the bounce pages: a buffer's bytes, or ranges of blocks, which are stored there translated
   Bounced : Work → Plan
 
 -- a transfer is direct exactly where its places name no bucket and their host addresses fit PRP

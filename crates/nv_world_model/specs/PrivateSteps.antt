@@ -1,6 +1,6 @@
--- Which steps of a guest's private controller each event of the world stands for: the guest's acts and its admin
--- queue's steps are its own; a command is taken, judged, given up and completed by the events of the tag that it goes by; its units move
--- where the device's do; and marks rise where any event raises them (profile).
+-- Which steps of a guest's private controller each event of the world represents: the guest's acts and its admin queue's steps are its own; a
+-- command is taken, judged, given up and completed by the events of the tag that it goes by; its units move where the device's do; and marks rise
+-- where any event raises them (profile).
 use Rattle.std.specs.Prelude.{ℕ, Bool, true, false, ◌||◌, ◌==◌, if◌then◌else◌, List, [], ◌∷◌, ◌++◌, filter, map, slice_get, Option, Some, None}
 use Rattle.std.specs.List.{range_with_len}
 use Rattle.nv_ns.specs.Extents.{Namespace, blocks_in, place_in}

@@ -1,4 +1,4 @@
--- Worked examples: a host, a disk and two guests that they start from, and what is looked at
+-- Worked examples: a host, a disk and two guests that they start from, and what is examined
 use Rattle.std.specs.Prelude.{ℕ, ◌+◌, ◌%◌, Bool, true, false, List, [], ◌∷◌, ◌++◌, map, slice_set, Some}
 use Rattle.std.specs.List.{range_with_len}
 use Rattle.nv_entry.specs.Layout.{number_at}
@@ -30,8 +30,7 @@ abbrev pub set_up : Geometry
 set_up =
     record { mediator = 0x400000; disk_blocks = 4096; guests = guest_at 0x100000 1000 ∷ guest_at 0x200000 2000 ∷ [] }
 
--- an enabled controller with queue pair 1: so many completion slots at 12000h, and 16 submission slots at 13000h, of
--- which so many are rung
+-- an enabled controller with queue pair 1: so many completion slots at 12000h, and 16 submission slots at 13000h, of which so many are rung
 abbrev pub controller_with : (slots rung : ℕ) → Controller
 controller_with slots rung =
     record opening {
@@ -61,7 +60,7 @@ world_with host slots first second =
 abbrev pub holding : (addr : ℕ) → List ℕ → ℕ → ℕ
 holding addr bytes = stored (λ _. 0) addr bytes
 
--- a world in which the first guest has rung this one command
+-- a world in which the first guest has rung the doorbell for this one command
 abbrev pub one_command : (entry : List ℕ) → World
 one_command entry = world_with (holding 0x113000 entry) 16 1 0
 
@@ -87,9 +86,9 @@ completed = event.DevPost 0 0 ∷ event.Reap 0 ∷ event.Post 0 0 ∷ []
 abbrev pub whole : (units : ℕ) → List Event
 whole units = in_device ++ moves units ++ completed
 
--- ---- looking
+-- ---- examining
 
--- what is seen in the world behind these events
+-- what is seen in the world after these events
 abbrev pub behind : {A : Type 0} → List Event → World → (World → A) → A
 behind events w look = look (replay set_up events w)
 
@@ -117,7 +116,7 @@ handed_on w =
 
 -- ---- two guests
 
--- a world in which both guests have rung the first example
+-- a world in which both guests have rung the doorbell for the first example
 abbrev pub two_commands : World
 two_commands = world_with (stored (holding 0x113000 first_example) 0x213000 first_example) 16 1 1
 
@@ -130,7 +129,7 @@ two_at_once =
 
 -- ---- rings
 
--- the same world where both rings of its lane stand at this slot, in a pass with that phase tag
+-- the same world where both rings of its lane are at this slot, in a pass with that phase tag
 abbrev pub rings_at : (slot : ℕ) → (phase : Bool) → World → World
 rings_at slot phase w =
     record w {

@@ -22,7 +22,7 @@ use Rattle.nv_world_model.specs.World.{Free, Lane, World, with_controller, with_
 abbrev pub first_stores : Event
 first_stores = event.Guest 0 (act.Store 0x3000 (7 ∷ []))
 
--- a step that is told as done and changes this
+-- a step that is reported as done and changes this
 abbrev pub changes : (World → World) → World → After
 changes change w = replied reply.Done (change w)
 
@@ -34,7 +34,7 @@ follows_the_second change w = replied reply.Done (if w.host 0x200000 == 7 then c
 abbrev pub IsFirstGuests : (done : World → After) → World → Type 0
 IsFirstGuests done w = IsContained done set_up first_stores w
 
--- a step that is told as idle, and changes a byte of the first guest
+-- a step that is reported as idle, and changes a byte of the first guest
 abbrev pub idle_and_stores : World → After
 idle_and_stores w = replied reply.Idle (with_host (stored w.host 0x103000 (7 ∷ [])) w)
 
@@ -47,7 +47,7 @@ kept_no_longer w = replied reply.Done (record w { kept = marked w.kept 5 false }
 
 -- ---- worlds
 
--- each guest's command stands in the submission ring
+-- each guest's command is in the submission ring
 abbrev pub both_queued : World
 both_queued = behind (event.Take 0 1 0 ∷ event.Take 1 1 0 ∷ event.Submit 0 0 ∷ event.Submit 0 1 ∷ []) two_commands (λ w. w)
 
@@ -92,7 +92,7 @@ device_so change w = with_device 0 change w
 
 -- ---- the numbers that all share
 
--- two commands were handed on since rings stood at slot 7, and one of them is in the device
+-- two commands were handed on since rings were at slot 7, and one of them is in the device
 abbrev pub one_of_two_in_device : World
 one_of_two_in_device =
     behind (event.Take 0 1 0 ∷ event.Take 1 1 0 ∷ event.Submit 0 0 ∷ event.Submit 0 1 ∷ event.DevTake 0 ∷ [])
@@ -123,7 +123,7 @@ both_answered =
 
 -- ---- a log
 
--- a look at a register, and a unit that the device moves
+-- a register read, and a unit that the device moves
 abbrev pub looks : Logged
 looks = record { event = event.Guest 0 (act.RegRead 0x1c); reply = reply.Done }
 

@@ -1,4 +1,4 @@
--- Worked examples: a guest of two extents beside a guest of one, and what is looked at
+-- Worked examples: a guest of two extents beside a guest of one, and what is examined
 use Rattle.std.specs.Prelude.{ℕ, ◌+◌, ◌*◌, Bool, true, false, List, [], ◌∷◌, map, replicate, Option, Some, None}
 use Rattle.nv_entry.specs.Status.{StatusField}
 use Rattle.nv_model.specs.Memory.{stored}
@@ -39,7 +39,7 @@ world_of tags host first second =
       controllers = controller_with 16 first ∷ controller_with 16 second ∷ [];
     }
 
--- a world in which the first guest has rung this one command
+-- a world in which the first guest has rung the doorbell for this one command
 abbrev pub one_command : (entry : List ℕ) → World
 one_command entry = world_of (replicate tag_count Free) (holding 0x113000 entry) 1 0
 
@@ -47,7 +47,7 @@ one_command entry = world_of (replicate tag_count Free) (holding 0x113000 entry)
 abbrev pub one_command_on : (addr : ℕ) → List ℕ → (entry : List ℕ) → World
 one_command_on addr bytes entry = world_of (replicate tag_count Free) (stored (holding 0x113000 entry) (0x100000 + addr) bytes) 1 0
 
--- the first guest has rung one command, and the second another
+-- the first guest has rung the doorbell for one command, and the second for another
 abbrev pub two_commands : (first second : List ℕ) → World
 two_commands first second = world_of (replicate tag_count Free) (stored (holding 0x113000 first) 0x213000 second) 1 1
 
@@ -55,7 +55,7 @@ two_commands first second = world_of (replicate tag_count Free) (stored (holding
 abbrev pub others : (tag : ℕ) → Tag
 others tag = Taken (record { guest = 1; queue = 1; entry = replicate 64 0; leader = tag }) []
 
--- a world in which these tags are the second guest's, and the first guest has rung this command
+-- a world in which these tags are the second guest's, and the first guest has rung the doorbell for this command
 abbrev pub among_others : List Tag → (entry : List ℕ) → World
 among_others tags entry = world_of tags (holding 0x113000 entry) 1 0
 
@@ -100,7 +100,7 @@ too_short = record { sct = 0; sc = 0x0f; dnr = true }
 abbrev pub success : StatusField
 success = record { sct = 0; sc = 0; dnr = false }
 
--- ---- looking
+-- ---- examining
 
 abbrev pub behind : {A : Type 0} → List Event → World → (World → A) → A
 behind events w look = look (replay set_up events w)
@@ -151,7 +151,7 @@ answer w = host_number 0x11200c 4 w
 abbrev pub came : (addr : ℕ) → World → List ℕ
 came addr w = host_number (0x100000 + addr) 1 w ∷ host_number (0x100000 + addr + 512) 1 w ∷ answer w ∷ []
 
--- the ranges of a Dataset Management that stand in the bounce pages of the first two tags: so many bytes
+-- the ranges of a Dataset Management that are in the bounce pages of the first two tags: so many bytes
 abbrev pub ranges_in : (first second : ℕ) → World → List (List ℕ)
 ranges_in first second w = host_bytes 0x404000 first w ∷ host_bytes 0x425000 second w ∷ []
 

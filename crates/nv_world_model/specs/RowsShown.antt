@@ -34,7 +34,7 @@ second_guest = guest_at 0x200000 2000
 abbrev pub span : (addr len : ℕ) → Span
 span addr len = (addr, len)
 
--- what is shown to the first guest behind these events, and to the second
+-- what is shown to the first guest after these events, and to the second
 abbrev pub first_shown : List Event → World → List Span
 first_shown events w = behind events w (shown 0 first_guest set_up)
 
@@ -127,7 +127,7 @@ extent_at base blocks = record { base = base; blocks = blocks }
 abbrev pub extents_from : (base count : ℕ) → List Extent
 extents_from base count = map (λ n. extent_at (base + 2 * n) 1) (range_with_len 0 count)
 
--- so many guests of one page and one block each, one behind the other
+-- so many guests of one page and one block each, one after the other
 abbrev pub small_guests : (count : ℕ) → List Guest
 small_guests count =
     map (λ n. record (guest_at (0x100000 + 0x1000 * n) n) {

@@ -41,8 +41,8 @@ small_second = small_guest 0x2000 4
 abbrev pub small : Geometry
 small = record { mediator = 0x10000; disk_blocks = 8; guests = small_first ∷ small_second ∷ [] }
 
--- an enabled controller with queue pair 1 and the admin queues, of two slots each: submission slots at 40h and 100h, of which one is rung,
--- and completion slots at c0h and 180h
+-- an enabled controller with queue pair 1 and the admin queues, of two slots each: submission slots at 40h and 100h, of which one is rung, and
+-- completion slots at c0h and 180h
 abbrev pub small_controller : Controller
 small_controller =
     record opening {
@@ -61,7 +61,7 @@ clear_one = command (dword0 write_zeroes 0 0) 1 (replicate 16 0) 0 0 0
 abbrev pub abort : List ℕ
 abort = admin_entry 0x08 3 0 0 0 0 0
 
--- a world of one lane of two tags, in which each guest has rung a Write Zeroes, and the first an Abort, too
+-- a world of one lane of two tags, in which each guest has rung the doorbell for a Write Zeroes, and the first for an Abort, too
 abbrev pub small_world : World
 small_world =
     record {
@@ -73,7 +73,7 @@ small_world =
       controllers = small_controller ∷ small_controller ∷ [];
     }
 
--- the world behind these events, where the second guest's command is handed on in tag 0
+-- the world after these events, where the second guest's command is handed on in tag 0
 abbrev pub small_behind : List Event → World
 small_behind events = replay small (event.Take 1 1 0 ∷ event.Submit 0 0 ∷ events) small_world
 
@@ -84,7 +84,7 @@ taken_second = event.Take 0 1 0 ∷ []
 abbrev pub given_up_second : List Event
 given_up_second = taken_second ++ event.GiveUp 0 1 ∷ []
 
--- the world behind these events, where the second guest's command is taken in tag 0, and the first's is handed on in tag 1
+-- the world after these events, where the second guest's command is taken in tag 0, and the first's is handed on in tag 1
 abbrev pub small_handed_on : List Event → World
 small_handed_on events = replay small (event.Take 1 1 0 ∷ event.Take 0 1 0 ∷ event.Submit 0 1 ∷ events) small_world
 
@@ -130,8 +130,8 @@ small_took =
       taken = 0 ∷ 1 ∷ replicate 7 0;
     }
 
--- the world in which the first guest's command stands so, with what the device holds, the slot that it writes next, and the host's memory
--- behind the physical entry
+-- the world in which the first guest's command is in that position, with what the device holds, the slot that it writes next, and the host's memory
+-- after the physical entry
 abbrev pub small_device : (standing : Standing) (held : Option Held) (posted : ℕ) (host : (ℕ → ℕ) → ℕ → ℕ) → World
 small_device standing held posted host =
     record {

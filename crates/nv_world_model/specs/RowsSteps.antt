@@ -1,4 +1,4 @@
--- Worked examples: the steps of a guest's private controller that events stand for, and what a disciplined guest does
+-- Worked examples: the steps of a guest's private controller that events represent, and what a disciplined guest does
 use Rattle.std.specs.Prelude.{ℕ, Bool, List, [], ◌∷◌, ◌++◌, map, Option, Some, None}
 use Rattle.nv_model.specs.declared.reply.Reply.TheVariants as reply
 use Rattle.nv_model.specs.Memory.{bytes_from, stored}
@@ -23,20 +23,20 @@ unfoldable pub logged : List Event → World → List Logged
 logged [] w = []
 logged (e ∷ events) w = (record { event = e; reply = (step set_up e w).reply }) ∷ logged events (step set_up e w).world
 
--- the steps that these events stand for, of the first guest's private controller, and of the second's
+-- the steps that these events represent, of the first guest's private controller, and of the second's
 abbrev pub first_steps : List Event → World → List Step
 first_steps events w = private_steps set_up 0 first_guest (logged events w) w
 
 abbrev pub second_steps : List Event → World → List Step
 second_steps events w = private_steps set_up 1 second_guest (logged events w) w
 
--- those of one event behind these, where it is done
+-- those of one event after these, where it is done
 abbrev pub first_steps_of : List Event → World → Event → List Step
 first_steps_of events w e = behind events w (λ z. steps_of 0 first_guest z e reply.Done)
 
 -- ---- runs
 
--- the run of the first guest's private controller, from its seat in a world on, of the steps that these events stand for
+-- the run of the first guest's private controller, from its seat in a world on, of the steps that these events represent
 abbrev pub run_by : Option Owner → List Step → World → Option Run
 run_by None steps w = None
 run_by (Some o) steps w = run_of (shape_of o.given) steps (seat set_up o w)
@@ -59,7 +59,7 @@ private_bytes addr len p = bytes_from p.memory addr len
 abbrev pub keeps_to_it : List Event → World → Bool
 keeps_to_it events w = is_disciplined set_up 0 first_guest (logged events w) w
 
--- a world in which the first guest has rung these two commands
+-- a world in which the first guest has rung the doorbell for these two commands
 abbrev pub two_rung : (first second : List ℕ) → World
 two_rung first second = world_with (holding 0x113000 (first ++ second)) 16 2 0
 
@@ -76,11 +76,11 @@ writes_by_one_list =
 
 -- ---- agreement
 
--- whether these addresses of the first guest are awaited behind these events
+-- whether these addresses of the first guest are awaited after these events
 abbrev pub awaited_behind : List Event → World → List ℕ → List Bool
 awaited_behind events w addrs = behind events w (λ z. map (is_awaited 0 first_guest z) addrs)
 
--- the first guest's private controller as it stands in a world in which it has rung one command and none is taken
+-- the first guest's private controller as it is in a world in which it has rung the doorbell for one command and none is taken
 abbrev pub first_seat : World → Private
 first_seat w = seat set_up (record { number = 0; given = first_guest; controller = controller_with 16 1 }) w
 

@@ -90,7 +90,7 @@ bring_up =
     ∷ event.Guest 0 (act.RegWrite 0x30 0x11000) ∷ event.Guest 0 (act.RegWrite 0x14 0x00460001)
     ∷ event.Guest 0 (act.Doorbell 0x1000 2) ∷ event.Admin 0 ∷ event.Admin 0 ∷ []
 
--- its controller behind that
+-- its controller after that
 abbrev pub brought_up : Controller
 brought_up =
     record (controller_with 16 0) {
@@ -107,7 +107,7 @@ brought_up =
 abbrev pub at_start : World
 at_start = opening_world set_up 1
 
--- the first example is rung and taken, and then the deletion of its submission queue is asked for
+-- the doorbell for the first example is rung, the example is taken, and then the deletion of its submission queue is requested
 abbrev pub deletion_rung : List Event
 deletion_rung =
     bring_up ++ event.Guest 0 (act.Store 0x13000 first_example) ∷ event.Guest 0 (act.Doorbell 0x1008 1) ∷ event.Take 0 1 0
@@ -120,7 +120,7 @@ deletion_due =
 
 -- ---- lanes
 
--- a world of two lanes in which the first guest has rung this one command
+-- a world of two lanes in which the first guest has rung the doorbell for this one command
 abbrev pub two_lanes : (entry : List ℕ) → World
 two_lanes entry =
     record (world_with (holding 0x113000 entry) 16 1 0) {
@@ -141,7 +141,7 @@ marks_at blocks w = map w.kept blocks
 
 -- ---- what is due
 
--- whether that event is due behind these
+-- whether that event is due after these
 abbrev pub due_behind : List Event → World → Event → Bool
 due_behind events w e = behind events w (due set_up e)
 

@@ -115,7 +115,7 @@ ranges_untranslated =
 abbrev pub stored_unmapped : (addr : ℕ) → List ℕ → World → After
 stored_unmapped addr bytes w = replied reply.Done (with_host (stored w.host addr bytes) w)
 
--- ---- a reply tells of another's byte
+-- ---- a reply reports another's byte
 
 -- a Load of a byte of the host
 abbrev pub loaded_unmapped : (addr : ℕ) → World → After

@@ -38,8 +38,8 @@ owner_of geometry w number = owner_by number (slice_get geometry.guests number) 
 
 -- ---- its taken commands
 
--- the number of the device's unit behind each unit of a command of that form, in their order: one of its own, or of a
--- range all its blocks'
+-- the number of the device's unit for each unit of a command of that form, in their order: each has one of its own, or all blocks of a range have
+-- that of the range
 abbrev pub form_numbers : Form → Work → List ℕ
 form_numbers Manage work = flat_map (λ r. replicate (blocks_of r.1) r.0) (enumerate_from 0 work.ranges)
 form_numbers _ work = numbers_of work
@@ -67,7 +67,7 @@ numbers_behind share left = numbers_by (work_of share.plan) share.numbers left
 
 -- ---- how far a tag is
 
--- whether a status tells that a Compare differed: Compare Failure
+-- whether a status reports that a Compare differed: Compare Failure
 abbrev pub tells_difference : StatusField → Bool
 tells_difference st = st.sct == 2 && st.sc == 0x85
 
@@ -84,8 +84,7 @@ abbrev pub held_rest : Option Held → Share → Rest
 held_rest None share = rest [] false
 held_rest (Some h) share = rest (numbers_behind share h.left) h.differed
 
--- of a share that was handed on, by where it stands; `held` is the device's, `status_at` the status in a slot of the
--- completion ring
+-- of a share that was handed on, by where it is; `held` is the device's, `status_at` the status in a slot of the completion ring
 abbrev pub flying_rest : Standing → Share → Option Held → (status_at : ℕ → StatusField) → Rest
 flying_rest (Queued slot) share held status_at = rest share.numbers false
 flying_rest InDevice share held status_at = held_rest held share
@@ -98,8 +97,7 @@ tag_rest _ held status_at = rest [] false
 
 -- ---- how far a command is
 
--- the whole work with those units left, in its order, that some tag has left; a Compare has differed where one of them
--- tells so
+-- the whole work with those units left, in its order, that some tag has left; a Compare has differed where one of them reports so
 abbrev pub work_progress : Option Work → List Rest → Progress
 work_progress None rests = Unjudged
 work_progress (Some work) rests =
@@ -163,7 +161,7 @@ members geometry w number name =
 
 -- ---- the seat
 
--- the guest's private controller as it stands in the world
+-- the guest's private controller as it is in the world
 unfoldable pub seat : Geometry → Owner → World → Private
 seat geometry o w =
     record {

@@ -33,7 +33,7 @@ abbrev pub cut_piece : (skip len : ℕ) → Piece → Piece
 cut_piece skip len (piece.Run addr bytes) = piece.Run (addr + skip) (min len (bytes - skip))
 cut_piece skip len (piece.Bucket bytes) = piece.Bucket (min len (bytes - skip))
 
--- `len` bytes of a buffer behind its first `skip`; a piece with none of them is empty
+-- `len` bytes of a buffer after its first `skip`; a piece with none of them is empty
 abbrev pub cut_pieces : (skip len : ℕ) → List Piece → List Piece
 cut_pieces skip len [] = []
 cut_pieces skip len (first ∷ rest) =

@@ -36,7 +36,7 @@ own_dwords (NoData work) ns entry = work_dwords (form_of work.opcode) ns entry w
 own_dwords (Direct work) ns entry = work_dwords (form_of work.opcode) ns entry work
 own_dwords (Bounced work) ns entry = work_dwords (form_of work.opcode) ns entry work
 
--- what stands in the bounce pages: a source, or the ranges
+-- what is in the bounce pages: a source, or the ranges
 abbrev pub form_own_bytes : Form → Namespace → Guest → (host : ℕ → ℕ) → Work → List ℕ
 form_own_bytes (Transfer dest) ns guest host work = if dest then [] else source_bytes guest host work
 form_own_bytes Manage ns guest host work = flat_map (translated_range ns) work.ranges

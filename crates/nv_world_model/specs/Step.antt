@@ -1,6 +1,6 @@
--- What each event does to the world, and how it is answered. An event that names a guest, lane, tag, slot or queue
--- that can't be is ignored before all else; of the other replies that apply the first in the event's rule stands; and
--- a reply that tells of no change leaves the world as it was (profile).
+-- What each event does to the world, and how it is answered. An event that names a guest, lane, tag, slot or queue that can't be is ignored before
+-- all else. Of the other replies that apply, the first in the event's rule is given. A reply that reports no change leaves the world as it was
+-- (profile).
 use Rattle.std.specs.Prelude.{ℕ, ◌+◌, Bool, true, false, ◌&&◌, ◌==◌, nat_le, if◌then◌else◌, List, [], ◌∷◌, ◌++◌, slice_get, Option, Some, None}
 use Rattle.std.specs.List.{list_any}
 use Rattle.nv_entry.specs.Completion.{cid_of as completed_cid, status_of}
@@ -33,7 +33,7 @@ use Rattle.nv_world_model.specs.ShareArea.{is_no_command, share_written}
 use Rattle.nv_world_model.specs.World.{Answered, Command, Ended, Flying, Free, InDevice, Lane, Queued, Standing, Tag, Taken, World}
 use Rattle.nv_world_model.specs.World.{claimed, group, lowest, tag_of, with_controller, with_device, with_host, with_lane, with_tag, with_tags}
 
--- the world behind an event, and the reply
+-- the world after an event, and the reply
 pub record After : Type 0 where
   pub world : World
   pub reply : Reply
@@ -190,7 +190,7 @@ submit_by (Settled plan) mediator lane tags command o w =
 
 -- ---- the physical controller
 
--- a tag that was handed on stands there now
+-- a tag that was handed on is there now
 abbrev pub standing_at : Option Tag → Standing → (lane tag : ℕ) → World → World
 standing_at (Some (Flying command share before)) standing lane tag w = with_tag lane tag (Flying command share standing) w
 standing_at _ standing lane tag w = w
@@ -261,7 +261,7 @@ abbrev pub ended_at : Option Tag → StatusField → (lane tag : ℕ) → World 
 ended_at (Some (Flying command share standing)) st lane tag w = with_tag lane tag (Ended command (passed_on st) (Some share)) w
 ended_at _ st lane tag w = w
 
--- the mediator's side of a lane behind one more completion
+-- the mediator's side of a lane after one more completion
 abbrev pub completion_read : Lane → Lane
 completion_read lane = record lane { head = next_slot ring_size lane.head; phase = next_phase lane.head lane.phase }
 
@@ -302,7 +302,7 @@ delivered_all mediator lane (tag ∷ tags) o w =
 abbrev pub delivered : StatusField → (mediator lane : ℕ) → (tags : List ℕ) → Owner → World → World
 delivered st mediator lane tags o w = if is_success st then delivered_all mediator lane tags o w else w
 
--- the completion stands in the guest's queue, and the tags are free
+-- the completion is in the guest's queue, and the tags are free
 unfoldable pub posted_to : Posted → (lane : ℕ) → (tags : List ℕ) → Owner → World → World
 posted_to posted lane tags o w =
     with_tags lane tags Free
@@ -392,7 +392,7 @@ step geometry (event.Post lane tag) w =
 
 -- ---- logs
 
--- the world behind these events, in order
+-- the world after these events, in order
 unfoldable pub replay : Geometry → List Event → World → World
 replay geometry [] w = w
 replay geometry (e ∷ events) w = replay geometry events (step geometry e w).world
@@ -402,14 +402,14 @@ unfoldable pub replies : Geometry → List Event → World → List Reply
 replies geometry [] w = []
 replies geometry (e ∷ events) w = (step geometry e w).reply ∷ replies geometry events (step geometry e w).world
 
--- ---- what replies tell
+-- ---- what replies report
 
 -- whether a reply is Done
 abbrev pub is_done : Reply → Bool
 is_done reply.Done = true
 is_done _ = false
 
--- whether a reply tells of a change, or of bytes
+-- whether a reply reports a change, or bytes
 abbrev pub is_telling : Reply → Bool
 is_telling reply.Done = true
 is_telling (reply.Bytes bytes) = true

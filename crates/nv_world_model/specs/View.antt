@@ -81,7 +81,7 @@ abbrev pub moved_shown : Option Held → Plan → (bounce : ℕ) → List Span
 moved_shown None plan bounce = []
 moved_shown (Some h) plan bounce = units_shown plan h.left bounce
 
--- what is read of a command that was handed on, by where it stands
+-- what is read of a command that was handed on, by where it is
 abbrev pub read_shown : Standing → Plan → Option Held → (status_at : ℕ → StatusField) → (bounce : ℕ) → List Span
 read_shown (Queued at) plan held status_at bounce = []
 read_shown InDevice plan held status_at bounce = moved_shown held plan bounce
@@ -129,7 +129,7 @@ in_image guest host = is_some (guest_of (regions_of guest) host)
 abbrev pub in_extents : Namespace → (at : ℕ) → Bool
 in_extents ns at = list_any (has_block at) ns
 
--- ---- two worlds that look alike to a guest
+-- ---- two worlds that are alike to a guest
 
 -- one view, but for the marks
 pub record IsSameView (number : ℕ) (guest : Guest) (geometry : Geometry) (w z : World) : Type 0 where
@@ -180,7 +180,7 @@ unfoldable pub shared_numbers : World → SharedNumbers
 shared_numbers w =
     record { lanes = map lane_numbers w.lanes; rings = map ring_numbers w.device; guests = length w.controllers }
 
--- a guest can't tell the worlds apart
+-- a guest can't distinguish the worlds
 pub record IsAlike (number : ℕ) (guest : Guest) (geometry : Geometry) (w z : World) : Type 0 where
   pub view : IsSameView number guest geometry w z
   pub marks : SameMarks guest w z

@@ -20,8 +20,7 @@ pub record Command : Type 0 where
   pub entry : List ℕ
   pub leader : ℕ
 
--- where a physical command that was handed on stands: in a slot of the submission ring, in the device, or in a slot of the
--- completion ring
+-- where a physical command that was handed on is: in a slot of the submission ring, in the device, or in a slot of the completion ring
 pub data Standing : Type 0 where
   Queued : (slot : ℕ) → Standing
   InDevice : Standing

@@ -20,7 +20,7 @@ pub record IsChunk (size capacity : ℕ) (bytes : List ℕ) : Type 0 where
   pub whole : (bytes ≡ []) ⊎ (length bytes ≡ size)
   pub room : size ≤ capacity
 
--- the chunks, one behind the other
+-- the chunks, one after the other
 unfoldable pub joined : List (List ℕ) → List ℕ
 joined [] = []
 joined (chunk ∷ rest) = chunk ++ joined rest

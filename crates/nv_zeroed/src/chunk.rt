@@ -7,8 +7,8 @@ ghost use Rattle.std.specs.Vec.{vec_capacity};
 use std::alloc::{AllocError, Global};
 use std::marker::Model;
 
-/// How many bytes a chunk has: so many that an allocator takes pages of its own for each. In the heap each chunk would begin behind a few
-/// bytes that the allocator writes, and with huge pages these alone have the system clear the whole.
+/// How many bytes a chunk has: so many that an allocator takes separate pages for each. In the heap each chunk would begin after a few bytes that
+/// the allocator writes, and with huge pages these alone make the system clear the whole.
 pub(crate) const CHUNK: usize = 262_144;
 
 /// A chunk: [`CHUNK`] bytes. Those of one that was never written are not there yet, but their room is.

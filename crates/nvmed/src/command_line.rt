@@ -53,7 +53,7 @@ fn grammar<'a>(alloc: Global) -> Result<clap::Command<'a>, AllocError> {
         .subcommand(plain(alloc, RUN))
 }
 
-// What stands behind `decode`.
+// What follows `decode`.
 fn decode_grammar<'a>(alloc: Global) -> Result<clap::Command<'a>, AllocError> {
     plain(alloc, DECODE)
         .arg(Arg::new(alloc, KIND).required(true))?
@@ -67,7 +67,7 @@ fn plain<'a>(alloc: Global, name: &'a str) -> clap::Command<'a> {
         .disable_version_flag(true)
 }
 
-// The command of what stands behind `decode`, or `None` where its KIND is none.
+// The command of what follows `decode`, or `None` where its KIND is no valid kind.
 fn decode_command<'a>(found: &ArgMatches<'a>) -> Option<Command<'a>> {
     let kind = EntryKind::named(found.get_str(KIND)?)?;
     let digits = found.get_str(HEX)?;

@@ -19,7 +19,7 @@ fn expect_usage(rt: &(impl Abort + AllocGlobal), words: &[&str]) {
     expect(rt, words, Err(Refusal::Usage));
 }
 
-// The digits are looked at where the command is done.
+// The digits are checked where the command is carried out.
 #[test]
 fn knows_its_commands(rt: HostRuntime) {
     expect(&rt, &["once"], Ok(Request::Alone(Command::Once)));

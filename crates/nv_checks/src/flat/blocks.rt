@@ -9,9 +9,9 @@ use std::alloc::Global;
 use std::process::Abort;
 use std::test::Fail;
 
-/// Commands one after another, and what stands in memory and on the disk behind them.
+/// Commands one after another, and what is in memory and on the disk after them.
 struct Case {
-    /// Bytes that stand in the memory before: where, which, and how many.
+    /// Bytes that are in the memory before: where, which, and how many.
     stored: &'static [(u64, u8, usize)],
     /// What is changed of the Read, and the last dword of its completion.
     commands: &'static [(&'static [(usize, u32)], u32)],
@@ -45,7 +45,7 @@ const COMPARED: &[(u64, bool)] = &[(5, true), (6, true), (7, false)];
 
 /// On a controller of 20000h bytes and 64 blocks, of which block 5 is filled with 55h, block 6 with 66h and block 63 with CDh.
 const CASES: &[Case] = &[
-    // where the buffer lies, and the bytes before it and behind it, which stay zeros
+    // where the buffer is, and the bytes before it and after it, which stay zeros
     // a Read at the start of a page
     Case {
         stored: &[],
@@ -103,7 +103,7 @@ const CASES: &[Case] = &[
         blocks: &[],
         marks: &[(4, false), (5, true), (6, false)],
     },
-    // a Read without the bit behind it
+    // a Read without the bit after it
     Case {
         stored: &[],
         commands: &[WRITE_THROUGH, READ_BACK],
@@ -111,7 +111,7 @@ const CASES: &[Case] = &[
         blocks: &[],
         marks: &[(4, false), (5, true), (6, false)],
     },
-    // a Write without the bit behind them
+    // a Write without the bit after them
     Case {
         stored: &[],
         commands: &[WRITE_THROUGH, READ_BACK, WRITE_AGAIN],
@@ -119,7 +119,7 @@ const CASES: &[Case] = &[
         blocks: &[],
         marks: &[(4, false), (5, false), (6, false)],
     },
-    // a Read with the bit behind all
+    // a Read with the bit after all of them
     Case {
         stored: &[],
         commands: &[WRITE_THROUGH, READ_BACK, WRITE_AGAIN, READ_THROUGH],
@@ -248,7 +248,7 @@ fn others_are_kept(rt: &impl Abort, controller: &FlatController, kept: bool) {
 #[test]
 fn flushes_and_writes_zeroes(rt: HostRuntime) -> Result<(), Fail> {
     let mut controller = prepared(&rt, rt.alloc())?;
-    // a Flush, and Write Zeroes without and with FUA, neither of which looks at PSDT: dwords 0 and 12, the bytes of block 5, its mark
+    // a Flush, and Write Zeroes without and with FUA, neither of which examines PSDT: dwords 0 and 12, the bytes of block 5, its mark
     for (dword, cdw12, byte, kept) in [
         (0x0007_c000, 0, 0x55, true),
         (0x0007_c008, 0, 0, false),
@@ -301,8 +301,8 @@ fn cleared_are(rt: &impl Abort, controller: &FlatController, first: u64, others:
 
 #[test]
 fn manages_datasets(rt: HostRuntime) -> Result<(), Fail> {
-    // the last range, dword 11, the last dword of the completion, and how many blocks are deallocated from LBA 0 and from LBA 5 on:
-    // none where the last range is behind the end or nothing is asked for; no blocks at the end pass; ranges of several blocks
+    // the last range, dword 11, the last dword of the completion, and how many blocks are deallocated from LBA 0 and from LBA 5 on: none where the
+    // last range is past the end or nothing is asked for; no blocks at the end pass; ranges of several blocks
     for (last, asked, want, first, others) in [
         (range(64, 1), 4, 0x8101_0007, 0, 0),
         (range(63, 1), 0, SUCCESS, 0, 0),

@@ -32,7 +32,7 @@ fn put_entries(rt: &impl Abort, controller: &mut FlatController, entries: &[(u64
 
 #[test]
 fn reads_by_region_pages(rt: HostRuntime) -> Result<(), Fail> {
-    // a list that chains at its page's end, and one that stands in the page
+    // a list that chains at the end of its page, and one that is within the page
     for (prp2, first) in [(0x6ff8, 0x7000), (0x6ff0, 0x6ff0)] {
         let mut controller = numbered(&rt, rt.alloc())?;
         let entries = [(0x6ff8, 0x7000), (first, 0x8000), (first + 8, 0x9000)];

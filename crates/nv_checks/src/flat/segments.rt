@@ -10,7 +10,7 @@ use std::alloc::Global;
 use std::process::Abort;
 use std::test::Fail;
 
-/// A descriptor as a table has it: its kind, as it stands in the upper bits of dword 3, with subtype 0; its address; its length.
+/// A descriptor as a table has it: its kind, as it is in the upper bits of dword 3, with subtype 0; its address; its length.
 type Row = (u32, u32, u32);
 
 const DATA_BLOCK: u32 = 0;
@@ -62,7 +62,7 @@ fn through_last_segment(rt: &impl Abort, first_dword: u32) -> Sqe {
 
 #[test]
 fn delivers_through_a_chain(rt: HostRuntime) -> Result<(), Fail> {
-    // where the second block is delivered, and what else stands somewhere: a place that is named twice has what was delivered last
+    // where the second block is delivered, and what else is at some address: a place that is named twice has what was delivered last
     for (second, other) in [
         (0x5000, (0x3e00, 0x55)),
         (0x5200, (0x3e00, 0x55)),
@@ -100,7 +100,7 @@ fn discards_into_a_bit_bucket(rt: HostRuntime) -> Result<(), Fail> {
 /// Where the pieces of one block lie, and the first byte of the block that each has: 100, 300 and 112 bytes.
 const PARTS: [(u64, u8, usize); 3] = [(0x3000, 0, 100), (0x4001, 100, 300), (0x5002, 144, 112)];
 
-// `len` bytes that count up from this one, and begin again behind 255.
+// `len` bytes that count up from this one, and begin again after 255.
 fn counting(rt: &impl Abort, from: u8, len: usize, out: &mut [u8; 512]) {
     assert!(rt; len <= 512);
     let mut next = from;
@@ -156,7 +156,7 @@ fn writes_pieces_that_part_inside_a_block(rt: HostRuntime) -> Result<(), Fail> {
 
 #[test]
 fn compares_pieces_that_part_inside_a_block(rt: HostRuntime) -> Result<(), Fail> {
-    // where a byte is changed, and the last dword: behind the first piece, the ends of the second, behind it
+    // where a byte is changed, and the last dword: after the first piece, the ends of the second, after it
     for (addr, want) in [
         (0x3064, SUCCESS),
         (0x4001, DIFFERS),
@@ -171,7 +171,7 @@ fn compares_pieces_that_part_inside_a_block(rt: HostRuntime) -> Result<(), Fail>
     Ok(())
 }
 
-// Whether so many bytes that count up from this one stand at an address, and zeros behind them: 512 bytes.
+// Whether so many bytes that count up from this one are at an address, and zeros after them: 512 bytes.
 fn counting_at(
     rt: &impl Abort,
     controller: &FlatController,

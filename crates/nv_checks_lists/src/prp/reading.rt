@@ -216,7 +216,7 @@ const REFUSED_LISTS: &[Case] = &[
     },
 ];
 
-// A memory of zeros in which these numbers stand, each in 8 bytes.
+// A memory of zeros with these numbers in it, each in 8 bytes.
 fn holding(alloc: Global, slots: &[(usize, u64)]) -> Result<Vec<u8>, NoMemory> {
     let mut memory = vec![in alloc; 0u8; 0x40000]?;
     for (at, number) in slots {
@@ -313,7 +313,7 @@ fn transfers(rt: HostRuntime) -> Result<(), Fail> {
     Ok(())
 }
 
-// 33 pages from an offset of 4: 32 entries of a list, the last of which stands for 4 bytes.
+// 33 pages from an offset of 4: 32 entries of a list, the last of which represents 4 bytes.
 fn list_of_largest(alloc: Global) -> Result<Vec<u8>, NoMemory> {
     let mut memory = holding(alloc, &[])?;
     for i in 0..32 {

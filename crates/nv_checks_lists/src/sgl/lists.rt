@@ -128,7 +128,7 @@ const FAULTS: &[(usize, Row)] = &[
     // a block that isn't mapped before a type that isn't known
     (0x8000, (DATA, 0x2_0000, 512)),
     (0x8010, (0x40, 0, 0)),
-    // and behind it
+    // and after it
     (0x9000, (0x40, 0, 0)),
     (0x9010, (DATA, 0x2_0000, 512)),
     // a Last Segment, last in the array that a Segment named
@@ -372,7 +372,7 @@ fn lists(rt: HostRuntime) -> Result<(), Fail> {
     Ok(())
 }
 
-// Run it with each allocation of the process refused in turn: it ends well, or with an error for want of memory.
+// Run it with each allocation of the process refused in turn: it succeeds, or ends with an error because it is out of memory.
 #[test]
 fn a_list_from_its_descriptor_to_its_places(rt: HostRuntime) -> Result<(), Fail> {
     let map = map(rt.alloc())?;

@@ -20,7 +20,7 @@ fn is_read_512_times(alloc: Global, guest: &Guest) -> Result<bool, NoMemory> {
         addr: 0x6000,
         len: 32,
     };
-    // the 512th reading stops behind descriptor 1,024, the array's first
+    // the 512th reading stops after descriptor 1,024, the array's first
     Ok(
         feedings(&mut parse, &guest.memory, part)? == 512
             && parse.wants() == Want::TooLong
@@ -70,7 +70,7 @@ fn takes(
     Ok(true)
 }
 
-// Whether the array stands in front of the own descriptor.
+// Whether the array is in front of the own descriptor.
 fn has_array_in_front(chain: &Chain<Global>, own: Descriptor) -> bool {
     let array = chain.blocks();
     let older = match chain.next() {

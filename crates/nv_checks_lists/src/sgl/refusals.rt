@@ -154,13 +154,13 @@ fn refusals_of_copy(heap: &Refusing<Global>, chain: &Chain<&Refusing<Global>>) -
     None
 }
 
-/// What is wanted of the list of three arrays behind two parts.
+/// What is wanted of the list of three arrays after two parts.
 const THIRD_PART: Want = Want::Read {
     addr: 0x9000,
     len: 16,
 };
 
-// Whether the copy of a parse behind two parts is alike, and is fed by itself.
+// Whether the copy of a parse after two parts is alike, and is fed independently.
 fn is_fed_by_itself(
     copy: &mut SglParse<'_, &Refusing<Global>>,
     parse: &SglParse<'_, &Refusing<Global>>,
@@ -175,7 +175,7 @@ fn is_fed_by_itself(
     )
 }
 
-// Whether a parse behind two parts, and its chain, are copied.
+// Whether a parse after two parts, and its chain, are copied.
 fn is_copied(
     parse: &SglParse<'_, &Refusing<Global>>,
     heap: &Refusing<Global>,
@@ -189,7 +189,7 @@ fn is_copied(
     Ok(refusals == Some(5) && is_fed_by_itself(&mut copy, parse, alloc, memory)?)
 }
 
-// Whether a parse is copied behind two parts, and goes on wanting the third.
+// Whether a parse is copied after two parts, and still wants the third.
 fn is_copied_behind_two_parts(
     parse: &mut SglParse<'_, &Refusing<Global>>,
     heap: &Refusing<Global>,

@@ -5,8 +5,8 @@ ghost use Rattle.nv_world_model.specs.declared.event.Event.TheVariants as event;
 ghost use Rattle.nv_world_model.specs.Geometry.{Geometry, Guest};
 ghost use Rattle.nv_laws_related.specs.Following.{IsFollowed};
 
-/// The private controller of a disciplined guest goes along with each admin step of the guest's: where one is done it makes its own, which finds the
-/// same command, and both stand for one another behind it.
+/// The private controller of a disciplined guest follows each admin step of the guest's. Where one is done, it makes its own, which finds the same
+/// command, and both correspond to each other after it.
 pub fn admin_steps_are_followed()
     ensures { (host_bytes : ℕ) (geometry : Geometry) (number : ℕ) (guest : Guest) →
         slice_get geometry.guests number ≡ Some guest → IsFollowed geometry host_bytes number guest (event.Admin number) }

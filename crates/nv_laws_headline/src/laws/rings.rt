@@ -18,7 +18,7 @@ pub fn takes_are_followed()
         GoesAlong geometry number guest (event.DevTake lane) w p (step geometry (event.DevTake lane) w) }
 {}
 
-/// And where the device answers it: all its units have moved, and its status tells whether a Compare differed.
+/// And where the device answers it: all its units have moved, and its status reports whether a Compare differed.
 pub fn posts_are_followed()
     ensures { (host_bytes : ℕ) (geometry : Geometry) (number : ℕ) (guest : Guest) (w : World) (p : Private) (lane slot : ℕ) →
         slice_get geometry.guests number ≡ Some guest → IsReached host_bytes geometry w → Related geometry number guest w p →

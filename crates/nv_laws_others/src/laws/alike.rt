@@ -1,4 +1,4 @@
-//! Worlds that look alike to an event's owner.
+//! Worlds that are alike to an event's owner.
 
 ghost use Rattle.std.specs.Prelude.{◌≡◌, ℕ, Some, length, slice_get};
 ghost use Rattle.nv_world_model.specs.declared.event.Event.{Event};
@@ -11,9 +11,9 @@ ghost use Rattle.nv_laws_sound.specs.Consistent.{IsConsistent};
 ghost use Rattle.nv_laws_sound.specs.LaidOut.{IsLaidOut};
 ghost use Rattle.nv_laws_others.specs.Alike.{GoesByItsOwn, HasFittingStatus, HoldsNothingFree};
 
-/// Two worlds that look alike to an event's owner look alike to it behind the event. One of them is consistent, as each world is that events lead
-/// to; of the other nothing is asked but that the device holds nothing under a free tag, and that what goes by a tag of the owner's is the owner's,
-/// so it may be the world cut down to the owner's view.
+/// Two worlds that are alike to an event's owner are alike to it after the event. One of them is consistent, as each world is that events lead to.
+/// Of the other only two things are required: the device holds nothing under a free tag, and what goes by a tag of the owner's is the owner's. So
+/// it may be the world cut down to the owner's view.
 pub fn events_keep_worlds_alike()
     ensures { (host_bytes : ℕ) (geometry : Geometry) (w z : World) (number : ℕ) (guest : Guest) (e : Event) →
         IsLaidOut host_bytes (length w.lanes) geometry → IsConsistent geometry w → HoldsNothingFree z →

@@ -13,9 +13,9 @@ ghost use Rattle.nv_world_model.specs.SetUp.{world_at_start};
 ghost use Rattle.nv_laws_sound.specs.Consistent.{IsConsistent};
 ghost use Rattle.nv_laws_sound.specs.LaidOut.{IsLaidOut};
 
-/// Every other guest's view is as it was, and so is each byte that is neither the owner's nor the mediator's, and each block that isn't the
-/// owner's, but that its mark may rise: whatever the guests do, and whichever commands fail. For one event in a consistent world, and for the
-/// next event behind any others since a set-up that isn't refused.
+/// Every other guest's view is as it was. So is each byte that is neither the owner's nor the mediator's, and each block that isn't the owner's,
+/// except that its mark may become set. This holds whatever the guests do, and whichever commands fail. It holds for one event in a consistent
+/// world, and for the next event after any others since a set-up that isn't refused.
 pub fn events_leave_others()
     ensures each { (host_bytes : ℕ) (geometry : Geometry) (w : World) (e : Event) → IsLaidOut host_bytes (length w.lanes) geometry → IsConsistent geometry w →
         LeavesOthers geometry (owner e w) w (step geometry e w).world }

@@ -5,8 +5,8 @@ ghost use Rattle.nv_world_model.specs.RowsExtents.{set_up};
 ghost use Rattle.nv_world_model.specs.declared.event.Event.TheVariants as event;
 ghost use Rattle.nv_laws_others.specs.Unfitting.{left_over, type_eight};
 
-/// A failure with a status of type 8 isn't contained: the completion tells of success, and the bytes that another's command left in the bounce
-/// pages are shown to the guest as those of its Read. No `Status` of the code has such a type.
+/// A failure with a status of type 8 isn't contained: the completion reports success, and the bytes that another's command left in the bounce pages
+/// are shown to the guest as those of its Read. No `Status` of the code has such a type.
 #[tactic(none)]
 pub fn a_status_has_to_fit()
     ensures { Contained set_up (event.DevFail 0 0 type_eight) left_over → ⊥ }

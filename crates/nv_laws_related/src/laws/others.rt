@@ -10,8 +10,8 @@ ghost use Rattle.nv_world_model.specs.World.{World};
 ghost use Rattle.nv_laws_related.specs.Following.{GoesAlong, IsReached};
 ghost use Rattle.nv_laws_related.specs.Related.{Related};
 
-/// The private controller of a guest goes along with each event that isn't the guest's, whether that guest is disciplined or not: a unit of
-/// another's Flush, and a Keep, stand for a Keep of each block of the guest's that they reach, and any other event for nothing.
+/// The private controller of a guest follows each event that isn't the guest's, whether that guest is disciplined or not. A unit of another's
+/// Flush, and a Keep, represent a Keep of each block of the guest's that they reach. Any other event represents nothing.
 pub fn events_of_others_are_followed()
     ensures { (host_bytes : ℕ) (geometry : Geometry) (number : ℕ) (guest : Guest) (w : World) (p : Private) (e : Event) →
         slice_get geometry.guests number ≡ Some guest → IsReached host_bytes geometry w → Related geometry number guest w p →

@@ -10,7 +10,7 @@ ghost use Rattle.nv_world_model.specs.World.{World};
 ghost use Rattle.nv_laws_related.specs.Following.{GoesAlong, IsReached};
 ghost use Rattle.nv_laws_related.specs.Related.{Related};
 
-/// The private controller of a guest goes along where a list of the guest's is read, which stands for no step of it, and where a command of the guest
+/// The private controller of a guest follows where a list of the guest's is read, which represents no step of it, and where a command of the guest
 /// is given up, whatever tags it has.
 pub fn lists_and_give_ups_are_followed()
     ensures lists { (host_bytes : ℕ) (geometry : Geometry) (number lane tag addr len : ℕ) (guest : Guest) (w : World) (p : Private) →

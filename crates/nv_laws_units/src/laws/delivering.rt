@@ -57,10 +57,9 @@ pub fn a_share_lies_in_the_whole()
         All (IsAnother (At addr)) (places_of is.work.pieces) }
 {}
 
-/// Behind a unit of a share of a bounced Read its part of the bounce pages has the bytes that the guest's own memory has at the
-/// block's places, where they name no byte twice; the parts of other units have theirs as before, where no place of the
-/// share's destination does; and at the places of the whole's other blocks, in whichever share they are, the guest's own
-/// memory has what it had.
+/// After a unit of a share of a bounced Read, its part of the bounce pages has the bytes that the guest's own memory has at the block's places,
+/// where they name no byte twice. The parts of other units have theirs as before, where no place of the share's destination does. At the places of
+/// the whole's other blocks, in whichever share they are, the guest's own memory has what it had.
 pub fn a_bounced_block_stands_in_its_page()
     ensures moved { (host_bytes : ℕ) (geometry : Geometry) (w : World) (number : ℕ) (guest : Guest) (lane tag : ℕ)
         (share : Share) (whole work : Work)
@@ -94,10 +93,9 @@ pub fn a_bounced_block_stands_in_its_page()
         HasAt (units_moved (own_units whole share unit) whole own).memory (places_of_block whole other) bytes }
 {}
 
-/// What is delivered at last of a share is what the guest's own memory has had since the units moved: where each unit's
-/// part of the bounce pages has what that memory has at its places, and the guest's memory has what it has elsewhere,
-/// the guest's memory behind the delivery is it. A bounced Read's shares are delivered, and each has a block of bytes for
-/// each of its units.
+/// What is delivered at last of a share is what the guest's own memory has had since the units moved. Where each unit's part of the bounce pages
+/// has what that memory has at its places, and the guest's memory has what that memory has elsewhere, the guest's memory after the delivery is that
+/// memory. A bounced Read's shares are delivered, and each has a block of bytes for each of its units.
 pub fn what_is_delivered_is_what_the_units_moved()
     ensures units { (guest : Guest) (entry : List ℕ) (share : Share) (work : Work) (dest : Bool) →
         IsPlanned guest entry share → work_of share.plan ≡ Some work → form_of work.opcode ≡ Transfer dest →
@@ -114,9 +112,9 @@ pub fn what_is_delivered_is_what_the_units_moved()
         image (regions_of o.given) (scattered_to bounce work o w).host addr ≡ memory addr }
 {}
 
-/// Delivered tag by tag, a command's bytes are what the guest's own memory has had since the units moved: where that has
-/// what each tag's bounce pages have at the places of its share, and what the guest's memory has elsewhere, the guest's
-/// memory behind the delivery of all tags is it.
+/// Delivered tag by tag, a command's bytes are what the guest's own memory has had since the units moved. Where that memory has what each tag's
+/// bounce pages have at the places of its share, and what the guest's memory has elsewhere, the guest's memory after the delivery of all tags is
+/// that memory.
 pub fn tag_by_tag_what_the_units_moved_is_delivered()
     ensures { (host_bytes : ℕ) (geometry : Geometry) (w : World) (lane : ℕ) (o : Owner) (memory : ℕ → ℕ)
         (tags : List ℕ) (addr : ℕ) →
@@ -129,8 +127,8 @@ pub fn tag_by_tag_what_the_units_moved_is_delivered()
         image (regions_of o.given) (delivered_all geometry.mediator lane tags o w).host addr ≡ memory addr }
 {}
 
-/// A Write's and a Compare's source is bounced as it was gathered: where the bounce pages have its bytes in order,
-/// each unit's part of them has the bytes at the block's places, and that is where the device looks.
+/// The source of a Write and of a Compare is bounced as it was gathered: where the bounce pages have its bytes in order, each unit's part of them
+/// has the bytes at the block's places, and that is where the device reads.
 pub fn a_bounced_source_stands_in_its_pages()
     ensures part { (memory host : ℕ → ℕ) (work : Work) (bounce unit : ℕ) →
         bytes_from host bounce (total_len work.pieces) ≡ gathered memory (places_of work.pieces) →

@@ -1,4 +1,4 @@
-//! A guest's memory in the host behind a unit of a share of its command.
+//! A guest's memory in the host after a unit of a share of its command.
 
 ghost use Rattle.std.specs.Prelude.{◌≡◌, ℕ, true, ◌==◌, length};
 ghost use Rattle.std.specs.List.{list_any};
@@ -16,9 +16,8 @@ ghost use Rattle.nv_laws_sound.specs.Consistent.{IsConsistent};
 ghost use Rattle.nv_laws_sound.specs.LaidOut.{IsLaidOut};
 ghost use Rattle.nv_laws_units.specs.Units.{GivesBlock, IsHeld, SameBlocks, addresses_of_block, own_units, whole_of};
 
-/// A direct transfer's places have in the guest's memory what the host has where the device looks; and a direct
-/// Read's unit gives the same bytes to the same places of the guest's memory and of its own: a byte that is the same
-/// in both stays so.
+/// A direct transfer's places have in the guest's memory what the host has where the device accesses it. A direct Read's unit gives the same bytes
+/// to the same places of the guest's memory and of its private controller's memory: a byte that is the same in both stays so.
 pub fn a_direct_unit_moves_in_the_guests_memory()
     ensures source { (host_bytes : ℕ) (geometry : Geometry) (w : World) (number : ℕ) (guest : Guest) (lane tag : ℕ)
         (share : Share) (whole work : Work)

@@ -21,11 +21,10 @@ ghost use Rattle.nv_laws_sound.specs.Consistent.{IsConsistent};
 ghost use Rattle.nv_laws_sound.specs.LaidOut.{IsLaidOut};
 ghost use Rattle.nv_laws_units.specs.Units.{GivesBlock, IsHeld, SameBlocks, addresses_of_block, left_without, own_of, own_units, whole_of};
 
-/// A unit that the device moves of a share does to a guest's blocks, each where the disk has it, what those units of the
-/// guest's whole command do that it stands for (of a range of Dataset Management all its blocks' units): the same bytes,
-/// the same marks, and a Compare differs in both or in neither. A Write's and a Compare's source is any memory that has
-/// at the places of the share's block what the host has where the device looks: the guest's memory where the transfer is
-/// direct, the tag's bounce pages where it isn't.
+/// A unit of a share that the device moves does to a guest's blocks, each where the disk has it, what those units of the guest's whole command do
+/// that it represents (for a range of Dataset Management, all its blocks' units): the same bytes, the same marks, and a Compare differs in both or
+/// in neither. The source of a Write and of a Compare is any memory that has at the places of the share's block what the host has where the device
+/// reads: the guest's memory where the transfer is direct, the tag's bounce pages where it isn't.
 pub fn a_moved_unit_is_the_private_unit()
     ensures blocks { (host_bytes : ℕ) (geometry : Geometry) (w : World) (number : ℕ) (guest : Guest) (lane tag : ℕ)
         (share : Share) (whole work : Work)
@@ -58,9 +57,9 @@ pub fn a_moved_unit_is_the_private_unit()
         × ((device_unit unit geometry.disk_blocks h w.host w.disk w.kept).memory ≡ w.host) }
 {}
 
-/// The steps that a unit's event stands for on its guest's private controller are those of the units that it stands
-/// for, under the name of the tag that the command goes by; and where the command is at work there with those units
-/// left, they are a run, behind which it is so again, without them.
+/// The steps that a unit's event represents on its guest's private controller are those of the units that it represents, under the name of the tag
+/// that the command goes by. Where the command is at work there with those units left, these steps are a run, and after it the command is at work
+/// again, without those units.
 pub fn a_units_steps_are_a_run()
     ensures steps { (geometry : Geometry) (w : World) (number : ℕ) (guest : Guest) (lane tag : ℕ) (share : Share)
         (whole work : Work) (h : Held) (unit : ℕ) (is : IsHeld geometry w number guest lane tag share whole work h) →
@@ -81,8 +80,8 @@ pub fn a_units_steps_are_a_run()
         }) }
 {}
 
-/// A unit that is left moves by its event, whichever is named: the host, the disk and the marks behind it are those
-/// that the unit leaves, and the share is in the device with one unit less.
+/// A unit that is left moves by its event, whichever unit is named: the host, the disk and the marks after it are those that the unit leaves, and
+/// the share is in the device with one unit fewer.
 pub fn a_unit_moves_by_its_event()
     ensures done { (geometry : Geometry) (w : World) (number : ℕ) (guest : Guest) (lane tag : ℕ) (share : Share) (whole work : Work) (h : Held) (unit : ℕ) →
         IsHeld geometry w number guest lane tag share whole work h → list_any (λ k. k == unit) h.left ≡ true →

@@ -1,4 +1,4 @@
-//! What is left of a command behind a unit of one of its shares.
+//! What is left of a command after a unit of one of its shares.
 
 ghost use Rattle.std.specs.Prelude.{◌≡◌, ◌≢◌, ℕ, Bool, ◌||◌, ◌==◌, List, [], ◌∷◌, ◌++◌, Some, true, false, filter, slice_get};
 ghost use Rattle.std.specs.List.{All, list_any};
@@ -19,9 +19,9 @@ pub fn no_number_is_of_two_shares()
         list_any (λ n. n == number) a.numbers ≡ true → list_any (λ n. n == number) b.numbers ≡ false }
 {}
 
-/// Behind a unit that moves, those units of its share are left that were, without those that it stands for. These are among
-/// the whole's units that some share has left; a share has only its own left; and of the whole, too, those are left that
-/// were, without these, where the other shares have none of this share's units left.
+/// After a unit moves, those units of its share are left that were left before, without those that it represents. The units that it represents are
+/// among the whole's units that some share has left. A share has only its own units left. Of the whole, too, those units are left that were left
+/// before, without the represented ones, where the other shares have none of this share's units left.
 pub fn a_units_numbers_are_left_no_more()
     ensures share { (guest : Guest) (entry : List ℕ) (share : Share) (unit : ℕ) (left : List ℕ) →
         IsPlanned guest entry share → numbers_behind share (others unit left)

@@ -19,8 +19,8 @@ ghost use Rattle.nv_laws_sound.specs.LaidOut.{IsLaidOut};
 ghost use Rattle.nv_laws_units.specs.Marks.{HasSameDisk, RunsToMarks, SameMarks, touches_blocks};
 ghost use Rattle.nv_laws_units.specs.Units.{IsHeld};
 
-/// Another guest's unit leaves the bytes of a guest's blocks, and the steps that it stands for on the guest's private
-/// controller (a Flush's makes each block kept, any other is none) give its marks exactly.
+/// Another guest's unit leaves the bytes of a guest's blocks as they are. The steps that it represents on the guest's private controller (a Flush's
+/// unit makes each block kept, any other unit is no step) give the guest's marks exactly.
 pub fn anothers_unit_raises_marks_at_most()
     ensures steps { (geometry : Geometry) (w : World) (owner : ℕ) (held : Guest) (lane tag : ℕ) (share : Share) (whole work : Work) (h : Held)
         (unit number : ℕ) (guest : Guest) → IsHeld geometry w owner held lane tag share whole work h → number ≢ owner →
@@ -45,8 +45,8 @@ pub fn anothers_unit_raises_marks_at_most()
         (place_in guest.namespace lba) offset ≡ w.disk (place_in guest.namespace lba) offset }
 {}
 
-/// Where a block of the disk becomes kept, the steps that this stands for give a guest's marks exactly: its own block
-/// is kept, if the disk's is one of its blocks, and else nothing happens.
+/// Where a block of the disk becomes kept, the steps that this represents give a guest's marks exactly: the guest's own block becomes kept if the
+/// disk's block is one of its blocks, and otherwise nothing happens.
 pub fn a_kept_block_raises_its_own_mark()
     ensures steps { (w : World) (number : ℕ) (guest : Guest) (block : ℕ) →
         steps_of number guest w (event.Keep block) reply.Done ≡ keeps guest.namespace block }

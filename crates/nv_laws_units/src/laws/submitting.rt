@@ -32,8 +32,8 @@ pub fn the_plan_is_the_verdicts_at_submission()
         plan ≡ plan_of (regions_of guest) (verdict_in (shape_of guest) memory entry) }
 {}
 
-/// A share's part of a Write's and a Compare's source that is bounced stands in its tag's bounce pages, in order, as the
-/// guest's memory has it.
+/// Where it is bounced, a share's part of the source of a Write and of a Compare is in its tag's bounce pages, in order, as the guest's memory has
+/// it.
 pub fn a_source_is_bounced_as_the_guest_has_it()
     ensures { (geometry : Geometry) (guest : Guest) (entry : List ℕ) (share : Share) (work : Work)
         (lane tag slot : ℕ) (host : ℕ → ℕ) → IsPlanned guest entry share →

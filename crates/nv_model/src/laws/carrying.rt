@@ -8,15 +8,15 @@ ghost use Rattle.nv_model.specs.Carried.{units_moved};
 ghost use Rattle.nv_model.specs.Carrying.{IsCarriedOut, all_moved, cleared, judged_then_moved, this_far, units_from, unmoved};
 ghost use Rattle.nv_model.specs.Laws.{HasMoved, IsOrderOf};
 
-/// Judging a command that goes, and moving its units in order, is a run; behind it stand the memory, the disk and the marks
-/// that its units leave in order.
+/// Judging a command that goes, and moving its units in order, is a run. After it the memory, the disk and the marks are those that its units leave
+/// in order.
 pub fn units_move_in_order()
     ensures { (shape : Shape) (p : Private) (name : ℕ) (t : Taken) (work : Work) →
         p.bag name ≡ Some t → t.progress ≡ Unjudged → verdict_in shape p.memory t.entry ≡ Go work →
         run_of shape (judged_then_moved name (length work.units)) p ≡ Some (record { state = all_moved name t work p; seen = [] }) }
 {}
 
-/// Judging a command that is refused is a run, behind which it has ended and nothing else has changed.
+/// Judging a command that is refused is a run, after which the command has ended and nothing else has changed.
 pub fn refusal_ends_it()
     ensures { (shape : Shape) (p : Private) (name : ℕ) (t : Taken) (st : StatusField) →
         p.bag name ≡ Some t → t.progress ≡ Unjudged → verdict_in shape p.memory t.entry ≡ Refuse st →

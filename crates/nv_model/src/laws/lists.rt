@@ -34,7 +34,7 @@ pub fn region_pages_have_the_transfers_length()
         in_memory memory (read_prp mapped prp1 prp2 len) ≡ Spells pieces → total_len pieces ≡ len }
 {}
 
-/// So none is refused for its length, and its reading is the same with that check behind it.
+/// So none is refused for its length, and its reading is the same with that check after it.
 pub fn region_pages_are_sized()
     ensures { (mapped : ℕ → Bool) (prp1 prp2 len : ℕ) →
         and_then (read_prp mapped prp1 prp2 len) (λ reading. End (sized len reading)) ≡ read_prp mapped prp1 prp2 len }

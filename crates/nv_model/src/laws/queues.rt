@@ -22,7 +22,7 @@ pub fn queues_stay_in_order()
         QueuesInOrder c → admin mapped blocks c memory ≡ Stepped after behind → QueuesInOrder after }
 {}
 
-/// The queues are in order at the start and behind each run.
+/// The queues are in order at the start and after each run.
 pub fn runs_keep_queues_in_order()
     ensures start { QueuesInOrder start.controller }
     ensures run { (shape : Shape) (steps : List Step) (p : Private) (r : Run) →

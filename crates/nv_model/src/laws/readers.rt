@@ -7,9 +7,8 @@ ghost use Rattle.nv_model.specs.Parts.{AsksInParts, reads_met};
 ghost use Rattle.nv_model.specs.Readers.{given_all, reads_in, standing};
 ghost use Rattle.nv_model.specs.Transcript.{ReadDone, Settled, in_transcript};
 
-/// A transcript is taken read by read: one that is wanted is fed to the dialogue, and any other changes nothing. So
-/// further reads are taken by what is left of the dialogue, and the reads that it meets come behind those that were
-/// met.
+/// A transcript is taken read by read: one that is wanted is fed to the dialogue, and any other changes nothing. So further reads are taken by what
+/// is left of the dialogue, and the reads that it meets come after those that were met.
 pub fn reads_are_taken_one_after_the_other<A>()
     ensures each { (d : Dialogue A) (reads : List ReadDone) → in_transcript d [] reads ≡ standing (given_all d reads) }
     ensures further { (d : Dialogue A) (reads more : List ReadDone) →
@@ -24,7 +23,7 @@ pub fn a_settled_value_stays<A>()
         in_transcript d [] reads ≡ Settled value → in_transcript d [] (reads ++ more) ≡ Settled value }
 {}
 
-/// A dialogue that asks in parts does so behind each read, and then ends and asks as it may without.
+/// A dialogue that asks in parts does so after each read, and then ends and asks as it may without that read.
 pub fn what_is_read_is_some_answer<A>()
     ensures ends { (d : Dialogue A) (reads : List ReadDone) (value : A) → AsksInParts d → MayEndIn (given_all d reads) value → MayEndIn d value }
     ensures asks { (d : Dialogue A) (reads : List ReadDone) (addr unit left : ℕ) → AsksInParts d →

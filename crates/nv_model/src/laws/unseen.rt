@@ -26,8 +26,7 @@ pub fn states_stay_in_place()
         IsInPlace shape p → run_of shape steps p ≡ Some r → IsInPlace shape r.state }
 {}
 
-/// A step does the same to states that look alike: it can be made in both or in neither, with equal replies, to states that look
-/// alike.
+/// A step does the same to states that look alike: it can be made in both or in neither, with equal replies, and leads to states that look alike.
 pub fn steps_do_the_same()
     ensures { (shape : Shape) (s : Step) (p q : Private) →
         LookAlike shape p q → IsInPlace shape p → StepsAlike shape (step shape s p) (step shape s q) }

@@ -1,4 +1,4 @@
-//! Admin commands with command identifier 3, done as the third behind the bring-up, or as the first: the last dword of the completion.
+//! Admin commands with command identifier 3, done as the third after the bring-up, or as the first: the last dword of the completion.
 
 ghost use Rattle.std.specs.Prelude.{◌≡◌, [], ◌∷◌, ◌++◌, Some, map, replicate};
 ghost use Rattle.nv_model.specs.Private.{AdminQueueStep, start};
@@ -50,11 +50,11 @@ pub fn examples()
         ≡ Some (0x820b0007 ∷ 0 ∷ 4 ∷ []) }
     // An opcode that is not known: Invalid Command Opcode.
     ensures an_unknown_admin_opcode { third_answer (admin_entry 0x03 3 0 0 0 0 0) ≡ Some 0x80030003 }
-    // FUSE is looked at before the opcode, and the opcode before PSDT.
+    // FUSE is checked before the opcode, and the opcode before PSDT.
     ensures fuse_then_opcode_then_psdt { map third_answer (
         command 0x00034103 0 (prps 0 0) 0 0 0 ∷ command 0x00034003 0 (prps 0 0) 0 0 0 ∷ command 0x00034008 0 (prps 0 0) 0 0 0 ∷ [])
         ≡ Some 0x80050003 ∷ Some 0x80030003 ∷ Some 0x80050003 ∷ [] }
-    // The checks of Create I/O Completion Queue in their order: each of these entries fails one, and each check behind it that it can.
+    // The checks of Create I/O Completion Queue in their order: each of these entries fails one, and each check after it that it can.
     ensures the_checks_of_a_new_completion_queue { map third_answer (
         new_completion_queue 0 0 0 0x20001 ∷ new_completion_queue 9 0 0 0x20001 ∷ new_completion_queue 1 0 0 0x20001
         ∷ new_completion_queue 2 0 0 0x20001 ∷ new_completion_queue 2 1024 0 0x20001
@@ -64,7 +64,7 @@ pub fn examples()
         ∷ Some 0x82050003 ∷ Some 0x82050003
         ∷ Some 0x80050003 ∷ Some 0x80270003 ∷ Some 0x80090003
         ∷ Some 0x00010003 ∷ Some 0x00010003 ∷ [] }
-    // Those of Create I/O Submission Queue likewise; the completion queue that it names is looked at before its place.
+    // Those of Create I/O Submission Queue likewise; the completion queue that it names is checked before its place.
     ensures the_checks_of_a_new_submission_queue { map third_answer (
         new_submission_queue 0 0 0 0 0x20001 ∷ new_submission_queue 9 0 0 0 0x20001 ∷ new_submission_queue 1 0 0 0 0x20001
         ∷ new_submission_queue 2 0 0 0 0x20001 ∷ new_submission_queue 2 1024 0 0 0x20001 ∷ new_submission_queue 2 1 0 0 0x20001

@@ -39,7 +39,7 @@ pub fn the_descriptors_of_a_list_in_order()
         ≡ segment 0x6000 32 ∷ data_block 0x3000 512 ∷ last_segment 0x7000 16 ∷ bit_bucket 64 ∷ [] }
 {}
 
-/// The bytes of a list that begins in the last slot of a memory page: in PRP1's page, the first behind it, and the last of all.
+/// The bytes of a list that begins in the last slot of a memory page: in PRP1's page, the first after it, and the last of all.
 #[tactic(none)]
 pub fn bytes_of_three_pages_by_a_list_that_goes_on()
     ensures { map (byte_address (stored (holding 0x6ff8 (prp_entries (0x7000 ∷ []))) 0x7000 (prp_entries (0x8000 ∷ 0x9000 ∷ []))) 0x3004 0x6ff8 12284)

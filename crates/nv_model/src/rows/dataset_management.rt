@@ -18,7 +18,7 @@ pub fn examples()
     ensures a_range_of_blocks_that_would_wrap { refusal_in (holding 0x3000 (block_range 0xffffffffffffffff 1)) (manage true 0 (data_block 0x3000 16)) ≡ Some 0x81010007 }
     // A range of length 0 at the namespace's end passes, and has no unit.
     ensures no_blocks_at_the_end { verdict_in guest (holding 0x3000 (block_range 64 0)) (manage true 0 (data_block 0x3000 16)) ≡ manages (Run 0x3000 16 ∷ []) (block_range 64 0 ∷ []) [] }
-    // Behind the end it does not pass.
+    // Beyond the end it does not pass.
     ensures no_blocks_behind_the_end { refusal_in (holding 0x3000 (block_range 65 0)) (manage true 0 (data_block 0x3000 16)) ≡ Some 0x81010007 }
     // There is a unit for each block of each range, in their order, and each clears its block.
     ensures a_unit_for_each_block_of_each_range { verdict_in guest (holding 0x3000 (block_range 5 2 ++ block_range 0 1)) (manage true 1 (data_block 0x3000 32))
@@ -28,7 +28,7 @@ pub fn examples()
     ensures deallocate_clear_leaves_each_block { verdict_in guest (holding 0x3000 (block_range 5 2 ++ block_range 0 1)) (manage false 1 (data_block 0x3000 32))
         ≡ manages (Run 0x3000 32 ∷ []) (block_range 5 2 ∷ block_range 0 1 ∷ [])
         (LeaveBlock 5 ∷ LeaveBlock 6 ∷ LeaveBlock 0 ∷ []) }
-    // A range may stand in two Data Blocks.
+    // A range may be in two Data Blocks.
     ensures a_range_in_two_data_blocks { verdict_in guest
         (stored (stored (holding 0x6000 (data_block 0x3000 8 ++ data_block 0x5000 8)) 0x3000 (0 ∷ 0 ∷ 0 ∷ 0 ∷ 2 ∷ [])) 0x5000 (5 ∷ []))
         (manage true 0 (last_segment 0x6000 32))

@@ -25,7 +25,7 @@ pub fn examples()
         ≡ Some (0x00 ∷ 0x00 ∷ 0x00 ∷ 0x00 ∷ 0x00 ∷ 0x00 ∷ 0x00 ∷ 0x00 ∷ 0x03 ∷ 0x00 ∷ 0x00 ∷ 0x00 ∷ 0x04 ∷ 0x00 ∷ 0x01 ∷ 0x00 ∷ []) }
     // Nothing is taken from a queue that is gone.
     ensures nothing_is_taken_from_a_queue_that_is_gone { can_run (deletion_done ++ TakeStep 1 0 ∷ []) at_start ≡ false }
-    // Nor from one that closes, though an entry of it was rung before.
+    // Nor from one that closes, though the doorbell was rung before for an entry of it.
     ensures nothing_is_taken_from_a_closing_queue { can_run (bring_up ++ store 0x13000 (first_example ++ first_example) ∷ ring 0x1008 2 ∷ TakeStep 1 0
         ∷ store 0x10080 delete_submission_queue ∷ ring 0x1000 3 ∷ AdminQueueStep ∷ TakeStep 1 1 ∷ []) at_start ≡ false }
     // The same entry is taken where no deletion was asked for.

@@ -21,7 +21,7 @@ pub fn a_compare_that_differs_in_the_last_block_alone()
         ≡ Some (Some 0x050b0007) }
 {}
 
-/// One that differs in the first block alone ends likewise: the blocks that move behind it don't change that.
+/// One that differs in the first block alone ends likewise: the blocks that move after it don't change that.
 #[tactic(none)]
 pub fn a_compare_that_differs_in_the_first_block_alone()
     ensures { after (carried 2)
@@ -74,7 +74,7 @@ pub fn a_read_fills_a_buffer_at_any_address()
         ≡ Some (0xee ∷ 5 ∷ 5 ∷ []) }
 {}
 
-/// A Bit Bucket discards the second block: nothing behind the first changes.
+/// A Bit Bucket discards the second block: nothing after the first changes.
 #[tactic(none)]
 pub fn a_read_into_a_bit_bucket_discards()
     ensures { after (carried 2)

@@ -1,4 +1,4 @@
-//! The bytes that outstanding commands name: behind the bring-up, one command is rung.
+//! The bytes that outstanding commands name: after the bring-up, the doorbell is rung for one command.
 
 ghost use Rattle.std.specs.Prelude.{◌≡◌, [], ◌∷◌, ◌++◌, Some, true};
 ghost use Rattle.nv_model.specs.Footprint.{Destination, Entry, ListBytes, Source, named_as};
@@ -9,7 +9,7 @@ ghost use Rattle.nv_model.specs.RowsRuns.{admin_entry, after, bring_up, first_en
 /// The examples of this module, a clause each.
 #[tactic(none)]
 pub fn examples()
-    // A command that is not rung names nothing.
+    // A command for which the doorbell is not rung names nothing.
     ensures a_command_that_is_not_rung_names_nothing { after (bring_up ++ store 0x13000 first_example ∷ []) start named_bytes ≡ Some [] }
     // A command that is not taken names its entry and its buffer.
     ensures a_command_that_is_not_taken_names_its_entry { after (rung first_example) start named_bytes ≡ Some ((named_as Entry 0x13000 64 ∷ named_as Destination 0x3000 512 ∷ []) ∷ []) }

@@ -1,4 +1,4 @@
-//! Identify, as the third admin command behind the bring-up, with command identifier 3.
+//! Identify, as the third admin command after the bring-up, with command identifier 3.
 
 ghost use Rattle.std.specs.Prelude.{◌≡◌, [], ◌∷◌, ◌++◌, ◌==◌, Some, is_some, map, replicate, true};
 ghost use Rattle.nv_entry.specs.Layout.{bits};
@@ -35,7 +35,7 @@ pub fn the_controllers_sgl_support()
     ensures { after (done_third (admin_entry 0x06 3 0 0x15000 0 0x01 0)) start (bytes_in 0x15218 4) ≡ Some (0x01 ∷ 0x00 ∷ 0x01 ∷ 0x00 ∷ []) }
 {}
 
-/// Its completion is posted behind the structure.
+/// Its completion is posted after the structure.
 #[tactic(none)]
 pub fn identify_is_completed()
     ensures { third_answer (admin_entry 0x06 3 0 0x15000 0 0x01 0) ≡ Some 0x00010003 }

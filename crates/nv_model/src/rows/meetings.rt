@@ -25,7 +25,7 @@ pub fn examples()
     // A load stores nothing, and a store loads nothing.
     ensures other_acts_meet_none { stores_into read_and_write_named (bytes_loaded 512 0x3000)
         ∷ loads_from_destination read_and_write_named (zeros_stored 512 0x3000) ∷ [] ≡ false ∷ false ∷ [] }
-    // Behind the bring-up, the 32 slots of the admin completion queue and the 16 of completion queue 1.
+    // After the bring-up, the 32 slots of the admin completion queue and the 16 of completion queue 1.
     ensures the_slots_of_each_completion_queue { after bring_up start (λ p. completion_slots p.controller) ≡ Some ((0x11000, 512) ∷ (0x12000, 256) ∷ []) }
     // Before it there are none.
     ensures no_slots_at_the_start { completion_slots start.controller ≡ [] }

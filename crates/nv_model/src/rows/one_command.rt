@@ -15,7 +15,7 @@ pub fn examples()
     ensures the_first_example_reads_block_five { by_sgl read 5 0 one_block ≡ first_example }
     // A Read of one block whose buffer is one Data Block goes, with one run and one unit, and without FUA.
     ensures one_data_block_is_one_run { verdict_in guest zeros first_example ≡ reads (Run 0x3000 512 ∷ []) (MoveBlock 0 5 ∷ []) }
-    // The pieces of two Data Blocks that a Last Segment names stand in their order, and a unit for each block in that of LBA.
+    // The pieces of two Data Blocks that a Last Segment names are in their order, and the units, one for each block, are in the order of LBA.
     ensures two_data_blocks_stand_in_order { verdict_in guest (holding 0x6000 (data_block 0x3e00 512 ++ data_block 0x5000 512)) (by_sgl read 5 1 (last_segment 0x6000 32))
         ≡ reads (Run 0x3e00 512 ∷ Run 0x5000 512 ∷ []) (MoveBlock 0 5 ∷ MoveBlock 1 6 ∷ []) }
     // Runs that meet stay as the list named them.

@@ -42,7 +42,7 @@ pub fn examples()
     ensures a_judged_command_is_not_given_up { can_run (first_taken ++ JudgeStep 0 ∷ GiveUpStep 0 ∷ []) at_start ≡ false }
     // A command with units left is not completed.
     ensures a_command_with_units_left_is_not_completed { can_run (first_taken ++ JudgeStep 0 ∷ PostStep 0 ∷ []) at_start ≡ false }
-    // A command that was not rung is not taken.
+    // A command for which the doorbell was not rung is not taken.
     ensures a_command_that_was_not_rung_is_not_taken { can_run (bring_up ++ store 0x13000 first_example ∷ TakeStep 1 0 ∷ []) at_start ≡ false }
     // Of a Read and a Write of one block that are taken together, either may be completed first; each completion carries the queue's
     // head as it is when it is posted.
@@ -87,7 +87,7 @@ pub fn examples()
         replicate 10 reply.Done ++ reply.Bytes (0 ∷ 0 ∷ 0 ∷ 0 ∷ []) ∷ reply.Done ∷ reply.Bytes (1 ∷ 0 ∷ 0 ∷ 0 ∷ []) ∷ []) }
     // A block may become kept at any time.
     ensures a_block_may_become_kept { after (KeepStep 5 ∷ []) at_start (λ p. p.kept 4 ∷ p.kept 5 ∷ []) ≡ Some (false ∷ true ∷ []) }
-    // A block behind the namespace may not.
+    // A block beyond the namespace may not.
     ensures no_block_behind_the_namespace_becomes_kept { can_run (KeepStep 63 ∷ []) start ∷ can_run (KeepStep 64 ∷ []) start ∷ [] ≡ true ∷ false ∷ [] }
     // No I/O command is taken from the admin queue.
     ensures no_command_is_taken_from_the_admin_queue { can_run (bring_up ++ ring 0x1000 3 ∷ TakeStep 0 0 ∷ []) start ≡ false }
@@ -95,7 +95,7 @@ pub fn examples()
     ensures a_name_in_use_is_not_taken_again { can_run (first_taken ++ ring 0x1008 2 ∷ TakeStep 1 0 ∷ []) at_start ≡ false }
     // No admin command is done before the bring-up.
     ensures no_admin_command_before_bring_up { can_run (store 0x10000 (create_completion_queue 16) ∷ ring 0x1000 1 ∷ AdminQueueStep ∷ []) start ≡ false }
-    // Nor is one that was not rung.
+    // Nor is one for which the doorbell was not rung.
     ensures no_admin_command_that_was_not_rung { can_run (bring_up ++ AdminQueueStep ∷ []) start ≡ false }
     // Where the admin completion queue is full, here with one completion in two slots, no admin step is made.
     ensures a_full_admin_completion_queue_holds_the_next_command { can_run (two_admin_slots ++ AdminQueueStep ∷ []) start ≡ false }
@@ -105,7 +105,7 @@ pub fn examples()
     // After the bring-up the controller is ready.
     ensures after_the_bring_up_the_controller_is_ready { replied_to (bring_up ++ read_register 0x1c ∷ read_register 0x14 ∷ []) start
         ≡ Some (replicate 7 reply.Done ++ reply.Bytes (1 ∷ 0 ∷ 0 ∷ 0 ∷ []) ∷ reply.Bytes (0x01 ∷ 0x00 ∷ 0x46 ∷ 0x00 ∷ []) ∷ []) }
-    // It is held before it is looked at, though it would post nothing: an event request.
+    // It is held before it is examined, though it would post nothing: an event request.
     ensures a_full_admin_completion_queue_holds_an_event_request { can_run (two_admin_slots ++ store 0x10040 (admin_entry 0x0c 4 0 0 0 0 0) ∷ AdminQueueStep ∷ []) start
         ∷ can_run (two_admin_slots ++ store 0x10040 (admin_entry 0x0c 4 0 0 0 0 0) ∷ ring 0x1004 1 ∷ AdminQueueStep ∷ []) start ∷ []
         ≡ false ∷ true ∷ [] }
@@ -115,7 +115,7 @@ pub fn examples()
         ≡ Some (
         replicate 8 0x00 ++ 0x01 ∷ 0x00 ∷ 0x02 ∷ 0x00 ∷ 0x05 ∷ 0x00 ∷ 0x01 ∷ 0x00 ∷ replicate 8 0x00
         ++ 0x01 ∷ 0x00 ∷ 0x01 ∷ 0x00 ∷ 0x07 ∷ 0x00 ∷ 0x01 ∷ 0x00 ∷ []) }
-    // Behind its last slot a submission queue goes on with its first: the head is 0 again.
+    // After its last slot a submission queue goes on with its first: the head is 0 again.
     ensures a_submission_queue_goes_round { after (shared_completion_queue ++ store 0x14040 (flush_of 6) ∷ ring 0x1010 0 ∷ TakeStep 2 2 ∷ JudgeStep 2 ∷ MoveStep 2 0 ∷ PostStep 2 ∷ [])
         at_start (bytes_in 0x12028 8)
         ≡ Some (0x00 ∷ 0x00 ∷ 0x02 ∷ 0x00 ∷ 0x06 ∷ 0x00 ∷ 0x01 ∷ 0x00 ∷ []) }

@@ -9,7 +9,7 @@ ghost use Rattle.nv_model.specs.Rows.{by_prp, holding, larger_refusal_in, pages_
 pub fn examples()
     // PRP1 that is not a multiple of 4: PRP Offset Invalid.
     ensures prp1_at_a_multiple_of_two { larger_refusal_in zeros (by_prp read 0 0 0x3002 0) ≡ Some 0x80270007 }
-    // Its offset decides before its bytes are looked for.
+    // Its offset decides before its bytes are checked.
     ensures prp1_at_a_multiple_of_two_that_is_not_mapped { larger_refusal_in zeros (by_prp read 0 0 0x40002 0) ≡ Some 0x80270007 }
     // PRP1 outside the memory: Data Transfer Error.
     ensures prp1_that_is_not_mapped { larger_refusal_in zeros (by_prp read 0 0 0x40000 0) ≡ Some 0x80090007 }

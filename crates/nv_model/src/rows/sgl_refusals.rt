@@ -16,7 +16,7 @@ pub fn examples()
     ensures a_segment_in_an_array_of_a_last_segment { refusal_in (holding 0x6000 (segment 0x7000 16 ++ one_block)) (by_sgl read 5 0 (last_segment 0x6000 32)) ≡ Some 0x801b0007 }
     // A Last Segment that is last in an array that a Last Segment named is refused like it.
     ensures a_last_segment_at_the_end_of_an_array_of_a_last_segment { refusal_in (holding 0x6000 (one_block ++ last_segment 0x7000 16)) (by_sgl read 5 0 (last_segment 0x6000 32)) ≡ Some 0x801b0007 }
-    // A Segment is looked at for its place in its array before its length.
+    // A Segment is checked for its place in its array before its length.
     ensures a_segment_of_length_24_that_is_not_last_in_its_array { refusal_in (holding 0x6000 (segment 0x7000 24 ++ one_block)) (by_sgl read 5 0 (segment 0x6000 32)) ≡ Some 0x801d0007 }
     // An array's address that is not a multiple of 8: Invalid SGL Segment Descriptor.
     ensures an_array_whose_address_is_not_a_multiple_of_eight { refusal_in (holding 0x6004 one_block) (by_sgl read 5 0 (last_segment 0x6004 16)) ≡ Some 0x801b0007 }
@@ -24,7 +24,7 @@ pub fn examples()
     ensures an_array_of_a_wrong_type_at_a_multiple_of_eight { refusal_in (holding 0x6008 type_four) (by_sgl read 5 0 (last_segment 0x6008 16)) ≡ Some 0x80230007 }
     // An array that leaves the memory: Data Transfer Error.
     ensures an_array_that_leaves_the_memory { refusal_in (holding 0x1fff0 one_block) (by_sgl read 5 0 (last_segment 0x1fff0 32)) ≡ Some 0x80090007 }
-    // Its length decides before its bytes are looked for.
+    // Its length decides before its bytes are checked.
     ensures an_array_of_length_24_that_is_not_mapped { refusal_in zeros (by_sgl read 5 0 (last_segment 0x20000 24)) ≡ Some 0x801b0007 }
     // And so does its address.
     ensures an_array_at_a_multiple_of_four_that_is_not_mapped { refusal_in zeros (by_sgl read 5 0 (last_segment 0x20004 16)) ≡ Some 0x801b0007 }

@@ -22,7 +22,7 @@ pub fn examples()
     ensures a_read_that_is_not_wanted_is_skipped { outcome_in (by_sgl read 5 1 (last_segment 0x6000 32))
         (read_of 0x5000 (replicate 16 0xff) ∷ read_of 0x6000 (data_block 0x3e00 512 ++ data_block 0x5000 512) ∷ [])
         ≡ Settled (reads (Run 0x3e00 512 ∷ Run 0x5000 512 ∷ []) (MoveBlock 0 5 ∷ MoveBlock 1 6 ∷ [])) }
-    // The first read of an array counts, and a later one of the same bytes is not looked at.
+    // The first read of an array counts, and a later one of the same bytes is not examined.
     ensures the_first_read_of_an_array_counts { outcome_in (by_sgl read 5 1 (last_segment 0x6000 32))
         (read_of 0x6000 (data_block 0x3e00 512 ++ data_block 0x5000 512) ∷ read_of 0x6000 (data_block 0x3e00 512 ++ data_block 0x20000 512) ∷ [])
         ≡ Settled (reads (Run 0x3e00 512 ∷ Run 0x5000 512 ∷ []) (MoveBlock 0 5 ∷ MoveBlock 1 6 ∷ [])) }
@@ -38,17 +38,17 @@ pub fn examples()
     ensures both_parts_of_300_descriptors_settle_the_verdict { outcome_in (by_sgl read 5 0 (last_segment 0x6000 4800))
         (read_of 0x6000 (replicate 4096 0) ∷ read_of 0x7000 (replicate 688 0 ++ one_block) ∷ [])
         ≡ Settled (reads (Run 0x3000 512 ∷ []) (MoveBlock 0 5 ∷ [])) }
-    // Behind a fault in the first part nothing more is wanted.
+    // After a fault in the first part nothing more is wanted.
     ensures behind_a_fault_nothing_is_wanted { outcome_in (by_sgl read 5 0 (last_segment 0x6000 4800)) (read_of 0x6000 (type_four ++ replicate 4080 0) ∷ [])
         ≡ Settled (Refuse (refused_with SglTypeInvalid)) }
     // A part in which the limit falls is wanted whole.
     ensures a_part_in_which_the_limit_falls_is_wanted_whole { outcome_within 200 (by_sgl read 5 0 (last_segment 0x6000 4800)) [] ≡ Wanted 0x6000 4096 }
-    // A part that begins behind the limit is not wanted: 257 descriptors are the own one and a whole part.
+    // A part that begins after the limit is not wanted: 257 descriptors are the command's own and a whole part.
     ensures a_part_behind_the_limit_is_not_wanted { outcome_within 257 (by_sgl read 5 0 (last_segment 0x6000 4800)) (read_of 0x6000 (replicate 4096 0) ∷ [])
         ≡ Settled (Refuse (done_with InternalError)) }
     // Of a PRP list the slots that are needed are wanted.
     ensures the_needed_slots_of_a_list_are_wanted { outcome_in (by_prp read 0 23 0x3000 0x6ff0) [] ≡ Wanted 0x6ff0 16 }
-    // Of a list with more slots to the end of its page than pages remain, no slot behind those that are needed.
+    // Of a list with more slots to the end of its page than pages remain, no slot after those that are needed.
     ensures the_slots_behind_the_needed_ones_are_not_wanted { outcome_in (by_prp read 0 23 0x3000 0x6000) [] ≡ Wanted 0x6000 16 }
     // Of a list that goes on, the slots to the end of its page.
     ensures the_slots_to_the_end_of_the_page_are_wanted { outcome_in (by_prp read 0 23 0x3000 0x6ff8) [] ≡ Wanted 0x6ff8 8 }
@@ -56,7 +56,7 @@ pub fn examples()
     ensures the_needed_slots_of_the_next_page_are_wanted { outcome_in (by_prp read 0 23 0x3000 0x6ff8) (read_of 0x6ff8 (prp_entries (0x7000 ∷ [])) ∷ []) ≡ Wanted 0x7000 16 }
     // Where some slots to the end of the page are entries and the last points on, they are one want.
     ensures the_entries_and_the_pointer_of_a_page_are_one_want { outcome_in (by_prp read 0 31 0x3000 0x6ff0) [] ≡ Wanted 0x6ff0 16 }
-    // And behind them the next page's slots.
+    // And after them the next page's slots.
     ensures the_next_page_is_wanted_behind_the_entries_and_the_pointer { outcome_in (by_prp read 0 31 0x3000 0x6ff0)
         (read_of 0x6ff0 (prp_entries (0x8000 ∷ 0x7000 ∷ [])) ∷ []) ≡ Wanted 0x7000 16 }
     // The ranges of Dataset Management are wanted run by run.

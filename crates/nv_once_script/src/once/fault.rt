@@ -18,7 +18,7 @@ pub enum FaultKind {
     BadNumber,
     /// a word does not spell the bytes that its place wants
     BadBytes,
-    /// the line may not stand here
+    /// the line is not allowed here
     OutOfPlace,
     /// it names bytes or a block that are not there
     OutOfRange,

@@ -60,8 +60,8 @@ fn spell_blocks(digits: &[u8], bytes: &mut [u8]) -> usize
 
 /// Writes the bytes that digits of either case spell into a place of their length, or says that they spell none.
 ///
-/// Nearly all digits are read by operations on vectors. What they leave, a few digits behind the last sixteen or the rest of a text from a block
-/// on where something is no digit, is told by `hex`.
+/// Nearly all digits are read by vector operations. `hex` decides what they leave: a few digits after the last sixteen, or the rest of a text from
+/// a block on where something is no digit.
 pub fn spell(digits: &[u8], bytes: &mut [u8]) -> Result<(), FaultKind>
     requires { length digits.now ≡ 2 * length bytes.old }
     ensures { let spelled = or_bad_bytes (result_ok (decode_of digits.now))

@@ -1,4 +1,4 @@
-//! The lines behind the set-up.
+//! The lines after the set-up.
 ghost use Rattle.std.specs.Prelude.{◌≡◌, ◌∷◌, [], length, MatchResult};
 ghost use Rattle.nv_once_script.specs.OnceFault.{Refuses};
 ghost use Rattle.nv_once_script.specs.OnceLine.{line_of, lies_in, value_of};
@@ -14,7 +14,7 @@ use crate::once::words::Words;
 use nv_entry::Sqe;
 use std::alloc::Global;
 
-/// One line of a script, behind its set-up.
+/// One line of a script, after its set-up.
 #[derive(Debug, PartialEq, Eq, Drop)]
 pub enum Line {
     /// put these bytes into the memory
@@ -41,7 +41,7 @@ fn is_in(memory: u64, addr: u64, len: u64) -> bool
     len == 0 || (len <= memory && addr <= memory - len)
 }
 
-/// Makes the line of this keyword and the words behind it.
+/// Makes the line of this keyword and the words after it.
 pub fn make_line(
     alloc: Global,
     sizes: Sizes,

@@ -61,10 +61,10 @@ impl<'a> Iterator for Lines<'a> {
     }
 }
 
-/// How many bytes are looked at at once for the end of a line.
+/// How many bytes are examined at once for the end of a line.
 const LANES: usize = 32;
 
-// The place of the line feed that ends the first line of a text, or `None` where there is none. Nearly all lines are so short that a look at the
+// The place of the line feed that ends the first line of a text, or `None` where there is none. Nearly all lines are so short that examining the
 // first bytes finds their end, which spares a call.
 #[inline(always)]
 fn line_end(text: &[u8]) -> Option<usize>
@@ -79,7 +79,7 @@ fn line_end(text: &[u8]) -> Option<usize>
     memchr(b'\n', text)
 }
 
-// Where the first bytes of a text are line feeds: the lowest bit stands for the first byte.
+// Where the first bytes of a text are line feeds: the lowest bit represents the first byte.
 #[inline(always)]
 fn feeds(text: &[u8]) -> u64
     requires { LANES ≤ length text.now }

@@ -12,8 +12,8 @@ use std::alloc::Global;
 /// The bytes of a submission queue entry.
 const ENTRY: usize = 64;
 
-// The number that these digits spell, or `None` where they are none, are not all digits, or spell one beyond 64 bits.
-// It stands once for each base, so that what a digit may be is known where it is looked at.
+// The number that these digits spell, or `None` where they are none, are not all digits, or spell one beyond 64 bits. It is in the program once for
+// each base, so that what a digit may be is known where the digit is examined.
 #[inline(always)]
 fn spelled_number(digits: &[u8], base: u32) -> Option<u64>
     requires least { 2 ≤ base }

@@ -15,7 +15,7 @@ pub struct Script {
     pub memory: u64,
     /// how many blocks the namespace has
     pub blocks: u64,
-    /// the lines behind the set-up, but for empty ones
+    /// the lines after the set-up, except empty ones
     pub lines: Vec<Line>,
 }
 

@@ -17,14 +17,14 @@ pub enum Keyword {
     Cmd,
     Dump,
     Block,
-    /// a line of another subcommand, with so many words behind the first
+    /// a line of another subcommand, with so many words after the first
     Foreign(usize),
 }
 
 impl Keyword {
     ghost use Rattle.nv_once_script.specs.OnceVocabulary.{arguments_of};
 
-    /// How many words stand behind the first.
+    /// How many words come after the first.
     pub fn arguments(self) -> usize
         ensures { result ≡ arguments_of self }
     {
@@ -90,7 +90,7 @@ pub fn keyword_in<K: Copy>(rows: &[(&[u8], K)], word: &[u8]) -> Option<K>
     Some(*keyword)
 }
 
-// Whether two words are the same. Most differ in their first byte, which spares the look at the others.
+// Whether two words are the same. Most differ in their first byte, which spares examining the others.
 #[inline(always)]
 fn is_same(one: &[u8], other: &[u8]) -> bool
     ensures { result ≡ bytes_eq one.now other.now }

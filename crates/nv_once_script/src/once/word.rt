@@ -10,7 +10,7 @@ ghost use Rattle.nv_once_script.specs.OnceWords.{words_of};
 use memchr::memchr2;
 use std::marker::Model;
 
-/// A word of a line, beside the number that it writes where that was seen while its end was looked for. A contract sees its bytes.
+/// A word of a line, together with the number that it writes where that was seen during the search for its end. A contract sees its bytes.
 #[derive(Drop)]
 pub struct Word<'a> {
     text: &'a [u8],
@@ -29,7 +29,7 @@ impl<'a> Model for Word<'a> {
 }
 
 impl<'a> Word<'a> {
-    /// The first word of a line, and what stands behind it; `None` where there is none.
+    /// The first word of a line, and what is after it; `None` where there is none.
     #[inline(always)]
     pub(crate) fn first(line: &'a [u8]) -> Option<(Self, &'a [u8])>
         ensures { MatchOption result (words_of line.now ≡ [])
@@ -41,7 +41,7 @@ impl<'a> Word<'a> {
         }
     }
 
-    // The same where the word is one decimal digit behind one space, as most numbers of guests, lanes and slots are: it is told by three bytes.
+    // The same where the word is one decimal digit after one space, as most numbers of guests, lanes and slots are: three bytes decide it.
     #[inline(always)]
     fn digit(line: &'a [u8]) -> Option<(Self, &'a [u8])>
         ensures { IfSome result (λ parts. words_of line.now ≡ parts.0 ∷ words_of parts.1.now) }
@@ -90,7 +90,7 @@ impl<'a> Word<'a> {
         Some((Word { text, plain }, rest))
     }
 
-    /// The same, of a word that is no number as a rule: none is looked for.
+    /// The same, of a word that is no number as a rule: no number is searched for.
     #[inline(always)]
     pub(crate) fn first_name(line: &'a [u8]) -> Option<(Self, &'a [u8])>
         ensures { MatchOption result (words_of line.now ≡ [])
@@ -124,7 +124,7 @@ impl<'a> Word<'a> {
 /// The most that a number can be for one more decimal digit to fit in 64 bits, whichever it is.
 const PLAIN_MAX: u64 = u64::MAX / 10 - 1;
 
-// How many decimal digits a text begins with, and the number that they spell. Digits behind a very large number are left.
+// How many decimal digits a text begins with, and the number that they spell. Digits after a very large number are left.
 #[inline(always)]
 fn leading_digits(text: &[u8]) -> (usize, u64)
     ensures within { result.0 ≤ length text.now }
@@ -144,7 +144,7 @@ fn leading_digits(text: &[u8]) -> (usize, u64)
     (count, value)
 }
 
-// Whether a word surely ends where this text stands behind its bytes: at the end of its line, or before a space.
+// Whether a word surely ends where this text comes after its bytes: at the end of its line, or before a space.
 #[inline(always)]
 fn is_at_end(behind: &[u8]) -> bool
     ensures { OnTrue result (position_or_len (λ b. b == 32 || b == 35) behind.now ≡ 0) }
@@ -155,7 +155,7 @@ fn is_at_end(behind: &[u8]) -> bool
     }
 }
 
-/// How long a text may be for its bytes to be looked at one by one.
+/// How long a text may be for its bytes to be examined one by one.
 const SHORT: usize = 32;
 
 // The place of the first byte that ends a word, a space or the `#` of a comment, or the length where there is none.

@@ -25,7 +25,7 @@ impl<'a> Model for Words<'a> {
 }
 
 impl<'a> Words<'a> {
-    /// The words of a line: what stands between its spaces, up to a comment.
+    /// The words of a line: what is between its spaces, up to a comment.
     pub fn of(line: &'a [u8]) -> Self
         ensures { result ≡ words_of line.now }
     {

@@ -18,7 +18,7 @@ const UNITS: u64 = 65_536;
 #[derive(Debug, Drop)]
 pub(crate) struct LaneDevice {
     lane: u8,
-    // the slot that was looked at last
+    // the slot that was examined last
     slot: u8,
     // whether some slot may hold a command
     held: bool,
@@ -96,7 +96,7 @@ impl LaneDevice {
         done
     }
 
-    // The next slot behind the last whose command has something due goes on. Where there is none, no slot holds a command.
+    // Goes on with the next slot, after the last one, whose command has something due. Where there is none, no slot holds a command.
     fn turn_to_another(&mut self, world: &mut World, alloc: Global) -> bool {
         for step in 1..=SLOTS as u8 {
             let slot = self.slot.wrapping_add(step) % SLOTS as u8;

@@ -44,7 +44,7 @@ impl GuestPlanner {
         }
     }
 
-    // What is done under the lock: one event, or a look at one job.
+    // What is done under the lock: one event, or the examination of one job.
     pub(crate) fn turn(&mut self, world: &mut World, alloc: Global) -> Turn {
         match self.task {
             Task::Search(looked) => self.search(world, alloc, looked),
@@ -64,7 +64,7 @@ impl GuestPlanner {
         };
     }
 
-    // Hands a plan over. Where it is stale, or there was no memory, its job is looked at again.
+    // Hands a plan over. Where it is stale, or there was no memory, its job is examined again.
     fn submit(&mut self, world: &mut World, plan: Plan) -> Task {
         let tag = plan.job().tag;
         match self.share.submit(world, plan) {
@@ -73,8 +73,8 @@ impl GuestPlanner {
         }
     }
 
-    // Looks at a tag behind the last that had a command of the guest's, itself the first, for another that was taken. A tag that another
-    // planner's command has costs a copy of what was read for it.
+    // Examines one tag for another command of the guest's that was taken. The tags follow the last one that had such a command, and that one is the
+    // first. A tag that another planner's command has costs a copy of what was read for it.
     fn search(&mut self, world: &World, alloc: Global, looked: u8) -> Turn {
         let tag = self.tag.wrapping_add(looked) % TAGS;
         match self.own_job(world, alloc, tag) {
@@ -98,7 +98,7 @@ impl GuestPlanner {
         Ok(job.filter(|job| job.guest == self.guest))
     }
 
-    // Takes up an admin command, or takes a command of the next queue, behind the last, that has one.
+    // Takes up an admin command, or takes a command of the next queue, after the last, that has one.
     fn take_up(&mut self, world: &mut World, alloc: Global) -> Turn {
         let admin = Event::Admin(self.guest);
         if world.due(&admin) {
@@ -119,7 +119,7 @@ impl GuestPlanner {
         Turn::Nothing
     }
 
-    // Takes a command, whose tag is to be looked for.
+    // Takes a command, whose tag is to be searched for.
     fn take(&mut self, world: &mut World, alloc: Global, take: Event) -> Turn {
         match self.share.step(world, alloc, take) {
             Reply::Done => {
@@ -130,7 +130,7 @@ impl GuestPlanner {
         }
     }
 
-    // The job of a tag as it stands. Where the command was dropped, there is another to be taken up.
+    // The job of a tag as it is. Where the command was dropped, another is to be taken up.
     fn plan(&mut self, world: &World, alloc: Global, tag: u8) -> Turn {
         match self.own_job(world, alloc, tag) {
             Ok(Some(job)) => Turn::Job(job),
@@ -166,7 +166,7 @@ impl GuestPlanner {
     }
 }
 
-// What is done behind a look at a tag that had nothing, where so many were looked at before it.
+// What is done after the examination of a tag that had nothing, where so many were examined before it.
 fn behind(looked: u8) -> Task {
     let looked = looked.saturating_add(1);
     if looked < TAGS {

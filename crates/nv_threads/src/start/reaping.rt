@@ -13,7 +13,7 @@ const TAGS: u8 = 64;
 #[derive(Debug, Drop)]
 pub(crate) struct LaneReaper {
     lane: u8,
-    // the tag that is looked at first
+    // the tag that is examined first
     tag: u8,
     share: Share,
 }
@@ -40,7 +40,7 @@ impl LaneReaper {
         is_done(self.share.step(world, alloc, Event::Post(self.lane, tag)))
     }
 
-    // The next tag whose command may be completed, behind the one that was the last.
+    // The next tag, after the last one, whose command may be completed.
     fn ended(&self, world: &World) -> Option<u8> {
         for step in 1..=TAGS {
             let tag = self.tag.wrapping_add(step) % TAGS;

@@ -99,7 +99,7 @@ impl<S: Sink + Drop> Traffic<S> {
         Ok(depth.wrapping_mul(2))
     }
 
-    // A guest puts a command into its queue, which will go by that tag; the tag behind it.
+    // A guest puts a command into its queue, which will go by that tag; the tag after it.
     fn queue_parted(
         &mut self,
         guest: u8,

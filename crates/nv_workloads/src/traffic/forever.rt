@@ -55,7 +55,7 @@ impl Forever {
 }
 
 impl<W: Hosted + Drop> Traffic<Mediated<W>> {
-    // The rounds of two guests that a seed makes, until there were a million events more; then all guests look at their completions.
+    // The rounds of two guests that a seed makes, until there were a million events more; then all guests read their completions.
     fn million_of(&mut self, seed: u64) -> Result<(), NoMemory> {
         self.random = Random::new(seed);
         let end = self.sink.events().saturating_add(ROUND);

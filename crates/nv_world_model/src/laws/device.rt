@@ -11,8 +11,8 @@ ghost use Rattle.nv_world_model.specs.Area.{bounce_page, completion_slot, lane_s
 ghost use Rattle.nv_world_model.specs.Device.{DeviceLane, Held, completion_written, device_unit, entry_taken, front_entry};
 ghost use Rattle.nv_world_model.specs.LaneRuns.{IsInLane, IsNotAmong, IsSameEffect, list_named, unit_places};
 
-/// Each slot of a lane's rings lies in the lane's own area, in a place of its own: the submission ring in its first two pages, the
-/// completion ring in its third. Behind them each tag has a list page and 32 bounce pages, and the areas of lanes follow each other.
+/// Each slot of a lane's rings is in the lane's own area, at a location of its own: the submission ring in its first two pages, the completion ring
+/// in its third. After them each tag has a list page and 32 bounce pages, and the areas of lanes follow each other.
 pub fn each_slot_has_a_place_in_its_lane()
     ensures submissions { (mediator lane at : ℕ) →
         submission_slot mediator lane at ≡ mediator + 2115 * 4096 * lane + 64 * at }
@@ -40,7 +40,7 @@ pub fn a_completion_is_the_standards()
         status_of (bytes_from (completion_written mediator lane identifier st d host) (completion_slot mediator lane d.posted) 16) ≡ st }
 {}
 
-/// A completion is written into its slot alone, whatever stood there.
+/// A completion is written into its slot alone, whatever was there.
 pub fn a_completion_reaches_its_slot_alone()
     ensures writes { (mediator lane identifier at : ℕ) (st : StatusField) (d : DeviceLane) (host : ℕ → ℕ) →
         (at < completion_slot mediator lane d.posted) ⊎ (completion_slot mediator lane d.posted + 16 ≤ at) →

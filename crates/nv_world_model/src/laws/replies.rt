@@ -1,4 +1,4 @@
-//! Each reply comes only where it may, and one that tells of no change comes with none.
+//! Each reply comes only where it may, and one that reports no change comes with none.
 
 ghost use Rattle.std.specs.Prelude.{◌≡◌, ℕ, ◌<◌, Bool, true, false, List, Some, filter, length, slice_get};
 ghost use Rattle.nv_model.specs.Controller.{front};

@@ -6,8 +6,8 @@ ghost use Rattle.nv_world_model.specs.Area.{ring_size};
 ghost use Rattle.nv_world_model.specs.Device.{DeviceLane, rung};
 ghost use Rattle.nv_world_model.specs.LaneRuns.{AreWithinTags, IsNotOverrun, LaneEvent, newly_rung, opening_run, run_behind};
 
-/// As long as tails are rung within the tags in flight, neither ring passes its size minus 1, whatever happens on the lane
-/// and in whatever order; so head and tail tell how many entries stand there.
+/// As long as tails are rung within the tags in flight, neither ring passes its size minus 1, whatever happens on the lane and in whatever order;
+/// so head and tail give how many entries are there.
 pub fn rings_never_fill()
     ensures { (events : List LaneEvent) → AreWithinTags events opening_run → IsNotOverrun (run_behind events opening_run) }
 {}

@@ -54,7 +54,7 @@ pub fn a_take_is_the_private_controllers()
         × ((step geometry (event.Take number queue lane) w).world ≡ taken_to addr queue lane tags o w) }
 {}
 
-/// A post is the private controller's, behind the delivery of all parts of a bounced Read; so is a run-out, after EN fell.
+/// A post is the private controller's, after the delivery of all parts of a bounced Read; so is a run-out, after EN was cleared.
 pub fn a_post_is_the_private_controllers()
     ensures posted { (geometry : Geometry) (lane tag : ℕ) (command : Command) (st : StatusField) (share : Option Share) (sts : List StatusField)
         (o : Owner) (w : World) → tag_of w lane tag ≡ Some (Ended command st share) → tag < tag_count →

@@ -62,7 +62,7 @@ pub fn examples()
     ensures no_take_is_due { due_behind [] (one_command first_example) (event.Take 1 1 0) ≡ false }
     // None where all tags are taken.
     ensures no_take_without_a_tag_is_due { due_behind (replicate 64 (event.Take 0 1 0)) many_rung (event.Take 0 1 0) ≡ false }
-    // The device's taking, where an entry stands in the lane.
+    // The device's taking, where an entry is in the lane.
     ensures a_physical_entry_is_due { due_behind (event.Take 0 1 0 ∷ event.Submit 0 0 ∷ []) (one_command first_example) (event.DevTake 0) ≡ true }
     // None where it has taken all.
     ensures no_physical_entry_is_due { due_behind in_device (one_command first_example) (event.DevTake 0) ≡ false }
@@ -74,7 +74,7 @@ pub fn examples()
     ensures a_physical_completion_is_due { due_behind (in_device ++ moves 1) (one_command first_example) (event.DevPost 0 0) ≡ true }
     // And not before.
     ensures no_physical_completion_is_due { due_behind in_device (one_command first_example) (event.DevPost 0 0) ≡ false }
-    // A Reap, where a physical completion stands.
+    // A Reap, where there is a physical completion.
     ensures a_reap_is_due { due_behind (in_device ++ moves 1 ++ event.DevPost 0 0 ∷ []) (one_command first_example) (event.Reap 0) ≡ true }
     // And not before.
     ensures no_reap_is_due { due_behind (in_device ++ moves 1) (one_command first_example) (event.Reap 0) ≡ false }

@@ -19,12 +19,12 @@ pub fn examples()
         ≡ Some (0 ∷ 1 ∷ [], false) }
     // In the device, those that have not moved there.
     ensures in_the_device { behind (in_device ++ moves 1) (one_command (by_sgl 0x02 5 1 (data_block 0x3000 1024))) how_far ≡ Some (1 ∷ [], false) }
-    // A unit of the device that is a range stands for each of its blocks.
+    // A unit of the device that is a range represents each of its blocks.
     ensures a_range_of_the_device { behind (list_in_device 0x3000 32 ++ event.DevMove 0 0 1 ∷ []) (two_ranges (block_range 5 2) (block_range 0 1)) how_far
         ≡ Some (0 ∷ 1 ∷ [], false) }
     // A Compare that differed, in the device.
     ensures a_difference_in_the_device { behind (in_device ++ moves 1) (one_command (by_sgl 0x05 5 0 (data_block 0x3000 512))) how_far ≡ Some ([], true) }
-    // Behind its physical completion.
+    // After its physical completion.
     ensures a_difference_that_is_answered { behind (in_device ++ moves 1 ++ event.DevPost 0 0 ∷ []) (one_command (by_sgl 0x05 5 0 (data_block 0x3000 512))) how_far
         ≡ Some ([], true) }
     // And once it has ended.

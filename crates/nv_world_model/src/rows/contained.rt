@@ -1,4 +1,4 @@
-//! Events of each kind, each of which is contained: whatever address, block, lane and tag is looked at.
+//! Events of each kind, each of which is contained: whatever address, block, lane and tag is examined.
 
 ghost use Rattle.std.specs.Prelude.{false, [], ◌∷◌};
 ghost use Rattle.nv_model.specs.declared.act.Act.TheVariants as act;
@@ -6,7 +6,7 @@ ghost use Rattle.nv_world_model.specs.Contained.{Contained};
 ghost use Rattle.nv_world_model.specs.RowsSmall.{given_up_second, held_second, moved_second, posted_second, small, small_behind, small_handed_on, taken_second};
 ghost use Rattle.nv_world_model.specs.declared.event.Event.TheVariants as event;
 
-/// A guest's command is taken, while another's stands in the submission ring.
+/// A guest's command is taken, while another's is in the submission ring.
 #[tactic(none)]
 pub fn a_take()
     ensures { Contained small (event.Take 0 1 0) (small_behind []) }
@@ -48,7 +48,7 @@ pub fn an_admin_command()
     ensures { Contained small (event.Admin 0) (small_behind []) }
 {}
 
-/// A guest's command is handed on: its physical entry is written behind another's.
+/// A guest's command is handed on: its physical entry is written after another's.
 #[tactic(none)]
 pub fn a_submit()
     ensures { Contained small (event.Submit 0 1) (small_behind taken_second) }

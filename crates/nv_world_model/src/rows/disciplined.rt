@@ -13,19 +13,19 @@ ghost use Rattle.nv_world_model.specs.declared.event.Event.TheVariants as event;
 pub fn examples()
     // A Read that is left alone until it is completed, and whose buffer is loaded then.
     ensures a_plain_read { keeps_to_it (whole 1 ++ event.Guest 0 (act.Load 0x3000 512) ∷ event.Guest 0 (act.Store 0x13000 (0 ∷ [])) ∷ []) (one_command first_example) ≡ true }
-    // A store into the entry of a command that is rung.
+    // A store into the entry of a command whose doorbell was rung.
     ensures a_store_into_an_entry { keeps_to_it (event.Guest 0 (act.Store 0x13000 (0 ∷ [])) ∷ []) (one_command first_example) ≡ false }
-    // Right behind the entry.
+    // Right after the entry.
     ensures a_store_behind_an_entry { keeps_to_it (event.Guest 0 (act.Store 0x13040 (0 ∷ [])) ∷ []) (one_command first_example) ≡ true }
     // Once the command is taken its entry's slot is the guest's again.
     ensures a_store_into_an_entry_that_is_taken { keeps_to_it (event.Take 0 1 0 ∷ event.Guest 0 (act.Store 0x13000 (0 ∷ [])) ∷ []) (one_command first_example) ≡ true }
     // A load of an entry changes nothing.
     ensures a_load_of_an_entry { keeps_to_it (event.Guest 0 (act.Load 0x13000 64) ∷ []) (one_command first_example) ≡ true }
-    // A load from the destination of a command that is rung.
+    // A load from the destination of a command whose doorbell was rung.
     ensures a_load_from_a_destination { keeps_to_it (event.Guest 0 (act.Load 0x31ff 1) ∷ []) (one_command first_example) ≡ false }
     // While it has ended and is not posted.
     ensures a_load_before_the_completion { keeps_to_it (in_device ++ moves 1 ++ event.DevPost 0 0 ∷ event.Reap 0 ∷ event.Guest 0 (act.Load 0x3000 1) ∷ []) (one_command first_example) ≡ false }
-    // Right behind the destination.
+    // Right after the destination.
     ensures a_load_behind_a_destination { keeps_to_it (event.Guest 0 (act.Load 0x3200 1) ∷ []) (one_command first_example) ≡ true }
     // A store into a destination.
     ensures a_store_into_a_destination { keeps_to_it (in_device ++ event.Guest 0 (act.Store 0x3000 (1 ∷ [])) ∷ []) (one_command first_example) ≡ false }
@@ -69,17 +69,17 @@ pub fn examples()
     ensures a_completion_slot_in_a_destination { keeps_to_it [] (one_command (by_sgl 0x02 5 0 (data_block 0x120ff 512))) ≡ false }
     // A source with one.
     ensures a_completion_slot_in_a_source { keeps_to_it [] (one_command (by_sgl 0x01 5 0 (data_block 0x11e01 512))) ≡ false }
-    // A destination right behind the slots.
+    // A destination right after the slots.
     ensures a_destination_behind_the_slots { keeps_to_it [] (one_command (by_sgl 0x02 5 0 (data_block 0x12100 512))) ≡ true }
     // A destination over the entry that names it.
     ensures a_destination_over_its_entry { keeps_to_it [] (one_command (by_sgl 0x02 5 0 (data_block 0x13000 512))) ≡ false }
     // Two guests' commands do not meet, though their addresses are the same.
     ensures two_guests_do_not_meet { keeps_to_it two_at_once two_commands ≡ true }
-    // The bytes of a destination are awaited while its command is taken: the first, the last, and not the one behind.
+    // The bytes of a destination are awaited while its command is taken: the first, the last, and not the one after.
     ensures a_destination_is_awaited { awaited_behind in_device (one_command first_example) (0x3000 ∷ 0x31ff ∷ 0x3200 ∷ 0x2fff ∷ []) ≡ true ∷ true ∷ false ∷ false ∷ [] }
     // Not before.
     ensures nothing_is_awaited_before { awaited_behind [] (one_command first_example) (0x3000 ∷ []) ≡ false ∷ [] }
-    // Nor behind its completion.
+    // Nor after its completion.
     ensures nothing_is_awaited_behind_the_completion { awaited_behind (whole 1) (one_command first_example) (0x3000 ∷ []) ≡ false ∷ [] }
     // On another lane too.
     ensures what_another_lane_has_is_awaited { awaited_behind (event.Take 0 1 1 ∷ event.Submit 1 0 ∷ []) (two_lanes first_example) (0x3000 ∷ 0x3200 ∷ []) ≡ true ∷ false ∷ [] }

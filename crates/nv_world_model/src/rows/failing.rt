@@ -43,7 +43,7 @@ pub fn examples()
     // A command that is given up.
     ensures a_command_that_is_given_up { behind (event.Take 0 1 0 ∷ event.GiveUp 0 0 ∷ event.Post 0 0 ∷ []) (one_command first_example) (host_number 0x11200c 4)
         ≡ 0x000d0007 }
-    // After a reset RDY stays while a command runs out, the controller can't be enabled again until then, and RDY falls behind it.
+    // After a reset RDY stays set while a command runs out, the controller can't be enabled again until then, and RDY is cleared after it.
     ensures ready_falls_behind_the_last_command { told
         (in_device ++ event.Guest 0 (act.RegWrite 0x14 0x00460000) ∷ event.Guest 0 (act.RegRead 0x1c) ∷ moves 1
         ++ event.DevPost 0 0 ∷ event.Reap 0 ∷ event.Guest 0 (act.RegWrite 0x14 0x00460001) ∷ event.Post 0 0

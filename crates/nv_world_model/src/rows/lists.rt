@@ -11,7 +11,7 @@ ghost use Rattle.nv_world_model.specs.declared.event.Event.TheVariants as event;
 /// The examples of this module, a clause each.
 #[tactic(none)]
 pub fn examples()
-    // Two blocks by a Last Segment whose second Data Block begins a page behind the end of the first's: direct, by PRP1 and PRP2.
+    // Two blocks by a Last Segment whose second Data Block begins a page after the end of the first's: direct, by PRP1 and PRP2.
     ensures pages_that_follow_are_direct { behind (list_in_device 0x6000 32) (read_apart 0x3e00 0x5000) handed_on
         ≡ 0x02 ∷ 0 ∷ 0x103e00 ∷ 0x105000 ∷ 1005 ∷ 0 ∷ 1 ∷ [] }
     // One that begins within a page: bounced.
@@ -25,7 +25,7 @@ pub fn examples()
     ensures the_bounced_one_too { behind (list_whole 0x6000 32 2) (read_apart 0x3e00 0x5200)
         (λ w. host_bytes 0x103fff 1 w ++ host_bytes 0x105200 1 w ++ host_bytes 0x1053ff 2 w ++ host_number 0x11200c 4 w ∷ [])
         ≡ 0xed ∷ 0xee ∷ 0xee ∷ 0x00 ∷ 0x00010007 ∷ [] }
-    // What was read of a list stands, whatever is stored there afterwards, or read once more.
+    // What was read of a list remains in effect, whatever is stored there afterwards, or read once more.
     ensures a_list_is_read_once { behind (event.Take 0 1 0 ∷ event.List 0 0 0x6000 32 ∷ event.Guest 0 (act.Store 0x6010 (data_block 0x20000 512))
         ∷ event.List 0 0 0x6000 32 ∷ event.Submit 0 0 ∷ event.DevTake 0 ∷ []) (read_apart 0x3e00 0x5000) handed_on
         ≡ 0x02 ∷ 0 ∷ 0x103e00 ∷ 0x105000 ∷ 1005 ∷ 0 ∷ 1 ∷ [] }
@@ -57,7 +57,7 @@ pub fn examples()
     ensures two_ranges_are_translated { behind (list_in_device 0x3000 32) (two_ranges (block_range 5 2) (block_range 0 1)) (host_bytes 0x404000 32)
         ≡ 0 ∷ 0 ∷ 0 ∷ 0 ∷ 2 ∷ 0 ∷ 0 ∷ 0 ∷ 0xed ∷ 0x03 ∷ 0 ∷ 0 ∷ 0 ∷ 0 ∷ 0 ∷ 0
         ∷ 0 ∷ 0 ∷ 0 ∷ 0 ∷ 1 ∷ 0 ∷ 0 ∷ 0 ∷ 0xe8 ∷ 0x03 ∷ 0 ∷ 0 ∷ 0 ∷ 0 ∷ 0 ∷ 0 ∷ [] }
-    // The first of two ranges has no blocks, and begins right behind the namespace: its unit of the device moves and changes nothing.
+    // The first of two ranges has no blocks, and begins right after the namespace: its unit of the device moves and changes nothing.
     ensures a_range_of_no_blocks_changes_nothing { behind (list_whole 0x3000 32 2) (two_ranges (block_range 64 0) (block_range 6 2))
         (λ w. w.disk 1064 0 ∷ w.disk 1005 0 ∷ w.disk 1006 0 ∷ w.disk 1007 511 ∷ w.disk 1008 0 ∷ host_number 0x11200c 4 w ∷ [])
         ≡ 0x28 ∷ 0xed ∷ 0 ∷ 0 ∷ 0xf0 ∷ 0x00010007 ∷ [] }

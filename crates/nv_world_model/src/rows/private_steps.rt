@@ -1,4 +1,4 @@
-//! The steps of a guest's private controller that events of the world stand for.
+//! The steps of a guest's private controller that events of the world represent.
 
 ghost use Rattle.std.specs.Prelude.{◌≡◌, [], ◌∷◌, ◌++◌, Some, None, is_some, false, map};
 ghost use Rattle.std.specs.List.{range_with_len};
@@ -38,7 +38,7 @@ pub fn examples()
         ≡ MoveStep 0 1 ∷ MoveStep 0 2 ∷ [] }
     // A range of no blocks is no step.
     ensures a_range_of_no_blocks_is_no_step { first_steps_of (list_in_device 0x3000 32) (two_ranges (block_range 64 0) (block_range 6 2)) (event.DevMove 0 0 0) ≡ [] }
-    // The range behind it begins with unit 0.
+    // The range after it begins with unit 0.
     ensures a_range_behind_one_of_no_blocks { first_steps_of (list_in_device 0x3000 32) (two_ranges (block_range 64 0) (block_range 6 2)) (event.DevMove 0 0 1)
         ≡ MoveStep 0 0 ∷ MoveStep 0 1 ∷ [] }
     // The whole of that is a run of the private controller, whose blocks are cleared.

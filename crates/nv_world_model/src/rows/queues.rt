@@ -30,7 +30,7 @@ pub fn examples()
     // Once one of them is posted, the command takes its tag.
     ensures a_posted_tag_is_taken_again { told (replicate 64 (event.Take 0 1 0) ++ event.GiveUp 0 9 ∷ event.Take 0 1 0 ∷ event.Post 0 9 ∷ event.Take 0 1 0 ∷ []) many_rung
         ≡ replicate 65 reply.Done ++ reply.Busy ∷ reply.Done ∷ reply.Done ∷ [] }
-    // It stands there with its own entry.
+    // It is there with its own entry.
     ensures it_stands_in_that_tag { behind (replicate 64 (event.Take 0 1 0) ++ event.GiveUp 0 9 ∷ event.Post 0 9 ∷ event.Take 0 1 0 ∷ []) many_rung
         (entry_in_tag 0 9) ≡ first_example }
     // The lowest free tag is taken.
@@ -38,9 +38,9 @@ pub fn examples()
         (λ w. entry_in_tag 0 1 w ++ entry_in_tag 0 2 w) ≡ replicate 64 0 }
     // A guest enables its controller and creates a queue pair.
     ensures a_controller_is_brought_up { behind bring_up at_start (λ w. slice_get w.controllers 0) ≡ Some brought_up }
-    // Each event of that is done, and the admin queue is empty behind it.
+    // Each event of that is done, and the admin queue is empty after it.
     ensures bringing_up_is_done { told (bring_up ++ event.Admin 0 ∷ []) at_start ≡ replicate 9 reply.Done ++ reply.Idle ∷ [] }
-    // The deletion of a queue that has a taken command begins, drops what is rung on the queue, and waits.
+    // The deletion of a queue that has a taken command begins, drops the entries that are rung on the queue, and waits.
     ensures a_deletion_waits { told (deletion_rung ++ event.Admin 0 ∷ event.Guest 0 (act.Doorbell 0x1008 2) ∷ event.Admin 0 ∷ event.Take 0 1 0 ∷ []) at_start
         ≡ replicate 15 reply.Done ++ reply.Ignored ∷ reply.Idle ∷ reply.Idle ∷ [] }
     // The command is completed as ever, and then the deletion is done.

@@ -19,21 +19,21 @@ pub fn examples()
     ensures seventeen_guests { guests_refused (small_guests 17) ≡ Some TooManyGuests }
     // The second's first block is the first's last.
     ensures ranges_that_meet { guests_refused (first_guest ∷ guest_at 0x200000 1063 ∷ []) ≡ Some RangesMeet }
-    // It is the one behind that.
+    // It is the one after that.
     ensures ranges_side_by_side { guests_refused (first_guest ∷ guest_at 0x200000 1064 ∷ []) ≡ None }
     // Ranges of the first and the last of three meet.
     ensures ranges_that_meet_further_on { guests_refused (first_guest ∷ second_guest ∷ guest_at 0x300000 1000 ∷ []) ≡ Some RangesMeet }
     // The second's first page is the first's last.
     ensures maps_that_meet { guests_refused (first_guest ∷ guest_at 0x11f000 2000 ∷ []) ≡ Some MapsMeet }
-    // It is the one behind that.
+    // It is the one after that.
     ensures maps_side_by_side { guests_refused (first_guest ∷ guest_at 0x120000 2000 ∷ []) ≡ None }
     // A guest's last page is the first of the mediator's area.
     ensures a_map_that_meets_the_area { guests_refused (guest_at 0x3e1000 1000 ∷ []) ≡ Some MapsMeet }
-    // The area begins behind it.
+    // The area begins after it.
     ensures a_map_before_the_area { guests_refused (guest_at 0x3e0000 1000 ∷ []) ≡ None }
     // A guest's first page is the last of the area.
     ensures a_map_at_the_end_of_the_area { guests_refused (guest_at 0xc42000 1000 ∷ []) ≡ Some MapsMeet }
-    // It is the one behind that.
+    // It is the one after that.
     ensures a_map_behind_the_area { guests_refused (guest_at 0xc43000 1000 ∷ []) ≡ None }
     // Eight lanes that end with the host.
     ensures eight_lanes_fit { refused 0x4618000 8 0x400000 (first_guest ∷ second_guest ∷ []) ≡ None }

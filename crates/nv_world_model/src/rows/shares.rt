@@ -20,7 +20,7 @@ pub fn examples()
     // To an odd place, by the bounce pages of each tag.
     ensures a_bounced_read_over_the_join { let entry = by_sgl 0x02 31 1 (data_block 0x3002 1024) in sent joined entry (shares_by_reads joined entry [])
         ≡ (0x404000 ∷ 0 ∷ 1031 ∷ 0 ∷ 0 ∷ []) ∷ (0x425000 ∷ 0 ∷ 3000 ∷ 0 ∷ 0 ∷ []) ∷ [] }
-    // A Read that ends at the join, and the one behind it, are one command each.
+    // A Read that ends at the join, and the one after it, are one command each.
     ensures a_read_up_to_the_join { let entry = by_sgl 0x02 30 1 (data_block 0x3000 1024) in sent joined entry (shares_by_reads joined entry [])
         ≡ (0x103000 ∷ 0 ∷ 1030 ∷ 0 ∷ 1 ∷ []) ∷ [] }
     ensures a_read_of_the_last_block { let entry = by_sgl 0x02 63 0 (data_block 0x3000 512) in sent joined entry (shares_by_reads joined entry [])

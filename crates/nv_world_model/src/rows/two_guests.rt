@@ -17,7 +17,7 @@ pub fn examples()
         ≡ 0x00010007 ∷ 0x00010007 ∷ 0xed ∷ 0xd5 ∷ [] }
     // Each of these events is done.
     ensures each_event_of_both_is_done { told two_at_once two_commands ≡ replicate 14 reply.Done }
-    // A guest loads its own memory alone, and no address behind it.
+    // A guest loads its own memory alone, and no address after it.
     ensures a_guest_loads_its_own_memory { told (event.Guest 0 (act.Store 0x3000 (7 ∷ [])) ∷ event.Guest 1 (act.Load 0x3000 1) ∷ event.Guest 0 (act.Load 0x3000 1) ∷ event.Guest 0 (act.Load 0x1ffff 2) ∷ event.Guest 2 (act.Load 0 1) ∷ []) two_commands
         ≡ reply.Done ∷ reply.Bytes (0 ∷ []) ∷ reply.Bytes (7 ∷ []) ∷ reply.Unmapped ∷ reply.Ignored ∷ [] }
     // A completion goes to its own guest's queue alone.

@@ -27,7 +27,7 @@ pub fn examples()
     ensures a_source_is_shown { first_shown in_device bounced_write ≡ span 0x403000 0 ∷ span 0x404000 512 ∷ [] }
     // Of a Dataset Management its ranges.
     ensures ranges_are_shown { first_shown (list_in_device 0x3000 32) (two_ranges (block_range 5 2) (block_range 0 1)) ≡ span 0x403000 0 ∷ span 0x404000 32 ∷ [] }
-    // Of a command on another lane what stands in that lane's pages.
+    // Of a command on another lane what is in that lane's pages.
     ensures another_lanes_pages_are_shown { first_shown (event.Take 0 1 1 ∷ event.Submit 1 0 ∷ []) (two_lanes first_example) ≡ span 0xc43000 64 ∷ span 0xc46000 0 ∷ [] }
     // Of a bounced Read in the device, nothing before a unit has moved.
     ensures no_block_is_shown_before_it_moves { first_shown (list_in_device 0x6000 32) (read_apart 0x3e00 0x5200) ≡ span 0x403000 0 ∷ [] }
@@ -43,11 +43,11 @@ pub fn examples()
     // Of one that succeeded, all its blocks, until they are delivered.
     ensures the_blocks_of_an_ended_read_are_shown { first_shown (list_in_device 0x6000 32 ++ moves 2 ++ event.DevPost 0 0 ∷ event.Reap 0 ∷ []) (read_apart 0x3e00 0x5200)
         ≡ span 0x404000 512 ∷ span 0x404200 512 ∷ [] }
-    // Behind the completion the tag is free, and nothing is shown of it.
+    // After the completion the tag is free, and nothing is shown of it.
     ensures nothing_is_shown_of_a_free_tag { first_shown (whole 1) bounced_write ≡ [] }
     // Nothing of one guest's command is shown to another.
     ensures nothing_of_anothers_is_shown { second_shown in_device bounced_write ≡ [] }
-    // Of two guests' commands each is shown its own: the second's stands in the second slot.
+    // Of two guests' commands each is shown its own: the second's is in the second slot.
     ensures each_is_shown_its_own { second_shown (event.Take 0 1 0 ∷ event.Take 1 1 0 ∷ event.Submit 0 0 ∷ event.Submit 0 1 ∷ []) two_commands
         ≡ span 0x400040 64 ∷ span 0x424000 0 ∷ [] }
     // The world cut down to a guest has the guest's own tag.

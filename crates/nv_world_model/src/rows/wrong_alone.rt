@@ -54,7 +54,7 @@ pub fn followed()
     ensures lane_phase { IsFirstGuests (follows_the_second (lane_so (λ l. record l { phase = false }))) (told_by both_in_device) → ⊥ }
     // Which tags are free: the other guest's is.
     ensures free_tags { IsFirstGuests (follows_the_second (tag_freed 1)) (told_by both_in_device) → ⊥ }
-    // Where the device's rings stand.
+    // The positions of the device's rings.
     ensures ring_head { IsFirstGuests (follows_the_second (device_so (λ d. record d { head = 1 }))) (told_by both_in_device) → ⊥ }
     ensures ring_tail { IsFirstGuests (follows_the_second (device_so (λ d. record d { tail = 1 }))) (told_by both_in_device) → ⊥ }
     ensures ring_posted { IsFirstGuests (follows_the_second (device_so (λ d. record d { posted = 1 }))) (told_by both_in_device) → ⊥ }
@@ -64,7 +64,7 @@ pub fn followed()
 /// Of replies, marks and numbers, a clause each.
 #[tactic(none)]
 pub fn examples()
-    // A reply that tells of no change comes with one.
+    // A reply that reports no change comes with one.
     ensures a_dull_reply_comes_with_no_change { IsFirstGuests idle_and_stores both_in_device → ⊥ }
     // A Keep raises another mark, too.
     ensures a_keep_raises_one_mark { IsContained kept_and_next set_up (event.Keep 5) both_in_device → ⊥ }
@@ -77,7 +77,7 @@ pub fn examples()
     ensures the_first_event_of_a_log_is_asked { AreContained low_set_up (moves_a_unit ∷ looks ∷ []) clear_untranslated → ⊥ }
 {}
 
-/// Whose an event is, a clause for each way in which it is told.
+/// Whose an event is, a clause for each way in which it is determined.
 #[tactic(none)]
 pub fn owned()
     // An event that names a guest.

@@ -25,15 +25,15 @@ pub fn examples()
     ensures ranges_are_translated { Contained low_set_up (event.DevMove 0 0 0) ranges_untranslated → ⊥ }
     // A guest's address is taken as the host's: a byte outside of its memory changes.
     ensures a_store_is_mapped { IsContained (stored_unmapped 0x3000 (7 ∷ [])) set_up (event.Guest 0 (act.Store 0x3000 (7 ∷ []))) (one_command first_example) → ⊥ }
-    // A reply tells of another guest's byte.
+    // A reply reports another guest's byte.
     ensures a_load_is_mapped { IsContained (loaded_unmapped 0x203000) set_up (event.Guest 0 (act.Load 0x203000 1)) second_stored → ⊥ }
-    // The first byte behind the mediator's area changes, which is nobody's.
+    // The first byte after the mediator's area changes, which is nobody's.
     ensures a_byte_behind_the_area_is_nobodys { IsContained (stored_unmapped 0xc43000 (7 ∷ [])) set_up (event.Guest 0 (act.Store 0x3000 (7 ∷ []))) (one_command first_example) → ⊥ }
     // A block changes that is nobody's.
     ensures a_block_of_nobody_stays { IsContained stray_block set_up (event.Guest 0 (act.Store 0x3000 (7 ∷ []))) (one_command first_example) → ⊥ }
     // A mark is lost that is nobody's.
     ensures a_mark_of_nobody_stays { IsContained mark_lost set_up (event.Guest 0 (act.Store 0x3000 (7 ∷ []))) all_kept → ⊥ }
-    // The mark of a guest's block tells of another guest's.
+    // The mark of a guest's block reveals another guest's.
     ensures a_mark_tells_of_no_other { IsContained mark_told set_up (event.Guest 0 (act.Store 0x3000 (7 ∷ []))) second_kept → ⊥ }
     // A Keep changes more than a mark.
     ensures a_keep_changes_a_mark_alone { IsContained kept_and_more set_up (event.Keep 5) (one_command first_example) → ⊥ }

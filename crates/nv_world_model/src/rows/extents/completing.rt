@@ -7,7 +7,7 @@ ghost use Rattle.nv_model.specs.declared.reply.Reply.TheVariants as reply;
 ghost use Rattle.nv_world_model.specs.declared.event.Event.TheVariants as event;
 ghost use Rattle.nv_world_model.specs.RowsExtents.{behind, came, denied, ends, fails, frees, in_device, one_command, read_over, told, unrecovered};
 
-/// The examples of this module, a clause each. Of a Read over the join are told the first byte of each block that came, and the last dword of
+/// The examples of this module, a clause each. For a Read over the join they give the first byte of each block that arrived, and the last dword of
 /// the completion: block 1031 of the disk holds 07h, block 3000 holds B8h.
 #[tactic(none)]
 pub fn examples()

@@ -7,7 +7,7 @@ ghost use Rattle.nv_world_model.specs.declared.event.Event.TheVariants as event;
 ghost use Rattle.nv_world_model.specs.RowsExtents.{among_others, answer, behind, both_entries, ended_as, frees, in_device, internal, one_command, others, read_over, success, told, too_short};
 ghost use Rattle.nv_world_model.specs.World.{Free};
 
-/// The examples of this module, a clause each. Of a physical entry are told opcode, identifier, PRP1, PRP2, and CDW10 to CDW12.
+/// The examples of this module, a clause each. For a physical entry they give opcode, identifier, PRP1, PRP2, and CDW10 to CDW12.
 #[tactic(none)]
 pub fn examples()
     // A direct Read: each part from its extent, and to where its block's bytes go.

@@ -9,7 +9,7 @@ ghost use Rattle.nv_world_model.specs.RowsExtents.{behind, ends, in_device, left
 /// The examples of this module, a clause each.
 #[tactic(none)]
 pub fn examples()
-    // The steps that its events stand for: a unit of a part has its number in the whole.
+    // The steps that its events represent: a unit of a part has its number in the whole.
     ensures it_is_taken { steps (event.Take 0 1 0) (one_command (read_over 0x3e00)) ≡ TakeStep 1 0 ∷ [] }
     ensures it_is_judged { behind (event.Take 0 1 0 ∷ []) (one_command (read_over 0x3e00)) (steps (event.Submit 0 0)) ≡ JudgeStep 0 ∷ [] }
     ensures its_units_move { behind in_device (one_command (read_over 0x3e00)) (steps_of_each (event.DevMove 0 0 0 ∷ event.DevMove 0 1 0 ∷ []))
