@@ -28,46 +28,88 @@ use Rattle.nv_world_model.specs.Due.{due}
 
 -- ---- the numbers of `enum nvmed_status`, as the header has them
 
+abbrev pub ok : ℕ
+ok = 0
+
+abbrev pub idle : ℕ
+idle = 1
+
+abbrev pub busy : ℕ
+busy = 2
+
+abbrev pub held : ℕ
+held = 3
+
+abbrev pub stale : ℕ
+stale = 4
+
+abbrev pub unmapped : ℕ
+unmapped = 5
+
+abbrev pub ignored : ℕ
+ignored = 6
+
 abbrev pub no_memory : ℕ
 no_memory = 8
+
+abbrev pub too_many_guests : ℕ
+too_many_guests = 9
+
+abbrev pub ranges_meet : ℕ
+ranges_meet = 10
+
+abbrev pub maps_meet : ℕ
+maps_meet = 11
+
+abbrev pub bad_size : ℕ
+bad_size = 12
+
+abbrev pub unaligned : ℕ
+unaligned = 13
+
+abbrev pub overlap : ℕ
+overlap = 14
+
+abbrev pub outside_host : ℕ
+outside_host = 15
 
 abbrev pub no_mediator : ℕ
 no_mediator = 16
 
-abbrev pub no_such : ℕ
-no_such = 18
-
 abbrev pub in_use : ℕ
 in_use = 17
 
+abbrev pub no_such : ℕ
+no_such = 18
+
 -- any of them but NVMED_OK: what a call was to hand out is then not there
 abbrev pub IsError : (status : ℕ) → Type 0
-IsError status = status ≡ 0 → ⊥
+IsError status = status ≡ ok → ⊥
 
 -- what a guest's regions are answered that are no map
 abbrev pub status_of_map : MapError → ℕ
-status_of_map map.Unaligned = 13
-status_of_map map.Overlap = 14
-status_of_map map.OutsideHost = 15
+status_of_map map.Unaligned = unaligned
+status_of_map map.Overlap = overlap
+status_of_map map.OutsideHost = outside_host
 
 -- what a set-up is answered that is no world
 abbrev pub status_of_refusal : Refusal → ℕ
 status_of_refusal refusal.NoMemory = no_memory
-status_of_refusal refusal.TooManyGuests = 9
-status_of_refusal refusal.RangesMeet = 10
-status_of_refusal refusal.MapsMeet = 11
-status_of_refusal refusal.BadSize = 12
+status_of_refusal refusal.TooManyGuests = too_many_guests
+status_of_refusal refusal.RangesMeet = ranges_meet
+status_of_refusal refusal.MapsMeet = maps_meet
+status_of_refusal refusal.BadSize = bad_size
 
 -- what an event is answered
 abbrev pub status_of : Reply → ℕ
-status_of reply.Done = 0
-status_of (reply.Bytes bytes) = 0
-status_of reply.Idle = 1
-status_of reply.Busy = 2
-status_of reply.Held = 3
-status_of reply.Stale = 4
-status_of reply.Unmapped = 5
-status_of reply.Ignored = 6
+status_of reply.Done = ok
+status_of (reply.Bytes bytes) = ok
+status_of reply.Idle = idle
+status_of reply.Busy = busy
+status_of reply.Held = held
+status_of reply.Stale = stale
+status_of reply.Unmapped = unmapped
+status_of reply.Ignored = ignored
 status_of reply.NoMemory = no_memory
 
 -- the dword that a reply returns, 0 where it returns none
@@ -120,7 +162,7 @@ IsLoaded e before after old status new =
 -- it was reported whether the event is due, and nothing has changed
 abbrev pub IsTold : Event → (told : ℕ) → (old : Hosted) → (status : ℕ) → (new : Hosted) → Type 0
 IsTold e told old status new =
-    (status ≡ 0) × (new ≡ old) × (told ≡ (if due old.geometry e (hosted_world old) then 1 else 0))
+    (status ≡ ok) × (new ≡ old) × (told ≡ (if due old.geometry e (hosted_world old) then 1 else 0))
 
 -- of the event that a struct names
 abbrev pub IsNamedTold : c.Event → (told : ℕ) → (old : Hosted) → (status : ℕ) → (new : Hosted) → Type 0
@@ -129,7 +171,7 @@ IsNamedTold named told old status new = (e : Event) × Names named e × IsTold e
 -- it was reported whether the block is kept, or that the disk has no such block; nothing has changed
 abbrev pub IsMark : Option Bool → (mark status : ℕ) → Type 0
 IsMark None mark status = status ≡ no_such
-IsMark (Some is) mark status = (status ≡ 0) × (mark ≡ (if is then 1 else 0))
+IsMark (Some is) mark status = (status ≡ ok) × (mark ≡ (if is then 1 else 0))
 
 abbrev pub IsKeptTold : (block mark : ℕ) → (old : Hosted) → (status : ℕ) → (new : Hosted) → Type 0
 IsKeptTold block mark old status new =
@@ -143,7 +185,7 @@ IsBlockShown h block shown at = IsBlock h.geometry.disk_blocks (hosted_world h) 
 abbrev pub IsBlockTold : (block : ℕ) → (at : Ptr) → (old : Hosted) → (status : ℕ) → (new : Hosted) → Type 0
 IsBlockTold block at old status new =
     (new ≡ old)
-    × ((status ≡ 0) × ((shown : Bor (List ℕ)) × IsBlockShown old block shown at)
+    × ((status ≡ ok) × ((shown : Bor (List ℕ)) × IsBlockShown old block shown at)
     ⊎ (status ≡ no_such) × (old.geometry.disk_blocks ≤ block))
 
 -- what is done to the mediator of a handle, of which the promise holds afterwards; a handle without one is answered so, and stays without
@@ -174,6 +216,6 @@ IsRefused s status =
 -- the set-up was refused; one that held one keeps it
 abbrev pub IsOpened : SetUp → (before : Option Hosted) → (status : ℕ) → (after : Option Hosted) → Type 0
 IsOpened s before status after =
-    ((status ≡ 0) × (before ≡ None) × (refusal_of s ≡ None) × ((h : Hosted) × (after ≡ Some h) × IsAtStart s h × IsPromised h))
+    ((status ≡ ok) × (before ≡ None) × (refusal_of s ≡ None) × ((h : Hosted) × (after ≡ Some h) × IsAtStart s h × IsPromised h))
     ⊎ ((before ≡ None) × (after ≡ None) × IsRefused s status)
     ⊎ (IsSome before × (after ≡ before) × (status ≡ in_use))

@@ -2,6 +2,7 @@
 use Rattle.std.specs.Prelude.{◌≡◌, ◌⊎◌, ◌<◌, ◌≤◌, ℕ, List, Some, None, length, slice_get}
 use Rattle.std.specs.Borrow.{Bor}
 use Rattle.std.specs.Ptr.{Ptr, as_ptr}
+use Rattle.nv_c.specs.Calls.{ignored, ok, unmapped}
 use Rattle.nv_mediator.specs.Hosted.{Hosted, hosted_world}
 use Rattle.nv_mem.specs.GuestMap.{host_of}
 use Rattle.nv_mem.specs.MapRuns.{IsLongestRun}
@@ -19,8 +20,8 @@ pub record IsView (h : Hosted) (guest address most : ℕ) (bytes : List ℕ) : T
 -- nothing is shown: the guest has no such address, or there is no such guest
 abbrev pub IsNoView : (h : Hosted) → (guest address status : ℕ) → Type 0
 IsNoView h guest address status =
-    (status ≡ 5) × ((given : Guest) × (slice_get h.geometry.guests guest ≡ Some given) × (host_of (regions_of given) address ≡ None))
-    ⊎ (status ≡ 6) × (slice_get h.geometry.guests guest ≡ None)
+    (status ≡ unmapped) × ((given : Guest) × (slice_get h.geometry.guests guest ≡ Some given) × (host_of (regions_of given) address ≡ None))
+    ⊎ (status ≡ ignored) × (slice_get h.geometry.guests guest ≡ None)
 
 -- a slice is handed out: the pointer is that of the slice, and the count that of its bytes. Of a slice without bytes no pointer is
 pub record IsHandedOut (bytes : Bor (List ℕ)) (before after : Ptr) (count : ℕ) : Type 0 where
@@ -33,5 +34,5 @@ pub record IsHandedOut (bytes : Bor (List ℕ)) (before after : Ptr) (count : �
 abbrev pub IsShown : (guest address most : ℕ) → (before after : Ptr) → (count : ℕ) → (old : Hosted) → (status : ℕ) → (new : Hosted) → Type 0
 IsShown guest address most before after count old status new =
     (new ≡ old)
-    × ((status ≡ 0) × ((shown : Bor (List ℕ)) × IsView old guest address most shown.now × IsHandedOut shown before after count)
+    × ((status ≡ ok) × ((shown : Bor (List ℕ)) × IsView old guest address most shown.now × IsHandedOut shown before after count)
     ⊎ IsNoView old guest address status)

@@ -9,6 +9,14 @@ use nv_model::Reply;
 
 /// It was done.
 pub(crate) const OK: u32 = 0;
+/// There is nothing to do.
+const IDLE: u32 = 1;
+/// The lane has too few free tags.
+const BUSY: u32 = 2;
+/// The completion queue is full.
+const HELD: u32 = 3;
+/// The tag is not at that point.
+const STALE: u32 = 4;
 /// Not all of these addresses are mapped.
 pub(crate) const UNMAPPED: u32 = 5;
 /// It has no effect: there is no such guest, for one.
@@ -17,6 +25,18 @@ pub(crate) const IGNORED: u32 = 6;
 pub(crate) const NO_MEMORY: u32 = 8;
 /// There are more than 16 guests.
 pub(crate) const TOO_MANY_GUESTS: u32 = 9;
+/// Two extents have a block in common.
+const RANGES_MEET: u32 = 10;
+/// Two guests' memories meet in the host, or one of them and the mediator's area.
+const MAPS_MEET: u32 = 11;
+/// A size is beyond its limits.
+const BAD_SIZE: u32 = 12;
+/// Addresses or length of a region are no multiple of 4,096, or it is empty.
+const UNALIGNED: u32 = 13;
+/// Two regions of a guest have an address in common.
+const OVERLAP: u32 = 14;
+/// A region leaves the host's memory.
+const OUTSIDE_HOST: u32 = 15;
 /// The handle holds no mediator.
 pub(crate) const NO_MEDIATOR: u32 = 16;
 /// The handle holds a mediator already.
@@ -31,10 +51,10 @@ pub(crate) fn of_reply(reply: &Reply) -> u32
     match reply {
         Reply::Done => OK,
         Reply::Bytes(_) => OK,
-        Reply::Idle => 1,
-        Reply::Busy => 2,
-        Reply::Held => 3,
-        Reply::Stale => 4,
+        Reply::Idle => IDLE,
+        Reply::Busy => BUSY,
+        Reply::Held => HELD,
+        Reply::Stale => STALE,
         Reply::Unmapped => UNMAPPED,
         Reply::Ignored => IGNORED,
         Reply::NoMemory => NO_MEMORY,
@@ -48,9 +68,9 @@ pub(crate) fn of_refusal(refusal: Refusal) -> u32
     match refusal {
         Refusal::NoMemory => NO_MEMORY,
         Refusal::TooManyGuests => TOO_MANY_GUESTS,
-        Refusal::RangesMeet => 10,
-        Refusal::MapsMeet => 11,
-        Refusal::BadSize => 12,
+        Refusal::RangesMeet => RANGES_MEET,
+        Refusal::MapsMeet => MAPS_MEET,
+        Refusal::BadSize => BAD_SIZE,
     }
 }
 
@@ -59,8 +79,8 @@ pub(crate) fn of_map_error(error: MapError) -> u32
     ensures { result ≡ status_of_map error }
 {
     match error {
-        MapError::Unaligned => 13,
-        MapError::Overlap => 14,
-        MapError::OutsideHost => 15,
+        MapError::Unaligned => UNALIGNED,
+        MapError::Overlap => OVERLAP,
+        MapError::OutsideHost => OUTSIDE_HOST,
     }
 }
