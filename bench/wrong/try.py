@@ -26,9 +26,9 @@ TRIALS = {
     "ONCE": (bugs.ONCE, [("nv_commands", ["check"]), ("nv_checks_program", ["try", "--test"]), ("nvmed", ["try", "--test"])]),
     "WORKERS": (bugs.WORKERS, [("nv_threads", ["check"]), ("nv_checks_threads", ["try", "--test"])]),
     "PRINT": (bugs.PRINT, [("nv_print", ["check"]), ("nv_checks_program", ["try", "--test"])]),
-    "RUN_SCRIPT": (bugs.RUN_SCRIPT, [("nv_run_script", ["check"]), ("nv_checks_script", ["try", "--test"])]),
-    "ONCE_SCRIPT_MORE": (bugs.ONCE_SCRIPT_MORE, [("nv_once_script", ["check"]), ("nv_checks_script", ["try", "--test"]), ("nv_checks_program", ["try", "--test"])]),
-    "REPLAY_SCRIPT": (bugs.REPLAY_SCRIPT, [("nv_replay_script", ["check"]), ("nv_checks_script", ["try", "--test"])]),
+    "RUN_SCRIPT": (bugs.RUN_SCRIPT, [("nv_run_script", ["check"]), ("nv_checks_program", ["try", "--test"])]),
+    "ONCE_SCRIPT_MORE": (bugs.ONCE_SCRIPT_MORE, [("nv_once_script", ["check"]), ("nv_checks_program", ["try", "--test"])]),
+    "REPLAY_SCRIPT": (bugs.REPLAY_SCRIPT, [("nv_replay_script", ["check"]), ("nv_checks_program", ["try", "--test"])]),
 }
 
 

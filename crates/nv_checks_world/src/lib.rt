@@ -3,6 +3,9 @@
 //! Guests have namespaces of one extent to eight. Their commands end as on a flat controller of their own, one after the other and by the thousand
 //! side by side. Where parts fail, the first of them decides. A command runs out after a reset, and waits where tags are scarce. Set-ups are tried
 //! at each limit, calls again where memory was refused, and phase tags beside positions.
+//!
+//! The mediator without a log is tried beside a world, which keeps one: it answers the same, and leaves the same memory and disk. [`promised`] has
+//! what the words of both contracts' promises give. It is one crate, since each crate of tests is linked with all that is below it.
 #![tactic(auto)]
 
 #[cfg(test)]
@@ -16,7 +19,10 @@ mod failing;
 #[cfg(test)]
 mod many;
 #[cfg(test)]
+mod mediator;
+#[cfg(test)]
 mod phases;
+pub mod promised;
 #[cfg(test)]
 mod refusals;
 #[cfg(test)]

@@ -1,4 +1,4 @@
-//! What the program `nvmed` does, except which words are a command: `decode` prints the fields of an entry, `once` runs a script of commands on a
+//! What the program `nvmed` does: `decode` prints the fields of an entry, `once` runs a script of commands on a
 //! controller over flat memory, `replay` puts a mediated world through the events of a script, and `run` lets the guests of a script act in threads
 //! of their own.
 //!
@@ -7,10 +7,12 @@
 //! is the line, field by field. For a script, where it is known what there is to read, it is what its lines print one after another on a run of the
 //! controller, or the replies to its events along the world. For the guests of `run` it is what each guest's lines gave in one log that keeps the
 //! whole promise. A command ends with a fault only as its definition says, the output is left as it was except after out of memory and failed
-//! output, `decode` reads nothing, and each outcome has its exit status. What a writer that failed holds is tested and not proved.
+//! output, `decode` reads nothing, and each outcome has its exit status. What a writer that failed holds is tested and not
+//! proved, and so is which words are a command ([`CommandLine`]).
 #![tactic(auto)]
 
 mod command;
+mod command_line;
 mod decode;
 mod entry_kind;
 mod exit_status;
@@ -27,6 +29,7 @@ mod request;
 mod running;
 
 pub use command::{Command, Failure, perform, perform_run};
+pub use command_line::CommandLine;
 pub use entry_kind::EntryKind;
 pub use exit_status::ExitStatus;
 pub use fault::{Fault, report};

@@ -5,16 +5,11 @@
 //! script. `nvmed run` lets the guests of a script act in threads of their own before such a controller. Any other list of words is a usage fault.
 //! A fault is one line on standard error, and the exit status gives its kind.
 //!
-//! This file has the grammar of the command line, which is tested and not proved, and `main`, which hands the process to the crate `nv_commands`:
-//! what a command prints, how it ends and with which exit status is proved there.
+//! This is `main` alone, which hands the process to the crate `nv_commands`: what a command prints, how it ends and with which exit status is
+//! proved there.
 #![tactic(auto)]
 
-mod command_line;
-#[cfg(test)]
-mod tests;
-
-use crate::command_line::CommandLine;
-use nv_commands::program;
+use nv_commands::{CommandLine, program};
 use nv_flat::FlatController;
 use std::io::{Stderr, Stdin, Stdout};
 use std::process::ExitCode;

@@ -1,7 +1,6 @@
 //! Which words are which command.
 
-use crate::command_line::CommandLine;
-use nv_commands::{Command, EntryKind, Refusal, Request, request_of};
+use nv_commands::{Command, CommandLine, EntryKind, Refusal, Request, request_of};
 use std::process::Abort;
 
 /// A Read of one block at 5 into 512 bytes at 3000h, identifier 7.

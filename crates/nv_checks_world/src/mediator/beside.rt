@@ -1,7 +1,7 @@
 //! A mediator beside a world: the same events, the same replies, and then the same memory and disk.
 
-use crate::calls::call;
-use crate::events::next;
+use crate::mediator::calls::call;
+use crate::mediator::events::next;
 use nv_bringup::{BRING_UP, Random, Span, act_of, guest_at, setup_of};
 use nv_mediator::{Mediator, Setup};
 use nv_mem::NoMemory;

@@ -1,4 +1,4 @@
-use Rattle.nv_checks_mediator.proofs.promised.of_a_world.Goals as goal
+use Rattle.nv_checks_world.proofs.promised.of_a_world.Goals as goal
 
 pub returns-clause-private : goal.returns-clause-private
 returns-clause-private c k number guest kept here none disciplined = kept.private number guest here none disciplined

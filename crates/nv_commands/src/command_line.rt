@@ -1,8 +1,12 @@
-//! The grammar of the command line.
+//! The grammar of the command line of `nvmed`, which is tested and not proved.
 
+use crate::command::Command;
+use crate::entry_kind::EntryKind;
+use crate::grammar::Grammar;
+use crate::refusal::Refusal;
+use crate::request::Request;
 use clap::error::ErrorKind;
 use clap::{Arg, ArgMatches};
-use nv_commands::{Command, EntryKind, Grammar, Refusal, Request};
 use std::alloc::{AllocError, Global};
 use std::convert::AsStr;
 

@@ -3,7 +3,7 @@
 //! A row of a table has the lines after the set-up and what comes of them, the lines or the fault, with `|` between them and `;` for each line
 //! feed.
 
-use crate::replay::{SET_UP, joined};
+use crate::parsing::replay::{SET_UP, joined};
 use nv_run_script::parse;
 use std::process::Abort;
 use std::test::Fail;

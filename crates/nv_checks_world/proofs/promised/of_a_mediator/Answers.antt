@@ -1,5 +1,5 @@
 use Rattle.nv_mediator.proofs.Logs.{log-more, log-none}
-use Rattle.nv_checks_mediator.proofs.promised.of_a_mediator.Goals as goal
+use Rattle.nv_checks_world.proofs.promised.of_a_mediator.Goals as goal
 
 pub returns-clause-private : goal.returns-clause-private
 returns-clause-private c h log number guest promised is here none disciplined = (promised log is).private number guest here none disciplined

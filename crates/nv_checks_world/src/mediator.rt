@@ -1,0 +1,5 @@
+//! The mediator without a log.
+
+mod beside;
+mod calls;
+mod events;
