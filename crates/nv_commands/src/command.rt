@@ -76,6 +76,12 @@ enum Job {
 /// Where all goes well the output has grown by exactly the line of the entry, or by what the script prints. Digits that spell no entry are bad
 /// bytes, and nothing else is. Only where the output failed or memory was refused can anything have been written before a fault is returned: with
 /// any other fault the output is given back as it was. `decode` reads nothing.
+///
+/// # Errors
+///
+/// A [`Failure`] holds the [`Fault`]: digits that spell no entry, a faulty script or set-up, a failed input, refused memory, or a failed
+/// output. It gives the output back as it was. Only after refused memory or a failed output can `output` be `None`, with part of the text
+/// written.
 pub fn perform<C: One, R: Read, W: Write + Drop>(
     alloc: Global,
     command: Command<'_>,
@@ -94,11 +100,17 @@ pub fn perform<C: One, R: Read, W: Write + Drop>(
     finish::<C, W>(alloc, job, output)
 }
 
-/// Lets the guests of a script act in threads of their own, before one mediated world, and waits for them. What was reported to them goes to
-/// `output` once all are through and the log was compared with it, through a buffer that is empty at the end, and the output is given back.
+/// Lets the guests of a script act in threads of their own, before one mediated world, and waits for them. What was reported to them goes
+/// to `output` once all are through and the log was compared with it, through a buffer that is empty at the end, and the output is given
+/// back.
 ///
-/// A fault of the script or of its set-up is the one that its definition gives, where it is known what there is to read. A wait that is never met,
-/// and a log that differs from what was reported to the guests, come before anything is written.
+/// A fault of the script or of its set-up is the one that its definition gives, where it is known what there is to read.
+///
+/// # Errors
+///
+/// A [`Failure`] holds the [`Fault`]. A failed input, a faulty script or set-up, a wait that is never met, and a log that differs from what
+/// was reported to the guests, come before anything is written: `output` is as it was. It can be `None` only where memory was refused or
+/// the output failed.
 pub fn perform_run<C: One, P: Threads + Wait + Clock + Sync, R: Read, W: Write + Drop>(
     rt: &P,
     alloc: Global,

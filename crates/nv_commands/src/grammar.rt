@@ -23,6 +23,10 @@ pub trait Grammar {
 }
 
 /// What these words ask for in a grammar. No request has a word that begins with `-`.
+///
+/// # Errors
+///
+/// [`Refusal::Usage`] where a word begins with `-`. Otherwise the refusal that the grammar `G` returns for the words.
 pub fn request_of<'a, G: Grammar, S: AsStr>(
     alloc: Global,
     words: &'a [S],
@@ -43,7 +47,12 @@ fn begins_with_dash(word: &str) -> bool
     word.as_bytes().first() == Some(&b'-')
 }
 
-/// The words after the program's name. Words that are no text are none that the program knows.
+/// The words after the program's name.
+///
+/// # Errors
+///
+/// [`Refusal::NoMemory`] where memory is refused. [`Refusal::Usage`] where the words cannot be read for another reason: words that are no
+/// text are none that the program knows.
 pub fn words(rt: &(impl Env + AllocGlobal)) -> Result<Vec<String>, Refusal> {
     let all = env::args(rt).map_err(Refusal::of_words)?;
     let words = all.skip(1).collect(rt.alloc())?;

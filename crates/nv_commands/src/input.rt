@@ -7,6 +7,11 @@ use std::alloc::Global;
 use std::io::Read;
 
 /// The whole input.
+///
+/// # Errors
+///
+/// [`Fault::NoMemory`] where memory for the input is refused. [`Fault::CannotRead`] where the input fails otherwise. Part of the input may
+/// have been read then.
 pub fn read_all<R: Read>(alloc: Global, input: &mut R) -> Result<Vec<u8>, Fault>
     ensures ok { IfOk result (λ text. IfSome (R.remaining input.old) (λ bytes. text.items ≡ bytes)) }
     ensures err { IfErr result IsInput }

@@ -9,6 +9,10 @@ use nv_print::{CannotWrite, end_line};
 use std::io::Write;
 
 /// Writes the fields of a submission queue entry on one line.
+///
+/// # Errors
+///
+/// [`CannotWrite`] where the output fails. The output may then have a part of the line.
 pub fn write_submission<W: Write>(entry: &Sqe, output: &mut W) -> Result<(), CannotWrite>
     ensures { OnOk result (Appends (W.contents output.old) (W.contents output.new) (submission_line entry.now)) }
 {
@@ -28,6 +32,10 @@ pub fn write_submission<W: Write>(entry: &Sqe, output: &mut W) -> Result<(), Can
 }
 
 /// Writes the fields of a completion queue entry on one line.
+///
+/// # Errors
+///
+/// [`CannotWrite`] where the output fails. The output may then have a part of the line.
 pub fn write_completion<W: Write>(entry: &Cqe, output: &mut W) -> Result<(), CannotWrite>
     ensures { OnOk result (Appends (W.contents output.old) (W.contents output.new) (completion_line entry.now)) }
 {

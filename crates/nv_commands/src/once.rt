@@ -23,6 +23,11 @@ const CHUNK: usize = 512;
 
 /// Reads a script whole. Where it is known what there is to read, that is the script, and a fault of the script is the one that its
 /// definition gives.
+///
+/// # Errors
+///
+/// [`Fault::Script`] names the first faulty line and what is wrong with it. [`Fault::CannotRead`] where the input fails.
+/// [`Fault::NoMemory`] where memory is refused.
 pub fn read<R: Read>(alloc: Global, input: &mut R) -> Result<Script, Fault>
     ensures script { IfOk result (λ script. IsScriptOf (R.remaining input.old) (script_value script)) }
     ensures in_range { IfOk result (λ script. IsInRange (script_value script)) }
@@ -35,6 +40,11 @@ pub fn read<R: Read>(alloc: Global, input: &mut R) -> Result<Script, Fault>
 
 /// Runs the lines of a script one after another on a controller of its sizes. What a `cmd`, `dump` or `block` line prints goes to
 /// `output`.
+///
+/// # Errors
+///
+/// [`Fault::NoMemory`] where memory for the controller or for a command is refused. [`Fault::CannotWrite`] where the output fails. The
+/// output may then have what some of the lines print.
 pub fn run<C: One, W: Write>(alloc: Global, script: &Script, output: &mut W) -> Result<(), Fault>
     requires { IsInRange (script_value script.now) }
     ensures ok { OnOk result (PrintsScript C.built (script_value script.now) (W.contents output.old) (W.contents output.new)) }

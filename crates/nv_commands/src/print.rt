@@ -9,6 +9,10 @@ use nv_print::{CannotWrite, print_bytes, print_text};
 use std::io::Write;
 
 /// Prints a label, and then bytes as hexadecimal digits.
+///
+/// # Errors
+///
+/// [`CannotWrite`] where the output fails. The output may then have a part of the text.
 pub fn print_hex<W: Write>(label: &[u8], bytes: &[u8], output: &mut W) -> Result<(), CannotWrite>
     ensures { OnOk result (Appends (W.contents output.old) (W.contents output.new) (label.now ++ encode_lower bytes.now)) }
 {
@@ -17,6 +21,10 @@ pub fn print_hex<W: Write>(label: &[u8], bytes: &[u8], output: &mut W) -> Result
 }
 
 /// Prints a label, and then a number in base 10.
+///
+/// # Errors
+///
+/// [`CannotWrite`] where the output fails. The output may then have a part of the text.
 pub fn print_number<W: Write>(label: &[u8], number: u8, output: &mut W) -> Result<(), CannotWrite>
     ensures { OnOk result (Appends (W.contents output.old) (W.contents output.new) (label.now ++ decimal number)) }
 {
@@ -26,6 +34,10 @@ pub fn print_number<W: Write>(label: &[u8], number: u8, output: &mut W) -> Resul
 }
 
 /// Prints a label, and then a bit as a digit.
+///
+/// # Errors
+///
+/// [`CannotWrite`] where the output fails. The output may then have a part of the text.
 pub fn print_flag<W: Write>(label: &[u8], is_set: bool, output: &mut W) -> Result<(), CannotWrite>
     ensures { OnOk result (Appends (W.contents output.old) (W.contents output.new) (label.now ++ flag is_set)) }
 {

@@ -23,8 +23,12 @@ use std::time::Clock;
 /// Does the command that the words are, on a controller of the kind `C` where it is a script. A fault is one line of `faults`, which is
 /// left alone where there is none.
 ///
-/// It ends well only if the words are a command and the output has grown by what that command prints. Words that are none are a fault
-/// before anything is read or written.
+/// It ends well only if the words are a command and the output has grown by what that command prints.
+///
+/// # Errors
+///
+/// A [`Failure`] holds the [`Fault`] of the command, as [`perform`] returns it. Words that are no command are a fault before anything is
+/// read or written: [`Fault::Usage`] or [`Fault::NoMemory`], by their [`Refusal`]. The output is then given back as it was.
 pub fn run<C: One, R: Read, W: Write + Drop, E: Write>(
     alloc: Global,
     command: Result<Command<'_>, Refusal>,
@@ -55,11 +59,15 @@ fn tell<W, E: Write>(ended: &Result<W, Failure<W>>, faults: &mut E)
     }
 }
 
-/// Does what the words ask for, on a controller of the kind `C` where that is a script of `once`. A fault is one line of `faults`, which
-/// is left alone where there is none. Only the guests of `run` are waited for.
+/// Does what the words ask for, on a controller of the kind `C` where that is a script of `once`. A fault is one line of `faults`, which is
+/// left alone where there is none. Only the guests of `run` are waited for.
 ///
-/// It ends well only if the words ask for something and the output has grown by what that prints. Words that ask for nothing are a fault
-/// before anything is read or written.
+/// It ends well only if the words ask for something and the output has grown by what that prints.
+///
+/// # Errors
+///
+/// A [`Failure`] holds the [`Fault`], as [`perform`] or [`perform_run`] returns it. Words that ask for nothing are a fault before anything
+/// is read or written: [`Fault::Usage`] or [`Fault::NoMemory`], by their [`Refusal`]. The output is then given back as it was.
 pub fn serve<C: One, P: Threads + Wait + Clock + Sync, R: Read, W: Write + Drop, E: Write>(
     rt: &P,
     alloc: Global,

@@ -10,6 +10,11 @@ use std::io::Read;
 
 /// Reads a script whole, and opens its world. Where it is known what there is to read, that is what the script comes to, and a fault of
 /// the script or of its set-up is the one that its definition gives.
+///
+/// # Errors
+///
+/// [`Fault::Script`] names the first faulty line. [`Fault::Refused`] says why the set-up is refused. [`Fault::CannotRead`] where the input
+/// fails. [`Fault::NoMemory`] where memory is refused.
 pub fn read<R: Read>(alloc: Global, input: &mut R) -> Result<Replay, Fault>
     ensures ok { IfOk result (IsReplayOf (R.remaining input.old)) }
     ensures err { IfErr result (IsReplayFault (R.remaining input.old)) }

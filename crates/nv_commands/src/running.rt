@@ -14,6 +14,12 @@ use std::time::Clock;
 
 /// The run of a script's guests, once all have finished and the log was compared with what they were shown. The script is read whole before any
 /// guest acts.
+///
+/// # Errors
+///
+/// [`Fault::Script`], [`Fault::Refused`] and [`Fault::CannotRead`] come before any guest acts. [`Fault::NoCompletion`] names the lowest
+/// line whose wait is not met. [`Fault::Mismatch`] where the log differs from what the guests were shown, or from the sum of all.
+/// [`Fault::NoMemory`] where memory is refused.
 pub fn played<P: Threads + Wait + Clock + Sync, R: Read>(
     rt: &P,
     alloc: Global,

@@ -16,8 +16,11 @@ use std::alloc::Global;
 
 impl Core {
     /// A guest acts: it reads and writes its memory, its controller's registers and its doorbells. Ignored where there is no such guest.
-    /// Memory is taken for the bytes of a load that a reply does not hold in itself, and for nothing else; where none is left, nothing has
-    /// changed.
+    ///
+    /// # Errors
+    ///
+    /// [`NoMemory`] where memory for the bytes of a load is refused: nothing has changed. Memory is taken for the bytes of a load that a
+    /// reply does not hold in itself, and for nothing else.
     #[inline(never)]
     pub fn act(
         &mut self,

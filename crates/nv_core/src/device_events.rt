@@ -16,8 +16,12 @@ use nv_world_model::Event;
 use std::alloc::Global;
 
 impl Core {
-    /// The physical controller takes the front entry of a lane's submission ring. Idle where none waits, Ignored where there is no such lane.
-    /// Memory is taken for the command in the controller; where none is left, nothing has changed.
+    /// The physical controller takes the front entry of a lane's submission ring. Idle where none waits, Ignored where there is no such
+    /// lane.
+    ///
+    /// # Errors
+    ///
+    /// [`NoMemory`] where memory for the command in the controller is refused: nothing has changed. Memory is taken for that command.
     #[inline(never)]
     pub fn dev_take(&mut self, alloc: Global, _layout: &Layout, lane: u8) -> Result<Reply, NoMemory>
         requires { IsOf _layout.now self.old }

@@ -19,6 +19,10 @@ impl Core {
     /// kept, rings are empty, tags are free, and no controller is enabled.
     ///
     /// The caller knows that a device may be so large and its area begin there ([`Device::fits`] tests it).
+    ///
+    /// # Errors
+    ///
+    /// [`NoMemory`] where memory for the host, the device, the lanes or the controllers is refused.
     pub fn new(alloc: Global, layout: &Layout, host_bytes: u64, lanes: u8) -> Result<Self, NoMemory>
         requires { FitsLimits layout.now.mediator lanes layout.now.disk_blocks }
         ensures { IfOk result (IsOpening layout.now host_bytes lanes) }

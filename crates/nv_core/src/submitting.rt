@@ -25,9 +25,12 @@ use nv_world_model::Event;
 use std::alloc::Global;
 
 impl Core {
-    /// Plans the command of a tag that was taken, and carries the plan out: the command is handed to the physical controller, or ends
-    /// at once. Stale where the tag is at another point, or more of the command's lists is wanted; Ignored where there is no such tag.
-    /// Where no memory is left, nothing has changed.
+    /// Plans the command of a tag that was taken, and carries the plan out: the command is handed to the physical controller, or ends at
+    /// once. Stale where the tag is at another point, or more of the command's lists is wanted; Ignored where there is no such tag.
+    ///
+    /// # Errors
+    ///
+    /// [`NoMemory`] where memory is refused: nothing has changed.
     #[inline(never)]
     pub fn submit(
         &mut self,

@@ -33,11 +33,15 @@ impl Core {
         Reply::Done
     }
 
-    /// Bytes of the guest's memory join the transcript of a tag that was taken, and are the reply. Stale where the tag is at another point, Ignored
-    /// where there is no such tag, Unmapped where not all of the bytes are mapped, and Ignored where they are none or more than 4,096. Where no
-    /// memory is left, nothing has changed.
+    /// Bytes of the guest's memory join the transcript of a tag that was taken, and are the reply. Stale where the tag is at another point,
+    /// Ignored where there is no such tag, Unmapped where not all of the bytes are mapped, and Ignored where they are none or more than
+    /// 4,096.
     ///
     /// Bytes that are the reply are returned once more, for a log: after the event there might be no memory for a copy.
+    ///
+    /// # Errors
+    ///
+    /// [`NoMemory`] where memory for the bytes, or for their place in the transcript, is refused: nothing has changed.
     #[inline(never)]
     pub fn list(
         &mut self,

@@ -70,6 +70,10 @@ impl Device {
 
     /// A device whose blocks are zeros, with no mark set, and whose rings are empty, in the area of the host's memory that
     /// begins at `mediator`.
+    ///
+    /// # Errors
+    ///
+    /// [`NoMemory`] where memory for the blocks, the marks or the lanes is refused.
     pub fn new(alloc: Global, mediator: u64, lanes: u8, blocks: u64) -> Result<Self, NoMemory>
         requires { FitsLimits mediator lanes blocks }
         ensures { IfOk result (λ device. device ≡ opening_physical mediator lanes blocks) }

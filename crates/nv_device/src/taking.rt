@@ -34,8 +34,12 @@ impl Device {
             && command::is_on_disk(&sqe, self.blocks())
     }
 
-    /// Takes the front entry of a lane's submission ring into the device, under its identifier, and reads its PRP list: where
-    /// its bytes lie is settled now. Idle where no entry waits. Where no memory is left for that, nothing has changed.
+    /// Takes the front entry of a lane's submission ring into the device, under its identifier, and reads its PRP list: where its bytes lie
+    /// is settled now. Idle where no entry waits.
+    ///
+    /// # Errors
+    ///
+    /// [`NoMemory`] where memory for the command is refused: nothing has changed.
     pub fn take(&mut self, alloc: Global, lane: u8, host: &Host) -> Result<Response, NoMemory>
         requires lane { lane < length self.old.lanes }
         requires area { HoldsArea (length host.now) self.old }

@@ -71,6 +71,10 @@ impl Debug for Blocks {
 
 impl Blocks {
     /// So many blocks, all zero. It takes the room of all of them, and no time for their bytes.
+    ///
+    /// # Errors
+    ///
+    /// [`NoMemory`] where memory for the blocks is refused.
     pub fn new(alloc: Global, count: usize) -> Result<Self, NoMemory>
         requires { count < 2 ^ 31 }
         ensures { IfOk result (λ blocks. blocks ≡ replicate count (replicate 512 0)) }

@@ -43,6 +43,10 @@ impl Debug for Marks {
 
 impl Marks {
     /// So many marks that are clear.
+    ///
+    /// # Errors
+    ///
+    /// [`NoMemory`] where memory for the marks is refused.
     pub fn new(alloc: Global, count: usize) -> Result<Self, NoMemory>
         ensures { IfOk result (λ marks. marks ≡ replicate count false) }
     {

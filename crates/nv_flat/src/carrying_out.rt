@@ -22,8 +22,12 @@ use std::alloc::Global;
 impl FlatController {
     /// Runs one command to its end, as the first command of a fresh queue 1: its completion has head 1 and phase 1.
     ///
-    /// The completion, and the memory, the blocks and the marks after the command, are those of some run of the private controller that judges the
-    /// command and moves it to its end. Where no memory is left, nothing has changed.
+    /// The completion, and the memory, the blocks and the marks after the command, are those of some run of the private controller that
+    /// judges the command and moves it to its end.
+    ///
+    /// # Errors
+    ///
+    /// [`NoMemory`] where memory is refused: nothing has changed.
     pub fn one(&mut self, alloc: Global, sqe: &Sqe) -> Result<Cqe, NoMemory>
         ensures ok { IfOk result (λ cqe. (st : StatusField) × (IsRun self.old sqe.now st self.new × (cqe ≡ completion 0 1 1 (cid_of sqe.now) true st))) }
         ensures memory_size { length self.new.memory ≡ length self.old.memory }

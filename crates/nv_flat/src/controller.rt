@@ -49,6 +49,10 @@ impl FlatController {
     }
 
     /// A controller with `memory_len` bytes of memory and `blocks` blocks, all zero, and no mark set.
+    ///
+    /// # Errors
+    ///
+    /// [`NoMemory`] where memory for the bytes, their map, the blocks or the marks is refused.
     pub fn new(alloc: Global, memory_len: u64, blocks: u64) -> Result<Self, NoMemory>
         requires { FitsLimits memory_len blocks }
         ensures { IfOk result (λ c. c ≡ flat (replicate memory_len 0) (replicate blocks (replicate block_size 0)) (replicate blocks false)) }

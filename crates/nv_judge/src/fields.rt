@@ -11,8 +11,13 @@ use nv_entry::{IoOpcode, Sqe, Status, StatusCode};
 use nv_model::limits::{BLOCK_SIZE, MOST_BLOCKS, RANGE_SIZE};
 use nv_ns::VirtualNs;
 
-/// The checks of a command's fields in their order: fused operation, opcode, namespace, data pointer, size of the transfer and
-/// block range. `Ok` says what the command needs; `Err` is the refusal by the first check that fails, with DNR set.
+/// The checks of a command's fields in their order: fused operation, opcode, namespace, data pointer, size of the transfer and block range.
+///
+/// # Errors
+///
+/// The refusal by the first check that fails, with DNR set: [`StatusCode::InvalidField`] for fused operation, data pointer and size of the
+/// transfer, [`StatusCode::InvalidOpcode`], [`StatusCode::InvalidNamespace`] or [`StatusCode::LbaOutOfRange`] for the block range. `Ok`
+/// says what the command needs.
 pub fn judge_fields(sqe: &Sqe, ns: &VirtualNs) -> Result<Need, Status>
     ensures { result ≡ field_verdict (blocks_in ns.now) sqe.now }
 {

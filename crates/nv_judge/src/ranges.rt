@@ -9,8 +9,11 @@ use nv_entry::{Range, Status, StatusCode};
 use nv_model::limits::RANGE_SIZE;
 use nv_ns::VirtualNs;
 
-/// The check of the ranges of Dataset Management, 16 bytes each, in their order: each must lie in the namespace. `Err` is the
-/// refusal, with DNR set.
+/// The check of the ranges of Dataset Management, 16 bytes each, in their order: each must lie in the namespace.
+///
+/// # Errors
+///
+/// [`StatusCode::LbaOutOfRange`], with DNR set, where a range is not in the namespace.
 pub fn judge_ranges(ranges: &[u8], ns: &VirtualNs) -> Result<(), Status>
     requires { length ranges.now % range_size ≡ 0 }
     ensures { result ≡ ranges_verdict (blocks_in ns.now) ranges.now }

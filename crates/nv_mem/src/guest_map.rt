@@ -65,6 +65,12 @@ impl GuestMap {
 
     /// The map with these regions, for a host of `host_len` bytes, or the lowest of the three
     /// refusals that applies. It takes no memory.
+    ///
+    /// # Errors
+    ///
+    /// The first of these that applies: [`MapError::Unaligned`] where an address or a length is no multiple of 4,096, or a length is 0;
+    /// [`MapError::Overlap`] where two regions share a guest or host address; [`MapError::OutsideHost`] where a region leaves the host's
+    /// memory or the 64 bits of guest addresses.
     pub fn new(host_len: u64, regions: Vec<Region>) -> Result<Self, MapError>
         ensures refusal { result_err result ≡ refusal_of host_len regions.items }
         ensures map { IfOk result (λ map. map ≡ record { host_len = host_len; regions = regions.items }) }
@@ -139,6 +145,10 @@ impl GuestMap {
     }
 
     /// The same map again, in memory of its own.
+    ///
+    /// # Errors
+    ///
+    /// [`NoMemory`] where memory for the regions is refused.
     pub fn try_clone(&self, alloc: Global) -> Result<Self, NoMemory>
         ensures { IfOk result (λ map. map ≡ self.now) }
     {

@@ -26,6 +26,10 @@ impl Model for Host {
 
 impl Host {
     /// A memory of `len` bytes, all zero. It takes the room of all of them, and no time for those that are never written.
+    ///
+    /// # Errors
+    ///
+    /// [`NoMemory`] where memory for the bytes is refused.
     pub fn new(alloc: Global, len: u64) -> Result<Self, NoMemory>
         ensures { IfOk result (λ host. host ≡ replicate len 0) }
     {

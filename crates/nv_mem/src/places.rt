@@ -36,6 +36,10 @@ impl Places {
     }
 
     /// Takes room for so many more pieces at once. The places are as they were.
+    ///
+    /// # Errors
+    ///
+    /// [`NoMemory`] where memory for the pieces is refused.
     pub fn reserve(&mut self, pieces: usize) -> Result<(), NoMemory>
         ensures { self.new ≡ self.old }
     {
@@ -43,7 +47,11 @@ impl Places {
         Ok(())
     }
 
-    /// Adds a piece after the others. Where no memory is left, the places are as they were.
+    /// Adds a piece after the others.
+    ///
+    /// # Errors
+    ///
+    /// [`NoMemory`] where memory for the piece is refused: the places are as they were.
     pub fn push(&mut self, piece: Piece) -> Result<(), NoMemory>
         ensures ok { OnOk result (self.new ≡ self.old ++ piece ∷ []) }
         ensures err { OnErr result (self.new ≡ self.old) }
@@ -60,6 +68,10 @@ impl Places {
     }
 
     /// The same pieces again, in memory of their own.
+    ///
+    /// # Errors
+    ///
+    /// [`NoMemory`] where memory for the pieces is refused.
     pub fn try_clone(&self, alloc: Global) -> Result<Self, NoMemory>
         ensures { IfOk result (λ places. places ≡ self.now) }
     {

@@ -77,7 +77,11 @@ impl Transcript {
         }
     }
 
-    /// Adds a read after the others. Where no memory is left, they are as they were.
+    /// Adds a read after the others.
+    ///
+    /// # Errors
+    ///
+    /// [`NoMemory`] where memory for the read is refused: the reads are as they were.
     pub fn push(&mut self, read: ReadDone) -> Result<(), NoMemory>
         ensures ok { OnOk result (self.new ≡ self.old ++ read ∷ []) }
         ensures err { OnErr result (self.new ≡ self.old) }

@@ -15,6 +15,10 @@ const CHUNK: usize = 512;
 const SHORT: usize = 32;
 
 /// Prints a text as it is.
+///
+/// # Errors
+///
+/// [`CannotWrite`] where the output fails. The output may then have a part of the text.
 #[inline(always)]
 pub fn print_text<W: Write>(text: &[u8], output: &mut W) -> Result<(), CannotWrite>
     ensures { OnOk result (Appends (W.contents output.old) (W.contents output.new) text.now) }
@@ -26,6 +30,10 @@ pub fn print_text<W: Write>(text: &[u8], output: &mut W) -> Result<(), CannotWri
 }
 
 /// Ends a line of the output.
+///
+/// # Errors
+///
+/// [`CannotWrite`] where the output fails.
 pub fn end_line<W: Write>(output: &mut W) -> Result<(), CannotWrite>
     ensures { OnOk result (Appends (W.contents output.old) (W.contents output.new) line_feed) }
 {
@@ -33,6 +41,10 @@ pub fn end_line<W: Write>(output: &mut W) -> Result<(), CannotWrite>
 }
 
 /// Prints bytes as hexadecimal digits.
+///
+/// # Errors
+///
+/// [`CannotWrite`] where the output fails. The output may then have a part of the digits.
 pub fn print_bytes<W: Write>(bytes: &[u8], output: &mut W) -> Result<(), CannotWrite>
     ensures { OnOk result (Appends (W.contents output.old) (W.contents output.new) (encode_lower bytes.now)) }
 {
@@ -57,6 +69,10 @@ fn print_chunk<W: Write>(bytes: &[u8], room: &mut [u8], output: &mut W) -> Resul
 }
 
 /// Prints bytes as a line of hexadecimal digits.
+///
+/// # Errors
+///
+/// [`CannotWrite`] where the output fails. The output may then have a part of the line.
 pub fn print_line<W: Write>(bytes: &[u8], output: &mut W) -> Result<(), CannotWrite>
     ensures { OnOk result (Appends (W.contents output.old) (W.contents output.new) (hex_line bytes.now)) }
 {
@@ -89,6 +105,10 @@ fn write_line(bytes: &[u8], line: &mut [u8])
 }
 
 /// Prints bytes as a line of hexadecimal digits, or of a dash where they are none.
+///
+/// # Errors
+///
+/// [`CannotWrite`] where the output fails. The output may then have a part of the line.
 pub fn print_dump<W: Write>(bytes: &[u8], output: &mut W) -> Result<(), CannotWrite>
     ensures { OnOk result (Appends (W.contents output.old) (W.contents output.new) (dump_line bytes.now)) }
 {

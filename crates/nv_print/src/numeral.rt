@@ -84,6 +84,10 @@ fn increase_digits(digits: &mut [u8]) -> bool
 
 /// Prints a number in decimal digits, and then a text. It is inlined into its caller, so that a text whose length is known there is copied without
 /// a call.
+///
+/// # Errors
+///
+/// [`CannotWrite`] where the output fails. The output may then have a part of the number and the text.
 #[inline(always)]
 pub fn print_numbered<W: Write>(
     number: &Numeral,

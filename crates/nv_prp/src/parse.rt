@@ -86,6 +86,10 @@ impl<'a> PrpParse<'a> {
     }
 
     /// Where the bytes of the transfer lie, once the parse is done.
+    ///
+    /// # Errors
+    ///
+    /// [`NoMemory`] where memory for the places is refused.
     pub fn places(&self, alloc: Global) -> Result<Places, NoMemory>
         requires { want_of (dialogue_of self.now) ≡ Want.Done }
         ensures { IfOk result (λ places. dialogue_of self.now ≡ End (Spells places)) }

@@ -57,6 +57,10 @@ impl Runs {
 }
 
 /// Adds the runs after the pieces that are there.
+///
+/// # Errors
+///
+/// [`NoMemory`] where memory for a run is refused. The places may then have some of the runs.
 pub fn push_all(runs: &[Piece], places: &mut Places) -> Result<(), NoMemory>
     ensures { OnOk result (places.new ≡ places.old ++ runs.now) }
 {

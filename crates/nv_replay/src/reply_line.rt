@@ -10,6 +10,10 @@ use nv_print::{CannotWrite, Numeral, print_dump, print_numbered, print_text};
 use std::io::Write;
 
 /// Prints the line of the reply to event number `number`.
+///
+/// # Errors
+///
+/// [`CannotWrite`] where the output fails. The output may then have a part of the line.
 pub fn print_reply<W: Write>(
     number: &Numeral,
     reply: &Reply,
@@ -39,6 +43,10 @@ fn print_bytes<W: Write>(number: &Numeral, bytes: &Bytes, output: &mut W) -> Res
 }
 
 /// Prints the last line: how many events there were.
+///
+/// # Errors
+///
+/// [`CannotWrite`] where the output fails. The output may then have a part of the line.
 pub fn print_count<W: Write>(count: &Numeral, output: &mut W) -> Result<(), CannotWrite>
     ensures { OnOk result (Appends (W.contents output.old) (W.contents output.new) (count_line count.now)) }
 {

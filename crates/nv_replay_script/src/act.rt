@@ -21,6 +21,11 @@ use std::alloc::{AllocError, Global};
 const FILL_MAX: u64 = 131_072;
 
 /// Makes the act from this kind and the words after its guest, which are as many as the kind needs.
+///
+/// # Errors
+///
+/// [`LineFault::Faulty`] with [`FaultKind::BadNumber`] for a number that is none, or too large; with [`FaultKind::BadBytes`] where the
+/// digits of a `store` spell no bytes. [`LineFault::NoMemory`] where memory for the bytes of a `store` or `fill` is refused.
 pub fn make_act(alloc: Global, kind: ActKind, mut words: Words<'_>) -> Result<Act, LineFault>
     requires { length words ≡ act_arguments kind }
     ensures { let act = act_of kind words.entry

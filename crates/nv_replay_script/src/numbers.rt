@@ -11,6 +11,10 @@ use nv_once_script::once::word::Word;
 const SCT_MAX: u64 = 7;
 
 /// The number of 16 bits that a word writes.
+///
+/// # Errors
+///
+/// [`FaultKind::BadNumber`] where the word is no number, or writes one of more than 16 bits.
 #[inline(always)]
 pub fn word(text: Word<'_>) -> Result<u16, FaultKind>
     ensures { result ≡ word_of text.entry }
@@ -20,6 +24,10 @@ pub fn word(text: Word<'_>) -> Result<u16, FaultKind>
 }
 
 /// The number of 32 bits that a word writes.
+///
+/// # Errors
+///
+/// [`FaultKind::BadNumber`] where the word is no number, or writes one of more than 32 bits.
 #[inline(always)]
 pub fn dword(text: Word<'_>) -> Result<u32, FaultKind>
     ensures { result ≡ dword_of text.entry }
@@ -29,6 +37,10 @@ pub fn dword(text: Word<'_>) -> Result<u32, FaultKind>
 }
 
 /// The status that three words write: SCT of 3 bits, SC of 8, DNR of one.
+///
+/// # Errors
+///
+/// [`FaultKind::BadNumber`] where a word is no number, or writes one of more bits than its field has.
 pub fn status(sct: Word<'_>, sc: Word<'_>, dnr: Word<'_>) -> Result<Status, FaultKind>
     ensures { result ≡ status_of sct.entry sc.entry dnr.entry }
 {

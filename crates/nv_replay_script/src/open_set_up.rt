@@ -40,6 +40,12 @@ impl OpenSetUp {
 
     /// Adds what a set-up line of this kind says, where its words are as many as it needs and it is early: it comes before all lines that are not
     /// of the set-up.
+    ///
+    /// # Errors
+    ///
+    /// [`LineFault::Faulty`]: `MissingWord` or `TooManyWords`; `OutOfPlace` for a late line, a second size or limit, or a wrong guest
+    /// number; `UnknownWord` for a wrong word in `guest`; `BadNumber`. [`LineFault::NoMemory`] where memory is refused. The contract does
+    /// not say what the set-up is then.
     pub fn add(
         &mut self,
         alloc: Global,

@@ -74,6 +74,10 @@ fn next(count: usize, word: Word<'_>) -> Result<(), FaultKind>
 }
 
 /// The number of a guest that a word writes, where it is below `count`.
+///
+/// # Errors
+///
+/// [`FaultKind::BadNumber`] where the word is no number, or writes one above 255. [`FaultKind::OutOfPlace`] where there is no such guest.
 pub fn known(count: usize, word: Word<'_>) -> Result<usize, FaultKind>
     ensures { result ≡ known_guest count word.entry }
 {
@@ -86,6 +90,12 @@ pub fn known(count: usize, word: Word<'_>) -> Result<usize, FaultKind>
 }
 
 /// Makes the guest from the words after `guest`, where there are `count` guests. It has one extent and no regions.
+///
+/// # Errors
+///
+/// [`LineFault::Faulty`]: `OutOfPlace` where the number is not `count`; `UnknownWord` where `range` or `heap` is not at its place;
+/// `BadNumber` for a word that is no number, or a heap that is not of 256 to 16,777,216 bytes. [`LineFault::NoMemory`] where memory for the
+/// extent is refused.
 pub fn make_guest(
     alloc: Global,
     count: usize,
@@ -116,6 +126,11 @@ impl GuestSetUp {
     ghost use Rattle.nv_replay_script.specs.ReplaySetUp.{extended};
 
     /// Adds the extent that a line names by these words, after the others.
+    ///
+    /// # Errors
+    ///
+    /// [`LineFault::Faulty`] with [`FaultKind::BadNumber`] where a word is no number. [`LineFault::NoMemory`] where memory for the extent
+    /// is refused. The contract does not say what the guest is then.
     pub fn add_extent(&mut self, base: Word<'_>, blocks: Word<'_>) -> Result<(), LineFault>
         ensures { let after = extended (guest_value self.old) base.entry blocks.entry
             in MatchResult result (λ _. after ≡ Ok (guest_value self.new)) (Refuses after) }
@@ -126,6 +141,10 @@ impl GuestSetUp {
     }
 
     /// The limit on descriptors that a line names by this word: the guest has none yet, or the line is out of place.
+    ///
+    /// # Errors
+    ///
+    /// [`FaultKind::OutOfPlace`] where the guest has a limit. [`FaultKind::BadNumber`] where it has none, and the word is no number.
     pub fn first_limit(&self, word: Word<'_>) -> Result<u64, FaultKind>
         ensures { result ≡ first_time self.now.limit (number_of word.entry) }
     {
@@ -146,6 +165,10 @@ fn make_extent(base: Word<'_>, blocks: Word<'_>) -> Result<Extent, FaultKind>
 }
 
 /// Makes a region of its three words.
+///
+/// # Errors
+///
+/// [`FaultKind::BadNumber`] where a word is no number.
 pub fn make_region(guest: Word<'_>, host: Word<'_>, len: Word<'_>) -> Result<Region, FaultKind>
     ensures { result ≡ region_of guest.entry host.entry len.entry }
 {

@@ -81,6 +81,10 @@ impl OpenSizes {
     }
 
     /// The sizes after a line that names one by this word.
+    ///
+    /// # Errors
+    ///
+    /// [`FaultKind::OutOfPlace`] where the size was named before. [`FaultKind::BadNumber`] where it was not, and the word is no number.
     pub fn name(self, size: Size, word: Word<'_>) -> Result<Self, FaultKind>
         ensures { result ≡ after_size self size word.entry }
     {

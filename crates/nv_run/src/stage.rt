@@ -35,6 +35,10 @@ impl Drop for Curtain<'_> {
 
 /// Starts the workers and a thread for each guest. Waits until all guests are through and then until all workers have stopped. On each way out,
 /// including out of memory, all threads have ended.
+///
+/// # Errors
+///
+/// [`AllocError`] where a thread cannot be made, or where memory for the guests' channel or for what the threads give back is refused.
 pub fn stage<R: Threads + Wait + Clock + Sync>(
     rt: &R,
     alloc: Global,

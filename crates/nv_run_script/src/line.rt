@@ -39,6 +39,11 @@ pub struct Line {
 }
 
 /// Makes line `number` of an act, where there are `count` guests, of its words, which are as many as it wants.
+///
+/// # Errors
+///
+/// [`LineFault::Faulty`]: `BadNumber` or `OutOfPlace` where the first word is the number of no guest, as [`known`] returns it; or as
+/// [`make_act`] returns it. [`LineFault::NoMemory`] where memory for the act is refused.
 pub fn make_act_line(
     alloc: Global,
     count: usize,
@@ -61,6 +66,11 @@ pub fn make_act_line(
 }
 
 /// Makes line `line` of an `await`, where there are `count` guests.
+///
+/// # Errors
+///
+/// [`FaultKind::OutOfPlace`] where there is no such guest. [`FaultKind::BadNumber`] where a word is no number, or `value` is one of more
+/// than 32 bits.
 pub fn make_await_line(
     count: usize,
     line: u64,
@@ -82,6 +92,11 @@ pub fn make_await_line(
 }
 
 /// Makes line `line` of an `awaitreg`, where there are `count` guests.
+///
+/// # Errors
+///
+/// [`FaultKind::OutOfPlace`] where there is no such guest. [`FaultKind::BadNumber`] where a word is no number, or `offset` or `value` is
+/// one of more than 32 bits.
 pub fn make_await_register_line(
     count: usize,
     line: u64,

@@ -33,6 +33,12 @@ impl Reading {
     }
 
     /// Reads the next line, which is line `number` of the text.
+    ///
+    /// # Errors
+    ///
+    /// [`LineFault::Faulty`]: `UnknownWord`; `MissingWord` or `TooManyWords`; `OutOfPlace` for another language's line, or a guest's line
+    /// before all sizes; or as [`OpenSetUp::add`] or the line's maker returns it. [`LineFault::NoMemory`] where memory is refused. The
+    /// contract does not say what the reading is then.
     pub fn read(&mut self, alloc: Global, number: u64, line: &[u8]) -> Result<(), LineFault>
         ensures { let after = after_line number (progress self.old) (words_of line.now)
             in MatchResult result (λ _. after ≡ Ok (progress self.new)) (Refuses after) }
@@ -131,6 +137,10 @@ impl Reading {
     }
 
     /// The script whose last line is this one.
+    ///
+    /// # Errors
+    ///
+    /// [`ScriptFault::Line`] with line `last` and [`FaultKind::OutOfPlace`] where one of the four sizes was not named.
     pub fn finish(self, last: u64) -> Result<Script, ScriptFault>
         ensures { MatchResult result (λ script. finished last (progress self) ≡ Ok (script_value script)) (λ fault. finished last (progress self) ≡ Err fault) }
     {

@@ -75,6 +75,10 @@ impl<A: Allocator> Chain<A> {
     }
 
     /// A copy, in the same heap. It calls itself once for each array.
+    ///
+    /// # Errors
+    ///
+    /// [`NoMemory`] where memory for the copy is refused.
     pub fn try_clone(&self) -> Result<Self, NoMemory>
     where
         A: Clone,

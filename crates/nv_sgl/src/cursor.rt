@@ -325,8 +325,12 @@ pub fn piece_of(d: &Descriptor, dest: bool) -> Option<Piece>
     }
 }
 
-/// Reads the descriptors in these bytes, from the cursor on, after `blocks`, and returns the cursor after them. Room for the array is reserved at
-/// once, with its first bytes. Where no memory is left, the blocks are as they were.
+/// Reads the descriptors in these bytes, from the cursor on, after `blocks`, and returns the cursor after them. Room for the array is
+/// reserved at once, with its first bytes.
+///
+/// # Errors
+///
+/// [`NoMemory`] where memory for the descriptors is refused: the blocks are as they were.
 #[inline(always)]
 pub fn read_part<A: Allocator>(
     map: &GuestMap,
@@ -387,6 +391,10 @@ fn is_mapped_block(map: &GuestMap, d: &Descriptor) -> bool
 }
 
 /// Adds the piece that a descriptor names, where it names bytes of the transfer.
+///
+/// # Errors
+///
+/// [`NoMemory`] where memory for the piece is refused.
 #[inline(always)]
 pub fn push_piece(d: &Descriptor, dest: bool, places: &mut Places) -> Result<(), NoMemory>
     ensures { OnOk result (places.new ≡ places.old ++ pieces_by (kind_of d.now) dest d.now) }
@@ -413,6 +421,10 @@ fn push_block(d: &Descriptor, _dest: bool, places: &mut Places) -> Result<(), No
 
 /// Reads the descriptors in these bytes, from the cursor on, adds the pieces that they name, and returns the cursor after them. Room for those of
 /// the array is reserved at once.
+///
+/// # Errors
+///
+/// [`NoMemory`] where memory for the pieces is refused. The places may then have some of the pieces.
 #[inline(always)]
 pub fn read_places(
     map: &GuestMap,

@@ -48,6 +48,10 @@ impl<'a, A: Allocator + Clone> SglParse<'a, A> {
 
     /// A parse of the list of a command's own descriptor `first`, for a transfer of `need` bytes. `dest` says whether the buffer
     /// is a destination, as that of a Read. What is read of the list is kept in `heap`.
+    ///
+    /// # Errors
+    ///
+    /// [`NoMemory`] where the heap refuses memory for the descriptor.
     pub fn new(
         heap: A,
         map: &'a GuestMap,
@@ -63,6 +67,10 @@ impl<'a, A: Allocator + Clone> SglParse<'a, A> {
     }
 
     /// The same with another limit on descriptors, the command's own among them: 1 to 4,096.
+    ///
+    /// # Errors
+    ///
+    /// [`NoMemory`] where the heap refuses memory for the descriptor.
     pub fn with_limit(
         heap: A,
         map: &'a GuestMap,
@@ -89,6 +97,10 @@ impl<'a, A: Allocator + Clone> SglParse<'a, A> {
     }
 
     /// A copy, that keeps what it reads in the same heap. Each of the two is fed by itself.
+    ///
+    /// # Errors
+    ///
+    /// [`NoMemory`] where the heap refuses memory for the copy.
     pub fn try_clone(&self) -> Result<Self, NoMemory>
         ensures { IfOk result (λ copy. copy ≡ self.now) }
     {
@@ -111,7 +123,11 @@ impl<'a, A: Allocator + Clone> SglParse<'a, A> {
         self.cursor.wants(self.need)
     }
 
-    /// Reads on with the bytes that were wanted. Where no memory is left, the parse is as it was.
+    /// Reads on with the bytes that were wanted.
+    ///
+    /// # Errors
+    ///
+    /// [`NoMemory`] where memory is refused: the parse is as it was.
     #[inline(always)]
     pub fn feed(&mut self, bytes: &[u8]) -> Result<(), NoMemory>
         requires { (addr : ℕ) × (want_of (dialogue_of self.old) ≡ Want.Read addr (length bytes.now)) }
@@ -131,6 +147,10 @@ impl<'a, A: Allocator + Clone> SglParse<'a, A> {
     }
 
     /// Where the bytes of the transfer lie, once the parse is done.
+    ///
+    /// # Errors
+    ///
+    /// [`NoMemory`] where memory for the places is refused.
     pub fn places(&self, alloc: Global) -> Result<Places, NoMemory>
         requires { want_of (dialogue_of self.now) ≡ Want.Done }
         ensures { IfOk result (λ places. dialogue_of self.now ≡ End (Spells places)) }

@@ -45,6 +45,10 @@ impl<'a> PlacesParse<'a> {
 
     /// A parse of the list of a command's own descriptor `first`, for a transfer of `need` bytes. `dest` says whether the buffer
     /// is a destination, as that of a Read.
+    ///
+    /// # Errors
+    ///
+    /// [`NoMemory`] where memory for the piece of the descriptor is refused.
     pub fn new(
         alloc: Global,
         map: &'a GuestMap,
@@ -78,6 +82,10 @@ impl<'a> PlacesParse<'a> {
     }
 
     /// Reads on with the bytes that were wanted.
+    ///
+    /// # Errors
+    ///
+    /// [`NoMemory`] where memory for the pieces is refused. The parse is consumed.
     #[inline(always)]
     pub fn fed(self, bytes: &[u8]) -> Result<Self, NoMemory>
         requires { (addr : ℕ) × (want_of (reading_of self) ≡ Want.Read addr (length bytes.now)) }

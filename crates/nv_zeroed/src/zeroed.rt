@@ -32,6 +32,10 @@ impl Model for Zeroed {
 
 impl Zeroed {
     /// A memory of `len` bytes, all zero. It takes the room of all of them, and no time for them.
+    ///
+    /// # Errors
+    ///
+    /// [`AllocError`] where memory for the bytes is refused.
     pub fn new(alloc: Global, len: usize) -> Result<Self, AllocError>
         ensures { IfOk result (λ zeroed. zeroed ≡ replicate len 0) }
     {

@@ -62,6 +62,10 @@ fn spell_blocks(digits: &[u8], bytes: &mut [u8]) -> usize
 ///
 /// Nearly all digits are read by vector operations. `hex` decides what they leave: a few digits after the last sixteen, or the rest of a text from
 /// a block on where something is no digit.
+///
+/// # Errors
+///
+/// [`FaultKind::BadBytes`] where something is no hexadecimal digit. The contract does not say what `bytes` holds then.
 pub fn spell(digits: &[u8], bytes: &mut [u8]) -> Result<(), FaultKind>
     requires { length digits.now ≡ 2 * length bytes.old }
     ensures { let spelled = or_bad_bytes (result_ok (decode_of digits.now))

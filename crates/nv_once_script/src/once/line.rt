@@ -42,6 +42,12 @@ fn is_in(memory: u64, addr: u64, len: u64) -> bool
 }
 
 /// Makes the line of this keyword and the words after it.
+///
+/// # Errors
+///
+/// [`LineFault::Faulty`] with what is wrong: `BadNumber`, `BadBytes` for digits that do not spell the bytes, `OutOfRange` for bytes or a
+/// block that are not there, or `OutOfPlace` for `memory`, `blocks` and a line of another language. [`LineFault::NoMemory`] where memory is
+/// refused.
 pub fn make_line(
     alloc: Global,
     sizes: Sizes,

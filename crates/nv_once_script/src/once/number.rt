@@ -34,6 +34,11 @@ fn spelled_number(digits: &[u8], base: u32) -> Option<u64>
 }
 
 /// The number that a word writes: decimal, or `0x` and hexadecimal digits.
+///
+/// # Errors
+///
+/// [`FaultKind::BadNumber`] where the word has no digits, has a character that is no digit of its base, or writes a number of more than 64
+/// bits.
 #[inline(always)]
 pub fn number(word: Word<'_>) -> Result<u64, FaultKind>
     ensures { result ≡ number_of word.entry }
@@ -56,6 +61,10 @@ fn written_number(word: &[u8]) -> Option<u64>
 }
 
 /// The number that a word writes, where it is at most `most`.
+///
+/// # Errors
+///
+/// [`FaultKind::BadNumber`] where the word is no number, or writes one above `most`.
 #[inline(always)]
 pub fn up_to(word: Word<'_>, most: u64) -> Result<u64, FaultKind>
     ensures { result ≡ number_up_to most word.entry }
@@ -68,6 +77,10 @@ pub fn up_to(word: Word<'_>, most: u64) -> Result<u64, FaultKind>
 }
 
 /// The byte that a word writes as a number.
+///
+/// # Errors
+///
+/// [`FaultKind::BadNumber`] where the word is no number, or writes one above 255.
 #[inline(always)]
 pub fn byte(word: Word<'_>) -> Result<u8, FaultKind>
     ensures { result ≡ number_up_to 255 word.entry }
@@ -77,6 +90,11 @@ pub fn byte(word: Word<'_>) -> Result<u8, FaultKind>
 }
 
 /// The bytes that a word spells: two hexadecimal digits each, or `-` for none.
+///
+/// # Errors
+///
+/// [`LineFault::Faulty`] with [`FaultKind::BadBytes`] where the digits are odd in number, or one is not hexadecimal.
+/// [`LineFault::NoMemory`] where memory for the bytes is refused.
 pub fn bytes(alloc: Global, word: Word<'_>) -> Result<Vec<u8>, LineFault>
     ensures { MatchResult result (λ bytes. bytes_of word.entry ≡ Ok bytes.items) (Refuses (bytes_of word.entry)) }
 {
@@ -93,6 +111,10 @@ pub fn bytes(alloc: Global, word: Word<'_>) -> Result<Vec<u8>, LineFault>
 }
 
 /// The submission queue entry whose 64 bytes a word spells.
+///
+/// # Errors
+///
+/// [`FaultKind::BadBytes`] where the word is not 128 hexadecimal digits.
 pub fn entry(word: Word<'_>) -> Result<Sqe, FaultKind>
     ensures { result ≡ entry_of word.entry }
 {

@@ -35,6 +35,12 @@ impl Reading {
     }
 
     /// Reads the next line.
+    ///
+    /// # Errors
+    ///
+    /// [`LineFault::Faulty`]: `UnknownWord`; `MissingWord` or `TooManyWords`; `OutOfPlace` for a second `memory` or `blocks`, or another
+    /// line before both; `BadNumber` for a size; or as [`make_line`] returns it. [`LineFault::NoMemory`] where memory is refused. The
+    /// contract does not say what the reading is then.
     pub fn read(&mut self, alloc: Global, line: &[u8]) -> Result<(), LineFault>
         ensures { let after = after_line (progress self.old) (words_of line.now)
             in MatchResult result (λ _. after ≡ Ok (progress self.new)) (Refuses after) }
@@ -91,6 +97,10 @@ impl Reading {
     }
 
     /// The script whose last line is this one.
+    ///
+    /// # Errors
+    ///
+    /// [`ScriptFault::Line`] with line `last` and [`FaultKind::OutOfPlace`] where no line named the memory, or none the blocks.
     pub fn finish(self, last: u64) -> Result<Script, ScriptFault>
         ensures { MatchResult result (λ script. finished last (progress self) ≡ Ok (script_value script)) (λ fault. finished last (progress self) ≡ Err fault) }
     {

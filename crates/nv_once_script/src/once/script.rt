@@ -20,6 +20,10 @@ pub struct Script {
 }
 
 /// The script that a text is, or its first fault. Of a script that it gives, the sizes and all lines are in range.
+///
+/// # Errors
+///
+/// [`ScriptFault::Line`] names the first faulty line, and what is wrong with it. [`ScriptFault::NoMemory`] where memory is refused.
 pub fn parse(alloc: Global, text: &[u8]) -> Result<Script, ScriptFault>
     ensures value { MatchResult result (λ script. script_of text.now ≡ Ok (script_value script))
         (λ fault. (fault ≡ ScriptFault.NoMemory) ⊎ (script_of text.now ≡ Err fault)) }

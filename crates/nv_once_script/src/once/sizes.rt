@@ -25,6 +25,10 @@ const MEMORY_MAX: u64 = 16_777_216;
 const BLOCKS_MAX: u64 = 65_536;
 
 /// The size of the memory that a word writes: 1 to 4,096 pages.
+///
+/// # Errors
+///
+/// [`FaultKind::BadNumber`] where the word is no number, or writes no multiple of 4,096 from 4,096 to 16,777,216.
 pub fn memory(word: Word<'_>) -> Result<u64, FaultKind>
     ensures { result ≡ memory_size word.entry }
 {
@@ -36,6 +40,10 @@ pub fn memory(word: Word<'_>) -> Result<u64, FaultKind>
 }
 
 /// The number of blocks that a word writes.
+///
+/// # Errors
+///
+/// [`FaultKind::BadNumber`] where the word is no number, or writes none from 1 to 65,536.
 pub fn blocks(word: Word<'_>) -> Result<u64, FaultKind>
     ensures { result ≡ block_count word.entry }
 {

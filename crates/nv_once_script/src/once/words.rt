@@ -33,6 +33,10 @@ impl<'a> Words<'a> {
     }
 
     /// Whether so many words are left.
+    ///
+    /// # Errors
+    ///
+    /// [`FaultKind::MissingWord`] where fewer than `wanted` words are left. [`FaultKind::TooManyWords`] where more are left.
     pub fn check_count(&self, wanted: usize) -> Result<(), FaultKind>
         ensures { result ≡ count_check (length self.now) wanted }
     {
@@ -67,6 +71,10 @@ impl<'a> Words<'a> {
     }
 
     /// The word that is left, where it is one.
+    ///
+    /// # Errors
+    ///
+    /// [`FaultKind::MissingWord`] where no word is left. [`FaultKind::TooManyWords`] where more than one is left.
     #[inline(always)]
     pub fn one(mut self) -> Result<Word<'a>, FaultKind>
         ensures { MatchResult result (λ word. self.entry ≡ word ∷ []) (λ fault. count_check (length self.entry) 1 ≡ Err fault) }
@@ -79,6 +87,10 @@ impl<'a> Words<'a> {
     }
 
     /// The words that are left, where they are two.
+    ///
+    /// # Errors
+    ///
+    /// [`FaultKind::MissingWord`] where fewer than two words are left. [`FaultKind::TooManyWords`] where more are left.
     #[inline(always)]
     pub fn two(mut self) -> Result<(Word<'a>, Word<'a>), FaultKind>
         ensures { MatchResult result (λ words. self.entry ≡ words.0 ∷ words.1 ∷ [])
@@ -90,6 +102,10 @@ impl<'a> Words<'a> {
     }
 
     /// The words that are left, where they are three.
+    ///
+    /// # Errors
+    ///
+    /// [`FaultKind::MissingWord`] where fewer than three words are left. [`FaultKind::TooManyWords`] where more are left.
     #[inline(always)]
     pub fn three(mut self) -> Result<(Word<'a>, Word<'a>, Word<'a>), FaultKind>
         ensures { MatchResult result (λ words. self.entry ≡ words.0 ∷ words.1 ∷ words.2 ∷ [])
@@ -101,6 +117,10 @@ impl<'a> Words<'a> {
     }
 
     /// The words that are left, where they are four.
+    ///
+    /// # Errors
+    ///
+    /// [`FaultKind::MissingWord`] where fewer than four words are left. [`FaultKind::TooManyWords`] where more are left.
     #[inline(always)]
     pub fn four(mut self) -> Result<(Word<'a>, Word<'a>, Word<'a>, Word<'a>), FaultKind>
         ensures { MatchResult result (λ words. self.entry ≡ words.0 ∷ words.1 ∷ words.2 ∷ words.3 ∷ [])
@@ -112,6 +132,10 @@ impl<'a> Words<'a> {
     }
 
     /// The words that are left, where they are five.
+    ///
+    /// # Errors
+    ///
+    /// [`FaultKind::MissingWord`] where fewer than five words are left. [`FaultKind::TooManyWords`] where more are left.
     #[inline(always)]
     pub fn five(mut self) -> Result<(Word<'a>, Word<'a>, Word<'a>, Word<'a>, Word<'a>), FaultKind>
         ensures { MatchResult result
