@@ -15,7 +15,7 @@ import bugs
 import definitions
 
 ROOT = os.path.dirname(os.path.dirname(os.path.dirname(os.path.abspath(__file__))))
-EXAMPLES = [("nv_model", ["--only", "rows"]), ("nv_world_model", ["--only", "rows"]), ("nv_examples", []), ("nv_extents_examples", [])]
+EXAMPLES = [("nv_model", ["--only", "rows"]), ("nv_world_model", ["--only", "rows"]), ("nv_examples", [])]
 ALL = [(crate, ["check", *only]) for crate, only in EXAMPLES]
 # each list, and the commands that it goes through: a crate with the words for rt
 TRIALS = {

@@ -5,3 +5,4 @@ pub mod Laid
 pub mod StoryHosts
 pub mod StoryEnd
 pub mod StoryFacts
+pub mod several_extents

@@ -10,3 +10,4 @@ pub mod SecondStory
 pub mod Edges
 pub mod Deleting
 pub mod Twice
+pub mod extents
