@@ -2,7 +2,7 @@
 use Rattle.std.proofs.Common.{◌≡◌, List, [], ◌∷◌, ◌++◌, refl, sym, subst, ap, ◌∙◌}
 use Rattle.std.proofs.lemmas.List.Elements.{All-append, All-cons, All-nil}
 use Rattle.nv_core.specs.State.{world_of}
-use Rattle.nv_laws_others.specs.Alike.{HasFittingStatus}
+use Rattle.nv_laws.specs.Alike.{HasFittingStatus}
 use Rattle.nv_mediator.specs.Hosted.{Hosted, IsAtStart, IsLog, IsMade, IsSame, setup_of}
 use Rattle.nv_model.specs.declared.reply.Reply.{Reply}
 use Rattle.nv_world_model.specs.declared.logged.Logged.{Logged}

@@ -2,8 +2,8 @@
 use Rattle.std.proofs.Common.{◌≡◌, ℕ, [], ◌∷◌, ◌++◌, length, Option, Some, None, refl, sym, subst, ap, ◌∙◌}
 use Rattle.std.specs.Prelude.{Err, IfOk, IfSome, Ok, OnErr, Result}
 use Rattle.nv_core.specs.State.{IsSameSize, IsStep, State, world_of}
-use Rattle.nv_laws_headline.proofs.Each.{promise-kept}
-use Rattle.nv_laws_others.specs.Alike.{HasFittingStatus}
+use Rattle.nv_laws.proofs.headline.Each.{promise-kept}
+use Rattle.nv_laws.specs.Alike.{HasFittingStatus}
 use Rattle.nv_laws_sound.proofs.CountedSteps.{step-counted}
 use Rattle.nv_laws_sound.proofs.ManyLanes.{lanes-kept}
 use Rattle.nv_laws_sound.proofs.Steps.{step-consistent}

@@ -4,7 +4,7 @@ use Rattle.std.specs.Prelude.{length}
 use Rattle.nv_core.specs.Seat.{is_long_load}
 use Rattle.nv_core.specs.State.{CountsMore, IsOf, IsSameSize, State, world_of}
 use Rattle.nv_core.specs.Submit.{IsLimit}
-use Rattle.nv_laws_others.specs.Alike.{HasFittingStatus}
+use Rattle.nv_laws.specs.Alike.{HasFittingStatus}
 use Rattle.nv_laws_sound.specs.Counted.{IsCounted}
 use Rattle.nv_mem.specs.GuestMap.{Mapping}
 use Rattle.nv_model.specs.declared.reply.Reply.{Reply}

@@ -2,7 +2,7 @@
 
 ghost use Rattle.std.specs.Prelude.{◌≡◌, ◌<◌, IfOk, IsTrue, OnErr};
 ghost use Rattle.nv_core.specs.State.{IsOf, IsStep, world_of};
-ghost use Rattle.nv_laws_others.specs.Alike.{HasFittingStatus};
+ghost use Rattle.nv_laws.specs.Alike.{HasFittingStatus};
 ghost use Rattle.nv_laws_sound.specs.Counted.{IsCounted};
 ghost use Rattle.nv_mediator.specs.Hosted.{CanCount, IsUnchanged, may_want};
 

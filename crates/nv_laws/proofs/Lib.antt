@@ -1,0 +1,6 @@
+pub mod shares
+pub mod phases
+pub mod others
+pub mod related
+pub mod units
+pub mod headline

@@ -1,0 +1,11 @@
+pub mod ByEntry
+pub mod Phased
+pub mod Leaving
+pub mod Alike
+pub mod Unfitting
+pub mod Related
+pub mod Following
+pub mod Units
+pub mod Places
+pub mod Marks
+pub mod Delivered

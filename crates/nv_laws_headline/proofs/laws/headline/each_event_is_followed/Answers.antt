@@ -1,5 +1,0 @@
-use Rattle.nv_laws_headline.proofs.Each.{all-followed}
-use Rattle.nv_laws_headline.proofs.laws.headline.each_event_is_followed.Goals as goal
-
-pub returns : goal.returns
-returns c = λ host_bytes number geometry guest given. all-followed host_bytes geometry number guest given

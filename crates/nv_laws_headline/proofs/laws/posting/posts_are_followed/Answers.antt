@@ -1,6 +1,0 @@
-use Rattle.nv_laws_headline.proofs.Completions.{posts-go}
-use Rattle.nv_laws_headline.proofs.laws.posting.posts_are_followed.Goals as goal
-
-pub returns : goal.returns
-returns c host_bytes geometry number guest lane tag given w p reached disciplined related own =
-    posts-go host_bytes geometry number guest given w reached p related lane tag disciplined.before own

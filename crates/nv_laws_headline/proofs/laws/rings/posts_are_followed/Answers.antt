@@ -1,6 +1,0 @@
-use Rattle.nv_laws_headline.proofs.Posts.{posts-go}
-use Rattle.nv_laws_headline.proofs.laws.rings.posts_are_followed.Goals as goal
-
-pub returns : goal.returns
-returns c = λ host_bytes geometry number guest w p lane slot given reached related mine.
-    posts-go host_bytes geometry number guest given w reached p related lane slot mine

@@ -1,6 +1,0 @@
-use Rattle.nv_laws_headline.proofs.Rings.{takes-go}
-use Rattle.nv_laws_headline.proofs.laws.rings.takes_are_followed.Goals as goal
-
-pub returns : goal.returns
-returns c = λ host_bytes geometry number guest w p lane given reached related mine.
-    takes-go host_bytes geometry number guest given w reached p related lane mine

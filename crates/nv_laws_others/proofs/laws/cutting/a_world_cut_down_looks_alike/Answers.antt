@@ -1,5 +1,0 @@
-use Rattle.nv_laws_others.proofs.Cuts.{cut-alike}
-use Rattle.nv_laws_others.proofs.laws.cutting.a_world_cut_down_looks_alike.Goals as goal
-
-pub returns : goal.returns
-returns c = λ host_bytes lanes geometry w number guest laid given. cut-alike host_bytes lanes geometry laid w number guest given

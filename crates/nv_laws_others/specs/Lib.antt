@@ -1,3 +1,0 @@
-pub mod Leaving
-pub mod Alike
-pub mod Unfitting

@@ -1,2 +1,0 @@
-//! Phase tags, as functions that do nothing: each contract is a law.
-pub mod phases;

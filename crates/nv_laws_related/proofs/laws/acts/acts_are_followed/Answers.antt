@@ -1,6 +1,0 @@
-use Rattle.nv_laws_related.proofs.Acts.{act-goes}
-use Rattle.nv_laws_related.proofs.laws.acts.acts_are_followed.Goals as goal
-
-pub returns : goal.returns
-returns c = λ host_bytes geometry number guest w p a given reached related disciplined.
-    act-goes host_bytes geometry number guest given w reached p related a disciplined

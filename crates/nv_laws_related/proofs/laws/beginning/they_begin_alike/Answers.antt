@@ -1,5 +1,0 @@
-use Rattle.nv_laws_related.proofs.Beginning.{opening-related}
-use Rattle.nv_laws_related.proofs.laws.beginning.they_begin_alike.Goals as goal
-
-pub returns : goal.returns
-returns c = opening-related

@@ -1,5 +1,0 @@
-use Rattle.nv_laws_related.proofs.Every.{each-followed}
-use Rattle.nv_laws_related.proofs.laws.following.the_rest_is_enough.Goals as goal
-
-pub returns : goal.returns
-returns c = each-followed

@@ -1,6 +1,0 @@
-use Rattle.nv_laws_related.proofs.Reaps.{reaps-go}
-use Rattle.nv_laws_related.proofs.laws.tags.reaps_are_followed.Goals as goal
-
-pub returns : goal.returns
-returns c = λ host_bytes geometry number lane guest w p given reached related own.
-    reaps-go host_bytes geometry number guest given w reached p related lane own

@@ -1,6 +1,0 @@
-use Rattle.nv_laws_related.proofs.Takes.{takes-go}
-use Rattle.nv_laws_related.proofs.laws.takes.takes_are_followed.Goals as goal
-
-pub returns : goal.returns
-returns c = λ host_bytes geometry number queue lane guest w p given reached related disciplined.
-    takes-go host_bytes geometry number guest given w reached p related queue lane disciplined

@@ -1,5 +1,0 @@
-use Rattle.nv_laws_units.proofs.Progress.{numbers-apart}
-use Rattle.nv_laws_units.proofs.laws.progressing.no_number_is_of_two_shares.Goals as goal
-
-pub returns : goal.returns
-returns c guest entry share i j a b number is first second differ there = numbers-apart guest entry share is i j a b first second differ number there

@@ -1,4 +1,0 @@
-pub mod Units
-pub mod Places
-pub mod Marks
-pub mod Delivered
