@@ -43,7 +43,8 @@ pub(crate) const SUCCESS: u32 = 0x0001_0007;
 /// The last dword of the completion of a Compare that differs.
 pub(crate) const DIFFERS: u32 = 0x050b_0007;
 
-fn entry(dwords: [u32; 16]) -> Sqe {
+/// The entry of these dwords.
+pub(crate) fn entry(dwords: [u32; 16]) -> Sqe {
     let mut bytes = [0; 64];
     for (dword, out) in dwords.iter().zip(bytes.chunks_exact_mut(4)) {
         out.copy_from_slice(&dword.to_le_bytes());

@@ -2,18 +2,12 @@
 mod building;
 mod reading;
 
-use nv_mem::{GuestMap, Region};
+use crate::memory::whole_map;
+use nv_mem::GuestMap;
 use std::alloc::Global;
 use std::test::Fail;
 
 // The guest's memory is mapped to its end, and no further.
 fn map(alloc: Global) -> Result<GuestMap, Fail> {
-    let regions = vec![in alloc;
-        Region {
-            guest: 0,
-            host: 0x10_0000,
-            len: 0x4_0000
-        },
-    ]?;
-    Ok(GuestMap::new(0x100_0000, regions)?)
+    whole_map(alloc, 0x4_0000)
 }

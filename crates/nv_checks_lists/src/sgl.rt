@@ -1,54 +1,34 @@
 //! Lists over a flat memory of 128 KiB, by a driver that feeds what is wanted.
-ghost use Rattle.std.specs.Prelude.{◌≡◌, IfSome, length};
-
 mod lists;
 mod long_lists;
 mod refusals;
 mod starved;
 
+use crate::memory::{BUCKET, DATA, LAST, SEGMENT, descriptor_bytes, part, store, whole_map};
 use nv_entry::{Descriptor, StatusCode};
-use nv_mem::{GuestMap, NoMemory, Piece, Region};
+use nv_mem::{GuestMap, NoMemory, Piece};
 use nv_sgl::{Chain, PlacesParse, SglParse, Want};
 use std::alloc::{Allocator, Global};
 use std::process::Abort;
 use std::test::Fail;
-
-pub(crate) const DATA: u8 = 0x00;
-
-const BUCKET: u8 = 0x10;
-
-pub(crate) const SEGMENT: u8 = 0x20;
-
-pub(crate) const LAST: u8 = 0x30;
 
 /// A descriptor as a table has it: its last byte, which is the type and the subtype, its address and its length.
 pub(crate) type Row = (u8, u64, u32);
 
 // The bytes of a descriptor.
 fn bytes_of((kind, addr, len): Row) -> [u8; 16] {
-    let mut bytes = [0; 16];
-    bytes[..8].copy_from_slice(&addr.to_le_bytes());
-    bytes[8..12].copy_from_slice(&len.to_le_bytes());
-    bytes[15] = kind;
-    bytes
+    descriptor_bytes(kind, addr, len)
 }
 
 pub(crate) fn descriptor(row: Row) -> Descriptor {
     Descriptor::of(&bytes_of(row))
 }
 
-fn store(memory: &mut [u8], at: usize, row: Row) {
-    let bytes = bytes_of(row);
-    for (place, byte) in memory.iter_mut().skip(at).zip(bytes.iter()) {
-        *place = *byte;
-    }
-}
-
 // A memory of zeros, which are Data Blocks of length 0, with these descriptors in it.
 fn memory_of(alloc: Global, rows: &[(usize, Row)]) -> Result<Vec<u8>, NoMemory> {
     let mut memory = vec![in alloc; 0u8; 0x20000]?;
     for (at, row) in rows {
-        store(&mut memory, *at, *row);
+        store(&mut memory, *at, &bytes_of(*row));
     }
     Ok(memory)
 }
@@ -60,16 +40,9 @@ pub(crate) struct Guest {
     pub(crate) map: GuestMap,
 }
 
-// The map of a guest whose memory is mapped to its end, and no further.
+// The guest's memory is mapped to its end, and no further.
 fn map(alloc: Global) -> Result<GuestMap, Fail> {
-    let regions = vec![in alloc;
-        Region {
-            guest: 0,
-            host: 0x10_0000,
-            len: 0x2_0000
-        },
-    ]?;
-    Ok(GuestMap::new(0x100_0000, regions)?)
+    whole_map(alloc, 0x2_0000)
 }
 
 fn guest_of(alloc: Global, memory: Vec<u8>) -> Result<Guest, Fail> {
@@ -82,25 +55,13 @@ pub(crate) fn guest_with(alloc: Global, rows: &[(usize, Row)]) -> Result<Guest, 
     guest_of(alloc, memory_of(alloc, rows)?)
 }
 
-fn part(memory: &[u8], addr: u64, len: u32) -> Option<&[u8]>
-    ensures { IfSome result (λ bytes. length bytes.now ≡ len) }
-{
-    let from = addr as usize;
-    let len = len as usize;
-    if from <= memory.len() && len <= memory.len() - from {
-        Some(&memory[from..from + len])
-    } else {
-        None
-    }
-}
-
 /// Feeds the parse the next part that it wants, or says how it ended.
 pub(crate) fn step<A: Allocator + Clone>(
     parse: &mut SglParse<'_, A>,
     memory: &[u8],
 ) -> Result<Option<Want>, NoMemory> {
     match parse.wants() {
-        Want::Read { addr, len } => match part(memory, addr, len) {
+        Want::Read { addr, len } => match part(memory, addr, u64::from(len)) {
             Some(bytes) => {
                 parse.feed(bytes)?;
                 Ok(None)
@@ -199,13 +160,11 @@ fn long_list(alloc: Global) -> Result<Vec<u8>, NoMemory> {
     let mut memory = memory_of(alloc, &[])?;
     for i in 0u32..511 {
         let at = 0x4000 + 32 * i as usize;
-        store(&mut memory, at, (DATA, 0x1000 + 16 * u64::from(i), 16));
+        let block = bytes_of((DATA, 0x1000 + 16 * u64::from(i), 16));
+        store(&mut memory, at, &block);
         if i < 510 {
-            store(
-                &mut memory,
-                at + 16,
-                (SEGMENT, 0x4020 + 32 * u64::from(i), 32),
-            );
+            let next = bytes_of((SEGMENT, 0x4020 + 32 * u64::from(i), 32));
+            store(&mut memory, at + 16, &next);
         }
     }
     Ok(memory)

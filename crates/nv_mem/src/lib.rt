@@ -19,7 +19,7 @@
 //!
 //! [`Host::new`], [`Places::reserve`], [`Places::push`], the two `try_clone`, [`BoxedBytes::new`] and [`BoxedBytes::from_slice`], and
 //! [`Bytes::new`] and [`Bytes::from_slice`] where there are more than [`FEW`] bytes, take memory, and nothing else does. Each is called with ample
-//! memory in a test of `nv_checks_mem` that compares its answer. There `rt try --test --fail-alloc N` was run for each N up to 22: the test whose
+//! memory in a test of `nv_checks` that compares its answer. There `rt try --test --fail-alloc N` was run for each N up to 22: the test whose
 //! Nth allocation is refused ends with that call's error, and all others pass.
 #![tactic(auto)]
 

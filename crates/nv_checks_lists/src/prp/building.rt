@@ -5,28 +5,12 @@ ghost use Rattle.nv_mem.specs.Places.{piece_len, total_len};
 ghost use Rattle.nv_model.specs.Laws.{IsMappedPiece};
 
 use super::map;
-use nv_mem::{GuestMap, NoMemory, Piece, Places, Region};
+use crate::memory::{APART, map_of, run};
+use nv_mem::{GuestMap, NoMemory, Piece, Places};
 use nv_prp::{Prps, build, build_run, fits};
 use std::alloc::Global;
 use std::process::Abort;
 use std::test::Fail;
-
-// Two halves of a guest's 128 KiB that are apart in the host.
-fn split_map(alloc: Global) -> Result<GuestMap, Fail> {
-    let regions = vec![in alloc;
-        Region {
-            guest: 0,
-            host: 0x10_0000,
-            len: 0x1_0000
-        },
-        Region {
-            guest: 0x1_0000,
-            host: 0x15_0000,
-            len: 0x1_0000
-        },
-    ]?;
-    Ok(GuestMap::new(0x100_0000, regions)?)
-}
 
 fn places_of(alloc: Global, pieces: &[Piece]) -> Result<Places, NoMemory> {
     let mut places = Places::new(alloc);
@@ -65,15 +49,6 @@ fn is_mapped(map: &GuestMap, piece: Piece) -> bool
     }
 }
 
-macro_rules! run {
-    ($addr:expr, $len:expr) => {
-        Piece::Run {
-            addr: $addr,
-            len: $len,
-        }
-    };
-}
-
 const BUCKET: Piece = Piece::Bucket { len: 512 };
 
 /// Two pieces, and whether they fit.
@@ -109,7 +84,7 @@ fn check_fit(
 
 #[test]
 fn which_places_fit(rt: HostRuntime) -> Result<(), Fail> {
-    let map = split_map(rt.alloc())?;
+    let map = map_of(rt.alloc(), APART)?;
     check_fit(&rt, rt.alloc(), &map, PAIRS)?;
     Ok(())
 }
@@ -229,7 +204,7 @@ fn check_built(
 
 #[test]
 fn what_is_built(rt: HostRuntime) -> Result<(), Fail> {
-    let map = split_map(rt.alloc())?;
+    let map = map_of(rt.alloc(), APART)?;
     check_built(&rt, rt.alloc(), &map, TRANSFERS)?;
     Ok(())
 }

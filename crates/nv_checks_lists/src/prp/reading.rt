@@ -1,7 +1,6 @@
 //! Transfers that are read, by a driver that feeds what is wanted.
-ghost use Rattle.std.specs.Prelude.{◌≡◌, IfSome, length};
-
 use super::map;
+use crate::memory::{part, run, store};
 use nv_entry::StatusCode;
 use nv_mem::{GuestMap, NoMemory, Piece};
 use nv_model::Want;
@@ -21,12 +20,6 @@ struct Case {
     wants: &'static [(u64, u32)],
     refusal: Option<StatusCode>,
     pieces: &'static [Piece],
-}
-
-macro_rules! run {
-    ($addr:expr, $len:expr) => {
-        Piece::Run { addr: $addr, len: $len }
-    };
 }
 
 const OFFSET: Option<StatusCode> = Some(StatusCode::PrpOffsetInvalid);
@@ -220,34 +213,15 @@ const REFUSED_LISTS: &[Case] = &[
 fn holding(alloc: Global, slots: &[(usize, u64)]) -> Result<Vec<u8>, NoMemory> {
     let mut memory = vec![in alloc; 0u8; 0x40000]?;
     for (at, number) in slots {
-        store(&mut memory, *at, *number);
+        store(&mut memory, *at, &number.to_le_bytes());
     }
     Ok(memory)
-}
-
-fn store(memory: &mut [u8], at: usize, number: u64) {
-    let bytes = number.to_le_bytes();
-    for (place, byte) in memory.iter_mut().skip(at).zip(bytes.iter()) {
-        *place = *byte;
-    }
-}
-
-fn part(memory: &[u8], addr: u64, len: u32) -> Option<&[u8]>
-    ensures { IfSome result (λ bytes. length bytes.now ≡ len) }
-{
-    let from = addr as usize;
-    let len = len as usize;
-    if from <= memory.len() && len <= memory.len() - from {
-        Some(&memory[from..from + len])
-    } else {
-        None
-    }
 }
 
 // Feeds the parse the next part that it wants, and says which that was; or nothing where it has ended.
 fn step(parse: &mut PrpParse<'_>, memory: &[u8]) -> Option<(u64, u32)> {
     match parse.wants() {
-        Want::Read { addr, len } => match part(memory, addr, len) {
+        Want::Read { addr, len } => match part(memory, addr, u64::from(len)) {
             Some(bytes) => {
                 parse.feed(bytes);
                 Some((addr, len))
@@ -317,7 +291,8 @@ fn transfers(rt: HostRuntime) -> Result<(), Fail> {
 fn list_of_largest(alloc: Global) -> Result<Vec<u8>, NoMemory> {
     let mut memory = holding(alloc, &[])?;
     for i in 0..32 {
-        store(&mut memory, 0x2000 + 8 * i, 0x8000 + 0x1000 * i as u64);
+        let entry = 0x8000 + 0x1000 * i as u64;
+        store(&mut memory, 0x2000 + 8 * i, &entry.to_le_bytes());
     }
     Ok(memory)
 }

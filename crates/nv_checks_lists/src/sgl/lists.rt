@@ -333,7 +333,7 @@ fn places_are_as_expected(alloc: Global, map: &GuestMap, case: &Case) -> Result<
     let mut parse = PlacesParse::new(alloc, map, descriptor(case.first), case.dest, case.need)?;
     for _ in 0..2000 {
         match parse.wants() {
-            Want::Read { addr, len } => match part(&memory, addr, len) {
+            Want::Read { addr, len } => match part(&memory, addr, u64::from(len)) {
                 Some(bytes) => parse = parse.fed(bytes)?,
                 None => return Ok(false),
             },

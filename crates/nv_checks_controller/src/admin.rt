@@ -1,0 +1,7 @@
+//! A guest's admin queue.
+mod bench;
+mod bring_up;
+mod command;
+mod deletions;
+mod identify;
+mod refusals;

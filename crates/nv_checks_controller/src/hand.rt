@@ -1,0 +1,33 @@
+//! What is done by hand: entries, and bytes of a host.
+
+use nv_mem::Host;
+
+/// The bytes of an entry of this dword 0 and namespace, these PRP1 and PRP2, and these CDW10 to CDW12; everything else is 0.
+pub(crate) fn entry(dword0: u32, nsid: u32, prps: [u64; 2], dwords: [u32; 3]) -> [u8; 64] {
+    let [prp1, prp2] = prps;
+    let [cdw10, cdw11, cdw12] = dwords;
+    let mut bytes = [0; 64];
+    bytes[..4].copy_from_slice(&dword0.to_le_bytes());
+    bytes[4..8].copy_from_slice(&nsid.to_le_bytes());
+    bytes[24..32].copy_from_slice(&prp1.to_le_bytes());
+    bytes[32..40].copy_from_slice(&prp2.to_le_bytes());
+    bytes[40..44].copy_from_slice(&cdw10.to_le_bytes());
+    bytes[44..48].copy_from_slice(&cdw11.to_le_bytes());
+    bytes[48..52].copy_from_slice(&cdw12.to_le_bytes());
+    bytes
+}
+
+/// Stores bytes, and says whether they lie in the host.
+pub(crate) fn store(host: &mut Host, addr: u64, bytes: &[u8]) -> bool {
+    if !host.holds(addr, bytes.len() as u64) {
+        return false;
+    }
+    host.store(addr, bytes);
+    true
+}
+
+/// Whether these bytes are at an address of the host.
+pub(crate) fn shows(host: &Host, addr: u64, bytes: &[u8]) -> bool {
+    let len = bytes.len() as u64;
+    host.holds(addr, len) && host.equals(addr, bytes)
+}

@@ -1,0 +1,11 @@
+//! Plans, and a lane's tags.
+mod answers;
+mod chain;
+mod fed;
+mod guest;
+mod parts;
+mod plans;
+mod ranges;
+mod reads;
+mod refused;
+mod tags;
