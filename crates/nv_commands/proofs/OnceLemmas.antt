@@ -3,7 +3,7 @@ use Rattle.std.proofs.Common.{◌≡◌, ℕ, ◌<◌, true, List, length, get_o
 use Rattle.std.specs.List.{AllPass}
 use Rattle.std.specs.Prelude.{map}
 use Rattle.std.proofs.lemmas.List.{get_or-map, length-map}
-use Rattle.nv_moves.specs.Flat.{Flat}
+use Rattle.nv_disk.specs.Flat.{Flat}
 use Rattle.nv_once_script.specs.declared.once.line.Line.{Line}
 use Rattle.nv_once_script.specs.OnceLine.{is_there, value_of}
 use Rattle.nv_commands.specs.Once.{HasSizes, IsThere}

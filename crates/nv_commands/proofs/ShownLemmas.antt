@@ -3,7 +3,7 @@ use Rattle.std.proofs.Common.{◌≡◌, ℕ, zero, suc, ◌+◌, ◌≤◌, Boo
 use Rattle.std.proofs.lemmas.List.{length-append, length-take, drop-drop, append-nil}
 use Rattle.std.proofs.Math.Seq.{take-nil, drop-nil, take-append_seam, drop-append-add}
 use Rattle.nv_mem.specs.Bytes.{after_store, bytes_at}
-use Rattle.nv_moves.specs.Flat.{Flat}
+use Rattle.nv_disk.specs.Flat.{Flat}
 use Rattle.nv_once_script.specs.OnceLine.{LineValue}
 use Rattle.nv_commands.specs.Shown.{AreShown, IsShown}
 

@@ -1,7 +1,7 @@
 -- How a run of `once` ends
 use Rattle.std.specs.Prelude.{◌≡◌, ℕ, List, true, length, Option, Ok, Err, IfSome, ◌⊎◌, ⊤}
 use Rattle.std.specs.Result.{is_ok}
-use Rattle.nv_moves.specs.Flat.{Flat}
+use Rattle.nv_disk.specs.Flat.{Flat}
 use Rattle.nv_once_script.specs.OnceLine.{LineValue, is_there}
 use Rattle.nv_once_script.specs.OnceScript.{ScriptValue, script_of}
 use Rattle.nv_once_script.specs.declared.once.fault.ScriptFault.TheVariants as script

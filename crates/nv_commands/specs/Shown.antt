@@ -7,7 +7,7 @@ use Rattle.nv_entry.specs.Status.{StatusField}
 use Rattle.nv_entry.specs.Submission.{cid_of}
 use Rattle.nv_mem.specs.Bytes.{after_store, bytes_at}
 use Rattle.nv_model.specs.Limits.{block as block_size}
-use Rattle.nv_moves.specs.Flat.{Flat, flat}
+use Rattle.nv_disk.specs.Flat.{Flat, flat}
 use Rattle.nv_flat.specs.One.{IsDone}
 use Rattle.nv_once_script.specs.OnceLine.{LineValue, Store, Fill, Paint, Command, Dump, Block}
 use Rattle.nv_once_script.specs.OnceScript.{ScriptValue, script_of}

@@ -2,7 +2,7 @@
 ghost use Rattle.std.specs.Prelude.{◌≡◌, ◌≤◌, length, replicate, IfErr, IfOk, OnOk};
 ghost use Rattle.std.specs.Io.KnownBytes.{Appends};
 ghost use Rattle.hex.specs.Hex.{encode_lower};
-ghost use Rattle.nv_moves.specs.Flat.{flat};
+ghost use Rattle.nv_disk.specs.Flat.{flat};
 ghost use Rattle.nv_mem.specs.Bytes.{InMemory, after_store, bytes_at};
 ghost use Rattle.nv_once_script.specs.OnceLine.{value_of};
 ghost use Rattle.nv_once_script.specs.OnceScript.{IsInRange, script_value};

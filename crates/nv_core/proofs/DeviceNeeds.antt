@@ -13,9 +13,9 @@ use Rattle.nv_entry.specs.declared.opcode.IoOpcode.TheVariants.{DatasetManagemen
 use Rattle.nv_model.specs.Judge.{form_of}
 use Rattle.nv_model.specs.Memory.{byte_in}
 use Rattle.nv_model.specs.Queue.{is_empty}
-use Rattle.nv_moves.specs.Buffer.{AreBelow}
-use Rattle.nv_moves.specs.Flat.{byte_of_block}
-use Rattle.nv_moves.specs.Marks.{mark_of}
+use Rattle.nv_disk.specs.Buffer.{AreBelow}
+use Rattle.nv_disk.specs.Flat.{byte_of_block}
+use Rattle.nv_disk.specs.Marks.{mark_of}
 use Rattle.nv_world_model.specs.Area.{tag_count}
 use Rattle.nv_world_model.specs.Device.{DeviceLane, Held, front_entry, range_at}
 use Rattle.nv_world_model.specs.Geometry.{Geometry}

@@ -16,8 +16,8 @@ use Rattle.nv_entry.specs.Status.{StatusField}
 use Rattle.nv_model.specs.Memory.{byte_in}
 use Rattle.nv_model.proofs.Endings.{and-true}
 use Rattle.nv_model.specs.declared.reply.Reply.TheVariants as reply
-use Rattle.nv_moves.specs.Flat.{byte_of_block}
-use Rattle.nv_moves.specs.Marks.{mark_of}
+use Rattle.nv_disk.specs.Flat.{byte_of_block}
+use Rattle.nv_disk.specs.Marks.{mark_of}
 use Rattle.nv_tags.specs.declared.state.TagState.TheVariants as state
 use Rattle.nv_world_model.specs.Area.{tag_count}
 use Rattle.nv_world_model.specs.Device.{DeviceLane, Held, completion_posted, completion_written, held_status}

@@ -19,8 +19,8 @@ use Rattle.nv_model.specs.Memory.{byte_in}
 use Rattle.nv_model.specs.Private.{Moved}
 use Rattle.nv_model.specs.declared.reply.Reply.{Reply}
 use Rattle.nv_model.specs.declared.reply.Reply.TheVariants as reply
-use Rattle.nv_moves.specs.Flat.{byte_of_block, moved_of}
-use Rattle.nv_moves.specs.Marks.{mark_of}
+use Rattle.nv_disk.specs.Flat.{byte_of_block, moved_of}
+use Rattle.nv_disk.specs.Marks.{mark_of}
 use Rattle.nv_world_model.specs.Area.{tag_count}
 use Rattle.nv_world_model.specs.Device.{DeviceLane, Held, device_unit, unit_gone, with_held}
 use Rattle.nv_world_model.specs.Geometry.{Geometry}

@@ -14,8 +14,8 @@ use Rattle.nv_entry.specs.Submission.{cid_of}
 use Rattle.nv_model.specs.Memory.{byte_in}
 use Rattle.nv_model.specs.Queue.{is_empty, next_slot}
 use Rattle.nv_model.specs.declared.reply.Reply.TheVariants as reply
-use Rattle.nv_moves.specs.Flat.{byte_of_block}
-use Rattle.nv_moves.specs.Marks.{mark_of}
+use Rattle.nv_disk.specs.Flat.{byte_of_block}
+use Rattle.nv_disk.specs.Marks.{mark_of}
 use Rattle.nv_tags.specs.declared.state.TagState.TheVariants as state
 use Rattle.nv_world_model.specs.Area.{ring_size}
 use Rattle.nv_world_model.specs.Device.{DeviceLane, entry_taken, front_entry, held_of}

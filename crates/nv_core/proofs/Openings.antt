@@ -9,8 +9,8 @@ use Rattle.nv_device.specs.State.{Physical}
 use Rattle.nv_model.specs.Controller.{Controller, opening}
 use Rattle.nv_model.specs.Limits.{block}
 use Rattle.nv_model.specs.Memory.{byte_in}
-use Rattle.nv_moves.specs.Flat.{byte_of_block}
-use Rattle.nv_moves.specs.Marks.{mark_of}
+use Rattle.nv_disk.specs.Flat.{byte_of_block}
+use Rattle.nv_disk.specs.Marks.{mark_of}
 use Rattle.nv_world_model.specs.Geometry.{Geometry}
 use Rattle.nv_world_model.specs.World.{Lane, World, opening_lane, opening_world}
 

@@ -18,7 +18,7 @@ use Rattle.nv_model.specs.declared.act.Act.{Act}
 use Rattle.nv_model.specs.declared.act.Act.TheVariants as act
 use Rattle.nv_model.specs.declared.reply.Reply.{Reply}
 use Rattle.nv_model.specs.declared.reply.Reply.TheVariants as reply
-use Rattle.nv_moves.proofs.MoveLemmas.{marked-set}
+use Rattle.nv_disk.proofs.MoveLemmas.{marked-set}
 use Rattle.nv_vctl.specs.Vctl.{or_unchanged}
 use Rattle.nv_world_model.proofs.SeatSteps.{IsPlain, Changed, NotDone, NotThere, Shown, act-plain, guest-step}
 use Rattle.nv_world_model.specs.declared.event.Event.TheVariants as event

@@ -14,7 +14,7 @@ use Rattle.nv_model.specs.Limits.{most_bytes}
 use Rattle.nv_model.specs.Memory.{byte_in}
 use Rattle.nv_model.specs.Prp.{first_len, pages_of, read_prp}
 use Rattle.nv_model.specs.Reading.{Faulty, Reading, Spells, TooLong}
-use Rattle.nv_moves.specs.Buffer.{AreBelow, IsBelow}
+use Rattle.nv_disk.specs.Buffer.{AreBelow, IsBelow}
 use Rattle.nv_prp.specs.Built.{built, prp2_by, starts_page}
 use Rattle.nv_prp.specs.Fits.{fit_behind, fit_prp, may_follow}
 use Rattle.nv_prp.proofs.Pages.{Paged-fit, both, room_from}

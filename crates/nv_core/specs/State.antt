@@ -7,8 +7,8 @@ use Rattle.nv_laws_sound.specs.LaidOut.{IsLaidOut}
 use Rattle.nv_model.specs.Controller.{Controller}
 use Rattle.nv_model.specs.Memory.{byte_in}
 use Rattle.nv_model.specs.declared.reply.Reply.{Reply}
-use Rattle.nv_moves.specs.Flat.{byte_of_block}
-use Rattle.nv_moves.specs.Marks.{mark_of}
+use Rattle.nv_disk.specs.Flat.{byte_of_block}
+use Rattle.nv_disk.specs.Marks.{mark_of}
 use Rattle.nv_vctl.specs.Vctl.{most_taken}
 use Rattle.nv_world_model.specs.Geometry.{Geometry}
 use Rattle.nv_world_model.specs.Step.{step}

@@ -15,7 +15,7 @@ use Rattle.nv_model.specs.Memory.{byte_in, bytes_from}
 use Rattle.nv_model.specs.Prp.{entry_fault, first_len, pages_of, read_entries, read_prp, read_prp2, slots_of}
 use Rattle.nv_model.specs.Reading.{Spells, run}
 use Rattle.nv_model.proofs.Endings.{and-true}
-use Rattle.nv_moves.specs.Buffer.{AreBelow}
+use Rattle.nv_disk.specs.Buffer.{AreBelow}
 use Rattle.nv_prp.proofs.Cursors.{run-some}
 use Rattle.nv_device.specs.Pages.{host_reading, in_host, piece_in}
 use Rattle.nv_device.proofs.PageLemmas.{entry-passed, fault-there, passed, passes, taken_false}

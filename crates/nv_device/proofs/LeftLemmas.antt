@@ -7,8 +7,8 @@ use Rattle.nv_entry.specs.Submission.{opcode_of}
 use Rattle.nv_model.specs.Laws.{AgreeAt, AgreeOn}
 use Rattle.nv_model.specs.Memory.{byte_in}
 use Rattle.nv_model.specs.Private.{Moved}
-use Rattle.nv_moves.specs.Flat.{byte_of_block, moved_of}
-use Rattle.nv_moves.specs.Marks.{mark_of}
+use Rattle.nv_disk.specs.Flat.{byte_of_block, moved_of}
+use Rattle.nv_disk.specs.Marks.{mark_of}
 use Rattle.nv_world_model.specs.Area.{completion_slot, ring_size, submission_slot}
 use Rattle.nv_world_model.specs.Device.{DeviceLane, Held, entry_taken}
 use Rattle.nv_world_model.specs.LaneRuns.{IsInLane, IsNotAmong, list_named, unit_places}

@@ -7,7 +7,7 @@ use Rattle.std.proofs.lemmas.Bool.{cases_lt}
 use Rattle.std.proofs.lemmas.List.{get_or_past, length-set}
 use Rattle.std.proofs.lemmas.List.Elements.{All-cons, All-head, All-nil, All-tail}
 use Rattle.nv_model.specs.Private.{Moved, others}
-use Rattle.nv_moves.specs.Flat.{flat, moved_of}
+use Rattle.nv_disk.specs.Flat.{flat, moved_of}
 use Rattle.nv_world_model.specs.Area.{lane_start}
 use Rattle.nv_world_model.specs.Device.{DeviceLane, Held, unit_gone, with_held}
 use Rattle.nv_device.specs.Moving.{IsMoved, unit_of}

@@ -5,8 +5,8 @@ use Rattle.std.proofs.lemmas.List.Elements.{All-append, All-head, All-tail, All-
 use Rattle.std.proofs.lemmas.List.{drop-drop, length-append}
 use Rattle.nv_mem.specs.Places.{piece_len, places_of, places_of_piece}
 use Rattle.nv_mem.specs.declared.piece.Piece.{Piece}
-use Rattle.nv_moves.specs.Buffer.{AreBelow}
-use Rattle.nv_moves.proofs.BufferLemmas.{AreBelow-behind, skip-piece}
+use Rattle.nv_disk.specs.Buffer.{AreBelow}
+use Rattle.nv_disk.proofs.BufferLemmas.{AreBelow-behind, skip-piece}
 use Rattle.nv_device.specs.Pages.{ArePaged, IsPage}
 
 -- ---- one more piece

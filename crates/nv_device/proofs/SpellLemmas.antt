@@ -20,8 +20,8 @@ use Rattle.nv_model.specs.Limits.{page}
 use Rattle.nv_model.specs.Memory.{byte_in, bytes_from}
 use Rattle.nv_model.specs.Prp.{entry_fault, first_len, pages_of, read_entries, read_prp2, slots_of}
 use Rattle.nv_model.specs.Reading.{Reading, Spells, run, unless_faulty}
-use Rattle.nv_moves.specs.Buffer.{AreBelow, IsBelow}
-use Rattle.nv_moves.proofs.BufferLemmas.{AreBelow-behind, AreBelow-front, addresses-below}
+use Rattle.nv_disk.specs.Buffer.{AreBelow, IsBelow}
+use Rattle.nv_disk.proofs.BufferLemmas.{AreBelow-behind, AreBelow-front, addresses-below}
 use Rattle.nv_device.specs.Pages.{IsNextEntry, behind_reading, entries_reading, host_reading, in_host, piece_in, spells}
 use Rattle.nv_device.proofs.PageLemmas.{all-in_host, checked}
 

@@ -18,7 +18,7 @@ use Rattle.nv_model.specs.Judge.{KeepAll, MoveBlock, clear_units, count_of, deal
 use Rattle.nv_model.specs.Private.{Moved}
 use Rattle.nv_model.proofs.UnitWords.{units_moved-cleared, units_moved-left}
 use Rattle.nv_model.specs.Memory.{byte_in}
-use Rattle.nv_moves.specs.Flat.{flat, moved_of}
+use Rattle.nv_disk.specs.Flat.{flat, moved_of}
 use Rattle.nv_world_model.specs.Device.{Held, device_unit, moved_by, range_at, unit_count}
 use Rattle.nv_device.specs.Moving.{IsReady, moves_blocks, unit_of}
 use Rattle.nv_device.specs.Physical.{IsHeld, len_of, names_blocks}

@@ -9,10 +9,10 @@ use Rattle.nv_entry.specs.declared.opcode.IoOpcode.TheVariants.{DatasetManagemen
 use Rattle.nv_mem.specs.Places.{places_of}
 use Rattle.nv_model.specs.Judge.{deallocates, has_blocks, has_buffer}
 use Rattle.nv_model.specs.Private.{Moved}
-use Rattle.nv_moves.specs.Buffer.{AreBelow}
+use Rattle.nv_disk.specs.Buffer.{AreBelow}
 use Rattle.nv_model.specs.Memory.{byte_in}
-use Rattle.nv_moves.specs.Flat.{byte_of_block, flat, moved_of}
-use Rattle.nv_moves.specs.Marks.{mark_of}
+use Rattle.nv_disk.specs.Flat.{byte_of_block, flat, moved_of}
+use Rattle.nv_disk.specs.Marks.{mark_of}
 use Rattle.nv_world_model.specs.Device.{Held, device_unit, range_at, unit_gone, with_held}
 use Rattle.nv_device.specs.Physical.{IsHeld, held_at, lane_of, with_lane}
 use Rattle.nv_device.specs.State.{Physical}

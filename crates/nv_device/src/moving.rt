@@ -4,9 +4,9 @@ ghost use Rattle.std.specs.Prelude.{◌≡◌, ◌+◌, ◌*◌, ◌==◌, ◌^�
 ghost use Rattle.nv_entry.specs.Opcode.{io_opcode};
 ghost use Rattle.nv_entry.specs.Submission.{opcode_of, slba_of};
 ghost use Rattle.nv_mem.specs.Places.{places_of};
-ghost use Rattle.nv_moves.specs.Buffer.{AreBelow};
+ghost use Rattle.nv_disk.specs.Buffer.{AreBelow};
 ghost use Rattle.nv_model.specs.Memory.{byte_in};
-ghost use Rattle.nv_moves.specs.Flat.{flat, moved_of};
+ghost use Rattle.nv_disk.specs.Flat.{flat, moved_of};
 ghost use Rattle.nv_model.specs.Carrying.{cleared};
 ghost use Rattle.nv_entry.specs.Range.{blocks_of, start_of};
 ghost use Rattle.std.specs.List.{list_all, list_any, range_with_len};
@@ -20,11 +20,10 @@ ghost use Rattle.nv_device.specs.Pages.{piece_in};
 use crate::command::Command;
 use crate::device::Device;
 use crate::response::Response;
-use nv_disk::{Blocks, Marks};
+use nv_disk::{Blocks, Buffer, Marks};
 use nv_entry::{IoOpcode, Range};
 use nv_mem::{Host, Piece};
 use nv_model::limits::{BLOCK_SIZE, RANGE_SIZE};
-use nv_moves::Buffer;
 
 impl Device {
     /// Whether that unit of the command at a slot may move, if it is left: the bytes that the command names lie in the host,

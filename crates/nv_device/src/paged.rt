@@ -2,11 +2,11 @@
 
 ghost use Rattle.std.specs.Prelude.{◌≡◌, ◌≤◌, ◌^◌, drop, length};
 ghost use Rattle.nv_mem.specs.Places.{piece_len, places_of};
-ghost use Rattle.nv_moves.specs.Buffer.{AreBelow};
+ghost use Rattle.nv_disk.specs.Buffer.{AreBelow};
 ghost use Rattle.nv_device.specs.Pages.{ArePaged};
 
+use nv_disk::Buffer;
 use nv_mem::{PAGE_SIZE, Piece};
-use nv_moves::Buffer;
 
 /// What is left of the pieces after the first `count` of their bytes. It takes the same time however many pages these are on.
 pub(crate) fn buffer_behind(pieces: &[Piece], count: u64) -> Buffer<'_>

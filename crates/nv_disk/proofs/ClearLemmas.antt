@@ -3,10 +3,10 @@ use Rattle.std.proofs.Common.{◌≡◌, ℕ, zero, suc, ◌+◌, ◌≤◌, Boo
 use Rattle.std.specs.List.{range_with_len}
 use Rattle.std.proofs.lemmas.List.{length-set}
 use Rattle.nv_model.specs.Carrying.{cleared}
-use Rattle.nv_moves.specs.Flat.{flat, moved_of}
-use Rattle.nv_moves.specs.Marks.{mark_of, raised}
-use Rattle.nv_moves.proofs.MoveLemmas.{cleared-more, cleared-none, cleared-set, marks-raised}
-use Rattle.nv_moves.proofs.ReadLemmas.{raised-more, raised-none}
+use Rattle.nv_disk.specs.Flat.{flat, moved_of}
+use Rattle.nv_disk.specs.Marks.{mark_of, raised}
+use Rattle.nv_disk.proofs.MoveLemmas.{cleared-more, cleared-none, cleared-set, marks-raised}
+use Rattle.nv_disk.proofs.ReadLemmas.{raised-more, raised-none}
 use Rattle.nv_disk.proofs.Ranged.{ranged}
 use Rattle.nv_disk.proofs.RangeLemmas.{length-ranged, ranged-is}
 

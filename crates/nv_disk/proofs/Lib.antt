@@ -1,6 +1,11 @@
 pub mod Ranged
 pub mod StoredLemmas
 pub mod MarkLemmas
+pub mod BufferLemmas
+pub mod CompareLemmas
+pub mod MoveLemmas
+pub mod ReadLemmas
+pub mod UnitLemmas
 pub mod RowLemmas
 pub mod RangeLemmas
 pub mod ClearLemmas

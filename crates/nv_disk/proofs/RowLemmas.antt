@@ -7,9 +7,9 @@ use Rattle.nv_mem.specs.Places.{Place}
 use Rattle.nv_model.specs.Memory.{gathered, scattered}
 use Rattle.nv_model.proofs.MemoryLemmas.{gathered-append, length-gathered, scattered-append}
 use Rattle.nv_model.specs.Private.{differs}
-use Rattle.nv_moves.proofs.BufferLemmas.{scattered-no_bytes, scattered-take}
-use Rattle.nv_moves.proofs.CompareLemmas.{differs-append}
-use Rattle.nv_moves.proofs.ReadLemmas.{joined}
+use Rattle.nv_disk.proofs.BufferLemmas.{scattered-no_bytes, scattered-take}
+use Rattle.nv_disk.proofs.CompareLemmas.{differs-append}
+use Rattle.nv_disk.specs.Flat.{joined}
 
 -- rows that stand one behind the other
 joined-append : (xs ys : List (List ℕ)) → joined (xs ++ ys) ≡ joined xs ++ joined ys

@@ -4,12 +4,12 @@ ghost use Rattle.std.specs.Prelude.{◌≡◌, true, ◌+◌, ◌++◌, ◌*◌,
 ghost use Rattle.std.specs.Prelude.{All, List, [], length, replicate, slice_index, slice_set, take, drop, IfOk, vec_capacity};
 ghost use Rattle.std.specs.List.{slice_index_or};
 ghost use Rattle.nv_model.specs.Memory.{byte_in, gathered};
-ghost use Rattle.nv_moves.specs.Buffer.{AreBelow};
+ghost use Rattle.nv_disk.specs.Buffer.{AreBelow};
 ghost use Rattle.nv_disk.specs.Stored.{IsStored, blocks_of, is_blank, places_of};
 
+use crate::buffer::Buffer;
 use nv_mem::{Host, NoMemory};
 use nv_model::limits::BLOCK_SIZE;
-use nv_moves::Buffer;
 use std::alloc::Global;
 use std::fmt::{self, Debug, Formatter};
 use std::marker::Model;

@@ -10,16 +10,15 @@ ghost use Rattle.nv_model.specs.Carrying.{cleared, cleared_one, units_from};
 ghost use Rattle.nv_model.specs.Limits.{block as block_size};
 ghost use Rattle.nv_model.specs.Memory.{byte_in, gathered, scattered};
 ghost use Rattle.nv_model.specs.Private.{differs, marked};
-ghost use Rattle.nv_moves.specs.Buffer.{AreBelow};
-ghost use Rattle.nv_moves.specs.Flat.{flat, moved_of};
-ghost use Rattle.nv_moves.specs.Marks.{mark_of, raised};
-ghost use Rattle.nv_moves.proofs.ReadLemmas.{joined};
+ghost use Rattle.nv_disk.specs.Buffer.{AreBelow};
+ghost use Rattle.nv_disk.specs.Flat.{flat, joined, moved_of};
+ghost use Rattle.nv_disk.specs.Marks.{mark_of, raised};
 
 use crate::blocks::Blocks;
+use crate::buffer::Buffer;
 use crate::marks::Marks;
 use nv_entry::IoOpcode;
 use nv_mem::Host;
-use nv_moves::Buffer;
 
 /// Moves the `count` blocks from `start` on to the buffer, all at once. A set FUA bit makes them kept.
 pub fn read_blocks(

@@ -26,7 +26,7 @@ use Rattle.nv_model.specs.Carrying.{cleared}
 use Rattle.nv_model.specs.Private.{verdict_in}
 use Rattle.nv_model.proofs.DialogueLemmas.{in_memory-and_then}
 use Rattle.nv_model.proofs.MemoryLemmas.{length-gathered}
-use Rattle.nv_moves.specs.Flat.{Flat, moved_of}
+use Rattle.nv_disk.specs.Flat.{Flat, moved_of}
 use Rattle.nv_flat.specs.Listed.{list_reading}
 use Rattle.nv_flat.specs.One.{HasFieldsInOrder, IsRun, shape_of}
 use Rattle.nv_flat.proofs.DoneLemmas.{list-verdict, range-within}

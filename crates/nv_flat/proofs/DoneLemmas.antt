@@ -20,7 +20,7 @@ use Rattle.nv_model.specs.Private.{moved_status, verdict_in}
 use Rattle.nv_model.specs.Carried.{block_work, moved_on, units_moved}
 use Rattle.nv_model.specs.Carrying.{cleared, units_from}
 use Rattle.nv_model.specs.Memory.{byte_in}
-use Rattle.nv_moves.specs.Flat.{Flat, moved_of}
+use Rattle.nv_disk.specs.Flat.{Flat, moved_of}
 use Rattle.nv_flat.specs.Listed.{refusal_of_reading, list_reading}
 use Rattle.nv_flat.specs.One.{HasFieldsInOrder, IsRun, shape_of}
 use Rattle.nv_flat.specs.Transfer.{is_transfer}

@@ -16,10 +16,10 @@ use Rattle.nv_model.specs.Judge.{Work, Go, Refuse, MoveBlock, move_units, judge}
 use Rattle.nv_model.specs.Private.{Moved, verdict_in}
 use Rattle.nv_model.specs.Carried.{moved_on, units_moved}
 use Rattle.nv_flat.specs.Examples.{block_read, block_written, read_to_half, small, write_from_half}
-use Rattle.nv_moves.specs.Flat.{Flat, byte_of_block, moved_of}
+use Rattle.nv_disk.specs.Flat.{Flat, byte_of_block, moved_of}
 use Rattle.nv_flat.specs.One.{IsRun, shape_of}
-use Rattle.nv_moves.proofs.BufferLemmas.{gathered-run, scattered-run}
-use Rattle.nv_moves.proofs.MoveLemmas.{marks-same, read-moved, write-moved}
+use Rattle.nv_disk.proofs.BufferLemmas.{gathered-run, scattered-run}
+use Rattle.nv_disk.proofs.MoveLemmas.{marks-same, read-moved, write-moved}
 use Rattle.nv_flat.proofs.OneLemmas.{moved-run, refused-run}
 use Rattle.nv_flat.proofs.RunLemmas.{one-outcome, refused-unchanged}
 

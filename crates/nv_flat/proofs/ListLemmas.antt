@@ -21,7 +21,7 @@ use Rattle.nv_model.specs.Transcript.{fed}
 use Rattle.nv_model.specs.Want.{want_of}
 use Rattle.nv_model.specs.declared.want.Want.TheVariants as want
 use Rattle.nv_flat.specs.Flat.{identity_map}
-use Rattle.nv_moves.specs.Flat.{Flat}
+use Rattle.nv_disk.specs.Flat.{Flat}
 use Rattle.nv_flat.specs.Listed.{IsPartThere, list_dialogue, list_reading, reading_by, refusal_of_reading}
 use Rattle.nv_model.proofs.AskedOften.{AsksAtMost, AsksAtMost-and_then, read_prp-often, read_sgl-often, wants-more}
 use Rattle.nv_flat.proofs.AskingLemmas.{mapped-inside}

@@ -17,15 +17,15 @@ use Rattle.nv_model.specs.Private.{Moved, block_bytes, block_moved, moved_status
 use Rattle.nv_model.specs.Carried.{moved_on, units_moved}
 use Rattle.nv_model.proofs.Judged.{verdict-sound}
 use Rattle.nv_model.proofs.MemoryLemmas.{stored-list}
-use Rattle.nv_moves.proofs.BufferLemmas.{AreBelow-drop, AreBelow-front}
-use Rattle.nv_moves.specs.Buffer.{AreBelow, IsBelow}
-use Rattle.nv_moves.specs.Flat.{Flat, byte_of_block, flat, moved_of}
+use Rattle.nv_disk.proofs.BufferLemmas.{AreBelow-drop, AreBelow-front}
+use Rattle.nv_disk.specs.Buffer.{AreBelow, IsBelow}
+use Rattle.nv_disk.specs.Flat.{Flat, byte_of_block, flat, moved_of}
 use Rattle.nv_flat.specs.Laws.{HasRun}
 use Rattle.nv_flat.specs.One.{shape_of}
-use Rattle.nv_moves.proofs.MoveLemmas.{marked-set, moved, written-set}
+use Rattle.nv_disk.proofs.MoveLemmas.{marked-set, moved, written-set}
 use Rattle.nv_flat.proofs.OneLemmas.{moved-run, refused-run}
 use Rattle.nv_flat.proofs.PieceLemmas.{pieces-are-below}
-use Rattle.nv_moves.proofs.UnitLemmas.{keep-all}
+use Rattle.nv_disk.proofs.UnitLemmas.{keep-all}
 
 -- ---- bytes scattered in a list
 

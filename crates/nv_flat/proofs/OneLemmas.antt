@@ -6,7 +6,7 @@ use Rattle.nv_model.specs.Private.{AtWork, Ended, Moved, Private, moved_status, 
 use Rattle.nv_model.specs.Carried.{units_moved}
 use Rattle.nv_model.specs.Carrying.{IsCarriedOut, at_work, this_far}
 use Rattle.nv_model.proofs.CarriedOut.{IsCarriedOut-moved, IsCarriedOut-refused}
-use Rattle.nv_moves.specs.Flat.{Flat, moved_of, byte_of_block}
+use Rattle.nv_disk.specs.Flat.{Flat, moved_of, byte_of_block}
 use Rattle.nv_flat.specs.One.{IsOutcome, IsRun, newly_taken, private_of, shape_of, completion_posted, serving}
 use Rattle.nv_model.specs.Controller.{post}
 use Rattle.nv_model.proofs.Bags.{put-twice}

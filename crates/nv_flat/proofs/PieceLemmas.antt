@@ -27,9 +27,9 @@ use Rattle.nv_model.proofs.Judged.{everywhere-at}
 use Rattle.nv_model.proofs.MemoryLemmas.{gathered-addresses, gathered-append}
 use Rattle.nv_model.proofs.RunPieces.{IsRunPiece, read_by-runs}
 use Rattle.nv_model.proofs.Spelled.{AreOfLen, read_prp-of_len, read_sgl-mapped}
-use Rattle.nv_moves.specs.Buffer.{AreBelow, IsBelow}
+use Rattle.nv_disk.specs.Buffer.{AreBelow, IsBelow}
 use Rattle.nv_flat.specs.Flat.{identity_map}
-use Rattle.nv_moves.specs.Flat.{Flat}
+use Rattle.nv_disk.specs.Flat.{Flat}
 use Rattle.nv_flat.specs.Listed.{list_reading}
 
 -- ---- in the memory

@@ -12,7 +12,7 @@ use Rattle.nv_model.proofs.Judged.{verdict-sound}
 use Rattle.nv_model.proofs.StepsAlike.{slice_get-has}
 use Rattle.nv_model.proofs.UnitOrder.{any-order}
 use Rattle.nv_model.specs.Memory.{byte_in}
-use Rattle.nv_moves.specs.Flat.{Flat, moved_of}
+use Rattle.nv_disk.specs.Flat.{Flat, moved_of}
 use Rattle.nv_flat.specs.Laws.{IsMovedInSomeOrder}
 use Rattle.nv_flat.specs.One.{IsRun, newly_taken, private_of, shape_of}
 use Rattle.nv_model.proofs.Units.{IsUnitOf, form_units-own}

@@ -5,7 +5,7 @@ use Rattle.std.proofs.lemmas.List.Elements.{All-get_or}
 use Rattle.nv_model.specs.Memory.{byte_in}
 use Rattle.nv_model.specs.Limits.{block}
 use Rattle.nv_model.specs.Private.{Moved}
-use Rattle.nv_moves.specs.Flat.{Flat, flat, moved_of}
+use Rattle.nv_disk.specs.Flat.{Flat, flat, moved_of}
 use Rattle.nv_flat.specs.Laws.{IsAsLarge}
 
 pub equal-lists : (f g : Flat) → IsAsLarge f g → moved_of f false ≡ moved_of g false → f ≡ g

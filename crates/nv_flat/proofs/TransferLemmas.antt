@@ -5,8 +5,8 @@ use Rattle.nv_mem.specs.Places.{Place}
 use Rattle.nv_model.specs.Judge.{Work, MoveBlock}
 use Rattle.nv_model.specs.Carried.{moved_on, units_moved}
 use Rattle.nv_model.specs.Carrying.{units_from}
-use Rattle.nv_moves.specs.Flat.{Flat, moved_of}
-use Rattle.nv_moves.proofs.MoveLemmas.{units_moved-from, units_moved-none}
+use Rattle.nv_disk.specs.Flat.{Flat, moved_of}
+use Rattle.nv_disk.proofs.MoveLemmas.{units_moved-from, units_moved-none}
 
 -- what a loop over the blocks of a transfer keeps
 pub record IsMoving (work : Work) (slba count : ℕ) (all : List Place) (old : Flat) (index : ℕ) (f : Flat) (differed : Bool) (buffer : List Place) : Type 0 where

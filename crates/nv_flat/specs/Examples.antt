@@ -1,7 +1,7 @@
 -- Worked examples of one command: a small controller, and what the commands leave of it
 use Rattle.std.specs.Prelude.{ℕ, true, false, List, [], ◌∷◌, ◌++◌, replicate}
 use Rattle.nv_model.specs.Rows.{by_sgl, data_block, read, write}
-use Rattle.nv_moves.specs.Flat.{Flat, flat}
+use Rattle.nv_disk.specs.Flat.{Flat, flat}
 
 -- two blocks of memory, of bytes 11h and 22h, and two blocks, of bytes 33h and 44h, of which the first is kept
 abbrev pub small : Flat

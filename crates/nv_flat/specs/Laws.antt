@@ -6,7 +6,7 @@ use Rattle.nv_model.specs.Limits.{block}
 use Rattle.nv_model.specs.Carried.{units_moved}
 use Rattle.nv_model.specs.Laws.{IsOrderOf}
 use Rattle.nv_model.specs.Private.{moved_status}
-use Rattle.nv_moves.specs.Flat.{Flat, moved_of}
+use Rattle.nv_disk.specs.Flat.{Flat, moved_of}
 use Rattle.nv_flat.specs.One.{IsRun}
 
 -- each unit of a work has moved once, in some order, and the status says whether a Compare differed

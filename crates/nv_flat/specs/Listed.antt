@@ -14,7 +14,7 @@ use Rattle.nv_model.specs.Limits.{most_descriptors, part_size}
 use Rattle.nv_model.specs.Reading.{Reading, Faulty, TooLong, Spells}
 use Rattle.nv_flat.specs.Flat.{identity_map}
 use Rattle.nv_model.specs.Memory.{byte_in}
-use Rattle.nv_moves.specs.Flat.{Flat}
+use Rattle.nv_disk.specs.Flat.{Flat}
 use Rattle.nv_flat.specs.declared.lists.Listed.{Listed}
 use Rattle.nv_flat.specs.declared.lists.Listed.TheVariants.{Refused, Named}
 

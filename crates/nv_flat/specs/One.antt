@@ -21,7 +21,7 @@ use Rattle.nv_model.specs.Carrying.{IsCarriedOut}
 use Rattle.nv_judge.specs.declared.need.Need.{Need}
 use Rattle.nv_judge.specs.Need.{need_of}
 use Rattle.nv_flat.specs.Flat.{identity_map}
-use Rattle.nv_moves.specs.Flat.{Flat, byte_of_block}
+use Rattle.nv_disk.specs.Flat.{Flat, byte_of_block}
 
 -- a controller with queue pair 1 after a bring-up, from which one command was taken. The queues have few slots and are at the memory's start;
 -- nothing depends on where they are.

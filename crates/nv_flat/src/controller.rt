@@ -6,7 +6,7 @@ ghost use Rattle.nv_mem.specs.Bytes.{InMemory, after_store, bytes_at};
 ghost use Rattle.nv_model.specs.Limits.{block as block_size, page};
 ghost use Rattle.nv_ns.specs.Extents.{blocks_in};
 ghost use Rattle.nv_flat.specs.Flat.{FitsLimits, identity_map};
-ghost use Rattle.nv_moves.specs.Flat.{flat};
+ghost use Rattle.nv_disk.specs.Flat.{flat};
 
 use nv_disk::{Blocks, Marks};
 use nv_mem::{GuestMap, Host, NoMemory, PAGE_SIZE, Region};
@@ -26,7 +26,7 @@ pub struct FlatController {
 
 impl Model for FlatController {
     ghost use Rattle.nv_flat.specs.Flat.{IsWhole};
-    ghost use Rattle.nv_moves.specs.Flat.{Flat, flat};
+    ghost use Rattle.nv_disk.specs.Flat.{Flat, flat};
 
     ghost Value = { Flat };
 

@@ -8,17 +8,17 @@ ghost use Rattle.nv_model.specs.Carried.{units_moved};
 ghost use Rattle.nv_model.specs.Limits.{range_size};
 ghost use Rattle.nv_judge.specs.Need.{need_of};
 ghost use Rattle.nv_model.specs.Reading.{Spells};
-ghost use Rattle.nv_moves.specs.Flat.{moved_of};
+ghost use Rattle.nv_disk.specs.Flat.{moved_of};
 ghost use Rattle.nv_flat.specs.Listed.{list_reading};
 ghost use Rattle.nv_flat.specs.One.{HasFieldsInOrder, IsRun};
 
 use crate::controller::FlatController;
 use crate::lists::Listed;
+use nv_disk::Buffer;
 use nv_entry::{Range, Sqe, Status, StatusCode};
 use nv_judge::{Need, judge_ranges};
 use nv_mem::{NoMemory, Places};
 use nv_model::limits::RANGE_SIZE;
-use nv_moves::Buffer;
 use std::alloc::Global;
 
 /// The most bytes of the ranges: there are at most 256.

@@ -8,7 +8,7 @@ ghost use Rattle.nv_entry.specs.declared.status_code.StatusCode.TheVariants.{Lba
 ghost use Rattle.nv_model.specs.Rows.{bit_bucket, by_prp, by_sgl, command, compare, data_block, descriptor, dword0, first_example};
 ghost use Rattle.nv_model.specs.Rows.{flush, last_segment, manage, one_block, read, segment, type_four, with_fua, write, write_zeroes};
 ghost use Rattle.nv_flat.specs.Examples.{block_read, block_read_elsewhere, block_read_in_part, block_written, block_written_and_kept, read_to_half, small, write_from_half};
-ghost use Rattle.nv_moves.specs.Flat.{Flat, moved_of};
+ghost use Rattle.nv_disk.specs.Flat.{Flat, moved_of};
 ghost use Rattle.nv_flat.specs.One.{IsRun, is_plain};
 
 /// A Read of one block succeeds and leaves its bytes in its buffer.

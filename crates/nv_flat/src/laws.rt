@@ -12,7 +12,7 @@ ghost use Rattle.nv_model.specs.Judge.{Go, Refuse, Work, WorkUnit, field_refusal
 ghost use Rattle.nv_model.specs.Private.{Moved, moved_status, verdict_in};
 ghost use Rattle.nv_model.specs.Carried.{moved_on, units_moved};
 ghost use Rattle.nv_model.specs.Memory.{byte_in};
-ghost use Rattle.nv_moves.specs.Flat.{Flat, byte_of_block, moved_of};
+ghost use Rattle.nv_disk.specs.Flat.{Flat, byte_of_block, moved_of};
 ghost use Rattle.nv_model.specs.Laws.{IsAnother, IsElsewhere};
 ghost use Rattle.nv_flat.specs.Laws.{HasRun, IsAsLarge, IsMovedInSomeOrder};
 ghost use Rattle.nv_flat.specs.One.{IsDone, IsRun, is_plain, shape_of};

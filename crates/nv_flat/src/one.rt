@@ -8,7 +8,7 @@ ghost use Rattle.nv_entry.specs.Submission.{cid_of};
 ghost use Rattle.nv_mem.specs.Bytes.{InMemory, after_store, bytes_at};
 ghost use Rattle.nv_model.specs.Limits.{block as block_size};
 ghost use Rattle.nv_flat.specs.Flat.{FitsLimits};
-ghost use Rattle.nv_moves.specs.Flat.{Flat, flat};
+ghost use Rattle.nv_disk.specs.Flat.{Flat, flat};
 ghost use Rattle.nv_flat.specs.One.{IsDone, every_command, is_plain};
 
 use crate::controller::FlatController;

@@ -7,14 +7,14 @@ ghost use Rattle.nv_model.specs.Judge.{MoveBlock};
 ghost use Rattle.nv_model.specs.Carried.{block_work, moved_on, units_moved};
 ghost use Rattle.nv_model.specs.Carrying.{units_from};
 ghost use Rattle.nv_model.specs.Limits.{block as block_size};
-ghost use Rattle.nv_moves.specs.Buffer.{AreBelow};
-ghost use Rattle.nv_moves.specs.Flat.{moved_of};
+ghost use Rattle.nv_disk.specs.Buffer.{AreBelow};
+ghost use Rattle.nv_disk.specs.Flat.{moved_of};
 ghost use Rattle.nv_flat.specs.Transfer.{is_transfer};
 
 use crate::controller::FlatController;
+use nv_disk::Buffer;
 use nv_entry::IoOpcode;
 use nv_mem::Places;
-use nv_moves::Buffer;
 
 impl FlatController {
     /// Moves the `count` blocks from `slba` on to or from a buffer, in order, or compares them. It says whether a Compare differs.

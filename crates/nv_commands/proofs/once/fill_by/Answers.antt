@@ -1,7 +1,7 @@
 use Rattle.std.proofs.Common.{◌≡◌, ◌+◌, length, replicate, take, ap, sym, arith, rules, ◌∙◌}
 use Rattle.std.proofs.lemmas.List.{length-replicate, replicate-append-replicate, take-replicate}
 use Rattle.nv_mem.specs.Bytes.{after_store}
-use Rattle.nv_moves.specs.Flat.{Flat, flat}
+use Rattle.nv_disk.specs.Flat.{Flat, flat}
 use Rattle.nv_commands.proofs.ShownLemmas.{after_store-append}
 use Rattle.nv_commands.proofs.once.fill_by.Goals as goal
 

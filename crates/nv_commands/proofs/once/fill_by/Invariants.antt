@@ -1,5 +1,5 @@
 use Rattle.std.proofs.Common.{◌≡◌, ◌-◌, ◌≤◌, length, replicate}
-use Rattle.nv_moves.specs.Flat.{flat}
+use Rattle.nv_disk.specs.Flat.{flat}
 use Rattle.nv_mem.specs.Bytes.{after_store}
 use Rattle.nv_commands.specs.Once.{HasSizes}
 use Rattle.nv_commands.proofs.once.fill_by.Given as goal

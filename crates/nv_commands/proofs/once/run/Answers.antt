@@ -1,7 +1,7 @@
 use Rattle.std.proofs.Common.{◌≡◌, ◌<◌, ◌+◌, ◌++◌, [], ◌∷◌, length, get_or, take, map, refl, sym, ap, ◌∙◌, arith, rules}
 use Rattle.std.proofs.lemmas.List.{get_or-map, length-map, length-replicate, take_more}
 use Rattle.nv_once_script.specs.OnceLine.{value_of}
-use Rattle.nv_moves.specs.Flat.{Flat}
+use Rattle.nv_disk.specs.Flat.{Flat}
 use Rattle.nv_commands.specs.Once.{HasSizes}
 use Rattle.nv_commands.specs.Shown.{AreShown}
 use Rattle.nv_commands.proofs.OnceLemmas.{IsThere-in_range}

@@ -1,7 +1,7 @@
 use Rattle.std.proofs.Common.{length}
 use Rattle.nv_model.specs.Memory.{byte_in}
-use Rattle.nv_moves.specs.Flat.{byte_of_block}
-use Rattle.nv_moves.specs.Marks.{mark_of}
+use Rattle.nv_disk.specs.Flat.{byte_of_block}
+use Rattle.nv_disk.specs.Marks.{mark_of}
 use Rattle.nv_world_model.proofs.LaneReach.{unit-agree}
 use Rattle.nv_device.proofs.LeftLemmas.{taken-reads}
 use Rattle.nv_device.proofs.laws.a_call_reads_what_is_named.Goals as goal

@@ -1,7 +1,7 @@
 use Rattle.std.proofs.Common.{◌≡◌, false, arith, sym}
 use Rattle.nv_entry.specs.Range.{blocks_of, start_of}
-use Rattle.nv_moves.specs.Flat.{flat, moved_of}
-use Rattle.nv_moves.proofs.MoveLemmas.{cleared-none}
+use Rattle.nv_disk.specs.Flat.{flat, moved_of}
+use Rattle.nv_disk.proofs.MoveLemmas.{cleared-none}
 use Rattle.nv_device.proofs.moving.clear_range.Goals as goal
 
 pub returns-else-count-gt0-clause-moved : goal.returns-else-count-gt0-clause-moved

@@ -1,6 +1,6 @@
 use Rattle.std.proofs.Common.{◌+◌, ℕ, length, arith, ap, ◌∙◌}
 use Rattle.nv_entry.specs.Submission.{slba_of}
-use Rattle.nv_moves.specs.Flat.{flat, moved_of}
+use Rattle.nv_disk.specs.Flat.{flat, moved_of}
 use Rattle.nv_device.proofs.UnitLemmas.{clear-there, clear-unit, same-clear}
 use Rattle.nv_device.proofs.moving.clear_unit.Goals as goal
 

@@ -1,7 +1,7 @@
 use Rattle.std.proofs.Common.{false, ap, ◌∙◌}
 use Rattle.nv_entry.specs.declared.opcode.IoOpcode.TheVariants.{Flush}
 use Rattle.nv_model.specs.Carried.{block_work}
-use Rattle.nv_moves.specs.Flat.{flat, moved_of}
+use Rattle.nv_disk.specs.Flat.{flat, moved_of}
 use Rattle.nv_device.proofs.UnitLemmas.{keep-unit}
 use Rattle.nv_device.proofs.moving.keep_unit.Goals as goal
 

@@ -1,5 +1,5 @@
 use Rattle.std.proofs.Common.{length, ap, sym, ◌∙◌}
-use Rattle.nv_moves.specs.Flat.{flat, moved_of}
+use Rattle.nv_disk.specs.Flat.{flat, moved_of}
 use Rattle.nv_world_model.specs.Device.{range_at}
 use Rattle.nv_device.proofs.UnitLemmas.{deallocate-unit, leave-unit, memory-of, range-there}
 use Rattle.nv_device.proofs.moving.manage_unit.Goals as goal

@@ -1,5 +1,5 @@
 use Rattle.std.proofs.Common.{ap, sym, ◌∙◌}
-use Rattle.nv_moves.specs.Flat.{flat, moved_of}
+use Rattle.nv_disk.specs.Flat.{flat, moved_of}
 use Rattle.nv_device.proofs.UnitLemmas.{no-unit}
 use Rattle.nv_device.proofs.moving.move_one.Goals as goal
 

@@ -1,6 +1,6 @@
 use Rattle.std.proofs.Common.{refl, ap, sym, ◌∙◌}
 use Rattle.nv_entry.specs.declared.opcode.IoOpcode.TheVariants.{Read}
-use Rattle.nv_moves.specs.Flat.{flat, moved_of}
+use Rattle.nv_disk.specs.Flat.{flat, moved_of}
 use Rattle.nv_device.proofs.UnitLemmas.{same-move, transfer-unit}
 use Rattle.nv_device.proofs.moving.read_unit.Goals as goal
 

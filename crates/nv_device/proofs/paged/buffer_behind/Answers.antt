@@ -1,6 +1,6 @@
 use Rattle.std.proofs.Common.{◌^◌, List, ap, subst, sym, ◌∙◌}
 use Rattle.nv_mem.specs.Places.{Place, places_of}
-use Rattle.nv_moves.specs.Buffer.{AreBelow}
+use Rattle.nv_disk.specs.Buffer.{AreBelow}
 use Rattle.nv_device.proofs.PagedLemmas.{below-behind}
 use Rattle.nv_device.proofs.paged.buffer_behind.Goals as goal
 

@@ -1,6 +1,6 @@
 use Rattle.std.proofs.Common.{ℕ, List, ap, ◌∙◌}
 use Rattle.nv_entry.specs.Layout.{number_at}
-use Rattle.nv_moves.proofs.BufferLemmas.{bytes_at-from}
+use Rattle.nv_disk.proofs.BufferLemmas.{bytes_at-from}
 use Rattle.nv_device.proofs.pages.slot.Goals as goal
 
 pub returns : goal.returns

@@ -4,8 +4,8 @@ use Rattle.std.proofs.lemmas.List.Elements.{All-drop}
 use Rattle.nv_mem.specs.Places.{Place}
 use Rattle.nv_model.specs.Memory.{byte_in, gathered}
 use Rattle.nv_model.specs.Private.{differs}
-use Rattle.nv_moves.specs.Buffer.{AreBelow, IsBelow}
-use Rattle.nv_moves.proofs.ReadLemmas.{joined}
+use Rattle.nv_disk.specs.Buffer.{AreBelow, IsBelow}
+use Rattle.nv_disk.specs.Flat.{joined}
 use Rattle.nv_disk.proofs.RowLemmas.{compare-end, compare-row, row-bytes}
 use Rattle.nv_disk.proofs.moves.blocks_differ.Goals as goal
 

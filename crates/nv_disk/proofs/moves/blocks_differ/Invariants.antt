@@ -1,8 +1,8 @@
 use Rattle.std.proofs.Common.{◌≡◌, ◌+◌, ◌*◌, ◌≤◌, length, drop, take}
 use Rattle.nv_model.specs.Memory.{byte_in, gathered}
 use Rattle.nv_model.specs.Private.{differs}
-use Rattle.nv_moves.specs.Buffer.{AreBelow}
-use Rattle.nv_moves.proofs.ReadLemmas.{joined}
+use Rattle.nv_disk.specs.Buffer.{AreBelow}
+use Rattle.nv_disk.specs.Flat.{joined}
 use Rattle.nv_disk.proofs.moves.blocks_differ.Given as goal
 
 abbrev pub invariant-loop-left : goal.invariant-loop-left

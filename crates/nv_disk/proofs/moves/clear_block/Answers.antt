@@ -1,6 +1,6 @@
 use Rattle.std.proofs.Common.{ℕ, Bool, List, set, replicate, ap, ◌∙◌, arith}
-use Rattle.nv_moves.specs.Flat.{flat, moved_of}
-use Rattle.nv_moves.proofs.MoveLemmas.{cleared-set}
+use Rattle.nv_disk.specs.Flat.{flat, moved_of}
+use Rattle.nv_disk.proofs.MoveLemmas.{cleared-set}
 use Rattle.nv_disk.proofs.moves.clear_block.Goals as goal
 
 pub returns-clause-moved : goal.returns-clause-moved

@@ -1,7 +1,7 @@
 use Rattle.std.proofs.Common.{ℕ, List, [], take, length, refl, sym, ap, ◌∙◌}
 use Rattle.nv_model.specs.Memory.{byte_in, gathered}
 use Rattle.nv_model.specs.Private.{differs}
-use Rattle.nv_moves.proofs.MoveLemmas.{compare-moved}
+use Rattle.nv_disk.proofs.MoveLemmas.{compare-moved}
 use Rattle.nv_disk.proofs.moves.compare_block.Goals as goal
 
 pub returns-clause-moved : goal.returns-clause-moved

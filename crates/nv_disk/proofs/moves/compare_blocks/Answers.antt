@@ -1,5 +1,5 @@
 use Rattle.std.proofs.Common.{[], sym}
-use Rattle.nv_moves.proofs.ReadLemmas.{compare-moved_all, raised-same}
+use Rattle.nv_disk.proofs.ReadLemmas.{compare-moved_all, raised-same}
 use Rattle.nv_disk.proofs.moves.compare_blocks.Goals as goal
 
 pub returns-then-fua-clause-moved : goal.returns-then-fua-clause-moved

@@ -1,6 +1,6 @@
 use Rattle.std.proofs.Common.{ℕ, Bool, true, List, length, replicate, ap, ◌∙◌}
-use Rattle.nv_moves.specs.Flat.{flat, moved_of}
-use Rattle.nv_moves.proofs.UnitLemmas.{keep-all}
+use Rattle.nv_disk.specs.Flat.{flat, moved_of}
+use Rattle.nv_disk.proofs.UnitLemmas.{keep-all}
 use Rattle.nv_disk.proofs.moves.keep_all.Goals as goal
 
 pub returns-clause-moved : goal.returns-clause-moved

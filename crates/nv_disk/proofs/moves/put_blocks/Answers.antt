@@ -3,8 +3,8 @@ use Rattle.std.proofs.lemmas.List.{length-drop}
 use Rattle.std.proofs.lemmas.List.Elements.{All-drop}
 use Rattle.nv_mem.specs.Places.{Place}
 use Rattle.nv_model.specs.Memory.{byte_in}
-use Rattle.nv_moves.specs.Buffer.{AreBelow, IsBelow}
-use Rattle.nv_moves.proofs.ReadLemmas.{joined}
+use Rattle.nv_disk.specs.Buffer.{AreBelow, IsBelow}
+use Rattle.nv_disk.specs.Flat.{joined}
 use Rattle.nv_disk.proofs.RowLemmas.{put-end, put-row, row-bytes}
 use Rattle.nv_disk.proofs.moves.put_blocks.Goals as goal
 

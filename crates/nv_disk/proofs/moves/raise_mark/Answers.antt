@@ -1,7 +1,7 @@
 use Rattle.std.proofs.Common.{◌||◌, Bool, ap, ◌∙◌, sym}
 use Rattle.nv_model.specs.Private.{marked}
-use Rattle.nv_moves.specs.Marks.{mark_of}
-use Rattle.nv_moves.proofs.MoveLemmas.{marks-raised, marks-same}
+use Rattle.nv_disk.specs.Marks.{mark_of}
+use Rattle.nv_disk.proofs.MoveLemmas.{marks-raised, marks-same}
 use Rattle.nv_disk.proofs.moves.raise_mark.Goals as goal
 
 pub returns-then-fua-clause-marks : goal.returns-then-fua-clause-marks

@@ -1,6 +1,6 @@
 use Rattle.std.proofs.Common.{[], length, ap, sym, ◌∙◌}
 use Rattle.nv_model.specs.Memory.{byte_in, scattered}
-use Rattle.nv_moves.proofs.MoveLemmas.{read-moved}
+use Rattle.nv_disk.proofs.MoveLemmas.{read-moved}
 use Rattle.nv_disk.proofs.moves.read_block.Goals as goal
 
 pub returns-clause-moved : goal.returns-clause-moved

@@ -1,5 +1,5 @@
 use Rattle.std.proofs.Common.{[], sym}
-use Rattle.nv_moves.proofs.ReadLemmas.{raised-same, read-moved_all}
+use Rattle.nv_disk.proofs.ReadLemmas.{raised-same, read-moved_all}
 use Rattle.nv_disk.proofs.moves.read_blocks.Goals as goal
 
 pub returns-then-fua-clause-moved : goal.returns-then-fua-clause-moved

@@ -1,8 +1,8 @@
 use Rattle.std.proofs.Common.{ℕ, Bool, List, set, ap, ◌∙◌, refl, arith}
 use Rattle.nv_model.specs.Memory.{byte_in, gathered}
-use Rattle.nv_moves.specs.Flat.{flat, moved_of}
+use Rattle.nv_disk.specs.Flat.{flat, moved_of}
 use Rattle.std.proofs.Common.{take}
-use Rattle.nv_moves.proofs.MoveLemmas.{write-moved}
+use Rattle.nv_disk.proofs.MoveLemmas.{write-moved}
 use Rattle.nv_disk.proofs.moves.write_block.Goals as goal
 
 pub returns-clause-moved : goal.returns-clause-moved

@@ -1,6 +1,6 @@
 use Rattle.std.proofs.Common.{false, ap, ◌∙◌}
 use Rattle.nv_model.specs.Private.{Moved}
-use Rattle.nv_moves.specs.Flat.{moved_of}
+use Rattle.nv_disk.specs.Flat.{moved_of}
 use Rattle.nv_model.specs.Laws.{IsElsewhere}
 use Rattle.nv_model.proofs.UnitsElsewhere.{units-elsewhere}
 use Rattle.nv_flat.proofs.RunLemmas.{All-order, units-moved}

@@ -1,6 +1,6 @@
 use Rattle.std.proofs.Common.{false, ap, ◌∙◌}
 use Rattle.nv_model.specs.Private.{Moved}
-use Rattle.nv_moves.specs.Flat.{moved_of}
+use Rattle.nv_disk.specs.Flat.{moved_of}
 use Rattle.nv_model.proofs.UnitsElsewhere.{units-memory, units-memory_at}
 use Rattle.nv_flat.proofs.RunLemmas.{units-moved}
 use Rattle.nv_flat.proofs.laws.a_byte_outside_the_buffer_stays.Goals as goal

@@ -1,6 +1,6 @@
 use Rattle.std.proofs.Common.{false, ap, ◌∙◌}
 use Rattle.nv_model.specs.Private.{Moved, moved_status}
-use Rattle.nv_moves.specs.Flat.{moved_of}
+use Rattle.nv_disk.specs.Flat.{moved_of}
 use Rattle.nv_model.proofs.UnitsElsewhere.{units-differ}
 use Rattle.nv_flat.proofs.RunLemmas.{units-moved}
 use Rattle.nv_flat.proofs.laws.only_a_compare_fails.Goals as goal

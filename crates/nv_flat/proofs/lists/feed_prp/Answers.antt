@@ -2,7 +2,7 @@ use Rattle.std.proofs.Common.{◌≡◌, ℕ, List, ap, subst, ◌∙◌}
 use Rattle.nv_mem.specs.Bytes.{bytes_at}
 use Rattle.nv_model.specs.Transcript.{fed}
 use Rattle.nv_prp.specs.Parse.{dialogue_of}
-use Rattle.nv_moves.proofs.BufferLemmas.{bytes_at-from}
+use Rattle.nv_disk.proofs.BufferLemmas.{bytes_at-from}
 use Rattle.nv_flat.proofs.lists.feed_prp.Goals as goal
 
 pub returns : goal.returns

@@ -1,6 +1,6 @@
 use Rattle.std.proofs.Common.{◌≡◌, ◌+◌, ◌≤◌, ℕ, length, ap, ◌∙◌, arith}
 use Rattle.nv_model.specs.Memory.{byte_in, bytes_from}
-use Rattle.nv_moves.proofs.BufferLemmas.{bytes_at-from}
+use Rattle.nv_disk.proofs.BufferLemmas.{bytes_at-from}
 use Rattle.nv_world_model.specs.Area.{submission_slot}
 use Rattle.nv_world_model.specs.Device.{DeviceLane}
 use Rattle.nv_device.specs.Physical.{lane_of}

@@ -1,7 +1,7 @@
 use Rattle.std.proofs.Common.{◌≡◌, ◌<◌, Option, Some, None, length, set, sym, ap, subst, ◌∙◌, arith}
 use Rattle.std.specs.Prelude.{IfSome, MatchOption}
 use Rattle.std.specs.List.{slice_index_or}
-use Rattle.nv_moves.specs.Flat.{flat, moved_of}
+use Rattle.nv_disk.specs.Flat.{flat, moved_of}
 use Rattle.nv_world_model.specs.Device.{DeviceLane, Held, unit_gone, with_held}
 use Rattle.nv_device.specs.Moving.{IsMoved, unit_of}
 use Rattle.nv_device.specs.Physical.{held_at, lane_of}

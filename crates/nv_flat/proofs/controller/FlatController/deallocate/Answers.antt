@@ -1,7 +1,7 @@
 use Rattle.std.proofs.Common.{◌≡◌, ℕ, false, ap, ◌∙◌, arith}
 use Rattle.std.specs.List.{range_with_len}
 use Rattle.nv_entry.specs.Range.{blocks_of, start_of}
-use Rattle.nv_moves.specs.Flat.{moved_of}
+use Rattle.nv_disk.specs.Flat.{moved_of}
 use Rattle.nv_model.specs.Carrying.{cleared}
 use Rattle.nv_flat.proofs.DatasetLemmas.{IsDeallocating-end, IsDeallocating-fits, IsDeallocating-more}
 use Rattle.nv_flat.proofs.controller.FlatController.deallocate.Goals as goal

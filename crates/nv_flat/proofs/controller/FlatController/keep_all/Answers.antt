@@ -1,7 +1,7 @@
 use Rattle.std.proofs.Common.{false, length, ap, ◌∙◌}
 use Rattle.nv_model.specs.Judge.{KeepAll}
 use Rattle.nv_model.specs.Carried.{moved_on}
-use Rattle.nv_moves.specs.Flat.{Flat, moved_of}
+use Rattle.nv_disk.specs.Flat.{Flat, moved_of}
 use Rattle.nv_flat.proofs.controller.FlatController.keep_all.Goals as goal
 
 pub returns-clause-moved : goal.returns-clause-moved

@@ -9,8 +9,8 @@ use Rattle.nv_judge.proofs.RangeLemmas.{ranges-fit}
 use Rattle.nv_judge.specs.Ranges.{ranges_verdict}
 use Rattle.nv_mem.specs.Places.{Place, places_of}
 use Rattle.nv_model.specs.Judge.{range_count_of}
-use Rattle.nv_moves.specs.Buffer.{AreBelow}
-use Rattle.nv_moves.specs.Flat.{Flat}
+use Rattle.nv_disk.specs.Buffer.{AreBelow}
+use Rattle.nv_disk.specs.Flat.{Flat}
 use Rattle.nv_flat.specs.One.{IsRun}
 use Rattle.nv_judge.proofs.RangeLemmas.{ranges-fit}
 use Rattle.nv_flat.proofs.DatasetLemmas.{IsManaged, is-asked, managed, managed-deallocated, managed-kept, managed-refused}

@@ -4,7 +4,7 @@ use Rattle.nv_model.specs.Transcript.{fed}
 use Rattle.nv_prp.specs.Parse.{dialogue_of}
 use Rattle.nv_prp.proofs.Shown.{in_memory-fed}
 use Rattle.nv_flat.specs.Flat.{identity_map}
-use Rattle.nv_moves.specs.Flat.{Flat}
+use Rattle.nv_disk.specs.Flat.{Flat}
 use Rattle.nv_flat.specs.Listed.{IsPartThere, refusal_of_reading}
 use Rattle.nv_flat.proofs.ListLemmas.{IsReading-more, IsReading-there, reading-done, reading-fault, IsReading-start_prp}
 use Rattle.nv_flat.proofs.controller.FlatController.read_prp.Goals as goal

@@ -3,7 +3,7 @@ use Rattle.std.specs.List.{range_with_len}
 use Rattle.nv_entry.specs.Status.{StatusField}
 use Rattle.nv_entry.specs.Submission.{slba_of}
 use Rattle.nv_entry.specs.declared.opcode.IoOpcode.{IoOpcode}
-use Rattle.nv_moves.specs.Flat.{moved_of}
+use Rattle.nv_disk.specs.Flat.{moved_of}
 use Rattle.nv_model.specs.Carrying.{cleared}
 use Rattle.nv_flat.specs.One.{HasFieldsInOrder, IsRun}
 use Rattle.nv_flat.proofs.DoneLemmas.{flush-run, zeroes-run}

@@ -1,3 +1,0 @@
-pub mod Flat
-pub mod Buffer
-pub mod Marks
