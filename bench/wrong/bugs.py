@@ -61,7 +61,7 @@ ONCE = [
 
 # of the workers under threads, which tests alone see
 WORKERS = [
-    ("t0", "nv_threads", "src/planning.rt", "const LAST_QUEUE: u16 = 8;", "const LAST_QUEUE: u16 = 7;"),
+    ("t0", "nv_threads", "src/planning.rt", "        for step in 0..LAST_QUEUE {", "        for step in 0..LAST_QUEUE - 1 {"),
     ("t1", "nv_threads", "src/planning.rt", "                self.queue = queue;\n                return", "                return"),
     ("t2", "nv_threads", "src/planning.rt", "            _ => Turn::Nothing,\n        }\n    }\n\n    // The job of a tag as it stands.", "            _ => {\n                self.task = Task::Search(0);\n                Turn::Nothing\n            }\n        }\n    }\n\n    // The job of a tag as it stands."),
     ("t3", "nv_threads", "src/planning.rt", "            Planned::Need(job, addr, len) => Task::Read(job.tag, addr, len),", "            Planned::Need(job, _, _) => Task::GiveUp(job.tag),"),
@@ -81,7 +81,7 @@ WORKERS = [
     ("t17", "nv_threads", "src/device_side.rt", "        let concern = done(self.share.step(world, alloc, event), concern)?;\n        self.units[usize::from(self.slot)] = next;\n        Some(concern)", "        let concern = done(self.share.step(world, alloc, event), concern);\n        self.units[usize::from(self.slot)] = next;\n        concern"),
     ("t18", "nv_threads", "src/device_side.rt", "            _ => (0, Concern::reaper(self.lane)),", "            _ => (1, Concern::reaper(self.lane)),"),
     ("t19", "nv_threads", "src/device_side.rt", "            self.held = true;\n            return done(", "            return done("),
-    ("t20", "nv_threads", "src/device_side.rt", "        for _ in 0..SLOTS {", "        for _ in 0..1 {"),
+    ("t20", "nv_threads", "src/device_side.rt", "        for _ in 0..TAGS {", "        for _ in 0..1 {"),
     ("t21", "nv_threads", "src/device_side.rt", "        self.held = false;\n        self.thorough = false;\n        None", "        None"),
     ("t22", "nv_threads", "src/device_side.rt", "        self.earlier = self.earlier.saturating_add(1);\n        self.held = true;", "        self.earlier = self.earlier.saturating_add(1);"),
     ("t23", "nv_threads", "src/device_side.rt", "                return self.carry_out(&mut locked.world, alloc, event);\n            }\n        }\n        let take", "                let _ = self.carry_out(&mut locked.world, alloc, event);\n                return self.turn_to_another(locked, alloc);\n            }\n        }\n        let take"),

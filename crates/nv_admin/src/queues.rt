@@ -17,16 +17,8 @@ use crate::fields;
 use crate::outcome::Outcome;
 use nv_entry::{Sqe, StatusCode};
 use nv_mem::{GuestMap, PAGE_SIZE};
-use nv_vctl::{LAST_QUEUE, Vctl};
-
-/// The most slots of a queue, as CAP.MQES says.
-const MOST_SLOTS: u16 = 1024;
-
-/// The bytes of a submission queue entry.
-const SQE_SIZE: u64 = 64;
-
-/// The bytes of a completion queue entry.
-const CQE_SIZE: u64 = 16;
+use nv_model::limits::{CQE_SIZE, LAST_QUEUE, MOST_SLOTS, SQE_SIZE};
+use nv_vctl::Vctl;
 
 /// Create I/O Submission Queue.
 pub(crate) fn create_submission_queue(

@@ -22,6 +22,5 @@ pub use bring_up::{
 pub use entry::{Fields, bytes_of};
 pub use random::Random;
 pub use set_up::{
-    BLOCKS, DISK, LIMIT, MEDIATOR, MEMORY, Span, TAGS, extents_of, guest_at, guest_of, region,
-    setup_of,
+    BLOCKS, DISK, LIMIT, MEDIATOR, MEMORY, Span, extents_of, guest_at, guest_of, region, setup_of,
 };

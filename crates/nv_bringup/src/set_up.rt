@@ -5,6 +5,7 @@ ghost use Rattle.nv_bringup.specs.declared.set_up.Span.{Span};
 
 use nv_mediator::{Extent, GuestSetup, Setup};
 use nv_mem::{GuestMap, Region};
+use nv_model::limits::MOST_DESCRIPTORS;
 use std::alloc::{AllocError, Global};
 
 /// How many bytes a region of a guest's memory has: 128 KiB.
@@ -19,11 +20,8 @@ pub const DISK: u64 = 4096;
 /// The host address at which the mediator's area begins.
 pub const MEDIATOR: u64 = 0x40_0000;
 
-/// How many tags a lane has.
-pub const TAGS: u8 = 64;
-
-/// The most descriptors of a list.
-pub const LIMIT: u32 = 1024;
+/// The most descriptors of a list of a guest.
+pub const LIMIT: u32 = MOST_DESCRIPTORS;
 
 /// Blocks of the disk in a row: so many from that one on.
 #[derive(Clone, Copy)]

@@ -7,10 +7,8 @@ ghost use Rattle.nv_c.specs.Tables.{extents_of, given, regions_of, setup_of};
 use crate::status;
 use nv_mediator::{Extent as OneExtent, GuestSetup, Setup};
 use nv_mem::{GuestMap, NoMemory, Region as OneRegion};
+use nv_model::limits::MOST_GUESTS;
 use std::alloc::Global;
-
-// How many guests there may be.
-const MOST_GUESTS: usize = 16;
 
 /// The sizes of a set-up: C's `nvmed_sizes`.
 #[repr(C)]
@@ -64,7 +62,7 @@ pub(crate) fn setup_of(
     ensures ok { IfOk result (λ setup. setup ≡ setup_of sizes.now limits.now regions.now extents.now) }
     ensures err { IfErr result (λ answer. IsRefused (setup_of sizes.now limits.now regions.now extents.now) answer) }
 {
-    if limits.len() > MOST_GUESTS {
+    if limits.len() > MOST_GUESTS as usize {
         return Err(status::TOO_MANY_GUESTS);
     }
     let mut guests = Vec::new(alloc);

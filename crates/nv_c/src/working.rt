@@ -10,18 +10,10 @@ ghost use Rattle.nv_world_model.specs.Due.{due};
 use crate::event::byte;
 use crate::reading::{give_up, read_lists};
 use nv_mediator::{Holder, Mediator};
+use nv_model::limits::{LAST_QUEUE, MOST_GUESTS, MOST_LANES, TAGS};
 use nv_plan::{Job, Plan, Planned, make_plan};
 use nv_world_model::Event;
 use std::alloc::Global;
-
-/// How many guests there may be, and lanes.
-const GUESTS: u8 = 16;
-
-const LANES: u8 = 8;
-/// How many tags a lane has, and how many slots.
-const TAGS: u8 = 64;
-/// The highest number of a guest's I/O queue; the lowest is 1.
-const LAST_QUEUE: u16 = 8;
 
 /// Of whom what is due is carried out.
 #[derive(Clone, Copy)]
@@ -52,7 +44,7 @@ impl Scope {
 }
 
 /// How many guests and lanes there may be, in a row.
-const PARTIES: u8 = GUESTS + LANES;
+const PARTIES: u8 = MOST_GUESTS + MOST_LANES;
 
 /// How many events a guest gets in a row, at most, while another guest or a lane has something, too.
 pub(crate) const TURN: u64 = 64;
@@ -113,7 +105,7 @@ impl Last {
 
     // Notes whom the search begins with: after a guest's whole turn the next one. What a lane has to do ends by itself.
     fn go_round(&mut self) {
-        if self.party < GUESTS && self.events >= TURN {
+        if self.party < MOST_GUESTS && self.events >= TURN {
             self.party = self.party.wrapping_add(1) % PARTIES;
             self.events = 0;
         }
@@ -301,10 +293,10 @@ fn next_among(alloc: Global, mediator: &Mediator, from: u8, to: u8, last: &mut L
 fn next_of_one(alloc: Global, mediator: &Mediator, number: u8, last: &mut Last) -> Choice
     ensures { IsChoice Scope.All mediator.now (PartyRests mediator.now number) result }
 {
-    if number < GUESTS {
+    if number < MOST_GUESTS {
         next_of_guest(alloc, mediator, number)
     } else {
-        next_of_lane(mediator, number - GUESTS, last)
+        next_of_lane(mediator, number - MOST_GUESTS, last)
     }
 }
 

@@ -1,11 +1,9 @@
 //! Tests of memory maps: what is refused, what is held, and the longest runs.
 
-use nv_mem::{GuestMap, MapError, NoMemory, Region};
+use nv_mem::{GuestMap, MapError, NoMemory, PAGE_SIZE, Region};
 use std::alloc::Global;
 use std::process::Abort;
 use std::test::Fail;
-
-const PAGE: u64 = 0x1000;
 
 const MAX: u64 = u64::MAX;
 
@@ -20,7 +18,7 @@ macro_rules! region {
 }
 
 /// The first page of a guest at the first page of the host.
-const FIRST: Region = region!(0, 0, PAGE);
+const FIRST: Region = region!(0, 0, PAGE_SIZE);
 
 /// The length of a host, regions, and why there is no map of them.
 const REFUSALS: &[(u64, &[Region], Option<MapError>)] = &[
@@ -28,8 +26,8 @@ const REFUSALS: &[(u64, &[Region], Option<MapError>)] = &[
         0x3000,
         &[
             FIRST,
-            region!(0x1000, 0x1000, PAGE),
-            region!(0x2000, 0x2000, PAGE),
+            region!(0x1000, 0x1000, PAGE_SIZE),
+            region!(0x2000, 0x2000, PAGE_SIZE),
         ],
         None,
     ),
@@ -38,8 +36,8 @@ const REFUSALS: &[(u64, &[Region], Option<MapError>)] = &[
         0x9000,
         &[
             FIRST,
-            region!(0x1000, 0x8000, PAGE),
-            region!(0x8000, 0x1000, PAGE),
+            region!(0x1000, 0x8000, PAGE_SIZE),
+            region!(0x8000, 0x1000, PAGE_SIZE),
         ],
         None,
     ),
@@ -48,7 +46,7 @@ const REFUSALS: &[(u64, &[Region], Option<MapError>)] = &[
         0x3000,
         &[
             FIRST,
-            region!(0x1000, 0x1000, PAGE),
+            region!(0x1000, 0x1000, PAGE_SIZE),
             region!(0x2000, 0x2000, 0),
         ],
         Some(MapError::Unaligned),
@@ -57,8 +55,8 @@ const REFUSALS: &[(u64, &[Region], Option<MapError>)] = &[
         0x3000,
         &[
             FIRST,
-            region!(0x1001, 0x1000, PAGE),
-            region!(0x2000, 0x2000, PAGE),
+            region!(0x1001, 0x1000, PAGE_SIZE),
+            region!(0x2000, 0x2000, PAGE_SIZE),
         ],
         Some(MapError::Unaligned),
     ),
@@ -66,8 +64,8 @@ const REFUSALS: &[(u64, &[Region], Option<MapError>)] = &[
         0x3000,
         &[
             FIRST,
-            region!(0x1000, 0x1800, PAGE),
-            region!(0x2000, 0x2000, PAGE),
+            region!(0x1000, 0x1800, PAGE_SIZE),
+            region!(0x2000, 0x2000, PAGE_SIZE),
         ],
         Some(MapError::Unaligned),
     ),
@@ -76,7 +74,7 @@ const REFUSALS: &[(u64, &[Region], Option<MapError>)] = &[
         &[
             FIRST,
             region!(0x1000, 0x1000, 0xfff),
-            region!(0x2000, 0x2000, PAGE),
+            region!(0x2000, 0x2000, PAGE_SIZE),
         ],
         Some(MapError::Unaligned),
     ),
@@ -86,7 +84,7 @@ const REFUSALS: &[(u64, &[Region], Option<MapError>)] = &[
         &[
             FIRST,
             region!(0x1000, 0x1000, 0x2000),
-            region!(0x2000, 0x8000, PAGE),
+            region!(0x2000, 0x8000, PAGE_SIZE),
         ],
         Some(MapError::Overlap),
     ),
@@ -95,7 +93,7 @@ const REFUSALS: &[(u64, &[Region], Option<MapError>)] = &[
         &[
             FIRST,
             region!(0x1000, 0x1000, 0x2000),
-            region!(0x8000, 0x2000, PAGE),
+            region!(0x8000, 0x2000, PAGE_SIZE),
         ],
         Some(MapError::Overlap),
     ),
@@ -103,8 +101,8 @@ const REFUSALS: &[(u64, &[Region], Option<MapError>)] = &[
         0x9000,
         &[
             FIRST,
-            region!(0x1000, 0x1000, PAGE),
-            region!(0x8000, 0, PAGE),
+            region!(0x1000, 0x1000, PAGE_SIZE),
+            region!(0x8000, 0, PAGE_SIZE),
         ],
         Some(MapError::Overlap),
     ),
@@ -112,14 +110,14 @@ const REFUSALS: &[(u64, &[Region], Option<MapError>)] = &[
         0x9000,
         &[
             region!(0, 0, 0x4000),
-            region!(0x8000, 0x8000, PAGE),
-            region!(0x1000, 0x5000, PAGE),
+            region!(0x8000, 0x8000, PAGE_SIZE),
+            region!(0x1000, 0x5000, PAGE_SIZE),
         ],
         Some(MapError::Overlap),
     ),
     (
         0x9000,
-        &[FIRST, region!(0x1000, 0x1000, PAGE), FIRST],
+        &[FIRST, region!(0x1000, 0x1000, PAGE_SIZE), FIRST],
         Some(MapError::Overlap),
     ),
     // out of the host
@@ -127,8 +125,8 @@ const REFUSALS: &[(u64, &[Region], Option<MapError>)] = &[
         0x2fff,
         &[
             FIRST,
-            region!(0x1000, 0x1000, PAGE),
-            region!(0x2000, 0x2000, PAGE),
+            region!(0x1000, 0x1000, PAGE_SIZE),
+            region!(0x2000, 0x2000, PAGE_SIZE),
         ],
         Some(MapError::OutsideHost),
     ),
@@ -136,8 +134,8 @@ const REFUSALS: &[(u64, &[Region], Option<MapError>)] = &[
         0x3000,
         &[
             FIRST,
-            region!(0x1000, 0x1000, PAGE),
-            region!(0x2000, MAX - 0xfff, PAGE),
+            region!(0x1000, 0x1000, PAGE_SIZE),
+            region!(0x2000, MAX - 0xfff, PAGE_SIZE),
         ],
         Some(MapError::OutsideHost),
     ),
@@ -145,8 +143,8 @@ const REFUSALS: &[(u64, &[Region], Option<MapError>)] = &[
         0,
         &[
             FIRST,
-            region!(0x1000, 0x1000, PAGE),
-            region!(0x2000, 0x2000, PAGE),
+            region!(0x1000, 0x1000, PAGE_SIZE),
+            region!(0x2000, 0x2000, PAGE_SIZE),
         ],
         Some(MapError::OutsideHost),
     ),
@@ -155,8 +153,8 @@ const REFUSALS: &[(u64, &[Region], Option<MapError>)] = &[
         0x3000,
         &[
             FIRST,
-            region!(0x1000, 0x1000, PAGE),
-            region!(MAX - 0xfff, 0x2000, PAGE),
+            region!(0x1000, 0x1000, PAGE_SIZE),
+            region!(MAX - 0xfff, 0x2000, PAGE_SIZE),
         ],
         None,
     ),
@@ -164,7 +162,7 @@ const REFUSALS: &[(u64, &[Region], Option<MapError>)] = &[
         0x9000,
         &[
             FIRST,
-            region!(0x1000, 0x1000, PAGE),
+            region!(0x1000, 0x1000, PAGE_SIZE),
             region!(MAX - 0xfff, 0x2000, 0x2000),
         ],
         Some(MapError::OutsideHost),
@@ -177,7 +175,7 @@ const REFUSALS: &[(u64, &[Region], Option<MapError>)] = &[
     ),
     (
         0x1000,
-        &[FIRST, region!(0x8000, 0x8000, PAGE), FIRST],
+        &[FIRST, region!(0x8000, 0x8000, PAGE_SIZE), FIRST],
         Some(MapError::Overlap),
     ),
     (
@@ -185,7 +183,7 @@ const REFUSALS: &[(u64, &[Region], Option<MapError>)] = &[
         &[
             FIRST,
             region!(0x8000, 0x8000, 0),
-            region!(MAX - 0xfff, 0x8000, PAGE),
+            region!(MAX - 0xfff, 0x8000, PAGE_SIZE),
         ],
         Some(MapError::Unaligned),
     ),
@@ -193,8 +191,8 @@ const REFUSALS: &[(u64, &[Region], Option<MapError>)] = &[
         MAX,
         &[
             FIRST,
-            region!(0x1000, MAX - 0x1fff, PAGE),
-            region!(0x2000, 0x2000, PAGE),
+            region!(0x1000, MAX - 0x1fff, PAGE_SIZE),
+            region!(0x2000, 0x2000, PAGE_SIZE),
         ],
         None,
     ),
@@ -235,11 +233,11 @@ fn map_of(alloc: Global, host_len: u64, regions: &[Region]) -> Result<GuestMap, 
 /// touches the second in the guest alone, the fourth touches the third in the host alone, the fifth
 /// ends at 2 to the 64.
 const FIVE: &[Region] = &[
-    region!(0x8000, 0x3000, PAGE),
-    region!(0x3000, 0xa000, PAGE),
-    region!(MAX - 0xfff, 0, PAGE),
+    region!(0x8000, 0x3000, PAGE_SIZE),
+    region!(0x3000, 0xa000, PAGE_SIZE),
+    region!(MAX - 0xfff, 0, PAGE_SIZE),
     region!(0x1000, 0x8000, 0x2000),
-    region!(0x4000, 0x2000, PAGE),
+    region!(0x4000, 0x2000, PAGE_SIZE),
 ];
 
 fn five(alloc: Global) -> Result<GuestMap, Fail> {
@@ -254,10 +252,10 @@ const HELD: &[(u64, u64, bool)] = &[
     (0x0fff, 2, false),
     (0x4fff, 1, true),
     (0x4fff, 2, false),
-    (0x8000, PAGE, true),
+    (0x8000, PAGE_SIZE, true),
     // the first and the last byte are mapped, and those between are not
     (0x4000, 0x5000, false),
-    (MAX - 0xfff, PAGE, true),
+    (MAX - 0xfff, PAGE_SIZE, true),
     (MAX - 0x1000, 0x1001, false),
     (MAX, 1, true),
     (MAX, 2, false),
@@ -290,10 +288,10 @@ const RUNS: &[(u64, u64, Option<(u64, u64)>)] = &[
     (0x3fff, 2, Some((0xafff, 1))),
     // up to an address that is not mapped, though the host goes on in another region
     (0x4800, 0x5000, Some((0x2800, 0x800))),
-    (0x8000, MAX, Some((0x3000, PAGE))),
+    (0x8000, MAX, Some((0x3000, PAGE_SIZE))),
     (MAX, 1, Some((0xfff, 1))),
     (MAX, MAX, Some((0xfff, 1))),
-    (MAX - 0xfff, MAX, Some((0, PAGE))),
+    (MAX - 0xfff, MAX, Some((0, PAGE_SIZE))),
     (0, 1, None),
     (0xfff, MAX, None),
     (0x5000, 1, None),
@@ -317,14 +315,14 @@ fn runs_as_far_as_guest_and_host_go_on(rt: HostRuntime) -> Result<(), Fail> {
 fn sixty_four(alloc: Global) -> Result<Vec<Region>, NoMemory> {
     let mut regions = Vec::new(alloc);
     for i in 0..64u64 {
-        let at = (63 - i) * PAGE;
-        regions.push(region!(at, at + PAGE, PAGE))?;
+        let at = (63 - i) * PAGE_SIZE;
+        regions.push(region!(at, at + PAGE_SIZE, PAGE_SIZE))?;
     }
     Ok(regions)
 }
 
 fn map_of_sixty_four(alloc: Global) -> Result<GuestMap, Fail> {
-    map_of(alloc, 65 * PAGE, &sixty_four(alloc)?)
+    map_of(alloc, 65 * PAGE_SIZE, &sixty_four(alloc)?)
 }
 
 fn is_map_of(map: &GuestMap, host_len: u64, regions: &[Region]) -> bool {
@@ -335,28 +333,28 @@ fn is_map_of(map: &GuestMap, host_len: u64, regions: &[Region]) -> bool {
 fn are_told(alloc: Global, map: &GuestMap) -> Result<bool, NoMemory> {
     let regions = sixty_four(alloc)?;
     let clone = map.try_clone(alloc)?;
-    Ok(is_map_of(map, 65 * PAGE, &regions) && is_map_of(&clone, 65 * PAGE, &regions))
+    Ok(is_map_of(map, 65 * PAGE_SIZE, &regions) && is_map_of(&clone, 65 * PAGE_SIZE, &regions))
 }
 
 #[test]
 fn takes_sixty_four_regions(rt: HostRuntime) -> Result<(), Fail> {
     let map = map_of_sixty_four(rt.alloc())?;
     assert!(rt; are_told(rt.alloc(), &map)?);
-    assert!(rt; map.holds(0, 64 * PAGE) && !map.holds(0, 64 * PAGE + 1));
-    assert!(rt; map.run(1, MAX) == Some((PAGE + 1, 64 * PAGE - 1)));
+    assert!(rt; map.holds(0, 64 * PAGE_SIZE) && !map.holds(0, 64 * PAGE_SIZE + 1));
+    assert!(rt; map.run(1, MAX) == Some((PAGE_SIZE + 1, 64 * PAGE_SIZE - 1)));
     Ok(())
 }
 
 // The host address of a guest address in a map of pages that lie in pairs, a page apart: those of every other pair touch in guest and
 // host, those of the pairs between in the guest alone, since they lie the other way round in the host.
 fn paired_at(addr: u64) -> Option<u64> {
-    let pair = addr / PAGE / 3;
-    let of_pair = addr / PAGE % 3;
+    let pair = addr / PAGE_SIZE / 3;
+    let of_pair = addr / PAGE_SIZE % 3;
     if of_pair == 2 {
         return None;
     }
     let in_host = if pair % 2 == 0 { of_pair } else { 1 - of_pair };
-    Some((2 * (pair % 0x1000) + in_host) * PAGE + addr % PAGE)
+    Some((2 * (pair % 0x1000) + in_host) * PAGE_SIZE + addr % PAGE_SIZE)
 }
 
 // That many pages in pairs, in no order.
@@ -364,8 +362,8 @@ fn paired(alloc: Global, count: u64) -> Result<Vec<Region>, NoMemory> {
     let mut regions = Vec::new(alloc);
     for i in 0..count.min(0x1000) {
         let page = i * 37 % count;
-        let guest = (page / 2 % 0x1000 * 3 + page % 2) * PAGE;
-        regions.push(region!(guest, paired_at(guest).unwrap_or(0), PAGE))?;
+        let guest = (page / 2 % 0x1000 * 3 + page % 2) * PAGE_SIZE;
+        regions.push(region!(guest, paired_at(guest).unwrap_or(0), PAGE_SIZE))?;
     }
     Ok(regions)
 }
@@ -373,8 +371,8 @@ fn paired(alloc: Global, count: u64) -> Result<Vec<Region>, NoMemory> {
 // Whether the map has the first and the last byte of each page where they are to lie, as far as its pairs reach.
 fn has_each_page_in_place(map: &GuestMap, pages: u64) -> bool {
     (0..pages.min(0x1000)).all(|page| {
-        let first = page * PAGE;
-        let last = first + (PAGE - 1);
+        let first = page * PAGE_SIZE;
+        let last = first + (PAGE_SIZE - 1);
         has_byte_in_place(map, first) && has_byte_in_place(map, last)
     })
 }
@@ -446,7 +444,9 @@ fn finds_more_than_sixty_four_regions_in_no_order(rt: HostRuntime) -> Result<(),
 
 // Whether the map of 64 pages meets the host in all but its first page.
 fn meets_all_but_the_first_page(map: &GuestMap) -> bool {
-    !map.meets_host(0, PAGE) && map.meets_host(0, PAGE + 1) && !map.meets_host(PAGE, 0)
+    !map.meets_host(0, PAGE_SIZE)
+        && map.meets_host(0, PAGE_SIZE + 1)
+        && !map.meets_host(PAGE_SIZE, 0)
 }
 
 // Whether the map of 64 pages meets the map of the host's last page, and neither meets that of the
@@ -459,8 +459,12 @@ fn meets_the_last_page_alone(map: &GuestMap, last: &GuestMap, first: &GuestMap) 
 fn meets_what_has_a_byte_in_common(rt: HostRuntime) -> Result<(), Fail> {
     let map = map_of_sixty_four(rt.alloc())?;
     assert!(rt; meets_all_but_the_first_page(&map));
-    let last = map_of(rt.alloc(), 65 * PAGE, &[region!(0, 64 * PAGE, PAGE)])?;
-    let first = map_of(rt.alloc(), 65 * PAGE, &[FIRST])?;
+    let last = map_of(
+        rt.alloc(),
+        65 * PAGE_SIZE,
+        &[region!(0, 64 * PAGE_SIZE, PAGE_SIZE)],
+    )?;
+    let first = map_of(rt.alloc(), 65 * PAGE_SIZE, &[FIRST])?;
     assert!(rt; meets_the_last_page_alone(&map, &last, &first));
     Ok(())
 }

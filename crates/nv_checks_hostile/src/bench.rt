@@ -64,9 +64,6 @@ pub fn spans_of(guest: u8) -> &'static [Span] {
     }
 }
 
-/// How many bytes of the mediator's area are a lane's.
-pub const LANE_AREA: u64 = 2115 * 4096;
-
 /// How many bytes the host has.
 const HOST: u64 = 0x200_0000;
 

@@ -4,6 +4,7 @@ use crate::bench::{HONEST, behind, completion_at, entry_at};
 use crate::runs::Runs;
 use nv_bringup::{Fields, HEAD, Random, SLOTS, TAIL, bytes_of};
 use nv_entry::Cqe;
+use nv_mem::PAGE_SIZE;
 use nv_world_model::Event;
 
 /// How many commands there may be at once.
@@ -11,8 +12,6 @@ const AREAS: u16 = 4;
 
 /// How many pages of data a command has.
 const PAGES: u64 = 3;
-
-const PAGE: u64 = 4096;
 
 /// Opcodes of transfers: Write, Read and Compare; and what PSDT adds to them where the list is an SGL.
 const TRANSFERS: [u32; 3] = [1, 2, 5];
@@ -127,7 +126,7 @@ impl Busy {
         }
         let data = u64::from(Area::of(completion.cid()).data);
         for page in 0..PAGES {
-            runs.load(HONEST, data + PAGE * page, PAGE);
+            runs.load(HONEST, data + PAGE_SIZE * page, PAGE_SIZE);
         }
         if completion.status().is_success() {
             self.succeeded = self.succeeded.wrapping_add(1);
@@ -212,7 +211,11 @@ fn transfer(runs: &mut Runs, random: &mut Random, area: Area) -> Fields {
     let opcode = random.among(&TRANSFERS);
     if opcode != COMPARE {
         for page in 0..PAGES {
-            runs.fill(HONEST, u64::from(area.data) + PAGE * page, random.byte());
+            runs.fill(
+                HONEST,
+                u64::from(area.data) + PAGE_SIZE * page,
+                random.byte(),
+            );
         }
     }
     let (list, data, nlb) = listed(runs, random, area);

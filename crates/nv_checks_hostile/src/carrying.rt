@@ -2,7 +2,7 @@
 
 use crate::runs::Runs;
 use crate::tags::Tag;
-use nv_bringup::TAGS;
+use nv_model::limits::TAGS;
 use nv_plan::{Planned, make_plan};
 use nv_world_model::Event;
 

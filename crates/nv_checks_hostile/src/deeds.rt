@@ -1,12 +1,13 @@
 //! What a guest that does as it pleases does, step by step, with what comes of it.
 
-use crate::bench::{HOSTILE, LANE_AREA, entry_at};
+use crate::bench::{HOSTILE, entry_at};
 use crate::honest::Honest;
 use crate::runs::Runs;
 use crate::tags::Tag;
 use nv_bringup::{CC, MEDIATOR, bytes_of};
 use nv_entry::Status;
 use nv_model::Reply;
+use nv_model::limits::{LANE_SIZE, PAGE_SIZE, RING_PAGES, RING_SLOTS, SQE_SIZE, TAG_PAGES};
 use nv_world_model::Event;
 use std::process::Abort;
 
@@ -168,7 +169,7 @@ fn handle(runs: &mut Runs, tag: Tag, deed: Deed) {
 // The device takes what is in the lane, until it has taken the command.
 fn until_taken(runs: &mut Runs, tag: Tag) {
     let first = Event::DevMove(tag.lane, tag.number, 0);
-    for _ in 0..65 {
+    for _ in 0..RING_SLOTS {
         if !runs.both.due(&first) {
             runs.play(Event::DevTake(tag.lane));
         }
@@ -178,7 +179,7 @@ fn until_taken(runs: &mut Runs, tag: Tag) {
 // What the device has posted is reaped, until the command has ended.
 fn until_ended(runs: &mut Runs, tag: Tag) {
     let post = Event::Post(tag.lane, tag.number);
-    for _ in 0..65 {
+    for _ in 0..RING_SLOTS {
         if !runs.both.due(&post) {
             runs.play(Event::Reap(tag.lane));
         }
@@ -193,12 +194,12 @@ fn shows(runs: &Runs, tag: Tag, deed: Deed) -> bool {
         Deed::Shows(_, byte) => runs.has_told(&[byte; 512]),
         Deed::Prps(slot, prp1, prp2) => {
             let prps = u128::from(prp1) | u128::from(prp2) << 64;
-            let addr = MEDIATOR + 64 * (slot % 65) + 24;
+            let addr = MEDIATOR + SQE_SIZE * (slot % u64::from(RING_SLOTS)) + 24;
             runs.host_shows(addr, &prps.to_le_bytes())
         }
         Deed::Bounce(byte) => {
-            let page = 4 + 33 * u64::from(tag.number);
-            let addr = MEDIATOR + LANE_AREA * u64::from(tag.lane) + 4096 * page;
+            let page = RING_PAGES + TAG_PAGES * u64::from(tag.number) + 1;
+            let addr = MEDIATOR + LANE_SIZE * u64::from(tag.lane) + PAGE_SIZE * page;
             runs.host_shows(addr, &[byte; 512])
         }
         _ => true,

@@ -3,9 +3,7 @@
 
 use nv_bringup::{BLOCKS, Span};
 use nv_entry::{IoOpcode, Sqe};
-
-/// The most blocks of a transfer.
-const MOST: u64 = 256;
+use nv_model::limits::MOST_COMMAND_BLOCKS;
 
 /// How many tags a command takes of a guest with these extents.
 pub fn tags_of(sqe: &Sqe, spans: &[Span]) -> u8 {
@@ -21,7 +19,7 @@ pub fn tags_of(sqe: &Sqe, spans: &[Span]) -> u8 {
         IoOpcode::WriteZeroes => met(sqe, spans),
         IoOpcode::DatasetManagement if has_list => spans.len().min(8) as u8,
         IoOpcode::Read | IoOpcode::Write | IoOpcode::Compare
-            if has_list && u64::from(sqe.nlb()) < MOST => { met(sqe, spans) }
+            if has_list && u32::from(sqe.nlb()) < MOST_COMMAND_BLOCKS => { met(sqe, spans) }
         _ => 1,
     }
 }

@@ -5,15 +5,12 @@ use crate::bench::{
 };
 use crate::tags::{Own, Tags};
 use nv_bringup::{BRING_UP, MEMORY, Span, act_of};
-use nv_mem::{BoxedBytes, Host, NoMemory};
+use nv_mem::{BoxedBytes, Host, NoMemory, PAGE_SIZE};
 use nv_model::{Act, Reply};
 use nv_world::World;
 use nv_world_model::Event;
 use std::alloc::Global;
 use std::process::Abort;
-
-/// How many bytes a page has.
-const PAGE: u64 = 4096;
 
 /// Three worlds: each event is carried out in one, and in that of its guest, too, where the other guest does nothing.
 #[derive(Drop)]
@@ -95,7 +92,7 @@ impl Runs {
 
     /// A guest stores a page of this byte.
     pub fn fill(&mut self, guest: u8, addr: u64, byte: u8) {
-        self.store(guest, addr, &[byte; PAGE as usize]);
+        self.store(guest, addr, &[byte; PAGE_SIZE as usize]);
     }
 
     /// A guest loads bytes.
@@ -225,8 +222,8 @@ fn are_same_blocks(one: &World, other: &World, span: Span) -> bool {
 
 // Whether a region of the hosts' memory is the same.
 fn is_same_memory(one: &Host, other: &Host, image: u64) -> bool {
-    (0..MEMORY / PAGE).all(|page| {
-        let addr = image.wrapping_add(page.wrapping_mul(PAGE));
+    (0..MEMORY / PAGE_SIZE).all(|page| {
+        let addr = image.wrapping_add(page.wrapping_mul(PAGE_SIZE));
         is_same_page(one, other, addr)
     })
 }
@@ -241,8 +238,8 @@ fn is_same_block(one: &World, other: &World, block: u64) -> bool {
 
 // Whether a page of the hosts' memory is the same.
 fn is_same_page(one: &Host, other: &Host, addr: u64) -> bool {
-    let mut bytes = [0; PAGE as usize];
-    if !one.holds(addr, PAGE) || !other.holds(addr, PAGE) {
+    let mut bytes = [0; PAGE_SIZE as usize];
+    if !one.holds(addr, PAGE_SIZE) || !other.holds(addr, PAGE_SIZE) {
         return false;
     }
     one.load(addr, &mut bytes);

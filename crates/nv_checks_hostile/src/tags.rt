@@ -2,9 +2,9 @@
 
 use crate::bench::{HONEST, spans_of};
 use crate::parts::tags_of;
-use nv_bringup::TAGS;
 use nv_mem::NoMemory;
 use nv_model::Reply;
+use nv_model::limits::TAGS;
 use nv_world::World;
 use nv_world_model::{Event, Logged};
 use std::alloc::Global;

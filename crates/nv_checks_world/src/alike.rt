@@ -6,11 +6,9 @@ use crate::commands::{ROWS, Row, TABLES, entry};
 use nv_bringup::{BLOCKS, DISK, MEMORY, SLOTS, Span};
 use nv_entry::{Cqe, Sqe, Status, StatusCode};
 use nv_flat::FlatController;
+use nv_mem::PAGE_SIZE;
 use std::alloc::Global;
 use std::process::Abort;
-
-/// A page of memory, and the pages of the queues.
-const PAGE: u64 = 4096;
 
 const FIRST_QUEUE: u64 = 0x1_0000;
 
@@ -80,8 +78,8 @@ impl Pair {
 
     // Whether a page of memory is the same.
     fn is_same_page(&self, addr: u64) -> bool {
-        let mut bytes = [0; 4096];
-        if !self.flat.holds(addr, PAGE) {
+        let mut bytes = [0; PAGE_SIZE as usize];
+        if !self.flat.holds(addr, PAGE_SIZE) {
             return false;
         }
         self.flat.load(addr, &mut bytes);
@@ -90,8 +88,8 @@ impl Pair {
 
     // Whether all pages are the same but those of the queues.
     fn are_same_pages(&self) -> bool {
-        for page in 0..MEMORY / PAGE {
-            let addr = page * PAGE;
+        for page in 0..MEMORY / PAGE_SIZE {
+            let addr = page * PAGE_SIZE;
             let queue = FIRST_QUEUE <= addr && addr < BEHIND_QUEUES;
             if !queue && !self.is_same_page(addr) {
                 return false;
@@ -141,7 +139,7 @@ impl Pair {
     // Stores the pattern from a000h to ffffh.
     fn fill(&mut self) {
         for page in 10..16 {
-            self.store(PAGE * page, &pattern(page));
+            self.store(PAGE_SIZE * page, &pattern(page));
         }
     }
 
@@ -179,8 +177,8 @@ fn is_in(spans: &[Span], number: u64) -> bool {
 }
 
 // The bytes of a page of a pattern in which no two blocks are equal.
-fn pattern(page: u64) -> [u8; 4096] {
-    let mut bytes = [0u8; 4096];
+fn pattern(page: u64) -> [u8; PAGE_SIZE as usize] {
+    let mut bytes = [0u8; PAGE_SIZE as usize];
     for (at, byte) in bytes.iter_mut().enumerate() {
         let block = page.wrapping_mul(8).wrapping_add(at as u64 / 512);
         let value = block

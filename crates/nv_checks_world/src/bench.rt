@@ -3,11 +3,12 @@
 //! Each guest has 128 KiB of memory, queue pair 1, and a namespace of extents that the test names.
 
 use nv_bringup::{
-    BLOCKS, BRING_UP, COMPLETIONS, Deed, HEAD, LIMIT, MEMORY, Random, SUBMISSIONS, Span, TAGS,
-    TAIL, bytes_of, guest_at, setup_of,
+    BLOCKS, BRING_UP, COMPLETIONS, Deed, HEAD, LIMIT, MEMORY, Random, SUBMISSIONS, Span, TAIL,
+    bytes_of, guest_at, setup_of,
 };
 use nv_entry::{Cqe, Sqe};
 use nv_mem::BoxedBytes;
+use nv_model::limits::TAGS;
 use nv_model::{Act, Reply};
 use nv_plan::{Planned, make_plan};
 use nv_world::{GuestSetup, World};

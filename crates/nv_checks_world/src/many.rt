@@ -2,17 +2,19 @@
 //! alone, the bytes and blocks are the same, and no tag is lost.
 
 use crate::bench::{Bench, block_of};
-use nv_bringup::{BLOCKS, Fields, MEMORY, Random, SLOTS, Span, TAGS, bytes_of};
+use nv_bringup::{BLOCKS, Fields, MEMORY, Random, SLOTS, Span, bytes_of};
 use nv_entry::{Sqe, Status};
 use nv_flat::FlatController;
+use nv_mem::PAGE_SIZE;
 use nv_model::Reply;
+use nv_model::limits::{MOST_LANES, TAGS};
 use nv_world_model::Event;
 use std::alloc::Global;
 use std::process::Abort;
 
 const GUESTS: u8 = 8;
 
-const LANES: u8 = 8;
+const LANES: u8 = MOST_LANES;
 
 /// How many commands a guest has at once. Each has blocks and memory of its own, so that it doesn't matter in which order they end.
 const AT_ONCE: u16 = 4;
@@ -27,9 +29,6 @@ const WHOLE: u8 = 8;
 
 /// The bits that the numbers of lanes have in which commands go, round by round: one lane, two, four or all.
 const LANE_BITS: [u32; 4] = [0, 1, 3, 7];
-
-/// A page of memory, and how many pages the data of a guest's commands have: three for each command.
-const PAGE: u64 = 4096;
 
 const PAGES: u64 = 12;
 
@@ -168,8 +167,8 @@ fn ranges(guest: u8, number: u16) -> [u8; 32] {
 }
 
 // A page for a command of that number.
-fn pattern(number: u16) -> [u8; 4096] {
-    let mut bytes = [0u8; 4096];
+fn pattern(number: u16) -> [u8; PAGE_SIZE as usize] {
+    let mut bytes = [0u8; PAGE_SIZE as usize];
     for (at, byte) in bytes.iter_mut().enumerate() {
         let place = at as u64;
         let value = u64::from(number)
@@ -236,7 +235,7 @@ impl Many {
     fn enter(&mut self, guest: u8, number: u16) {
         let place = u64::from(number & 3);
         let page = 3 * place + u64::from(number % 3);
-        self.store(guest, PAGE * page, &pattern(number));
+        self.store(guest, PAGE_SIZE * page, &pattern(number));
         let list = u64::from(LISTS) + u64::from(LIST) * place;
         self.store(guest, list, &ranges(guest, number));
         self.bench.enter(guest, number, &command(guest, number));
@@ -365,9 +364,9 @@ impl Many {
 
     // Whether a page of a guest's memory is the same as the flat controller's.
     fn is_same_page(&self, guest: u8, addr: u64) -> bool {
-        let mut bytes = [0; 4096];
+        let mut bytes = [0; PAGE_SIZE as usize];
         match self.flats.get(usize::from(guest)) {
-            Some(flat) if flat.holds(addr, PAGE) => {
+            Some(flat) if flat.holds(addr, PAGE_SIZE) => {
                 flat.load(addr, &mut bytes);
                 self.bench.shows(guest, addr, &bytes)
             }
@@ -378,7 +377,7 @@ impl Many {
     // Whether all pages of its data are.
     fn are_same_pages(&self, guest: u8) -> bool {
         for page in 0..PAGES {
-            if !self.is_same_page(guest, PAGE * page) {
+            if !self.is_same_page(guest, PAGE_SIZE * page) {
                 return false;
             }
         }

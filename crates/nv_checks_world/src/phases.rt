@@ -3,8 +3,9 @@
 
 use crate::bench::{Bench, WHOLE};
 use crate::commands::{ROWS, entry};
-use nv_bringup::SLOTS;
+use nv_bringup::{MEDIATOR, SLOTS};
 use nv_entry::Cqe;
+use nv_model::limits::{CQE_SIZE, PAGE_SIZE, RING_SLOTS, SUBMISSION_RING_PAGES};
 use nv_world::World;
 use nv_world_model::Event;
 use std::process::Abort;
@@ -13,10 +14,10 @@ use std::process::Abort;
 const COMMANDS: u16 = 140;
 
 /// How many slots a physical ring has.
-const RING: u64 = 65;
+const RING: u64 = RING_SLOTS as u64;
 
 /// Where the completion ring of the first lane lies in the host: it is the third page of the mediator's area.
-const FIRST_SLOT: u64 = 0x40_2000;
+const FIRST_SLOT: u64 = MEDIATOR + SUBMISSION_RING_PAGES * PAGE_SIZE;
 
 /// How many events a Flush has between its doorbell and that of its completion, and which of them reaps.
 const STEPS: u8 = 7;
@@ -38,7 +39,7 @@ fn step_of(number: u8) -> Event {
 
 // Whether the slot that is reaped next, after so many completions, has the phase tag that a driver waits for there.
 fn is_found(world: &World, reaped: u64) -> bool {
-    let addr = FIRST_SLOT + 16 * (reaped % RING);
+    let addr = FIRST_SLOT + CQE_SIZE * (reaped % RING);
     let host = world.host();
     if !host.holds(addr, 16) {
         return false;

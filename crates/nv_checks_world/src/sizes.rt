@@ -1,15 +1,12 @@
 //! Sizes at and beyond each limit of a set-up.
 
 use nv_bringup::{Span, extents_of};
-use nv_mem::{GuestMap, Region};
+use nv_mem::{GuestMap, PAGE_SIZE, Region};
 use nv_world::{GuestSetup, Refusal, Setup, World};
 use nv_world_model::Logged;
 use std::alloc::Global;
 use std::process::Abort;
 use std::test::Fail;
-
-/// A page, and where the first guest's memory lies in the host.
-const PAGE: u64 = 4096;
 
 const IMAGES: u64 = 0x10_0000;
 
@@ -323,7 +320,7 @@ const BAD_SIZES: &[Case] = &[
     Case {
         name: "a map for another host",
         last: Seat {
-            made_for: HOST + PAGE,
+            made_for: HOST + PAGE_SIZE,
             ..SEAT
         },
         ..PLAIN
@@ -441,7 +438,7 @@ const LOWEST: &[(Refusal, Case)] = &[
             guests: 2,
             disk: 0,
             last: Seat {
-                image: IMAGES + PAGE,
+                image: IMAGES + PAGE_SIZE,
                 ..SEAT
             },
             ..PLAIN
@@ -452,7 +449,7 @@ const LOWEST: &[(Refusal, Case)] = &[
 // What a guest has that is not the last, but for its block: a page.
 fn plain_seat(number: u8, made_for: u64) -> Seat {
     Seat {
-        image: IMAGES + PAGE * u64::from(number),
+        image: IMAGES + PAGE_SIZE * u64::from(number),
         made_for,
         ..SEAT
     }
@@ -463,9 +460,9 @@ fn guest(alloc: Global, seat: &Seat, spans: &[Span]) -> Result<GuestSetup, Fail>
     let mut regions = Vec::new(alloc);
     for number in 0..seat.regions {
         regions.push(Region {
-            guest: 2 * PAGE * (number % 128),
-            host: seat.image.wrapping_add(PAGE * (number % 128)),
-            len: PAGE,
+            guest: 2 * PAGE_SIZE * (number % 128),
+            host: seat.image.wrapping_add(PAGE_SIZE * (number % 128)),
+            len: PAGE_SIZE,
         })?;
     }
     Ok(GuestSetup {

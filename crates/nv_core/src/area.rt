@@ -4,16 +4,7 @@ ghost use Rattle.std.specs.Prelude.{◌≡◌, ◌<◌};
 ghost use Rattle.nv_core.specs.Submit.{IsPlaced};
 ghost use Rattle.nv_world_model.specs.Area.{bounce_page, list_page, ring_size, submission_slot};
 
-use nv_mem::PAGE_SIZE;
-
-/// The pages of a lane: two for its submission ring, one for its completion ring, and 33 for each tag.
-const LANE_PAGES: u64 = 2115;
-
-/// The pages of a tag: one for a list, and 32 to bounce.
-const TAG_PAGES: u64 = 33;
-
-/// The bytes of a submission queue entry.
-const ENTRY_SIZE: u64 = 64;
+use nv_model::limits::{LANE_PAGES, PAGE_SIZE, RING_PAGES, SQE_SIZE, TAG_PAGES};
 
 /// A tag of a lane, and the host address at which the area of all lanes begins.
 #[derive(Clone, Copy, Debug, PartialEq, Eq)]
@@ -33,7 +24,8 @@ impl TagPlace {
         ensures { result ≡ list_page self.mediator self.lane self.tag }
     {
         self.mediator
-            + PAGE_SIZE * (LANE_PAGES * u64::from(self.lane) + 3 + TAG_PAGES * u64::from(self.tag))
+            + PAGE_SIZE
+                * (LANE_PAGES * u64::from(self.lane) + RING_PAGES + TAG_PAGES * u64::from(self.tag))
     }
 
     /// The host address of the first of the tag's 32 bounce pages.
@@ -50,6 +42,6 @@ impl TagPlace {
         requires at { at < ring_size }
         ensures { result ≡ submission_slot self.mediator self.lane at }
     {
-        self.mediator + PAGE_SIZE * LANE_PAGES * u64::from(self.lane) + ENTRY_SIZE * u64::from(at)
+        self.mediator + PAGE_SIZE * LANE_PAGES * u64::from(self.lane) + SQE_SIZE * u64::from(at)
     }
 }

@@ -4,9 +4,7 @@ ghost use Rattle.std.specs.Prelude.{◌≡◌, ◌<◌, Some, length};
 ghost use Rattle.nv_core.specs.Submit.{HasRoom, HaveRoom, WaitsForPlan, host_carried, host_handed, lane_carried, lane_handed};
 ghost use Rattle.nv_device.specs.Physical.{lane_of, with_lane};
 ghost use Rattle.nv_model.specs.Memory.{byte_in};
-ghost use Rattle.nv_model.specs.Queue.{next_slot};
 ghost use Rattle.nv_plan.specs.Made.{share_made, shares_made};
-ghost use Rattle.nv_world_model.specs.Area.{ring_size};
 ghost use Rattle.nv_world_model.specs.Share.{Share};
 ghost use Rattle.nv_world_model.specs.World.{group_in};
 
@@ -16,11 +14,10 @@ use crate::parts::is_nothing;
 use crate::writing::write;
 use nv_device::Device;
 use nv_mem::Host;
+use nv_model::limits::RING_SLOTS;
 use nv_plan::Plan;
+use nv_ring::Ring;
 use nv_tags::Group;
-
-/// The slots of a lane's submission ring.
-const RING_SIZE: u16 = 65;
 
 /// Hands all parts of a plan on, in order, each in its tag of the command that waits for the plan and goes by the tag of `place`.
 pub(crate) fn hand_all(
@@ -81,14 +78,5 @@ fn hand_part(plan: &Plan, part: u8, place: TagPlace, host: &mut Host, device: &m
     }
     let at = device.tail(place.lane);
     write(plan, part, place, at, host);
-    device.ring(place.lane, next_slot(at));
-}
-
-// The slot after a slot of a submission ring, wrapping around.
-fn next_slot(at: u16) -> u16
-    requires { at < ring_size }
-    ensures value { result ≡ next_slot ring_size at }
-    ensures fits { result < ring_size }
-{
-    (at + 1) % RING_SIZE
+    device.ring(place.lane, Ring::new(RING_SLOTS).next(at));
 }

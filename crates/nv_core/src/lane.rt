@@ -12,9 +12,10 @@ ghost use Rattle.nv_world_model.specs.World.{Command, Taken, claimed, lowest, ta
 use crate::progress::{Progress, keep};
 use nv_mem::NoMemory;
 use nv_model::Reply;
+use nv_model::limits::TAG_COUNT;
 use nv_plan::{ReadDone, Transcript};
 use nv_ring::Phase;
-use nv_tags::{Claim, Group, TAG_COUNT, TagState, Tags};
+use nv_tags::{Claim, Group, TagState, Tags};
 use std::alloc::Global;
 use std::marker::Model;
 

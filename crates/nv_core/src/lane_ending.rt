@@ -14,8 +14,8 @@ ghost use Rattle.nv_world_model.specs.World.{Command, Ended, Flying, Standing, t
 
 use crate::lane::Lane;
 use crate::progress::Progress;
-use nv_device::RING_SLOTS;
 use nv_entry::Status;
+use nv_model::limits::RING_SLOTS;
 use nv_ring::Ring;
 use nv_tags::Claim;
 use std::mem;

@@ -8,8 +8,9 @@ ghost use Rattle.nv_world_model.specs.World.{opening_lane};
 use crate::lane::Lane;
 use crate::progress::Progress;
 use nv_mem::NoMemory;
+use nv_model::limits::TAG_COUNT;
 use nv_ring::Phase;
-use nv_tags::{TAG_COUNT, Tags};
+use nv_tags::Tags;
 use std::alloc::Global;
 
 impl Lane {

@@ -15,9 +15,10 @@ use crate::layout::{Given, Layout};
 use crate::state::Core;
 use nv_mem::Host;
 use nv_model::Reply;
+use nv_model::limits::LAST_QUEUE;
 use nv_plan::tags_wanted;
 use nv_tags::Claim;
-use nv_vctl::{LAST_QUEUE, Vctl};
+use nv_vctl::Vctl;
 use nv_world_model::Event;
 use std::alloc::Global;
 

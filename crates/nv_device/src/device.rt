@@ -10,7 +10,9 @@ use crate::lane::Lane;
 use crate::response::Response;
 use nv_disk::{Blocks, Marks};
 use nv_mem::{Host, NoMemory, PAGE_SIZE};
-use nv_model::limits::BLOCK_SIZE;
+use nv_model::limits::{
+    BLOCK_SIZE, CQE_SIZE, LANE_SIZE, MOST_DISK_BLOCKS, MOST_LANES, SQE_SIZE, SUBMISSION_RING_PAGES,
+};
 use std::alloc::Global;
 use std::marker::Model;
 
@@ -36,24 +38,6 @@ impl Model for Device {
     ghost invariant = { λ d. IsWhole d.mediator d.disk d.kept d.lanes.items };
 }
 
-/// The pages of a lane: two for its submission ring, one for its completion ring, and 33 for each identifier.
-const LANE_PAGES: u64 = 2115;
-
-/// The bytes of a lane's area.
-const LANE_BYTES: u64 = PAGE_SIZE * LANE_PAGES;
-
-/// The bytes of a submission queue entry.
-const SUBMISSION_SIZE: u64 = 64;
-
-/// The bytes of a completion queue entry.
-const COMPLETION_SIZE: u64 = 16;
-
-/// The most lanes.
-const MOST_LANES: u8 = 8;
-
-/// The most blocks: 1 GiB.
-const MOST_BLOCKS: u64 = 2_097_152;
-
 impl Device {
     /// Whether a device may have so many lanes and blocks, and its area begin there: 1 to 8 lanes, 1 to 2,097,152 blocks, and
     /// an area that begins at a page of 4,096 bytes and ends at 2 to the 64 at the latest. It is what [`Device::new`] requires.
@@ -64,8 +48,8 @@ impl Device {
             && 0 < lanes
             && lanes <= MOST_LANES
             && 0 < blocks
-            && blocks <= MOST_BLOCKS
-            && u64::MAX - mediator >= LANE_BYTES * u64::from(lanes) - 1
+            && blocks <= MOST_DISK_BLOCKS
+            && u64::MAX - mediator >= LANE_SIZE * u64::from(lanes) - 1
     }
 
     /// A device whose blocks are zeros, with no mark set, and whose rings are empty, in the area of the host's memory that
@@ -111,7 +95,7 @@ impl Device {
     pub fn has_area(&self, host: &Host) -> bool
         ensures { IsTrue result ↔ HoldsArea (length host.now) self.now }
     {
-        let area = LANE_BYTES * self.lanes.len() as u64;
+        let area = LANE_SIZE * self.lanes.len() as u64;
         area <= host.len() && self.mediator <= host.len() - area
     }
 
@@ -177,7 +161,7 @@ impl Device {
         ensures value { result ≡ submission_slot self.now.mediator lane at }
         ensures inside { result + 64 ≤ lane_start self.now.mediator (length self.now.lanes) }
     {
-        self.mediator + LANE_BYTES * u64::from(lane) + SUBMISSION_SIZE * u64::from(at)
+        self.mediator + LANE_SIZE * u64::from(lane) + SQE_SIZE * u64::from(at)
     }
 
     /// Where a slot of a lane's completion ring lies in the host.
@@ -188,9 +172,9 @@ impl Device {
         ensures inside { result + 16 ≤ lane_start self.now.mediator (length self.now.lanes) }
     {
         self.mediator
-            + LANE_BYTES * u64::from(lane)
-            + 2 * PAGE_SIZE
-            + COMPLETION_SIZE * u64::from(at)
+            + LANE_SIZE * u64::from(lane)
+            + SUBMISSION_RING_PAGES * PAGE_SIZE
+            + CQE_SIZE * u64::from(at)
     }
 }
 

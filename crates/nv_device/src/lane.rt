@@ -8,15 +8,13 @@ ghost use Rattle.nv_world_model.specs.Device.{completion_posted, opening_device_
 
 use crate::command::Command;
 use nv_mem::NoMemory;
+use nv_model::limits::{RING_SLOTS, TAGS};
 use nv_ring::{Phase, Ring};
 use std::alloc::Global;
 use std::marker::Model;
 
-/// The slots of each ring: one more than there are commands, so that no ring fills.
-pub const RING_SLOTS: u16 = 65;
-
-/// The identifiers of a lane's commands: 0 to 63.
-pub const IDENTIFIERS: u8 = 64;
+/// The identifiers of a lane's commands, from 0 on: as many as it has tags.
+pub const IDENTIFIERS: u8 = TAGS;
 
 /// A lane: the positions of its submission ring, which slot of its completion ring is written next and with which phase tag, and the commands in
 /// the device, by identifier.

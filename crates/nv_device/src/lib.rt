@@ -27,5 +27,5 @@ mod taking;
 mod units;
 
 pub use device::Device;
-pub use lane::{IDENTIFIERS, RING_SLOTS};
+pub use lane::IDENTIFIERS;
 pub use response::Response;

@@ -18,11 +18,11 @@ use nv_disk::Buffer;
 use nv_entry::{Range, Sqe, Status, StatusCode};
 use nv_judge::{Need, judge_ranges};
 use nv_mem::{NoMemory, Places};
-use nv_model::limits::RANGE_SIZE;
+use nv_model::limits::{MOST_RANGES, RANGE_SIZE};
 use std::alloc::Global;
 
 /// The most bytes of the ranges: there are at most 256.
-const MOST_BYTES: usize = 256 * RANGE_SIZE;
+const MOST_BYTES: usize = MOST_RANGES * RANGE_SIZE;
 
 impl FlatController {
     /// Runs a Dataset Management: where each of its ranges lies in the namespace, their blocks are deallocated if it asks for that.

@@ -8,7 +8,7 @@ ghost use Rattle.nv_ns.specs.Extents.{blocks_in};
 
 use crate::need::Need;
 use nv_entry::{IoOpcode, Sqe, Status, StatusCode};
-use nv_model::limits::{BLOCK_SIZE, MOST_BLOCKS, RANGE_SIZE};
+use nv_model::limits::{BLOCK_SIZE, MOST_COMMAND_BLOCKS, RANGE_SIZE};
 use nv_ns::VirtualNs;
 
 /// The checks of a command's fields in their order: fused operation, opcode, namespace, data pointer, size of the transfer and block range.
@@ -42,7 +42,7 @@ fn refusal(opcode: IoOpcode, sqe: &Sqe, ns: &VirtualNs) -> Option<StatusCode>
         Some(StatusCode::InvalidNamespace)
     } else if has_buffer(opcode) && sqe.psdt() == 3 {
         Some(StatusCode::InvalidField)
-    } else if has_buffer(opcode) && has_blocks(opcode) && count > MOST_BLOCKS {
+    } else if has_buffer(opcode) && has_blocks(opcode) && count > MOST_COMMAND_BLOCKS {
         Some(StatusCode::InvalidField)
     } else if has_blocks(opcode) && !ns.holds(sqe.slba(), u64::from(count)) {
         Some(StatusCode::LbaOutOfRange)

@@ -10,37 +10,17 @@ ghost use Rattle.nv_world_model.specs.SetUp.{maps_meet, meets_area, refusal_of, 
 use crate::refusal::Refusal;
 use crate::setup::{Extent, GuestSetup, Setup};
 use nv_mem::PAGE_SIZE;
-
-/// The most guests.
-const MOST_GUESTS: usize = 16;
-
-/// The most regions of a guest's map.
-const MOST_REGIONS: usize = 64;
-
-/// The most lanes.
-const MOST_LANES: u64 = 8;
-
-/// The most bytes of the host's memory: 1 GiB.
-const MOST_HOST_BYTES: u64 = 1_073_741_824;
-
-/// The most blocks of the disk: 1 GiB.
-const MOST_DISK_BLOCKS: u64 = 2_097_152;
-
-/// The most extents of a guest's namespace.
-const MOST_EXTENTS: usize = 8;
-
-/// The most descriptors of a list that a guest may be given.
-const MOST_LIMIT: u32 = 4096;
-
-/// The bytes of a lane's area: two pages for its submission ring, one for its completion ring, and 33 for each of 64 tags.
-const LANE_BYTES: u64 = PAGE_SIZE * 2115;
+use nv_model::limits::{
+    LANE_SIZE, MOST_DISK_BLOCKS, MOST_EXTENTS, MOST_GUESTS, MOST_HOST_BYTES, MOST_LANES,
+    MOST_LIMIT, MOST_REGIONS,
+};
 
 #[tactic(auto, unfolding(nv_world_model::specs::SetUp::refusal_of))]
 /// The first reason for which a set-up is refused; `None` where there is none.
 pub(crate) fn refusal_of(setup: &Setup) -> Option<Refusal>
     ensures { result ≡ refused (refusal_of setup.now) }
 {
-    if setup.guests.len() > MOST_GUESTS {
+    if setup.guests.len() > MOST_GUESTS as usize {
         Some(Refusal::TooManyGuests)
     } else if extents_meet(&setup.guests) {
         Some(Refusal::RangesMeet)
@@ -151,7 +131,7 @@ fn meets_area(setup: &Setup, guest: &GuestSetup) -> bool
 {
     // With the length of the host comes what is known of every map.
     let _host_len = guest.map.host_len();
-    let area = LANE_BYTES.saturating_mul(setup.lanes);
+    let area = LANE_SIZE.saturating_mul(setup.lanes);
     guest.map.meets_host(setup.mediator, area)
 }
 
@@ -173,10 +153,10 @@ fn host_fits(setup: &Setup) -> bool
         && PAGE_SIZE <= setup.host_bytes
         && setup.host_bytes <= MOST_HOST_BYTES
         && 1 <= setup.lanes
-        && setup.lanes <= MOST_LANES
+        && setup.lanes <= u64::from(MOST_LANES)
         && setup.mediator % PAGE_SIZE == 0
-        && LANE_BYTES * setup.lanes <= setup.host_bytes
-        && setup.mediator <= setup.host_bytes - LANE_BYTES * setup.lanes
+        && LANE_SIZE * setup.lanes <= setup.host_bytes
+        && setup.mediator <= setup.host_bytes - LANE_SIZE * setup.lanes
 }
 
 // Whether each guest may have what it is to have.

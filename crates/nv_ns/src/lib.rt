@@ -9,7 +9,7 @@
 pub use extent::Extent;
 pub use part::Part;
 pub use parts::Parts;
-pub use virtual_ns::VirtualNs;
+pub use virtual_ns::{MOST_EXTENTS, VirtualNs};
 
 pub mod extent;
 pub mod laws;

@@ -3,12 +3,13 @@
 ghost use Rattle.std.specs.Prelude.{◌≡◌, ◌<◌, ◌≤◌, [], ◌∷◌, ◌++◌, length};
 
 use crate::part::Part;
+use crate::virtual_ns::MOST_EXTENTS;
 use std::marker::Model;
 
 /// Parts in order, at most eight, in place.
 #[derive(Clone, Copy, Debug, PartialEq, Eq)]
 pub struct Several {
-    parts: [Part; 8],
+    parts: [Part; MOST_EXTENTS],
     len: usize,
 }
 
@@ -36,7 +37,7 @@ impl Several {
     pub fn two(first: Part, second: Part) -> Self
         ensures { result ≡ first ∷ second ∷ [] }
     {
-        let mut parts = [Part::new(0, 0, 1); 8];
+        let mut parts = [Part::new(0, 0, 1); MOST_EXTENTS];
         parts[0] = first;
         parts[1] = second;
         Several { parts, len: 2 }

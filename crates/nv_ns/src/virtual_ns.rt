@@ -10,12 +10,15 @@ use crate::parts::Parts;
 use crate::walk;
 use std::marker::Model;
 
+/// The most extents of a namespace (profile).
+pub const MOST_EXTENTS: usize = 8;
+
 /// A guest's namespace: its blocks are those of its extents, joined in their order.
 ///
 /// The type keeps that there are one to eight of them, and that the base of each and the blocks of all come to less than 2 to the 64.
 #[derive(Clone, Copy, Debug, PartialEq, Eq)]
 pub struct VirtualNs {
-    extents: [Extent; 8],
+    extents: [Extent; MOST_EXTENTS],
     len: usize,
     blocks: u64,
 }
@@ -46,7 +49,7 @@ impl VirtualNs {
     pub fn of(first: Extent) -> Self
         ensures { result ≡ first ∷ [] }
     {
-        let mut extents = [Extent::new(0, 0); 8];
+        let mut extents = [Extent::new(0, 0); MOST_EXTENTS];
         extents[0] = first;
         VirtualNs {
             extents,
@@ -60,7 +63,7 @@ impl VirtualNs {
     pub fn fits_behind(&self, next: Extent) -> bool
         ensures { result ≡ is_namespace (self.now ++ next ∷ []) }
     {
-        if self.len == 8 || next.blocks() > u64::MAX - self.blocks {
+        if self.len == MOST_EXTENTS || next.blocks() > u64::MAX - self.blocks {
             return false;
         }
         let blocks = self.blocks + next.blocks();

@@ -11,12 +11,10 @@ use crate::fault::ReplayFault;
 use crate::refusal::SetUpRefusal;
 use crate::replay::Replay;
 use nv_mem::GuestMap;
+use nv_model::limits::MOST_DESCRIPTORS;
 use nv_replay_script::{Extent as WrittenExtent, GuestSetUp, Script, Sizes, parse};
 use nv_world::{Extent, GuestSetup, Setup, World};
 use std::alloc::{AllocError, Global};
-
-/// The most descriptors of a guest's list where no line names them.
-const USUAL_LIMIT: u32 = 1024;
 
 /// Reads a script whole, and opens its world.
 ///
@@ -129,7 +127,7 @@ fn limit_in_bits(named: Option<u64>) -> u32
     ensures { result ≡ limit_of named }
 {
     match named {
-        None => USUAL_LIMIT,
+        None => MOST_DESCRIPTORS,
         Some(limit) => u32::try_from(limit).unwrap_or(u32::MAX),
     }
 }

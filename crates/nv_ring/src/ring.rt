@@ -4,10 +4,8 @@ ghost use Rattle.std.specs.Prelude.{◌≡◌, ◌+◌, ◌-◌, ◌<◌, ◌≤
 ghost use Rattle.nv_model.specs.Queue.{ahead, is_empty, is_full, next_slot};
 ghost use Rattle.nv_ring.specs.Ring.{FitsRing, waiting};
 
+use nv_model::limits::MOST_SLOTS;
 use std::marker::Model;
-
-/// The most slots of a ring, as CAP.MQES says.
-const MOST_SLOTS: u16 = 1024;
 
 /// A ring of slots, of which those from the head up to the tail hold entries. It has 2 to 1,024 slots, and head and tail are
 /// below that size.

@@ -8,7 +8,8 @@ ghost use Rattle.nv_run.specs.Parts.{AreParted};
 ghost use Rattle.nv_run.specs.Played.{ArePartsOf};
 ghost use Rattle.nv_world.specs.Mediated.{mediated};
 
-use crate::part::{GUESTS, Part, cast};
+use crate::part::{Part, cast};
+use nv_model::limits::MOST_GUESTS;
 use nv_replay::{ReplayFault, open_world};
 use nv_replay_script::GuestSetUp;
 use nv_run_script::{Script, parse};
@@ -91,7 +92,7 @@ fn guests_with(alloc: Global, lanes: u8, heaps: &[u64]) -> Result<Vec<Guest>, Al
     requires { 0 < lanes }
 {
     let mut guests = Vec::new(alloc);
-    for number in 0..GUESTS {
+    for number in 0..MOST_GUESTS {
         let Some(heap) = heaps.get(usize::from(number)) else {
             break;
         };

@@ -3,11 +3,9 @@
 ghost use Rattle.std.specs.Prelude.{◌≡◌, ◌∷◌, ◌++◌, [], IfOk, OnErr, OnOk};
 ghost use Rattle.nv_run.specs.Parts.{AreParted, part_of};
 
+use nv_model::limits::MOST_GUESTS;
 use nv_run_script::Line;
 use std::alloc::{AllocError, Global};
-
-/// How many guests there can be.
-pub(crate) const GUESTS: u8 = 16;
 
 /// What a guest is to do: its lines, in the order written.
 #[derive(Drop)]
@@ -48,7 +46,7 @@ fn empty_parts(alloc: Global) -> Result<Vec<Part>, AllocError>
     ensures { IfOk result (λ parts. AreParted [] parts.items) }
 {
     let mut parts = Vec::new(alloc);
-    for _ in 0..GUESTS {
+    for _ in 0..MOST_GUESTS {
         parts.push(Part {
             lines: Vec::new(alloc),
         })?;

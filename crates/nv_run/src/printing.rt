@@ -7,9 +7,10 @@ ghost use Rattle.nv_run.specs.Shown.{first_line, guest_lines, line_of, lines_bel
 ghost use Rattle.nv_run.specs.Played.{PrintsPlayed};
 ghost use Rattle.nv_threads.specs.Finished.{told_to};
 
-use crate::part::{GUESTS, Part, lines_of};
+use crate::part::{Part, lines_of};
 use crate::played::Played;
 use crate::walk::behind;
+use nv_model::limits::MOST_GUESTS;
 use nv_print::{CannotWrite, Numeral, print_text};
 use nv_replay::print_reply;
 use nv_run_script::{Line, Task};
@@ -35,7 +36,7 @@ fn print_guests<W: Write>(parts: &[Part], ports: &[Port], output: &mut W) -> Res
     ensures { OnOk result (Appends (W.contents output.old) (W.contents output.new)
         (lines_below 16 (λ guest. part_of guest parts.now) (λ guest. told_to guest ports.now))) }
 {
-    for guest in 0..GUESTS {
+    for guest in 0..MOST_GUESTS {
         print_guest(guest, lines_of(parts, guest), told_to(ports, guest), output)?;
     }
     Ok(())

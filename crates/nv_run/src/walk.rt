@@ -7,8 +7,9 @@ ghost use Rattle.nv_run.specs.Shown.{behind, behind_shown};
 ghost use Rattle.nv_threads.specs.Finished.{told_to};
 
 use crate::driven::{Probe, shows};
-use crate::part::{GUESTS, Part, lines_of};
+use crate::part::{Part, lines_of};
 use nv_model::Act;
+use nv_model::limits::MOST_GUESTS;
 use nv_run_script::{Line, Task};
 use nv_threads::alike::same_act;
 use nv_threads::{Mismatch, Port, told_to};
@@ -22,7 +23,7 @@ use nv_world_model::{Event, Logged};
 pub(crate) fn check_parts(parts: &[Part], ports: &[Port]) -> Result<(), Mismatch>
     ensures { OnOk result (AllGone (λ guest. part_of guest parts.now) (λ guest. told_to guest ports.now)) }
 {
-    for guest in 0..GUESTS {
+    for guest in 0..MOST_GUESTS {
         if let Some(place) = astray(guest, lines_of(parts, guest), told_to(ports, guest)) {
             return Err(Mismatch { guest, place });
         }

@@ -19,4 +19,4 @@ mod tags;
 pub use claim::Claim;
 pub use group::Group;
 pub use state::TagState;
-pub use tags::{TAG_COUNT, Tags};
+pub use tags::Tags;

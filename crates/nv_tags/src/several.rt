@@ -9,15 +9,16 @@ ghost use Rattle.nv_tags.specs.declared.state.TagState.TheVariants as state;
 use crate::claim::Claim;
 use crate::group::{Group, with};
 use crate::state::TagState;
+use nv_model::limits::{TAG_COUNT, TAGS};
 
 /// The `count` lowest free tags, a bit for each; `None` where fewer are free.
-pub(crate) fn lowest_free_mask(states: &[TagState; 64], count: u8) -> Option<u64>
+pub(crate) fn lowest_free_mask(states: &[TagState; TAG_COUNT], count: u8) -> Option<u64>
     requires { 0 < count }
     ensures { option_map tags_in result ≡ lowest count (free_states states.now) }
 {
     let mut mask = 0;
     let mut left = count;
-    for tag in 0..64u8 {
+    for tag in 0..TAGS {
         if states[usize::from(tag)].is_free() {
             mask = with(mask, tag);
             left -= 1;
@@ -31,9 +32,9 @@ pub(crate) fn lowest_free_mask(states: &[TagState; 64], count: u8) -> Option<u64
 
 /// Each of these tags is that command's, which was taken and goes by that leader.
 pub(crate) fn take_each(
-    states: &mut [TagState; 64],
-    claims: &mut [Claim; 64],
-    leaders: &mut [u8; 64],
+    states: &mut [TagState; TAG_COUNT],
+    claims: &mut [Claim; TAG_COUNT],
+    leaders: &mut [u8; TAG_COUNT],
     tags: Group,
     claim: &Claim,
     leader: u8,
@@ -52,7 +53,7 @@ pub(crate) fn take_each(
 }
 
 /// Each of these tags is free.
-pub(crate) fn free_each(states: &mut [TagState; 64], tags: Group)
+pub(crate) fn free_each(states: &mut [TagState; TAG_COUNT], tags: Group)
     ensures { states.new ≡ set_each tags state.Free states.old }
 {
     let mut left = tags;

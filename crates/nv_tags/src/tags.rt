@@ -12,20 +12,18 @@ use crate::group::{Group, with, without};
 use crate::several::{free_each, lowest_free_mask, take_each};
 use crate::state::TagState;
 use nv_entry::{Sqe, Status};
+use nv_model::limits::TAG_COUNT;
 use std::marker::Model;
-
-/// The tags of a lane.
-pub const TAG_COUNT: usize = 64;
 
 /// The tags of one lane. A contract sees them as a list of 64: each is free, or a command's that is at some point.
 #[derive(Drop)]
 pub struct Tags {
-    states: [TagState; 64],
-    claims: [Claim; 64],
+    states: [TagState; TAG_COUNT],
+    claims: [Claim; TAG_COUNT],
     // the tag that each tag's command goes by
-    leaders: [u8; 64],
+    leaders: [u8; TAG_COUNT],
     // for each tag, those that follow it in the group that goes by it, a bit for each
-    groups: [u64; 64],
+    groups: [u64; TAG_COUNT],
 }
 
 impl Model for Tags {
@@ -41,7 +39,7 @@ impl Model for Tags {
 }
 
 // the place of the first free state
-fn lowest_free(states: &[TagState; 64]) -> Option<usize>
+fn lowest_free(states: &[TagState; TAG_COUNT]) -> Option<usize>
     ensures { result ≡ position is_free_state states.now }
 {
     states.iter().position(|state| state.is_free())
@@ -58,10 +56,10 @@ impl Tags {
             entry: Sqe::of(&[0; 64]),
         };
         Tags {
-            states: [TagState::Free; 64],
-            claims: [nobodys; 64],
-            leaders: [0; 64],
-            groups: [0; 64],
+            states: [TagState::Free; TAG_COUNT],
+            claims: [nobodys; TAG_COUNT],
+            leaders: [0; TAG_COUNT],
+            groups: [0; TAG_COUNT],
         }
     }
 

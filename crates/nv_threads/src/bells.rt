@@ -2,11 +2,8 @@
 
 use crate::bell::Bell;
 use crate::concern::Concern;
-use crate::notes::LANES;
+use crate::notes::{GUESTS, LANES};
 use std::array;
-
-/// How many guests there are at most.
-const GUESTS: usize = 16;
 
 /// A bell for each guest, for each guest's planner, and for the reaper and the physical controller of each lane.
 #[derive(Drop)]

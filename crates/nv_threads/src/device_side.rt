@@ -8,14 +8,12 @@ use crate::locked::Locked;
 use crate::share::Share;
 use crate::shared::Shared;
 use nv_model::Reply;
+use nv_model::limits::{TAG_COUNT, TAGS};
 use nv_world::World;
 use nv_world_model::Event;
 use std::alloc::Global;
 use std::sync::Wait;
 use std::time::Clock;
-
-/// How many slots a lane of the physical controller has.
-const SLOTS: usize = 64;
 
 /// How many units a command has at most: a block each.
 const UNITS: u64 = 65_536;
@@ -56,7 +54,7 @@ pub(crate) struct LaneDevice {
     // whether all slots are checked next, and not only those whose tags are noted as taken
     thorough: bool,
     // the next unit of each slot's command
-    pub(crate) units: [u64; SLOTS],
+    pub(crate) units: [u64; TAG_COUNT],
     // of commands that were there before the worker came, no unit below this one is left
     pub(crate) earlier: u64,
     share: Share,
@@ -70,7 +68,7 @@ impl LaneDevice {
             slot: 0,
             held: true,
             thorough: true,
-            units: [0; SLOTS],
+            units: [0; TAG_COUNT],
             earlier: if was_used { 0 } else { UNITS },
             share: Share::new(),
         }
@@ -158,7 +156,7 @@ impl LaneDevice {
             locked.notes.used(self.lane)
         };
         let mut slot = self.slot;
-        for _ in 0..SLOTS {
+        for _ in 0..TAGS {
             let Some(next) = next_behind(left, slot) else {
                 break;
             };

@@ -4,18 +4,16 @@ use crate::bits::bit;
 use crate::concern::Concern;
 use crate::locked::Errand;
 use nv_core::Holder;
+use nv_model::limits::{MOST_GUESTS, MOST_LANES, TAG_COUNT, TAGS};
 use nv_world::World;
 use nv_world_model::Event;
 use std::{array, mem};
 
 /// How many lanes there are at most.
-pub(crate) const LANES: usize = 8;
-
-/// How many tags a lane has.
-const TAGS: usize = 64;
+pub(crate) const LANES: usize = MOST_LANES as usize;
 
 /// How many guests there are at most.
-const GUESTS: usize = 16;
+pub(crate) const GUESTS: usize = MOST_GUESTS as usize;
 
 /// What is noted of each lane: where workers check first, and so hold the lock for less time. Only the world says what is due.
 #[derive(Clone, Copy, Debug)]
@@ -212,9 +210,9 @@ struct LaneNotes {
     // of how many tags the parts have ended that are not posted; more, where some were under way before the world was shared
     ended: u64,
     // whose command goes by each tag, or went by it last
-    owners: [u8; TAGS],
+    owners: [u8; TAG_COUNT],
     // of the command that goes by each tag, the further tags; none where no command takes several
-    groups: [u64; TAGS],
+    groups: [u64; TAG_COUNT],
     // whether the physical controller took commands before the world was shared
     served: bool,
 }
@@ -226,15 +224,15 @@ impl LaneNotes {
             used: 0,
             leaders: 0,
             ended: 0,
-            owners: [0; TAGS],
-            groups: [0; TAGS],
+            owners: [0; TAG_COUNT],
+            groups: [0; TAG_COUNT],
             served: false,
         }
     }
 
     // Notes which tags are not free, and whose they are. Parts of all of them may have ended.
     fn look_at(&mut self, world: &World, lane: u8) {
-        for tag in 0..TAGS as u8 {
+        for tag in 0..TAGS {
             if let Some(holder) = world.holder(lane, tag) {
                 self.hold(tag, holder);
             }

@@ -7,6 +7,7 @@ use crate::notes::{LANES, Notes};
 use crate::shared::Shared;
 use crate::simulated_guest::{Guest, entry_of, rings};
 use nv_mem::{BoxedBytes, GuestMap, Region};
+use nv_model::limits::{MOST_DESCRIPTORS, MOST_GUESTS, MOST_LANES};
 use nv_model::{Act, Reply};
 use nv_world::{Extent, GuestSetup, Setup, World};
 use nv_world_model::Event;
@@ -14,13 +15,11 @@ use std::alloc::Global;
 use std::process::Abort;
 use std::test::Fail;
 
-/// How many guests there are, and the last of them.
-const GUESTS: u8 = 16;
-
-const LAST: u8 = 15;
+/// The last guest.
+const LAST: u8 = MOST_GUESTS - 1;
 
 /// The last lane.
-const LAST_LANE: u8 = 7;
+const LAST_LANE: u8 = MOST_LANES - 1;
 
 /// How many turns the physical controller has at most.
 const TURNS: u32 = 100;
@@ -50,7 +49,7 @@ fn guest_with(alloc: Global, guest: u8) -> Result<GuestSetup, Fail> {
     Ok(GuestSetup {
         map: GuestMap::new(HOST, vec![in alloc; region]?)?,
         extents,
-        limit: 1024,
+        limit: MOST_DESCRIPTORS,
     })
 }
 

@@ -12,18 +12,13 @@ use crate::tasks::{Task, Turn};
 use linked_list_allocator::LocalHeap;
 use nv_mem::NoMemory;
 use nv_model::Reply;
+use nv_model::limits::{LAST_QUEUE, TAGS};
 use nv_plan::{Job, Plan, PlanKind, ReadDone};
 use nv_world::World;
 use nv_world_model::Event;
 use std::alloc::Global;
 use std::sync::Wait;
 use std::time::Clock;
-
-/// How many tags a lane has.
-const TAGS: u8 = 64;
-
-/// The highest number of a guest's I/O queue; the lowest is 1.
-const LAST_QUEUE: u16 = 8;
 
 /// Takes and plans the commands of a guest on a lane, until the workers are to stop: its admin commands, and those of its I/O queues. Where a plan
 /// wants bytes that were not read, they are read. Where there is no memory for a plan, the command is given up. What is wanted next is found by a

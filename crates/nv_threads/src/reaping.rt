@@ -6,13 +6,11 @@ use crate::locked::Locked;
 use crate::share::Share;
 use crate::shared::Shared;
 use nv_model::Reply;
+use nv_model::limits::TAGS;
 use nv_world_model::Event;
 use std::alloc::Global;
 use std::sync::Wait;
 use std::time::Clock;
-
-/// How many tags a lane has.
-const TAGS: u8 = 64;
 
 /// Reaps the completions of a lane, and posts the commands that have ended to their guests, until the workers are to stop. Where there is no memory
 /// for a step, it is tried again.

@@ -25,6 +25,7 @@ use crate::simulated_worlds::{Extents, FEW, GUESTS, LANES, MANY, ONE, most_of, o
 use crate::tasks::{Task, Turn};
 use crate::telling::tell;
 use nv_model::Act;
+use nv_model::limits::TAGS;
 use nv_plan::{Plan, PlanKind, ReadDone};
 use nv_world::World;
 use nv_world_model::{Event, Logged};
@@ -33,9 +34,6 @@ use std::process::Abort;
 use std::sync::Wait;
 use std::test::Fail;
 use std::time::Clock;
-
-/// How many tags a lane has.
-const TAGS: u8 = 64;
 
 /// How many simulations there are, one a seed, where guests have one extent, and of each kind where they have several.
 const SIMULATIONS: u64 = 12;

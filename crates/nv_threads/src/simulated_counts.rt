@@ -5,12 +5,10 @@ use crate::locked::Locked;
 use crate::notes::Notes;
 use crate::simulated_worlds::LANES;
 use nv_model::Reply;
+use nv_model::limits::TAGS;
 use nv_plan::{Plan, PlanKind};
 use nv_world::World;
 use nv_world_model::{Event, Logged};
-
-/// How many tags a lane has.
-const TAGS: u8 = 64;
 
 /// Of how many tags of each lane the parts have ended that are not posted.
 #[derive(Debug, Drop)]

@@ -1,6 +1,7 @@
 //! The worlds that are simulated.
 
 use nv_mem::{GuestMap, Region};
+use nv_model::limits::MOST_DESCRIPTORS;
 use nv_world::{Extent, GuestSetup, Setup, World};
 use std::alloc::Global;
 use std::test::Fail;
@@ -88,6 +89,6 @@ fn guest_with(alloc: Global, guest: u8, blocks: &[u64; 8]) -> Result<GuestSetup,
     Ok(GuestSetup {
         map: GuestMap::new(HOST, vec![in alloc; region]?)?,
         extents,
-        limit: 1024,
+        limit: MOST_DESCRIPTORS,
     })
 }

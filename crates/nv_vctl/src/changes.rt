@@ -16,7 +16,7 @@ use crate::queues::{CompletionQueue, SubmissionQueue};
 use crate::vctl::Vctl;
 
 impl Vctl {
-    /// An I/O submission queue of this number, 1 to [`crate::LAST_QUEUE`], is made: empty, with `size` slots from guest address
+    /// An I/O submission queue of this number, 1 to [`nv_model::limits::LAST_QUEUE`], is made: empty, with `size` slots from guest address
     /// `base` on. The queues lie in the map as before, if its slots do.
     ///
     /// The caller knows that the controller is ready, that a queue may have so many slots (`nv_ring::Ring::fits`), and that its
@@ -34,7 +34,7 @@ impl Vctl {
         self.submission[usize::from(queue)] = Some(made);
     }
 
-    /// An I/O completion queue of this number, 1 to [`crate::LAST_QUEUE`], is made: empty, with `size` slots from guest address
+    /// An I/O completion queue of this number, 1 to [`nv_model::limits::LAST_QUEUE`], is made: empty, with `size` slots from guest address
     /// `base` on. The queues lie in the map as before, if its slots do.
     ///
     /// The caller knows that the controller is ready, and that a queue may have so many slots (`nv_ring::Ring::fits`).

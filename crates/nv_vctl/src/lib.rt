@@ -23,4 +23,4 @@ mod vctl;
 
 pub use deletion::Deletion;
 pub use posted::Posted;
-pub use vctl::{LAST_QUEUE, MOST_REQUESTS, MOST_TAKEN, Vctl};
+pub use vctl::{MOST_TAKEN, Vctl};

@@ -8,14 +8,9 @@ ghost use Rattle.nv_model.specs.Laws.{IsCompletionInPlace, IsInOrder, IsSubmissi
 ghost use Rattle.nv_ring.specs.Ring.{FitsRing};
 
 use nv_mem::GuestMap;
+use nv_model::limits::{CQE_SIZE, SQE_SIZE};
 use nv_ring::{Phase, Ring};
 use std::marker::Model;
-
-/// The bytes of a submission queue entry.
-pub(crate) const SQE_SIZE: u64 = 64;
-
-/// The bytes of a completion queue entry.
-pub(crate) const CQE_SIZE: u64 = 16;
 
 /// A submission queue: where its first slot is in the guest's memory, its positions, the completion queue that it uses, and whether it is being
 /// deleted.

@@ -10,9 +10,10 @@ ghost use Rattle.nv_model.specs.Laws.{QueuesInPlace};
 ghost use Rattle.nv_ring.specs.Ring.{FitsRing};
 ghost use Rattle.nv_vctl.specs.Vctl.{or_unchanged, with_cc};
 
-use crate::queues::{CQE_SIZE, CompletionQueue, SQE_SIZE, SubmissionQueue};
-use crate::vctl::{QUEUE_COUNT, Vctl, any_taken};
+use crate::queues::{CompletionQueue, SubmissionQueue};
+use crate::vctl::{Vctl, any_taken};
 use nv_mem::{GuestMap, PAGE_SIZE};
+use nv_model::limits::{CQE_SIZE, QUEUE_COUNT, SQE_SIZE};
 use nv_ring::Ring;
 
 /// CAP, the controller's capabilities: its two dwords.

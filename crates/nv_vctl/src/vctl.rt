@@ -15,19 +15,11 @@ use crate::deletion::Deletion;
 use crate::queues::{CompletionQueue, SubmissionQueue};
 use crate::registers::enables;
 use nv_mem::GuestMap;
+use nv_model::limits::{MOST_REQUESTS, QUEUE_COUNT};
 use std::marker::Model;
-
-/// The number of the last I/O queue. Queue 0 is the admin queue.
-pub const LAST_QUEUE: u16 = 8;
-
-/// The most event requests that are held, as AERL says.
-pub const MOST_REQUESTS: u8 = 4;
 
 /// The most taken commands of a queue that are counted.
 pub const MOST_TAKEN: u16 = 65_535;
-
-/// How many numbers of queues there are.
-pub(crate) const QUEUE_COUNT: usize = 9;
 
 /// A guest's virtual controller. A contract sees it as the registers, the queues by number, how many commands of each are
 /// taken, the event requests that are held, and a deletion that waits.

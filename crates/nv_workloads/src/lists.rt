@@ -7,19 +7,16 @@ use crate::entry::{
 use crate::random::Random;
 use crate::text::Text;
 use nv_mem::NoMemory;
+use nv_model::limits::{
+    LARGEST_MEMORY, LARGEST_NAMESPACE, MOST_COMMAND_BLOCKS, MOST_COMMAND_BYTES, MOST_DESCRIPTORS,
+    PAGE_SIZE, PART_SIZE,
+};
 use std::alloc::Global;
 
 /// The memory's bytes and the disk's blocks.
-const MEMORY: u64 = 0x100_0000;
+const MEMORY: u64 = LARGEST_MEMORY;
 
-const BLOCKS: u64 = 0x1_0000;
-
-/// The blocks and the bytes of each transfer, and the bytes of a page.
-const TRANSFER_BLOCKS: u64 = 256;
-
-const TRANSFER: u64 = 0x2_0000;
-
-const PAGE: u64 = 4096;
+const BLOCKS: u64 = LARGEST_NAMESPACE;
 
 /// Where the lists are: one array of descriptors, one of descriptors some of which discard, one whose last descriptor is faulty, arrays that are
 /// chained, a chain of pages, and ranges.
@@ -41,7 +38,7 @@ const DATA_AT: u64 = 0x40_0000;
 const DATA_BYTES: u64 = 0xc0_0000;
 
 /// How many descriptors a list has: with the command's own 1,024.
-const LISTED: u64 = 1023;
+const LISTED: u64 = MOST_DESCRIPTORS as u64 - 1;
 
 /// How many descriptors an array of a chain has, and how far these arrays lie apart.
 const CHAIN_ARRAY: u64 = 31;
@@ -69,10 +66,10 @@ impl Lists {
         };
         lists.text.line("memory", &[MEMORY])?;
         lists.text.line("blocks", &[BLOCKS])?;
-        for number in 0..DATA_BYTES / TRANSFER {
-            let at = DATA_AT.wrapping_add(number.wrapping_mul(TRANSFER));
+        for number in 0..DATA_BYTES / MOST_COMMAND_BYTES {
+            let at = DATA_AT.wrapping_add(number.wrapping_mul(MOST_COMMAND_BYTES));
             let byte = lists.random.below(256);
-            lists.text.line("fill", &[at, TRANSFER, byte])?;
+            lists.text.line("fill", &[at, MOST_COMMAND_BYTES, byte])?;
         }
         let mut start = 0;
         for number in 0..commands {
@@ -80,7 +77,7 @@ impl Lists {
                 lists.store_lists()?;
             }
             if number % 8 != 2 {
-                start = lists.random.below(BLOCKS - TRANSFER_BLOCKS);
+                start = lists.random.below(BLOCKS - u64::from(MOST_COMMAND_BLOCKS));
             }
             lists.command(number, start)?;
         }
@@ -136,7 +133,7 @@ impl Lists {
     // The descriptors of a transfer, whose pieces lie anywhere and have any length. Some discard, where that is asked for.
     fn array(&mut self, discards: bool) -> Result<Vec<u8>, NoMemory> {
         let mut list = Vec::new(self.alloc);
-        let mut left = TRANSFER;
+        let mut left = MOST_COMMAND_BYTES;
         for number in 1..LISTED {
             let len = self.random.below(65).wrapping_add(64);
             left = left.wrapping_sub(len);
@@ -151,7 +148,7 @@ impl Lists {
 
     // Stores arrays of descriptors, each but the last with the next one's Segment.
     fn store_chain(&mut self) -> Result<(), NoMemory> {
-        let mut left = TRANSFER;
+        let mut left = MOST_COMMAND_BYTES;
         for number in 0..33u64 {
             let is_last = number == 32;
             let blocks = if is_last {
@@ -189,7 +186,7 @@ impl Lists {
         let mut list = Vec::new(self.alloc);
         for slot in 0..63u64 {
             if slot == 31 {
-                push_page(&mut list, PAGES + PAGE)?;
+                push_page(&mut list, PAGES + PAGE_SIZE)?;
             } else {
                 push_page(&mut list, self.page())?;
             }
@@ -214,13 +211,17 @@ impl Lists {
 
     // The address of a page of data.
     fn page(&mut self) -> u64 {
-        DATA_AT.wrapping_add(self.random.below(DATA_BYTES / PAGE).wrapping_mul(PAGE))
+        DATA_AT.wrapping_add(
+            self.random
+                .below(DATA_BYTES / PAGE_SIZE)
+                .wrapping_mul(PAGE_SIZE),
+        )
     }
 
     // Stores bytes, in parts.
     fn store(&mut self, addr: u64, bytes: &[u8]) -> Result<(), NoMemory> {
         let mut at = addr;
-        for part in bytes.chunks(4096) {
+        for part in bytes.chunks(PART_SIZE as usize) {
             self.text.line_with_bytes("store", &[at], part)?;
             at = at.wrapping_add(part.len() as u64);
         }

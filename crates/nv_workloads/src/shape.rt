@@ -2,6 +2,7 @@
 
 use crate::text::Text;
 use nv_mem::{GuestMap, NoMemory, Region};
+use nv_model::limits::MOST_DESCRIPTORS;
 use nv_world::{Extent, GuestSetup, Setup};
 use std::alloc::Global;
 
@@ -18,9 +19,6 @@ const MEDIATOR: u64 = 0x600_0000;
 
 /// The bytes of a planner's heap; scripts name them, and nothing is planned there.
 const HEAP: u64 = 0x10_0000;
-
-/// The most descriptors of a list.
-const DESCRIPTORS: u32 = 1024;
 
 /// What a world is like, and its guests' traffic.
 #[derive(Clone, Copy, Debug)]
@@ -87,7 +85,7 @@ impl Shape {
             guests.push(GuestSetup {
                 map,
                 extents: vec![in alloc; Extent { base, blocks }]?,
-                limit: DESCRIPTORS,
+                limit: MOST_DESCRIPTORS,
             })?;
         }
         Ok(Some(Setup {

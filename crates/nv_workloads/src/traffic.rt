@@ -13,6 +13,7 @@ use crate::sink::Sink;
 use crate::transfer::{Maker, Transfer};
 use nv_mem::{BoxedBytes, NoMemory};
 use nv_model::Act;
+use nv_model::limits::{CQE_SIZE, PART_SIZE, SQE_SIZE};
 use nv_world_model::Event;
 use std::alloc::Global;
 
@@ -27,10 +28,6 @@ const SUBMISSIONS: u64 = 0x1_3000;
 
 /// The slots of each I/O queue, and the bytes of an entry of each.
 const SLOTS: u64 = 64;
-
-const SUBMISSION_BYTES: u64 = 64;
-
-const COMPLETION_BYTES: u64 = 16;
 
 /// Doorbells.
 const ADMIN_TAIL: u32 = 0x1000;
@@ -49,7 +46,7 @@ const ASQ: u32 = 0x28;
 const ACQ: u32 = 0x30;
 
 /// The bytes of a part of a list that is read at once.
-const PART: u64 = 4096;
+const PART: u64 = PART_SIZE as u64;
 
 /// Where a guest is in its queues.
 #[derive(Clone, Copy, Debug)]
@@ -162,7 +159,7 @@ impl<S: Sink + Drop> Traffic<S> {
             64,
             0x1_0001,
         )?;
-        self.store(guest, ADMIN_SUBMISSIONS + SUBMISSION_BYTES, submissions)?;
+        self.store(guest, ADMIN_SUBMISSIONS + SQE_SIZE, submissions)?;
         for (offset, value) in [
             (AQA, 0x001f_001f),
             (ASQ, ADMIN_SUBMISSIONS as u32),
@@ -269,7 +266,7 @@ impl<S: Sink + Drop> Traffic<S> {
         }
         let slot = made % SLOTS;
         let entry = entry(self.alloc, &command, made)?;
-        self.store(guest, SUBMISSIONS + SUBMISSION_BYTES * slot, entry)?;
+        self.store(guest, SUBMISSIONS + SQE_SIZE * slot, entry)?;
         self.act(
             guest,
             Act::Doorbell {
@@ -371,12 +368,12 @@ impl<S: Sink + Drop> Traffic<S> {
             None => return Ok(()),
         };
         for number in seen..completed {
-            let addr = COMPLETIONS + COMPLETION_BYTES * (number % SLOTS);
+            let addr = COMPLETIONS + CQE_SIZE * (number % SLOTS);
             self.act(
                 guest,
                 Act::Load {
                     addr,
-                    len: COMPLETION_BYTES,
+                    len: CQE_SIZE,
                 },
             )?;
         }

@@ -7,14 +7,11 @@ use crate::entry::{
 use crate::random::Random;
 use crate::shape::Shape;
 use nv_mem::NoMemory;
+use nv_model::limits::{BLOCK_SIZE, MOST_COMMAND_BYTES, MOST_DESCRIPTORS, PAGE_SIZE};
 use std::alloc::Global;
 
-/// The bytes of a block, of a page, and of the largest transfer.
-const BLOCK: u64 = 512;
-
-const PAGE: u64 = 4096;
-
-const LARGEST: u64 = 0x2_0000;
+/// The bytes of a block.
+const BLOCK: u64 = BLOCK_SIZE as u64;
 
 /// The bytes of most transfers.
 const COMMON: u64 = 4096;
@@ -30,7 +27,7 @@ const DATA_AT: u64 = 0x20_0000;
 const DATA_BYTES: u64 = 0x20_0000;
 
 /// The most descriptors of a list in memory: one more is in the command.
-const MOST_LISTED: u64 = 1023;
+const MOST_LISTED: u64 = MOST_DESCRIPTORS as u64 - 1;
 
 /// A command with its list.
 #[derive(Debug, Drop)]
@@ -65,7 +62,7 @@ impl Maker<'_> {
             return self.rare(alloc, list_at);
         }
         let bytes = if self.random.once_in(self.shape.large) {
-            LARGEST
+            MOST_COMMAND_BYTES
         } else {
             COMMON
         };
@@ -131,19 +128,19 @@ impl Maker<'_> {
         bytes: u64,
         list_at: u64,
     ) -> Result<(u64, u64), NoMemory> {
-        let first = self.addr(PAGE, PAGE);
+        let first = self.addr(PAGE_SIZE, PAGE_SIZE);
         let offset = if bytes > COMMON {
             0
         } else {
             self.random.below(3).wrapping_mul(0x400)
         };
-        let behind = bytes.saturating_sub(PAGE.wrapping_sub(offset));
-        let second = match behind.div_ceil(PAGE) {
+        let behind = bytes.saturating_sub(PAGE_SIZE.wrapping_sub(offset));
+        let second = match behind.div_ceil(PAGE_SIZE) {
             0 => 0,
-            1 => self.addr(PAGE, PAGE),
+            1 => self.addr(PAGE_SIZE, PAGE_SIZE),
             more => {
                 for _page in 0..more {
-                    push_page(list, self.addr(PAGE, PAGE))?;
+                    push_page(list, self.addr(PAGE_SIZE, PAGE_SIZE))?;
                 }
                 list_at
             }
@@ -158,8 +155,8 @@ impl Maker<'_> {
         bytes: u64,
         list_at: u64,
     ) -> Result<(u64, u64), NoMemory> {
-        for _page in 0..bytes / PAGE {
-            push_descriptor(list, self.addr(PAGE, PAGE), PAGE, DATA)?;
+        for _page in 0..bytes / PAGE_SIZE {
+            push_descriptor(list, self.addr(PAGE_SIZE, PAGE_SIZE), PAGE_SIZE, DATA)?;
         }
         Ok((list_at, length_and_kind(list.len() as u64, LAST_SEGMENT)))
     }
@@ -207,7 +204,7 @@ impl Maker<'_> {
     // A Read through as many descriptors as a list may have, of which the last is of that kind.
     fn long_list(&mut self, alloc: Global, list_at: u64, last: u32) -> Result<Transfer, NoMemory> {
         let mut list = Vec::new(alloc);
-        self.scatter(&mut list, LARGEST, MOST_LISTED, true)?;
+        self.scatter(&mut list, MOST_COMMAND_BYTES, MOST_LISTED, true)?;
         let at = list.len().saturating_sub(4);
         for (place, byte) in list.iter_mut().skip(at).zip(last.to_le_bytes()) {
             *place = byte;
@@ -215,10 +212,14 @@ impl Maker<'_> {
         let command = Command {
             operation: READ | SGL,
             pointer: (list_at, length_and_kind(list.len() as u64, LAST_SEGMENT)),
-            start: self.start(LARGEST / BLOCK),
+            start: self.start(MOST_COMMAND_BYTES / BLOCK),
             count: 255,
         };
-        let units = if last == NO_KIND { 0 } else { LARGEST / BLOCK };
+        let units = if last == NO_KIND {
+            0
+        } else {
+            MOST_COMMAND_BYTES / BLOCK
+        };
         Ok(Transfer {
             command,
             list,
@@ -231,13 +232,13 @@ impl Maker<'_> {
     fn past_the_end(&mut self, alloc: Global, list_at: u64) -> Result<Transfer, NoMemory> {
         let mut list = Vec::new(alloc);
         for _page in 0..30 {
-            push_page(&mut list, self.addr(PAGE, PAGE))?;
+            push_page(&mut list, self.addr(PAGE_SIZE, PAGE_SIZE))?;
         }
         push_page(&mut list, 0x4000_0000)?;
         let command = Command {
             operation: READ,
-            pointer: (self.addr(PAGE, PAGE), list_at),
-            start: self.start(LARGEST / BLOCK),
+            pointer: (self.addr(PAGE_SIZE, PAGE_SIZE), list_at),
+            start: self.start(MOST_COMMAND_BYTES / BLOCK),
             count: 255,
         };
         Ok(Transfer {

@@ -4,13 +4,12 @@ use crate::hand;
 use nv_device::{Device, IDENTIFIERS, Response};
 use nv_entry::Status;
 use nv_mem::{Host, NoMemory};
+use nv_model::limits::{LANE_SIZE, MOST_LANES, RING_SLOTS, SQE_SIZE};
+use nv_ring::Ring;
 use std::alloc::Global;
 
 /// Where the mediator's area begins.
 pub const MEDIATOR: u64 = 0x40_0000;
-
-/// The bytes of a lane's area.
-const LANE: u64 = 2115 * 4096;
 
 /// The most bytes that [`Bench::is_filled`] checks.
 const ROOM: usize = 12_288;
@@ -101,11 +100,11 @@ impl Bench {
 
     /// Puts an entry into a slot of a lane's submission ring, and rings the doorbell with the tail after it.
     pub fn enter(&mut self, lane: u8, at: u16, entry: &Entry) -> bool {
-        if lane >= self.device.lanes() || lane >= 8 || at >= 65 {
+        if lane >= self.device.lanes() || lane >= MOST_LANES || at >= RING_SLOTS {
             return false;
         }
-        let slot = MEDIATOR + LANE * u64::from(lane) + 64 * u64::from(at);
-        let tail = if at == 64 { 0 } else { at + 1 };
+        let slot = MEDIATOR + LANE_SIZE * u64::from(lane) + SQE_SIZE * u64::from(at);
+        let tail = Ring::new(RING_SLOTS).next(at);
         self.device.ring(lane, tail);
         self.store(slot, &entry.bytes())
     }

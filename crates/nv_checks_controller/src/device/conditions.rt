@@ -2,25 +2,26 @@
 
 use crate::device::bench::{Bench, Entry, MEDIATOR};
 use nv_device::{Device, Response};
+use nv_model::limits::{LANE_SIZE, MOST_DISK_BLOCKS, MOST_LANES, PAGE_SIZE};
 use std::test::Fail;
 
 #[test]
 fn sizes_of_a_device(rt: HostRuntime) {
     assert!(rt;
         Device::fits(MEDIATOR, 1, 1)
-            && Device::fits(MEDIATOR, 8, 2_097_152)
-            && Device::fits(0, 8, 1)
+            && Device::fits(MEDIATOR, MOST_LANES, MOST_DISK_BLOCKS)
+            && Device::fits(0, MOST_LANES, 1)
     );
     assert!(rt;
         !Device::fits(MEDIATOR + 1, 1, 1)
             && !Device::fits(MEDIATOR, 0, 1)
-            && !Device::fits(MEDIATOR, 9, 1)
+            && !Device::fits(MEDIATOR, MOST_LANES + 1, 1)
     );
-    assert!(rt; !Device::fits(MEDIATOR, 1, 0) && !Device::fits(MEDIATOR, 1, 2_097_153));
-    // an area of 2,115 pages that ends at 2 to the 64, and one a page after it
+    assert!(rt; !Device::fits(MEDIATOR, 1, 0) && !Device::fits(MEDIATOR, 1, MOST_DISK_BLOCKS + 1));
+    // the area of a lane that ends at 2 to the 64, and one a page after it
     assert!(rt;
-        Device::fits(0u64.wrapping_sub(2115 * 4096), 1, 1)
-            && !Device::fits(0u64.wrapping_sub(2114 * 4096), 1, 1)
+        Device::fits(0u64.wrapping_sub(LANE_SIZE), 1, 1)
+            && !Device::fits(0u64.wrapping_sub(LANE_SIZE - PAGE_SIZE), 1, 1)
     );
 }
 

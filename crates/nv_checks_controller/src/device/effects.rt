@@ -3,6 +3,7 @@
 use crate::device::bench::{Bench, Entry, MEDIATOR};
 use nv_device::Response;
 use nv_entry::StatusCode;
+use nv_model::limits::{CQE_SIZE, PAGE_SIZE, RING_SLOTS, SUBMISSION_RING_PAGES};
 use std::alloc::Global;
 use std::test::Fail;
 
@@ -29,7 +30,11 @@ fn writes(bench: &mut Bench, alloc: Global, at: u16, byte: u8, fua: u32) -> bool
 
 /// Whether the last dword of the completion in a slot is this, in the first pass.
 fn dword_is(bench: &Bench, at: u64, dword: u32) -> bool {
-    at < 65 && bench.shows(MEDIATOR + 0x2000 + 16 * at + 12, &dword.to_le_bytes())
+    at < u64::from(RING_SLOTS)
+        && bench.shows(
+            MEDIATOR + SUBMISSION_RING_PAGES * PAGE_SIZE + CQE_SIZE * at + 12,
+            &dword.to_le_bytes(),
+        )
 }
 
 #[test]

@@ -2,6 +2,7 @@
 
 use crate::device::bench::{Bench, Entry, MEDIATOR};
 use nv_device::Response;
+use nv_model::limits::{LANE_SIZE, PAGE_SIZE, SUBMISSION_RING_PAGES};
 use nv_ring::{Phase, Ring};
 use std::test::Fail;
 
@@ -50,9 +51,14 @@ fn one_command_on_the_last_lane(rt: HostRuntime) -> Result<(), Fail> {
         "a device of these sizes",
     );
     assert!(rt; bench.runs(rt.alloc(), 7, 0, &READ, 1));
-    // queue 8, after seven lanes of 2,115 pages
+    // queue 8, after seven lanes
     let completion = [0, 0, 0, 0, 0, 0, 0, 0, 1, 0, 8, 0, 0, 0, 1, 0];
-    assert!(rt; bench.shows(0x40_0000 + 7 * 2115 * 4096 + 0x2000, &completion));
+    assert!(rt;
+        bench.shows(
+            MEDIATOR + 7 * LANE_SIZE + SUBMISSION_RING_PAGES * PAGE_SIZE,
+            &completion
+        )
+    );
     // another lane has seen nothing of it
     assert!(rt;
         bench.take(rt.alloc(), 0) == Some(Response::Idle) && bench.is_filled(MEDIATOR, 0x3000, 0)

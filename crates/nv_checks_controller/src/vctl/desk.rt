@@ -7,8 +7,9 @@ ghost use Rattle.nv_vctl.specs.Vctl.{IsIoQueue};
 use crate::hand;
 use nv_entry::Status;
 use nv_mem::{GuestMap, Host, Region};
+use nv_model::limits::LAST_QUEUE;
 use nv_ring::Ring;
-use nv_vctl::{LAST_QUEUE, Posted, Vctl};
+use nv_vctl::{Posted, Vctl};
 use std::alloc::Global;
 use std::test::Fail;
 

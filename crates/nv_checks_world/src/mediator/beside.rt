@@ -6,6 +6,7 @@ use nv_bringup::{BRING_UP, Random, Span, act_of, guest_at, setup_of};
 use nv_mediator::{Mediator, Setup};
 use nv_mem::NoMemory;
 use nv_model::Reply;
+use nv_model::limits::{LANE_PAGES, PAGE_SIZE};
 use nv_world::World;
 use nv_world_model::Event;
 use std::alloc::Global;
@@ -32,7 +33,7 @@ const SPANS: &[Span] = &[
 ];
 
 /// The pages of the host's memory that are compared: the guest's, and the mediator's of the lane.
-const PAGES: [(u64, u64); 2] = [(0x10_0000, 32), (0x40_0000, 2115)];
+const PAGES: [(u64, u64); 2] = [(0x10_0000, 32), (0x40_0000, LANE_PAGES)];
 
 /// The mediator and the world.
 #[derive(Drop)]
@@ -132,11 +133,11 @@ fn runs(both: &mut Both, alloc: Global, seed: u64, seen: &mut Seen) -> Result<()
 
 // Whether a page of the host's memory is the same in both.
 fn is_same_page(both: &Both, addr: u64) -> bool {
-    let mut first = [0; 4096];
-    let mut second = [0; 4096];
+    let mut first = [0; PAGE_SIZE as usize];
+    let mut second = [0; PAGE_SIZE as usize];
     let host = both.mediator.host();
     let other = both.world.host();
-    if !host.holds(addr, 4096) || !other.holds(addr, 4096) {
+    if !host.holds(addr, PAGE_SIZE) || !other.holds(addr, PAGE_SIZE) {
         return false;
     }
     host.load(addr, &mut first);
@@ -148,7 +149,7 @@ fn is_same_page(both: &Both, addr: u64) -> bool {
 fn is_same_memory(both: &Both) -> bool {
     PAGES.iter().all(|(start, count)| (0..*count).all(|page| is_same_page(
         both,
-        start + 4096 * page,
+        start + PAGE_SIZE * page,
     )))
 }
 

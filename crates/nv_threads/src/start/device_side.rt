@@ -4,12 +4,10 @@ ghost use Rattle.std.specs.Prelude.{◌<◌};
 
 use crate::share::Share;
 use nv_model::Reply;
+use nv_model::limits::{TAG_COUNT, TAGS};
 use nv_world::World;
 use nv_world_model::Event;
 use std::alloc::Global;
-
-/// How many slots a lane of the physical controller has.
-const SLOTS: usize = 64;
 
 /// How many units a command has at most: a block each.
 const UNITS: u64 = 65_536;
@@ -23,7 +21,7 @@ pub(crate) struct LaneDevice {
     // whether some slot may hold a command
     held: bool,
     // the next unit of each slot's command
-    units: [u64; SLOTS],
+    units: [u64; TAG_COUNT],
     // of commands that were there before the worker came, no unit below this one is left
     earlier: u64,
     share: Share,
@@ -36,7 +34,7 @@ impl LaneDevice {
             lane,
             slot: 0,
             held: true,
-            units: [0; SLOTS],
+            units: [0; TAG_COUNT],
             earlier: if was_used { 0 } else { UNITS },
             share: Share::new(),
         }
@@ -98,8 +96,8 @@ impl LaneDevice {
 
     // Goes on with the next slot, after the last one, whose command has something due. Where there is none, no slot holds a command.
     fn turn_to_another(&mut self, world: &mut World, alloc: Global) -> bool {
-        for step in 1..=SLOTS as u8 {
-            let slot = self.slot.wrapping_add(step) % SLOTS as u8;
+        for step in 1..=TAGS {
+            let slot = self.slot.wrapping_add(step) % TAGS;
             if let Some(event) = self.due(world, slot) {
                 self.slot = slot;
                 return self.carry_out(world, alloc, event);

@@ -4,16 +4,11 @@ use crate::share::Share;
 use crate::start::tasks::{Task, Turn};
 use nv_mem::NoMemory;
 use nv_model::Reply;
+use nv_model::limits::{LAST_QUEUE, TAGS};
 use nv_plan::{Job, Plan, Planned};
 use nv_world::World;
 use nv_world_model::Event;
 use std::alloc::Global;
-
-/// How many tags a lane has.
-const TAGS: u8 = 64;
-
-/// The highest number of a guest's I/O queue; the lowest is 1.
-const LAST_QUEUE: u16 = 8;
 
 // A guest's planner on a lane.
 #[derive(Debug, Drop)]

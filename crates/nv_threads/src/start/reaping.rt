@@ -2,12 +2,10 @@
 
 use crate::share::Share;
 use nv_model::Reply;
+use nv_model::limits::TAGS;
 use nv_world::World;
 use nv_world_model::Event;
 use std::alloc::Global;
-
-/// How many tags a lane has.
-const TAGS: u8 = 64;
 
 // A lane's reaper.
 #[derive(Debug, Drop)]

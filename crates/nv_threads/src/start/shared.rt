@@ -1,9 +1,7 @@
 //! What is known of the lanes where the world is shared.
 
+use crate::notes::LANES;
 use nv_world_model::{Event, Logged};
-
-/// How many lanes there are at most.
-const LANES: usize = 8;
 
 // The lanes on which the physical controller took commands.
 pub(crate) fn used_lanes(log: &[Logged]) -> [bool; LANES] {

@@ -9,6 +9,7 @@ use crate::text::Text;
 use crate::traffic::Traffic;
 use crate::transfer::Transfer;
 use nv_mem::NoMemory;
+use nv_model::limits::MOST_GUESTS;
 use nv_world::{Extent, Setup};
 use nv_world_model::Event;
 use std::alloc::Global;
@@ -19,7 +20,7 @@ const EXTENTS: u64 = 8;
 const EXTENT_BLOCKS: u64 = 2048;
 
 /// How many guests' extents lie between two of a guest's.
-const GUESTS: u64 = 16;
+const GUESTS: u64 = MOST_GUESTS as u64;
 
 /// The most blocks of a command.
 const MOST_BLOCKS: u64 = 8;
