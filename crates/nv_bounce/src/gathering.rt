@@ -7,8 +7,7 @@ ghost use Rattle.nv_model.specs.Laws.{IsMappedPiece};
 ghost use Rattle.nv_model.specs.Memory.{byte_in, gathered, image, stored};
 ghost use Rattle.nv_bounce.specs.Bounce.{NamesNoBucket, gathered_to};
 
-use crate::pieces::len_of;
-use nv_mem::{GuestMap, Host, Piece};
+use nv_mem::{GuestMap, Host, Piece, len_of};
 
 /// Copies the bytes at a guest's places to the slot, in order. No other byte of the host changes.
 ///

@@ -1,11 +1,11 @@
 //! What is asked of places before bytes are copied.
 ghost use Rattle.std.specs.Prelude.{◌≡◌, ◌≤◌, ◌^◌, ◌↔◌, All, IsTrue, MatchOption};
 ghost use Rattle.nv_mem.specs.GuestMap.{mapped};
-ghost use Rattle.nv_mem.specs.Places.{piece_len, total_len};
+ghost use Rattle.nv_mem.specs.Places.{total_len};
 ghost use Rattle.nv_model.specs.Laws.{IsMappedPiece};
 ghost use Rattle.nv_bounce.specs.Bounce.{NamesNoBucket};
 
-use nv_mem::{GuestMap, Piece, Places};
+use nv_mem::{GuestMap, Piece, Places, len_of};
 
 /// Whether each address of the places is mapped. Buckets name none.
 pub fn are_mapped(places: &Places, map: &GuestMap) -> bool
@@ -30,15 +30,6 @@ pub fn total_len(places: &Places) -> Option<u64>
         total = total.checked_add(len_of(piece))?;
     }
     Some(total)
-}
-
-/// How many bytes a piece names.
-pub(crate) fn len_of(piece: &Piece) -> u64
-    ensures { result ≡ piece_len piece.now }
-{
-    match *piece {
-        Piece::Run { len, .. } | Piece::Bucket { len } => len,
-    }
 }
 
 // Whether each address of the piece is mapped.

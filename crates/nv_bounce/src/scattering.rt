@@ -7,8 +7,7 @@ ghost use Rattle.nv_model.specs.Laws.{IsMappedPiece};
 ghost use Rattle.nv_model.specs.Memory.{byte_in, bytes_from, image, put_image, scattered};
 ghost use Rattle.nv_bounce.specs.Bounce.{scattered_from};
 
-use crate::pieces::len_of;
-use nv_mem::{GuestMap, Host, Piece};
+use nv_mem::{GuestMap, Host, Piece, len_of};
 
 /// Copies the bytes of the slot, as many as the places name, to a guest's places, in order. A bucket discards its bytes, and an address that is
 /// named twice keeps the last byte meant for it. No other byte of the host changes.

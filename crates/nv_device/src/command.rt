@@ -20,7 +20,6 @@ use crate::units::Units;
 use nv_disk::Buffer;
 use nv_entry::{IoOpcode, Sqe, Status, StatusCode};
 use nv_mem::{Host, NoMemory, Places};
-use nv_model::limits::{BLOCK_SIZE, RANGE_SIZE};
 use std::alloc::Global;
 use std::marker::Model;
 
@@ -186,10 +185,8 @@ fn transfer_len(sqe: &Sqe) -> u64
     ensures fits { result < 2 ^ 32 }
 {
     match sqe.io_opcode() {
-        Some(IoOpcode::Read | IoOpcode::Write | IoOpcode::Compare) => BLOCK_SIZE as u64
-            * (u64::from(sqe.nlb()) + 1),
-        Some(IoOpcode::DatasetManagement) => RANGE_SIZE as u64 * (u64::from(sqe.nr()) + 1),
-        Some(IoOpcode::WriteZeroes | IoOpcode::Flush) | None => 0,
+        Some(opcode) => u64::from(nv_judge::transfer_len(opcode, sqe)),
+        None => 0,
     }
 }
 

@@ -1,12 +1,12 @@
 //! Where a byte of a command lies among its pieces, of which all between the first and the last are pages.
 
 ghost use Rattle.std.specs.Prelude.{◌≡◌, ◌≤◌, ◌^◌, drop, length};
-ghost use Rattle.nv_mem.specs.Places.{piece_len, places_of};
+ghost use Rattle.nv_mem.specs.Places.{places_of};
 ghost use Rattle.nv_disk.specs.Buffer.{AreBelow};
 ghost use Rattle.nv_device.specs.Pages.{ArePaged};
 
 use nv_disk::Buffer;
-use nv_mem::{PAGE_SIZE, Piece};
+use nv_mem::{PAGE_SIZE, Piece, len_of};
 
 /// What is left of the pieces after the first `count` of their bytes. It takes the same time however many pages these are on.
 pub(crate) fn buffer_behind(pieces: &[Piece], count: u64) -> Buffer<'_>
@@ -41,13 +41,4 @@ fn pieces_passed(pieces: &[Piece], count: u64) -> (usize, u64)
         return (0, count);
     }
     (1 + passed as usize, behind % PAGE_SIZE)
-}
-
-/// How many bytes a piece names.
-fn len_of(piece: &Piece) -> u64
-    ensures { result ≡ piece_len piece.now }
-{
-    match *piece {
-        Piece::Run { len, .. } | Piece::Bucket { len } => len,
-    }
 }

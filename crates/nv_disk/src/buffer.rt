@@ -7,7 +7,7 @@ ghost use Rattle.nv_model.specs.Private.{differs};
 ghost use Rattle.nv_mem.specs.Places.{piece_len, places_of, places_of_piece};
 ghost use Rattle.nv_disk.specs.Buffer.{AreBelow, IsFront};
 
-use nv_mem::{Host, Piece, Places};
+use nv_mem::{Host, Piece, Places, len_of};
 use std::marker::Model;
 
 /// What is left of a command's buffer. A contract sees it as the places that are left, in order.
@@ -139,16 +139,6 @@ impl<'a> Buffer<'a> {
             rest = others;
         }
         differed
-    }
-}
-
-// How many bytes a piece names.
-#[inline(always)]
-fn len_of(piece: &Piece) -> u64
-    ensures { result ≡ piece_len piece.now }
-{
-    match *piece {
-        Piece::Run { len, .. } | Piece::Bucket { len } => len,
     }
 }
 

@@ -86,8 +86,8 @@ fn has_blocks(opcode: IoOpcode) -> bool
     !matches!(opcode, IoOpcode::Flush | IoOpcode::DatasetManagement)
 }
 
-// The length of a command's buffer in bytes.
-fn transfer_len(opcode: IoOpcode, sqe: &Sqe) -> u32
+/// The length of a command's buffer in bytes.
+pub fn transfer_len(opcode: IoOpcode, sqe: &Sqe) -> u32
     ensures { result ≡ transfer_len opcode sqe.now }
 {
     match opcode {

@@ -8,6 +8,6 @@ mod fields;
 mod need;
 mod ranges;
 
-pub use fields::judge_fields;
+pub use fields::{judge_fields, transfer_len};
 pub use need::Need;
 pub use ranges::judge_ranges;

@@ -2,14 +2,13 @@
 
 ghost use Rattle.std.specs.Prelude.{◌≡◌, ◌||◌, ◌++◌, true};
 ghost use Rattle.std.specs.List.{list_all, list_any};
-ghost use Rattle.nv_mem.specs.GuestMap.{spans_meet};
 ghost use Rattle.nv_mediator.specs.Refused.{refused};
 ghost use Rattle.nv_world_model.specs.SetUp.{all_extents, any_two, blocks_meet, extent_fits, guest_fits, host_fits};
 ghost use Rattle.nv_world_model.specs.SetUp.{maps_meet, meets_area, refusal_of, sizes_fit};
 
 use crate::refusal::Refusal;
 use crate::setup::{Extent, GuestSetup, Setup};
-use nv_mem::PAGE_SIZE;
+use nv_mem::{PAGE_SIZE, spans_meet};
 use nv_model::limits::{
     LANE_SIZE, MOST_DISK_BLOCKS, MOST_EXTENTS, MOST_GUESTS, MOST_HOST_BYTES, MOST_LANES,
     MOST_LIMIT, MOST_REGIONS,
@@ -84,17 +83,6 @@ fn blocks_meet(extent: Extent, other: Extent) -> bool
     ensures { result ≡ blocks_meet extent other }
 {
     spans_meet(extent.base, extent.blocks, other.base, other.blocks)
-}
-
-// Whether `a_len` numbers from `a` on and `b_len` from `b` on have one in common.
-fn spans_meet(a: u64, a_len: u64, b: u64, b_len: u64) -> bool
-    ensures { result ≡ spans_meet a a_len b b_len }
-{
-    if a <= b {
-        b - a < a_len && 0 < b_len
-    } else {
-        a - b < b_len && 0 < a_len
-    }
 }
 
 // Whether some two guests' memories have a byte of the host in common.

@@ -30,9 +30,9 @@ pub use guest_map::GuestMap;
 pub use host::Host;
 pub use map_error::MapError;
 pub use no_memory::NoMemory;
-pub use piece::Piece;
+pub use piece::{Piece, len_of};
 pub use places::Places;
-pub use region::{PAGE_SIZE, Region};
+pub use region::{PAGE_SIZE, Region, spans_meet};
 
 mod boxed_bytes;
 mod bytes;

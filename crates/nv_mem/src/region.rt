@@ -82,8 +82,8 @@ impl Region {
     }
 }
 
-// Whether `a_len` addresses from `a` on and `b_len` from `b` on have one in common.
-fn spans_meet(a: u64, a_len: u64, b: u64, b_len: u64) -> bool
+/// Whether `a_len` numbers from `a` on and `b_len` from `b` on have one in common.
+pub fn spans_meet(a: u64, a_len: u64, b: u64, b_len: u64) -> bool
     ensures { result ≡ spans_meet a a_len b b_len }
 {
     if a <= b {

@@ -8,7 +8,7 @@ ghost use Rattle.nv_world_model.specs.Share.{cut_piece};
 
 use crate::ends::Ends;
 use crate::portions::Portions;
-use nv_mem::{NoMemory, Piece, Places};
+use nv_mem::{NoMemory, Piece, Places, len_of};
 use nv_model::limits::BLOCK_SIZE;
 use nv_ns::Part;
 use std::alloc::Global;
@@ -45,7 +45,7 @@ fn cut_out(pieces: &[Piece], skip: u64, len: u64, places: &mut Places) -> Result
         if left == 0 {
             return Ok(());
         }
-        let size = len_of(*piece);
+        let size = len_of(piece);
         let here = size.saturating_sub(ahead).min(left);
         if here > 0 {
             places.push(cut(*piece, ahead, here))?;
@@ -55,15 +55,6 @@ fn cut_out(pieces: &[Piece], skip: u64, len: u64, places: &mut Places) -> Result
         rest = behind;
     }
     Ok(())
-}
-
-// How many bytes a piece names.
-fn len_of(piece: Piece) -> u64
-    ensures { result ≡ piece_len piece }
-{
-    match piece {
-        Piece::Run { addr: _, len } | Piece::Bucket { len } => len,
-    }
 }
 
 // So many bytes of a piece after its first `skip`.

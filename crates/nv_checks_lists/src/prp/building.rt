@@ -1,12 +1,11 @@
 //! Which places fit, and what is built for them.
 ghost use Rattle.std.specs.Prelude.{◌≡◌, ◌≤◌, true, All};
 ghost use Rattle.nv_mem.specs.GuestMap.{mapped};
-ghost use Rattle.nv_mem.specs.Places.{piece_len, total_len};
+ghost use Rattle.nv_mem.specs.Places.{total_len};
 ghost use Rattle.nv_model.specs.Laws.{IsMappedPiece};
 
 use super::map;
-use crate::memory::{APART, map_of, run};
-use nv_mem::{GuestMap, NoMemory, Piece, Places};
+use nv_mem::{GuestMap, NoMemory, Piece, Places, Region, len_of};
 use nv_prp::{Prps, build, build_run, fits};
 use std::alloc::Global;
 use std::process::Abort;
@@ -95,22 +94,13 @@ fn are_few(places: &Places) -> bool
 {
     let mut left = 131072;
     for piece in places.pieces() {
-        let len = len_of(*piece);
+        let len = len_of(piece);
         if len > left {
             return false;
         }
         left -= len;
     }
     true
-}
-
-fn len_of(piece: Piece) -> u64
-    ensures { result ≡ piece_len piece }
-{
-    match piece {
-        Piece::Run { addr: _, len } => len,
-        Piece::Bucket { len } => len,
-    }
 }
 
 // What names these places, or nothing where the conditions of `build` don't hold.
