@@ -361,7 +361,7 @@ const LOWEST: &[(Refusal, Case)] = &[
         },
     ),
     (
-        Refusal::RangesMeet,
+        Refusal::ExtentsMeet,
         Case {
             name: "extents and memory that meet, and 9 lanes",
             guests: 2,
@@ -371,7 +371,7 @@ const LOWEST: &[(Refusal, Case)] = &[
         },
     ),
     (
-        Refusal::RangesMeet,
+        Refusal::ExtentsMeet,
         Case {
             name: "two extents of one guest that meet",
             last: Seat {
@@ -391,7 +391,7 @@ const LOWEST: &[(Refusal, Case)] = &[
         },
     ),
     (
-        Refusal::RangesMeet,
+        Refusal::ExtentsMeet,
         Case {
             name: "a second extent that meets another guest's",
             guests: 2,
@@ -409,7 +409,7 @@ const LOWEST: &[(Refusal, Case)] = &[
         },
     ),
     (
-        Refusal::RangesMeet,
+        Refusal::ExtentsMeet,
         Case {
             name: "extents that meet where there is no disk",
             last: Seat {

@@ -49,7 +49,7 @@ impl Lane {
         ensures { (command : Command) → command_at (slice_get self.now.tags tag) ≡ Some command → result ≡ held_by command }
     {
         Holder {
-            guest: self.tags.entry(tag).guest,
+            guest: self.tags.claimed(tag).guest,
             leader: self.tags.leader(tag),
         }
     }

@@ -123,7 +123,7 @@ impl Lane {
         ensures { (command : Command) (reads : List Read) → slice_get self.now.tags tag ≡ Some (Taken command reads) →
             command_of result.now command.leader ≡ command }
     {
-        self.tags.entry(tag)
+        self.tags.claimed(tag)
     }
 
     /// A read joins the transcript of a tag that was taken. Where no memory is left, nothing has changed.

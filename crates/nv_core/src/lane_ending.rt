@@ -55,7 +55,7 @@ impl Lane {
         ensures { (command : Command) (st : StatusField) (share : Option Share) → slice_get self.now.tags tag ≡ Some (Ended command st share) →
             command_of result.now command.leader ≡ command }
     {
-        self.tags.entry(tag)
+        self.tags.claimed(tag)
     }
 }
 

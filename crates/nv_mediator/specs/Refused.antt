@@ -2,11 +2,11 @@
 use Rattle.std.specs.Prelude.{Option, Some, None}
 use Rattle.nv_mediator.specs.declared.refusal.Refusal.{Refusal as Named}
 use Rattle.nv_mediator.specs.declared.refusal.Refusal.TheVariants as named
-use Rattle.nv_world_model.specs.SetUp.{BadSize, MapsMeet, RangesMeet, Refusal, TooManyGuests}
+use Rattle.nv_world_model.specs.SetUp.{BadSize, MapsMeet, ExtentsMeet, Refusal, TooManyGuests}
 
 abbrev pub name_of : Refusal → Named
 name_of TooManyGuests = named.TooManyGuests
-name_of RangesMeet = named.RangesMeet
+name_of ExtentsMeet = named.ExtentsMeet
 name_of MapsMeet = named.MapsMeet
 name_of BadSize = named.BadSize
 

@@ -22,7 +22,7 @@ pub(crate) fn refusal_of(setup: &Setup) -> Option<Refusal>
     if setup.guests.len() > MOST_GUESTS as usize {
         Some(Refusal::TooManyGuests)
     } else if extents_meet(&setup.guests) {
-        Some(Refusal::RangesMeet)
+        Some(Refusal::ExtentsMeet)
     } else if maps_meet(&setup.guests) || area_met(setup) {
         Some(Refusal::MapsMeet)
     } else if !sizes_fit(setup) {

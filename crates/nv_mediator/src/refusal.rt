@@ -10,7 +10,7 @@ pub enum Refusal {
     TooManyGuests,
     /// Two extents, of one guest or of two, have a block in common.
     #[error("2 RangesMeet")]
-    RangesMeet,
+    ExtentsMeet,
     /// Two guests' memories have a byte of the host in common, or one and the mediator's area.
     #[error("3 MapsMeet")]
     MapsMeet,

@@ -57,7 +57,7 @@ accepted_by-refused : (answer : Option model.Refusal) (set_up : SetUp) (refusal 
     → refused answer ≡ Some refusal → accepted_by answer set_up ≡ Err (of_refusal refusal)
 accepted_by-refused None set_up refusal is = cc
 accepted_by-refused (Some model.TooManyGuests) set_up refusal is = let same : refusal ≡ world.TooManyGuests = cc in rw same refl
-accepted_by-refused (Some model.RangesMeet) set_up refusal is = let same : refusal ≡ world.RangesMeet = cc in rw same refl
+accepted_by-refused (Some model.ExtentsMeet) set_up refusal is = let same : refusal ≡ world.ExtentsMeet = cc in rw same refl
 accepted_by-refused (Some model.MapsMeet) set_up refusal is = let same : refusal ≡ world.MapsMeet = cc in rw same refl
 accepted_by-refused (Some model.BadSize) set_up refusal is = let same : refusal ≡ world.BadSize = cc in rw same refl
 

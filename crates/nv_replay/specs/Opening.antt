@@ -16,7 +16,7 @@ use Rattle.nv_world_model.specs.declared.event.Event.{Event}
 use Rattle.nv_replay.specs.declared.fault.ReplayFault.{ReplayFault}
 use Rattle.nv_replay.specs.declared.fault.ReplayFault.TheVariants.{NoMemory, Refused}
 use Rattle.nv_replay.specs.declared.refusal.SetUpRefusal.{SetUpRefusal}
-use Rattle.nv_replay.specs.declared.refusal.SetUpRefusal.TheVariants.{Map, TooManyGuests, RangesMeet, MapsMeet, BadSize}
+use Rattle.nv_replay.specs.declared.refusal.SetUpRefusal.TheVariants.{Map, TooManyGuests, ExtentsMeet, MapsMeet, BadSize}
 use Rattle.nv_replay.specs.Refused.{of_script}
 
 -- the most descriptors of a guest's list where no line names them
@@ -73,7 +73,7 @@ set_up_with sizes guests =
 
 abbrev pub refusal_as : Refusal → SetUpRefusal
 refusal_as model.TooManyGuests = TooManyGuests
-refusal_as model.RangesMeet = RangesMeet
+refusal_as model.ExtentsMeet = ExtentsMeet
 refusal_as model.MapsMeet = MapsMeet
 refusal_as model.BadSize = BadSize
 

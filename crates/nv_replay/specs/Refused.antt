@@ -10,7 +10,7 @@ use Rattle.nv_mediator.specs.declared.refusal.Refusal.TheVariants as world
 use Rattle.nv_replay.specs.declared.fault.ReplayFault.{ReplayFault}
 use Rattle.nv_replay.specs.declared.fault.ReplayFault.TheVariants as fault
 use Rattle.nv_replay.specs.declared.refusal.SetUpRefusal.{SetUpRefusal}
-use Rattle.nv_replay.specs.declared.refusal.SetUpRefusal.TheVariants.{Map, TooManyGuests, RangesMeet, MapsMeet, BadSize}
+use Rattle.nv_replay.specs.declared.refusal.SetUpRefusal.TheVariants.{Map, TooManyGuests, ExtentsMeet, MapsMeet, BadSize}
 
 -- a refusal of a guest's regions, by number and name
 abbrev pub map_error_text : MapError → List ℕ
@@ -22,7 +22,7 @@ map_error_text OutsideHost = codes "3 OutsideHost"
 abbrev pub refusal_text : SetUpRefusal → List ℕ
 refusal_text (Map guest error) = codes "guest " ++ decimal guest ++ codes " map refused: " ++ map_error_text error
 refusal_text TooManyGuests = codes "setup refused: 1 TooManyGuests"
-refusal_text RangesMeet = codes "setup refused: 2 RangesMeet"
+refusal_text ExtentsMeet = codes "setup refused: 2 RangesMeet"
 refusal_text MapsMeet = codes "setup refused: 3 MapsMeet"
 refusal_text BadSize = codes "setup refused: 4 BadSize"
 
@@ -34,7 +34,7 @@ of_script script.NoMemory = fault.NoMemory
 -- the fault of a set-up whose world is not opened
 abbrev pub of_refusal : Refusal → ReplayFault
 of_refusal world.TooManyGuests = fault.Refused TooManyGuests
-of_refusal world.RangesMeet = fault.Refused RangesMeet
+of_refusal world.ExtentsMeet = fault.Refused ExtentsMeet
 of_refusal world.MapsMeet = fault.Refused MapsMeet
 of_refusal world.BadSize = fault.Refused BadSize
 of_refusal world.NoMemory = fault.NoMemory

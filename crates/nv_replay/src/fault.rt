@@ -36,7 +36,7 @@ impl From<Refusal> for ReplayFault {
     fn from(refusal: Refusal) -> Self {
         match refusal {
             Refusal::TooManyGuests => ReplayFault::Refused(SetUpRefusal::TooManyGuests),
-            Refusal::RangesMeet => ReplayFault::Refused(SetUpRefusal::RangesMeet),
+            Refusal::ExtentsMeet => ReplayFault::Refused(SetUpRefusal::ExtentsMeet),
             Refusal::MapsMeet => ReplayFault::Refused(SetUpRefusal::MapsMeet),
             Refusal::BadSize => ReplayFault::Refused(SetUpRefusal::BadSize),
             Refusal::NoMemory => ReplayFault::NoMemory,

@@ -15,7 +15,7 @@ pub enum SetUpRefusal {
     /// there are more than 16 guests
     TooManyGuests,
     /// two guests have a block in common
-    RangesMeet,
+    ExtentsMeet,
     /// two guests, or one and the mediator's area, have a byte of the host in common
     MapsMeet,
     /// a size is none that may be
@@ -34,7 +34,7 @@ impl fmt::Display for SetUpRefusal {
                 write!(f, "guest {guest} map refused: {error}")
             }
             SetUpRefusal::TooManyGuests => f.write_str("setup refused: 1 TooManyGuests"),
-            SetUpRefusal::RangesMeet => f.write_str("setup refused: 2 RangesMeet"),
+            SetUpRefusal::ExtentsMeet => f.write_str("setup refused: 2 RangesMeet"),
             SetUpRefusal::MapsMeet => f.write_str("setup refused: 3 MapsMeet"),
             SetUpRefusal::BadSize => f.write_str("setup refused: 4 BadSize"),
         }

@@ -120,7 +120,7 @@ impl Tags {
     }
 
     /// The command of the tag, as it was claimed. The tag is not free.
-    pub fn entry(&self, tag: u8) -> &Claim
+    pub fn claimed(&self, tag: u8) -> &Claim
         requires used { state_at self.now tag ≢ state.Free }
         ensures { command_in (slot_at self.now tag) ≡ Some (command_of result.now (leader_of (slot_at self.now tag))) }
     {

@@ -18,7 +18,7 @@ pub record SetUp : Type 0 where
 -- why a set-up is refused
 pub data Refusal : Type 0 where
   TooManyGuests : Refusal
-  RangesMeet : Refusal
+  ExtentsMeet : Refusal
   MapsMeet : Refusal
   BadSize : Refusal
 
@@ -101,7 +101,7 @@ sizes_fit s =
 unfoldable pub refusal_of : SetUp → Option Refusal
 refusal_of s =
     if nat_lt most_guests (length s.geometry.guests) then Some TooManyGuests else
-    if any_two blocks_meet (all_extents s.geometry.guests) then Some RangesMeet else
+    if any_two blocks_meet (all_extents s.geometry.guests) then Some ExtentsMeet else
     if any_two maps_meet s.geometry.guests || list_any (meets_area s) s.geometry.guests then Some MapsMeet else
     if not (sizes_fit s) then Some BadSize else None
 

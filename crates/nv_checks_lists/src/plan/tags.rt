@@ -31,7 +31,7 @@ fn the_lowest_free_tag(rt: HostRuntime) {
     claim_each(&rt, &mut tags, 64);
     assert_eq!(rt; tags.claim(claim(64)), None);
     assert!(rt; tags.state(9) == TagState::Taken);
-    assert_eq!(rt; tags.entry(9).queue, 9);
+    assert_eq!(rt; tags.claimed(9).queue, 9);
     tags.release(9);
     assert_eq!(rt; tags.claim(claim(64)), Some(9));
     assert_eq!(rt; tags.claim(claim(65)), None);
@@ -63,7 +63,7 @@ fn tags_of_one_command(rt: HostRuntime) {
     assert_eq!(rt; tags.claim_group(claim(1), 3), Some(0));
     assert_eq!(rt; tags.claim_group(claim(2), 1), Some(3));
     assert!(rt; tags.state(2) == TagState::Taken);
-    assert_eq!(rt; (tags.leader(2), tags.entry(2).queue), (0, 1));
+    assert_eq!(rt; (tags.leader(2), tags.claimed(2).queue), (0, 1));
     assert!(rt; is_group(&tags, &[0, 1, 2]) && is_group(&tags, &[3]));
     assert!(rt; tags.state(0) == TagState::Taken);
     assert_eq!(rt; tags.leader(0), 0);

@@ -4,7 +4,7 @@ ghost use Rattle.std.specs.Prelude.{◌≡◌, [], ◌∷◌, ◌++◌, Some, No
 ghost use Rattle.nv_world_model.specs.Rows.{guest_at};
 ghost use Rattle.nv_world_model.specs.RowsShown.{disk_refused, extent_at, extents_from, first_guest, guest_of, guest_of_regions, guest_with_limit, guests_refused};
 ghost use Rattle.nv_world_model.specs.RowsShown.{refused, refused_of_another_host, second_guest, small_guests};
-ghost use Rattle.nv_world_model.specs.SetUp.{BadSize, MapsMeet, RangesMeet, TooManyGuests};
+ghost use Rattle.nv_world_model.specs.SetUp.{BadSize, MapsMeet, ExtentsMeet, TooManyGuests};
 
 /// The examples of this module, a clause each.
 #[tactic(none)]
@@ -18,11 +18,11 @@ pub fn examples()
     // One more.
     ensures seventeen_guests { guests_refused (small_guests 17) ≡ Some TooManyGuests }
     // The second's first block is the first's last.
-    ensures ranges_that_meet { guests_refused (first_guest ∷ guest_at 0x200000 1063 ∷ []) ≡ Some RangesMeet }
+    ensures ranges_that_meet { guests_refused (first_guest ∷ guest_at 0x200000 1063 ∷ []) ≡ Some ExtentsMeet }
     // It is the one after that.
     ensures ranges_side_by_side { guests_refused (first_guest ∷ guest_at 0x200000 1064 ∷ []) ≡ None }
     // Ranges of the first and the last of three meet.
-    ensures ranges_that_meet_further_on { guests_refused (first_guest ∷ second_guest ∷ guest_at 0x300000 1000 ∷ []) ≡ Some RangesMeet }
+    ensures ranges_that_meet_further_on { guests_refused (first_guest ∷ second_guest ∷ guest_at 0x300000 1000 ∷ []) ≡ Some ExtentsMeet }
     // The second's first page is the first's last.
     ensures maps_that_meet { guests_refused (first_guest ∷ guest_at 0x11f000 2000 ∷ []) ≡ Some MapsMeet }
     // It is the one after that.
@@ -66,9 +66,9 @@ pub fn examples()
     // A guest without an extent.
     ensures a_guest_without_extents { guests_refused (guest_of 0x100000 [] ∷ []) ≡ Some BadSize }
     // A guest's second extent begins with the last block of its first.
-    ensures extents_of_a_guest_that_meet { guests_refused (guest_of 0x100000 (extent_at 1000 32 ∷ extent_at 1031 8 ∷ []) ∷ []) ≡ Some RangesMeet }
+    ensures extents_of_a_guest_that_meet { guests_refused (guest_of 0x100000 (extent_at 1000 32 ∷ extent_at 1031 8 ∷ []) ∷ []) ≡ Some ExtentsMeet }
     // A guest's third extent lies in another guest's first.
-    ensures extents_of_guests_that_meet { guests_refused (first_guest ∷ guest_of 0x200000 (extent_at 2000 1 ∷ extent_at 2100 1 ∷ extent_at 1063 1 ∷ []) ∷ []) ≡ Some RangesMeet }
+    ensures extents_of_guests_that_meet { guests_refused (first_guest ∷ guest_of 0x200000 (extent_at 2000 1 ∷ extent_at 2100 1 ∷ extent_at 1063 1 ∷ []) ∷ []) ≡ Some ExtentsMeet }
     // Two extents that are apart, the second before the first on the disk.
     ensures extents_that_are_apart { guests_refused (guest_of 0x100000 (extent_at 3000 32 ∷ extent_at 1000 32 ∷ []) ∷ []) ≡ None }
     // Two in a row.
@@ -94,9 +94,9 @@ pub fn examples()
     // Seventeen guests come before their ranges that meet.
     ensures too_many_guests_come_first { guests_refused (small_guests 16 ++ guest_at 0x200000 0 ∷ []) ≡ Some TooManyGuests }
     // Ranges that meet come before maps that do.
-    ensures ranges_come_before_maps { guests_refused (first_guest ∷ first_guest ∷ []) ≡ Some RangesMeet }
+    ensures ranges_come_before_maps { guests_refused (first_guest ∷ first_guest ∷ []) ≡ Some ExtentsMeet }
     // And before sizes.
-    ensures ranges_come_before_sizes { refused 0x1000000 0 0x400000 (first_guest ∷ guest_at 0x200000 1063 ∷ []) ≡ Some RangesMeet }
+    ensures ranges_come_before_sizes { refused 0x1000000 0 0x400000 (first_guest ∷ guest_at 0x200000 1063 ∷ []) ≡ Some ExtentsMeet }
     // Maps that meet come before sizes: nine lanes, whose area reaches a guest.
     ensures maps_come_before_sizes { refused 0x8000000 9 0x400000 (first_guest ∷ guest_at 0x4e5a000 2000 ∷ []) ≡ Some MapsMeet }
     // A map that was made for a larger host.

@@ -15,7 +15,7 @@ pub returns : goal.returns
 returns c = λ command reads there.
     let i = c.self.inside in
     let at = lane-taken i.head i.phase i.tags i.progress.items c.args.self.now c.self.invariant c.self.view_is c.args.tag c.requires in
-    claim-is c.entry.result.now (leader_of (slot_at i.tags c.args.tag)) command
-    (sym c.entry.ensures ∙ ap command_in at.slot_is
+    claim-is c.claimed.result.now (leader_of (slot_at i.tags c.args.tag)) command
+    (sym c.claimed.ensures ∙ ap command_in at.slot_is
     ∙ ap (λ (d : Command). Some d) (same-taken i.head i.phase i.tags i.progress.items c.args.self.now c.self.invariant c.self.view_is
     c.args.tag command reads at there).0)

@@ -15,4 +15,4 @@ pub returns : goal.returns
 returns c = λ command st share there.
     let i = c.self.inside in
     let e = ended-at i.head i.phase i.tags i.progress.items c.args.self.now c.self.invariant c.self.view_is c.args.tag command st share there in
-    claim-is c.entry.result.now (leader_of (slot_at i.tags c.args.tag)) command (sym c.entry.ensures ∙ ap command_in e.slot_is)
+    claim-is c.claimed.result.now (leader_of (slot_at i.tags c.args.tag)) command (sym c.claimed.ensures ∙ ap command_in e.slot_is)

@@ -16,4 +16,4 @@ pub returns : goal.returns
 returns c = λ command there.
     let i = c.self.inside in
     let is = lane-command i.head i.phase i.tags i.progress.items c.args.self.now c.self.invariant c.self.view_is c.args.tag command there in
-    holder-is c.entry.result.now (leader_of (slot_at i.tags c.args.tag)) command c.leader.result (sym c.entry.ensures ∙ is) c.leader.ensures.value
+    holder-is c.claimed.result.now (leader_of (slot_at i.tags c.args.tag)) command c.leader.result (sym c.claimed.ensures ∙ is) c.leader.ensures.value

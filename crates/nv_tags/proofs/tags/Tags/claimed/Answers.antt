@@ -1,6 +1,6 @@
 use Rattle.std.proofs.Common.{arith}
 use Rattle.nv_tags.proofs.Slots.{claim-seen, there}
-use Rattle.nv_tags.proofs.tags.Tags.entry.Goals as goal
+use Rattle.nv_tags.proofs.tags.Tags.claimed.Goals as goal
 
 pub listed : goal.listed
 listed c =
