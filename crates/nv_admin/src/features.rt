@@ -9,13 +9,14 @@ ghost use Rattle.nv_admin.specs.Effect.{Keeps, effect};
 use crate::fields;
 use crate::outcome::Outcome;
 use nv_entry::{Sqe, StatusCode};
+use nv_model::limits::LAST_QUEUE;
 use nv_vctl::Vctl;
 
 /// FID of Number of Queues.
 const NUMBER_OF_QUEUES: u8 = 0x07;
 
-/// Eight I/O submission queues and eight I/O completion queues, counted from 0.
-const QUEUES_ALLOCATED: u32 = 0x0007_0007;
+/// As many I/O submission queues and I/O completion queues as there may be, counted from 0.
+const QUEUES_ALLOCATED: u32 = 0x1_0001 * (LAST_QUEUE as u32 - 1);
 
 /// The number of queues, counted from 0, that may not be asked for.
 const TOO_MANY_QUEUES: u16 = 0xffff;

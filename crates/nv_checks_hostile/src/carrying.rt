@@ -2,12 +2,12 @@
 
 use crate::runs::Runs;
 use crate::tags::Tag;
-use nv_model::limits::TAGS;
+use nv_model::limits::{MOST_COMMAND_BLOCKS, TAGS};
 use nv_plan::{Planned, make_plan};
 use nv_world_model::Event;
 
 /// The most units of a command.
-const UNITS: u64 = 256;
+const UNITS: u64 = MOST_COMMAND_BLOCKS as u64;
 
 impl Runs {
     /// Advances the command of a tag by one event, if it can go on. Its list is read as it is wanted, it is submitted, the device takes it, moves

@@ -15,6 +15,7 @@ use crate::simulated_guest::{Guest, entry_of, rings};
 use crate::simulated_worlds::{Extents, MANY, ONE, TWO, opened};
 use nv_mem::{BoxedBytes, GuestMap, NoMemory};
 use nv_model::Act;
+use nv_model::limits::{MOST_GUESTS, TAGS};
 use nv_ns::VirtualNs;
 use nv_plan::{Job, Planned, make_plan};
 use nv_world::World;
@@ -39,7 +40,7 @@ const HEAP: u64 = 65_536;
 // Which bells were rung at least so often: those of guests, planners, reapers and physical controllers, a set each.
 fn rung(bells: &Bells, times: u64) -> [u64; 4] {
     let mut rung = [0; 4];
-    for number in 0..16 {
+    for number in 0..MOST_GUESTS {
         let of = [
             bells.guest(number),
             bells.planner(number),
@@ -103,7 +104,7 @@ fn each_bell_is_rung_for_its_own(rt: HostRuntime) -> Result<(), Fail> {
 fn each_guest_has_its_own_news(rt: HostRuntime) -> Result<(), Fail> {
     let shared = Shared::new(opened(rt.alloc(), &ONE)?);
     shared.bells.ring(Concern::guest(5));
-    for guest in 0..16 {
+    for guest in 0..MOST_GUESTS {
         assert_eq!(rt; shared.news(guest), u64::from(guest == 5));
     }
     // None of them waits. A millisecond for each would be too long.
@@ -219,14 +220,17 @@ fn a_reset_rings_where_commands_have_ended(rt: HostRuntime) -> Result<(), Fail> 
     Ok(())
 }
 
+/// How many tags a lane has.
+const ALL: u32 = TAGS as u32;
+
 /// Worlds, and how many tags their largest commands take.
 const SHORT: [(Extents, u32); 3] = [(ONE, 1), (TWO, 2), (MANY, 8)];
 
 // Tags of lane 1 are taken one by one: it is short while fewer are free than a command may take, but some.
 fn expect_short(rt: &impl Abort, world: &World, most: u32) {
     let mut notes = Notes::of(world);
-    for taken in 0..=64u32 {
-        let is_short = taken != 64 && 64 - taken < most;
+    for taken in 0..=ALL {
+        let is_short = taken != ALL && ALL - taken < most;
         assert_eq!(rt; notes.are_short(), is_short, "{taken} taken");
         let _tag = notes.take(world, 1, 0);
     }
@@ -243,11 +247,11 @@ fn a_lane_is_short_of_tags(rt: HostRuntime) -> Result<(), Fail> {
 // Tags of lane 1 are taken one by one. A post of one rings for all planners where fewer were free than a command may take, and else for none.
 fn expect_post_rings(rt: &impl Abort, world: &World, most: u32) {
     let mut notes = Notes::of(world);
-    for taken in 1..=64u32 {
+    for taken in 1..=ALL {
         let _tag = notes.take(world, 1, 2);
         let mut behind = notes;
         let told = behind.post(1, 0);
-        let planners = if 64 - taken < most { u64::MAX } else { 0 };
+        let planners = if ALL - taken < most { u64::MAX } else { 0 };
         assert_eq!(rt; told.planners, planners, "{taken} taken");
         assert_eq!(rt; told.guests, bit(2));
     }
