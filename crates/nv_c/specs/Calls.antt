@@ -95,10 +95,10 @@ status_of_map map.OutsideHost = outside_host
 -- what a set-up is answered that is no world
 abbrev pub status_of_refusal : Refusal → ℕ
 status_of_refusal refusal.NoMemory = no_memory
-status_of_refusal refusal.TooManyGuests = 9
-status_of_refusal refusal.ExtentsMeet = 10
-status_of_refusal refusal.MapsMeet = 11
-status_of_refusal refusal.BadSize = 12
+status_of_refusal refusal.TooManyGuests = too_many_guests
+status_of_refusal refusal.ExtentsMeet = ranges_meet
+status_of_refusal refusal.MapsMeet = maps_meet
+status_of_refusal refusal.BadSize = bad_size
 
 -- what an event is answered
 abbrev pub status_of : Reply → ℕ

@@ -68,9 +68,9 @@ pub(crate) fn of_refusal(refusal: Refusal) -> u32
     match refusal {
         Refusal::NoMemory => NO_MEMORY,
         Refusal::TooManyGuests => TOO_MANY_GUESTS,
-        Refusal::ExtentsMeet => 10,
-        Refusal::MapsMeet => 11,
-        Refusal::BadSize => 12,
+        Refusal::ExtentsMeet => RANGES_MEET,
+        Refusal::MapsMeet => MAPS_MEET,
+        Refusal::BadSize => BAD_SIZE,
     }
 }
 

@@ -1,7 +1,7 @@
 //! The checks of an I/O command's fields, in their order, and of the ranges of Dataset Management.
 //!
 //! [`judge_fields`] answers with the refusal by the first check that fails, or with what the command needs ([`Need`]). [`judge_ranges`] says
-//! whether each range is in the namespace. Neither reads memory or allocates any.
+//! whether each range is in the namespace. Neither reads memory or allocates any. [`transfer_len`] is how many bytes a command transfers.
 #![tactic(auto)]
 
 mod fields;

@@ -5,7 +5,8 @@ ghost use Rattle.nv_mem.specs.Places.{total_len};
 ghost use Rattle.nv_model.specs.Laws.{IsMappedPiece};
 
 use super::map;
-use nv_mem::{GuestMap, NoMemory, Piece, Places, Region, len_of};
+use crate::memory::{APART, map_of, run};
+use nv_mem::{GuestMap, NoMemory, Piece, Places, len_of};
 use nv_prp::{Prps, build, build_run, fits};
 use std::alloc::Global;
 use std::process::Abort;
