@@ -9,6 +9,8 @@ pub mod RangeReads
 pub mod ListParts
 pub mod StageReads
 pub mod DraftSteps
+pub mod ItemsSame
+pub mod Resumed
 pub mod PlanFollows
 pub mod MadeShares
 pub mod OwnParts

@@ -6,6 +6,7 @@ pub mod Fed
 pub mod Listed
 pub mod Drawn
 pub mod Drafted
+pub mod Resting
 pub mod Runs
 pub mod Told
 pub mod Laws

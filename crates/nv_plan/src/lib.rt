@@ -22,6 +22,8 @@
 //! the list and the ends, and a Dataset Management one, for the ends, where its ranges do not overlap.
 #![tactic(auto)]
 
+mod aside;
+mod comparing;
 mod copies;
 mod cutting;
 mod draft;
@@ -42,6 +44,8 @@ mod source;
 mod tags;
 mod transcript;
 
+pub use aside::Aside;
+pub use comparing::{same_extents, same_map};
 pub use job::Job;
 pub use kind::PlanKind;
 pub use next::Next;

@@ -1,6 +1,6 @@
 //! How a job becomes a plan.
 
-ghost use Rattle.std.specs.Prelude.{◌≡◌, ◌<◌, ◌≤◌, ◌*◌, ◌/◌, ◌%◌, [], ◌∷◌, ◌++◌, ℕ, All, List, true, IfErr, IfOk, OnErr, OnOk, length, map};
+ghost use Rattle.std.specs.Prelude.{◌≡◌, ◌<◌, ◌≤◌, ◌*◌, ◌/◌, ◌%◌, [], ◌∷◌, ◌++◌, ℕ, All, List, true, IfErr, IfOk, IfSome, OnErr, OnOk, length, map};
 ghost use Rattle.nv_entry.specs.Submission.{slba_of};
 ghost use Rattle.nv_entry.specs.declared.opcode.IoOpcode.TheVariants as opcode;
 ghost use Rattle.nv_mem.specs.GuestMap.{mapped};
@@ -23,6 +23,8 @@ ghost use Rattle.nv_plan.specs.Parts.{HasBytes};
 ghost use Rattle.nv_plan.specs.Planned.{IsPlanned};
 ghost use Rattle.nv_plan.specs.Told.{portion_cut};
 
+use crate::aside::Aside;
+use crate::comparing::{same_extents, same_map};
 use crate::cutting::cut_up;
 use crate::draft::{Ahead, Draft};
 use crate::given::Given;
@@ -151,6 +153,63 @@ impl<'a, A: Allocator + Clone> Planning<'a, A> {
             Ok(next) => settled(alloc, &draft, next, job),
             Err(NoMemory) => Planned::NoMemory(job),
         }
+    }
+
+    /// Puts the plan aside, to go on with it later. `None` where there was no memory for that, or where no list is read: then nothing is kept.
+    pub fn put_aside(self) -> Option<Aside<A>>
+        ensures { IfSome result (λ aside. aside ≡ self.entry) }
+    {
+        let Planning { draft, job, alloc } = self;
+        let Draft { given, sqe: _, stage } = draft;
+        let rest = given.rest_of(stage)?;
+        let map = given.map.try_clone(alloc).ok()?;
+        Some(Aside {
+            rest,
+            job,
+            map,
+            ns: *given.ns,
+            limit: given.limit,
+        })
+    }
+
+    /// Goes on with a plan that was put aside, where the guest was given the same map, namespace and limit.
+    ///
+    /// # Errors
+    ///
+    /// The job, where what the guest was given is not the same, or there was no memory.
+    pub fn resume(
+        aside: Aside<A>,
+        alloc: Global,
+        map: &'a GuestMap,
+        ns: &'a VirtualNs,
+        limit: u32,
+    ) -> Result<Self, Job>
+        ensures ok { IfOk result (λ planning. planning ≡ aside) }
+        ensures err { IfErr result (λ job. job ≡ aside.job) }
+    {
+        let Aside {
+            rest,
+            job,
+            map: its_map,
+            ns: its_ns,
+            limit: its_limit,
+        } = aside;
+        if its_limit != limit
+            || !same_map(&its_map, map)
+            || !same_extents(its_ns.as_slice(), ns.as_slice())
+        {
+            return Err(job);
+        }
+        let given = Given { map, ns, limit };
+        let Some(stage) = given.stage_on(alloc, rest) else {
+            return Err(job);
+        };
+        let draft = Draft {
+            given,
+            sqe: job.sqe,
+            stage,
+        };
+        Ok(Planning { draft, job, alloc })
     }
 }
 

@@ -29,5 +29,5 @@ mod runs;
 
 pub use building::{build, build_run};
 pub use fitting::fits;
-pub use parse::PrpParse;
+pub use parse::{PrpParse, PrpRest};
 pub use prps::Prps;

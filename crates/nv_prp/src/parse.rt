@@ -1,6 +1,6 @@
 //! The parse of region pages: what it wants, what it is fed, and the places in the end.
 
-ghost use Rattle.std.specs.Prelude.{◌≡◌, ◌≢◌, ◌<◌, ◌≤◌, ℕ, length, IfOk};
+ghost use Rattle.std.specs.Prelude.{◌≡◌, ◌≢◌, ◌<◌, ◌≤◌, [], ℕ, length, IfOk};
 ghost use Rattle.nv_mem.specs.GuestMap.{mapped};
 ghost use Rattle.nv_model.specs.Dialogue.{End, and_then};
 ghost use Rattle.nv_model.specs.Judge.{sized};
@@ -97,5 +97,46 @@ impl<'a> PrpParse<'a> {
         let mut places = Places::new(alloc);
         runs::push_all(self.runs.as_slice(), &mut places)?;
         Ok(places)
+    }
+}
+
+/// A parse that is put aside: all of it but the guest's map, so that it outlives a borrow of the map.
+///
+/// A contract sees it as a parse in a map with no regions.
+#[derive(Drop)]
+pub struct PrpRest {
+    cursor: Cursor,
+    runs: Runs,
+}
+
+impl Model for PrpRest {
+    ghost use Rattle.std.specs.Prelude.{[]};
+    ghost use Rattle.nv_prp.specs.Parse.{Parse};
+
+    ghost Value = { Parse };
+
+    ghost use Rattle.nv_prp.specs.Cursor.{IsInRange, parse_at};
+
+    ghost view = { λ r. parse_at [] r.cursor r.runs };
+
+    ghost invariant = { λ r. IsInRange r.cursor r.runs };
+}
+
+impl<'a> PrpParse<'a> {
+    /// Puts the parse aside, and returns the map with which it was made.
+    pub fn put_aside(self) -> (PrpRest, &'a GuestMap)
+        ensures rest { result.0 ≡ record self.entry { regions = [] } }
+        ensures map { result.1.now.regions ≡ self.entry.regions }
+    {
+        let PrpParse { map, cursor, runs } = self;
+        (PrpRest { cursor, runs }, map)
+    }
+
+    /// The parse that was put aside, to go on with this map.
+    pub fn resume(rest: PrpRest, map: &'a GuestMap) -> Self
+        ensures { result ≡ record rest { regions = map.now.regions } }
+    {
+        let PrpRest { cursor, runs } = rest;
+        PrpParse { map, cursor, runs }
     }
 }

@@ -27,5 +27,5 @@ mod place_parse;
 
 pub use chain::Chain;
 pub use nv_model::Want;
-pub use parse::SglParse;
+pub use parse::{SglParse, SglRest};
 pub use place_parse::PlacesParse;

@@ -161,3 +161,74 @@ impl<'a, A: Allocator + Clone> SglParse<'a, A> {
         Ok(places)
     }
 }
+
+/// A parse that is put aside: all of it but the guest's map, so that it outlives a borrow of the map.
+///
+/// A contract sees it as a parse in a map with no regions.
+#[derive(Drop)]
+pub struct SglRest<A: Allocator + Clone> {
+    dest: bool,
+    need: u64,
+    limit: u32,
+    cursor: Cursor,
+    chain: Chain<A>,
+}
+
+impl<A: Allocator + Clone> Model for SglRest<A> {
+    ghost use Rattle.std.specs.Prelude.{[]};
+    ghost use Rattle.nv_sgl.specs.Parse.{Parse};
+
+    ghost Value = { Parse };
+
+    ghost use Rattle.nv_sgl.specs.Cursor.{IsParse, parse_at};
+
+    ghost view = { λ r. parse_at [] r.dest r.need r.cursor r.chain };
+
+    ghost invariant = { λ r. IsParse r.dest r.cursor r.chain };
+}
+
+impl<'a, A: Allocator + Clone> SglParse<'a, A> {
+    /// Puts the parse aside, and returns the map with which it was made.
+    pub fn put_aside(self) -> (SglRest<A>, &'a GuestMap)
+        ensures rest { result.0 ≡ record self.entry { regions = [] } }
+        ensures map { result.1.now.regions ≡ self.entry.regions }
+    {
+        let SglParse {
+            map,
+            dest,
+            need,
+            limit,
+            cursor,
+            chain,
+        } = self;
+        let rest = SglRest {
+            dest,
+            need,
+            limit,
+            cursor,
+            chain,
+        };
+        (rest, map)
+    }
+
+    /// The parse that was put aside, to go on with this map.
+    pub fn resume(rest: SglRest<A>, map: &'a GuestMap) -> Self
+        ensures { result ≡ record rest { regions = map.now.regions } }
+    {
+        let SglRest {
+            dest,
+            need,
+            limit,
+            cursor,
+            chain,
+        } = rest;
+        SglParse {
+            map,
+            dest,
+            need,
+            limit,
+            cursor,
+            chain,
+        }
+    }
+}
