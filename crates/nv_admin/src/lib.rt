@@ -20,6 +20,14 @@
 //!
 //! Before these checks, a fused command, an unknown opcode and a data pointer that is no PRP are refused, in this order. A refusal has DNR 1, and
 //! where a command is refused nothing else changes. Nothing here takes memory.
+//!
+//! There is one function for each command, and one table from opcodes to them. The checks of a command are functions whose contract is the
+//! definition's list of checks, and `?` refuses by the first that fails. A command returns its outcome: done with a DW0, pending, or the status of
+//! its refusal. It changes the controller by calls of `nv_vctl` alone. Its completion is posted in one place, after it. No command changes the
+//! admin completion queue, so room that was there before the command is there after it.
+//!
+//! The data structures of Identify are tables of offset, length and value. They are written into one page on the stack, which goes to the guest's
+//! memory in at most two stores. Both page entries are checked before.
 #![tactic(auto)]
 
 mod commands;

@@ -5,15 +5,20 @@
 //! list names their places, without gaps. A Bit Bucket (Base Specification 2.0, "SGL Bit Bucket descriptor") discards its bytes of
 //! the slot, and an address that is named twice keeps the last byte meant for it.
 //!
-//! [`load`] and [`store`] read and write a guest's memory at its own addresses, by the runs in which it lies in the host. A store changes no
+//! [`load`] and [`store`] read and write a guest's memory at its own addresses, by the runs in which it is in the host. A store changes no
 //! byte of the host but those that it names.
 //!
 //! [`laws`] states what the copies come to: a gather changes nothing for the guest, a scatter nothing for anyone else, and what was
 //! gathered can be scattered back.
 //!
 //! A caller tests the conditions of a copy by [`nv_mem::GuestMap::host_len`], [`are_mapped`], [`name_no_bucket`], [`total_len`],
-//! [`nv_mem::Host::holds`] and [`nv_mem::GuestMap::meets_host`]. Bytes move in whole runs that lie in a row in the host, and nothing
+//! [`nv_mem::Host::holds`] and [`nv_mem::GuestMap::meets_host`]. Bytes move in whole runs that are contiguous in the host, and nothing
 //! here takes memory.
+//!
+//! A contract says what all bytes of the host are after a copy, as one function. What becomes of the guest's memory, of the slot and of other bytes
+//! follows from that. A copy of a list of places is the copy of its first part and then of the rest. So one form of loop invariant serves both
+//! directions, over pieces and over the runs of a piece. It is a crate of its own because guests' queues (`nv_vctl`), Identify (`nv_admin`) and
+//! bounced transfers (`nv_core`) all copy by it.
 #![tactic(auto)]
 
 mod gathering;

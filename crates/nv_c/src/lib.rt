@@ -3,6 +3,18 @@
 //! `include/nvmed.h` has the calls as C sees them. It tests each pointer for null, and passes on what is defined here, by references and slices: a
 //! handle ([`Nvmed`]) and plain structs ([`Sizes`], [`Region`], [`Extent`], [`Event`]). Each call returns one of the numbers of `enum nvmed_status`
 //! for any numbers and any bytes. Nothing here aborts, prints, waits, or keeps anything outside the handle.
+//!
+//! A handle is a struct that C owns and that has one pointer. It is null where the handle holds nothing, and else points to a mediator in memory of
+//! its own. A type that holds a `Vec` or a `Box` can't cross to C, and neither can a pointer to one. So the struct has a raw pointer, and its model
+//! says what it owns. Each call takes the mediator out of the handle as a box, and puts it back. So only the functions of the handle (`handle`,
+//! `handle/parts`), and one that gives the address of what is shown, are proved about pointers. Null is tested in the header, since a function here
+//! that tests a pointer would be one more of these.
+//!
+//! `nvmed_work` chooses what is due in the world as it is, which changes nothing, and then carries it out. It keeps nothing from call to call. The
+//! slot of the physical controller that was served last comes first. While others have something to do, a guest gets 64 events in a row at most.
+//!
+//! This is a crate of its own because it is a static library: what else it needs is in `nv_mediator` and below. `docs/EMBEDDING.md` has what the
+//! contracts don't say.
 #![tactic(auto)]
 
 ghost use Rattle.std.specs.Prelude.{◌≡◌, ◌⊎◌, IsSome, MatchOption, None, length};

@@ -9,6 +9,10 @@
 //! whole promise. A command ends with a fault only as its definition says, the output is left as it was except after out of memory and failed
 //! output, `decode` reads nothing, and each outcome has its exit status. What a writer that failed holds is tested and not
 //! proved, and so is which words are a command ([`CommandLine`]).
+//!
+//! What `once` prints is proved from the contract of the trait `One` of `nv_flat` alone. Of the subcommands only `run` waits. So it is a request of
+//! its own, and only [`serve`], [`program`] and the function that performs it need a bound on threads. This is a crate apart from `nvmed` so that
+//! tests, and a program without a command line (`nv_checks_run`), can use it.
 #![tactic(auto)]
 
 mod command;

@@ -10,6 +10,17 @@
 //! elsewhere, without the state at hand. The plan is of the [`Core::job`] that its maker was given. [`Core::due`] reports by which events a worker
 //! finds something to do, and [`Core::holder`] whose command a tag has. [`Core::store`] and [`Core::load`] are a guest's own, of bytes that are
 //! lent, and take no memory. [`Core::host`], [`Core::block`] and [`Core::kept`] show the host's memory and the disk.
+//!
+//! `world_of` (`specs/State`) says which world a state means. A call ensures one equation: the new state's world and the reply are the definition's
+//! step of the old state's world. Where memory is refused, nothing has changed.
+//!
+//! What is known of a tag's command is kept beside `nv_tags`, lane by lane: the reads of its lists while it is planned, then its plan and where the
+//! physical command is. A command that was handed on keeps its whole plan in its leader, since the definition's plan follows from job, map,
+//! namespace and limit. Its further tags keep the number of their part. Commands of one tag go through functions without a loop. The number of
+//! parts or of extents decides that.
+//!
+//! It is a crate of its own because it has conditions on its caller, and needs `nv_laws_sound` alone of the laws. `nv_mediator` makes these
+//! conditions an invariant of its type.
 #![tactic(auto)]
 
 mod acting;

@@ -7,6 +7,9 @@
 //!
 //! [`Sqe::of`], [`Cqe::of`], [`Descriptor::of`] and [`Range::of`] keep every byte that they read, and `bytes` of each gives all back. A
 //! completion that [`Cqe::new`] makes has each of its ten fields as it was asked for, with CRD and M 0, and zeros elsewhere.
+//!
+//! The code keeps a `Sqe` as sixteen dwords, which its contracts don't show. It is a crate of its own because all that reads a command or posts a
+//! completion uses it, and it needs no other crate of the project.
 #![tactic(auto)]
 
 mod cqe;

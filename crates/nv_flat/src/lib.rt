@@ -6,6 +6,10 @@
 //!
 //! [`laws`] states what the theorem rules out: a refused command changes nothing, each unit moves once, all but a Read of several blocks have one
 //! outcome, and a byte or a block that no unit names stays as it was. [`examples`] are computed.
+//!
+//! A list is read in at most as many parts as it may have descriptors. That bounds the loop, because each part that is fed leaves a dialogue that
+//! asks less often. This is a crate of its own because `nvmed once` alone runs it. The mediator uses the same crates of lists, checks and units,
+//! but not this one.
 #![tactic(auto)]
 
 mod carrying_out;

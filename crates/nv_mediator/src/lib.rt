@@ -16,6 +16,14 @@
 //! No counter grows without end. A flush marks blocks by a number, and with the last number all marks are made anew (`nv_disk`). The positions of a
 //! ring wrap around, and its phase tag changes with each pass (`nv_ring`). A queue has no more taken commands than there are tags, 64 for each
 //! lane, and a disk no more stored blocks than it has blocks.
+//!
+//! The invariant is that the set-up was accepted, that the world is consistent (`nv_laws_sound`), and that some log leads to it. The promise then
+//! follows by laws of the definitions. The checks of a set-up are the definition's own, one function each. The lowest number that applies is the
+//! refusal, and nothing else is refused, except where memory is.
+//!
+//! No controller holds more event requests than the most that it may (`Vctl::can_hold_request` of `nv_vctl`). What was read of a command's lists
+//! grows by List events alone, and is dropped with the command's plan. This is a crate of its own because a host without a log (`nv_c`) uses it
+//! alone, while `nv_world` adds the log.
 #![tactic(auto)]
 
 mod asking;

@@ -21,6 +21,15 @@
 //! [`Bytes::new`] and [`Bytes::from_slice`] where there are more than [`FEW`] bytes, take memory, and nothing else does. Each is called with ample
 //! memory in a test of `nv_checks` that compares its answer. There `rt try --test --fail-alloc N` was run for each N up to 22: the test whose
 //! Nth allocation is refused ends with that call's error, and all others pass.
+//!
+//! A map keeps its regions in the order in which they were given. For up to 64 regions it also keeps their order by guest address, by which an
+//! address is found in few steps. That order is made once and is in the map itself, so it takes no memory. Of more regions each is compared.
+//!
+//! The [`FEW`] bytes of a [`Bytes`] and their number are one aligned word. A copy loads and stores that word at once. Separate stores would make
+//! the next load wait for all of them. So a [`Bytes`] has two words, which a test of `nv_checks_mem` checks. An act carries [`BoxedBytes`], since
+//! few acts have bytes and a script holds millions of acts.
+//!
+//! It is a crate of its own because definitions and code share these types, from `nv_model` up.
 #![tactic(auto)]
 
 pub use boxed_bytes::BoxedBytes;

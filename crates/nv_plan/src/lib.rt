@@ -6,7 +6,7 @@
 //! - [`make_plan`] does that with what the job's transcript has, and says what is wanted where more is. No guest memory is read here: a
 //!   list is what was read of it, and a read that is not the next want is skipped.
 //! - A [`Plan`] carries its job, the guest's map and namespace and the limit on descriptors, and its type keeps that it is what the
-//!   definition says of these. So a plan may be made anywhere, without a lock. Whoever takes it compares these four with the world, and
+//!   definition says of these. So a plan may be made anywhere, without a lock. The caller that takes it compares these four with the world, and
 //!   need not know who made it.
 //! - A plan is one physical command for each share of it. [`Plan::parts`] says how many. Of each part the plan has its places, its
 //!   ranges, how many bytes it transfers and its blocks on the disk. [`tags_wanted`] says how many a command is before it is planned.
@@ -20,6 +20,13 @@
 //! of descriptors takes two more, and a Dataset Management two, for its bytes and its ranges. A namespace of several extents takes one
 //! more, and one extent none. Several parts have one list together, which is cut where each ends: so a transfer takes two blocks more, for
 //! the list and the ends, and a Dataset Management one, for the ends, where its ranges do not overlap.
+//!
+//! The invariant of a [`Planning`] speaks of the dialogue that is left: what the parse has still to read, and what is judged after it. Over the
+//! reads of the transcript that are left, this dialogue ends as the command's whole verdict does over the whole transcript. When nothing is left to
+//! be read, it is the verdict, and the plan follows from it.
+//!
+//! The pieces or ranges of all parts are one after another in one list. A piece or range that a join of extents cuts becomes two. This is a crate
+//! of its own because plans are made with no lock held, so it must know nothing of the world's state.
 #![tactic(auto)]
 
 mod aside;

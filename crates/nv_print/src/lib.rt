@@ -3,6 +3,9 @@
 //! Each call says by what the output has grown, where it is known what it holds. None takes memory.
 //!
 //! A [`Numeral`] that is counted up by [`Numeral::increase`] is the next number, and its digits are that number's, over every carry.
+//!
+//! A [`Numeral`] keeps its decimal digits, so they are there when it is printed. If digits were written just before they are copied, each copy
+//! would have to wait for them. This is a crate of its own because `nv_commands`, `nv_replay` and `nv_run` all print by it.
 #![tactic(auto)]
 
 mod bytes;

@@ -16,6 +16,10 @@
 //!
 //! A transfer has at most 131,072 bytes, so at most 33 pages. The runs that were read are stored in an array of that size, and the entries of a
 //! list that is built in one of 32. So only [`PrpParse::places`] takes memory. It is called with ample memory in tests that compare its answer.
+//!
+//! What [`build`] makes names its addresses in any memory that has the list at the place that it was built for. A parse works over a memory and
+//! over a transcript of earlier reads, as in `nv_sgl`. Reading and building are one crate because what is built is judged by the definition by
+//! which it is read.
 #![tactic(auto)]
 
 mod building;

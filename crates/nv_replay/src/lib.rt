@@ -4,6 +4,9 @@
 //! What the text says is `specs/Opening`, over `nv_replay_script` and the set-ups of `nv_world_model`: [`read`] gives exactly that, or that
 //! memory was refused. What is printed is `specs/Shown`: each reply is the step's, and the world goes on by it, or it says that there was no
 //! memory, and the world stays.
+//!
+//! An event is moved out of the script into its step, and its line is printed from the reply in the log. So neither is copied. It is a crate of its
+//! own because `run` opens its world by it, and it needs no threads.
 #![tactic(auto)]
 
 mod fault;

@@ -5,6 +5,9 @@
 //! `specs/ReplaySetUp`, `specs/ReplayEvents` and `specs/ReplayLines`, over the words, numbers and faults of `nv_once_script`; [`parse`] gives
 //! exactly that, or that memory was refused. Neither the sizes nor the extents and maps are judged here, and an event may name a guest that there
 //! is not.
+//!
+//! The first letters of a line select the one event that it most likely is (`likely`, in `vocabulary`). Where the line begins with that event's
+//! word and a space, the table of all words isn't searched. It is a crate of its own because `replay` and `run` both read set-ups and acts by it.
 #![tactic(auto)]
 
 pub mod act;

@@ -4,6 +4,8 @@
 //! A [`Ring`] has `size` slots, which are numbered from 0 and wrap around. It is empty where head equals tail. It is full where head equals the
 //! slot after the tail, so one slot always stays empty. It says where an entry is and never reads one. [`Phase`] is the phase tag that a completion
 //! queue's writer gives to the entries of one pass. Nothing here takes memory.
+//!
+//! It is a crate of its own because the rings of the physical controller (`nv_device`, `nv_core`) and a guest's queues (`nv_vctl`) both use it.
 #![tactic(auto)]
 
 mod phase;

@@ -11,6 +11,13 @@
 //! for; nothing is proved of time.
 //!
 //! That its world is the one that the text opens, and which line a wait that is never met names, is tested and not proved.
+//!
+//! A line that acts is one event of the port's list, with its reply. A line that waits is polls that don't find the value, and then one that does.
+//! Of what threads send through a channel nothing is known but what its type keeps. So at the end the main thread compares each guest's lines with
+//! its port's list (`check_parts`). This ties what is printed to the script, as `nv_threads::finish` ties it to the log. Threads are started and
+//! joined on every path, with a guard that stops the workers. Nothing is printed before the run has ended.
+//!
+//! It is a crate of its own because it needs threads, and `replay` doesn't.
 #![tactic(auto)]
 
 mod driven;

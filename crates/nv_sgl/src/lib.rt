@@ -17,6 +17,9 @@
 //! fed again. The tests refuse each allocation in turn, by an allocator of their own and by a heap that others have filled. The arrays of a chain
 //! are at most as many as descriptors may be read. `places` and `try_clone` call themselves once for each array: no more often than the limit says.
 //! Time is linear in the descriptors of the parts that were fed.
+//!
+//! A parse that reads no memory works over a memory and over a transcript of earlier reads. It is a crate of its own because `nv_flat` reads its
+//! own memory with it, and `nv_plan` reads a transcript.
 #![tactic(auto)]
 
 mod chain;

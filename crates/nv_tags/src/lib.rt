@@ -7,6 +7,10 @@
 //! A command that takes several physical ones has as many tags: [`Tags::claim_group`] gives the lowest free ones, all at once or none.
 //! It goes by the lowest of them, its leader; the tags that go by one leader are its [`Tags::group`], which [`Tags::release_group`] frees at
 //! once. A command of one tag is its own leader, and costs nothing for it. Nothing here takes memory.
+//!
+//! States and commands of tags are in separate arrays, so that the search for a free tag reads states alone. The further tags of a command are a
+//! mask of 64 bits with its leader, so no search is needed for them. It is a crate of its own because it knows nothing of plans: transcripts, plans
+//! and slots of rings are kept in `nv_core`.
 #![tactic(auto)]
 
 mod claim;

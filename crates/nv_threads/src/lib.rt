@@ -17,6 +17,17 @@
 //!
 //! [`Port::act`], a gate's `plan` and the three workers may wait: what is said of them holds if they return. Nothing says that a thread makes
 //! progress, or that a guest, a planner or the device ever gets a turn.
+//!
+//! A worker makes at most one event in one hold of the lock. A thread tries to take the lock for some 15 microseconds before it sleeps on it. A
+//! port's act takes room for the second copy of its reply before the step, so that nothing can fail after it. [`Shared::new`] reads the log once,
+//! to see on which lanes commands may be half moved.
+//!
+//! A planner has one command at a time. One that waits for tags is notified where tags are freed. A lane is short where it has free tags, but fewer
+//! than some command takes. While a lane is short, planners are also notified where their guest's front entry may be another one, or was written
+//! over.
+//!
+//! [`finish`] goes through the log once, and once more for each guest that has a port. This is a crate of its own because the world is shared by
+//! threads only here: `nv_world` and what it uses know nothing of locks.
 #![tactic(auto)]
 
 pub mod alike;

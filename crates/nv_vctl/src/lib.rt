@@ -10,6 +10,14 @@
 //! Queues stay where they were mapped: [`Vctl::lies_in`] tests that all of them are in the guest's map, at the start there are none, and every call
 //! preserves it. The caller that makes an I/O queue ([`Vctl::create_submission_queue`], [`Vctl::create_completion_queue`]) is responsible for its
 //! slots.
+//!
+//! There are nine places for queues of each kind, the admin queue's first. For each queue the controller counts its taken commands. It also has the
+//! event requests that it holds, and the deletion that waits, if one does. The type keeps what the laws of `nv_model` say along runs, and that
+//! commands of the admin queue are completed to the admin completion queue. So a completion is held back only where its queue is full. That queues
+//! are in the map is a condition of calls instead, because the map is no part of the controller. Entries are read and completions are written by
+//! `load` and `store` of `nv_bounce`.
+//!
+//! It is a crate of its own because it knows one guest and no command: what an admin command checks, and in which order, is decided in `nv_admin`.
 #![tactic(auto)]
 
 mod changes;

@@ -6,6 +6,12 @@
 //! job, map, namespace or limit are not the current ones then. The type keeps the invariant that the world is where its log leads from the start of
 //! the set-up. So the contract of [`World::log`] says of any world that each event is contained, and that what a disciplined guest has seen is a
 //! run of its own commands on a private controller.
+//!
+//! Room in the log is taken before a step, so that nothing can fail after it. `step` needs the reply twice, for the log and for its caller;
+//! `advance` has it in the log alone. A reply without bytes is written to the log with nothing read in the place of bytes. Most events move a unit,
+//! so they have a path of their own, which stores little beside the block and the entry of the log.
+//!
+//! It is a crate of its own because it adds the log and nothing else: `nv_c` does without it.
 #![tactic(auto)]
 
 mod copies;

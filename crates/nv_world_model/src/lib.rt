@@ -11,6 +11,16 @@
 //! which each is found not to be contained. [`laws`] says: each reply comes only where it may, and one that reports no change comes with none; a
 //! take finds the lowest free tags; in a guest's seat acts, admin steps, takes and posts are its private controller's; which plan a verdict has;
 //! the device's completions are the standard's; rings never fill; and what the shares of a plan are of the plan.
+//!
+//! A guest's seat in the world is a private controller of `nv_model`. What the mediator and the device do to it are steps of that definition, so
+//! nothing of a guest's controller is defined twice.
+//!
+//! What the physical command of a tag does of its guest's command is its share (`specs/Share`): a plan, cut out of the command's plan, and the
+//! numbers of its units in the whole. So what is said of one tag uses that tag's own plan. Only taking, handing on and completing a command concern
+//! several tags. The device knows nothing of groups of tags.
+//!
+//! A lane has 64 tags, and each of its two rings has 65 slots. `nv_prp` has the definition of the lists that are built. It is a crate of its own,
+//! apart from `nv_model`, because crates that serve one controller (`nv_flat`, `nv_vctl`, `nv_admin`) don't need the world.
 #![tactic(auto)]
 
 mod event;
