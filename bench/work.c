@@ -2,7 +2,7 @@
  *
  * First many guests with a command each on the way at once, again and again. Then one guest whose completion queue has two slots, so that of 63
  * Reads that the physical controller has carried out 62 wait until it acknowledges one. Last Reads of one guest whose list names itself, so that it
- * is read until the limit on descriptors ends it: alone, beside another guest's Writes, and by calls of at most 256 events. */
+ * is read until the limit on descriptors ends it: alone, beside another guest's Writes, and by calls of at most 256 and 64 events. */
 #include "nvmed.h"
 #include <stdio.h>
 #include <string.h>
@@ -122,5 +122,6 @@ static int looped(uint32_t limit, uint32_t guests, uint64_t most) {
 int main(void) {
     enum { ALL = 1000000 };
     if (many(1, 1) || many(16, 1) || many(16, 8) || held()) return 1;
-    return looped(1024, 1, ALL) || looped(4096, 1, ALL) || looped(1024, 2, ALL) || looped(4096, 2, ALL) || looped(1024, 1, 256) || looped(4096, 1, 256);
+    return looped(1024, 1, ALL) || looped(4096, 1, ALL) || looped(1024, 2, ALL) || looped(4096, 2, ALL) || looped(1024, 1, 256) || looped(4096, 1, 256)
+        || looped(1024, 1, 64) || looped(4096, 1, 64);
 }

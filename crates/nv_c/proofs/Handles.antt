@@ -25,8 +25,8 @@ use Rattle.std.specs.contracts.impls.GlobalAllocator.TheImpl.{ghosts, dict}
 use Rattle.std.proofs.GlobalToken.{dealloc_token-Testable}
 use Rattle.std_alloc.proofs.BoxSteps.Form.{Bx}
 use Rattle.nv_c.specs.Held.{heap, boxed, hosts}
-use Rattle.nv_mediator.specs.contracts.mediator.Mediator as hosted
-use Rattle.nv_mediator.proofs.mediator.Mediator.TheLaws as hosted_laws
+use Rattle.nv_c.specs.contracts.held.Held as hosted
+use Rattle.nv_c.proofs.held.Held.TheLaws as hosted_laws
 use Rattle.nv_c.specs.contracts.handle.Nvmed as handle
 
 abbrev pub R : RattleType

@@ -6,7 +6,7 @@ use Rattle.std.proofs.lemmas.Bool.Decides.{nat_tests}
 use Rattle.std.proofs.lemmas.Option.{none-some, slice_get_past}
 use Rattle.std.specs.Option.{option_map}
 use Rattle.nv_c.proofs.Works.{admin-no_guest, dev_move-no_slot, dev_post-no_slot, dev_take-no_lane, post-no_tag, reap-no_lane, take-no_guest, take-no_lane, true-false}
-use Rattle.nv_c.specs.Work.{IsChoice, IsIn, IsNext, NonePosts, NoneTakes, NoneWaits, PartyRests, Rests, SlotRests, guest_served}
+use Rattle.nv_c.specs.Work.{IsChoice, IsIn, IsNext, IsWaitingAt, NonePosts, NoneTakes, NoneWaits, PartyRests, Rests, SlotRests, guest_served}
 use Rattle.nv_c.specs.declared.working.Choice.{Choice}
 use Rattle.nv_c.specs.declared.working.Choice.TheVariants as choice
 use Rattle.nv_c.specs.declared.working.Scope.{Scope}
@@ -142,12 +142,17 @@ module _ (geometry : Geometry) (w : World) (is : IsConsistent geometry w) where
 
 -- ---- choices
 
+at_all : (s : Scope) (h : Hosted) (lane tag : ℕ) → IsWaitingAt s h lane tag → IsWaitingAt scope.All h lane tag
+at_all s h lane tag is =
+    record { job = is.job; given = is.given; there = is.there; waiting = record { waits = is.waiting.waits; own = tt } }
+
 -- what is chosen of a guest or a lane is chosen of all
 pub choice_guest : (h : Hosted) (number : ℕ) (c : Choice) → number < 16
     → IsChoice (scope.Guest number) h (Rests (scope.Guest number) h) c → IsChoice scope.All h (PartyRests h number) c
 choice_guest h number (choice.Make e) below is = record { own = tt; next = is.next }
 choice_guest h number (choice.Submit plan) below is = (is.0, record { own = tt; next = is.1.next })
 choice_guest h number (choice.Read job) below is = (is.0, record { waits = is.1.waits; own = tt })
+choice_guest h number (choice.Resume lane tag) below is = at_all (scope.Guest number) h lane tag is
 choice_guest h number (choice.GiveUp lane tag) below is = record { own = tt; waits = is.waits }
 choice_guest h number choice.Nothing below is = record { guest = λ less. is; lane = λ beyond. absurd (omega (arith, below, beyond)) }
 choice_guest h number choice.Starved below is = λ rests. is (λ e work. rests e (record { own = tt; next = work.next }))
@@ -157,6 +162,7 @@ pub choice_lane : (h : Hosted) (number lane : ℕ) (c : Choice) → 16 ≤ numbe
 choice_lane h number lane (choice.Make e) beyond same is = record { own = tt; next = is.next }
 choice_lane h number lane (choice.Submit plan) beyond same is = (is.0, record { own = tt; next = is.1.next })
 choice_lane h number lane (choice.Read job) beyond same is = (is.0, record { waits = is.1.waits; own = tt })
+choice_lane h number lane (choice.Resume at tag) beyond same is = at_all (scope.Lane lane) h at tag is
 choice_lane h number lane (choice.GiveUp at tag) beyond same is = record { own = tt; waits = is.waits }
 choice_lane h number lane choice.Nothing beyond same is =
     record { guest = λ below. absurd (omega (arith, below, beyond)); lane = λ more. subst (λ (n : ℕ). Rests (scope.Lane n) h) same is }
@@ -167,6 +173,7 @@ pub choice_more : (s : Scope) (h : Hosted) (nothing more : Type 0) (c : Choice) 
 choice_more s h nothing more (choice.Make e) so is = is
 choice_more s h nothing more (choice.Submit plan) so is = is
 choice_more s h nothing more (choice.Read job) so is = is
+choice_more s h nothing more (choice.Resume lane tag) so is = is
 choice_more s h nothing more (choice.GiveUp lane tag) so is = is
 choice_more s h nothing more choice.Nothing so is = so is
 choice_more s h nothing more choice.Starved so is = is

@@ -4,7 +4,7 @@ use Rattle.std.specs.Prelude.{flat_map}
 use Rattle.std.proofs.lemmas.Bool.Decides.{nat_tests}
 use Rattle.std.proofs.lemmas.List.{append-nil, flat_map_more, length-take-le, take_more}
 use Rattle.nv_c.specs.Tables.{all_given, extents_of, given, if_own, own_extent, own_region, regions_of}
-use Rattle.nv_c.specs.declared.setup.Extent.{Extent}
+use Rattle.nv_c.specs.declared.setup.GuestExtent.{GuestExtent}
 use Rattle.nv_c.specs.declared.setup.Region.{Region}
 use Rattle.nv_mem.specs.declared.region.Region as mem
 use Rattle.nv_ns.specs.BlockRange as ns
@@ -44,33 +44,33 @@ others_region_next guest rs i d now below not so_far =
     ∙ flat_map_next (own_region guest) rs i d below
 
 -- one more extent: the guest's, or another's
-pub own_extent_next : (guest : ℕ) (es : List Extent) (i : ℕ) (d : Extent) (now : List ns.Extent) → i < length es → (get_or es i d).guest ≡ guest
+pub own_extent_next : (guest : ℕ) (es : List GuestExtent) (i : ℕ) (d : GuestExtent) (now : List ns.Extent) → i < length es → (get_or es i d).guest ≡ guest
     → now ≡ extents_of guest (take i es)
     → now ++ record { base = (get_or es i d).base; blocks = (get_or es i d).blocks } ∷ [] ≡ extents_of guest (take (i + 1) es)
 unfolding extents_of
 own_extent_next guest es i d now below is so_far =
-    let e : Extent = get_or es i d in
+    let e : GuestExtent = get_or es i d in
     ap (λ rest. rest ++ record { base = e.base; blocks = e.blocks } ∷ []) so_far
     ∙ ap (λ more. flat_map (own_extent guest) (take i es) ++ more) (sym (own e.guest guest (record { base = e.base; blocks = e.blocks }) is))
     ∙ flat_map_next (own_extent guest) es i d below
 
-pub others_extent_next : (guest : ℕ) (es : List Extent) (i : ℕ) (d : Extent) (now : List ns.Extent) → i < length es → ((get_or es i d).guest ≡ guest → ⊥)
+pub others_extent_next : (guest : ℕ) (es : List GuestExtent) (i : ℕ) (d : GuestExtent) (now : List ns.Extent) → i < length es → ((get_or es i d).guest ≡ guest → ⊥)
     → now ≡ extents_of guest (take i es) → now ≡ extents_of guest (take (i + 1) es)
 unfolding extents_of
 others_extent_next guest es i d now below not so_far =
-    let e : Extent = get_or es i d in
+    let e : GuestExtent = get_or es i d in
     so_far ∙ sym (append-nil (flat_map (own_extent guest) (take i es)))
     ∙ ap (λ more. flat_map (own_extent guest) (take i es) ++ more) (sym (others e.guest guest (record { base = e.base; blocks = e.blocks }) not))
     ∙ flat_map_next (own_extent guest) es i d below
 
 -- one more guest
-given_behind : (host_bytes : ℕ) (regions : List Region) (extents : List Extent) (from : ℕ) (limits : List ℕ) (limit number : ℕ) → from + length limits ≡ number
+given_behind : (host_bytes : ℕ) (regions : List Region) (extents : List GuestExtent) (from : ℕ) (limits : List ℕ) (limit number : ℕ) → from + length limits ≡ number
     → all_given host_bytes regions extents from (limits ++ limit ∷ []) ≡ all_given host_bytes regions extents from limits ++ given host_bytes regions extents number limit ∷ []
 unfolding all_given
 given_behind h rs es from [] limit number is = ap (λ (n : ℕ). given h rs es n limit ∷ []) (omega (arith, is))
 given_behind h rs es from (l ∷ ls) limit number is = ap (λ (gs : List Guest). given h rs es from l ∷ gs) (given_behind h rs es (from + 1) ls limit number (omega (arith, is)))
 
-pub given_next : (host_bytes : ℕ) (regions : List Region) (extents : List Extent) (limits : List ℕ) (i d : ℕ) (now : List Guest) (guest : Guest) → i < length limits
+pub given_next : (host_bytes : ℕ) (regions : List Region) (extents : List GuestExtent) (limits : List ℕ) (i d : ℕ) (now : List Guest) (guest : Guest) → i < length limits
     → now ≡ all_given host_bytes regions extents 0 (take i limits) → guest ≡ given host_bytes regions extents i (get_or limits i d)
     → now ++ guest ∷ [] ≡ all_given host_bytes regions extents 0 (take (i + 1) limits)
 given_next h rs es limits i d now guest below so_far is =
@@ -81,14 +81,14 @@ given_next h rs es limits i d now guest below so_far is =
     ∙ ap (all_given h rs es 0) (sym (take_more limits i d below))
 
 -- the guest of a number is the one of its limit, and there are as many as limits
-pub given_at : (host_bytes : ℕ) (regions : List Region) (extents : List Extent) (from : ℕ) (limits : List ℕ) (i d number : ℕ) → i < length limits
+pub given_at : (host_bytes : ℕ) (regions : List Region) (extents : List GuestExtent) (from : ℕ) (limits : List ℕ) (i d number : ℕ) → i < length limits
     → from + i ≡ number → slice_get (all_given host_bytes regions extents from limits) i ≡ Some (given host_bytes regions extents number (get_or limits i d))
 unfolding all_given
 given_at h rs es from [] i d number below is = absurd (omega (arith, below))
 given_at h rs es from (l ∷ ls) zero d number below is = ap (λ (n : ℕ). Some (given h rs es n l)) (omega (arith, is))
 given_at h rs es from (l ∷ ls) (suc i) d number below is = given_at h rs es (from + 1) ls i d number (omega (arith, below)) (omega (arith, is))
 
-pub given_count : (host_bytes : ℕ) (regions : List Region) (extents : List Extent) (from : ℕ) (limits : List ℕ)
+pub given_count : (host_bytes : ℕ) (regions : List Region) (extents : List GuestExtent) (from : ℕ) (limits : List ℕ)
     → length (all_given host_bytes regions extents from limits) ≡ length limits
 unfolding all_given
 given_count h rs es from [] = refl

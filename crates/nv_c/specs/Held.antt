@@ -7,7 +7,7 @@ use Rattle.std.specs.Box.Ownership.{box_owns}
 use Rattle.std.specs.declared.alloc.Global.{Global}
 use Rattle.std.specs.contracts.impls.GlobalAllocator.TheImpl.{ghosts}
 use Rattle.core.specs.contracts.option.Option as option
-use Rattle.nv_mediator.specs.contracts.mediator.Mediator.{the_row}
+use Rattle.nv_c.specs.contracts.held.Held.{the_row}
 
 abbrev pub hosted_coded : Coded (Option the_row.Denot)
 hosted_coded = (option.the_row the_row).coded

@@ -1,6 +1,6 @@
 -- What `nvmed_work` does: what is due of a scope, event by event, until nothing is or as many were made as were asked for (profile).
 use Rattle.std.specs.Prelude.{◌≡◌, ◌+◌, ◌-◌, ◌^◌, ◌<◌, ◌≤◌, ◌==◌, ℕ, zero, suc, ⊤, true, false, if◌then◌else◌, List, [], ◌∷◌, length, nat_lt, slice_get, IsSome, Option, Some, None, option_map}
-use Rattle.nv_c.specs.declared.reading.Given.{Given}
+use Rattle.nv_c.specs.declared.reading.GrantCopy.{GrantCopy}
 use Rattle.nv_c.specs.declared.reading.Stride.{Stride}
 use Rattle.nv_c.specs.declared.reading.Stride.TheVariants as stride
 use Rattle.nv_c.specs.declared.working.Choice.{Choice}
@@ -161,12 +161,19 @@ pub record IsWaiting (s : Scope) (h : Hosted) (job : Job) (given : Guest) : Type
   pub waits : Waits h job.lane job.tag job given
   pub own : IsIn s (hosted_world h) (event.GiveUp job.lane job.tag)
 
+-- the command that goes by that tag is one
+pub record IsWaitingAt (s : Scope) (h : Hosted) (lane tag : ℕ) : Type 0 where
+  pub job : Job
+  pub given : Guest
+  pub there : job_of (hosted_world h) lane tag ≡ Some job
+  pub waiting : IsWaiting s h job given
+
 -- a plan under way is that of such a command
 abbrev pub IsReading : Scope → Hosted → UnderWay → Type 0
 IsReading s h p = IsWaiting s h p.job p.given
 
 -- a copy of what a guest was given, with a limit that may be
-pub record IsGiven (h : Hosted) (guest : ℕ) (copy : Given) : Type 0 where
+pub record IsGiven (h : Hosted) (guest : ℕ) (copy : GrantCopy) : Type 0 where
   pub is : slice_get h.geometry.guests guest ≡ Some (record { memory_map = copy.map; namespace = copy.ns; limit = copy.limit })
   pub limit : IsLimit copy.limit
 
@@ -199,6 +206,7 @@ IsChoice s h nothing (choice.Make e) = IsWork s h e
 IsChoice s h nothing (choice.Submit plan) =
     IsCurrent h.geometry (hosted_world h) plan × IsWork s h (event.Submit plan.job.lane plan.job.tag)
 IsChoice s h nothing (choice.Read job) = (given : Guest) × IsWaiting s h job given
+IsChoice s h nothing (choice.Resume lane tag) = IsWaitingAt s h lane tag
 IsChoice s h nothing (choice.GiveUp lane tag) = MayGiveUp s h lane tag
 IsChoice s h nothing choice.Nothing = nothing
 IsChoice s h nothing choice.Starved = Rests s h → ⊥

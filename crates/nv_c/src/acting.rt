@@ -4,6 +4,7 @@ ghost use Rattle.std.specs.Prelude.{◌≡◌, ◌⊎◌, None, length};
 ghost use Rattle.nv_c.specs.Calls.{IsDone, IsError, IsLoaded, IsRead, IsStepped, IsTold, IsWorkTold, On, dword_told};
 
 use crate::handle::Nvmed;
+use crate::held::Held;
 use crate::status;
 use crate::working::{self, Scope, Why};
 use nv_mediator::Mediator;
@@ -18,7 +19,7 @@ pub(crate) fn step(alloc: Global, handle: &mut Nvmed, event: &Event) -> u32
     let Some(mut hosted) = handle.take(alloc) else {
         return status::NO_MEDIATOR;
     };
-    let answer = stepped(alloc, &mut hosted, event);
+    let answer = stepped(alloc, &mut hosted.mediator, event);
     handle.put(alloc, hosted);
     answer
 }
@@ -40,7 +41,7 @@ pub(crate) fn store(alloc: Global, handle: &mut Nvmed, guest: u8, address: u64, 
     let Some(mut hosted) = handle.take(alloc) else {
         return status::NO_MEDIATOR;
     };
-    let answer = stored(&mut hosted, guest, address, bytes);
+    let answer = stored(&mut hosted.mediator, guest, address, bytes);
     handle.put(alloc, hosted);
     answer
 }
@@ -67,7 +68,7 @@ pub(crate) fn load(
     let Some(hosted) = handle.take(alloc) else {
         return status::NO_MEDIATOR;
     };
-    let answer = loaded(&hosted, guest, address, room);
+    let answer = loaded(&hosted.mediator, guest, address, room);
     handle.put(alloc, hosted);
     answer
 }
@@ -94,7 +95,7 @@ pub(crate) fn reg_read(
     let Some(mut hosted) = handle.take(alloc) else {
         return status::NO_MEDIATOR;
     };
-    let answer = read(alloc, &mut hosted, guest, offset, value);
+    let answer = read(alloc, &mut hosted.mediator, guest, offset, value);
     handle.put(alloc, hosted);
     answer
 }
@@ -136,7 +137,7 @@ pub(crate) fn due(alloc: Global, handle: &mut Nvmed, event: &Event, told: &mut u
     let Some(hosted) = handle.take(alloc) else {
         return status::NO_MEDIATOR;
     };
-    *told = if hosted.due(event) { 1 } else { 0 };
+    *told = if hosted.mediator.due(event) { 1 } else { 0 };
     handle.put(alloc, hosted);
     status::OK
 }
@@ -155,7 +156,8 @@ pub(crate) fn work(
     let Some(mut hosted) = handle.take(alloc) else {
         return status::NO_MEDIATOR;
     };
-    let ended = working::work(alloc, &mut hosted, scope, most);
+    let Held { mediator, kept } = &mut *hosted;
+    let ended = working::work(alloc, mediator, kept, scope, most);
     handle.put(alloc, hosted);
     *done = ended.done;
     match ended.why {

@@ -7,7 +7,7 @@ ghost use Rattle.nv_mediator.specs.Hosted.{Hosted};
 
 mod parts;
 
-use nv_mediator::Mediator;
+use crate::held::Held;
 use parts::Parts;
 use std::alloc::Global;
 use std::marker::Model;
@@ -31,7 +31,7 @@ impl Model for Nvmed {
 
 impl Nvmed {
     /// Takes the mediator out of the handle, which holds nothing then; `None` where it held nothing.
-    pub(crate) fn take(&mut self, alloc: Global) -> Option<Box<Mediator>>
+    pub(crate) fn take(&mut self, alloc: Global) -> Option<Box<Held>>
         ensures taken { MatchOption result (self.old.hosted ≡ None) (λ hosted. self.old.hosted ≡ Some hosted.value) }
         ensures empty { self.new.hosted ≡ None }
     {
@@ -40,11 +40,11 @@ impl Nvmed {
     }
 
     /// Puts a mediator into the handle, with what is promised of it. What it held before is given back.
-    pub(crate) fn put(&mut self, alloc: Global, hosted: Box<Mediator>)
+    pub(crate) fn put(&mut self, alloc: Global, hosted: Box<Held>)
         ensures held { self.new.hosted ≡ Some hosted.value }
         ensures promised { IsPromised hosted.value }
     {
-        hosted.promise();
+        hosted.mediator.promise();
         let before = mem::replace(self, Nvmed::of_parts(Parts::of(hosted)));
         if let Some(parts) = before.into_parts(alloc) {
             drop(parts.into_box());
@@ -59,7 +59,7 @@ impl Nvmed {
     }
 
     // One that holds what these own.
-    fn of_parts(parts: Parts<Mediator, Global>) -> Nvmed
+    fn of_parts(parts: Parts<Held, Global>) -> Nvmed
         ensures { result.hosted ≡ Some parts.value }
     {
         let Parts { ptr, alloc: _ } = parts;
@@ -67,14 +67,14 @@ impl Nvmed {
     }
 
     // What it holds.
-    fn into_parts(self, alloc: Global) -> Option<Parts<Mediator, Global>>
+    fn into_parts(self, alloc: Global) -> Option<Parts<Held, Global>>
         ensures { MatchOption result (self.hosted ≡ None) (λ parts. self.hosted ≡ Some parts.value) }
     {
         let Nvmed { at } = self;
         if at.is_null() {
             return None;
         }
-        let ptr = at as *mut Mediator;
+        let ptr = at as *mut Held;
         Some(Parts { ptr, alloc })
     }
 }

@@ -1,7 +1,7 @@
 //! The library that a hypervisor links: the mediator without a log, used through calls from C.
 //!
 //! `include/nvmed.h` has the calls as C sees them. It tests each pointer for null, and passes on what is defined here, by references and slices: a
-//! handle ([`Nvmed`]) and plain structs ([`Sizes`], [`Region`], [`Extent`], [`Event`]). Each call returns one of the numbers of `enum nvmed_status`
+//! handle ([`Nvmed`]) and plain structs ([`Sizes`], [`Region`], [`GuestExtent`], [`Event`]). Each call returns one of the numbers of `enum nvmed_status`
 //! for any numbers and any bytes. Nothing here aborts, prints, waits, or keeps anything outside the handle.
 //!
 //! A handle is a struct that C owns and that has one pointer. It is null where the handle holds nothing, and else points to a mediator in memory of
@@ -28,6 +28,8 @@ ghost use Rattle.nv_c.specs.Work.{scope_numbered};
 mod acting;
 mod event;
 mod handle;
+mod held;
+mod kept;
 mod reading;
 mod setup;
 mod showing;
@@ -36,10 +38,11 @@ mod working;
 
 pub use event::Event;
 pub use handle::Nvmed;
+use held::Held;
 use nv_mediator::Mediator;
 use nv_model::Act;
 use nv_world_model::Event as Made;
-pub use setup::{Extent, Region, Sizes};
+pub use setup::{GuestExtent, Region, Sizes};
 use std::alloc::Global;
 use working::Scope;
 
@@ -51,7 +54,7 @@ pub extern "C" fn nvmed_raw_new(
     sizes: &Sizes,
     limits: &[u32],
     regions: &[Region],
-    extents: &[Extent],
+    extents: &[GuestExtent],
 ) -> u32
     ensures { IsOpened (setup_of sizes.now limits.now regions.now extents.now) handle.old.hosted result handle.new.hosted }
 {
@@ -67,7 +70,7 @@ pub extern "C" fn nvmed_raw_new(
         Ok(mediator) => mediator,
         Err(refusal) => return status::of_refusal(refusal),
     };
-    let Ok(hosted) = Box::new(alloc, mediator) else {
+    let Ok(hosted) = Box::new(alloc, Held::new(alloc, mediator)) else {
         return status::NO_MEMORY;
     };
     handle.put(alloc, hosted);
@@ -284,7 +287,7 @@ pub extern "C" fn nvmed_raw_kept(
     let Some(hosted) = handle.take(alloc) else {
         return status::NO_MEDIATOR;
     };
-    let answer = match hosted.kept(block) {
+    let answer = match hosted.mediator.kept(block) {
         Some(is) => {
             *kept = u32::from(is);
             status::OK

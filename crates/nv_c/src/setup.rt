@@ -7,8 +7,10 @@ ghost use Rattle.nv_c.specs.Tables.{extents_of, given, regions_of, setup_of};
 use crate::status;
 use nv_mediator::{Extent as OneExtent, GuestSetup, Setup};
 use nv_mem::{GuestMap, NoMemory, Region as OneRegion};
-use nv_model::limits::MOST_GUESTS;
 use std::alloc::Global;
+
+// How many guests there may be.
+const MOST_GUESTS: usize = nv_model::limits::MOST_GUESTS as usize;
 
 /// The sizes of a set-up: C's `nvmed_sizes`.
 #[repr(C)]
@@ -41,7 +43,7 @@ pub struct Region {
 /// Blocks of the disk in a row that are a guest's: C's `nvmed_extent`.
 #[repr(C)]
 #[derive(Clone, Copy)]
-pub struct Extent {
+pub struct GuestExtent {
     /// the number of the guest
     pub guest: u64,
     /// the disk's block that is the first
@@ -57,12 +59,12 @@ pub(crate) fn setup_of(
     sizes: &Sizes,
     limits: &[u32],
     regions: &[Region],
-    extents: &[Extent],
+    extents: &[GuestExtent],
 ) -> Result<Setup, u32>
     ensures ok { IfOk result (λ setup. setup ≡ setup_of sizes.now limits.now regions.now extents.now) }
     ensures err { IfErr result (λ answer. IsRefused (setup_of sizes.now limits.now regions.now extents.now) answer) }
 {
-    if limits.len() > MOST_GUESTS as usize {
+    if limits.len() > MOST_GUESTS {
         return Err(status::TOO_MANY_GUESTS);
     }
     let mut guests = Vec::new(alloc);
@@ -91,7 +93,7 @@ pub(crate) fn setup_of(
 struct Own<'a> {
     guest: u64,
     regions: &'a [Region],
-    extents: &'a [Extent],
+    extents: &'a [GuestExtent],
 }
 
 impl Own<'_> {
@@ -135,7 +137,11 @@ fn regions_of(alloc: Global, guest: u64, regions: &[Region]) -> Result<Vec<OneRe
 }
 
 // The extents of the guest of that number, in order.
-fn extents_of(alloc: Global, guest: u64, extents: &[Extent]) -> Result<Vec<OneExtent>, NoMemory>
+fn extents_of(
+    alloc: Global,
+    guest: u64,
+    extents: &[GuestExtent],
+) -> Result<Vec<OneExtent>, NoMemory>
     ensures { IfOk result (λ own. own.items ≡ extents_of guest extents.now) }
 {
     let mut own = Vec::new(alloc);

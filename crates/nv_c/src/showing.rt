@@ -29,7 +29,7 @@ pub(crate) fn memory(
     let Some(hosted) = handle.take(alloc) else {
         return status::NO_MEDIATOR;
     };
-    let answer = match shown(&hosted, guest, address, room, at, count) {
+    let answer = match shown(&hosted.mediator, guest, address, room, at, count) {
         Ok(_bytes) => status::OK,
         Err(answer) => answer,
     };
@@ -45,7 +45,7 @@ pub(crate) fn block(alloc: Global, handle: &mut Nvmed, block: u64, at: &mut *con
     let Some(hosted) = handle.take(alloc) else {
         return status::NO_MEDIATOR;
     };
-    let answer = match block_shown(&hosted, block, at) {
+    let answer = match block_shown(&hosted.mediator, block, at) {
         Some(_bytes) => status::OK,
         None => status::NO_SUCH,
     };
@@ -113,7 +113,7 @@ fn view<'a>(
     }
     // The map was made for this host, and ends in it.
     mediator.promise();
-    let _host_len = map.host_len();
+    let _known = map.host_len();
     let Some((from, count)) = map.run(address, room.len() as u64) else {
         return Err(status::UNMAPPED);
     };

@@ -8,7 +8,8 @@ ghost use Rattle.nv_mediator.specs.Hosted.{hosted_world};
 ghost use Rattle.nv_world_model.specs.Due.{due};
 
 use crate::event::byte;
-use crate::reading::{give_up, read_lists};
+use crate::kept::Kept;
+use crate::reading::{give_up, given_to, read_lists, resume_lists};
 use nv_mediator::{Holder, Mediator};
 use nv_model::limits::{LAST_QUEUE, MOST_GUESTS, MOST_LANES, TAGS};
 use nv_plan::{Job, Plan, Planned, make_plan};
@@ -58,6 +59,8 @@ pub(crate) enum Choice {
     Submit(Plan),
     /// bytes of the lists of this job's command are read
     Read(Job),
+    /// the lists of the command of this lane and tag are read on, whose plan was put aside
+    Resume(u8, u8),
     /// the command of this lane and tag is given up: there was no memory for its plan
     GiveUp(u8, u8),
     /// nothing is due
@@ -151,13 +154,19 @@ pub(crate) struct Ended {
 }
 
 /// Carries out what is due of a scope, `most` events at most.
-pub(crate) fn work(alloc: Global, mediator: &mut Mediator, scope: Scope, most: u64) -> Ended
+pub(crate) fn work(
+    alloc: Global,
+    mediator: &mut Mediator,
+    kept: &mut Kept,
+    scope: Scope,
+    most: u64,
+) -> Ended
     ensures { IsWorked scope most result mediator.old mediator.new }
 {
     let mut last = Last::new();
     let mut done: u64 = 0;
     while done < most {
-        match serve(alloc, mediator, scope, &mut last, most - done) {
+        match serve(alloc, mediator, kept, scope, &mut last, most - done) {
             Turn::Served(count) => {
                 last.served(count);
                 done += count;
@@ -189,14 +198,24 @@ pub(crate) fn work(alloc: Global, mediator: &mut Mediator, scope: Scope, most: u
 }
 
 // Makes the events of a scope that come next, `most` at most.
-fn serve(alloc: Global, mediator: &mut Mediator, scope: Scope, last: &mut Last, most: u64) -> Turn
+fn serve(
+    alloc: Global,
+    mediator: &mut Mediator,
+    kept: &mut Kept,
+    scope: Scope,
+    last: &mut Last,
+    most: u64,
+) -> Turn
     requires { 0 < most }
     ensures { IsTurn scope most mediator.old result mediator.new }
 {
-    match next_of(alloc, mediator, scope, last) {
+    match next_of(alloc, mediator, kept, scope, last) {
         Choice::Make(event) => make(alloc, mediator, scope, &event, most),
         Choice::Submit(plan) => submit(mediator, scope, plan, most),
-        Choice::Read(job) => read_lists(alloc, mediator, scope, last, job, most),
+        Choice::Read(job) => read_lists(alloc, mediator, kept, scope, last, job, most),
+        Choice::Resume(lane, tag) => resume_lists(
+            alloc, mediator, kept, scope, last, lane, tag, most,
+        ),
         Choice::GiveUp(lane, tag) => give_up(alloc, mediator, scope, lane, tag, most),
         Choice::Nothing => Turn::Idle,
         Choice::Starved => Turn::Starved,
@@ -232,6 +251,7 @@ pub(crate) fn submit(mediator: &mut Mediator, _scope: Scope, plan: Plan, _most: 
 pub(crate) fn is_another_waiting(
     alloc: Global,
     mediator: &Mediator,
+    kept: &Kept,
     scope: Scope,
     last: &Last,
 ) -> bool {
@@ -241,44 +261,51 @@ pub(crate) fn is_another_waiting(
     let mut search = *last;
     let party = last.party;
     let next = party.saturating_add(1);
-    let after = next_among(alloc, mediator, next, PARTIES, &mut search);
+    let after = next_among(alloc, mediator, kept, next, PARTIES, &mut search);
     !matches!(after, Choice::Nothing)
         || !matches!(
-            next_among(alloc, mediator, 0, party, &mut search),
+            next_among(alloc, mediator, kept, 0, party, &mut search),
             Choice::Nothing
         )
 }
 
 // What comes next of a scope.
-fn next_of(alloc: Global, mediator: &Mediator, scope: Scope, last: &mut Last) -> Choice
+fn next_of(alloc: Global, mediator: &Mediator, kept: &Kept, scope: Scope, last: &mut Last) -> Choice
     ensures { IsChoice scope mediator.now (Rests scope mediator.now) result }
 {
     match scope {
-        Scope::Guest(guest) => next_of_guest(alloc, mediator, guest),
+        Scope::Guest(guest) => next_of_guest(alloc, mediator, kept, guest),
         Scope::Lane(lane) => next_of_lane(mediator, lane, last),
-        Scope::All => next_of_all(alloc, mediator, last),
+        Scope::All => next_of_all(alloc, mediator, kept, last),
     }
 }
 
 // What comes next of the one who was served last, where its turn is not over, or else of the next who has something.
-fn next_of_all(alloc: Global, mediator: &Mediator, last: &mut Last) -> Choice
+fn next_of_all(alloc: Global, mediator: &Mediator, kept: &Kept, last: &mut Last) -> Choice
     ensures { IsChoice Scope.All mediator.now (Rests Scope.All mediator.now) result }
 {
     mediator.promise();
     last.go_round();
     let first = last.party;
-    match next_among(alloc, mediator, first, PARTIES, last) {
-        Choice::Nothing => next_among(alloc, mediator, 0, first, last),
+    match next_among(alloc, mediator, kept, first, PARTIES, last) {
+        Choice::Nothing => next_among(alloc, mediator, kept, 0, first, last),
         choice => choice,
     }
 }
 
 // What comes next of those from number `from` on, below number `to`.
-fn next_among(alloc: Global, mediator: &Mediator, from: u8, to: u8, last: &mut Last) -> Choice
+fn next_among(
+    alloc: Global,
+    mediator: &Mediator,
+    kept: &Kept,
+    from: u8,
+    to: u8,
+    last: &mut Last,
+) -> Choice
     ensures { IsChoice Scope.All mediator.now ((number : ℕ) → from ≤ number → number < to → PartyRests mediator.now number) result }
 {
     for number in from..to {
-        match next_of_one(alloc, mediator, number, last) {
+        match next_of_one(alloc, mediator, kept, number, last) {
             Choice::Nothing => {}
             choice => {
                 last.found(number);
@@ -290,18 +317,24 @@ fn next_among(alloc: Global, mediator: &Mediator, from: u8, to: u8, last: &mut L
 }
 
 // What comes next of the one of that number.
-fn next_of_one(alloc: Global, mediator: &Mediator, number: u8, last: &mut Last) -> Choice
+fn next_of_one(
+    alloc: Global,
+    mediator: &Mediator,
+    kept: &Kept,
+    number: u8,
+    last: &mut Last,
+) -> Choice
     ensures { IsChoice Scope.All mediator.now (PartyRests mediator.now number) result }
 {
     if number < MOST_GUESTS {
-        next_of_guest(alloc, mediator, number)
+        next_of_guest(alloc, mediator, kept, number)
     } else {
         next_of_lane(mediator, number - MOST_GUESTS, last)
     }
 }
 
 // What comes next of a guest: an admin command, a command that waits for its plan, or one that may be taken.
-fn next_of_guest(alloc: Global, mediator: &Mediator, guest: u8) -> Choice
+fn next_of_guest(alloc: Global, mediator: &Mediator, kept: &Kept, guest: u8) -> Choice
     ensures { IsChoice (Scope.Guest guest) mediator.now (Rests (Scope.Guest guest) mediator.now) result }
 {
     mediator.promise();
@@ -309,7 +342,7 @@ fn next_of_guest(alloc: Global, mediator: &Mediator, guest: u8) -> Choice
         return Choice::Make(Event::Admin(guest));
     }
     for lane in 0..mediator.lanes() {
-        match next_plan(alloc, mediator, guest, lane) {
+        match next_plan(alloc, mediator, kept, guest, lane) {
             Choice::Nothing => {}
             choice => return choice,
         }
@@ -321,13 +354,13 @@ fn next_of_guest(alloc: Global, mediator: &Mediator, guest: u8) -> Choice
 }
 
 // What comes next of a guest's commands on a lane that wait for their plans.
-fn next_plan(alloc: Global, mediator: &Mediator, guest: u8, lane: u8) -> Choice
+fn next_plan(alloc: Global, mediator: &Mediator, kept: &Kept, guest: u8, lane: u8) -> Choice
     ensures { IsChoice (Scope.Guest guest) mediator.now (NoneWaits guest lane mediator.now) result }
 {
     mediator.promise();
     for tag in 0..TAGS {
         if is_own(mediator, guest, lane, tag) {
-            match plan(alloc, mediator, guest, lane, tag) {
+            match plan(alloc, mediator, kept, guest, lane, tag) {
                 Choice::Nothing => {}
                 choice => return choice,
             }
@@ -348,24 +381,21 @@ fn is_own(mediator: &Mediator, guest: u8, lane: u8, tag: u8) -> bool
 
 // What comes next of a guest's command that goes by a tag, where it waits for its plan: what it wants of its lists is read, its plan is carried
 // out, or it is given up where there is no memory for the plan.
-fn plan(alloc: Global, mediator: &Mediator, guest: u8, lane: u8, tag: u8) -> Choice
+fn plan(alloc: Global, mediator: &Mediator, kept: &Kept, guest: u8, lane: u8, tag: u8) -> Choice
     requires { holder_of (hosted_world mediator.now) lane tag ≡ Some (record { guest = guest; leader = tag }) }
     ensures { IsChoice (Scope.Guest guest) mediator.now (job_of (hosted_world mediator.now) lane tag ≡ None) result }
 {
     mediator.promise();
+    if kept.has(lane, tag) && mediator.is_waiting(lane, tag) {
+        return Choice::Resume(lane, tag);
+    }
     let Ok(job) = mediator.job(alloc, lane, tag) else {
         return Choice::Starved;
     };
     let Some(job) = job else {
         return Choice::Nothing;
     };
-    let (Some(map), Some(ns), Some(limit)) = (
-        mediator.map(guest),
-        mediator.range(guest),
-        mediator.limit(guest),
-    ) else {
-        unreachable!()
-    };
+    let (map, ns, limit) = given_to(mediator, guest);
     match make_plan(alloc, alloc, job, map, ns, limit) {
         Planned::Need(job, _, _) => Choice::Read(job),
         Planned::Plan(plan) => Choice::Submit(plan),

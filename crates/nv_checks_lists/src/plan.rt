@@ -1,5 +1,6 @@
 //! Plans, and a lane's tags.
 mod answers;
+mod aside;
 mod chain;
 mod fed;
 mod guest;

@@ -3,3 +3,4 @@
 mod beside;
 mod calls;
 mod events;
+mod jobs;

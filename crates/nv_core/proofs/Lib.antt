@@ -1,5 +1,4 @@
 pub mod Placed
-pub mod ItemsSame
 pub mod Clear
 pub mod Openings
 pub mod GroupWorlds

@@ -5,7 +5,7 @@ ghost use Rattle.nv_core.specs.Seat.{IsActed, is_long_load};
 ghost use Rattle.nv_core.specs.State.{IsOf, IsStep};
 ghost use Rattle.nv_model.specs.Memory.{byte_in};
 
-use crate::layout::{Given, Layout};
+use crate::layout::{Grant, Layout};
 use crate::seat;
 use crate::state::Core;
 use nv_mem::{Host, NoMemory};
@@ -49,7 +49,7 @@ impl Core {
 // An act on a guest's part of the host and on its controller.
 fn act_in_seat(
     alloc: Global,
-    given: &Given,
+    given: &Grant,
     act: &Act,
     vctl: &mut Vctl,
     host: &mut Host,

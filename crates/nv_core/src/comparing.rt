@@ -2,39 +2,16 @@
 
 ghost use Rattle.std.specs.Prelude.{◌≡◌, ◌↔◌, IsTrue};
 
-use crate::layout::Given;
-use nv_mem::{GuestMap, Region};
-use nv_ns::Extent;
-use nv_plan::{Plan, ReadDone};
+use crate::layout::Grant;
+use nv_plan::{Plan, ReadDone, same_extents, same_map};
 
 /// Whether a plan was made with what this guest was given: its map, its namespace and its limit on descriptors.
-pub(crate) fn is_given(plan: &Plan, given: &Given) -> bool
+pub(crate) fn is_given(plan: &Plan, given: &Grant) -> bool
     ensures { IsTrue result ↔ (plan.now.given ≡ given.now) }
 {
     same_map(plan.map(), given.map())
         && same_extents(plan.extents(), given.ns().as_slice())
         && plan.limit() == given.limit()
-}
-
-// Whether two maps are the same.
-fn same_map(map: &GuestMap, other: &GuestMap) -> bool
-    ensures { IsTrue result ↔ (map.now ≡ other.now) }
-{
-    map.host_len() == other.host_len() && same_regions(map.regions(), other.regions())
-}
-
-// Whether two lists of regions are the same.
-fn same_regions(regions: &[Region], others: &[Region]) -> bool
-    ensures { IsTrue result ↔ (regions.now ≡ others.now) }
-{
-    regions == others
-}
-
-// Whether two lists of extents are the same.
-fn same_extents(extents: &[Extent], others: &[Extent]) -> bool
-    ensures { IsTrue result ↔ (extents.now ≡ others.now) }
-{
-    extents == others
 }
 
 /// Whether the same was read of a list, in the same order.

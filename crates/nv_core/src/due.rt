@@ -16,7 +16,7 @@ ghost use Rattle.nv_world_model.specs.Due.{due};
 ghost use Rattle.nv_world_model.specs.World.{Command, Ended, group_in};
 
 use crate::lane::Lane;
-use crate::layout::{Given, Layout};
+use crate::layout::{Grant, Layout};
 use crate::state::Core;
 use crate::taking::is_io_queue;
 use nv_mem::Host;
@@ -174,7 +174,7 @@ impl Core {
 }
 
 // Whether a command of a queue may be taken, and as many tags are free as it wants: one, where the guest has one extent, whatever the command is.
-fn is_takeable(queue: u16, given: &Given, host: &Host, vctl: &Vctl, ring: &Lane) -> bool
+fn is_takeable(queue: u16, given: &Grant, host: &Host, vctl: &Vctl, ring: &Lane) -> bool
     requires host { given.now.memory_map.host_len ≡ length host.now }
     requires in_place { QueuesInPlace (mapped given.now.memory_map.regions) vctl.now }
     ensures { let memory = image given.now.memory_map.regions (byte_in host.now) in

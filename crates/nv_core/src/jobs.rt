@@ -1,6 +1,6 @@
 //! Jobs of commands that were taken, as those who plan them are given them.
 
-ghost use Rattle.std.specs.Prelude.{◌≡◌, IfOk, IsSome, List, OnErr, Some, slice_get};
+ghost use Rattle.std.specs.Prelude.{◌≡◌, ◌↔◌, IfOk, IsSome, IsTrue, List, OnErr, Some, slice_get};
 ghost use Rattle.nv_core.specs.Jobs.{job_of};
 ghost use Rattle.nv_core.specs.State.{world_of};
 ghost use Rattle.nv_core.specs.Submit.{IsJobOf};
@@ -31,6 +31,23 @@ impl Core {
         }
         let job = self.lanes[usize::from(lane)].job(alloc, lane, tag)?;
         Ok(Some(job))
+    }
+
+    /// Whether the tag has a command that waits for its plan, so that [`Core::job`] has its job.
+    pub fn is_waiting(&self, lane: u8, tag: u8) -> bool
+        ensures { IsTrue result ↔ IsSome (job_of (world_of self.now) lane tag) }
+    {
+        self.untaken(lane, tag).is_none()
+    }
+
+    /// Whether a job is that of its tag: the same command, and the same was read of its lists.
+    pub fn has_job(&self, job: &Job) -> bool
+        ensures { IsTrue result ↔ (job_of (world_of self.now) job.now.lane job.now.tag ≡ Some job.now) }
+    {
+        if self.untaken(job.lane, job.tag).is_some() {
+            return false;
+        }
+        self.lanes[usize::from(job.lane)].has_job(job.tag, job)
     }
 }
 

@@ -16,7 +16,7 @@ impl Core {
         ensures { IsStep layout.now (Event.Keep block) self.old result self.new }
     {
         // With the number of the blocks comes that each has a mark.
-        let _marked = self.device.blocks();
+        let _known = self.device.blocks();
         if block >= layout.disk_blocks() {
             return Reply::Idle;
         }

@@ -46,7 +46,7 @@ impl Lane {
         ensures { result ≡ state_in (slice_get self.now.tags tag) }
     {
         // With a field comes what is kept of the lane.
-        let _whole = &self.head;
+        let _known = &self.head;
         if usize::from(tag) >= TAG_COUNT {
             return None;
         }
@@ -92,7 +92,7 @@ impl Lane {
         ensures { result ≡ is_some (claimed count self.now.tags) }
     {
         // With a field comes what is kept of the lane.
-        let _whole = &self.head;
+        let _known = &self.head;
         if count == 1 {
             return self.tags.has_free();
         }

@@ -27,7 +27,7 @@ impl Lane {
         ensures { result ≡ group_in (Some self.now) tag }
     {
         // With a field comes what is kept of the lane.
-        let _whole = &self.head;
+        let _known = &self.head;
         self.tags.group(tag)
     }
 
@@ -41,7 +41,7 @@ impl Lane {
             self.new ≡ all_ended (group_in (Some self.old) tag) command status self.old }
     {
         // With a field comes what is kept of the lane.
-        let _whole = &self.head;
+        let _known = &self.head;
         let mut others = self.taken_group(tag);
         let _leader = others.pop();
         self.end_taken(tag, status);
@@ -68,7 +68,7 @@ impl Lane {
         ensures { result ≡ group_in (Some self.now) tag }
     {
         // With a field comes what is kept of the lane.
-        let _whole = &self.head;
+        let _known = &self.head;
         self.tags.group(tag)
     }
 

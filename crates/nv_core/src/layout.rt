@@ -9,13 +9,13 @@ use std::marker::Model;
 
 /// What a guest was given: its memory, its namespace, and the most descriptors of a list.
 #[derive(Debug, Drop)]
-pub struct Given {
+pub struct Grant {
     pub(crate) map: GuestMap,
     pub(crate) ns: VirtualNs,
     pub(crate) limit: u32,
 }
 
-impl Model for Given {
+impl Model for Grant {
     ghost use Rattle.nv_core.specs.Submit.{IsLimit};
     ghost use Rattle.nv_world_model.specs.Geometry.{Guest};
 
@@ -26,13 +26,13 @@ impl Model for Given {
     ghost invariant = { λ g. IsLimit g.limit };
 }
 
-impl Given {
+impl Grant {
     /// This memory, this namespace, and this limit on descriptors, which is 1 to 4,096.
     pub fn new(map: GuestMap, ns: VirtualNs, limit: u32) -> Self
         requires { IsLimit limit }
         ensures { result ≡ record { memory_map = map; namespace = ns; limit = limit } }
     {
-        Given { map, ns, limit }
+        Grant { map, ns, limit }
     }
 
     /// The guest's memory.
@@ -63,7 +63,7 @@ impl Given {
 pub struct Layout {
     pub(crate) mediator: u64,
     pub(crate) disk_blocks: u64,
-    pub(crate) guests: Vec<Given>,
+    pub(crate) guests: Vec<Grant>,
 }
 
 impl Model for Layout {
@@ -76,7 +76,7 @@ impl Model for Layout {
 
 impl Layout {
     /// An area that begins there, a disk of so many blocks, and guests by number.
-    pub fn new(mediator: u64, disk_blocks: u64, guests: Vec<Given>) -> Self
+    pub fn new(mediator: u64, disk_blocks: u64, guests: Vec<Grant>) -> Self
         ensures { result ≡ record { mediator = mediator; disk_blocks = disk_blocks; guests = guests.items } }
     {
         Layout {
@@ -101,7 +101,7 @@ impl Layout {
     }
 
     /// What the guest of that number was given, where there is one.
-    pub fn guest(&self, guest: u8) -> Option<&Given>
+    pub fn guest(&self, guest: u8) -> Option<&Grant>
         ensures { MatchOption result (slice_get self.now.guests guest ≡ None) (λ given. slice_get self.now.guests guest ≡ Some given.now) }
     {
         self.guests.get(usize::from(guest))

@@ -58,5 +58,5 @@ mod taking;
 mod writing;
 
 pub use holding::Holder;
-pub use layout::{Given, Layout};
+pub use layout::{Grant, Layout};
 pub use state::Core;

@@ -55,7 +55,7 @@ impl Core {
             return Reply::Stale;
         };
         // The end of the host fits in 64 bits.
-        let _size = self.host.len();
+        let _known = self.host.len();
         let place = TagPlace {
             mediator: layout.mediator(),
             lane,

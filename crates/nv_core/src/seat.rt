@@ -6,21 +6,21 @@ ghost use Rattle.nv_mem.specs.GuestMap.{everywhere, mapped};
 ghost use Rattle.nv_model.specs.Controller.{Controller};
 ghost use Rattle.nv_model.specs.Memory.{byte_in, bytes_from, image};
 
-use crate::layout::Given;
+use crate::layout::Grant;
 use nv_mem::{Bytes, FEW, Host, NoMemory};
 use nv_model::{Act, Reply};
 use nv_vctl::Vctl;
 use std::alloc::Global;
 
 /// Stores bytes from guest address `addr` on.
-pub(crate) fn store(given: &Given, addr: u64, bytes: &[u8], host: &mut Host) -> Reply
+pub(crate) fn store(given: &Grant, addr: u64, bytes: &[u8], host: &mut Host) -> Reply
     requires { given.now.memory_map.host_len ≡ length host.old }
     ensures acted { (c : Controller) → IsActed given.now (Act.Store addr bytes.now) (byte_in host.old) c result (byte_in host.new) c }
     ensures len { length host.new ≡ length host.old }
 {
     // With the length of the host comes what is known of every map.
     let map = given.map();
-    let _host_len = map.host_len();
+    let _known = map.host_len();
     if !map.holds(addr, bytes.len() as u64) {
         return Reply::Unmapped;
     }
@@ -31,7 +31,7 @@ pub(crate) fn store(given: &Given, addr: u64, bytes: &[u8], host: &mut Host) -> 
 /// Loads `len` bytes from guest address `addr` on.
 pub(crate) fn load(
     alloc: Global,
-    given: &Given,
+    given: &Grant,
     addr: u64,
     len: u64,
     host: &Host,
@@ -42,7 +42,7 @@ pub(crate) fn load(
 {
     // With the length of the host comes what is known of every map.
     let map = given.map();
-    let _host_len = map.host_len();
+    let _known = map.host_len();
     if !map.holds(addr, len) {
         return Ok(Reply::Unmapped);
     }
@@ -51,14 +51,14 @@ pub(crate) fn load(
 }
 
 /// Loads as many bytes from guest address `addr` on as there is room for. They take no memory.
-pub(crate) fn load_into(given: &Given, addr: u64, room: &mut [u8], host: &Host) -> Reply
+pub(crate) fn load_into(given: &Grant, addr: u64, room: &mut [u8], host: &Host) -> Reply
     requires { given.now.memory_map.host_len ≡ length host.now }
     ensures { (c : Controller) → let load = Act.Load addr (length room.old) in
         IsLoaded (λ reply. IsActed given.now load (byte_in host.now) c reply (byte_in host.now) c) result room.old room.new }
 {
     // With the length of the host comes what is known of every map.
     let map = given.map();
-    let _host_len = map.host_len();
+    let _known = map.host_len();
     if !map.holds(addr, room.len() as u64) {
         return Reply::Unmapped;
     }
@@ -69,7 +69,7 @@ pub(crate) fn load_into(given: &Given, addr: u64, room: &mut [u8], host: &Host) 
 /// The `len` bytes from guest address `addr` on, which are mapped.
 pub(crate) fn read_bytes(
     alloc: Global,
-    given: &Given,
+    given: &Grant,
     addr: u64,
     len: u64,
     host: &Host,
@@ -89,7 +89,7 @@ pub(crate) fn read_bytes(
 }
 
 // As many bytes from guest address `addr` on as there is room, which are mapped, and few. They take no memory.
-fn read_few(given: &Given, addr: u64, host: &Host, room: &mut [u8]) -> Bytes
+fn read_few(given: &Grant, addr: u64, host: &Host, room: &mut [u8]) -> Bytes
     requires host { given.now.memory_map.host_len ≡ length host.now }
     requires mapped { everywhere (mapped given.now.memory_map.regions) addr (length room.old) ≡ true }
     requires few { length room.old ≤ 7 }
@@ -100,12 +100,12 @@ fn read_few(given: &Given, addr: u64, host: &Host, room: &mut [u8]) -> Bytes
 }
 
 /// Reads the dword of the register at an offset.
-pub(crate) fn read_register(given: &Given, vctl: &Vctl, offset: u32) -> Reply
+pub(crate) fn read_register(given: &Grant, vctl: &Vctl, offset: u32) -> Reply
     ensures { (host : ℕ → ℕ) → IsActed given.now (Act.RegRead offset) host vctl.now result host vctl.now }
 {
     // With the length of the host comes what is known of every map.
     let map = given.map();
-    let _host_len = map.host_len();
+    let _known = map.host_len();
     let Some(value) = vctl.reg_read(offset) else {
         return Reply::Ignored;
     };
@@ -113,12 +113,12 @@ pub(crate) fn read_register(given: &Given, vctl: &Vctl, offset: u32) -> Reply
 }
 
 /// Writes the dword of the register at an offset.
-pub(crate) fn write_register(given: &Given, vctl: &mut Vctl, offset: u32, value: u32) -> Reply
+pub(crate) fn write_register(given: &Grant, vctl: &mut Vctl, offset: u32, value: u32) -> Reply
     ensures { (host : ℕ → ℕ) → IsActed given.now (Act.RegWrite offset value) host vctl.old result host vctl.new }
 {
     // With the length of the host comes what is known of every map.
     let map = given.map();
-    let _host_len = map.host_len();
+    let _known = map.host_len();
     if vctl.reg_write(offset, value, map) {
         Reply::Done
     } else {
@@ -127,12 +127,12 @@ pub(crate) fn write_register(given: &Given, vctl: &mut Vctl, offset: u32, value:
 }
 
 /// Writes the doorbell at an offset.
-pub(crate) fn ring_doorbell(given: &Given, vctl: &mut Vctl, offset: u32, value: u32) -> Reply
+pub(crate) fn ring_doorbell(given: &Grant, vctl: &mut Vctl, offset: u32, value: u32) -> Reply
     ensures { (host : ℕ → ℕ) → IsActed given.now (Act.Doorbell offset value) host vctl.old result host vctl.new }
 {
     // With the length of the host comes what is known of every map.
     let map = given.map();
-    let _host_len = map.host_len();
+    let _known = map.host_len();
     if vctl.doorbell(offset, value) {
         Reply::Done
     } else {

@@ -15,7 +15,7 @@ use crate::area::TagPlace;
 use crate::comparing::is_given;
 use crate::handing::hand_all;
 use crate::lane::Lane;
-use crate::layout::{Given, Layout};
+use crate::layout::{Grant, Layout};
 use crate::state::Core;
 use nv_device::Device;
 use nv_mem::{Host, NoMemory};
@@ -105,7 +105,7 @@ impl Core {
 // Plans the command that waits for its plan and goes by a tag, and carries the plan out.
 fn submit_on(
     alloc: Global,
-    given: &Given,
+    given: &Grant,
     place: TagPlace,
     host: &mut Host,
     device: &mut Device,

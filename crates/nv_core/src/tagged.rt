@@ -66,7 +66,7 @@ impl Core {
             return Ok((Reply::Stale, None));
         };
         let map = given.map();
-        let _host_len = map.host_len();
+        let _known = map.host_len();
         if !map.holds(addr, len) {
             return Ok((Reply::Unmapped, None));
         }

@@ -11,7 +11,7 @@ ghost use Rattle.nv_vctl.specs.Vctl.{most_taken};
 ghost use Rattle.nv_world_model.specs.Step.{is_io_queue};
 
 use crate::lane::Lane;
-use crate::layout::{Given, Layout};
+use crate::layout::{Grant, Layout};
 use crate::state::Core;
 use nv_mem::Host;
 use nv_model::Reply;
@@ -65,7 +65,7 @@ fn take_front(
     alloc: Global,
     guest: u8,
     queue: u16,
-    given: &Given,
+    given: &Grant,
     host: &Host,
     vctl: &mut Vctl,
     ring: &mut Lane,

@@ -39,7 +39,7 @@ pub(crate) fn write(plan: &Plan, part: u8, place: TagPlace, at: u16, host: &mut 
     ensures len { length host.new ≡ length host.old }
 {
     // The end of the host fits in 64 bits.
-    let _size = host.len();
+    let _known = host.len();
     let prps = prps_of(plan, part, place);
     store_numbers(&prps.list[..prps.used], place.list_page(), host);
     write_bounced(plan, part, place.bounce_page(), host);
@@ -126,7 +126,7 @@ fn store_numbers(numbers: &[u64], at: u64, host: &mut Host)
     ensures len { length host.new ≡ length host.old }
 {
     // The end of the host fits in 64 bits.
-    let _size = host.len();
+    let _known = host.len();
     let mut at = at;
     for number in numbers {
         host.store(at, &number.to_le_bytes());
@@ -141,7 +141,7 @@ fn store_ranges(ranges: &[Range], at: u64, host: &mut Host)
     ensures len { length host.new ≡ length host.old }
 {
     // The end of the host fits in 64 bits.
-    let _size = host.len();
+    let _known = host.len();
     let mut at = at;
     for range in ranges {
         host.store(at, &range.bytes());

@@ -1,6 +1,6 @@
 //! What is asked of the mediator: nothing changes.
 
-ghost use Rattle.std.specs.Prelude.{◌≡◌, ◌≤◌, IfOk, IfSome, IsSome, MatchOption, None, OnErr, Some, length, slice_get};
+ghost use Rattle.std.specs.Prelude.{◌≡◌, ◌≤◌, ◌↔◌, IfOk, IfSome, IsSome, IsTrue, MatchOption, None, OnErr, Some, length, slice_get};
 ghost use Rattle.nv_core.specs.Jobs.{holder_of, job_of};
 ghost use Rattle.nv_core.specs.Shown.{IsBlock, mark_shown};
 ghost use Rattle.nv_core.specs.State.{world_of};
@@ -86,6 +86,22 @@ impl Mediator {
         ensures err { OnErr result (IsSome (job_of (world_of self.now.state) lane tag)) }
     {
         self.core.job(alloc, lane, tag)
+    }
+
+    /// Whether the command that goes by a tag waits for its plan, so that [`Mediator::job`] has its job.
+    #[inline]
+    pub fn is_waiting(&self, lane: u8, tag: u8) -> bool
+        ensures { IsTrue result ↔ IsSome (job_of (world_of self.now.state) lane tag) }
+    {
+        self.core.is_waiting(lane, tag)
+    }
+
+    /// Whether a job is that of its tag: the same command, and the same was read of its lists.
+    #[inline]
+    pub fn has_job(&self, job: &Job) -> bool
+        ensures { IsTrue result ↔ (job_of (world_of self.now.state) job.now.lane job.now.tag ≡ Some job.now) }
+    {
+        self.core.has_job(job)
     }
 
     /// Whose command a tag of a lane has, and the tag that it goes by; `None` where the tag is free, or there is none.

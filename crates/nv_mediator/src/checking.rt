@@ -118,7 +118,7 @@ fn meets_area(setup: &Setup, guest: &GuestSetup) -> bool
     ensures { result ≡ meets_area setup.now guest.now }
 {
     // With the length of the host comes what is known of every map.
-    let _host_len = guest.map.host_len();
+    let _known = guest.map.host_len();
     let area = LANE_SIZE.saturating_mul(setup.lanes);
     guest.map.meets_host(setup.mediator, area)
 }

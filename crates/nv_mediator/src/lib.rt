@@ -7,6 +7,7 @@
 //! the rest by calls of their own, which have no refusal: [`Mediator::store`], [`Mediator::load`] into a buffer that is lent, [`Mediator::admin`],
 //! [`Mediator::take`], [`Mediator::give_up`], [`Mediator::dev_move`], [`Mediator::dev_post`], [`Mediator::dev_fail`], [`Mediator::keep`],
 //! [`Mediator::reap`] and [`Mediator::post`]. [`Mediator::submit_plan`] takes a plan that was made elsewhere from a [`Mediator::job`].
+//! [`Mediator::has_job`] says whether a job that was taken before is still its tag's.
 //! [`Mediator::due`] reports what there is to do, and [`Mediator::host`], [`Mediator::block`] and [`Mediator::kept`] show memory and disk.
 //!
 //! The type guarantees that some log of events leads to the world from the start of the set-up. [`Mediator::promise`] does nothing: its contract

@@ -63,6 +63,6 @@ impl Mediator {
         ensures promised { IsPromised self.now }
         ensures led { HasLog self.now }
     {
-        let _kept = &self.core;
+        let _known = &self.core;
     }
 }

@@ -9,7 +9,7 @@ ghost use Rattle.nv_world_model.specs.SetUp.{refusal_of};
 
 use crate::mediator::Mediator;
 use crate::setup::{Extent, GuestSetup, Setup};
-use nv_core::{Core, Given, Layout};
+use nv_core::{Core, Grant, Layout};
 use nv_mem::NoMemory;
 use nv_ns::{Extent as OneExtent, VirtualNs};
 use std::alloc::Global;
@@ -35,7 +35,7 @@ impl Mediator {
 }
 
 // What the guests have, by number. With each map comes what is known of it.
-fn all_given(alloc: Global, guests: Vec<GuestSetup>) -> Result<Vec<Given>, NoMemory>
+fn all_given(alloc: Global, guests: Vec<GuestSetup>) -> Result<Vec<Grant>, NoMemory>
     requires { (number : ℕ) (guest : Guest) → slice_get guests.items number ≡ Some guest → MayBeGiven guest }
     ensures given { IfOk result (λ given. given.items ≡ guests.items) }
     ensures sound { IfOk result (λ given. (number : ℕ) (guest : Guest) → slice_get given.items number ≡ Some guest → IsSound guest.memory_map) }
@@ -48,7 +48,7 @@ fn all_given(alloc: Global, guests: Vec<GuestSetup>) -> Result<Vec<Given>, NoMem
 }
 
 // What a guest has.
-fn given_of(guest: GuestSetup) -> Given
+fn given_of(guest: GuestSetup) -> Grant
     requires { MayBeGiven guest }
     ensures value { result ≡ guest }
     ensures sound { IsSound result.memory_map }
@@ -58,8 +58,8 @@ fn given_of(guest: GuestSetup) -> Given
         extents,
         limit,
     } = guest;
-    let _host_len = map.host_len();
-    Given::new(map, namespace_of(&extents), limit)
+    let _known = map.host_len();
+    Grant::new(map, namespace_of(&extents), limit)
 }
 
 // The namespace of these extents.

@@ -52,8 +52,8 @@ pub(crate) fn fits(status: Status)
     ensures kind { status.sct < 8 }
     ensures code { status.sc < 256 }
 {
-    let _kind = status.sct();
-    let _code = status.sc();
+    let _known = status.sct();
+    let _known = status.sc();
 }
 
 /// Carries out an event. Where no memory is left, nothing has changed.

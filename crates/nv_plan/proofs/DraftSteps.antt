@@ -34,7 +34,7 @@ use Rattle.nv_plan.specs.declared.draft.Buffered.{Buffered}
 use Rattle.nv_plan.specs.declared.draft.Draft.{Draft}
 use Rattle.nv_plan.specs.declared.draft.Stage.{Stage}
 use Rattle.nv_plan.specs.declared.draft.Stage.TheVariants as stage
-use Rattle.nv_plan.specs.declared.given.Given.{Given}
+use Rattle.nv_plan.specs.declared.given.GrantRef.{GrantRef}
 use Rattle.nv_plan.specs.declared.job.Job.{Job}
 use Rattle.nv_plan.specs.declared.next.Next.{Next}
 use Rattle.nv_plan.specs.declared.next.Next.TheVariants as next
@@ -45,12 +45,12 @@ use Rattle.nv_plan.proofs.ReadsTaken.{first_read-more, first_read-next, meets-ow
 use Rattle.nv_plan.proofs.StageReads.{judged_ranges, next-no_read, next-read, next-transfer, source-more, source-on, stage-wanted}
 
 -- a draft of that stage
-abbrev pub draft_at : {A : Type 0} → Given → List ℕ → Stage A → Draft A
+abbrev pub draft_at : {A : Type 0} → GrantRef → List ℕ → Stage A → Draft A
 draft_at given entry s = record { given = given; sqe = entry; stage = s }
 
 -- ---- where nothing is read
 
-pub going-same : {A : Type 0} (given : Given) (entry : List ℕ) (s t : Stage A) → IsSoundStage (given_of given) entry s → t ≡ s
+pub going-same : {A : Type 0} (given : GrantRef) (entry : List ℕ) (s t : Stage A) → IsSoundStage (given_of given) entry s → t ≡ s
     → IsGoingOn (draft_at given entry s) (draft_at given entry t)
 going-same given entry s t sound is =
     record {
@@ -60,7 +60,7 @@ going-same given entry s t sound is =
     }
 
 -- the source of ranges has come after a list
-pub going-turned : {A : Type 0} (given : Given) (entry : List ℕ) (s : Stage A) (source : Source) → next_at s ≡ ahead.Turn
+pub going-turned : {A : Type 0} (given : GrantRef) (entry : List ℕ) (s : Stage A) (source : Source) → next_at s ≡ ahead.Turn
     → IsTurned (draft_at given entry s) source → IsGoingOn (draft_at given entry s) (draft_at given entry (stage.Ranges source))
 unfolding first_read
 going-turned given entry s source turn turned =
@@ -76,7 +76,7 @@ going-turned given entry s source turn turned =
     no_reads reads ahead.End none = tt
 
 -- a source that was not fed has nothing read
-pub going-source : {A : Type 0} (given : Given) (entry : List ℕ) (s : Stage A) (source after : Source) → s ≡ stage.Ranges source
+pub going-source : {A : Type 0} (given : GrantRef) (entry : List ℕ) (s : Stage A) (source after : Source) → s ≡ stage.Ranges source
     → IsSoundStage (given_of given) entry s → after.places ≡ source.places → after.read ≡ source.read → after.bytes.items ≡ source.bytes.items
     → IsGoingOn (draft_at given entry s) (draft_at given entry (stage.Ranges after))
 going-source {A} given entry s source after is sound places read bytes =
@@ -107,7 +107,7 @@ going-source {A} given entry s source after is sound places read bytes =
 
 -- ---- where bytes are read
 
-pub fed-pages : {A : Type 0} (given : Given) (entry : List ℕ) (s : Stage A) (bytes : List ℕ) (b : Buffered) (parse after : Box Pages)
+pub fed-pages : {A : Type 0} (given : GrantRef) (entry : List ℕ) (s : Stage A) (bytes : List ℕ) (b : Buffered) (parse after : Box Pages)
     → s ≡ stage.Pages b parse → IsSoundStage (given_of given) entry s → ((addr : ℕ) × (next_at s ≡ ahead.Read addr (length bytes)))
     → pages_of after.value ≡ fed (pages_of parse.value) bytes
     → IsFed (draft_at given entry s) bytes (draft_at given entry (stage.Pages b after))
@@ -126,7 +126,7 @@ fed-pages {A} given entry s bytes b parse after is sound wanted goes =
           (next-read b.opcode (want_of (pages_of parse.value)) addr (length bytes) (ap (λ (x : Stage A). next_at x) (sym is) ∙ asked)) goes);
     }
 
-pub fed-descriptors : {A : Type 0} (given : Given) (entry : List ℕ) (s : Stage A) (bytes : List ℕ) (b : Buffered) (parse after : Descriptors)
+pub fed-descriptors : {A : Type 0} (given : GrantRef) (entry : List ℕ) (s : Stage A) (bytes : List ℕ) (b : Buffered) (parse after : Descriptors)
     → s ≡ stage.Descriptors b parse → IsSoundStage (given_of given) entry s → ((addr : ℕ) × (next_at s ≡ ahead.Read addr (length bytes)))
     → descriptors_of after ≡ fed (descriptors_of parse) bytes
     → IsFed (draft_at given entry s) bytes (draft_at given entry (stage.Descriptors b after))
@@ -145,7 +145,7 @@ fed-descriptors {A} given entry s bytes b parse after is sound wanted goes =
           (next-read b.opcode (want_of (descriptors_of parse)) addr (length bytes) (ap (λ (x : Stage A). next_at x) (sym is) ∙ asked)) goes);
     }
 
-pub fed-source : {A : Type 0} (given : Given) (entry : List ℕ) (s : Stage A) (bytes : List ℕ) (source after : Source)
+pub fed-source : {A : Type 0} (given : GrantRef) (entry : List ℕ) (s : Stage A) (bytes : List ℕ) (source after : Source)
     → s ≡ stage.Ranges source → IsSoundStage (given_of given) entry s → ((addr : ℕ) × (next_at s ≡ ahead.Read addr (length bytes)))
     → after.places ≡ source.places → after.read ≡ source.read + 1 → after.bytes.items ≡ source.bytes.items ++ bytes
     → IsFed (draft_at given entry s) bytes (draft_at given entry (stage.Ranges after))
@@ -263,7 +263,7 @@ under_way-same {A} d e job w on =
       left = w.left;
       comes = λ more.
           ap (λ x. in_transcript x [] (w.left ++ more)) on.left ∙ w.comes more
-          ∙ ap (λ (g : Given). in_transcript (judge (mapped (regions_of (given_of g))) (given_of g).limit (blocks_in (given_of g).namespace) job.sqe) [] (job.reads ++ more)) (sym on.same.given);
+          ∙ ap (λ (g : GrantRef). in_transcript (judge (mapped (regions_of (given_of g))) (given_of g).limit (blocks_in (given_of g).namespace) job.sqe) [] (job.reads ++ more)) (sym on.same.given);
       unmet = on.unmet w.left w.unmet;
     }
 
@@ -282,7 +282,7 @@ under_way-fed d e job read w wants step =
           sym (step.on read.addr wants (w.left ++ read ∷ more) more (first_read-next read.addr (length read.bytes) w.left read more none (meets-own read)))
           ∙ w.comes (read ∷ more)
           ∙ ap (in_transcript (judge (mapped (regions_of (given_of d.given))) (given_of d.given).limit (blocks_in (given_of d.given).namespace) job.sqe) []) (sym (append_assoc job.reads (read ∷ []) more))
-          ∙ ap (λ (g : Given). in_transcript (judge (mapped (regions_of (given_of g))) (given_of g).limit (blocks_in (given_of g).namespace) job.sqe) [] ((job.reads ++ read ∷ []) ++ more)) (sym step.same.given);
+          ∙ ap (λ (g : GrantRef). in_transcript (judge (mapped (regions_of (given_of g))) (given_of g).limit (blocks_in (given_of g).namespace) job.sqe) [] ((job.reads ++ read ∷ []) ++ more)) (sym step.same.given);
       unmet = nothing-met (next_at e.stage);
     }
   where
@@ -294,13 +294,13 @@ under_way-fed d e job read w wants step =
 -- ---- the reads of a job, one after another
 
 -- what the loop over them keeps
-pub record IsCatchingUp {A : Type 0} (given : Given) (job : Job) (d : Draft A) (reads : List ReadDone) : Type 0 where
+pub record IsCatchingUp {A : Type 0} (given : GrantRef) (job : Job) (d : Draft A) (reads : List ReadDone) : Type 0 where
   pub own : d.given ≡ given
   pub same : d.sqe ≡ job.sqe
   pub sound : IsSound d
   pub comes : ComesTo d job reads
 
-pub catching-same : {A : Type 0} (given : Given) (job : Job) (d e : Draft A) (reads : List ReadDone)
+pub catching-same : {A : Type 0} (given : GrantRef) (job : Job) (d e : Draft A) (reads : List ReadDone)
     → IsCatchingUp given job d reads → IsGoingOn d e → IsCatchingUp given job e reads
 catching-same given job d e reads so_far on =
     record {
@@ -309,10 +309,10 @@ catching-same given job d e reads so_far on =
       sound = on.same.sound;
       comes = λ more.
           ap (λ x. in_transcript x [] (reads ++ more)) on.left ∙ so_far.comes more
-          ∙ ap (λ (g : Given). in_transcript (judge (mapped (regions_of (given_of g))) (given_of g).limit (blocks_in (given_of g).namespace) job.sqe) [] (job.reads ++ more)) (sym on.same.given);
+          ∙ ap (λ (g : GrantRef). in_transcript (judge (mapped (regions_of (given_of g))) (given_of g).limit (blocks_in (given_of g).namespace) job.sqe) [] (job.reads ++ more)) (sym on.same.given);
     }
 
-pub catching-fed : {A : Type 0} (given : Given) (job : Job) (d e : Draft A) (reads : List ReadDone) (addr : ℕ) (bytes : List ℕ) (rest : List ReadDone)
+pub catching-fed : {A : Type 0} (given : GrantRef) (job : Job) (d e : Draft A) (reads : List ReadDone) (addr : ℕ) (bytes : List ℕ) (rest : List ReadDone)
     → IsCatchingUp given job d reads → next_at d.stage ≡ ahead.Read addr (length bytes)
     → first_read addr (length bytes) reads ≡ Some (bytes, rest) → IsFed d bytes e
     → IsCatchingUp given job e rest
@@ -324,11 +324,11 @@ catching-fed given job d e reads addr bytes rest so_far wants found step =
       comes = λ more.
           sym (step.on addr wants (reads ++ more) (rest ++ more) (first_read-more addr (length bytes) reads bytes rest more found))
           ∙ so_far.comes more
-          ∙ ap (λ (g : Given). in_transcript (judge (mapped (regions_of (given_of g))) (given_of g).limit (blocks_in (given_of g).namespace) job.sqe) [] (job.reads ++ more)) (sym step.same.given);
+          ∙ ap (λ (g : GrantRef). in_transcript (judge (mapped (regions_of (given_of g))) (given_of g).limit (blocks_in (given_of g).namespace) job.sqe) [] (job.reads ++ more)) (sym step.same.given);
     }
 
 -- the same by the length that was wanted
-pub catching-read : {A : Type 0} (given : Given) (job : Job) (d e : Draft A) (reads : List ReadDone) (addr len : ℕ) (bytes : List ℕ) (rest : List ReadDone)
+pub catching-read : {A : Type 0} (given : GrantRef) (job : Job) (d e : Draft A) (reads : List ReadDone) (addr len : ℕ) (bytes : List ℕ) (rest : List ReadDone)
     → IsCatchingUp given job d reads → next_at d.stage ≡ ahead.Read addr len → length bytes ≡ len
     → first_read addr len reads ≡ Some (bytes, rest) → IsFed d bytes e
     → IsCatchingUp given job e rest
@@ -349,7 +349,7 @@ catching-start job d reads begun all =
           ∙ ap (λ (e : List ℕ). in_transcript (judge (mapped (regions_of (given_of d.given))) (given_of d.given).limit (blocks_in (given_of d.given).namespace) e) [] (job.reads ++ more)) begun.same;
     }
 
-pub caught-up : {A : Type 0} (given : Given) (job : Job) (d : Draft A) (reads : List ReadDone)
+pub caught-up : {A : Type 0} (given : GrantRef) (job : Job) (d : Draft A) (reads : List ReadDone)
     → IsCatchingUp given job d reads → IsUnmet (next_at d.stage) reads → IsUnderWay d job
 caught-up given job d reads so_far none = record { same = so_far.same; sound = so_far.sound; left = reads; comes = so_far.comes; unmet = none }
 
@@ -390,7 +390,7 @@ pub wants-next : {A : Type 0} (d e : Draft A) (job : Job) (p : UnderWay) (n : Ne
     → ◌≡◌ {A = UnderWay} (record { job = job; given = given_of d.given }) p → IsGoingOn d e → next_at e.stage ≡ ahead_of n
     → IsNext n p
 wants-next d e job p n w is on next =
-    subst (IsNext n) (ap (λ (g : Given). record { job = job; given = given_of g }) on.same.given ∙ is)
+    subst (IsNext n) (ap (λ (g : GrantRef). record { job = job; given = given_of g }) on.same.given ∙ is)
     (under_way-next e job n (under_way-same d e job w on) next)
 
 -- what is wanted of its job is what comes next
@@ -400,7 +400,7 @@ pub wanted-next : {A : Type 0} (d e : Draft A) (job : Job) (p : UnderWay) (n : N
     → next_at e.stage ≡ ahead.Read addr len
 wanted-next d e job p n addr len w is on next wanted =
     under_way-asked e job n addr len (under_way-same d e job w on) next
-    (ap (λ (q : UnderWay). outcome_of q.given q.job) (ap (λ (g : Given). record { job = job; given = given_of g }) on.same.given ∙ is) ∙ wanted)
+    (ap (λ (q : UnderWay). outcome_of q.given q.job) (ap (λ (g : GrantRef). record { job = job; given = given_of g }) on.same.given ∙ is) ∙ wanted)
 
 -- and goes on with it
 pub wanted-fed : {A : Type 0} (d e f : Draft A) (job : Job) (read : ReadDone) → IsUnderWay d job → IsGoingOn d e

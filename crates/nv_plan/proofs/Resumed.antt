@@ -17,7 +17,7 @@ use Rattle.nv_plan.specs.declared.draft.Buffered.{Buffered}
 use Rattle.nv_plan.specs.declared.draft.Draft.{Draft}
 use Rattle.nv_plan.specs.declared.draft.Stage.{Stage}
 use Rattle.nv_plan.specs.declared.draft.Stage.TheVariants as stage
-use Rattle.nv_plan.specs.declared.given.Given.{Given}
+use Rattle.nv_plan.specs.declared.given.GrantRef.{GrantRef}
 use Rattle.nv_plan.specs.declared.job.Job.{Job}
 use Rattle.nv_plan.specs.declared.source.Source.{Source}
 

@@ -35,7 +35,7 @@ use Rattle.nv_plan.specs.declared.draft.Buffered.{Buffered}
 use Rattle.nv_plan.specs.declared.draft.Draft.{Draft}
 use Rattle.nv_plan.specs.declared.draft.Stage.{Stage}
 use Rattle.nv_plan.specs.declared.draft.Stage.TheVariants as stage
-use Rattle.nv_plan.specs.declared.given.Given.{Given}
+use Rattle.nv_plan.specs.declared.given.GrantRef.{GrantRef}
 use Rattle.nv_plan.specs.declared.job.Job.{Job}
 use Rattle.nv_plan.specs.declared.next.Next.{Next}
 use Rattle.nv_plan.specs.declared.next.Next.TheVariants as next
@@ -224,7 +224,7 @@ pub record IsUnderWay {A : Type 0} (d : Draft A) (job : Job) : Type 0 where
   pub unmet : IsUnmet (next_at d.stage) left
 
 -- nothing was read of a command
-pub record IsDraft {A : Type 0} (given : Given) (entry : List ℕ) (d : Draft A) : Type 0 where
+pub record IsDraft {A : Type 0} (given : GrantRef) (entry : List ℕ) (d : Draft A) : Type 0 where
   pub own : d.given ≡ given
   pub same : d.sqe ≡ entry
   pub sound : IsSound d

@@ -6,7 +6,7 @@ ghost use Rattle.nv_plan.specs.Resting.{IsOn, IsRest};
 
 use crate::comparing::same_map;
 use crate::draft::{Buffered, Stage};
-use crate::given::Given;
+use crate::given::GrantRef;
 use crate::job::Job;
 use crate::source::Source;
 use nv_mem::GuestMap;
@@ -57,7 +57,7 @@ impl<A: Allocator + Clone> Aside<A> {
     }
 }
 
-impl<'a> Given<'a> {
+impl<'a> GrantRef<'a> {
     // A stage without the map; `None` where there is nothing to be put aside.
     pub(crate) fn rest_of<A: Allocator + Clone>(&self, stage: Stage<'a, A>) -> Option<Rest<A>>
         ensures { IfSome result (λ rest. IsRest (given_of self.now) rest stage.entry) }

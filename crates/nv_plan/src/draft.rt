@@ -7,7 +7,7 @@ ghost use Rattle.nv_ns.specs.Extents.{blocks_in};
 ghost use Rattle.nv_plan.specs.Drafted.{IsBegun, IsCaughtUp, IsDraft, IsFed, IsGoingOn, IsKnown, IsReadingList, IsSound, IsSoundStage, IsSpelledBy, IsTurned, Says, ahead_at, ahead_of, left_to_read, next_at, next_of, want_at};
 ghost use Rattle.nv_plan.specs.Drawn.{given_of};
 
-use crate::given::Given;
+use crate::given::GrantRef;
 use crate::job::Job;
 use crate::kind::PlanKind;
 use crate::next::Next;
@@ -61,12 +61,12 @@ pub(crate) enum Ahead {
 /// A command whose lists are read.
 #[derive(Drop)]
 pub(crate) struct Draft<'a, A: Allocator + Clone> {
-    pub(crate) given: Given<'a>,
+    pub(crate) given: GrantRef<'a>,
     pub(crate) sqe: Sqe,
     pub(crate) stage: Stage<'a, A>,
 }
 
-impl<'a> Given<'a> {
+impl<'a> GrantRef<'a> {
     /// The draft of a command of which nothing was read.
     #[inline(always)]
     pub(crate) fn draft<A: Allocator + Clone>(

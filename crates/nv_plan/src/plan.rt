@@ -120,7 +120,7 @@ impl Plan {
         ensures is_plan { IsJobsPlan self.now }
     {
         // A namespace has at most eight extents.
-        let _extents = self.ns.len();
+        let _known = self.ns.len();
         self.portions.len() as u8
     }
 

@@ -27,7 +27,7 @@ use crate::aside::Aside;
 use crate::comparing::{same_extents, same_map};
 use crate::cutting::cut_up;
 use crate::draft::{Ahead, Draft};
-use crate::given::Given;
+use crate::given::GrantRef;
 use crate::job::Job;
 use crate::kept_ns::KeptNs;
 use crate::kind::PlanKind;
@@ -89,7 +89,7 @@ impl<'a, A: Allocator + Clone> Planning<'a, A> {
         ensures ok { IfOk result (λ planning. planning ≡ record { job = job; given = record { memory_map = map.now; namespace = ns.now; limit = limit } }) }
         ensures err { IfErr result (λ back. back ≡ job) }
     {
-        let given = Given { map, ns, limit };
+        let given = GrantRef { map, ns, limit };
         let Ok(mut draft) = given.draft(heap, alloc, &job.sqe) else {
             return Err(job);
         };
@@ -160,7 +160,11 @@ impl<'a, A: Allocator + Clone> Planning<'a, A> {
         ensures { IfSome result (λ aside. aside ≡ self.entry) }
     {
         let Planning { draft, job, alloc } = self;
-        let Draft { given, sqe: _, stage } = draft;
+        let Draft {
+            given,
+            sqe: _,
+            stage,
+        } = draft;
         let rest = given.rest_of(stage)?;
         let map = given.map.try_clone(alloc).ok()?;
         Some(Aside {
@@ -185,6 +189,7 @@ impl<'a, A: Allocator + Clone> Planning<'a, A> {
         limit: u32,
     ) -> Result<Self, Job>
         ensures ok { IfOk result (λ planning. planning ≡ aside) }
+        ensures given { IfOk result (λ planning. planning.given ≡ record { memory_map = map.now; namespace = ns.now; limit = limit }) }
         ensures err { IfErr result (λ job. job ≡ aside.job) }
     {
         let Aside {
@@ -200,7 +205,7 @@ impl<'a, A: Allocator + Clone> Planning<'a, A> {
         {
             return Err(job);
         }
-        let given = Given { map, ns, limit };
+        let given = GrantRef { map, ns, limit };
         let Some(stage) = given.stage_on(alloc, rest) else {
             return Err(job);
         };
@@ -273,7 +278,7 @@ pub fn make_plan<A: Allocator + Clone>(
     requires most { limit ≤ most_limit }
     ensures { IsPlanned result job (record { memory_map = map.now; namespace = ns.now; limit = limit }) }
 {
-    let given = Given { map, ns, limit };
+    let given = GrantRef { map, ns, limit };
     let Ok(mut draft) = given.draft(heap, alloc, &job.sqe) else {
         return Planned::NoMemory(job);
     };
@@ -283,7 +288,7 @@ pub fn make_plan<A: Allocator + Clone>(
     }
 }
 
-impl<'a> Given<'a> {
+impl<'a> GrantRef<'a> {
     // The map and the namespace, for a plan to keep.
     fn kept(&self, alloc: Global) -> Result<(GuestMap, KeptNs), NoMemory>
         ensures { IfOk result (λ kept. (kept.0 ≡ self.now.map.now) × (kept.1 ≡ self.now.ns.now)) }
@@ -311,7 +316,7 @@ impl<'a> Given<'a> {
             let parts = parts_of(sqe, self.ns);
             if parts.len() > 1 {
                 // With the length of the host comes that all addresses of a map fit in 64 bits.
-                let _host_len = self.map.host_len();
+                let _known = self.map.host_len();
                 return cut_up(alloc, places.pieces(), parts.as_slice());
             }
         }

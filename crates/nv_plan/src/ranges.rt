@@ -86,7 +86,7 @@ fn range_met(ns: &VirtualNs, at: &Standing, range: Range) -> Option<Range>
     ensures { result ≡ option_map (translated_range ns.now) (range_in at.now.number (standing at.now) range) }
 {
     // The blocks of a namespace, and the places after its extents, have numbers of 64 bits.
-    let _extents = ns.as_slice();
+    let _known = ns.as_slice();
     let start = range.start();
     let blocks = range.blocks();
     if blocks == 0 {

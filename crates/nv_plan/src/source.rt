@@ -62,7 +62,7 @@ impl Source {
         ensures err { OnErr result (IsAsBefore self.old self.new) }
     {
         // There are no more pieces than a `usize` counts.
-        let _count = self.places.pieces().len();
+        let _known = self.places.pieces().len();
         self.bytes.extend_from_slice(run)?;
         self.read += 1;
         Ok(())

@@ -14,8 +14,8 @@ use std::alloc::{Allocator, Global};
 use std::process::Abort;
 use std::test::Fail;
 
-// Feeds a plan what it wants next: whether there was something.
-fn feed<A: Allocator + Clone>(
+/// Feeds a plan what it wants next: whether there was something.
+pub fn feed<A: Allocator + Clone>(
     alloc: Global,
     guest: &Guest,
     planning: &mut Planning<A>,

@@ -92,7 +92,7 @@ fn memory_that_lies_apart_in_the_host(rt: HostRuntime) -> Result<(), Fail> {
 }
 
 /// A Read of 24 blocks, three pages, whose list chains to a second page.
-const CHAINED: &[(usize, u32)] = &[(0, 0x0007_0002), (8, 0x6ff8), (12, 23)];
+pub const CHAINED: &[(usize, u32)] = &[(0, 0x0007_0002), (8, 0x6ff8), (12, 23)];
 
 #[test]
 fn a_list_page_that_chains(rt: HostRuntime) -> Result<(), Fail> {

@@ -57,10 +57,15 @@ fn setup(alloc: Global) -> Option<Setup> {
     Some(setup_of(HOST, 1, vec![in alloc; guest].ok()?))
 }
 
+/// The mediator at its start: one lane, and one guest.
+pub fn opened_mediator(alloc: Global) -> Option<Mediator> {
+    Mediator::new(alloc, setup(alloc)?).ok()
+}
+
 // Both at their start.
 fn opened(alloc: Global) -> Option<Both> {
     Some(Both {
-        mediator: Mediator::new(alloc, setup(alloc)?).ok()?,
+        mediator: opened_mediator(alloc)?,
         world: World::new(alloc, setup(alloc)?).ok()?,
     })
 }

@@ -10,7 +10,7 @@ returns-then-not-holds c = λ k.
       refl,
       refl,
       load-not c.args.given.now (byte_in c.args.host.now) k c.args.addr (length c.args.room.now)
-          (subst IsSound c.map-map.ensures c.host_len-host_len.ensures.sound)
+          (subst IsSound c.map-map.ensures c.host_len-known.ensures.sound)
           (held-is c.map-map.result.now c.args.given.now c.args.addr (length c.args.room.now) (length c.args.room.now) c.holds.result false
           c.map-map.ensures refl c.holds.ensures.value c.if-not-holds.true),
     )
@@ -20,7 +20,7 @@ returns c = λ k.
     inl (
       refl,
       load-done c.args.given.now (byte_in c.args.host.now) k c.args.addr (length c.args.room.now) c.load.new.out
-          (subst IsSound c.map-map.ensures c.host_len-host_len.ensures.sound)
+          (subst IsSound c.map-map.ensures c.host_len-known.ensures.sound)
           (held-is c.map-map.result.now c.args.given.now c.args.addr (length c.args.room.now) (length c.args.room.now) c.holds.result true
           c.map-map.ensures refl c.holds.ensures.value c.if-not-holds.false)
           (subst (λ (m : Mapping). c.load.new.out ≡ bytes_from (image m.regions (byte_in c.args.host.now)) c.args.addr (length c.args.room.now)) c.map-map.ensures

@@ -7,11 +7,11 @@ use Rattle.nv_core.proofs.seat.ring_doorbell.Goals as goal
 pub returns-then-doorbell : goal.returns-then-doorbell
 returns-then-doorbell c = λ host disk kept bag.
     controlled-is c.args.given.now host c.args.vctl.now (doorbell c.args.vctl.now c.args.offset c.args.value) true c.doorbell.new.self
-    (subst IsSound c.map-map.ensures c.host_len-host_len.ensures.sound)
+    (subst IsSound c.map-map.ensures c.host_len-known.ensures.sound)
     (sym c.if-doorbell.true ∙ c.doorbell.ensures.taken) c.doorbell.ensures.state disk kept bag
 
 pub returns-else-doorbell : goal.returns-else-doorbell
 returns-else-doorbell c = λ host disk kept bag.
     controlled-is c.args.given.now host c.args.vctl.now (doorbell c.args.vctl.now c.args.offset c.args.value) false c.doorbell.new.self
-    (subst IsSound c.map-map.ensures c.host_len-host_len.ensures.sound)
+    (subst IsSound c.map-map.ensures c.host_len-known.ensures.sound)
     (sym c.if-doorbell.false ∙ c.doorbell.ensures.taken) c.doorbell.ensures.state disk kept bag

@@ -17,4 +17,4 @@ returns c =
       limit = c.guest.inside.limit;
     } in
     area-cut c.args.setup.now s c.args.guest.now g c.saturating_mul-area.result c.meets_host.result c.setup.view_is c.guest.view_is
-    c.host_len-host_len.ensures.sound (let e = c.host_len-host_len.ensures.value in let t = c.host_len-host_len.type_inv in omega arith) c.saturating_mul-area.ensures c.meets_host.ensures
+    c.host_len-known.ensures.sound (let e = c.host_len-known.ensures.value in let t = c.host_len-known.type_inv in omega arith) c.saturating_mul-area.ensures c.meets_host.ensures

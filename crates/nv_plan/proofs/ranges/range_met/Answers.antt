@@ -10,7 +10,7 @@ use Rattle.nv_plan.proofs.ranges.range_met.Goals as goal
 pub overflow_add-base : goal.overflow_add-base
 overflow_add-base c =
     let inside = InNamespace-tested (start_of c.args.range) (blocks_of c.args.range) (blocks_in c.args.ns.now) c.requires.fits in
-    let within = first-within c.args.ns.now c.as_slice-extents.ensures.kept in
+    let within = first-within c.args.ns.now c.as_slice-known.ensures.kept in
     let start = c.start-start.ensures in
     let front : c.args.at.now.number ≡ 0 = (let t = c.if-at-gt0.false in omega arith) in
     let base = first-placed c.args.ns.now (standing c.args.at.now) (ap (slice_get (placed 0 c.args.ns.now)) (sym front) ∙ c.requires.there) in
@@ -19,7 +19,7 @@ overflow_add-base c =
 
 pub returns : goal.returns
 returns c =
-    let within = first-within c.args.ns.now c.as_slice-extents.ensures.kept in
+    let within = first-within c.args.ns.now c.as_slice-known.ensures.kept in
     let start = c.start-start.ensures in
     let blocks = c.blocks-blocks.ensures in
     let fits = c.blocks-blocks.type_inv in

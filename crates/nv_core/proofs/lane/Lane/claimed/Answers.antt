@@ -5,8 +5,8 @@ use Rattle.nv_tags.specs.Tags.{command_in, leader_of, slot_at, state_of}
 use Rattle.nv_world_model.specs.World.{Command}
 use Rattle.nv_core.proofs.lane.Lane.claimed.Goals as goal
 
-pub entry-requires : goal.entry-requires
-entry-requires c =
+pub claimed-requires : goal.claimed-requires
+claimed-requires c =
     let i = c.self.inside in
     let at = lane-taken i.head i.phase i.tags i.progress.items c.args.self.now c.self.invariant c.self.view_is c.args.tag c.requires in
     record { used = λ free. (let taken = ap state_of at.slot_is in cc) }

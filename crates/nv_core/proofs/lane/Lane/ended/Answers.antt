@@ -4,8 +4,8 @@ use Rattle.nv_core.proofs.EndingTags.{ended-at}
 use Rattle.nv_tags.specs.Tags.{command_in, leader_of, slot_at, state_of}
 use Rattle.nv_core.proofs.lane.Lane.ended.Goals as goal
 
-pub entry-requires : goal.entry-requires
-entry-requires c =
+pub claimed-requires : goal.claimed-requires
+claimed-requires c =
     let i = c.self.inside in
     let t = c.requires in
     let e = ended-at i.head i.phase i.tags i.progress.items c.args.self.now c.self.invariant c.self.view_is c.args.tag t.command t.status t.share t.is in

@@ -5,8 +5,8 @@ use Rattle.nv_core.proofs.LaneTags.{lane-command}
 use Rattle.nv_tags.specs.Tags.{leader_of, slot_at}
 use Rattle.nv_core.proofs.lane.Lane.held.Goals as goal
 
-pub entry-requires : goal.entry-requires
-entry-requires c =
+pub claimed-requires : goal.claimed-requires
+claimed-requires c =
     let i = c.self.inside in
     let there = some-there (command_at _) c.requires in
     let is = lane-command i.head i.phase i.tags i.progress.items c.args.self.now c.self.invariant c.self.view_is c.args.tag there.0 there.1 in

@@ -16,4 +16,4 @@ returns c =
     let below : c.args.block < c.args.layout.now.disk_blocks = (let e = c.disk_blocks.ensures in let p = c.if-block-disk_blocks.false in omega arith) in
     let s : State = record { host = c.self.inside.host; device = c.self.inside.device; lanes = c.self.inside.lanes.items; controllers = c.self.inside.controllers.items } in
     subst (λ (d : Physical). IsStep c.args.layout.now (event.Keep c.args.block) c.args.self.now reply.Done (record s { device = d })) (sym c.keep.ensures.state)
-    (keep-marks c.args.layout.now s c.args.self.now c.args.block c.self.view_is c.requires c.blocks-marked.ensures.marked below)
+    (keep-marks c.args.layout.now s c.args.self.now c.args.block c.self.view_is c.requires c.blocks-known.ensures.marked below)

@@ -70,7 +70,7 @@ pub settle-requires-clause-placed : goal.settle-requires-clause-placed
 settle-requires-clause-placed c =
     let s : State = record { host = c.self.inside.host; device = c.self.inside.device; lanes = c.self.inside.lanes.items; controllers = c.self.inside.controllers.items } in
     let t = ended-here s c.args.self.now c.args.lane c.args.tag c.unended.result c.self.view_is c.unended.ensures c.in_default.is in
-    let fits : length s.host < 2 ^ 64 = (let size = c.len-size.ensures in let few = c.len-size.type_inv in omega (arith, size, few)) in
+    let fits : length s.host < 2 ^ 64 = (let size = c.len-known.ensures in let few = c.len-known.type_inv in omega (arith, size, few)) in
     post-placed c.args.layout.now s c.args.self.now c.args.lane c.args.tag c.self.view_is c.requires.of t
     c.from-at.result c.index-ring.result.now c.from-at.ensures c.index-ring.ensures c.mediator.result c.mediator.ensures fits
 

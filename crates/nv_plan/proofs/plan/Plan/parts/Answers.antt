@@ -11,9 +11,9 @@ overflow_cast-result c =
       outline = record { kind = c.self.inside.kind; portions = c.self.inside.portions };
     } in
     let is = c.self.invariant in
-    let no_more = made-no_more p is c.len-extents.ensures.some in
+    let no_more = made-no_more p is c.len-known.ensures.some in
     let same = made-portions p is in
-    let few = c.len-extents.ensures.few in
+    let few = c.len-known.ensures.few in
     let count = c.len.ensures in omega arith
 
 pub returns-clause-most : goal.returns-clause-most
@@ -24,7 +24,7 @@ returns-clause-most c =
       outline = record { kind = c.self.inside.kind; portions = c.self.inside.portions };
     } in
     let is = c.self.invariant in
-    let no_more = made-no_more p is c.len-extents.ensures.some in
+    let no_more = made-no_more p is c.len-known.ensures.some in
     let same = made-portions p is in
-    let few = c.len-extents.ensures.few in
+    let few = c.len-known.ensures.few in
     let count = c.len.ensures in omega arith

@@ -4,8 +4,8 @@ use Rattle.nv_model.specs.Judge.{count_of}
 use Rattle.nv_ns.specs.Extents.{Cut, cuts}
 use Rattle.nv_plan.specs.Told.{IsAddressed}
 use Rattle.nv_plan.proofs.CutPlaces.{all-addressed, few-cuts, one-cut, small-cuts}
-use Rattle.nv_plan.proofs.given.Given.parted.Goals as goal
-use Rattle.nv_plan.proofs.given.Given.parted.Goals.{then-len-gt1+else-len-gt1-2, else-len-gt1}
+use Rattle.nv_plan.proofs.given.GrantRef.parted.Goals as goal
+use Rattle.nv_plan.proofs.given.GrantRef.parted.Goals.{then-len-gt1+else-len-gt1-2, else-len-gt1}
 
 pub cut_up-requires-clause-small : goal.cut_up-requires-clause-small
 cut_up-requires-clause-small c =
@@ -15,7 +15,7 @@ cut_up-requires-clause-small c =
 pub cut_up-requires-clause-addressed : goal.cut_up-requires-clause-addressed
 cut_up-requires-clause-addressed c =
     subst (All IsAddressed) (sym c.pieces.ensures)
-    (all-addressed c.args.self.now.map.now c.args.places c.host_len-host_len.ensures.sound c.requires.mapped)
+    (all-addressed c.args.self.now.map.now c.args.places c.host_len-known.ensures.sound c.requires.mapped)
 
 pub returns : goal.returns
 returns c =

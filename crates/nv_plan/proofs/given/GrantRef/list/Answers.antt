@@ -5,7 +5,7 @@ use Rattle.nv_sgl.specs.Parse.{dialogue_of as descriptors_of}
 use Rattle.nv_plan.proofs.ListParts.{descriptors-list, listed-descriptors, listed-pages, pages-list}
 use Rattle.nv_plan.proofs.PlanCases.{buffer-some, left-listed}
 use Rattle.nv_plan.proofs.StageReads.{left-reserved}
-use Rattle.nv_plan.proofs.given.Given.list.Goals as goal
+use Rattle.nv_plan.proofs.given.GrantRef.list.Goals as goal
 
 pub new-parse-requires-clause-some : goal.new-parse-requires-clause-some
 new-parse-requires-clause-some g c =

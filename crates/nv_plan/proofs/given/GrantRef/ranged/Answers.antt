@@ -4,7 +4,7 @@ use Rattle.nv_ns.specs.Extents.{blocks_in}
 use Rattle.nv_plan.specs.Outline.{Portion}
 use Rattle.nv_plan.specs.declared.kind.PlanKind.TheVariants as kind
 use Rattle.nv_plan.proofs.PlanCases.{ranged-fits}
-use Rattle.nv_plan.proofs.given.Given.ranged.Goals as goal
+use Rattle.nv_plan.proofs.given.GrantRef.ranged.Goals as goal
 
 pub returns : goal.returns
 returns c = λ entry pieces.
