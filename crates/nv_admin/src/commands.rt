@@ -38,7 +38,7 @@ pub(crate) fn carry_out(
     ensures in_place { let test = mapped map.now.regions in QueuesInPlace test vctl.old → QueuesInPlace test vctl.new }
 {
     // With the length of the host comes what is known of every map.
-    let _host_len = map.host_len();
+    let _known = map.host_len();
     if sqe.fuse() != 0 {
         return Err(StatusCode::InvalidField);
     }
@@ -71,7 +71,7 @@ fn carry_out_by(
     ensures in_place { let test = mapped map.now.regions in QueuesInPlace test vctl.old → QueuesInPlace test vctl.new }
 {
     // With the length of the host comes what is known of every map.
-    let _host_len = map.host_len();
+    let _known = map.host_len();
     match opcode {
         AdminOpcode::DeleteIoSubmissionQueue => queues::delete_submission_queue(vctl, sqe),
         AdminOpcode::CreateIoSubmissionQueue => queues::create_submission_queue(vctl, sqe, map),

@@ -61,7 +61,7 @@ fn finish_deletion(deletion: Deletion, vctl: &mut Vctl, map: &GuestMap, host: &m
     ensures in_place { QueuesInPlace (mapped map.now.regions) vctl.new }
 {
     // With the length of the host comes what is known of every map.
-    let _host_len = map.host_len();
+    let _known = map.host_len();
     if vctl.taken(deletion.queue()) != 0 {
         return Admin::Idle;
     }
@@ -151,7 +151,7 @@ fn post(
     ensures in_place { QueuesInPlace (mapped map.now.regions) vctl.new }
 {
     // With the length of the host comes what is known of every map.
-    let _host_len = map.host_len();
+    let _known = map.host_len();
     match vctl.post_cqe(ADMIN_QUEUE, dw0, cid, status, map, host) {
         Posted::Done => Admin::Done,
         Posted::Held => Admin::Held,

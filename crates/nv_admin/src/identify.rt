@@ -44,7 +44,7 @@ pub(crate) fn identify(
     ensures len { length host.new ≡ length host.old }
 {
     // With the length of the host comes what is known of every map.
-    let _host_len = map.host_len();
+    let _known = map.host_len();
     let structure = shown(sqe, blocks)?;
     let buffer = PageBuffer::of(sqe, map)?;
     let mut bytes = [0; LEN];

@@ -56,7 +56,7 @@ impl PageBuffer {
         ensures len { length host.new ≡ length host.old }
     {
         // With the length of the host comes what is known of every map.
-        let _host_len = map.host_len();
+        let _known = map.host_len();
         let (first, second) = bytes.split_at(self.first);
         nv_bounce::store(first, self.prp1, map, host);
         nv_bounce::store(second, self.prp2, map, host);

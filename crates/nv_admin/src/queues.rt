@@ -66,7 +66,7 @@ pub(crate) fn delete_submission_queue(vctl: &mut Vctl, sqe: &Sqe) -> Result<Outc
     ensures in_place { (test : ℕ → Bool) → QueuesInPlace test vctl.old → QueuesInPlace test vctl.new }
 {
     // With whether it is ready comes what is known of every controller.
-    let _ready = vctl.is_ready();
+    let _known = vctl.is_ready();
     let queue = fields::queue(sqe);
     if queue == 0 || !vctl.has_submission_queue(queue) {
         return Err(StatusCode::InvalidQueueIdentifier);
@@ -88,7 +88,7 @@ pub(crate) fn delete_completion_queue(vctl: &mut Vctl, sqe: &Sqe) -> Result<Outc
     ensures in_place { (test : ℕ → Bool) → QueuesInPlace test vctl.old → QueuesInPlace test vctl.new }
 {
     // With whether it is ready comes what is known of every controller.
-    let _ready = vctl.is_ready();
+    let _known = vctl.is_ready();
     let queue = fields::queue(sqe);
     if queue == 0 || !vctl.has_completion_queue(queue) {
         return Err(StatusCode::InvalidQueueIdentifier);

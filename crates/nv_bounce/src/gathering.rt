@@ -28,7 +28,7 @@ pub fn gather(places: &[Piece], map: &GuestMap, host: &mut Host, slot: u64)
     ensures len { length host.new ≡ length host.old }
 {
     // An address in the host fits in 64 bits, and so does the end of the slot.
-    let _host_len = map.host_len();
+    let _known = map.host_len();
     let mut to = slot;
     for piece in places {
         gather_piece(piece, map, host, to);
@@ -62,7 +62,7 @@ fn gather_run(addr: u64, len: u64, map: &GuestMap, host: &mut Host, to: u64)
     ensures len { length host.new ≡ length host.old }
 {
     // With the length of the host comes what is known of every map.
-    let _host_len = map.host_len();
+    let _known = map.host_len();
     let mut done = 0;
     while done < len {
         let Some((from, n)) = map.run(addr + done, len - done) else {

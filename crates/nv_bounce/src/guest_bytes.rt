@@ -15,7 +15,7 @@ pub fn load(addr: u64, map: &GuestMap, host: &Host, out: &mut [u8])
     ensures { out.new ≡ bytes_from (image map.now.regions (byte_in host.now)) addr (length out.old) }
 {
     // With the length of the host comes what is known of every map.
-    let _host_len = map.host_len();
+    let _known = map.host_len();
     let mut done = 0;
     while done < out.len() {
         let left = (out.len() - done) as u64;
@@ -40,7 +40,7 @@ pub fn store(bytes: &[u8], addr: u64, map: &GuestMap, host: &mut Host)
     ensures len { length host.new ≡ length host.old }
 {
     // With the length of the host comes what is known of every map.
-    let _host_len = map.host_len();
+    let _known = map.host_len();
     let mut done = 0;
     while done < bytes.len() {
         let left = (bytes.len() - done) as u64;

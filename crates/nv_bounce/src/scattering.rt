@@ -29,7 +29,7 @@ pub fn scatter(slot: u64, places: &[Piece], map: &GuestMap, host: &mut Host)
     ensures len { length host.new ≡ length host.old }
 {
     // With the length of the host comes what is known of every map, and that the end of the slot fits in 64 bits.
-    let _host_len = map.host_len();
+    let _known = map.host_len();
     let mut from = slot;
     for piece in places {
         scatter_piece(from, piece, map, host);
@@ -47,7 +47,7 @@ fn scatter_piece(from: u64, piece: &Piece, map: &GuestMap, host: &mut Host)
     ensures len { length host.new ≡ length host.old }
 {
     // With the length of the host comes what is known of every map.
-    let _host_len = map.host_len();
+    let _known = map.host_len();
     match *piece {
         Piece::Run { addr, len } => scatter_run(from, addr, len, map, host),
         Piece::Bucket { .. } => {}
@@ -64,7 +64,7 @@ fn scatter_run(from: u64, addr: u64, len: u64, map: &GuestMap, host: &mut Host)
     ensures len { length host.new ≡ length host.old }
 {
     // With the length of the host comes what is known of every map.
-    let _host_len = map.host_len();
+    let _known = map.host_len();
     let mut done = 0;
     while done < len {
         let Some((to, n)) = map.run(addr + done, len - done) else {

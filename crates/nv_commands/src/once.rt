@@ -100,7 +100,7 @@ fn fill_by<C: One>(controller: &mut C, addr: u64, len: u64, byte: u8, chunk: &[u
     ensures sizes { HasSizes (C.seen controller.new) (length (C.seen controller.old).memory) (length (C.seen controller.old).disk) }
 {
     // the proof learns from it that no address is beyond 64 bits
-    let _size = controller.memory_len();
+    let _known = controller.memory_len();
     let mut done = 0;
     while done < len {
         let count = (len - done).min(CHUNK as u64);
@@ -137,7 +137,7 @@ fn dump_bytes<C: One, W: Write>(
     ensures { OnOk result (Appends (W.contents output.old) (W.contents output.new) (encode_lower (bytes_at (C.seen controller.now).memory addr len))) }
 {
     // the proof learns from it that no address is beyond 64 bits
-    let _size = controller.memory_len();
+    let _known = controller.memory_len();
     let mut bytes = [0; CHUNK];
     let mut done = 0;
     while done < len {

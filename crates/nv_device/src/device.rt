@@ -6,7 +6,7 @@ ghost use Rattle.nv_world_model.specs.Area.{completion_slot, lane_start, ring_si
 ghost use Rattle.nv_world_model.specs.Device.{opening_device_lane};
 ghost use Rattle.nv_device.specs.Physical.{FitsLimits, HoldsArea, done_where, lane_of, opening_physical, with_lane};
 
-use crate::lane::Lane;
+use crate::lane::PhysicalLane;
 use crate::response::Response;
 use nv_disk::{Blocks, Marks};
 use nv_mem::{Host, NoMemory, PAGE_SIZE};
@@ -24,7 +24,7 @@ pub struct Device {
     pub(crate) mediator: u64,
     pub(crate) disk: Blocks,
     pub(crate) kept: Marks,
-    pub(crate) lanes: Vec<Lane>,
+    pub(crate) lanes: Vec<PhysicalLane>,
 }
 
 impl Model for Device {
@@ -78,7 +78,7 @@ impl Device {
         ensures value { result ≡ length self.now.lanes }
         ensures most { result ≤ 8 }
     {
-        let _whole = &self.mediator;
+        let _known = &self.mediator;
         self.lanes.len() as u8
     }
 
@@ -87,7 +87,7 @@ impl Device {
         ensures value { result ≡ length self.now.disk }
         ensures marked { length self.now.kept ≡ length self.now.disk }
     {
-        let _marks = &self.kept;
+        let _known = &self.kept;
         self.disk.len() as u64
     }
 
@@ -179,12 +179,12 @@ impl Device {
 }
 
 /// Lanes whose rings are empty.
-fn new_lanes(alloc: Global, count: u8) -> Result<Vec<Lane>, NoMemory>
+fn new_lanes(alloc: Global, count: u8) -> Result<Vec<PhysicalLane>, NoMemory>
     ensures { IfOk result (λ lanes. lanes.items ≡ replicate count opening_device_lane) }
 {
     let mut lanes = Vec::with_capacity(alloc, usize::from(count))?;
     for _lane in 0..count {
-        lanes.push(Lane::new(alloc)?)?;
+        lanes.push(PhysicalLane::new(alloc)?)?;
     }
     Ok(lanes)
 }

@@ -19,14 +19,14 @@ pub const IDENTIFIERS: u8 = TAGS;
 /// A lane: the positions of its submission ring, which slot of its completion ring is written next and with which phase tag, and the commands in
 /// the device, by identifier.
 #[derive(Debug, Drop)]
-pub(crate) struct Lane {
+pub(crate) struct PhysicalLane {
     submissions: Ring,
     posted: u16,
     phase: Phase,
     held: Vec<Option<Command>>,
 }
 
-impl Model for Lane {
+impl Model for PhysicalLane {
     ghost use Rattle.nv_device.specs.Physical.{IsLane};
     ghost use Rattle.nv_world_model.specs.Device.{DeviceLane};
 
@@ -43,12 +43,12 @@ impl Model for Lane {
     ghost invariant = { λ l. IsLane l.submissions.size l.submissions.head l.posted l.held.items };
 }
 
-impl Lane {
+impl PhysicalLane {
     /// Empty rings in their first pass, and no command.
     pub(crate) fn new(alloc: Global) -> Result<Self, NoMemory>
         ensures { IfOk result (λ lane. lane ≡ opening_device_lane) }
     {
-        Ok(Lane {
+        Ok(PhysicalLane {
             submissions: Ring::new(RING_SLOTS),
             posted: 0,
             phase: Phase::new(),

@@ -184,7 +184,7 @@ fn clear_unit(command: &Command, number: u64, disk: &mut Blocks, kept: &mut Mark
     ensures disk_size { length disk.new ≡ length disk.old }
     ensures marks_size { length kept.new ≡ length kept.old }
 {
-    let _blocks = disk.len();
+    let _known = disk.len();
     nv_disk::clear_block(disk, kept, command.slba() + number, command.fua());
     command.has_differed()
 }
@@ -220,7 +220,7 @@ fn range_of(command: &Command, number: u64, host: &Host) -> Range
     ensures { result ≡ range_at number command.now.pieces (byte_in host.now) }
 {
     // The end of the host fits in 64 bits, and so do its addresses.
-    let _size = host.len();
+    let _known = host.len();
     let mut buffer = command.buffer_behind(RANGE_SIZE as u64 * number);
     let mut bytes = [0; RANGE_SIZE];
     buffer.fetch(host, &mut bytes);

@@ -88,7 +88,7 @@ fn read_list(
     ensures paged { OnOk result (ArePaged places.new) }
 {
     // The end of the host fits in 64 bits, and so does the address after a slot.
-    let _size = host.len();
+    let _known = host.len();
     let mut from = list;
     let mut slots = (PAGE_SIZE - list % PAGE_SIZE) / 8;
     let mut pages = pages;

@@ -43,7 +43,7 @@ fn list_spells(host: &Host, list: u64, pages: u64, bytes: u64) -> bool
     ensures { (pieces : List Piece) → result ≡ spells (entries_reading host.now pages (slots_of list) list bytes pieces) }
 {
     // The end of the host fits in 64 bits, and so does the address after a slot.
-    let _size = host.len();
+    let _known = host.len();
     let mut from = list;
     let mut slots = (PAGE_SIZE - list % PAGE_SIZE) / 8;
     let mut pages = pages;

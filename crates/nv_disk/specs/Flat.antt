@@ -27,6 +27,6 @@ moved_of f differed =
 abbrev pub flat : List ℕ → List (List ℕ) → List Bool → Flat
 flat memory disk kept = record { memory = memory; disk = disk; kept = kept }
 
--- the bytes of blocks, one behind the other
+-- the bytes of blocks, one after the other
 abbrev pub joined : List (List ℕ) → List ℕ
 joined blocks = flat_map (λ x. x) blocks

@@ -167,7 +167,7 @@ impl Blocks {
         ensures { self.new ≡ take start self.old ++ (replicate count (replicate 512 0) ++ drop (start + count) self.old) }
     {
         // The number of blocks fits, and so does the end of the range.
-        let _blocks = self.len();
+        let _known = self.len();
         for at in start..start + count {
             self.zero(at);
         }

@@ -85,7 +85,7 @@ impl<'a> Buffer<'a> {
         ensures rest { self.new ≡ drop (length bytes.now) self.old }
     {
         // An address of the memory fits in 64 bits, and so does the end of a run.
-        let _size = memory.len();
+        let _known = memory.len();
         let mut rest = bytes;
         while !rest.is_empty() {
             let Some(piece) = self.take_front(rest.len() as u64) else {
@@ -106,7 +106,7 @@ impl<'a> Buffer<'a> {
         ensures rest { self.new ≡ drop (length out.old) self.old }
     {
         // An address of the memory fits in 64 bits, and so does the end of a run.
-        let _size = memory.len();
+        let _known = memory.len();
         let mut done = 0;
         while done < out.len() {
             let Some(piece) = self.take_front((out.len() - done) as u64) else {
@@ -127,7 +127,7 @@ impl<'a> Buffer<'a> {
         ensures rest { self.new ≡ drop (length bytes.now) self.old }
     {
         // An address of the memory fits in 64 bits, and so does the end of a run.
-        let _size = memory.len();
+        let _known = memory.len();
         let mut rest = bytes;
         let mut differed = false;
         while !rest.is_empty() {

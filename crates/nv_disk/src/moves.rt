@@ -41,7 +41,7 @@ pub fn read_blocks(
     ensures marks_size { length kept.new ≡ length kept.old }
 {
     // With the number of blocks comes that each has 512 bytes.
-    let _blocks = disk.len();
+    let _known = disk.len();
     put_blocks(memory, disk, buffer, start as usize, count as usize);
     if fua {
         raise_marks(kept, start, count);
@@ -57,7 +57,7 @@ fn put_blocks(memory: &mut Host, disk: &Blocks, buffer: &mut Buffer, start: usiz
     ensures size { length memory.new ≡ length memory.old }
 {
     // With the number of blocks comes that each has 512 bytes.
-    let _blocks = disk.len();
+    let _known = disk.len();
     let mut at = start;
     let mut left = count;
     while left > 0 {
@@ -183,7 +183,7 @@ pub fn compare_blocks(
     ensures marks_size { length kept.new ≡ length kept.old }
 {
     // With the number of blocks comes that each has 512 bytes.
-    let _blocks = disk.len();
+    let _known = disk.len();
     let differs = blocks_differ(memory, disk, buffer, start as usize, count as usize);
     if fua {
         raise_marks(kept, start, count);
@@ -206,7 +206,7 @@ fn blocks_differ(
     ensures { result ≡ differs (gathered (byte_in memory.now) (take (512 * count) buffer.old)) (joined (take count (drop start disk.now))) }
 {
     // With the number of blocks comes that each has 512 bytes.
-    let _blocks = disk.len();
+    let _known = disk.len();
     let mut at = start;
     let mut left = count;
     while left > 0 {

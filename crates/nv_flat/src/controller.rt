@@ -131,7 +131,7 @@ impl FlatController {
         ensures value { result ≡ length self.now.disk }
         ensures marked { length self.now.kept ≡ length self.now.disk }
     {
-        let _marks = &self.kept;
+        let _known = &self.kept;
         self.disk.len() as u64
     }
 

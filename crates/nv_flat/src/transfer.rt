@@ -75,7 +75,7 @@ impl FlatController {
         ensures disk_size { length self.new.disk ≡ length self.old.disk }
     {
         // The end of the range fits in 64 bits, as the number of blocks does.
-        let _blocks = self.blocks();
+        let _known = self.blocks();
         let mut buffer = Buffer::new(places);
         for index in 0..count {
             self.write_block(&mut buffer, slba + index, fua);

@@ -213,7 +213,7 @@ impl GuestMap {
             return lookup::covered(&self.regions, addr, len) == len;
         }
         // What is read is known to be below 2 to the 64, and so is each address that is mapped.
-        let _host_len = self.host_len;
+        let _known = self.host_len;
         let mut done = front;
         while done < len {
             let Some(at) = addr.checked_add(done) else {
@@ -237,7 +237,7 @@ impl GuestMap {
         ensures { IsLongestRun self.now.regions addr len host result }
     {
         // What is read is known to be below 2 to the 64, and so is what ends inside the host.
-        let _host_len = self.host_len;
+        let _known = self.host_len;
         let mut n = front;
         while n < len {
             let Some(at) = addr.checked_add(n) else {
@@ -282,7 +282,7 @@ impl GuestMap {
         ensures { IsContiguous self.now.regions addr result.host result.left }
     {
         // What is read is known to be below 2 to the 64, and so is what lies inside the host.
-        let _host_len = self.host_len;
+        let _known = self.host_len;
         let Ranked { region, next } = ranked;
         let offset = addr - region.guest;
         Stretch {

@@ -26,7 +26,7 @@
 //! address is found in few steps. That order is made once and is in the map itself, so it takes no memory. Of more regions each is compared.
 //!
 //! The [`FEW`] bytes of a [`Bytes`] and their number are one aligned word. A copy loads and stores that word at once. Separate stores would make
-//! the next load wait for all of them. So a [`Bytes`] has two words, which a test of `nv_checks_mem` checks. An act carries [`BoxedBytes`], since
+//! the next load wait for all of them. So a [`Bytes`] has two words, which a test of `nv_checks` checks. An act carries [`BoxedBytes`], since
 //! few acts have bytes and a script holds millions of acts.
 //!
 //! It is a crate of its own because definitions and code share these types, from `nv_model` up.

@@ -55,7 +55,7 @@ fn add_run(map: &GuestMap, addr: u64, len: u64, met: &mut Met)
     ensures { met.new ≡ met_more met.old (hosts_of map.now.regions (addresses addr len)) }
 {
     // With the length of the host comes what is known of every map.
-    let _host_len = map.host_len();
+    let _known = map.host_len();
     let mut done = 0;
     while done < len {
         let Some((host, n)) = map.run(addr + done, len - done) else {

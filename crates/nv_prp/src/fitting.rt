@@ -36,7 +36,7 @@ fn run_fits(map: &GuestMap, addr: u64, len: u64, end: &mut Option<u64>) -> bool
         ≡ (result && fit_behind end.new rest) }
 {
     // With the length of the host comes what is known of every map.
-    let _host_len = map.host_len();
+    let _known = map.host_len();
     let mut done = 0;
     while done < len {
         let Some((host, n)) = map.run(addr + done, len - done) else {

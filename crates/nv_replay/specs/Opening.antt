@@ -4,7 +4,7 @@ use Rattle.std.specs.Result.{result_map_both}
 use Rattle.nv_mem.specs.MapRefusal.{refusal_of as map_refusal_of}
 use Rattle.nv_mem.specs.declared.map_error.MapError.{MapError}
 use Rattle.nv_ns.specs.BlockRange.{Extent}
-use Rattle.nv_replay_script.specs.declared.set_up.Extent.{Extent as WrittenExtent}
+use Rattle.nv_replay_script.specs.declared.set_up.ExtentLine.{ExtentLine}
 use Rattle.nv_replay_script.specs.ReplayScript.{ScriptValue, script_of}
 use Rattle.nv_replay_script.specs.ReplaySetUp.{GuestValue}
 use Rattle.nv_replay_script.specs.declared.sizes.Sizes.{Sizes}
@@ -32,7 +32,7 @@ limit_of (Some n) = min n 4294967295
 -- ---- the guests
 
 -- the extent that a line writes
-abbrev pub extent_written : WrittenExtent → Extent
+abbrev pub extent_written : ExtentLine → Extent
 extent_written written = record { base = written.base; blocks = written.blocks }
 
 -- what a guest of a script is given in a host of so many bytes: the extents that its lines write, in their order

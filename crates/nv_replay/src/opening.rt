@@ -12,7 +12,7 @@ use crate::refusal::SetUpRefusal;
 use crate::replay::Replay;
 use nv_mem::GuestMap;
 use nv_model::limits::MOST_DESCRIPTORS;
-use nv_replay_script::{Extent as WrittenExtent, GuestSetUp, Script, Sizes, parse};
+use nv_replay_script::{ExtentLine, GuestSetUp, Script, Sizes, parse};
 use nv_world::{Extent, GuestSetup, Setup, World};
 use std::alloc::{AllocError, Global};
 
@@ -110,7 +110,7 @@ fn map_guest(
 }
 
 // The extents of a guest as a world takes them, in the order written.
-fn take_extents(alloc: Global, written: &[WrittenExtent]) -> Result<Vec<Extent>, AllocError>
+fn take_extents(alloc: Global, written: &[ExtentLine]) -> Result<Vec<Extent>, AllocError>
     ensures { IfOk result (λ made. made.items ≡ map extent_written written.now) }
 {
     written

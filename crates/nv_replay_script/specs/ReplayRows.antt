@@ -2,7 +2,7 @@
 use Rattle.std.specs.Prelude.{ℕ, List, [], ◌∷◌, ◌++◌, codes, Some, None, Result}
 use Rattle.nv_world_model.specs.declared.event.Event.{Event}
 use Rattle.nv_once_script.specs.declared.once.fault.ScriptFault.{ScriptFault}
-use Rattle.nv_replay_script.specs.declared.set_up.Extent.{Extent}
+use Rattle.nv_replay_script.specs.declared.set_up.ExtentLine.{ExtentLine}
 use Rattle.nv_replay_script.specs.ReplayScript.{ScriptValue, script_of}
 use Rattle.nv_replay_script.specs.ReplaySetUp.{GuestValue}
 
@@ -40,7 +40,7 @@ guest_at host base =
     }
 
 -- the same guest, with these extents after its first
-abbrev pub extended_by : List Extent → GuestValue → GuestValue
+abbrev pub extended_by : List ExtentLine → GuestValue → GuestValue
 extended_by extents guest = record guest { extents = guest.extents ++ extents }
 
 -- the same guest, of whose lists a line named the most descriptors

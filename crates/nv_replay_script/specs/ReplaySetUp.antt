@@ -10,7 +10,7 @@ use Rattle.nv_once_script.specs.OnceNumber.{number_of, number_up_to}
 use Rattle.nv_once_script.specs.OnceScript.{first_time}
 use Rattle.nv_once_script.specs.OnceVocabulary.{count_check}
 use Rattle.nv_replay_script.specs.declared.open_set_up.OpenSetUp.{OpenSetUp}
-use Rattle.nv_replay_script.specs.declared.set_up.Extent.{Extent}
+use Rattle.nv_replay_script.specs.declared.set_up.ExtentLine.{ExtentLine}
 use Rattle.nv_replay_script.specs.declared.set_up.GuestSetUp.{GuestSetUp}
 use Rattle.nv_replay_script.specs.declared.sizes.OpenSizes.{OpenSizes}
 use Rattle.nv_replay_script.specs.declared.sizes.Sizes.{Sizes}
@@ -60,7 +60,7 @@ sizes_in sizes = all_four sizes.host sizes.mediator sizes.disk sizes.lanes
 -- a guest: the extents of its namespace in order, the bytes of its planner's heap, the most descriptors of a list where a line named them,
 -- and the regions of its memory in order
 pub record GuestValue : Type 0 where
-  pub extents : List Extent
+  pub extents : List ExtentLine
   pub heap : ℕ
   pub limit : Option ℕ
   pub regions : List Region
@@ -105,7 +105,7 @@ known_guest count word = do
   Ok number
 
 -- the extent that these words make: any two numbers, which are judged with the set-up
-abbrev pub extent_of : (base blocks : List ℕ) → Result Extent FaultKind
+abbrev pub extent_of : (base blocks : List ℕ) → Result ExtentLine FaultKind
 extent_of base blocks = do
   b ← number_of base
   n ← number_of blocks

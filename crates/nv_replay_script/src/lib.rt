@@ -22,5 +22,5 @@ pub mod sizes;
 pub mod vocabulary;
 
 pub use script::{Script, parse};
-pub use set_up::{Extent, GuestSetUp};
+pub use set_up::{ExtentLine, GuestSetUp};
 pub use sizes::Sizes;

@@ -13,7 +13,7 @@ use std::alloc::Global;
 
 /// A range of the disk's blocks, as a line writes it: any two numbers, which are judged with the set-up.
 #[derive(Clone, Copy, Debug, PartialEq, Eq)]
-pub struct Extent {
+pub struct ExtentLine {
     /// the block of the disk at which it begins
     pub base: u64,
     /// how many blocks it has
@@ -24,7 +24,7 @@ pub struct Extent {
 #[derive(Debug, PartialEq, Eq, Drop)]
 pub struct GuestSetUp {
     /// the extents of its namespace, in the order written, of which its own line gives the first
-    pub extents: Vec<Extent>,
+    pub extents: Vec<ExtentLine>,
     /// how many bytes its planner's heap has, 256 to 16,777,216
     pub heap: u64,
     /// the most descriptors of a list, where a line named them: any number, which is judged with the set-up
@@ -156,12 +156,12 @@ impl GuestSetUp {
 }
 
 // Makes an extent of its two words.
-fn make_extent(base: Word<'_>, blocks: Word<'_>) -> Result<Extent, FaultKind>
+fn make_extent(base: Word<'_>, blocks: Word<'_>) -> Result<ExtentLine, FaultKind>
     ensures { result ≡ extent_of base.entry blocks.entry }
 {
     let base = number(base)?;
     let blocks = number(blocks)?;
-    Ok(Extent { base, blocks })
+    Ok(ExtentLine { base, blocks })
 }
 
 /// Makes a region of its three words.

@@ -293,7 +293,7 @@ fn holds_some(map: &GuestMap, addr: u64, len: u32) -> bool
     ensures inside { IsTrue result → addr + len ≤ 2 ^ 64 }
 {
     // With the length of the host comes what is known of every map.
-    let _host_len = map.host_len();
+    let _known = map.host_len();
     map.holds(addr, u64::from(len))
 }
 

@@ -1,6 +1,6 @@
 //! The plan that a planner feeds.
 
-use crate::given::Given;
+use crate::given::GrantCopy;
 use nv_plan::{Job, Next, Planning, ReadDone};
 use std::alloc::{Allocator, Global};
 
@@ -22,14 +22,14 @@ pub(crate) enum Fed {
 pub(crate) struct Feeder<'a, A: Allocator + Clone + Copy> {
     heap: A,
     alloc: Global,
-    given: &'a Given,
+    given: &'a GrantCopy,
     // the plan that waits for bytes
     plan: Option<Planning<'a, A>>,
 }
 
 impl<'a, A: Allocator + Clone + Copy> Feeder<'a, A> {
     /// One that has no command.
-    pub(crate) fn new(heap: A, alloc: Global, given: &'a Given) -> Self {
+    pub(crate) fn new(heap: A, alloc: Global, given: &'a GrantCopy) -> Self {
         Feeder {
             heap,
             alloc,
@@ -39,7 +39,7 @@ impl<'a, A: Allocator + Clone + Copy> Feeder<'a, A> {
     }
 
     /// What the guest was given.
-    pub(crate) fn given(&self) -> &'a Given {
+    pub(crate) fn given(&self) -> &'a GrantCopy {
         self.given
     }
 

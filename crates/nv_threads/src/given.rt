@@ -12,13 +12,13 @@ use std::sync::Wait;
 
 /// The map, the namespace and the limit on descriptors that a guest was given.
 #[derive(Debug, Drop)]
-pub(crate) struct Given {
+pub(crate) struct GrantCopy {
     map: GuestMap,
     ns: VirtualNs,
     limit: u32,
 }
 
-impl Model for Given {
+impl Model for GrantCopy {
     ghost use Rattle.nv_core.specs.Submit.{IsLimit};
     ghost use Rattle.nv_world_model.specs.Geometry.{Guest};
 
@@ -29,7 +29,7 @@ impl Model for Given {
     ghost invariant = { λ g. IsLimit g.limit };
 }
 
-impl Given {
+impl GrantCopy {
     /// What a guest was given, with a copy of its map; `None` where there is no such guest. Each is read while the world's lock is held for
     /// it alone.
     pub(crate) fn of<R: Wait>(
@@ -44,7 +44,7 @@ impl Given {
         let (Some(map), Some(ns), Some(limit)) = (map, ns, limit) else {
             return Ok(None);
         };
-        Ok(Some(Given { map, ns, limit }))
+        Ok(Some(GrantCopy { map, ns, limit }))
     }
 
     /// Its map.

@@ -2,7 +2,7 @@
 
 use crate::feeder::{Fed, Feeder};
 use crate::gate::Gate;
-use crate::given::Given;
+use crate::given::GrantCopy;
 use nv_plan::{Job, Plan, Planned, ReadDone};
 use std::alloc::{Allocator, Global};
 use std::sync::Wait;
@@ -31,7 +31,7 @@ pub(crate) struct PlanMaker<'a, G, A: Allocator + Clone + Copy> {
 
 impl<'a, G: Gate, A: Allocator + Clone + Copy> PlanMaker<'a, G, A> {
     /// One that has no plan under way.
-    pub(crate) fn new(gate: &'a G, heap: A, alloc: Global, given: &'a Given) -> Self {
+    pub(crate) fn new(gate: &'a G, heap: A, alloc: Global, given: &'a GrantCopy) -> Self {
         PlanMaker {
             gate,
             alloc,

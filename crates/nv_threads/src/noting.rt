@@ -56,7 +56,7 @@ fn guest_with(alloc: Global, guest: u8) -> Result<GuestSetup, Fail> {
 // A world of all guests and all lanes.
 fn widest(alloc: Global) -> Result<World, Fail> {
     let mut guests = Vec::new(alloc);
-    for guest in 0..GUESTS {
+    for guest in 0..MOST_GUESTS {
         guests.push(guest_with(alloc, guest)?)?;
     }
     Ok(World::new(
@@ -77,7 +77,7 @@ fn expect_alone(rt: &impl Abort, world: &World, guest: u8, lane: u8) {
     notes.ring_for(guest, 8);
     notes.end(lane, 1);
     assert_eq!(rt; notes.take(world, lane, guest), Some(0));
-    for other in 0..GUESTS {
+    for other in 0..MOST_GUESTS {
         assert_eq!(rt; notes.queues(other) == 0x100, other == guest);
     }
     for other in 0..LANES as u8 {
@@ -92,7 +92,7 @@ fn expect_alone(rt: &impl Abort, world: &World, guest: u8, lane: u8) {
 #[test]
 fn each_guest_and_each_lane_has_its_own_notes(rt: HostRuntime) -> Result<(), Fail> {
     let world = widest(rt.alloc())?;
-    for guest in 0..GUESTS {
+    for guest in 0..MOST_GUESTS {
         expect_alone(&rt, &world, guest, guest % LANES as u8);
     }
     Ok(())
@@ -167,7 +167,7 @@ fn expect_noted(rt: &impl Abort, notes: &Notes) {
     for lane in 0..LANES as u8 {
         expect_lane(rt, notes, lane, lane == LAST_LANE);
     }
-    for guest in 0..GUESTS {
+    for guest in 0..MOST_GUESTS {
         let rung = if guest == LAST { 0b11 } else { 0 };
         assert_eq!(rt; notes.queues(guest), rung);
     }

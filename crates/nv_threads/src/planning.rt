@@ -3,7 +3,7 @@
 use crate::bits::bit;
 use crate::concern::Concern;
 use crate::gate::Gate;
-use crate::given::Given;
+use crate::given::GrantCopy;
 use crate::locked::Locked;
 use crate::maker::{PlanMaker, Prepared};
 use crate::share::Share;
@@ -80,14 +80,14 @@ pub fn planner<G: Gate, R: Wait + Clock>(
 
 // What the guest was given. It is tried again until there is memory for it; `None` where there is no such guest, or the workers are
 // to stop.
-fn given<R: Wait + Clock>(rt: &R, alloc: Global, shared: &Shared, guest: u8) -> Option<Given> {
+fn given<R: Wait + Clock>(rt: &R, alloc: Global, shared: &Shared, guest: u8) -> Option<GrantCopy> {
     let bell = shared.bells.planner(guest);
     for _ in rt.forever() {
         let rings = bell.rings();
         if shared.is_stopped() {
             return None;
         }
-        match Given::of(rt, alloc, shared, guest) {
+        match GrantCopy::of(rt, alloc, shared, guest) {
             Ok(given) => return given,
             Err(NoMemory) => {
                 let _rung = bell.wait(rt, rings);
@@ -102,7 +102,7 @@ fn maker_in<'a, G: Gate>(
     gate: &'a G,
     heap: &'a Option<LocalHeap>,
     alloc: Global,
-    given: &'a Given,
+    given: &'a GrantCopy,
 ) -> Option<PlanMaker<'a, G, &'a LocalHeap>> {
     match heap {
         Some(heap) => Some(PlanMaker::new(gate, heap, alloc, given)),

@@ -112,7 +112,7 @@ impl Shared {
         } = self;
         let Locked { world, notes: _ } = locked.into_inner();
         // With the log comes what is known of the world.
-        let _log = world.log();
+        let _known = world.log();
         world
     }
 }

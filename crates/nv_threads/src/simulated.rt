@@ -11,7 +11,7 @@ use crate::bits::bit;
 use crate::concern::Concern;
 use crate::device_side::LaneDevice;
 use crate::gate::Open;
-use crate::given::Given;
+use crate::given::GrantCopy;
 use crate::locked::{Errand, Locked};
 use crate::maker::{PlanMaker, Prepared};
 use crate::notes::Notes;
@@ -134,7 +134,7 @@ struct MakerSeat<'a> {
 struct Simulation<'a> {
     alloc: Global,
     // what each guest was given
-    givens: &'a [Given],
+    givens: &'a [GrantCopy],
     start: Start,
     locked: Locked,
     // how many extents the guest has that has most
@@ -167,7 +167,7 @@ struct Simulation<'a> {
 
 impl<'a> Simulation<'a> {
     // Worlds without workers.
-    fn new(alloc: Global, extents: &Extents, givens: &'a [Given]) -> Result<Self, Fail> {
+    fn new(alloc: Global, extents: &Extents, givens: &'a [GrantCopy]) -> Result<Self, Fail> {
         let world = opened(alloc, extents)?;
         let notes = Notes::of(&world);
         let mut guests = Vec::new(alloc);
@@ -592,11 +592,11 @@ fn place_of(lane: u8, tag: u8) -> usize {
 }
 
 // What guests with these extents are given.
-fn givens<R: Wait>(rt: &R, alloc: Global, extents: &Extents) -> Result<Vec<Given>, Fail> {
+fn givens<R: Wait>(rt: &R, alloc: Global, extents: &Extents) -> Result<Vec<GrantCopy>, Fail> {
     let shared = Shared::new(opened(alloc, extents)?);
     let mut givens = Vec::new(alloc);
     for guest in 0..GUESTS {
-        if let Some(given) = Given::of(rt, alloc, &shared, guest)? {
+        if let Some(given) = GrantCopy::of(rt, alloc, &shared, guest)? {
             givens.push(given)?;
         }
     }
@@ -608,7 +608,7 @@ fn simulated<'a, R: Abort + Wait + Clock>(
     rt: &R,
     alloc: Global,
     extents: &Extents,
-    givens: &'a [Given],
+    givens: &'a [GrantCopy],
     seed: u64,
     turns: u32,
 ) -> Result<Simulation<'a>, Fail> {
@@ -634,7 +634,7 @@ fn simulated<'a, R: Abort + Wait + Clock>(
 fn simulate<'a, R: Abort + Wait + Clock>(
     rt: &R,
     alloc: Global,
-    givens: &'a [Given],
+    givens: &'a [GrantCopy],
     seed: u64,
 ) -> Result<Simulation<'a>, Fail> {
     let simulation = simulated(rt, alloc, &ONE, givens, seed, TURNS)?;

@@ -25,7 +25,7 @@ impl Vctl {
         ensures { result ≡ entry_at (image map.now.regions (byte_in host.now)) (front self.now queue) }
     {
         // With the length of the host comes what is known of every map.
-        let _host_len = map.host_len();
+        let _known = map.host_len();
         if !self.waits(queue) {
             return None;
         }
@@ -85,7 +85,7 @@ impl Vctl {
         ensures in_place { QueuesInPlace (mapped map.now.regions) self.new }
     {
         // With the length of the host comes what is known of every map.
-        let _host_len = map.host_len();
+        let _known = map.host_len();
         let number = usize::from(queue);
         let Some(from) = self.submission_queue(number) else {
             return Posted::Held;

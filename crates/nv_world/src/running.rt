@@ -30,7 +30,7 @@ impl World {
     {
         let ended = self.run_all(alloc, events, replies);
         // With the log comes what is known of its steps.
-        let _log = self.log();
+        let _known = self.log();
         ended
     }
 

@@ -21,7 +21,7 @@ impl World {
     {
         let reply = self.step_twice(alloc, event);
         // With the log comes what is known of its steps.
-        let _log = self.log();
+        let _known = self.log();
         reply
     }
 
@@ -40,7 +40,7 @@ impl World {
     {
         let ended = self.step_once(alloc, event);
         // With the log comes what is known of its steps.
-        let _log = self.log();
+        let _known = self.log();
         ended
     }
 

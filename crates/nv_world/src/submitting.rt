@@ -19,7 +19,7 @@ impl World {
     {
         let reply = self.submit_made(plan);
         // With the log comes what is known of its steps.
-        let _log = self.log();
+        let _known = self.log();
         reply
     }
 

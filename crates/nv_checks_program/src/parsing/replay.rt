@@ -164,30 +164,30 @@ lanes 1;disk 1;mediator 0;host 0;guest 0 range 0 1 heap 256;reap 0;descriptors 0
 const GUESTS: &str = "\
 |[]
 guest 0 range 18446744073709551615 0 heap 256|\
-[GuestSetUp { extents: [Extent { base: 18446744073709551615, blocks: 0 }], heap: 256, limit: None, regions: [] }]
+[GuestSetUp { extents: [ExtentLine { base: 18446744073709551615, blocks: 0 }], heap: 256, limit: None, regions: [] }]
 guest 0 range 0 1 heap 0x1000000;map 0 1 2 3;map 0 4 5 6|\
-[GuestSetUp { extents: [Extent { base: 0, blocks: 1 }], heap: 16777216, limit: None, regions: [Region { guest: 1, host: 2, len: 3 }, \
+[GuestSetUp { extents: [ExtentLine { base: 0, blocks: 1 }], heap: 16777216, limit: None, regions: [Region { guest: 1, host: 2, len: 3 }, \
 Region { guest: 4, host: 5, len: 6 }] }]
 guest 0 range 7 1 heap 256;extent 0 5 0xffffffffffffffff;extent 0 18446744073709551615 0;extent 0 7 1|\
-[GuestSetUp { extents: [Extent { base: 7, blocks: 1 }, Extent { base: 5, blocks: 18446744073709551615 }, \
-Extent { base: 18446744073709551615, blocks: 0 }, Extent { base: 7, blocks: 1 }], heap: 256, limit: None, regions: [] }]
+[GuestSetUp { extents: [ExtentLine { base: 7, blocks: 1 }, ExtentLine { base: 5, blocks: 18446744073709551615 }, \
+ExtentLine { base: 18446744073709551615, blocks: 0 }, ExtentLine { base: 7, blocks: 1 }], heap: 256, limit: None, regions: [] }]
 guest 0 range 0 1 heap 256;map 0 1 2 3;guest 1 range 2 3 heap 256;extent 1 0 9;extent 0 4 5;map 0 4 5 6;extent 1 0 8|\
-[GuestSetUp { extents: [Extent { base: 0, blocks: 1 }, Extent { base: 4, blocks: 5 }], heap: 256, limit: None, \
+[GuestSetUp { extents: [ExtentLine { base: 0, blocks: 1 }, ExtentLine { base: 4, blocks: 5 }], heap: 256, limit: None, \
 regions: [Region { guest: 1, host: 2, len: 3 }, Region { guest: 4, host: 5, len: 6 }] }, \
-GuestSetUp { extents: [Extent { base: 2, blocks: 3 }, Extent { base: 0, blocks: 9 }, Extent { base: 0, blocks: 8 }], \
+GuestSetUp { extents: [ExtentLine { base: 2, blocks: 3 }, ExtentLine { base: 0, blocks: 9 }, ExtentLine { base: 0, blocks: 8 }], \
 heap: 256, limit: None, regions: [] }]
 guest 0 range 0 1 heap 256;extent 0 1 1;extent 0 2 1;extent 0 3 1;extent 0 4 1;extent 0 5 1;extent 0 6 1;extent 0 7 1;extent 0 8 1|\
-[GuestSetUp { extents: [Extent { base: 0, blocks: 1 }, Extent { base: 1, blocks: 1 }, Extent { base: 2, blocks: 1 }, \
-Extent { base: 3, blocks: 1 }, Extent { base: 4, blocks: 1 }, Extent { base: 5, blocks: 1 }, Extent { base: 6, blocks: 1 }, \
-Extent { base: 7, blocks: 1 }, Extent { base: 8, blocks: 1 }], heap: 256, limit: None, regions: [] }]
-guest 0 range 0 1 heap 256;descriptors 0 0|[GuestSetUp { extents: [Extent { base: 0, blocks: 1 }], heap: 256, limit: Some(0), regions: [] }]
+[GuestSetUp { extents: [ExtentLine { base: 0, blocks: 1 }, ExtentLine { base: 1, blocks: 1 }, ExtentLine { base: 2, blocks: 1 }, \
+ExtentLine { base: 3, blocks: 1 }, ExtentLine { base: 4, blocks: 1 }, ExtentLine { base: 5, blocks: 1 }, ExtentLine { base: 6, blocks: 1 }, \
+ExtentLine { base: 7, blocks: 1 }, ExtentLine { base: 8, blocks: 1 }], heap: 256, limit: None, regions: [] }]
+guest 0 range 0 1 heap 256;descriptors 0 0|[GuestSetUp { extents: [ExtentLine { base: 0, blocks: 1 }], heap: 256, limit: Some(0), regions: [] }]
 guest 0 range 0 1 heap 256;guest 1 range 2 3 heap 256;descriptors 1 18446744073709551615;descriptors 0 0x1000|\
-[GuestSetUp { extents: [Extent { base: 0, blocks: 1 }], heap: 256, limit: Some(4096), regions: [] }, \
-GuestSetUp { extents: [Extent { base: 2, blocks: 3 }], heap: 256, limit: Some(18446744073709551615), regions: [] }]
+[GuestSetUp { extents: [ExtentLine { base: 0, blocks: 1 }], heap: 256, limit: Some(4096), regions: [] }, \
+GuestSetUp { extents: [ExtentLine { base: 2, blocks: 3 }], heap: 256, limit: Some(18446744073709551615), regions: [] }]
 guest 0 range 0 1 heap 256;map 0 1 2 3;guest 1 range 2 3 heap 256;map 0 4 5 6|\
-[GuestSetUp { extents: [Extent { base: 0, blocks: 1 }], heap: 256, limit: None, regions: [Region { guest: 1, host: 2, len: 3 }, \
+[GuestSetUp { extents: [ExtentLine { base: 0, blocks: 1 }], heap: 256, limit: None, regions: [Region { guest: 1, host: 2, len: 3 }, \
 Region { guest: 4, host: 5, len: 6 }] }, \
-GuestSetUp { extents: [Extent { base: 2, blocks: 3 }], heap: 256, limit: None, regions: [] }]
+GuestSetUp { extents: [ExtentLine { base: 2, blocks: 3 }], heap: 256, limit: None, regions: [] }]
 ";
 
 /// What a test checks of a script.
@@ -236,9 +236,9 @@ fn reads_the_set_up(rt: HostRuntime) -> Result<(), Fail> {
     let found = format!(in rt.alloc(); "{script:?}")?;
     let want =
         "Script { sizes: Sizes { host: 16777216, mediator: 4194304, disk: 4096, lanes: 1 }, guests: [\
-        GuestSetUp { extents: [Extent { base: 1000, blocks: 64 }], heap: 65536, limit: None, \
+        GuestSetUp { extents: [ExtentLine { base: 1000, blocks: 64 }], heap: 65536, limit: None, \
         regions: [Region { guest: 0, host: 1048576, len: 131072 }] }, \
-        GuestSetUp { extents: [Extent { base: 2000, blocks: 64 }], heap: 65536, limit: None, \
+        GuestSetUp { extents: [ExtentLine { base: 2000, blocks: 64 }], heap: 65536, limit: None, \
         regions: [Region { guest: 0, host: 2097152, len: 131072 }] }\
         ], events: [] }";
     assert_eq!(rt; found.as_str(), want);

@@ -124,9 +124,9 @@ fn wants_the_set_up_first(rt: HostRuntime) -> Result<(), Fail> {
     let found = format!(in rt.alloc(); "{script:?}")?;
     let want =
         "Script { sizes: Sizes { host: 16777216, mediator: 4194304, disk: 4096, lanes: 1 }, guests: [\
-        GuestSetUp { extents: [Extent { base: 1000, blocks: 64 }], heap: 65536, limit: None, \
+        GuestSetUp { extents: [ExtentLine { base: 1000, blocks: 64 }], heap: 65536, limit: None, \
         regions: [Region { guest: 0, host: 1048576, len: 131072 }] }, \
-        GuestSetUp { extents: [Extent { base: 2000, blocks: 64 }], heap: 65536, limit: None, \
+        GuestSetUp { extents: [ExtentLine { base: 2000, blocks: 64 }], heap: 65536, limit: None, \
         regions: [Region { guest: 0, host: 2097152, len: 131072 }] }\
         ], lines: [] }";
     assert_eq!(rt; found.as_str(), want);

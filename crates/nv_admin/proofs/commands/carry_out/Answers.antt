@@ -10,7 +10,7 @@ use Rattle.nv_admin.proofs.commands.carry_out.Goals as goal
 pub returns-then-fuse-ne0-clause-done : goal.returns-then-fuse-ne0-clause-done
 returns-then-fuse-ne0-clause-done c =
     IsDone-left _ (Err code.InvalidField) c.args.vctl.now c.args.map.now.regions (byte_in c.args.host.now)
-    c.host_len-host_len.ensures.sound.apart
+    c.host_len-known.ensures.sound.apart
     (command-fused (mapped c.args.map.now.regions) c.args.blocks c.args.sqe.now c.args.vctl.now
     (image c.args.map.now.regions (byte_in c.args.host.now))
     (λ none. c.if-fuse-ne0.true (c.fuse.ensures ∙ none)))
@@ -18,7 +18,7 @@ returns-then-fuse-ne0-clause-done c =
 pub returns-in_default-clause-done : goal.returns-in_default-clause-done
 returns-in_default-clause-done c =
     IsDone-left _ (Err code.InvalidOpcode) c.args.vctl.now c.args.map.now.regions (byte_in c.args.host.now)
-    c.host_len-host_len.ensures.sound.apart
+    c.host_len-known.ensures.sound.apart
     (command-alone (mapped c.args.map.now.regions) c.args.blocks c.args.sqe.now c.args.vctl.now
     (image c.args.map.now.regions (byte_in c.args.host.now))
     None (sym c.fuse.ensures ∙ c.if-fuse-ne0.false) c.in_default.ensures)
@@ -26,7 +26,7 @@ returns-in_default-clause-done c =
 pub returns-in_default-data_pointer-clause-done : goal.returns-in_default-data_pointer-clause-done
 returns-in_default-data_pointer-clause-done c =
     IsDone-left _ (Err code.InvalidField) c.args.vctl.now c.args.map.now.regions (byte_in c.args.host.now)
-    c.host_len-host_len.ensures.sound.apart
+    c.host_len-known.ensures.sound.apart
     (command-alone (mapped c.args.map.now.regions) c.args.blocks c.args.sqe.now c.args.vctl.now
     (image c.args.map.now.regions (byte_in c.args.host.now))
     (Some c.in-Some.opcode) (sym c.fuse.ensures ∙ c.if-fuse-ne0.false) c.in-Some.ensures

@@ -25,7 +25,7 @@ step c =
     subst (λ (s : AdminStep). IsStepped c.args.map.now.regions (byte_in c.args.host.now) s c.complete.new.vctl
     (byte_in c.complete.new.host)) (sym is)
     (c.complete.ensures.step memory (byte_in c.args.host.now)
-    (sym (put_image-own c.args.map.now.regions (byte_in c.args.host.now) c.host_len-host_len.ensures.sound.apart)))
+    (sym (put_image-own c.args.map.now.regions (byte_in c.args.host.now) c.host_len-known.ensures.sound.apart)))
 
 pub returns-clause-reply : goal.returns-clause-reply
 returns-clause-reply c =

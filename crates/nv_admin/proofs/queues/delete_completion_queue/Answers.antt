@@ -5,7 +5,7 @@ use Rattle.nv_admin.proofs.queues.delete_completion_queue.Goals as goal
 
 pub delete_completion_queue-requires-clause-number : goal.delete_completion_queue-requires-clause-number
 delete_completion_queue-requires-clause-number c =
-    IsIoQueue-there c.args.vctl.now.completion_queues c.queue-queue.result c.is_ready-ready.ensures.whole.together.completion_count
+    IsIoQueue-there c.args.vctl.now.completion_queues c.queue-queue.result c.is_ready-known.ensures.whole.together.completion_count
     (let some = c.if-queue-eq0.false in omega arith) (sym c.if-not-has_completion_queue.ensures)
 
 pub returns-clause-keeps : goal.returns-clause-keeps

@@ -11,7 +11,7 @@ loop-done-init c = IsAtRow-first (gathered_to c.args.map.now.regions) c.args.hos
 pub overflow_add-addr : goal.overflow_add-addr
 overflow_add-addr c =
     let below : c.args.addr + c.loop-done.done < 2 ^ 64 =
-    mapped-below c.args.map.now c.args.addr c.args.len c.loop-done.done c.host_len-host_len.ensures.sound c.requires.mapped c.loop-done-test.true in
+    mapped-below c.args.map.now c.args.addr c.args.len c.loop-done.done c.host_len-known.ensures.sound c.requires.mapped c.loop-done-test.true in
     omega arith
 
 pub returns-in_default-clause-bytes : goal.returns-in_default-clause-bytes
@@ -22,7 +22,7 @@ pub copy-requires-clause-from : goal.copy-requires-clause-from
 copy-requires-clause-from c = λ some.
     let inside : c.in-Some.from + c.in-Some.n ≤ c.args.map.now.host_len =
     run-inside c.args.map.now (c.args.addr + c.loop-done.done) (c.args.len - c.loop-done.done) c.in-Some.from c.in-Some.n
-    c.host_len-host_len.ensures.sound c.in-Some.ensures in
+    c.host_len-known.ensures.sound c.in-Some.ensures in
     let size = c.loop-done.invariant.size in
     let host = c.requires.host in
     omega arith
@@ -35,7 +35,7 @@ copy-requires-clause-apart c =
 pub loop-done-preserved : goal.loop-done-preserved
 loop-done-preserved c =
     gathered-next c.args.map.now c.args.host.now c.loop-done.host c.copy.new.self c.args.to c.args.addr c.args.len c.loop-done.done
-    c.in-Some.from c.in-Some.n c.host_len-host_len.ensures.sound c.requires.host c.requires.apart c.requires.inside
+    c.in-Some.from c.in-Some.n c.host_len-known.ensures.sound c.requires.host c.requires.apart c.requires.inside
     c.loop-done.invariant c.loop-done-test.true c.in-Some.ensures c.copy.ensures.bytes c.copy.ensures.len
 
 pub returns-clause-bytes : goal.returns-clause-bytes

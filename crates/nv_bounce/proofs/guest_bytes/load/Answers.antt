@@ -12,7 +12,7 @@ overflow_add-addr c =
     let size = c.loop-done.invariant.size in
     let some = c.loop-done-test.true in
     let below : c.args.addr + c.loop-done.done < 2 ^ 64 =
-    mapped-below c.args.map.now c.args.addr (length c.args.out.now) c.loop-done.done c.host_len-host_len.ensures.sound c.requires.mapped (omega arith) in
+    mapped-below c.args.map.now c.args.addr (length c.args.out.now) c.loop-done.done c.host_len-known.ensures.sound c.requires.mapped (omega arith) in
     omega arith
 
 pub returns-in_default : goal.returns-in_default
@@ -25,7 +25,7 @@ pub load-requires : goal.load-requires
 load-requires c = λ some.
     let inside : c.in-Some.from + c.in-Some.n ≤ c.args.map.now.host_len =
     run-inside c.args.map.now (c.args.addr + c.loop-done.done) (length c.loop-done.out - c.loop-done.done) c.in-Some.from c.in-Some.n
-    c.host_len-host_len.ensures.sound c.in-Some.ensures in
+    c.host_len-known.ensures.sound c.in-Some.ensures in
     let size =
     part-length c.loop-done.out c.loop-done.done (c.loop-done.done + c.in-Some.n - c.loop-done.done) c.in-Some.n (omega arith) c.in-Some.ensures.within in
     let host = c.requires.host in
@@ -35,7 +35,7 @@ pub loop-done-preserved : goal.loop-done-preserved
 loop-done-preserved c =
     let inside : c.in-Some.from + c.in-Some.n ≤ c.args.map.now.host_len =
     run-inside c.args.map.now (c.args.addr + c.loop-done.done) (length c.loop-done.out - c.loop-done.done) c.in-Some.from c.in-Some.n
-    c.host_len-host_len.ensures.sound c.in-Some.ensures in
+    c.host_len-known.ensures.sound c.in-Some.ensures in
     let host = c.requires.host in
     IsReadTo-next c.args.map.now.regions c.args.host.now c.args.addr (length c.args.out.now) c.loop-done.out c.load.new.out c.loop-done.done
     c.in-Some.from (c.loop-done.done + c.in-Some.n - c.loop-done.done) c.in-Some.n c.loop-done.invariant c.in-Some.ensures.run

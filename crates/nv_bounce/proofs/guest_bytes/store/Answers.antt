@@ -4,12 +4,12 @@ use Rattle.nv_bounce.proofs.GuestMemory.{IsWrittenTo-end, IsWrittenTo-first, IsW
 use Rattle.nv_bounce.proofs.guest_bytes.store.Goals as goal
 
 pub loop-done-init : goal.loop-done-init
-loop-done-init c = IsWrittenTo-first c.args.map.now.regions c.args.host.now c.args.addr c.args.bytes.now c.host_len-host_len.ensures.sound.apart
+loop-done-init c = IsWrittenTo-first c.args.map.now.regions c.args.host.now c.args.addr c.args.bytes.now c.host_len-known.ensures.sound.apart
 
 pub overflow_add-addr : goal.overflow_add-addr
 overflow_add-addr c =
     let below : c.args.addr + c.loop-done.done < 2 ^ 64 =
-    mapped-below c.args.map.now c.args.addr (length c.args.bytes.now) c.loop-done.done c.host_len-host_len.ensures.sound c.requires.mapped c.loop-done-test.true in
+    mapped-below c.args.map.now c.args.addr (length c.args.bytes.now) c.loop-done.done c.host_len-known.ensures.sound c.requires.mapped c.loop-done-test.true in
     omega arith
 
 pub returns-in_default-clause-bytes : goal.returns-in_default-clause-bytes
@@ -20,7 +20,7 @@ pub store-requires : goal.store-requires
 store-requires c = λ some.
     let inside : c.in-Some.to + c.in-Some.n ≤ c.args.map.now.host_len =
     run-inside c.args.map.now (c.args.addr + c.loop-done.done) (length c.args.bytes.now - c.loop-done.done) c.in-Some.to c.in-Some.n
-    c.host_len-host_len.ensures.sound c.in-Some.ensures in
+    c.host_len-known.ensures.sound c.in-Some.ensures in
     let part =
     part-length c.args.bytes.now c.loop-done.done (c.loop-done.done + c.in-Some.n - c.loop-done.done) c.in-Some.n (omega arith) c.in-Some.ensures.within in
     let host = c.requires.host in
@@ -31,11 +31,11 @@ pub loop-done-preserved : goal.loop-done-preserved
 loop-done-preserved c =
     let inside : c.in-Some.to + c.in-Some.n ≤ c.args.map.now.host_len =
     run-inside c.args.map.now (c.args.addr + c.loop-done.done) (length c.args.bytes.now - c.loop-done.done) c.in-Some.to c.in-Some.n
-    c.host_len-host_len.ensures.sound c.in-Some.ensures in
+    c.host_len-known.ensures.sound c.in-Some.ensures in
     let host = c.requires.host in
     let size = c.loop-done.invariant.size in
     IsWrittenTo-next c.args.map.now.regions c.args.host.now c.args.addr c.args.bytes.now c.loop-done.host c.store.new.self c.loop-done.done
-    c.in-Some.to (c.loop-done.done + c.in-Some.n - c.loop-done.done) c.in-Some.n c.host_len-host_len.ensures.sound.apart c.loop-done.invariant
+    c.in-Some.to (c.loop-done.done + c.in-Some.n - c.loop-done.done) c.in-Some.n c.host_len-known.ensures.sound.apart c.loop-done.invariant
     c.in-Some.ensures.run c.in-Some.ensures.within (omega arith) (omega arith) c.loop-done-test.true c.store.ensures.bytes c.store.ensures.len
 
 pub returns-clause-bytes : goal.returns-clause-bytes

@@ -25,7 +25,7 @@ loop-piece-preserved c =
     let apart : span_met c.args.map.now.regions c.args.slot (total_len items) ≡ false = c.requires.apart in
     rw c.len_of-from.ensures
     (IsAtPiece-next (scattered_from c.args.map.now.regions) c.args.host.now c.args.slot items c.loop-piece.host c.scatter_piece.new.host c.loop-piece.from
-    c.loop-piece.piece-index (piece.Run 0 0) (scattering-in_order c.args.map.now.regions c.args.slot (total_len items) c.host_len-host_len.ensures.sound.apart apart)
+    c.loop-piece.piece-index (piece.Run 0 0) (scattering-in_order c.args.map.now.regions c.args.slot (total_len items) c.host_len-known.ensures.sound.apart apart)
     c.loop-piece.invariant c.loop-piece-test.true c.scatter_piece.ensures.bytes c.scatter_piece.ensures.len)
 
 pub returns-clause-bytes : goal.returns-clause-bytes
@@ -33,7 +33,7 @@ returns-clause-bytes c =
     let items : List Piece = c.args.places.now in
     let apart : span_met c.args.map.now.regions c.args.slot (total_len items) ≡ false = c.requires.apart in
     IsAtPiece-end (scattered_from c.args.map.now.regions) c.args.host.now c.args.slot items c.loop-piece.host c.loop-piece.from c.loop-piece.piece-index
-    (scattering-in_order c.args.map.now.regions c.args.slot (total_len items) c.host_len-host_len.ensures.sound.apart apart) c.loop-piece.invariant c.loop-piece-test.false
+    (scattering-in_order c.args.map.now.regions c.args.slot (total_len items) c.host_len-known.ensures.sound.apart apart) c.loop-piece.invariant c.loop-piece-test.false
     ∙ ap (λ (n : ℕ). put_image c.args.map.now.regions
     (scattered (image c.args.map.now.regions (byte_in c.args.host.now)) (places_of c.args.places.now) (bytes_from (byte_in c.args.host.now) c.args.slot n))
     (byte_in c.args.host.now))

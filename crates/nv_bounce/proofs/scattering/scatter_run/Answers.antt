@@ -14,7 +14,7 @@ loop-done-init c = IsAtRow-first (scattered_from c.args.map.now.regions) c.args.
 pub overflow_add-addr : goal.overflow_add-addr
 overflow_add-addr c =
     let below : c.args.addr + c.loop-done.done < 2 ^ 64 =
-    mapped-below c.args.map.now c.args.addr c.args.len c.loop-done.done c.host_len-host_len.ensures.sound c.requires.mapped c.loop-done-test.true in
+    mapped-below c.args.map.now c.args.addr c.args.len c.loop-done.done c.host_len-known.ensures.sound c.requires.mapped c.loop-done-test.true in
     omega arith
 
 pub returns-in_default-clause-bytes : goal.returns-in_default-clause-bytes
@@ -25,7 +25,7 @@ pub copy-requires-clause-to : goal.copy-requires-clause-to
 copy-requires-clause-to c = λ some.
     let inside : c.in-Some.to + c.in-Some.n ≤ c.args.map.now.host_len =
     run-inside c.args.map.now (c.args.addr + c.loop-done.done) (c.args.len - c.loop-done.done) c.in-Some.to c.in-Some.n
-    c.host_len-host_len.ensures.sound c.in-Some.ensures in
+    c.host_len-known.ensures.sound c.in-Some.ensures in
     let size = c.loop-done.invariant.size in
     let host = c.requires.host in
     omega arith
@@ -38,10 +38,10 @@ copy-requires-clause-apart c =
 pub loop-done-preserved : goal.loop-done-preserved
 loop-done-preserved c =
     scattered-next c.args.map.now c.args.host.now c.loop-done.host c.copy.new.self c.args.from c.args.addr c.args.len c.loop-done.done
-    c.in-Some.to c.in-Some.n c.host_len-host_len.ensures.sound c.requires.host c.requires.apart c.requires.inside
+    c.in-Some.to c.in-Some.n c.host_len-known.ensures.sound c.requires.host c.requires.apart c.requires.inside
     c.loop-done.invariant c.loop-done-test.true c.in-Some.ensures c.copy.ensures.bytes c.copy.ensures.len
 
 pub returns-clause-bytes : goal.returns-clause-bytes
 returns-clause-bytes c =
     IsAtRow-end (scattered_from c.args.map.now.regions) c.args.host.now c.args.from c.args.addr c.args.len c.loop-done.host c.loop-done.done
-    (scattering-in_order c.args.map.now.regions c.args.from c.args.len c.host_len-host_len.ensures.sound.apart c.requires.apart) c.loop-done.invariant c.loop-done-test.false
+    (scattering-in_order c.args.map.now.regions c.args.from c.args.len c.host_len-known.ensures.sound.apart c.requires.apart) c.loop-done.invariant c.loop-done-test.false

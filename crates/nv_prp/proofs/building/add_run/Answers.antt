@@ -6,7 +6,7 @@ use Rattle.nv_prp.proofs.building.add_run.Goals as goal
 pub overflow_add-addr : goal.overflow_add-addr
 overflow_add-addr c =
     let below : c.args.addr + c.loop-done.done < 2 ^ 64 =
-    mapped-below c.args.map.now c.args.addr c.args.len c.loop-done.done c.host_len-host_len.ensures.sound c.requires.mapped c.loop-done-test.true in
+    mapped-below c.args.map.now c.args.addr c.args.len c.loop-done.done c.host_len-known.ensures.sound c.requires.mapped c.loop-done-test.true in
     omega arith
 
 pub returns-in_default : goal.returns-in_default
@@ -16,8 +16,8 @@ returns-in_default c =
 pub add_row-requires-clause-inside : goal.add_row-requires-clause-inside
 add_row-requires-clause-inside c =
     let inside : c.in-Some.host + c.in-Some.n ≤ c.args.map.now.host_len =
-    run-inside c.args.map.now (c.args.addr + c.loop-done.done) (c.args.len - c.loop-done.done) c.in-Some.host c.in-Some.n c.host_len-host_len.ensures.sound c.in-Some.ensures in
-    let is = c.host_len-host_len.ensures.value in
+    run-inside c.args.map.now (c.args.addr + c.loop-done.done) (c.args.len - c.loop-done.done) c.in-Some.host c.in-Some.n c.host_len-known.ensures.sound c.in-Some.ensures in
+    let is = c.host_len-known.ensures.value in
     omega arith
 
 pub add_row-requires-clause-room : goal.add_row-requires-clause-room

@@ -7,7 +7,7 @@ use Rattle.nv_prp.proofs.fitting.run_fits.Goals as goal
 pub overflow_add-addr : goal.overflow_add-addr
 overflow_add-addr c =
     let below : c.args.addr + c.loop-done.done < 2 ^ 64 =
-    mapped-below c.args.map.now c.args.addr c.args.len c.loop-done.done c.host_len-host_len.ensures.sound c.requires c.loop-done-test.true in
+    mapped-below c.args.map.now c.args.addr c.args.len c.loop-done.done c.host_len-known.ensures.sound c.requires c.loop-done-test.true in
     omega arith
 
 pub returns-in_default : goal.returns-in_default
@@ -29,8 +29,8 @@ returns-then-not-may_follow c = λ rest.
 pub overflow_add-end : goal.overflow_add-end
 overflow_add-end c =
     let inside : c.in-Some.host + c.in-Some.n ≤ c.args.map.now.host_len =
-    run-inside c.args.map.now (c.args.addr + c.loop-done.done) (c.args.len - c.loop-done.done) c.in-Some.host c.in-Some.n c.host_len-host_len.ensures.sound c.in-Some.ensures in
-    let is = c.host_len-host_len.ensures.value in
+    run-inside c.args.map.now (c.args.addr + c.loop-done.done) (c.args.len - c.loop-done.done) c.in-Some.host c.in-Some.n c.host_len-known.ensures.sound c.in-Some.ensures in
+    let is = c.host_len-known.ensures.value in
     omega arith
 
 pub loop-done-preserved : goal.loop-done-preserved

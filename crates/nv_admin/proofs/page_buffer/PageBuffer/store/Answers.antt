@@ -10,4 +10,4 @@ returns-clause-bytes c =
     c.store-2.ensures.bytes
     ∙ put-runs c.args.map.now.regions (byte_in c.args.host.now) (byte_in c.store.new.host) c.args.self.prp1 c.args.self.prp2
     c.args.self.first (4096 - c.args.self.first) c.split_at.result.0.now c.split_at.result.1.now c.args.bytes.now
-    c.host_len-host_len.ensures.sound.apart c.split_at.ensures.by_index.0 c.split_at.ensures.front_len second c.store.ensures.bytes
+    c.host_len-known.ensures.sound.apart c.split_at.ensures.by_index.0 c.split_at.ensures.front_len second c.store.ensures.bytes

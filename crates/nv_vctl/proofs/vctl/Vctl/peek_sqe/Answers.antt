@@ -14,7 +14,7 @@ returns-in_default c =
 
 pub front-requires : goal.front-requires
 front-requires c =
-    submission-fits c.args.map.now c.args.self.now c.args.queue c.in-Some.found c.host_len-host_len.ensures.sound c.requires.in_place
+    submission-fits c.args.map.now c.args.self.now c.args.queue c.in-Some.found c.host_len-known.ensures.sound c.requires.in_place
     (ap (submission_queue c.args.self.now) (sym c.from.ensures) ∙ sym c.submission_queue.ensures ∙ c.in-Some.is)
 
 pub load-requires-clause-mapped : goal.load-requires-clause-mapped

@@ -49,7 +49,7 @@ returns-then-is_full-clause-host c =
 
 pub next-requires : goal.next-requires
 next-requires c =
-    completion-fits c.args.map.now c.args.self.now c.from-completes_to.result c.in-Some-completion_queue.to c.host_len-host_len.ensures.sound
+    completion-fits c.args.map.now c.args.self.now c.from-completes_to.result c.in-Some-completion_queue.to c.host_len-known.ensures.sound
     c.requires.in_place (sym c.completion_queue.ensures ∙ c.in-Some-completion_queue.is)
 
 pub store-requires-clause-mapped : goal.store-requires-clause-mapped
