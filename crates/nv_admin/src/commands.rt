@@ -12,7 +12,7 @@ ghost use Rattle.nv_admin.specs.Effect.{IsDone, Keeps};
 use crate::outcome::Outcome;
 use crate::{features, identify, queues};
 use nv_entry::{AdminOpcode, DataPointer, Sqe, StatusCode};
-use nv_mem::{GuestMap, Host};
+use nv_mem::{GuestMap, MemoryCell};
 use nv_vctl::Vctl;
 
 /// DW0 of Abort: the command was not aborted.
@@ -20,20 +20,20 @@ const NOT_ABORTED: u32 = 1;
 
 /// Carries out an admin command that is taken, on a namespace of `blocks` blocks, or refuses it by the first check that fails: fused
 /// operation, opcode, data pointer, and then what the command itself checks.
-pub(crate) fn carry_out(
+pub(crate) fn carry_out<C: MemoryCell>(
     vctl: &mut Vctl,
     sqe: &Sqe,
     blocks: u64,
     map: &GuestMap,
-    host: &mut Host,
+    host: &mut [C],
 ) -> Result<Outcome, StatusCode>
     requires ready { is_ready vctl.old ≡ true }
     requires no_deletion { vctl.old.deletion ≡ None }
-    requires host { map.now.host_len ≡ length host.old }
-    ensures done { let before = byte_in host.old in
+    requires host { map.now.host_len ≡ length (C.bytes host.old) }
+    ensures done { let before = byte_in (C.bytes host.old) in
         IsDone (admin_command (mapped map.now.regions) blocks sqe.now vctl.old (image map.now.regions before))
-        result vctl.new map.now.regions before (byte_in host.new) }
-    ensures len { length host.new ≡ length host.old }
+        result vctl.new map.now.regions before (byte_in (C.bytes host.new)) }
+    ensures len { length (C.bytes host.new) ≡ length (C.bytes host.old) }
     ensures keeps { Keeps vctl.old vctl.new }
     ensures in_place { let test = mapped map.now.regions in QueuesInPlace test vctl.old → QueuesInPlace test vctl.new }
 {
@@ -52,21 +52,21 @@ pub(crate) fn carry_out(
 }
 
 // Carries out a command of this opcode.
-fn carry_out_by(
+fn carry_out_by<C: MemoryCell>(
     opcode: AdminOpcode,
     vctl: &mut Vctl,
     sqe: &Sqe,
     blocks: u64,
     map: &GuestMap,
-    host: &mut Host,
+    host: &mut [C],
 ) -> Result<Outcome, StatusCode>
     requires ready { is_ready vctl.old ≡ true }
     requires no_deletion { vctl.old.deletion ≡ None }
-    requires host { map.now.host_len ≡ length host.old }
-    ensures done { let before = byte_in host.old in
+    requires host { map.now.host_len ≡ length (C.bytes host.old) }
+    ensures done { let before = byte_in (C.bytes host.old) in
         IsDone (done_by opcode (mapped map.now.regions) blocks sqe.now vctl.old (image map.now.regions before))
-        result vctl.new map.now.regions before (byte_in host.new) }
-    ensures len { length host.new ≡ length host.old }
+        result vctl.new map.now.regions before (byte_in (C.bytes host.new)) }
+    ensures len { length (C.bytes host.new) ≡ length (C.bytes host.old) }
     ensures keeps { Keeps vctl.old vctl.new }
     ensures in_place { let test = mapped map.now.regions in QueuesInPlace test vctl.old → QueuesInPlace test vctl.new }
 {

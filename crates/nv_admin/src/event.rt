@@ -13,7 +13,7 @@ use crate::commands;
 use crate::outcome::Outcome;
 use crate::reply::Admin;
 use nv_entry::{Status, StatusCode};
-use nv_mem::{GuestMap, Host};
+use nv_mem::{GuestMap, MemoryCell};
 use nv_vctl::{Deletion, Posted, Vctl};
 
 /// The number of the admin queue.
@@ -26,15 +26,15 @@ const ADMIN_QUEUE: u16 = 0;
 ///
 /// The caller knows that the map was made for a host of this length ([`GuestMap::host_len`] returns it), and that the queues that are there are
 /// wholly in the map, as every call keeps it ([`Vctl::lies_in`] tests it).
-pub fn admin(vctl: &mut Vctl, blocks: u64, map: &GuestMap, host: &mut Host) -> Admin
-    requires host { map.now.host_len ≡ length host.old }
+pub fn admin<C: MemoryCell>(vctl: &mut Vctl, blocks: u64, map: &GuestMap, host: &mut [C]) -> Admin
+    requires host { map.now.host_len ≡ length (C.bytes host.old) }
     requires in_place { QueuesInPlace (mapped map.now.regions) vctl.old }
-    ensures reply { result ≡ reply_of (admin (mapped map.now.regions) blocks vctl.old (image map.now.regions (byte_in host.old))) }
+    ensures reply { result ≡ reply_of (admin (mapped map.now.regions) blocks vctl.old (image map.now.regions (byte_in (C.bytes host.old)))) }
     ensures controller { vctl.new
-        ≡ controller_behind vctl.old (admin (mapped map.now.regions) blocks vctl.old (image map.now.regions (byte_in host.old))) }
-    ensures host { let before = byte_in host.old in byte_in host.new
+        ≡ controller_behind vctl.old (admin (mapped map.now.regions) blocks vctl.old (image map.now.regions (byte_in (C.bytes host.old)))) }
+    ensures host { let before = byte_in (C.bytes host.old) in byte_in (C.bytes host.new)
         ≡ host_behind map.now.regions before (admin (mapped map.now.regions) blocks vctl.old (image map.now.regions before)) }
-    ensures len { length host.new ≡ length host.old }
+    ensures len { length (C.bytes host.new) ≡ length (C.bytes host.old) }
     ensures in_place { QueuesInPlace (mapped map.now.regions) vctl.new }
 {
     if !vctl.is_ready() {
@@ -47,17 +47,22 @@ pub fn admin(vctl: &mut Vctl, blocks: u64, map: &GuestMap, host: &mut Host) -> A
 }
 
 // Finishes the deletion that waits, once no command of its queue is taken.
-fn finish_deletion(deletion: Deletion, vctl: &mut Vctl, map: &GuestMap, host: &mut Host) -> Admin
-    requires host { map.now.host_len ≡ length host.old }
+fn finish_deletion<C: MemoryCell>(
+    deletion: Deletion,
+    vctl: &mut Vctl,
+    map: &GuestMap,
+    host: &mut [C],
+) -> Admin
+    requires host { map.now.host_len ≡ length (C.bytes host.old) }
     requires in_place { QueuesInPlace (mapped map.now.regions) vctl.old }
     requires ready { is_ready vctl.old ≡ true }
     requires waits { vctl.old.deletion ≡ Some deletion }
-    ensures reply { result ≡ reply_of (finish_deletion deletion vctl.old (image map.now.regions (byte_in host.old))) }
+    ensures reply { result ≡ reply_of (finish_deletion deletion vctl.old (image map.now.regions (byte_in (C.bytes host.old)))) }
     ensures controller { vctl.new
-        ≡ controller_behind vctl.old (finish_deletion deletion vctl.old (image map.now.regions (byte_in host.old))) }
-    ensures host { let before = byte_in host.old in byte_in host.new
+        ≡ controller_behind vctl.old (finish_deletion deletion vctl.old (image map.now.regions (byte_in (C.bytes host.old)))) }
+    ensures host { let before = byte_in (C.bytes host.old) in byte_in (C.bytes host.new)
         ≡ host_behind map.now.regions before (finish_deletion deletion vctl.old (image map.now.regions before)) }
-    ensures len { length host.new ≡ length host.old }
+    ensures len { length (C.bytes host.new) ≡ length (C.bytes host.old) }
     ensures in_place { QueuesInPlace (mapped map.now.regions) vctl.new }
 {
     // With the length of the host comes what is known of every map.
@@ -79,20 +84,20 @@ fn finish_deletion(deletion: Deletion, vctl: &mut Vctl, map: &GuestMap, host: &m
 }
 
 // Takes and carries out the command at the front of the admin queue.
-fn do_command(vctl: &mut Vctl, blocks: u64, map: &GuestMap, host: &mut Host) -> Admin
-    requires host { map.now.host_len ≡ length host.old }
+fn do_command<C: MemoryCell>(vctl: &mut Vctl, blocks: u64, map: &GuestMap, host: &mut [C]) -> Admin
+    requires host { map.now.host_len ≡ length (C.bytes host.old) }
     requires in_place { QueuesInPlace (mapped map.now.regions) vctl.old }
     requires ready { is_ready vctl.old ≡ true }
     requires no_deletion { vctl.old.deletion ≡ None }
     ensures reply { result ≡ reply_of
-        (front_command (front vctl.old 0) (mapped map.now.regions) blocks vctl.old (image map.now.regions (byte_in host.old))) }
+        (front_command (front vctl.old 0) (mapped map.now.regions) blocks vctl.old (image map.now.regions (byte_in (C.bytes host.old)))) }
     ensures controller { vctl.new
         ≡ controller_behind vctl.old
-        (front_command (front vctl.old 0) (mapped map.now.regions) blocks vctl.old (image map.now.regions (byte_in host.old))) }
-    ensures host { let before = byte_in host.old in byte_in host.new
+        (front_command (front vctl.old 0) (mapped map.now.regions) blocks vctl.old (image map.now.regions (byte_in (C.bytes host.old)))) }
+    ensures host { let before = byte_in (C.bytes host.old) in byte_in (C.bytes host.new)
         ≡ host_behind map.now.regions before
         (front_command (front vctl.old 0) (mapped map.now.regions) blocks vctl.old (image map.now.regions before)) }
-    ensures len { length host.new ≡ length host.old }
+    ensures len { length (C.bytes host.new) ≡ length (C.bytes host.old) }
     ensures in_place { QueuesInPlace (mapped map.now.regions) vctl.new }
 {
     let Some(sqe) = vctl.peek_sqe(ADMIN_QUEUE, map, host) else {
@@ -107,21 +112,21 @@ fn do_command(vctl: &mut Vctl, blocks: u64, map: &GuestMap, host: &mut Host) -> 
 }
 
 // Posts the completion of an admin command, if it has one now. What memory the command left was put back into the host already.
-fn complete(
+fn complete<C: MemoryCell>(
     outcome: Result<Outcome, StatusCode>,
     cid: u16,
     vctl: &mut Vctl,
     map: &GuestMap,
-    host: &mut Host,
+    host: &mut [C],
 ) -> Admin
-    requires host { map.now.host_len ≡ length host.old }
+    requires host { map.now.host_len ≡ length (C.bytes host.old) }
     requires in_place { QueuesInPlace (mapped map.now.regions) vctl.old }
     requires ready { is_ready vctl.old ≡ true }
     requires room { is_queue_full (completion_queue vctl.old 0) ≡ false }
     ensures reply { result ≡ Admin.Done }
-    ensures step { (memory before : ℕ → ℕ) → byte_in host.old ≡ put_image map.now.regions memory before →
-        IsStepped map.now.regions before (stepped (effect outcome vctl.old memory) cid) vctl.new (byte_in host.new) }
-    ensures len { length host.new ≡ length host.old }
+    ensures step { (memory before : ℕ → ℕ) → byte_in (C.bytes host.old) ≡ put_image map.now.regions memory before →
+        IsStepped map.now.regions before (stepped (effect outcome vctl.old memory) cid) vctl.new (byte_in (C.bytes host.new)) }
+    ensures len { length (C.bytes host.new) ≡ length (C.bytes host.old) }
     ensures in_place { QueuesInPlace (mapped map.now.regions) vctl.new }
 {
     match outcome {
@@ -132,22 +137,22 @@ fn complete(
 }
 
 // Posts the completion of an admin command, for which there is room.
-fn post(
+fn post<C: MemoryCell>(
     dw0: u32,
     status: Status,
     cid: u16,
     vctl: &mut Vctl,
     map: &GuestMap,
-    host: &mut Host,
+    host: &mut [C],
 ) -> Admin
-    requires host { map.now.host_len ≡ length host.old }
+    requires host { map.now.host_len ≡ length (C.bytes host.old) }
     requires in_place { QueuesInPlace (mapped map.now.regions) vctl.old }
     requires ready { is_ready vctl.old ≡ true }
     requires room { is_queue_full (completion_queue vctl.old 0) ≡ false }
     ensures reply { result ≡ Admin.Done }
-    ensures step { (memory before : ℕ → ℕ) → byte_in host.old ≡ put_image map.now.regions memory before →
-        IsStepped map.now.regions before (with_completion_posted (post vctl.old 0 dw0 cid status) memory) vctl.new (byte_in host.new) }
-    ensures len { length host.new ≡ length host.old }
+    ensures step { (memory before : ℕ → ℕ) → byte_in (C.bytes host.old) ≡ put_image map.now.regions memory before →
+        IsStepped map.now.regions before (with_completion_posted (post vctl.old 0 dw0 cid status) memory) vctl.new (byte_in (C.bytes host.new)) }
+    ensures len { length (C.bytes host.new) ≡ length (C.bytes host.old) }
     ensures in_place { QueuesInPlace (mapped map.now.regions) vctl.new }
 {
     // With the length of the host comes what is known of every map.

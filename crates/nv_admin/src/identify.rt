@@ -12,7 +12,7 @@ use crate::fields;
 use crate::outcome::Outcome;
 use crate::page_buffer::PageBuffer;
 use nv_entry::{Sqe, StatusCode};
-use nv_mem::{GuestMap, Host};
+use nv_mem::{GuestMap, MemoryCell};
 
 /// CNS: the namespace of NSID.
 const NAMESPACE: u8 = 0x00;
@@ -31,17 +31,17 @@ const LIST_END: u32 = 0xffff_fffe;
 
 /// Identify, on a namespace of `blocks` blocks. Refusals by CNS and NSID come before those by PRP1 and PRP2, and where a command is
 /// refused, nothing is written.
-pub(crate) fn identify(
+pub(crate) fn identify<C: MemoryCell>(
     sqe: &Sqe,
     blocks: u64,
     map: &GuestMap,
-    host: &mut Host,
+    host: &mut [C],
 ) -> Result<Outcome, StatusCode>
-    requires { map.now.host_len ≡ length host.old }
-    ensures done { (c : Controller) → let before = byte_in host.old in
+    requires { map.now.host_len ≡ length (C.bytes host.old) }
+    ensures done { (c : Controller) → let before = byte_in (C.bytes host.old) in
         IsDone (identify (mapped map.now.regions) blocks sqe.now c (image map.now.regions before))
-        result c map.now.regions before (byte_in host.new) }
-    ensures len { length host.new ≡ length host.old }
+        result c map.now.regions before (byte_in (C.bytes host.new)) }
+    ensures len { length (C.bytes host.new) ≡ length (C.bytes host.old) }
 {
     // With the length of the host comes what is known of every map.
     let _known = map.host_len();

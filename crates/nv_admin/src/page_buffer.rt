@@ -12,7 +12,7 @@ ghost use Rattle.nv_model.specs.Prp.{entry_fault};
 ghost use Rattle.nv_admin.specs.PageBuffer.{IsInMap, pieces, reading_of};
 
 use nv_entry::{Sqe, StatusCode};
-use nv_mem::{GuestMap, Host, PAGE_SIZE};
+use nv_mem::{GuestMap, MemoryCell, PAGE_SIZE};
 
 /// What PRP1 must be a multiple of.
 const DWORD: u64 = 4;
@@ -47,13 +47,13 @@ impl PageBuffer {
     }
 
     /// Stores a page of bytes there. No other byte of the guest's memory or of the host changes.
-    pub(crate) fn store(self, bytes: &[u8], map: &GuestMap, host: &mut Host)
-        requires host { map.now.host_len ≡ length host.old }
+    pub(crate) fn store<C: MemoryCell>(self, bytes: &[u8], map: &GuestMap, host: &mut [C])
+        requires host { map.now.host_len ≡ length (C.bytes host.old) }
         requires in_map { IsInMap (mapped map.now.regions) self }
         requires page { length bytes.now ≡ page }
-        ensures bytes { let before = byte_in host.old in
-            byte_in host.new ≡ put_image map.now.regions (scattered (image map.now.regions before) (places_of (pieces self)) bytes.now) before }
-        ensures len { length host.new ≡ length host.old }
+        ensures bytes { let before = byte_in (C.bytes host.old) in
+            byte_in (C.bytes host.new) ≡ put_image map.now.regions (scattered (image map.now.regions before) (places_of (pieces self)) bytes.now) before }
+        ensures len { length (C.bytes host.new) ≡ length (C.bytes host.old) }
     {
         // With the length of the host comes what is known of every map.
         let _known = map.host_len();

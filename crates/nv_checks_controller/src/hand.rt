@@ -1,6 +1,9 @@
-//! What is done by hand: entries, and bytes of a host.
+//! What is done by hand: entries, and bytes of a host or of a window.
 
-use nv_mem::Host;
+ghost use Rattle.std.specs.Prelude.{length, ◌↔◌, IsTrue};
+ghost use Rattle.nv_mem.specs.Bytes.{InMemory};
+
+use nv_mem::{Host, MemoryCell};
 
 /// The bytes of an entry of this dword 0 and namespace, these PRP1 and PRP2, and these CDW10 to CDW12; everything else is 0.
 pub(crate) fn entry(dword0: u32, nsid: u32, prps: [u64; 2], dwords: [u32; 3]) -> [u8; 64] {
@@ -24,6 +27,34 @@ pub(crate) fn store(host: &mut Host, addr: u64, bytes: &[u8]) -> bool {
     }
     host.store(addr, bytes);
     true
+}
+
+/// Whether so many bytes from an address on lie in a window.
+pub(crate) fn lie_in(window: &[u8], addr: u64, len: u64) -> bool
+    ensures { IsTrue result ↔ InMemory (length window.now) addr len }
+{
+    let size = window.len() as u64;
+    len == 0 || (len <= size && addr <= size - len)
+}
+
+/// Puts bytes into a window, and says whether they lie in it.
+pub(crate) fn put(window: &mut [u8], addr: u64, bytes: &[u8]) -> bool {
+    if !lie_in(window, addr, bytes.len() as u64) {
+        return false;
+    }
+    MemoryCell::store(window, addr, bytes);
+    true
+}
+
+/// Whether these bytes, 64 at most, are at an address of a window.
+pub(crate) fn has(window: &[u8], addr: u64, bytes: &[u8]) -> bool {
+    let len = bytes.len();
+    if len > 64 || !lie_in(window, addr, len as u64) {
+        return false;
+    }
+    let mut found = [0; 64];
+    MemoryCell::load(window, addr, &mut found[..len]);
+    &found[..len] == bytes
 }
 
 /// Whether these bytes are at an address of the host.

@@ -1,5 +1,6 @@
 pub mod Placed
 pub mod Clear
+pub mod LentHost
 pub mod Openings
 pub mod GroupWorlds
 pub mod GiveUps

@@ -8,11 +8,12 @@ ghost use Rattle.nv_model.specs.Memory.{byte_in};
 use crate::layout::{Grant, Layout};
 use crate::seat;
 use crate::state::Core;
-use nv_mem::{Host, NoMemory};
+use nv_mem::{MemoryCell, NoMemory};
 use nv_model::{Act, Reply};
 use nv_vctl::Vctl;
 use nv_world_model::Event;
 use std::alloc::Global;
+use std::slice;
 
 impl Core {
     /// A guest acts: it reads and writes its memory, its controller's registers and its doorbells. Ignored where there is no such guest.
@@ -41,23 +42,23 @@ impl Core {
             return Ok(Reply::Ignored);
         }
         let vctl = &mut self.controllers[number];
-        let reply = act_in_seat(alloc, given, act, vctl, &mut self.host)?;
+        let reply = act_in_seat(alloc, given, act, vctl, slice::from_mut(&mut self.host))?;
         Ok(reply)
     }
 }
 
 // An act on a guest's part of the host and on its controller.
-fn act_in_seat(
+fn act_in_seat<C: MemoryCell>(
     alloc: Global,
     given: &Grant,
     act: &Act,
     vctl: &mut Vctl,
-    host: &mut Host,
+    host: &mut [C],
 ) -> Result<Reply, NoMemory>
-    requires { given.now.memory_map.host_len ≡ length host.old }
-    ensures ok { IfOk result (λ reply. IsActed given.now act.now (byte_in host.old) vctl.old reply (byte_in host.new) vctl.new) }
-    ensures err { OnErr result ((vctl.new ≡ vctl.old) × ((host.new ≡ host.old) × IsTrue (is_long_load act.now))) }
-    ensures len { length host.new ≡ length host.old }
+    requires { given.now.memory_map.host_len ≡ length (C.bytes host.old) }
+    ensures ok { IfOk result (λ reply. IsActed given.now act.now (byte_in (C.bytes host.old)) vctl.old reply (byte_in (C.bytes host.new)) vctl.new) }
+    ensures err { OnErr result ((vctl.new ≡ vctl.old) × (((C.bytes host.new) ≡ (C.bytes host.old)) × IsTrue (is_long_load act.now))) }
+    ensures len { length (C.bytes host.new) ≡ length (C.bytes host.old) }
 {
     match act {
         Act::Store { addr, bytes } => Ok(seat::store(given, *addr, bytes.as_slice(), host)),

@@ -9,6 +9,7 @@ use crate::state::Core;
 use nv_admin::Admin;
 use nv_model::Reply;
 use nv_world_model::Event;
+use std::slice;
 
 impl Core {
     /// One event of a guest's admin queue: a command of it, or the end of a deletion that waits. Idle where there is nothing to do, Held
@@ -27,7 +28,12 @@ impl Core {
         }
         let block_count = given.ns().blocks();
         let vctl = &mut self.controllers[number];
-        reply_of(nv_admin::admin(vctl, block_count, given.map(), &mut self.host))
+        reply_of(nv_admin::admin(
+            vctl,
+            block_count,
+            given.map(),
+            slice::from_mut(&mut self.host),
+        ))
     }
 }
 

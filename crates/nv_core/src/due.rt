@@ -19,10 +19,11 @@ use crate::lane::Lane;
 use crate::layout::{Grant, Layout};
 use crate::state::Core;
 use crate::taking::is_io_queue;
-use nv_mem::Host;
+use nv_mem::MemoryCell;
 use nv_plan::tags_wanted;
 use nv_vctl::Vctl;
 use nv_world_model::Event;
+use std::slice;
 
 impl Core {
     /// Whether an event is one of Admin, Take, DevTake, DevMove, DevPost, Reap and Post and would be done now. Nothing changes, and what it
@@ -146,7 +147,7 @@ impl Core {
         }
         let vctl = &self.controllers[number];
         let ring = &self.lanes[at];
-        is_takeable(queue, given, &self.host, vctl, ring)
+        is_takeable(queue, given, slice::from_ref(&self.host), vctl, ring)
     }
 
     // Whether all tags of the command that goes by a tag have ended, and its guest's controller has room for its completion or is not enabled.
@@ -174,10 +175,16 @@ impl Core {
 }
 
 // Whether a command of a queue may be taken, and as many tags are free as it wants: one, where the guest has one extent, whatever the command is.
-fn is_takeable(queue: u16, given: &Grant, host: &Host, vctl: &Vctl, ring: &Lane) -> bool
-    requires host { given.now.memory_map.host_len ≡ length host.now }
+fn is_takeable<C: MemoryCell>(
+    queue: u16,
+    given: &Grant,
+    host: &[C],
+    vctl: &Vctl,
+    ring: &Lane,
+) -> bool
+    requires host { given.now.memory_map.host_len ≡ length (C.bytes host.now) }
     requires in_place { QueuesInPlace (mapped given.now.memory_map.regions) vctl.now }
-    ensures { let memory = image given.now.memory_map.regions (byte_in host.now) in
+    ensures { let memory = image given.now.memory_map.regions (byte_in (C.bytes host.now)) in
         result ≡ is_front_takeable (front vctl.now queue) given.now.namespace memory ring.now.tags }
 {
     if given.ns().len() == 1 {

@@ -13,28 +13,28 @@ use crate::lane::Lane;
 use crate::parts::is_nothing;
 use crate::writing::write;
 use nv_device::Device;
-use nv_mem::Host;
+use nv_mem::MemoryCell;
 use nv_model::limits::RING_SLOTS;
 use nv_plan::Plan;
 use nv_ring::Ring;
 use nv_tags::Group;
 
 /// Hands all parts of a plan on, in order, each in its tag of the command that waits for the plan and goes by the tag of `place`.
-pub(crate) fn hand_all(
+pub(crate) fn hand_all<C: MemoryCell>(
     plan: &Plan,
     place: TagPlace,
     ring: &Lane,
-    host: &mut Host,
+    host: &mut [C],
     device: &mut Device,
 )
-    requires room { HaveRoom place.mediator place.lane plan.now.given host.old }
+    requires room { HaveRoom place.mediator place.lane plan.now.given (C.bytes host.old) }
     requires lane { place.lane < length device.old.lanes }
     requires waits { WaitsForPlan plan.now.given.namespace place.tag ring.now }
-    ensures bytes { byte_in host.new ≡ host_handed (group_in (Some ring.now) place.tag) (shares_made plan.now) plan.now.given plan.now.job.sqe
-        place.mediator place.lane (lane_of device.old place.lane) (byte_in host.old) }
+    ensures bytes { byte_in (C.bytes host.new) ≡ host_handed (group_in (Some ring.now) place.tag) (shares_made plan.now) plan.now.given plan.now.job.sqe
+        place.mediator place.lane (lane_of device.old place.lane) (byte_in (C.bytes host.old)) }
     ensures device { device.new ≡
         with_lane place.lane (lane_handed (group_in (Some ring.now) place.tag) (shares_made plan.now) (lane_of device.old place.lane)) device.old }
-    ensures len { length host.new ≡ length host.old }
+    ensures len { length (C.bytes host.new) ≡ length (C.bytes host.old) }
 {
     if plan.parts() == 1 {
         hand_part(plan, 0, place, host, device);
@@ -44,13 +44,19 @@ pub(crate) fn hand_all(
 }
 
 // Hands all parts of a plan on, in order, each in one of these tags.
-fn hand_parts(plan: &Plan, place: TagPlace, tags: Group, host: &mut Host, device: &mut Device)
-    requires room { HaveRoom place.mediator place.lane plan.now.given host.old }
+fn hand_parts<C: MemoryCell>(
+    plan: &Plan,
+    place: TagPlace,
+    tags: Group,
+    host: &mut [C],
+    device: &mut Device,
+)
+    requires room { HaveRoom place.mediator place.lane plan.now.given (C.bytes host.old) }
     requires lane { place.lane < length device.old.lanes }
-    ensures bytes { byte_in host.new ≡ host_handed tags (shares_made plan.now) plan.now.given plan.now.job.sqe
-        place.mediator place.lane (lane_of device.old place.lane) (byte_in host.old) }
+    ensures bytes { byte_in (C.bytes host.new) ≡ host_handed tags (shares_made plan.now) plan.now.given plan.now.job.sqe
+        place.mediator place.lane (lane_of device.old place.lane) (byte_in (C.bytes host.old)) }
     ensures device { device.new ≡ with_lane place.lane (lane_handed tags (shares_made plan.now) (lane_of device.old place.lane)) device.old }
-    ensures len { length host.new ≡ length host.old }
+    ensures len { length (C.bytes host.new) ≡ length (C.bytes host.old) }
 {
     let mut tags = tags;
     for part in 0..plan.parts() {
@@ -62,16 +68,22 @@ fn hand_parts(plan: &Plan, place: TagPlace, tags: Group, host: &mut Host, device
 }
 
 // Hands a part on in a tag: what it needs is written, and the doorbell is rung. A part without a range is no physical command, and nothing is done.
-fn hand_part(plan: &Plan, part: u8, place: TagPlace, host: &mut Host, device: &mut Device)
+fn hand_part<C: MemoryCell>(
+    plan: &Plan,
+    part: u8,
+    place: TagPlace,
+    host: &mut [C],
+    device: &mut Device,
+)
     requires part { part < length (shares_made plan.now) }
-    requires room { HasRoom place.mediator place.lane place.tag plan.now.given host.old }
+    requires room { HasRoom place.mediator place.lane place.tag plan.now.given (C.bytes host.old) }
     requires lane { place.lane < length device.old.lanes }
     ensures bytes { (share : Share) → share_made part plan.now ≡ Some share →
-        byte_in host.new ≡ host_carried share plan.now.given plan.now.job.sqe place.mediator place.lane place.tag
-        (lane_of device.old place.lane).tail (byte_in host.old) }
+        byte_in (C.bytes host.new) ≡ host_carried share plan.now.given plan.now.job.sqe place.mediator place.lane place.tag
+        (lane_of device.old place.lane).tail (byte_in (C.bytes host.old)) }
     ensures device { (share : Share) → share_made part plan.now ≡ Some share →
         device.new ≡ with_lane place.lane (lane_carried share (lane_of device.old place.lane)) device.old }
-    ensures len { length host.new ≡ length host.old }
+    ensures len { length (C.bytes host.new) ≡ length (C.bytes host.old) }
 {
     if is_nothing(plan, part) {
         return;

@@ -9,6 +9,7 @@ use crate::seat;
 use crate::state::Core;
 use nv_model::{Act, Reply};
 use nv_world_model::Event;
+use std::slice;
 
 impl Core {
     /// A guest stores these bytes from its address `addr` on, as by the act that holds them: Unmapped, with nothing changed, where one of them
@@ -20,7 +21,7 @@ impl Core {
         let Some(given) = layout.guest(guest) else {
             return Reply::Ignored;
         };
-        seat::store(given, addr, bytes, &mut self.host)
+        seat::store(given, addr, bytes, slice::from_mut(&mut self.host))
     }
 
     /// A guest loads as many bytes from its address `addr` on as there is room for, as by the act that asks for them: Done, with the bytes in
@@ -34,6 +35,6 @@ impl Core {
         let Some(given) = layout.guest(guest) else {
             return Reply::Ignored;
         };
-        seat::load_into(given, addr, room, &self.host)
+        seat::load_into(given, addr, room, slice::from_ref(&self.host))
     }
 }

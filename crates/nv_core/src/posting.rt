@@ -23,11 +23,12 @@ use crate::lane::Lane;
 use crate::layout::Layout;
 use crate::state::Core;
 use nv_entry::{IoOpcode, Sqe, Status};
-use nv_mem::{GuestMap, Host};
+use nv_mem::{GuestMap, MemoryCell};
 use nv_model::Reply;
 use nv_plan::{Plan, PlanKind};
 use nv_vctl::{Posted, Vctl};
 use nv_world_model::Event;
+use std::slice;
 
 impl Core {
     /// The command that goes by a tag, whose parts have all ended, is completed for its guest, and its tags become free. The bytes of a
@@ -62,7 +63,14 @@ impl Core {
             tag,
         };
         let vctl = &mut self.controllers[usize::from(guest)];
-        match settle(place, status, given.map(), ring, vctl, &mut self.host) {
+        match settle(
+            place,
+            status,
+            given.map(),
+            ring,
+            vctl,
+            slice::from_mut(&mut self.host),
+        ) {
             Posted::Held => Reply::Held,
             Posted::Done => {
                 self.lanes[at].release(tag);
@@ -73,13 +81,13 @@ impl Core {
 }
 
 // A command that has ended is delivered and completed in its guest's seat, or runs out there.
-fn settle(
+fn settle<C: MemoryCell>(
     place: TagPlace,
     status: Status,
     map: &GuestMap,
     ring: &Lane,
     vctl: &mut Vctl,
-    host: &mut Host,
+    host: &mut [C],
 ) -> Posted
     requires placed { IsPlaced place.mediator place.lane place.tag }
     requires ended { IsEnded (slice_get ring.now.tags place.tag) }
@@ -89,16 +97,16 @@ fn settle(
         slice_get ring.now.tags place.tag ≡ Some (Ended command st share) → MaySettle command vctl.old }
     requires parts { (command : Command) (st : StatusField) (share : Option Share) →
         slice_get ring.now.tags place.tag ≡ Some (Ended command st share) → is_success status ≡ true →
-        AreParts command.entry place.mediator place.lane place.tag ring.now (length host.old) map.now.regions }
-    requires host { map.now.host_len ≡ length host.old }
+        AreParts command.entry place.mediator place.lane place.tag ring.now (length (C.bytes host.old)) map.now.regions }
+    requires host { map.now.host_len ≡ length (C.bytes host.old) }
     requires in_place { QueuesInPlace (mapped map.now.regions) vctl.old }
     ensures settled { (command : Command) (st : StatusField) (share : Option Share) →
         slice_get ring.now.tags place.tag ≡ Some (Ended command st share) →
-        record { became = result; host = byte_in host.new; controller = vctl.new }
+        record { became = result; host = byte_in (C.bytes host.new); controller = vctl.new }
         ≡ settled command status
-        (delivered_host status place.mediator place.lane (group_in (Some ring.now) place.tag) ring.now map.now.regions (byte_in host.old))
-        map.now.regions (byte_in host.old) vctl.old }
-    ensures len { length host.new ≡ length host.old }
+        (delivered_host status place.mediator place.lane (group_in (Some ring.now) place.tag) ring.now map.now.regions (byte_in (C.bytes host.old)))
+        map.now.regions (byte_in (C.bytes host.old)) vctl.old }
+    ensures len { length (C.bytes host.new) ≡ length (C.bytes host.old) }
 {
     let claim = ring.ended(place.tag);
     if !vctl.is_enabled() {
@@ -115,18 +123,24 @@ fn settle(
 
 // The bytes of a bounced Read that succeeded reach the guest, part by part, and in each place by place in order; nothing does of any other
 // command.
-fn deliver(place: TagPlace, status: Status, map: &GuestMap, ring: &Lane, host: &mut Host)
+fn deliver<C: MemoryCell>(
+    place: TagPlace,
+    status: Status,
+    map: &GuestMap,
+    ring: &Lane,
+    host: &mut [C],
+)
     requires placed { IsPlaced place.mediator place.lane place.tag }
     requires ended { IsEnded (slice_get ring.now.tags place.tag) }
     requires led { (command : Command) (st : StatusField) (share : Option Share) →
         slice_get ring.now.tags place.tag ≡ Some (Ended command st share) → command.leader ≡ place.tag }
     requires parts { (command : Command) (st : StatusField) (share : Option Share) →
         slice_get ring.now.tags place.tag ≡ Some (Ended command st share) → is_success status ≡ true →
-        AreParts command.entry place.mediator place.lane place.tag ring.now (length host.old) map.now.regions }
-    requires host { map.now.host_len ≡ length host.old }
-    ensures bytes { byte_in host.new ≡
-        delivered_host status place.mediator place.lane (group_in (Some ring.now) place.tag) ring.now map.now.regions (byte_in host.old) }
-    ensures len { length host.new ≡ length host.old }
+        AreParts command.entry place.mediator place.lane place.tag ring.now (length (C.bytes host.old)) map.now.regions }
+    requires host { map.now.host_len ≡ length (C.bytes host.old) }
+    ensures bytes { byte_in (C.bytes host.new) ≡
+        delivered_host status place.mediator place.lane (group_in (Some ring.now) place.tag) ring.now map.now.regions (byte_in (C.bytes host.old)) }
+    ensures len { length (C.bytes host.new) ≡ length (C.bytes host.old) }
 {
     let Some((plan, part)) = ring.ended_part(place.tag) else {
         return;
@@ -138,16 +152,16 @@ fn deliver(place: TagPlace, status: Status, map: &GuestMap, ring: &Lane, host: &
 }
 
 // The bytes of a bounced Read reach the guest, as far as they are not those of its first part.
-fn deliver_others(place: TagPlace, map: &GuestMap, ring: &Lane, host: &mut Host)
+fn deliver_others<C: MemoryCell>(place: TagPlace, map: &GuestMap, ring: &Lane, host: &mut [C])
     requires placed { IsPlaced place.mediator place.lane place.tag }
     requires ended { IsEnded (slice_get ring.now.tags place.tag) }
     requires led { (command : Command) (st : StatusField) (share : Option Share) →
         slice_get ring.now.tags place.tag ≡ Some (Ended command st share) → command.leader ≡ place.tag }
-    requires parts { AreReadParts place.mediator place.lane place.tag ring.now (length host.old) map.now.regions }
-    requires host { map.now.host_len ≡ length host.old }
+    requires parts { AreReadParts place.mediator place.lane place.tag ring.now (length (C.bytes host.old)) map.now.regions }
+    requires host { map.now.host_len ≡ length (C.bytes host.old) }
     ensures bytes { (others : List ℕ) → group_in (Some ring.now) place.tag ≡ place.tag ∷ others →
-        byte_in host.new ≡ tags_delivered place.mediator place.lane others ring.now map.now.regions (byte_in host.old) }
-    ensures len { length host.new ≡ length host.old }
+        byte_in (C.bytes host.new) ≡ tags_delivered place.mediator place.lane others ring.now map.now.regions (byte_in (C.bytes host.old)) }
+    ensures len { length (C.bytes host.new) ≡ length (C.bytes host.old) }
 {
     let mut tags = ring.ended_group(place.tag);
     let _first = tags.pop();
@@ -157,14 +171,14 @@ fn deliver_others(place: TagPlace, map: &GuestMap, ring: &Lane, host: &mut Host)
 }
 
 // The bytes of a part of a bounced Read reach the guest.
-fn deliver_part(place: TagPlace, map: &GuestMap, ring: &Lane, host: &mut Host)
+fn deliver_part<C: MemoryCell>(place: TagPlace, map: &GuestMap, ring: &Lane, host: &mut [C])
     requires placed { IsPlaced place.mediator place.lane place.tag }
-    requires part { IsReadPart (bounce_page place.mediator place.lane place.tag) (length host.old) map.now.regions
+    requires part { IsReadPart (bounce_page place.mediator place.lane place.tag) (length (C.bytes host.old)) map.now.regions
         (slice_get ring.now.tags place.tag) }
-    requires host { map.now.host_len ≡ length host.old }
-    ensures bytes { byte_in host.new ≡
-        tag_delivered (slice_get ring.now.tags place.tag) (bounce_page place.mediator place.lane place.tag) map.now.regions (byte_in host.old) }
-    ensures len { length host.new ≡ length host.old }
+    requires host { map.now.host_len ≡ length (C.bytes host.old) }
+    ensures bytes { byte_in (C.bytes host.new) ≡
+        tag_delivered (slice_get ring.now.tags place.tag) (bounce_page place.mediator place.lane place.tag) map.now.regions (byte_in (C.bytes host.old)) }
+    ensures len { length (C.bytes host.new) ≡ length (C.bytes host.old) }
 {
     let Some((plan, part)) = ring.ended_part(place.tag) else {
         unreachable!()
@@ -173,15 +187,21 @@ fn deliver_part(place: TagPlace, map: &GuestMap, ring: &Lane, host: &mut Host)
 }
 
 // The bytes of a part of a bounced Read reach the guest from the bounce pages of the part's tag.
-fn scatter_part(plan: &Plan, part: u8, place: TagPlace, map: &GuestMap, host: &mut Host)
+fn scatter_part<C: MemoryCell>(
+    plan: &Plan,
+    part: u8,
+    place: TagPlace,
+    map: &GuestMap,
+    host: &mut [C],
+)
     requires placed { IsPlaced place.mediator place.lane place.tag }
     requires part { part < length (shares_made plan.now) }
     requires read { (share : Share) → share_made part plan.now ≡ Some share →
-        IsBouncedRead share.plan (bounce_page place.mediator place.lane place.tag) (length host.old) map.now.regions }
-    requires host { map.now.host_len ≡ length host.old }
-    ensures bytes { (share : Share) → share_made part plan.now ≡ Some share → byte_in host.new ≡
-        part_delivered share.plan (bounce_page place.mediator place.lane place.tag) map.now.regions (byte_in host.old) }
-    ensures len { length host.new ≡ length host.old }
+        IsBouncedRead share.plan (bounce_page place.mediator place.lane place.tag) (length (C.bytes host.old)) map.now.regions }
+    requires host { map.now.host_len ≡ length (C.bytes host.old) }
+    ensures bytes { (share : Share) → share_made part plan.now ≡ Some share → byte_in (C.bytes host.new) ≡
+        part_delivered share.plan (bounce_page place.mediator place.lane place.tag) map.now.regions (byte_in (C.bytes host.old)) }
+    ensures len { length (C.bytes host.new) ≡ length (C.bytes host.old) }
 {
     nv_bounce::scatter(place.bounce_page(), plan.part_places(part), map, host);
 }

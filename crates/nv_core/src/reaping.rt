@@ -10,9 +10,10 @@ ghost use Rattle.nv_world_model.specs.Step.{passed_on};
 use crate::layout::Layout;
 use crate::state::Core;
 use nv_entry::{Cqe, Status, StatusCode};
-use nv_mem::Host;
+use nv_mem::MemoryCell;
 use nv_model::Reply;
 use nv_world_model::Event;
+use std::slice;
 
 /// The status code type of media and data integrity errors.
 const MEDIA_ERROR: u8 = 2;
@@ -34,7 +35,10 @@ impl Core {
         if head == self.device.posted(lane) {
             return Reply::Idle;
         }
-        let completion = completion_at(self.device.completion_slot(lane, head), &self.host);
+        let completion = completion_at(
+            self.device.completion_slot(lane, head),
+            slice::from_ref(&self.host),
+        );
         ring.end_with(completion.cid() as u8, passed_on(completion.status()));
         ring.read_completion();
         Reply::Done
@@ -42,12 +46,12 @@ impl Core {
 }
 
 // The completion at a host address.
-fn completion_at(addr: u64, host: &Host) -> Cqe
-    requires { InMemory (length host.now) addr cqe_size }
-    ensures { result ≡ bytes_from (byte_in host.now) addr cqe_size }
+fn completion_at<C: MemoryCell>(addr: u64, host: &[C]) -> Cqe
+    requires { InMemory (length (C.bytes host.now)) addr cqe_size }
+    ensures { result ≡ bytes_from (byte_in (C.bytes host.now)) addr cqe_size }
 {
     let mut bytes = [0; 16];
-    host.load(addr, &mut bytes);
+    C::load(host, addr, &mut bytes);
     Cqe::of(&bytes)
 }
 

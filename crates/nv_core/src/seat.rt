@@ -7,16 +7,16 @@ ghost use Rattle.nv_model.specs.Controller.{Controller};
 ghost use Rattle.nv_model.specs.Memory.{byte_in, bytes_from, image};
 
 use crate::layout::Grant;
-use nv_mem::{Bytes, FEW, Host, NoMemory};
+use nv_mem::{Bytes, FEW, MemoryCell, NoMemory};
 use nv_model::{Act, Reply};
 use nv_vctl::Vctl;
 use std::alloc::Global;
 
 /// Stores bytes from guest address `addr` on.
-pub(crate) fn store(given: &Grant, addr: u64, bytes: &[u8], host: &mut Host) -> Reply
-    requires { given.now.memory_map.host_len ≡ length host.old }
-    ensures acted { (c : Controller) → IsActed given.now (Act.Store addr bytes.now) (byte_in host.old) c result (byte_in host.new) c }
-    ensures len { length host.new ≡ length host.old }
+pub(crate) fn store<C: MemoryCell>(given: &Grant, addr: u64, bytes: &[u8], host: &mut [C]) -> Reply
+    requires { given.now.memory_map.host_len ≡ length (C.bytes host.old) }
+    ensures acted { (c : Controller) → IsActed given.now (Act.Store addr bytes.now) (byte_in (C.bytes host.old)) c result (byte_in (C.bytes host.new)) c }
+    ensures len { length (C.bytes host.new) ≡ length (C.bytes host.old) }
 {
     // With the length of the host comes what is known of every map.
     let map = given.map();
@@ -29,15 +29,15 @@ pub(crate) fn store(given: &Grant, addr: u64, bytes: &[u8], host: &mut Host) -> 
 }
 
 /// Loads `len` bytes from guest address `addr` on.
-pub(crate) fn load(
+pub(crate) fn load<C: MemoryCell>(
     alloc: Global,
     given: &Grant,
     addr: u64,
     len: u64,
-    host: &Host,
+    host: &[C],
 ) -> Result<Reply, NoMemory>
-    requires { given.now.memory_map.host_len ≡ length host.now }
-    ensures ok { IfOk result (λ reply. (c : Controller) → IsActed given.now (Act.Load addr len) (byte_in host.now) c reply (byte_in host.now) c) }
+    requires { given.now.memory_map.host_len ≡ length (C.bytes host.now) }
+    ensures ok { IfOk result (λ reply. (c : Controller) → IsActed given.now (Act.Load addr len) (byte_in (C.bytes host.now)) c reply (byte_in (C.bytes host.now)) c) }
     ensures err { OnErr result (7 < len) }
 {
     // With the length of the host comes what is known of every map.
@@ -51,10 +51,15 @@ pub(crate) fn load(
 }
 
 /// Loads as many bytes from guest address `addr` on as there is room for. They take no memory.
-pub(crate) fn load_into(given: &Grant, addr: u64, room: &mut [u8], host: &Host) -> Reply
-    requires { given.now.memory_map.host_len ≡ length host.now }
+pub(crate) fn load_into<C: MemoryCell>(
+    given: &Grant,
+    addr: u64,
+    room: &mut [u8],
+    host: &[C],
+) -> Reply
+    requires { given.now.memory_map.host_len ≡ length (C.bytes host.now) }
     ensures { (c : Controller) → let load = Act.Load addr (length room.old) in
-        IsLoaded (λ reply. IsActed given.now load (byte_in host.now) c reply (byte_in host.now) c) result room.old room.new }
+        IsLoaded (λ reply. IsActed given.now load (byte_in (C.bytes host.now)) c reply (byte_in (C.bytes host.now)) c) result room.old room.new }
 {
     // With the length of the host comes what is known of every map.
     let map = given.map();
@@ -67,16 +72,16 @@ pub(crate) fn load_into(given: &Grant, addr: u64, room: &mut [u8], host: &Host) 
 }
 
 /// The `len` bytes from guest address `addr` on, which are mapped.
-pub(crate) fn read_bytes(
+pub(crate) fn read_bytes<C: MemoryCell>(
     alloc: Global,
     given: &Grant,
     addr: u64,
     len: u64,
-    host: &Host,
+    host: &[C],
 ) -> Result<Bytes, NoMemory>
-    requires host { given.now.memory_map.host_len ≡ length host.now }
+    requires host { given.now.memory_map.host_len ≡ length (C.bytes host.now) }
     requires mapped { everywhere (mapped given.now.memory_map.regions) addr len ≡ true }
-    ensures ok { IfOk result (λ bytes. bytes ≡ bytes_from (image given.now.memory_map.regions (byte_in host.now)) addr len) }
+    ensures ok { IfOk result (λ bytes. bytes ≡ bytes_from (image given.now.memory_map.regions (byte_in (C.bytes host.now))) addr len) }
     ensures err { OnErr result (7 < len) }
 {
     if len <= FEW as u64 {
@@ -89,11 +94,11 @@ pub(crate) fn read_bytes(
 }
 
 // As many bytes from guest address `addr` on as there is room, which are mapped, and few. They take no memory.
-fn read_few(given: &Grant, addr: u64, host: &Host, room: &mut [u8]) -> Bytes
-    requires host { given.now.memory_map.host_len ≡ length host.now }
+fn read_few<C: MemoryCell>(given: &Grant, addr: u64, host: &[C], room: &mut [u8]) -> Bytes
+    requires host { given.now.memory_map.host_len ≡ length (C.bytes host.now) }
     requires mapped { everywhere (mapped given.now.memory_map.regions) addr (length room.old) ≡ true }
     requires few { length room.old ≤ 7 }
-    ensures { result ≡ bytes_from (image given.now.memory_map.regions (byte_in host.now)) addr (length room.old) }
+    ensures { result ≡ bytes_from (image given.now.memory_map.regions (byte_in (C.bytes host.now))) addr (length room.old) }
 {
     nv_bounce::load(addr, given.map(), host, room);
     Bytes::few(room)

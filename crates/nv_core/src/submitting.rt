@@ -18,11 +18,12 @@ use crate::lane::Lane;
 use crate::layout::{Grant, Layout};
 use crate::state::Core;
 use nv_device::Device;
-use nv_mem::{Host, NoMemory};
+use nv_mem::{MemoryCell, NoMemory};
 use nv_model::Reply;
 use nv_plan::{Job, Plan, PlanKind, Planned, Transcript, make_plan};
 use nv_world_model::Event;
 use std::alloc::Global;
+use std::slice;
 
 impl Core {
     /// Plans the command of a tag that was taken, and carries the plan out: the command is handed to the physical controller, or ends at
@@ -57,7 +58,14 @@ impl Core {
             tag,
         };
         let ring = &mut self.lanes[at];
-        let reply = submit_on(alloc, given, place, &mut self.host, &mut self.device, ring)?;
+        let reply = submit_on(
+            alloc,
+            given,
+            place,
+            slice::from_mut(&mut self.host),
+            &mut self.device,
+            ring,
+        )?;
         Ok(reply)
     }
 
@@ -82,7 +90,13 @@ impl Core {
             tag: job.tag,
         };
         let ring = &mut self.lanes[usize::from(place.lane)];
-        carry_out(plan, place, &mut self.host, &mut self.device, ring);
+        carry_out(
+            plan,
+            place,
+            slice::from_mut(&mut self.host),
+            &mut self.device,
+            ring,
+        );
         Some(Reply::Done)
     }
 
@@ -103,23 +117,23 @@ impl Core {
 }
 
 // Plans the command that waits for its plan and goes by a tag, and carries the plan out.
-fn submit_on(
+fn submit_on<C: MemoryCell>(
     alloc: Global,
     given: &Grant,
     place: TagPlace,
-    host: &mut Host,
+    host: &mut [C],
     device: &mut Device,
     ring: &mut Lane,
 ) -> Result<Reply, NoMemory>
-    requires room { HaveRoom place.mediator place.lane given.now host.old }
+    requires room { HaveRoom place.mediator place.lane given.now (C.bytes host.old) }
     requires lane { place.lane < length device.old.lanes }
     requires waits { WaitsForPlan given.now.namespace place.tag ring.old }
     ensures ok { IfOk result (λ reply. (command : Command) (reads : List Read) →
         slice_get ring.old.tags place.tag ≡ Some (Taken command reads) →
         IsSubmitted (plan_over given.now command.entry reads) given.now place.mediator place.lane (group_in (Some ring.old) place.tag) command reply
-        (byte_in host.old) (byte_in host.new) device.old device.new ring.old ring.new) }
-    ensures err { OnErr result ((host.new ≡ host.old) × ((device.new ≡ device.old) × (ring.new ≡ ring.old))) }
-    ensures len { length host.new ≡ length host.old }
+        (byte_in (C.bytes host.old)) (byte_in (C.bytes host.new)) device.old device.new ring.old ring.new) }
+    ensures err { OnErr result (((C.bytes host.new) ≡ (C.bytes host.old)) × ((device.new ≡ device.old) × (ring.new ≡ ring.old))) }
+    ensures len { length (C.bytes host.new) ≡ length (C.bytes host.old) }
 {
     let job = take_job(alloc, place, ring);
     match make_plan(alloc, alloc, job, given.map(), given.ns(), given.limit()) {
@@ -158,16 +172,22 @@ fn take_job(alloc: Global, place: TagPlace, ring: &mut Lane) -> Job
 }
 
 // Carries out the plan of the command that waits for it and goes by a tag.
-fn carry_out(plan: Plan, place: TagPlace, host: &mut Host, device: &mut Device, ring: &mut Lane)
-    requires room { HaveRoom place.mediator place.lane plan.given host.old }
+fn carry_out<C: MemoryCell>(
+    plan: Plan,
+    place: TagPlace,
+    host: &mut [C],
+    device: &mut Device,
+    ring: &mut Lane,
+)
+    requires room { HaveRoom place.mediator place.lane plan.given (C.bytes host.old) }
     requires lane { place.lane < length device.old.lanes }
     requires waits { WaitsForPlan plan.given.namespace place.tag ring.old }
     requires whose { (command : Command) (reads : List Read) → slice_get ring.old.tags place.tag ≡ Some (Taken command reads) →
         command.entry ≡ plan.job.sqe }
     ensures done { (command : Command) (reads : List Read) → slice_get ring.old.tags place.tag ≡ Some (Taken command reads) →
         IsCarriedOut (plan_made plan) plan.given place.mediator place.lane (group_in (Some ring.old) place.tag) command
-        (byte_in host.old) (byte_in host.new) device.old device.new ring.old ring.new }
-    ensures len { length host.new ≡ length host.old }
+        (byte_in (C.bytes host.old)) (byte_in (C.bytes host.new)) device.old device.new ring.old ring.new }
+    ensures len { length (C.bytes host.new) ≡ length (C.bytes host.old) }
 {
     match plan.kind() {
         PlanKind::Answer(status) => ring.answer(place.tag, status),
@@ -179,18 +199,24 @@ fn carry_out(plan: Plan, place: TagPlace, host: &mut Host, device: &mut Device, 
 
 // Hands the command that waits for its plan and goes by a tag to the physical controller: what each part of the plan needs is written, and the
 // doorbell is rung for it.
-fn hand_on(plan: Plan, place: TagPlace, host: &mut Host, device: &mut Device, ring: &mut Lane)
+fn hand_on<C: MemoryCell>(
+    plan: Plan,
+    place: TagPlace,
+    host: &mut [C],
+    device: &mut Device,
+    ring: &mut Lane,
+)
     requires is_plan { IsJobsPlan plan }
     requires goes { IsGoing (plan_made plan) }
-    requires room { HaveRoom place.mediator place.lane plan.given host.old }
+    requires room { HaveRoom place.mediator place.lane plan.given (C.bytes host.old) }
     requires lane { place.lane < length device.old.lanes }
     requires waits { WaitsForPlan plan.given.namespace place.tag ring.old }
     requires whose { (command : Command) (reads : List Read) → slice_get ring.old.tags place.tag ≡ Some (Taken command reads) →
         command.entry ≡ plan.job.sqe }
     ensures done { (command : Command) (reads : List Read) → slice_get ring.old.tags place.tag ≡ Some (Taken command reads) →
         IsCarriedOut (plan_made plan) plan.given place.mediator place.lane (group_in (Some ring.old) place.tag) command
-        (byte_in host.old) (byte_in host.new) device.old device.new ring.old ring.new }
-    ensures len { length host.new ≡ length host.old }
+        (byte_in (C.bytes host.old)) (byte_in (C.bytes host.new)) device.old device.new ring.old ring.new }
+    ensures len { length (C.bytes host.new) ≡ length (C.bytes host.old) }
 {
     let at = device.tail(place.lane);
     hand_all(&plan, place, ring, host, device);

@@ -17,6 +17,7 @@ use nv_model::limits::PART_SIZE;
 use nv_plan::ReadDone;
 use nv_world_model::Event;
 use std::alloc::Global;
+use std::slice;
 
 impl Core {
     /// Ends the command of a tag that was taken with Internal Error. Stale where the tag is at another point, Ignored where there is no
@@ -73,7 +74,7 @@ impl Core {
         if !is_part(len) {
             return Ok((Reply::Ignored, None));
         }
-        let shown = seat::read_bytes(alloc, given, addr, len, &self.host)?;
+        let shown = seat::read_bytes(alloc, given, addr, len, slice::from_ref(&self.host))?;
         let again = Bytes::from_slice(alloc, shown.as_slice())?;
         let kept = Bytes::from_slice(alloc, shown.as_slice())?;
         let ring = &mut self.lanes[at];

@@ -13,7 +13,7 @@ ghost use Rattle.nv_world_model.specs.Step.{is_io_queue};
 use crate::lane::Lane;
 use crate::layout::{Grant, Layout};
 use crate::state::Core;
-use nv_mem::Host;
+use nv_mem::MemoryCell;
 use nv_model::Reply;
 use nv_model::limits::LAST_QUEUE;
 use nv_plan::tags_wanted;
@@ -21,6 +21,7 @@ use nv_tags::Claim;
 use nv_vctl::Vctl;
 use nv_world_model::Event;
 use std::alloc::Global;
+use std::slice;
 
 impl Core {
     /// The command at the front of a guest's I/O queue gets the lowest free tags of a lane, as many as it may become physical commands. Idle
@@ -49,7 +50,15 @@ impl Core {
         }
         let vctl = &mut self.controllers[number];
         let ring = &mut self.lanes[at];
-        take_front(alloc, guest, queue, given, &self.host, vctl, ring)
+        take_front(
+            alloc,
+            guest,
+            queue,
+            given,
+            slice::from_ref(&self.host),
+            vctl,
+            ring,
+        )
     }
 }
 
@@ -61,19 +70,19 @@ pub(crate) fn is_io_queue(queue: u16) -> bool
 }
 
 // The command at the front of a queue gets its tags.
-fn take_front(
+fn take_front<C: MemoryCell>(
     alloc: Global,
     guest: u8,
     queue: u16,
     given: &Grant,
-    host: &Host,
+    host: &[C],
     vctl: &mut Vctl,
     ring: &mut Lane,
 ) -> Reply
-    requires host { given.now.memory_map.host_len ≡ length host.now }
+    requires host { given.now.memory_map.host_len ≡ length (C.bytes host.now) }
     requires in_place { QueuesInPlace (mapped given.now.memory_map.regions) vctl.old }
     requires counted { slice_index vctl.old.taken queue < most_taken }
-    ensures { let memory = image given.now.memory_map.regions (byte_in host.now) in
+    ensures { let memory = image given.now.memory_map.regions (byte_in (C.bytes host.now)) in
         IsFrontTaken (front vctl.old queue) guest queue given.now.namespace memory result vctl.old vctl.new ring.old ring.new }
 {
     let Some(entry) = vctl.peek_sqe(queue, given.map(), host) else {

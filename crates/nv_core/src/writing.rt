@@ -18,7 +18,7 @@ ghost use Rattle.nv_world_model.specs.ShareArea.{is_no_command, own_bytes, own_d
 use crate::area::TagPlace;
 use crate::physical_entry::{dwords, physical_entry};
 use nv_entry::{IoOpcode, Range};
-use nv_mem::Host;
+use nv_mem::MemoryCell;
 use nv_model::limits::RANGE_SIZE;
 use nv_plan::{Plan, PlanKind};
 use nv_prp::Prps;
@@ -28,23 +28,23 @@ use nv_prp::Prps;
 ///
 /// The part is a physical command. Its tag's pages and the ring lie in the host, and outside of the memory of the guest that the plan was made
 /// for.
-pub(crate) fn write(plan: &Plan, part: u8, place: TagPlace, at: u16, host: &mut Host)
+pub(crate) fn write<C: MemoryCell>(plan: &Plan, part: u8, place: TagPlace, at: u16, host: &mut [C])
     requires part { part < length (shares_made plan.now) }
     requires some { (share : Share) → share_made part plan.now ≡ Some share → is_no_command share ≡ false }
-    requires room { HasRoom place.mediator place.lane place.tag plan.now.given host.old }
+    requires room { HasRoom place.mediator place.lane place.tag plan.now.given (C.bytes host.old) }
     requires at { at < ring_size }
     ensures bytes { (share : Share) → share_made part plan.now ≡ Some share →
-        byte_in host.new ≡
-        share_written share plan.now.given plan.now.job.sqe place.mediator place.lane place.tag at (byte_in host.old) }
-    ensures len { length host.new ≡ length host.old }
+        byte_in (C.bytes host.new) ≡
+        share_written share plan.now.given plan.now.job.sqe place.mediator place.lane place.tag at (byte_in (C.bytes host.old)) }
+    ensures len { length (C.bytes host.new) ≡ length (C.bytes host.old) }
 {
     // The end of the host fits in 64 bits.
-    let _known = host.len();
+    let _known = C::len(host);
     let prps = prps_of(plan, part, place);
     store_numbers(&prps.list[..prps.used], place.list_page(), host);
     write_bounced(plan, part, place.bounce_page(), host);
     let entry = entry_of(plan, part, place.tag, &prps);
-    host.store(place.submission_slot(at), &entry);
+    C::store(host, place.submission_slot(at), &entry);
 }
 
 // What names the transfer of a part.
@@ -80,14 +80,14 @@ fn nothing() -> Prps
 }
 
 // Writes what is in the bounce pages of a part: the bytes of a source, or the ranges of a Dataset Management as the disk has them.
-fn write_bounced(plan: &Plan, part: u8, bounce: u64, host: &mut Host)
+fn write_bounced<C: MemoryCell>(plan: &Plan, part: u8, bounce: u64, host: &mut [C])
     requires part { part < length (shares_made plan.now) }
-    requires host { plan.now.given.memory_map.host_len ≡ length host.old }
-    requires inside { bounce + most_bytes ≤ length host.old }
+    requires host { plan.now.given.memory_map.host_len ≡ length (C.bytes host.old) }
+    requires inside { bounce + most_bytes ≤ length (C.bytes host.old) }
     requires apart { span_met (regions_of plan.now.given) bounce most_bytes ≡ false }
-    ensures bytes { (share : Share) → share_made part plan.now ≡ Some share → let before = byte_in host.old in
-        byte_in host.new ≡ stored before bounce (own_bytes share.plan plan.now.given.namespace plan.now.given before) }
-    ensures len { length host.new ≡ length host.old }
+    ensures bytes { (share : Share) → share_made part plan.now ≡ Some share → let before = byte_in (C.bytes host.old) in
+        byte_in (C.bytes host.new) ≡ stored before bounce (own_bytes share.plan plan.now.given.namespace plan.now.given before) }
+    ensures len { length (C.bytes host.new) ≡ length (C.bytes host.old) }
 {
     let PlanKind::Bounced = plan.kind() else {
         return;
@@ -120,31 +120,31 @@ fn entry_of(plan: &Plan, part: u8, tag: u8, prps: &Prps) -> [u8; 64]
 }
 
 // Stores numbers of 64 bits from host address `at` on.
-fn store_numbers(numbers: &[u64], at: u64, host: &mut Host)
-    requires { at + 8 * length numbers.now ≤ length host.old }
-    ensures bytes { byte_in host.new ≡ stored (byte_in host.old) at (flat_map (number_bytes 8) numbers.now) }
-    ensures len { length host.new ≡ length host.old }
+fn store_numbers<C: MemoryCell>(numbers: &[u64], at: u64, host: &mut [C])
+    requires { at + 8 * length numbers.now ≤ length (C.bytes host.old) }
+    ensures bytes { byte_in (C.bytes host.new) ≡ stored (byte_in (C.bytes host.old)) at (flat_map (number_bytes 8) numbers.now) }
+    ensures len { length (C.bytes host.new) ≡ length (C.bytes host.old) }
 {
     // The end of the host fits in 64 bits.
-    let _known = host.len();
+    let _known = C::len(host);
     let mut at = at;
     for number in numbers {
-        host.store(at, &number.to_le_bytes());
+        C::store(host, at, &number.to_le_bytes());
         at += 8;
     }
 }
 
 // Stores ranges from host address `at` on.
-fn store_ranges(ranges: &[Range], at: u64, host: &mut Host)
-    requires { at + 16 * length ranges.now ≤ length host.old }
-    ensures bytes { byte_in host.new ≡ stored (byte_in host.old) at (flat_map (λ (r : List ℕ). r) ranges.now) }
-    ensures len { length host.new ≡ length host.old }
+fn store_ranges<C: MemoryCell>(ranges: &[Range], at: u64, host: &mut [C])
+    requires { at + 16 * length ranges.now ≤ length (C.bytes host.old) }
+    ensures bytes { byte_in (C.bytes host.new) ≡ stored (byte_in (C.bytes host.old)) at (flat_map (λ (r : List ℕ). r) ranges.now) }
+    ensures len { length (C.bytes host.new) ≡ length (C.bytes host.old) }
 {
     // The end of the host fits in 64 bits.
-    let _known = host.len();
+    let _known = C::len(host);
     let mut at = at;
     for range in ranges {
-        host.store(at, &range.bytes());
+        C::store(host, at, &range.bytes());
         at += RANGE_SIZE as u64;
     }
 }

@@ -1,8 +1,9 @@
 pub mod Bytes
 pub mod GuestMap
-pub mod MapRefusal
-pub mod MapRuns
 pub mod GuestOrder
 pub mod Kept
+pub mod Lent
+pub mod MapRefusal
+pub mod MapRuns
 pub mod Page
 pub mod Places

@@ -34,6 +34,7 @@
 
 pub use boxed_bytes::BoxedBytes;
 pub use bytes::Bytes;
+pub use cells::MemoryCell;
 pub use few::FEW;
 pub use guest_map::GuestMap;
 pub use host::Host;
@@ -45,6 +46,7 @@ pub use region::{PAGE_SIZE, Region, spans_meet};
 
 mod boxed_bytes;
 mod bytes;
+pub mod cells;
 mod few;
 pub mod guest_map;
 mod guest_order;

@@ -12,17 +12,17 @@ ghost use Rattle.nv_vctl.specs.declared.posted.Posted.TheVariants as posted;
 use crate::posted::Posted;
 use crate::vctl::{Vctl, any_taken, count_ended, count_taken};
 use nv_entry::{Cqe, Sqe, Status};
-use nv_mem::{GuestMap, Host};
+use nv_mem::{GuestMap, MemoryCell};
 
 impl Vctl {
     /// The command at the front of a queue; `None` exactly where none may be taken. Queue 0 is the admin queue.
     ///
     /// The caller knows that the map was made for a host of this length ([`GuestMap::host_len`]), and that the queues that are
     /// there lie wholly in the map, as every call keeps it.
-    pub fn peek_sqe(&self, queue: u16, map: &GuestMap, host: &Host) -> Option<Sqe>
-        requires host { map.now.host_len ≡ length host.now }
+    pub fn peek_sqe<C: MemoryCell>(&self, queue: u16, map: &GuestMap, host: &[C]) -> Option<Sqe>
+        requires host { map.now.host_len ≡ length (C.bytes host.now) }
         requires in_place { QueuesInPlace (mapped map.now.regions) self.now }
-        ensures { result ≡ entry_at (image map.now.regions (byte_in host.now)) (front self.now queue) }
+        ensures { result ≡ entry_at (image map.now.regions (byte_in (C.bytes host.now))) (front self.now queue) }
     {
         // With the length of the host comes what is known of every map.
         let _known = map.host_len();
@@ -63,23 +63,23 @@ impl Vctl {
     /// The caller knows that the controller is ready ([`Vctl::is_ready`]) and that a command of the I/O queue is taken
     /// ([`Vctl::taken`]), that the map was made for a host of this length ([`GuestMap::host_len`]), and that the queues that are
     /// there lie wholly in the map, as every call keeps it.
-    pub fn post_cqe(
+    pub fn post_cqe<C: MemoryCell>(
         &mut self,
         queue: u16,
         dw0: u32,
         cid: u16,
         status: Status,
         map: &GuestMap,
-        host: &mut Host,
+        host: &mut [C],
     ) -> Posted
         requires ready { is_ready self.old ≡ true }
         requires taken { 0 < queue → 0 < slice_index self.old.taken queue }
-        requires host { map.now.host_len ≡ length host.old }
+        requires host { map.now.host_len ≡ length (C.bytes host.old) }
         requires in_place { QueuesInPlace (mapped map.now.regions) self.old }
         ensures posted { result ≡ posted_or_held (post self.old queue dw0 cid status) }
         ensures state { self.new ≡ controller_behind self.old (post self.old queue dw0 cid status) }
-        ensures host { byte_in host.new ≡ host_behind map.now.regions (byte_in host.old) (post self.old queue dw0 cid status) }
-        ensures len { length host.new ≡ length host.old }
+        ensures host { byte_in (C.bytes host.new) ≡ host_behind map.now.regions (byte_in (C.bytes host.old)) (post self.old queue dw0 cid status) }
+        ensures len { length (C.bytes host.new) ≡ length (C.bytes host.old) }
         ensures held { result ≡ posted.Held → is_queue_full (completes_in self.old queue) ≡ true }
         ensures admin { queue ≡ 0 → result ≡ posted.Held → is_queue_full (completion_queue self.old 0) ≡ true }
         ensures in_place { QueuesInPlace (mapped map.now.regions) self.new }

@@ -5,7 +5,7 @@ ghost use Rattle.std.specs.Prelude.{◌≡◌, length};
 use crate::admin::command::Command;
 use nv_admin::{Admin, admin};
 use nv_entry::StatusCode;
-use nv_mem::{GuestMap, Host, Region};
+use nv_mem::{GuestMap, Region};
 use nv_vctl::{Posted, Vctl};
 use std::alloc::Global;
 use std::marker::Model;
@@ -42,7 +42,7 @@ const NEW_SUBMISSION_QUEUE: Command = Command {
 pub(crate) struct Bench {
     vctl: Vctl,
     map: GuestMap,
-    host: Host,
+    host: Vec<u8>,
 }
 
 impl Model for Bench {
@@ -54,7 +54,7 @@ impl Model for Bench {
 
     ghost view = { λ _. tt };
 
-    ghost invariant = { λ b. (b.map.host_len ≡ length b.host) × QueuesInPlace (mapped b.map.regions) b.vctl };
+    ghost invariant = { λ b. (b.map.host_len ≡ length b.host.items) × QueuesInPlace (mapped b.map.regions) b.vctl };
 }
 
 impl Bench {
@@ -72,7 +72,7 @@ impl Bench {
         };
         let regions = vec![in alloc; region]?;
         let map = GuestMap::new(host_len, regions)?;
-        let host = Host::new(alloc, host_len)?;
+        let host = vec![in alloc; 0; host_len as usize]?;
         let vctl = Vctl::new();
         Ok(Bench { vctl, map, host })
     }

@@ -1,7 +1,7 @@
 //! A host of 24 KiB and a guest's map of it, and copies whose outcome is given byte by byte.
 use crate::hand;
 use nv_bounce::{are_mapped, gather, name_no_bucket, scatter, total_len};
-use nv_mem::{GuestMap, Host, NoMemory, Piece, Places, Region};
+use nv_mem::{GuestMap, NoMemory, Piece, Places, Region};
 use std::alloc::Global;
 use std::process::Abort;
 use std::test::Fail;
@@ -83,9 +83,9 @@ pub(crate) fn places_of(alloc: Global, pieces: &[Piece]) -> Result<Places, NoMem
 }
 
 // Stores each of the spans, and says whether all of them lie in the host.
-fn store_all(host: &mut Host, spans: &[Span]) -> bool {
+fn store_all(host: &mut [u8], spans: &[Span]) -> bool {
     for (addr, bytes) in spans {
-        if !hand::store(host, *addr, bytes) {
+        if !hand::put(host, *addr, bytes) {
             return false;
         }
     }
@@ -110,22 +110,23 @@ pub(crate) fn check_all(
 // Whether a copy is made, and changes what it is to change and nothing else.
 fn is_right(alloc: Global, map: &GuestMap, copy: &Transfer, way: Way) -> Result<bool, NoMemory> {
     let places = places_of(alloc, copy.pieces)?;
-    let Some(mut host) = host_with(alloc, copy.before)? else {
-        return Ok(false);
-    };
-    let made = make(way, &places, map, &mut host, copy.slot);
-    Ok(made && holds_only(alloc, &host, copy.before, copy.changed)?)
+    let mut host = [0; HOST_LEN as usize];
+    let mut wanted = [0; HOST_LEN as usize];
+    let stored = store_all(&mut host, copy.before)
+        && store_all(&mut wanted, copy.before)
+        && store_all(&mut wanted, copy.changed);
+    Ok(stored && make(way, &places, map, &mut host, copy.slot) && host == wanted)
 }
 
 // Copies where the conditions hold, and says whether they do.
-fn make(way: Way, places: &Places, map: &GuestMap, host: &mut Host, slot: u64) -> bool {
+fn make(way: Way, places: &Places, map: &GuestMap, host: &mut [u8], slot: u64) -> bool {
     let Some(len) = total_len(places) else {
         return false;
     };
-    if map.host_len() != host.len() || !are_mapped(places, map) {
+    if map.host_len() != host.len() as u64 || !are_mapped(places, map) {
         return false;
     }
-    if !host.holds(slot, len) || map.meets_host(slot, len) {
+    if !hand::lie_in(host, slot, len) || map.meets_host(slot, len) {
         return false;
     }
     match way {
@@ -134,38 +135,4 @@ fn make(way: Way, places: &Places, map: &GuestMap, host: &mut Host, slot: u64) -
         Way::Gather => return false,
     }
     true
-}
-
-// A host of zeros but for these bytes, or nothing where some of them lie outside.
-fn host_with(alloc: Global, spans: &[Span]) -> Result<Option<Host>, NoMemory> {
-    let mut host = Host::new(alloc, HOST_LEN)?;
-    if store_all(&mut host, spans) {
-        Ok(Some(host))
-    } else {
-        Ok(None)
-    }
-}
-
-// Whether the host's bytes are zeros but for these spans, of which a later one counts.
-fn holds_only(
-    alloc: Global,
-    host: &Host,
-    before: &[Span],
-    changed: &[Span],
-) -> Result<bool, NoMemory> {
-    let Some(mut wanted) = host_with(alloc, before)? else {
-        return Ok(false);
-    };
-    let stored = store_all(&mut wanted, changed);
-    Ok(stored && are_alike(host, &wanted))
-}
-
-// Whether two hosts show the same bytes.
-fn are_alike(host: &Host, other: &Host) -> bool {
-    if host.len() != HOST_LEN || other.len() != HOST_LEN {
-        return false;
-    }
-    let mut bytes = [0; HOST_LEN as usize];
-    host.load(0, &mut bytes);
-    other.equals(0, &bytes)
 }

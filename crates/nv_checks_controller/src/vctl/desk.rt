@@ -6,7 +6,7 @@ ghost use Rattle.nv_vctl.specs.Vctl.{IsIoQueue};
 
 use crate::hand;
 use nv_entry::Status;
-use nv_mem::{GuestMap, Host, Region};
+use nv_mem::{GuestMap, Region};
 use nv_model::limits::LAST_QUEUE;
 use nv_ring::Ring;
 use nv_vctl::{Posted, Vctl};
@@ -27,7 +27,7 @@ const GUEST_LEN: u64 = 0x2_0000;
 pub struct Desk {
     pub vctl: Vctl,
     pub map: GuestMap,
-    pub host: Host,
+    pub host: Vec<u8>,
 }
 
 impl Desk {
@@ -41,7 +41,7 @@ impl Desk {
             },
         ]?;
         let map = GuestMap::new(HOST_LEN, regions)?;
-        let host = Host::new(alloc, HOST_LEN)?;
+        let host = vec![in alloc; 0; HOST_LEN as usize]?;
         Ok(Desk {
             vctl: Vctl::new(),
             map,
@@ -54,7 +54,7 @@ impl Desk {
         let Some(at) = addr.checked_add(GUEST_AT) else {
             return false;
         };
-        hand::store(&mut self.host, at, bytes)
+        hand::put(&mut self.host, at, bytes)
     }
 
     /// Whether these bytes are at a guest address.
@@ -62,12 +62,12 @@ impl Desk {
         let Some(at) = addr.checked_add(GUEST_AT) else {
             return false;
         };
-        hand::shows(&self.host, at, bytes)
+        hand::has(&self.host, at, bytes)
     }
 
     /// The identifier of the command at the front of a queue; none where none may be taken.
     pub fn front(&self, queue: u16) -> Option<u16> {
-        if self.map.host_len() != self.host.len() || !self.vctl.lies_in(&self.map) {
+        if self.map.host_len() != self.host.len() as u64 || !self.vctl.lies_in(&self.map) {
             return None;
         }
         let sqe = self.vctl.peek_sqe(queue, &self.map, &self.host)?;
@@ -88,7 +88,7 @@ impl Desk {
         if !self.vctl.is_ready() || (queue != 0 && self.vctl.taken(queue) == 0) {
             return None;
         }
-        if self.map.host_len() != self.host.len() || !self.vctl.lies_in(&self.map) {
+        if self.map.host_len() != self.host.len() as u64 || !self.vctl.lies_in(&self.map) {
             return None;
         }
         let success = Status::new(0, 0, false);

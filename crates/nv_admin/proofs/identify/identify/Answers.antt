@@ -10,20 +10,20 @@ use Rattle.nv_admin.proofs.Written.{zeros}
 use Rattle.nv_admin.proofs.identify.identify.Goals as goal
 
 pub returns-in_err-structure-clause-done : goal.returns-in_err-structure-clause-done
-returns-in_err-structure-clause-done c = λ at.
+returns-in_err-structure-clause-done g c = λ at.
     rw (exit c.from_residual.result c.in_err-structure.field-0.0 c.from_residual.ensures.1)
-    (IsDone-left _ (Err c.in_err-structure.field-0.0) at c.args.map.now.regions (byte_in c.args.host.now) c.host_len-known.ensures.sound.apart
-    (ap (λ (s : Shown). identify_by s (mapped c.args.map.now.regions) c.args.sqe.now at (image c.args.map.now.regions (byte_in c.args.host.now)))
+    (IsDone-left _ (Err c.in_err-structure.field-0.0) at c.args.map.now.regions (byte_in (g.C.MemoryCell.bytes c.args.host.now)) c.host_len-known.ensures.sound.apart
+    (ap (λ (s : Shown). identify_by s (mapped c.args.map.now.regions) c.args.sqe.now at (image c.args.map.now.regions (byte_in (g.C.MemoryCell.bytes c.args.host.now))))
     c.in_err-structure.ensures))
 
 pub returns-in_err-buffer-clause-done : goal.returns-in_err-buffer-clause-done
-returns-in_err-buffer-clause-done c = λ at.
+returns-in_err-buffer-clause-done g c = λ at.
     rw (exit c.from_residual-in_err-buffer.result c.in_err-buffer.field-0.0 c.from_residual-in_err-buffer.ensures.1)
-    (IsDone-left _ (Err c.in_err-buffer.field-0.0) at c.args.map.now.regions (byte_in c.args.host.now) c.host_len-known.ensures.sound.apart
-    (ap (λ (s : Shown). identify_by s (mapped c.args.map.now.regions) c.args.sqe.now at (image c.args.map.now.regions (byte_in c.args.host.now)))
+    (IsDone-left _ (Err c.in_err-buffer.field-0.0) at c.args.map.now.regions (byte_in (g.C.MemoryCell.bytes c.args.host.now)) c.host_len-known.ensures.sound.apart
+    (ap (λ (s : Shown). identify_by s (mapped c.args.map.now.regions) c.args.sqe.now at (image c.args.map.now.regions (byte_in (g.C.MemoryCell.bytes c.args.host.now))))
     c.in_ok-structure.ensures
-    ∙ ap (λ (r : Reading). identified (content c.in_ok-structure.structure) r at (image c.args.map.now.regions (byte_in c.args.host.now)))
+    ∙ ap (λ (r : Reading). identified (content c.in_ok-structure.structure) r at (image c.args.map.now.regions (byte_in (g.C.MemoryCell.bytes c.args.host.now))))
     c.in_err-buffer.ensures.reading))
 
 pub write-requires : goal.write-requires
-write-requires c = zeros
+write-requires g c = zeros

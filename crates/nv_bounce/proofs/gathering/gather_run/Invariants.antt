@@ -4,7 +4,7 @@ use Rattle.nv_bounce.proofs.Copies.{IsAtRow}
 use Rattle.nv_bounce.proofs.gathering.gather_run.Given as goal
 
 abbrev pub invariant-loop-done : goal.invariant-loop-done
-invariant-loop-done l = IsAtRow (gathered_to l.map.regions) l.fn.host l.to l.addr l.len l.host l.done
+invariant-loop-done g l = IsAtRow (gathered_to l.map.regions) (g.C.MemoryCell.bytes l.fn.host) l.to l.addr l.len (g.C.MemoryCell.bytes l.host) l.done
 
 abbrev pub decreases-loop-done : goal.decreases-loop-done
-decreases-loop-done l = l.len - l.done
+decreases-loop-done g l = l.len - l.done

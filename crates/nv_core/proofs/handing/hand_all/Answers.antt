@@ -9,10 +9,10 @@ use Rattle.nv_world_model.specs.World.{group_in}
 use Rattle.nv_core.proofs.handing.hand_all.Goals as goal
 
 pub hand_part-requires-clause-room : goal.hand_part-requires-clause-room
-hand_part-requires-clause-room c = c.requires.room c.args.place.tag c.requires.waits.below
+hand_part-requires-clause-room g c = c.requires.room c.args.place.tag c.requires.waits.below
 
 pub returns-then-parts-eq1-clause-bytes : goal.returns-then-parts-eq1-clause-bytes
-returns-then-parts-eq1-clause-bytes c =
+returns-then-parts-eq1-clause-bytes g c =
     let p = c.args.plan.now in
     let place = c.args.place in
     let waits = c.requires.waits in
@@ -20,10 +20,10 @@ returns-then-parts-eq1-clause-bytes c =
     let s = slice_get-there (shares_made p) 0 (omega (arith, many)) in
     c.hand_part.ensures.bytes s.0 s.1
     ∙ one-host (group_in (Some c.args.ring.now) place.tag) waits.others place.tag (shares_made p) s.0 waits.first many s.1
-    p.given p.job.sqe place.mediator place.lane (lane_of c.args.device.now place.lane) (byte_in c.args.host.now)
+    p.given p.job.sqe place.mediator place.lane (lane_of c.args.device.now place.lane) (byte_in (g.C.MemoryCell.bytes c.args.host.now))
 
 pub returns-then-parts-eq1-clause-device : goal.returns-then-parts-eq1-clause-device
-returns-then-parts-eq1-clause-device c =
+returns-then-parts-eq1-clause-device g c =
     let p = c.args.plan.now in
     let place = c.args.place in
     let waits = c.requires.waits in

@@ -5,30 +5,30 @@ use Rattle.nv_plan.specs.Made.{shares_made}
 use Rattle.nv_core.proofs.handing.hand_parts.Goals as goal
 
 pub loop-part-preserved : goal.loop-part-preserved
-loop-part-preserved c =
+loop-part-preserved g c =
     let p = c.args.plan.now in
     let place = c.args.place in
     let many = c.parts-part-end.ensures.value in
     let inside = c.loop-part-test.true in
     let s = slice_get-there (shares_made p) c.loop-part.part (omega (arith, many, inside)) in
-    part-next c.args.tags (shares_made p) p.given p.job.sqe place.mediator place.lane c.args.host.now c.args.device.now
-    c.loop-part.tags c.pop.new.self c.in-Some.tag c.loop-part.host c.hand_part.new.host c.loop-part.device c.hand_part.new.device c.loop-part.part s.0
+    part-next c.args.tags (shares_made p) p.given p.job.sqe place.mediator place.lane (g.C.MemoryCell.bytes c.args.host.now) c.args.device.now
+    c.loop-part.tags c.pop.new.self c.in-Some.tag (g.C.MemoryCell.bytes c.loop-part.host) (g.C.MemoryCell.bytes c.hand_part.new.host) c.loop-part.device c.hand_part.new.device c.loop-part.part s.0
     c.loop-part.invariant c.in-Some.ensures.lowest s.1 (c.hand_part.ensures.bytes s.0 s.1) (c.hand_part.ensures.device s.0 s.1) c.hand_part.ensures.len
 
 pub returns-clause-bytes : goal.returns-clause-bytes
-returns-clause-bytes c =
+returns-clause-bytes g c =
     let p = c.args.plan.now in
     let place = c.args.place in
     let many = c.parts-part-end.ensures.value in
     let past = c.loop-part-test.false in
-    host-end c.args.tags (shares_made p) p.given p.job.sqe place.mediator place.lane c.args.host.now c.args.device.now
-    c.loop-part.tags c.loop-part.host c.loop-part.device c.loop-part.part c.loop-part.invariant (omega (arith, many, past))
+    host-end c.args.tags (shares_made p) p.given p.job.sqe place.mediator place.lane (g.C.MemoryCell.bytes c.args.host.now) c.args.device.now
+    c.loop-part.tags (g.C.MemoryCell.bytes c.loop-part.host) c.loop-part.device c.loop-part.part c.loop-part.invariant (omega (arith, many, past))
 
 pub returns-clause-device : goal.returns-clause-device
-returns-clause-device c =
+returns-clause-device g c =
     let p = c.args.plan.now in
     let place = c.args.place in
     let many = c.parts-part-end.ensures.value in
     let past = c.loop-part-test.false in
-    lane-end c.args.tags (shares_made p) p.given p.job.sqe place.mediator place.lane c.args.host.now c.args.device.now
-    c.loop-part.tags c.loop-part.host c.loop-part.device c.loop-part.part c.loop-part.invariant (omega (arith, many, past))
+    lane-end c.args.tags (shares_made p) p.given p.job.sqe place.mediator place.lane (g.C.MemoryCell.bytes c.args.host.now) c.args.device.now
+    c.loop-part.tags (g.C.MemoryCell.bytes c.loop-part.host) c.loop-part.device c.loop-part.part c.loop-part.invariant (omega (arith, many, past))

@@ -5,4 +5,4 @@ use Rattle.nv_core.proofs.reaping.completion_at.Goals as goal
 
 pub returns : goal.returns
 unfolding byte_in
-returns c = c.of.ensures ∙ c.load.ensures ∙ sym (bytes_from-list c.args.host.now c.args.addr 16 (c.requires (lit< tt)))
+returns g c = c.of.ensures ∙ c.load.ensures ∙ sym (bytes_from-list (g.C.MemoryCell.bytes c.args.host.now) c.args.addr 16 (c.requires (lit< tt)))

@@ -11,15 +11,15 @@ use Rattle.nv_world_model.specs.World.{group_in}
 use Rattle.nv_core.proofs.submitting.carry_out.Goals as goal
 
 pub hand_on-requires-clause-goes : goal.hand_on-requires-clause-goes
-hand_on-requires-clause-goes c =
+hand_on-requires-clause-goes g c =
     kind-goes (plan_made c.args.plan)
     (subst (λ (k : PlanKind). (k ≡ kind.NoData) ⊎ ((k ≡ kind.Direct) ⊎ (k ≡ kind.Bounced))) c.kind.ensures.made c.in-NoData.is)
 
 pub returns-in-Answer-clause-done : goal.returns-in-Answer-clause-done
-returns-in-Answer-clause-done c = λ command reads there.
+returns-in-Answer-clause-done g c = λ command reads there.
     let p = c.args.plan in
     let place = c.args.place in
     let plan = kind-answer (plan_made p) c.in-Answer.status (sym c.kind.ensures.made ∙ c.in-Answer.is) in
     subst (λ (q : Plan). IsCarriedOut q p.given place.mediator place.lane (group_in (Some c.args.ring.now) place.tag) command
-    (byte_in c.args.host.now) (byte_in c.args.host.now) c.args.device.now c.args.device.now c.args.ring.now c.answer.new.self) (sym plan)
+    (byte_in (g.C.MemoryCell.bytes c.args.host.now)) (byte_in (g.C.MemoryCell.bytes c.args.host.now)) c.args.device.now c.args.device.now c.args.ring.now c.answer.new.self) (sym plan)
     (record { memory = refl; device = sym (lane-same place.lane c.args.device.now c.requires.lane); tags_are = c.answer.ensures command reads there })

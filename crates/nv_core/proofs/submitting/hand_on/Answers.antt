@@ -11,14 +11,14 @@ use Rattle.nv_world_model.specs.World.{group_in}
 use Rattle.nv_core.proofs.submitting.hand_on.Goals as goal
 
 pub fly-requires-clause-some : goal.fly-requires-clause-some
-fly-requires-clause-some c =
+fly-requires-clause-some g c =
     let p = c.args.plan in
     let led = c.requires.waits.led in
     shares-some p (tags_of_entry p.given.namespace led.command.entry) c.requires.is_plan c.requires.goes
     (ap (tags_of_entry p.given.namespace) (c.requires.whose led.command led.reads led.is)) c.requires.waits.some
 
 pub returns-clause-done : goal.returns-clause-done
-returns-clause-done c = λ command reads there.
+returns-clause-done g c = λ command reads there.
     let p = c.args.plan in
     let place = c.args.place in
     let plan = plan_made p in
@@ -27,8 +27,8 @@ returns-clause-done c = λ command reads there.
     let entry : p.job.sqe ≡ command.entry = sym (c.requires.whose command reads there) in
     record {
       memory =
-          c.hand_all.ensures.bytes ∙ going-host plan tags p.given p.job.sqe place.mediator place.lane d (byte_in c.args.host.now) c.requires.goes
-          ∙ ap (λ (e : List ℕ). host_behind plan tags p.given e place.mediator place.lane d (byte_in c.args.host.now)) entry;
+          c.hand_all.ensures.bytes ∙ going-host plan tags p.given p.job.sqe place.mediator place.lane d (byte_in (g.C.MemoryCell.bytes c.args.host.now)) c.requires.goes
+          ∙ ap (λ (e : List ℕ). host_behind plan tags p.given e place.mediator place.lane d (byte_in (g.C.MemoryCell.bytes c.args.host.now))) entry;
       device =
           c.hand_all.ensures.device
           ∙ ap (λ (e : DeviceLane). with_lane place.lane e c.args.device.now)

@@ -32,22 +32,22 @@ stored-none : (host : ℕ → ℕ) (at : ℕ) (bytes : List ℕ) → bytes ≡ [
 stored-none host at bytes none = sym (ap (stored host at) none ∙ stored-nil host at)
 
 pub returns-in_default : goal.returns-in_default
-returns-in_default c =
+returns-in_default g c =
     record {
       bytes =
-          (λ share at. stored-none (byte_in c.args.host.now) c.args.bounce _
-          (no-bytes c.args.plan.now c.args.part share c.kind.ensures.is_plan at (byte_in c.args.host.now) (λ e. c.in_default.not-Bounced (c.kind.ensures.made ∙ e))));
+          (λ share at. stored-none (byte_in (g.C.MemoryCell.bytes c.args.host.now)) c.args.bounce _
+          (no-bytes c.args.plan.now c.args.part share c.kind.ensures.is_plan at (byte_in (g.C.MemoryCell.bytes c.args.host.now)) (λ e. c.in_default.not-Bounced (c.kind.ensures.made ∙ e))));
       len = refl;
     }
 
 pub returns-in_default-io_opcode-clause-bytes : goal.returns-in_default-io_opcode-clause-bytes
-returns-in_default-io_opcode-clause-bytes c = λ share at.
+returns-in_default-io_opcode-clause-bytes g c = λ share at.
     let some = known c.args.plan.now c.args.part share c.kind.ensures.is_plan at in
     let none = ap (λ (j : Job). io_opcode (opcode_of j.sqe)) (sym c.job.ensures.value) ∙ sym c.io_opcode.ensures ∙ c.in_default-io_opcode.is in
     absurd (cc)
 
 pub gather-requires-clause-mapped : goal.gather-requires-clause-mapped
-gather-requires-clause-mapped c =
+gather-requires-clause-mapped g c =
     let p = c.args.plan.now in
     let part = c.args.part in
     let is = c.kind.ensures.is_plan in
@@ -61,7 +61,7 @@ gather-requires-clause-mapped c =
     (All-filter has_bytes (IsMappedPiece (mapped p.given.memory_map.regions)) pieces (mapped-each p part s.0 is s.1)))
 
 pub gather-requires-clause-no_bucket : goal.gather-requires-clause-no_bucket
-gather-requires-clause-no_bucket c =
+gather-requires-clause-no_bucket g c =
     let p = c.args.plan.now in
     let part = c.args.part in
     let is = c.kind.ensures.is_plan in
@@ -74,7 +74,7 @@ gather-requires-clause-no_bucket c =
     (All-filter has_bytes NamesNoBucket pieces (no-bucket pieces (runs p part s.0 is s.1 f (own-work p part s.0 is s.1))))
 
 pub gather-requires-clause-inside : goal.gather-requires-clause-inside
-gather-requires-clause-inside c =
+gather-requires-clause-inside g c =
     let p = c.args.plan.now in
     let part = c.args.part in
     let is = c.kind.ensures.is_plan in
@@ -89,7 +89,7 @@ gather-requires-clause-inside c =
     λ some. omega (arith, most, same, room)
 
 pub gather-requires-clause-apart : goal.gather-requires-clause-apart
-gather-requires-clause-apart c =
+gather-requires-clause-apart g c =
     let p = c.args.plan.now in
     let part = c.args.part in
     let is = c.kind.ensures.is_plan in
@@ -105,7 +105,7 @@ gather-requires-clause-apart c =
     (omega (arith, most, same)))
 
 pub store_ranges-requires : goal.store_ranges-requires
-store_ranges-requires c =
+store_ranges-requires g c =
     let p = c.args.plan.now in
     let part = c.args.part in
     let is = c.kind.ensures.is_plan in
@@ -118,39 +118,39 @@ store_ranges-requires c =
     omega (arith, many, most, room)
 
 pub returns-in-Write-clause-bytes : goal.returns-in-Write-clause-bytes
-returns-in-Write-clause-bytes c = λ share at.
+returns-in-Write-clause-bytes g c = λ share at.
     let p = c.args.plan.now in
     let part = c.args.part in
     let is = c.kind.ensures.is_plan in
     let known_is = ap (λ (j : Job). io_opcode (opcode_of j.sqe)) (sym c.job.ensures.value) ∙ sym c.io_opcode.ensures ∙ c.in-Some.is in
     let f = form-is p part share is at c.in-Some.opcode known_is ∙ source-form c.in-Some.opcode c.in-Write.is in
-    let before = byte_in c.args.host.now in
+    let before = byte_in (g.C.MemoryCell.bytes c.args.host.now) in
     c.gather.ensures.bytes
     ∙ ap (λ (m : Mapping). stored before c.args.bounce (gathered (image m.regions before) (places_of c.part_places.result.now))) c.map.ensures.value
     ∙ ap (λ (ps : List Piece). stored before c.args.bounce (gathered (image p.given.memory_map.regions before) (places_of ps))) (c.part_places.ensures.value share at)
     ∙ ap (stored before c.args.bounce) (sym (source-bytes p part share is at before (sym c.kind.ensures.made ∙ c.in-Bounced.is) f))
 
 pub returns-in-DatasetManagement-clause-bytes : goal.returns-in-DatasetManagement-clause-bytes
-returns-in-DatasetManagement-clause-bytes c = λ share at.
+returns-in-DatasetManagement-clause-bytes g c = λ share at.
     let p = c.args.plan.now in
     let part = c.args.part in
     let is = c.kind.ensures.is_plan in
     let known_is = ap (λ (j : Job). io_opcode (opcode_of j.sqe)) (sym c.job.ensures.value) ∙ sym c.io_opcode.ensures ∙ c.in-Some.is in
     let f = form-is p part share is at c.in-Some.opcode known_is ∙ ap form_of c.in-DatasetManagement.is in
-    let before = byte_in c.args.host.now in
+    let before = byte_in (g.C.MemoryCell.bytes c.args.host.now) in
     c.store_ranges.ensures.bytes
     ∙ ap (λ (rs : List (List ℕ)). stored before c.args.bounce (flat_map (λ (r : List ℕ). r) rs)) (c.part_ranges.ensures.value share at)
     ∙ ap (stored before c.args.bounce) (sym (range-bytes p part share is at before f))
 
 pub returns-in-Read-clause-bytes : goal.returns-in-Read-clause-bytes
-returns-in-Read-clause-bytes c = λ share at.
+returns-in-Read-clause-bytes g c = λ share at.
     let p = c.args.plan.now in
     let part = c.args.part in
     let is = c.kind.ensures.is_plan in
     let e = sym c.kind.ensures.made ∙ c.in-Bounced.is in
     let known_is = ap (λ (j : Job). io_opcode (opcode_of j.sqe)) (sym c.job.ensures.value) ∙ sym c.io_opcode.ensures ∙ c.in-Some.is in
     let form = form-is p part share is at c.in-Some.opcode known_is in
-    let before = byte_in c.args.host.now in
+    let before = byte_in (g.C.MemoryCell.bytes c.args.host.now) in
     stored-none before c.args.bounce _
     (elim c.in-Read.is [
       | inl read ↦ other-bytes p part share is at before e (Transfer true) (form ∙ ap form_of read) refl

@@ -1,4 +1,4 @@
-use Rattle.std.proofs.Common.{◌≡◌, ◌≤◌, ◌<◌, ◌∙◌, length, refl, subst, sym, arith}
+use Rattle.std.proofs.Common.{◌≡◌, ◌≤◌, ◌<◌, ◌∙◌, length, refl, subst, sym, arith, ℕ, List, ap}
 use Rattle.nv_core.proofs.Dues.{due-told, take-due}
 use Rattle.nv_core.proofs.Placed.{has-controller, in-place, made-for}
 use Rattle.nv_core.proofs.GroupWorlds.{looked-up}
@@ -8,6 +8,7 @@ use Rattle.nv_laws_sound.proofs.Lists.{slice_get-there}
 use Rattle.nv_model.specs.declared.reply.Reply.TheVariants as reply
 use Rattle.nv_world_model.specs.Due.{due}
 use Rattle.nv_world_model.specs.declared.event.Event.TheVariants as event
+use Rattle.nv_mem.specs.Lent.{bytes_of_hosts}
 use Rattle.nv_core.proofs.state.Core.take_due.Goals as goal
 
 pub returns-in_default : goal.returns-in_default
@@ -41,20 +42,24 @@ returns-then-not-is_io_queue c =
 
 pub returns : goal.returns
 returns c =
-    let s : State = record { host = c.self.inside.host; device = c.self.inside.device; lanes = c.self.inside.lanes.items; controllers = c.self.inside.controllers.items } in
+    let lent : bytes_of_hosts c.from_ref.result.now ≡ c.self.inside.host = ap bytes_of_hosts c.from_ref.ensures.value in
+    let s : State = record { host = bytes_of_hosts c.from_ref.result.now; device = c.self.inside.device; lanes = c.self.inside.lanes.items; controllers = c.self.inside.controllers.items } in
+    let view_is : s ≡ c.args.self.now = ap (λ (h : List ℕ). let o : State = record { host = h; device = c.self.inside.device; lanes = c.self.inside.lanes.items; controllers = c.self.inside.controllers.items } in o) lent ∙ c.self.view_is in
     let below : c.from-number.result < length c.self.inside.controllers.items = (let l = c.len.ensures in let t = c.if-number-len.false in omega arith) in
     let found = looked-up c.self.inside.controllers.items c.args.guest c.from-number.result c.index-vctl.result.now c.from-number.ensures below c.index-vctl.ensures in
     let below_lane : c.from-at.result < length c.self.inside.lanes.items = (let l = c.len-2.ensures in let t = c.if-at-len.false in omega arith) in
     let found_lane = looked-up c.self.inside.lanes.items c.args.lane c.from-at.result c.index-ring.result.now c.from-at.ensures below_lane c.index-ring.ensures in
-    subst (λ (x : State). c.is_takeable.result ≡ due c.args.layout.now (event.Take c.args.guest c.args.queue c.args.lane) (world_of x)) c.self.view_is
+    subst (λ (x : State). c.is_takeable.result ≡ due c.args.layout.now (event.Take c.args.guest c.args.queue c.args.lane) (world_of x)) view_is
     (c.is_takeable.ensures
     ∙ sym (take-due c.args.layout.now s c.args.guest c.args.queue c.args.lane c.in-Some.given.now c.index-vctl.result.now c.index-ring.result.now
     c.in-Some.ensures found found_lane (sym c.is_io_queue.ensures ∙ c.if-not-is_io_queue.false)))
 
 pub is_takeable-requires-clause-host : goal.is_takeable-requires-clause-host
 is_takeable-requires-clause-host c =
-    let s : State = record { host = c.self.inside.host; device = c.self.inside.device; lanes = c.self.inside.lanes.items; controllers = c.self.inside.controllers.items } in
-    made-for c.args.layout.now s c.args.self.now c.args.guest c.in-Some.given.now c.in-Some.given.now.memory_map c.self.view_is c.requires
+    let lent : bytes_of_hosts c.from_ref.result.now ≡ c.self.inside.host = ap bytes_of_hosts c.from_ref.ensures.value in
+    let s : State = record { host = bytes_of_hosts c.from_ref.result.now; device = c.self.inside.device; lanes = c.self.inside.lanes.items; controllers = c.self.inside.controllers.items } in
+    let view_is : s ≡ c.args.self.now = ap (λ (h : List ℕ). let o : State = record { host = h; device = c.self.inside.device; lanes = c.self.inside.lanes.items; controllers = c.self.inside.controllers.items } in o) lent ∙ c.self.view_is in
+    made-for c.args.layout.now s c.args.self.now c.args.guest c.in-Some.given.now c.in-Some.given.now.memory_map view_is c.requires
     c.in-Some.ensures refl
 
 pub is_takeable-requires-clause-in_place : goal.is_takeable-requires-clause-in_place

@@ -12,7 +12,7 @@ use Rattle.nv_vctl.proofs.Whole.{completion-below, whole-posted}
 use Rattle.nv_vctl.proofs.vctl.Vctl.post_cqe.Goals as goal
 
 pub returns-then-is_full-clause-posted : goal.returns-then-is_full-clause-posted
-returns-then-is_full-clause-posted c =
+returns-then-is_full-clause-posted g c =
     let n = c.args.self.now in
     let found : AreFound n c.args.queue c.from-completes_to.result c.in-Some.from c.in-Some-completion_queue.to c.is_full.result = record {
       from = ap (submission_queue n) (sym c.from-number.ensures) ∙ sym c.submission_queue.ensures ∙ c.in-Some.is;
@@ -24,7 +24,7 @@ returns-then-is_full-clause-posted c =
     (sym (post-held c.args.dw0 c.args.cid c.args.status found c.if-is_full.true))
 
 pub returns-then-is_full-clause-state : goal.returns-then-is_full-clause-state
-returns-then-is_full-clause-state c =
+returns-then-is_full-clause-state g c =
     let n = c.args.self.now in
     let found : AreFound n c.args.queue c.from-completes_to.result c.in-Some.from c.in-Some-completion_queue.to c.is_full.result = record {
       from = ap (submission_queue n) (sym c.from-number.ensures) ∙ sym c.submission_queue.ensures ∙ c.in-Some.is;
@@ -36,7 +36,7 @@ returns-then-is_full-clause-state c =
     (sym (post-held c.args.dw0 c.args.cid c.args.status found c.if-is_full.true))
 
 pub returns-then-is_full-clause-host : goal.returns-then-is_full-clause-host
-returns-then-is_full-clause-host c =
+returns-then-is_full-clause-host g c =
     let n = c.args.self.now in
     let found : AreFound n c.args.queue c.from-completes_to.result c.in-Some.from c.in-Some-completion_queue.to c.is_full.result = record {
       from = ap (submission_queue n) (sym c.from-number.ensures) ∙ sym c.submission_queue.ensures ∙ c.in-Some.is;
@@ -44,16 +44,16 @@ returns-then-is_full-clause-host c =
       there = sym c.completion_queue.ensures ∙ c.in-Some-completion_queue.is;
       room = c.is_full.ensures;
     } in
-    ap (host_behind c.args.map.now.regions (byte_in c.args.host.now))
+    ap (host_behind c.args.map.now.regions (byte_in (g.C.MemoryCell.bytes c.args.host.now)))
     (sym (post-held c.args.dw0 c.args.cid c.args.status found c.if-is_full.true))
 
 pub next-requires : goal.next-requires
-next-requires c =
+next-requires g c =
     completion-fits c.args.map.now c.args.self.now c.from-completes_to.result c.in-Some-completion_queue.to c.host_len-known.ensures.sound
     c.requires.in_place (sym c.completion_queue.ensures ∙ c.in-Some-completion_queue.is)
 
 pub store-requires-clause-mapped : goal.store-requires-clause-mapped
-store-requires-clause-mapped c =
+store-requires-clause-mapped g c =
     let cq = c.in-Some-completion_queue.to in
     let len : length c.bytes.result ≡ cqe_size =
     ap (λ (e : List ℕ). length e) (c.bytes.ensures ∙ c.new-cqe.ensures.bytes)
@@ -64,13 +64,13 @@ store-requires-clause-mapped c =
     (sym c.completion_queue.ensures ∙ c.in-Some-completion_queue.is)
 
 pub bounds-self-inside-completes_to : goal.bounds-self-inside-completes_to
-bounds-self-inside-completes_to c =
+bounds-self-inside-completes_to g c =
     completion-below c.args.self.now c.from-completes_to.result c.in-Some-completion_queue.to
     (subst IsWhole c.self.view_is c.self.invariant)
     (sym c.completion_queue.ensures ∙ c.in-Some-completion_queue.is)
 
 pub listed : goal.listed
-listed c =
+listed g c =
     let below = completion-below c.args.self.now c.from-completes_to.result c.in-Some-completion_queue.to
     (subst IsWhole c.self.view_is c.self.invariant)
     (sym c.completion_queue.ensures ∙ c.in-Some-completion_queue.is) in
@@ -78,7 +78,7 @@ listed c =
     omega arith
 
 pub invariant_of-self : goal.invariant_of-self
-invariant_of-self c =
+invariant_of-self g c =
     let n = c.args.self.now in
     let found : AreFound n c.args.queue c.from-completes_to.result c.in-Some.from c.in-Some-completion_queue.to c.is_full.result = record {
       from = ap (submission_queue n) (sym c.from-number.ensures) ∙ sym c.submission_queue.ensures ∙ c.in-Some.is;
@@ -95,7 +95,7 @@ invariant_of-self c =
     (subst IsWhole c.self.view_is c.self.invariant))
 
 pub returns-clause-posted : goal.returns-clause-posted
-returns-clause-posted c =
+returns-clause-posted g c =
     let n = c.args.self.now in
     let found : AreFound n c.args.queue c.from-completes_to.result c.in-Some.from c.in-Some-completion_queue.to c.is_full.result = record {
       from = ap (submission_queue n) (sym c.from-number.ensures) ∙ sym c.submission_queue.ensures ∙ c.in-Some.is;
@@ -107,7 +107,7 @@ returns-clause-posted c =
     (sym (post-done c.args.dw0 c.args.cid c.args.status found c.if-is_full.false))
 
 pub returns-clause-state : goal.returns-clause-state
-returns-clause-state c =
+returns-clause-state g c =
     let n = c.args.self.now in
     let found : AreFound n c.args.queue c.from-completes_to.result c.in-Some.from c.in-Some-completion_queue.to c.is_full.result = record {
       from = ap (submission_queue n) (sym c.from-number.ensures) ∙ sym c.submission_queue.ensures ∙ c.in-Some.is;
@@ -121,7 +121,7 @@ returns-clause-state c =
     (sym (post-done c.args.dw0 c.args.cid c.args.status found c.if-is_full.false))
 
 pub returns-clause-host : goal.returns-clause-host
-returns-clause-host c =
+returns-clause-host g c =
     let n = c.args.self.now in
     let found : AreFound n c.args.queue c.from-completes_to.result c.in-Some.from c.in-Some-completion_queue.to c.is_full.result = record {
       from = ap (submission_queue n) (sym c.from-number.ensures) ∙ sym c.submission_queue.ensures ∙ c.in-Some.is;
@@ -129,15 +129,15 @@ returns-clause-host c =
       there = sym c.completion_queue.ensures ∙ c.in-Some-completion_queue.is;
       room = c.is_full.ensures;
     } in
-    host-posted c.args.map.now.regions (byte_in c.args.host.now) (byte_in c.store.new.host) n
+    host-posted c.args.map.now.regions (byte_in (g.C.MemoryCell.bytes c.args.host.now)) (byte_in (g.C.MemoryCell.bytes c.store.new.host)) n
     c.in-Some.from c.in-Some-completion_queue.to c.args.queue
     c.args.dw0 c.args.cid c.head.result c.next.result c.phase.result c.args.status
     c.bytes.result c.new-cqe.result c.store.ensures.bytes c.next.ensures
     c.bytes.ensures c.new-cqe.ensures.bytes c.head.ensures.value c.phase.ensures
-    ∙ ap (host_behind c.args.map.now.regions (byte_in c.args.host.now))
+    ∙ ap (host_behind c.args.map.now.regions (byte_in (g.C.MemoryCell.bytes c.args.host.now)))
     (sym (post-done c.args.dw0 c.args.cid c.args.status found c.if-is_full.false))
 
 pub returns-clause-in_place : goal.returns-clause-in_place
-returns-clause-in_place c =
-    subst (QueuesInPlace (mapped c.args.map.now.regions)) (sym (returns-clause-state c))
+returns-clause-in_place g c =
+    subst (QueuesInPlace (mapped c.args.map.now.regions)) (sym (returns-clause-state g c))
     (in_place-post (mapped c.args.map.now.regions) c.args.self.now c.args.queue c.args.dw0 c.args.cid c.args.status c.requires.in_place)
