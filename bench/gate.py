@@ -99,9 +99,15 @@ def table(rows):
     return lines
 
 
+def command():
+    """`rt ci` with the words given. Some kits prove everything anew at each run, and know no `--anew`."""
+    usage = subprocess.run(["rt", "help"], stderr=subprocess.STDOUT, stdout=subprocess.PIPE, text=True, check=False).stdout
+    return ["rt", "ci", *(word for word in sys.argv[1:] if word != "--anew" or "--anew" in usage)]
+
+
 def main():
     begun = time.time()
-    gate = subprocess.Popen(["rt", "ci", *sys.argv[1:]], cwd=ROOT, stdout=subprocess.PIPE, text=True, errors="replace")
+    gate = subprocess.Popen(command(), cwd=ROOT, stdout=subprocess.PIPE, text=True, errors="replace")
     said = []
     reader = threading.Thread(target=pass_on, args=(gate.stdout, said))
     reader.start()

@@ -15,7 +15,7 @@ use nv_mem::{GuestMap, MemoryCell, Piece, len_of};
 /// - that the map was made for a host of this length ([`GuestMap::host_len`] returns it),
 /// - that the places' addresses are mapped ([`crate::are_mapped`] tests it), and that no place is a bucket ([`crate::name_no_bucket`]), as for
 ///   every source,
-/// - that as many bytes from `slot` on as the places name ([`crate::total_len`]) are in the host ([`Host::holds`]), and that the map has none of
+/// - that as many bytes from `slot` on as the places name ([`crate::total_len`]) are in the host ([`MemoryCell::len`]), and that the map has none of
 ///   them ([`GuestMap::meets_host`]).
 pub fn gather<C: MemoryCell>(places: &[Piece], map: &GuestMap, host: &mut [C], slot: u64)
     requires host { map.now.host_len ≡ length (C.bytes host.old) }

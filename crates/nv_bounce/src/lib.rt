@@ -12,8 +12,8 @@
 //! gathered can be scattered back.
 //!
 //! A caller tests the conditions of a copy by [`nv_mem::GuestMap::host_len`], [`are_mapped`], [`name_no_bucket`], [`total_len`],
-//! [`nv_mem::Host::holds`] and [`nv_mem::GuestMap::meets_host`]. Bytes move in whole runs that are contiguous in the host, and nothing
-//! here takes memory.
+//! [`nv_mem::MemoryCell::len`] and [`nv_mem::GuestMap::meets_host`]. Bytes move in whole runs that are contiguous in the host, and nothing
+//! here takes memory. The host's memory is lent to each call as a slice of cells, so that it may be a [`nv_mem::Host`] or somebody else's.
 //!
 //! A contract says what all bytes of the host are after a copy, as one function. What becomes of the guest's memory, of the slot and of other bytes
 //! follows from that. A copy of a list of places is the copy of its first part and then of the rest. So one form of loop invariant serves both

@@ -15,7 +15,7 @@ use nv_mem::{GuestMap, MemoryCell, Piece, len_of};
 /// `slot` is the host address of the slot's first byte. The caller knows
 /// - that the map was made for a host of this length ([`GuestMap::host_len`] returns it),
 /// - that the places' addresses are mapped ([`crate::are_mapped`] tests it),
-/// - that as many bytes from `slot` on as the places name ([`crate::total_len`]) are in the host ([`Host::holds`]), and that the map has none of
+/// - that as many bytes from `slot` on as the places name ([`crate::total_len`]) are in the host ([`MemoryCell::len`]), and that the map has none of
 ///   them ([`GuestMap::meets_host`]).
 pub fn scatter<C: MemoryCell>(slot: u64, places: &[Piece], map: &GuestMap, host: &mut [C])
     requires host { map.now.host_len ≡ length (C.bytes host.old) }

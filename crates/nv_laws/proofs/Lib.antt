@@ -1,5 +1,4 @@
 pub mod shares
-pub mod phases
 pub mod others
 pub mod related
 pub mod units

@@ -1,5 +1,4 @@
 pub mod ByEntry
-pub mod Phased
 pub mod Leaving
 pub mod Alike
 pub mod Unfitting

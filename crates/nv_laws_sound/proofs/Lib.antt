@@ -46,3 +46,4 @@ pub mod CountedEvents
 pub mod CountedSteps
 pub mod CountedRuns
 pub mod GroupShares
+pub mod phases

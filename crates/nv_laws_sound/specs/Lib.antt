@@ -3,3 +3,4 @@ pub mod Area
 pub mod Groups
 pub mod Consistent
 pub mod Counted
+pub mod Phased

@@ -2,5 +2,6 @@
 pub mod counting;
 pub mod grouping;
 pub mod keeping;
+pub mod phases;
 pub mod rings;
 pub mod setting_up;

@@ -1,6 +1,7 @@
 //! Where a guest's bytes are in the memory of the host.
 //!
 //! - [`Host`] is the host's memory: bytes from address 0 on, read and written in ranges.
+//! - [`MemoryCell`] is what a memory is made of that is lent to a call: bytes in a row, or one [`Host`].
 //! - [`GuestMap`] is a guest's memory map: [`Region`]s of whole pages, disjoint in guest and in host addresses and inside the host. It means a
 //!   finite function from guest to host addresses.
 //! - [`Places`] is where the bytes of a transfer are in a guest's memory, as the guest's list named them: [`Piece`]s, which are runs of addresses

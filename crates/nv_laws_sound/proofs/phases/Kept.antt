@@ -10,7 +10,7 @@ use Rattle.nv_world_model.specs.World.{Ended, Flying, Free, Lane, Standing, Tag,
 use Rattle.nv_laws_sound.specs.Area.{SameBetween, SameInLane}
 use Rattle.nv_laws_sound.proofs.Lists.{IsThere, Put, Was, set-there, slice_get-below}
 use Rattle.nv_laws_sound.proofs.Shows.{bytes_from-between, same-part}
-use Rattle.nv_laws.specs.Phased.{ArePhased, IsPhased, phase_at}
+use Rattle.nv_laws_sound.specs.Phased.{ArePhased, IsPhased, phase_at}
 
 -- ---- the bytes of a ring
 

@@ -7,9 +7,9 @@ use Rattle.nv_laws_sound.specs.LaidOut.{IsLaidOut}
 use Rattle.nv_laws_sound.proofs.LaidOuts.{laid-out}
 use Rattle.nv_laws_sound.proofs.Openings.{opening-consistent}
 use Rattle.nv_laws_sound.proofs.Steps.{replay-consistent}
-use Rattle.nv_laws.proofs.phases.Rounds.{slot-tells}
-use Rattle.nv_laws.proofs.phases.Steps.{opening-phased, replay-phased}
-use Rattle.nv_laws.proofs.laws.phases.a_phase_tag_tells_what_is_to_be_reaped.Goals as goal
+use Rattle.nv_laws_sound.proofs.phases.Rounds.{slot-tells}
+use Rattle.nv_laws_sound.proofs.phases.Steps.{opening-phased, replay-phased}
+use Rattle.nv_laws_sound.proofs.laws.phases.a_phase_tag_tells_what_is_to_be_reaped.Goals as goal
 
 pub returns : goal.returns
 unfolding opening_world

@@ -24,11 +24,11 @@ use Rattle.nv_laws_sound.proofs.AnswerEvents.{written-elsewhere}
 use Rattle.nv_laws_sound.proofs.Lists.{IsThere, Put, Was, count-fewer, set-there, slice_get-below, slice_get-there, some-same}
 use Rattle.nv_laws_sound.proofs.MoveEvents.{held-flies}
 use Rattle.nv_laws_sound.proofs.Rings.{far}
-use Rattle.nv_laws.specs.Phased.{ArePhased, IsPhased}
-use Rattle.nv_laws.proofs.phases.Events.{memory-phased, posted-below}
-use Rattle.nv_laws.proofs.phases.Kept.{phased-ring, phased-standing, phased-tag, phased-tags, ring-of-lane}
-use Rattle.nv_laws.proofs.phases.Posts.{slot-posted}
-use Rattle.nv_laws.proofs.phases.Rounds.{wanted-read}
+use Rattle.nv_laws_sound.specs.Phased.{ArePhased, IsPhased}
+use Rattle.nv_laws_sound.proofs.phases.Events.{memory-phased, posted-below}
+use Rattle.nv_laws_sound.proofs.phases.Kept.{phased-ring, phased-standing, phased-tag, phased-tags, ring-of-lane}
+use Rattle.nv_laws_sound.proofs.phases.Posts.{slot-posted}
+use Rattle.nv_laws_sound.proofs.phases.Rounds.{wanted-read}
 
 module _ (host_bytes : ℕ) (geometry : Geometry) (w : World) (laid : IsLaidOut host_bytes (length w.lanes) geometry) (is : IsConsistent geometry w)
     (are : ArePhased geometry w) where

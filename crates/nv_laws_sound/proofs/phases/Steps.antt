@@ -31,10 +31,10 @@ use Rattle.nv_laws_sound.proofs.Lists.{slice_get-replicate}
 use Rattle.nv_laws_sound.proofs.ManyLanes.{lanes-kept}
 use Rattle.nv_laws_sound.proofs.Steps.{step-consistent}
 use Rattle.nv_laws_sound.proofs.Walks.{device-walk, either, ended-walk, guest-walk, held-walk, lane-walk, owner-walk, taken-walk}
-use Rattle.nv_laws.specs.Phased.{ArePhased, IsPhased}
-use Rattle.nv_laws.proofs.phases.Ends.{answered-phased, left-phased, post-phased, reaped-phased}
-use Rattle.nv_laws.proofs.phases.Events.{act-phased, admin-phased, ended-phased, front-phased, kept-phased, listed-phased, moved-phased, took-phased}
-use Rattle.nv_laws.proofs.phases.Handed.{submit-phased}
+use Rattle.nv_laws_sound.specs.Phased.{ArePhased, IsPhased}
+use Rattle.nv_laws_sound.proofs.phases.Ends.{answered-phased, left-phased, post-phased, reaped-phased}
+use Rattle.nv_laws_sound.proofs.phases.Events.{act-phased, admin-phased, ended-phased, front-phased, kept-phased, listed-phased, moved-phased, took-phased}
+use Rattle.nv_laws_sound.proofs.phases.Handed.{submit-phased}
 
 -- ---- an event
 

@@ -5,8 +5,8 @@ use Rattle.nv_world_model.specs.World.{opening_lane, opening_world}
 use Rattle.nv_laws_sound.specs.LaidOut.{IsLaidOut}
 use Rattle.nv_laws_sound.proofs.LaidOuts.{laid-out}
 use Rattle.nv_laws_sound.proofs.Openings.{opening-consistent}
-use Rattle.nv_laws.proofs.phases.Steps.{opening-phased, replay-phased, step-phased}
-use Rattle.nv_laws.proofs.laws.phases.slots_have_their_passes_phase_tag.Goals as goal
+use Rattle.nv_laws_sound.proofs.phases.Steps.{opening-phased, replay-phased, step-phased}
+use Rattle.nv_laws_sound.proofs.laws.phases.slots_have_their_passes_phase_tag.Goals as goal
 
 pub returns-clause-start : goal.returns-clause-start
 returns-clause-start c = λ s. opening-phased s.geometry s.lanes

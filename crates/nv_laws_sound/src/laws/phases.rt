@@ -6,7 +6,7 @@ ghost use Rattle.std.specs.Prelude.{◌≡◌, ◌==◌, ℕ, not, List, Some, N
 ghost use Rattle.nv_entry.specs.Status.{bit};
 ghost use Rattle.nv_mem.specs.GuestMap.{IsSound};
 ghost use Rattle.nv_model.specs.Queue.{is_empty};
-ghost use Rattle.nv_laws.specs.Phased.{ArePhased, phase_at};
+ghost use Rattle.nv_laws_sound.specs.Phased.{ArePhased, phase_at};
 ghost use Rattle.nv_laws_sound.specs.Consistent.{IsConsistent};
 ghost use Rattle.nv_laws_sound.specs.LaidOut.{IsLaidOut};
 ghost use Rattle.nv_world_model.specs.Device.{DeviceLane};

@@ -24,8 +24,8 @@ use Rattle.nv_laws_sound.specs.LaidOut.{IsLaidOut}
 use Rattle.nv_laws_sound.proofs.Changes.{put_image-area}
 use Rattle.nv_laws_sound.proofs.Lists.{slice_get-below, slice_get-there}
 use Rattle.nv_laws_sound.proofs.MoveEvents.{area-same, held-flies, moved-elsewhere}
-use Rattle.nv_laws.specs.Phased.{ArePhased}
-use Rattle.nv_laws.proofs.phases.Kept.{SameRing, phased-device, phased-host, phased-standing, phased-tag, phased-tags, ring-of-lane}
+use Rattle.nv_laws_sound.specs.Phased.{ArePhased}
+use Rattle.nv_laws_sound.proofs.phases.Kept.{SameRing, phased-device, phased-host, phased-standing, phased-tag, phased-tags, ring-of-lane}
 
 -- the slot that is written next is one of the ring
 pub posted-below : (geometry : Geometry) (w : World) → IsConsistent geometry w → (lane : ℕ) (d : DeviceLane) → slice_get w.device lane ≡ Some d → d.posted < ring_size

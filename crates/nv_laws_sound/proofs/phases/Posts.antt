@@ -13,9 +13,9 @@ use Rattle.nv_world_model.specs.Device.{DeviceLane, next_phase}
 use Rattle.nv_world_model.specs.Geometry.{Geometry}
 use Rattle.nv_laws_sound.proofs.AnswerEvents.{written-same}
 use Rattle.nv_laws_sound.proofs.Rings.{far}
-use Rattle.nv_laws.specs.Phased.{IsPhased, phase_at}
-use Rattle.nv_laws.proofs.phases.Kept.{phase-same}
-use Rattle.nv_laws.proofs.phases.Rounds.{completion-phase, next-last, next-within, not-not, wanted-posted}
+use Rattle.nv_laws_sound.specs.Phased.{IsPhased, phase_at}
+use Rattle.nv_laws_sound.proofs.phases.Kept.{phase-same}
+use Rattle.nv_laws_sound.proofs.phases.Rounds.{completion-phase, next-last, next-within, not-not, wanted-posted}
 
 module _ (geometry : Geometry) (lanes lane : ℕ) (host : ℕ → ℕ) (d : DeviceLane) (slot : ℕ) (st : StatusField) (below : lane < lanes)
     (posted_below : d.posted < ring_size) (small : slot < 2 ^ 16) where

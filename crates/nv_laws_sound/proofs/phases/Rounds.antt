@@ -11,7 +11,7 @@ use Rattle.nv_world_model.specs.Area.{ring_size}
 use Rattle.nv_world_model.specs.Device.{next_phase}
 use Rattle.nv_world_model.specs.Geometry.{Geometry}
 use Rattle.nv_laws_sound.proofs.Rings.{far}
-use Rattle.nv_laws.specs.Phased.{IsPhased, phase_at, wanted_at}
+use Rattle.nv_laws_sound.specs.Phased.{IsPhased, phase_at, wanted_at}
 
 -- the phase tag of a completion is read back, whatever its status
 pub completion-phase : (dw0 sqhd sqid cid : ℕ) (phase : Bool) (st : StatusField) → cid < 2 ^ 16

@@ -25,9 +25,9 @@ use Rattle.nv_laws_sound.proofs.Planned.{Answers, IsAnswerOr, IsWhole, Plans, pl
 use Rattle.nv_laws_sound.proofs.Retags.{is-at}
 use Rattle.nv_laws_sound.proofs.Rings.{next-below}
 use Rattle.nv_laws_sound.proofs.SubmitEvents.{entered-elsewhere, entered-same}
-use Rattle.nv_laws.specs.Phased.{ArePhased}
-use Rattle.nv_laws.proofs.phases.Events.{ended-phased}
-use Rattle.nv_laws.proofs.phases.Kept.{SameRing, changed-one, phased-device, phased-host, phased-tag, ring-of-lane}
+use Rattle.nv_laws_sound.specs.Phased.{ArePhased}
+use Rattle.nv_laws_sound.proofs.phases.Events.{ended-phased}
+use Rattle.nv_laws_sound.proofs.phases.Kept.{SameRing, changed-one, phased-device, phased-host, phased-tag, ring-of-lane}
 
 -- the device's places are slots of its rings
 record AreSlots (d : DeviceLane) : Type 0 where
