@@ -2,15 +2,15 @@
 use Rattle.std.proofs.Common.{◌≡◌, ℕ, ◌+◌, ◌<◌, ◌≤◌, List, [], ◌∷◌, drop, get_or, length, set, slice_get, Some, arith, refl, sym, ap, ◌∙◌, add-one, drop-cons}
 use Rattle.std.proofs.lemmas.List.{drop_all}
 use Rattle.std.proofs.lemmas.Option.{get_or_from_slice_get, slice_get-get_or, slice_get_within}
-use Rattle.nv_core.specs.Submit.{HaveRoom, host_carried, host_handed, lane_carried, lane_handed}
+use Rattle.nv_core.specs.Submit.{HaveRoom, host_carried, host_handed, slot_after, tail_handed}
 use Rattle.nv_device.specs.Physical.{lane_of, no_lane, with_lane}
 use Rattle.nv_device.specs.State.{Physical}
-use Rattle.nv_laws_sound.proofs.Lists.{length-set, set-same, set-set, some-same}
+use Rattle.nv_laws_sound.proofs.Lists.{set-same, some-same}
 use Rattle.nv_model.specs.Memory.{byte_in}
+use Rattle.nv_world_model.specs.Area.{ring_size}
 use Rattle.nv_world_model.specs.Device.{DeviceLane}
 use Rattle.nv_world_model.specs.Geometry.{Guest}
 use Rattle.nv_world_model.specs.Share.{Share}
-use Rattle.nv_world_model.proofs.Seats.{slice_get-set}
 
 -- ---- the device
 
@@ -23,24 +23,16 @@ module _ (lane : ℕ) (p : Physical) (below : lane < length p.lanes) where
   pub lane-same : with_lane lane (lane_of p lane) p ≡ p
   lane-same = ap (λ (ls : List DeviceLane). let q : Physical = record p { lanes = ls } in q) (set-same p.lanes lane (lane_of p lane) lane-there)
 
-  -- it is the one that was put there
-  pub lane-put : (d : DeviceLane) → lane_of (with_lane lane d p) lane ≡ d
-  lane-put d = get_or_from_slice_get (set p.lanes lane d) lane d no_lane (slice_get-set p.lanes lane (lane_of p lane) d lane-there)
-
--- the last that is put there stays
-pub lane-twice : (lane : ℕ) (p : Physical) (d e : DeviceLane) → with_lane lane e (with_lane lane d p) ≡ with_lane lane e p
-lane-twice lane p d e = ap (λ (ls : List DeviceLane). let q : Physical = record p { lanes = ls } in q) (set-set p.lanes lane d e)
-
 -- ---- no share
 
-pub host-nil : (tags : List ℕ) (guest : Guest) (entry : List ℕ) (mediator lane : ℕ) (d : DeviceLane) (host : ℕ → ℕ)
-    → host_handed tags [] guest entry mediator lane d host ≡ host
-host-nil [] guest entry mediator lane d host = refl
-host-nil (tag ∷ tags) guest entry mediator lane d host = refl
+pub host-nil : (tags : List ℕ) (guest : Guest) (entry : List ℕ) (mediator lane at : ℕ) (host : ℕ → ℕ)
+    → host_handed tags [] guest entry mediator lane at host ≡ host
+host-nil [] guest entry mediator lane at host = refl
+host-nil (tag ∷ tags) guest entry mediator lane at host = refl
 
-pub lane-nil : (tags : List ℕ) (d : DeviceLane) → lane_handed tags [] d ≡ d
-lane-nil [] d = refl
-lane-nil (tag ∷ tags) d = refl
+pub tail-nil : (tags : List ℕ) (at : ℕ) → tail_handed tags [] at ≡ at
+tail-nil [] at = refl
+tail-nil (tag ∷ tags) at = refl
 
 -- ---- one share
 
@@ -51,17 +43,17 @@ one-is (first ∷ next ∷ more) share many at = absurd (omega (arith, many))
 
 module _ (tags others : List ℕ) (tag : ℕ) (shares : List Share) (share : Share) (first : tags ≡ tag ∷ others) (many : length shares ≡ 1)
     (at : slice_get shares 0 ≡ Some share) where
-  pub one-host : (guest : Guest) (entry : List ℕ) (mediator lane : ℕ) (d : DeviceLane) (host : ℕ → ℕ)
-      → host_carried share guest entry mediator lane tag d.tail host ≡ host_handed tags shares guest entry mediator lane d host
-  one-host guest entry mediator lane d host =
-      sym (ap (λ (ts : List ℕ). host_handed ts shares guest entry mediator lane d host) first
-      ∙ ap (λ (ss : List Share). host_handed (tag ∷ others) ss guest entry mediator lane d host) (one-is shares share many at)
-      ∙ host-nil others guest entry mediator lane (lane_carried share d) (host_carried share guest entry mediator lane tag d.tail host))
+  pub one-host : (guest : Guest) (entry : List ℕ) (mediator lane slot : ℕ) (host : ℕ → ℕ)
+      → host_carried share guest entry mediator lane tag slot host ≡ host_handed tags shares guest entry mediator lane slot host
+  one-host guest entry mediator lane slot host =
+      sym (ap (λ (ts : List ℕ). host_handed ts shares guest entry mediator lane slot host) first
+      ∙ ap (λ (ss : List Share). host_handed (tag ∷ others) ss guest entry mediator lane slot host) (one-is shares share many at)
+      ∙ host-nil others guest entry mediator lane (slot_after share slot) (host_carried share guest entry mediator lane tag slot host))
 
-  pub one-lane : (d : DeviceLane) → lane_carried share d ≡ lane_handed tags shares d
-  one-lane d =
-      sym (ap (λ (ts : List ℕ). lane_handed ts shares d) first
-      ∙ ap (λ (ss : List Share). lane_handed (tag ∷ others) ss d) (one-is shares share many at) ∙ lane-nil others (lane_carried share d))
+  pub one-tail : (slot : ℕ) → slot_after share slot ≡ tail_handed tags shares slot
+  one-tail slot =
+      sym (ap (λ (ts : List ℕ). tail_handed ts shares slot) first
+      ∙ ap (λ (ss : List Share). tail_handed (tag ∷ others) ss slot) (one-is shares share many at) ∙ tail-nil others (slot_after share slot))
 
 -- ---- one after the other
 
@@ -79,15 +71,15 @@ room-kept mediator lane guest host new sized room tag below =
     }
 
 -- what the loop over the parts keeps: the rest in the tags that are left is all in all tags
-pub record IsAtPart (all : List ℕ) (shares : List Share) (guest : Guest) (entry : List ℕ) (mediator lane : ℕ) (host_old : List ℕ) (p_old : Physical)
-    (tags : List ℕ) (host : List ℕ) (p : Physical) (i : ℕ) : Type 0 where
-  pub moved : host_handed tags (drop i shares) guest entry mediator lane (lane_of p lane) (byte_in host)
-      ≡ host_handed all shares guest entry mediator lane (lane_of p_old lane) (byte_in host_old)
-  pub rings : with_lane lane (lane_handed tags (drop i shares) (lane_of p lane)) p ≡ with_lane lane (lane_handed all shares (lane_of p_old lane)) p_old
+pub record IsAtPart (all : List ℕ) (shares : List Share) (guest : Guest) (entry : List ℕ) (mediator lane : ℕ) (host_old : List ℕ) (at_old : ℕ)
+    (tags : List ℕ) (host : List ℕ) (at : ℕ) (i : ℕ) : Type 0 where
+  pub moved : host_handed tags (drop i shares) guest entry mediator lane at (byte_in host)
+      ≡ host_handed all shares guest entry mediator lane at_old (byte_in host_old)
+  pub rings : tail_handed tags (drop i shares) at ≡ tail_handed all shares at_old
   pub sized : length host ≡ length host_old
-  pub there : lane < length p.lanes
+  pub fits : at < ring_size
 
-module _ (all : List ℕ) (shares : List Share) (guest : Guest) (entry : List ℕ) (mediator lane : ℕ) (host_old : List ℕ) (p_old : Physical) where
+module _ (all : List ℕ) (shares : List Share) (guest : Guest) (entry : List ℕ) (mediator lane : ℕ) (host_old : List ℕ) (at_old : ℕ) where
   share-here : (i : ℕ) (share : Share) → slice_get shares i ≡ Some share → drop i shares ≡ share ∷ drop (i + 1) shares
   share-here i share at =
       let below = slice_get_within shares i share at in
@@ -96,54 +88,36 @@ module _ (all : List ℕ) (shares : List Share) (guest : Guest) (entry : List �
       cut ∙ ap (λ (s : Share). s ∷ drop (i + 1) shares) is
 
   -- one more part
-  pub part-next : (tags rest : List ℕ) (tag : ℕ) (host new : List ℕ) (p p_new : Physical) (i : ℕ) (share : Share)
-      → IsAtPart all shares guest entry mediator lane host_old p_old tags host p i → tags ≡ tag ∷ rest → slice_get shares i ≡ Some share
-      → byte_in new ≡ host_carried share guest entry mediator lane tag (lane_of p lane).tail (byte_in host)
-      → p_new ≡ with_lane lane (lane_carried share (lane_of p lane)) p → length new ≡ length host
-      → IsAtPart all shares guest entry mediator lane host_old p_old rest new p_new (i + 1)
-  part-next tags rest tag host new p p_new i share so_far first at bytes rung long =
-      let d : DeviceLane = lane_of p lane in
+  pub part-next : (tags rest : List ℕ) (tag : ℕ) (host new : List ℕ) (at at_new : ℕ) (i : ℕ) (share : Share)
+      → IsAtPart all shares guest entry mediator lane host_old at_old tags host at i → tags ≡ tag ∷ rest → slice_get shares i ≡ Some share
+      → byte_in new ≡ host_carried share guest entry mediator lane tag at (byte_in host)
+      → at_new ≡ slot_after share at → length new ≡ length host → at_new < ring_size
+      → IsAtPart all shares guest entry mediator lane host_old at_old rest new at_new (i + 1)
+  part-next tags rest tag host new at at_new i share so_far first there bytes next long below =
       let left : List Share = drop (i + 1) shares in
-      let now : lane_of p_new lane ≡ lane_carried share d =
-      ap (λ (q : Physical). lane_of q lane) rung ∙ lane-put lane p so_far.there (lane_carried share d) in
       record {
         moved =
-            ap (λ (e : DeviceLane). host_handed rest left guest entry mediator lane e (byte_in new)) now
-            ∙ ap (host_handed rest left guest entry mediator lane (lane_carried share d)) bytes
-            ∙ ap (λ (ss : List Share). host_handed (tag ∷ rest) ss guest entry mediator lane d (byte_in host)) (sym (share-here i share at))
-            ∙ ap (λ (ts : List ℕ). host_handed ts (drop i shares) guest entry mediator lane d (byte_in host)) (sym first)
+            ap (λ (n : ℕ). host_handed rest left guest entry mediator lane n (byte_in new)) next
+            ∙ ap (host_handed rest left guest entry mediator lane (slot_after share at)) bytes
+            ∙ ap (λ (ss : List Share). host_handed (tag ∷ rest) ss guest entry mediator lane at (byte_in host)) (sym (share-here i share there))
+            ∙ ap (λ (ts : List ℕ). host_handed ts (drop i shares) guest entry mediator lane at (byte_in host)) (sym first)
             ∙ so_far.moved;
         rings =
-            ap (λ (e : DeviceLane). with_lane lane (lane_handed rest left e) p_new) now
-            ∙ ap (with_lane lane (lane_handed rest left (lane_carried share d))) rung
-            ∙ lane-twice lane p (lane_carried share d) (lane_handed rest left (lane_carried share d))
-            ∙ ap (λ (ss : List Share). with_lane lane (lane_handed (tag ∷ rest) ss d) p) (sym (share-here i share at))
-            ∙ ap (λ (ts : List ℕ). with_lane lane (lane_handed ts (drop i shares) d) p) (sym first)
+            ap (tail_handed rest left) next
+            ∙ ap (λ (ss : List Share). tail_handed (tag ∷ rest) ss at) (sym (share-here i share there))
+            ∙ ap (λ (ts : List ℕ). tail_handed ts (drop i shares) at) (sym first)
             ∙ so_far.rings;
         sized = long ∙ so_far.sized;
-        there =
-            (let same : length p_new.lanes ≡ length p.lanes = ap (λ (q : Physical). length q.lanes) rung ∙ length-set p.lanes lane (lane_carried share d) in
-            let was = so_far.there in omega (arith, same, was));
+        fits = below;
       }
 
-  module _ (tags : List ℕ) (host : List ℕ) (p : Physical) (i : ℕ) (so_far : IsAtPart all shares guest entry mediator lane host_old p_old tags host p i) where
-    -- no tag is left
-    pub host-done : tags ≡ [] → byte_in host ≡ host_handed all shares guest entry mediator lane (lane_of p_old lane) (byte_in host_old)
-    host-done none =
-        sym (ap (λ (ts : List ℕ). host_handed ts (drop i shares) guest entry mediator lane (lane_of p lane) (byte_in host)) none) ∙ so_far.moved
-
-    pub lane-done : tags ≡ [] → p ≡ with_lane lane (lane_handed all shares (lane_of p_old lane)) p_old
-    lane-done none =
-        sym (lane-same lane p so_far.there)
-        ∙ sym (ap (λ (ts : List ℕ). with_lane lane (lane_handed ts (drop i shares) (lane_of p lane)) p) none) ∙ so_far.rings
-
+  module _ (tags : List ℕ) (host : List ℕ) (at : ℕ) (i : ℕ) (so_far : IsAtPart all shares guest entry mediator lane host_old at_old tags host at i) where
     -- no part is left
-    pub host-end : length shares ≤ i → byte_in host ≡ host_handed all shares guest entry mediator lane (lane_of p_old lane) (byte_in host_old)
+    pub host-end : length shares ≤ i → byte_in host ≡ host_handed all shares guest entry mediator lane at_old (byte_in host_old)
     host-end past =
-        sym (ap (λ (ss : List Share). host_handed tags ss guest entry mediator lane (lane_of p lane) (byte_in host)) (drop_all i shares past)
-        ∙ host-nil tags guest entry mediator lane (lane_of p lane) (byte_in host)) ∙ so_far.moved
+        sym (ap (λ (ss : List Share). host_handed tags ss guest entry mediator lane at (byte_in host)) (drop_all i shares past)
+        ∙ host-nil tags guest entry mediator lane at (byte_in host)) ∙ so_far.moved
 
-    pub lane-end : length shares ≤ i → p ≡ with_lane lane (lane_handed all shares (lane_of p_old lane)) p_old
-    lane-end past =
-        sym (ap (λ (ss : List Share). with_lane lane (lane_handed tags ss (lane_of p lane)) p) (drop_all i shares past)
-        ∙ ap (λ (e : DeviceLane). with_lane lane e p) (lane-nil tags (lane_of p lane)) ∙ lane-same lane p so_far.there) ∙ so_far.rings
+    pub tail-end : length shares ≤ i → at ≡ tail_handed all shares at_old
+    tail-end past =
+        sym (ap (λ (ss : List Share). tail_handed tags ss at) (drop_all i shares past) ∙ tail-nil tags at) ∙ so_far.rings

@@ -3,9 +3,7 @@ use Rattle.std.proofs.Common.{◌≡◌, ℕ, ◌<◌, ◌⊎◌, inl, inr, List
 use Rattle.nv_core.proofs.MadeParts.{made-whole, whole-of}
 use Rattle.nv_core.proofs.Waits.{moved-group}
 use Rattle.nv_core.specs.Groups.{all_handed, tags_changed}
-use Rattle.nv_core.specs.Submit.{IsCarriedOut, IsGoing, IsJobOf, WaitsForPlan, host_behind, host_handed, lane_behind, lane_handed, tags_behind}
-use Rattle.nv_device.specs.Physical.{lane_of}
-use Rattle.nv_device.specs.State.{Physical}
+use Rattle.nv_core.specs.Submit.{IsCarriedOut, IsGoing, IsJobOf, WaitsForPlan, host_behind, host_handed, tags_behind, tail_behind, tail_handed}
 use Rattle.nv_entry.specs.StatusCode.{done_with}
 use Rattle.nv_entry.specs.declared.status.Status.{Status}
 use Rattle.nv_entry.specs.declared.status_code.StatusCode.TheVariants.{Success}
@@ -19,7 +17,6 @@ use Rattle.nv_plan.specs.Outline.{kind_of}
 use Rattle.nv_plan.specs.declared.job.Job.{Job}
 use Rattle.nv_plan.specs.declared.kind.PlanKind.TheVariants as kind
 use Rattle.nv_world_model.specs.Area.{ring_size}
-use Rattle.nv_world_model.specs.Device.{DeviceLane}
 use Rattle.nv_world_model.specs.Geometry.{Guest}
 use Rattle.nv_world_model.specs.Plan.{Answer, Bounced, Direct, NoData, Plan, plan_over}
 use Rattle.nv_world_model.specs.Share.{Share, shares_of, tags_of_entry}
@@ -44,19 +41,19 @@ kind-goes (Bounced work) e = tt
 
 -- ---- behind a plan that goes
 
-pub going-host : (plan : Plan) (tags : List ℕ) (guest : Guest) (entry : List ℕ) (mediator lane : ℕ) (d : DeviceLane) (host : ℕ → ℕ) → IsGoing plan
-    → host_handed tags (shares_of guest.namespace entry plan) guest entry mediator lane d host ≡ host_behind plan tags guest entry mediator lane d host
-going-host (Answer st) tags guest entry mediator lane d host goes = absurd goes
-going-host (NoData work) tags guest entry mediator lane d host goes = refl
-going-host (Direct work) tags guest entry mediator lane d host goes = refl
-going-host (Bounced work) tags guest entry mediator lane d host goes = refl
+pub going-host : (plan : Plan) (tags : List ℕ) (guest : Guest) (entry : List ℕ) (mediator lane at : ℕ) (host : ℕ → ℕ) → IsGoing plan
+    → host_handed tags (shares_of guest.namespace entry plan) guest entry mediator lane at host ≡ host_behind plan tags guest entry mediator lane at host
+going-host (Answer st) tags guest entry mediator lane at host goes = absurd goes
+going-host (NoData work) tags guest entry mediator lane at host goes = refl
+going-host (Direct work) tags guest entry mediator lane at host goes = refl
+going-host (Bounced work) tags guest entry mediator lane at host goes = refl
 
-pub going-lane : (plan : Plan) (tags : List ℕ) (ns : Namespace) (entry : List ℕ) (d : DeviceLane) → IsGoing plan
-    → lane_handed tags (shares_of ns entry plan) d ≡ lane_behind plan tags ns entry d
-going-lane (Answer st) tags ns entry d goes = absurd goes
-going-lane (NoData work) tags ns entry d goes = refl
-going-lane (Direct work) tags ns entry d goes = refl
-going-lane (Bounced work) tags ns entry d goes = refl
+pub going-tail : (plan : Plan) (tags : List ℕ) (ns : Namespace) (entry : List ℕ) (at : ℕ) → IsGoing plan
+    → tail_handed tags (shares_of ns entry plan) at ≡ tail_behind plan tags ns entry at
+going-tail (Answer st) tags ns entry at goes = absurd goes
+going-tail (NoData work) tags ns entry at goes = refl
+going-tail (Direct work) tags ns entry at goes = refl
+going-tail (Bounced work) tags ns entry at goes = refl
 
 pub going-tags : (plan : Plan) (tags : List ℕ) (ns : Namespace) (command : Command) (at : ℕ) (l : Lane) → IsGoing plan
     → all_handed tags (shares_of ns command.entry plan) at command l ≡ tags_behind plan tags ns command at l
@@ -118,21 +115,20 @@ module _ (ns : Namespace) (l moved : Lane) (tag : ℕ) (waits : WaitsForPlan ns 
       ∙ ap (λ (ts : List Tag). let k : Lane = record l { tags = ts } in k) (set-same l.tags tag (Taken waits.led.command waits.led.reads) waits.led.is)
 
   -- what was carried out of it was of the tags as they were
-  pub carried-on : (plan now : Plan) (guest given : Guest) (mediator lane : ℕ) (host host_new : ℕ → ℕ) (p p_new : Physical) (new : Lane) → plan ≡ now → guest ≡ given
+  pub carried-on : (plan now : Plan) (guest given : Guest) (mediator lane : ℕ) (host host_new : ℕ → ℕ) (at at_new : ℕ) (new : Lane) → plan ≡ now → guest ≡ given
       → (IsGoing now → 0 < length (shares_of given.namespace waits.led.command.entry now))
-      → IsCarriedOut plan guest mediator lane (group_in (Some moved) tag) waits.led.command host host_new p p_new moved new
-      → IsCarriedOut now given mediator lane (group_in (Some l) tag) waits.led.command host host_new p p_new l new
-  carried-on plan now guest given mediator lane host host_new p p_new new same whose some out =
+      → IsCarriedOut plan guest mediator lane (group_in (Some moved) tag) waits.led.command host host_new at at_new moved new
+      → IsCarriedOut now given mediator lane (group_in (Some l) tag) waits.led.command host host_new at at_new l new
+  carried-on plan now guest given mediator lane host host_new at at_new new same whose some out =
       let command : Command = waits.led.command in
-      let at : ℕ = (lane_of p lane).tail in
-      let own : IsCarriedOut now given mediator lane (group_in (Some moved) tag) command host host_new p p_new moved new =
-      subst (λ (q : Plan). IsCarriedOut q given mediator lane (group_in (Some moved) tag) command host host_new p p_new moved new) same
-      (subst (λ (g : Guest). IsCarriedOut plan g mediator lane (group_in (Some moved) tag) command host host_new p p_new moved new) whose out) in
-      let there : IsCarriedOut now given mediator lane (group_in (Some l) tag) command host host_new p p_new moved new =
-      subst (λ (tags : List ℕ). IsCarriedOut now given mediator lane tags command host host_new p p_new moved new) (moved-group ns l moved tag waits is) own in
+      let own : IsCarriedOut now given mediator lane (group_in (Some moved) tag) command host host_new at at_new moved new =
+      subst (λ (q : Plan). IsCarriedOut q given mediator lane (group_in (Some moved) tag) command host host_new at at_new moved new) same
+      (subst (λ (g : Guest). IsCarriedOut plan g mediator lane (group_in (Some moved) tag) command host host_new at at_new moved new) whose out) in
+      let there : IsCarriedOut now given mediator lane (group_in (Some l) tag) command host host_new at at_new moved new =
+      subst (λ (tags : List ℕ). IsCarriedOut now given mediator lane tags command host host_new at at_new moved new) (moved-group ns l moved tag waits is) own in
       record {
         memory = there.memory;
-        device = there.device;
+        tail = there.tail;
         tags_are =
             there.tags_are
             ∙ ap (λ (tags : List ℕ). tags_behind now tags given.namespace command at moved) waits.first

@@ -2,7 +2,7 @@
 use Rattle.std.proofs.Common.{◌≡◌, ℕ, true, false, cond, List, [], ◌∷◌, set, slice_get, Option, Some, sym, ap, ◌∙◌}
 use Rattle.nv_core.proofs.GroupWorlds.{ended-lane}
 use Rattle.nv_core.specs.Groups.{all_ended, all_handed}
-use Rattle.nv_core.specs.Submit.{host_behind, host_handed, lane_behind, lane_handed, tags_behind}
+use Rattle.nv_core.specs.Submit.{host_behind, host_handed, tags_behind, tail_behind, tail_handed}
 use Rattle.nv_entry.specs.StatusCode.{done_with}
 use Rattle.nv_entry.specs.declared.status_code.StatusCode.TheVariants.{Success}
 use Rattle.nv_laws_sound.proofs.Lists.{set-same, set-set}
@@ -48,7 +48,8 @@ put-twice w lane f g d e l k =
 pub handed-is : (mediator lane : ℕ) (tags : List ℕ) (shares : List Share) (command : Command) (o : Owner) (w : World) (l : Lane) (d : DeviceLane)
     → slice_get w.lanes lane ≡ Some l → slice_get w.device lane ≡ Some d
     → handed_on mediator lane tags shares command o w
-    ≡ put_into lane (host_handed tags shares o.given command.entry mediator lane d w.host) (lane_handed tags shares d) (all_handed tags shares d.tail command l) w
+    ≡ put_into lane (host_handed tags shares o.given command.entry mediator lane d.tail w.host) (record d { tail = tail_handed tags shares d.tail })
+    (all_handed tags shares d.tail command l) w
 unfolding handed_on
 handed-is mediator lane [] shares command o w l d at there = sym (put-same w lane d l at there)
 handed-is mediator lane (tag ∷ tags) [] command o w l d at there = sym (put-same w lane d l at there)
@@ -59,11 +60,12 @@ handed-is mediator lane (tag ∷ tags) (share ∷ shares) command o w l d at the
     let rest = λ (host : ℕ → ℕ) (e : DeviceLane) (k : Lane).
     handed-is mediator lane tags shares command o (put_into lane host e k w) k e
     (slice_get-set w.lanes lane l k at) (slice_get-set w.device lane d e there)
-    ∙ put-twice w lane host (host_handed tags shares o.given command.entry mediator lane e host) e (lane_handed tags shares e) k (all_handed tags shares e.tail command k) in
+    ∙ put-twice w lane host (host_handed tags shares o.given command.entry mediator lane e.tail host) e (record e { tail = tail_handed tags shares e.tail }) k
+    (all_handed tags shares e.tail command k) in
     elim (is_no_command share) as (λ b.
     handed_on mediator lane tags shares command o (cond b (with_tag lane tag ended w) (submitted_on (slice_get w.device lane) mediator lane tag command share o w))
-    ≡ put_into lane (host_handed tags shares o.given command.entry mediator lane (cond b d (rung d)) (cond b w.host written))
-    (lane_handed tags shares (cond b d (rung d)))
+    ≡ put_into lane (host_handed tags shares o.given command.entry mediator lane (cond b d.tail (next_slot ring_size d.tail)) (cond b w.host written))
+    (record d { tail = tail_handed tags shares (cond b d.tail (next_slot ring_size d.tail)) })
     (cond b (all_handed tags shares d.tail command (tag_changed tag ended l))
     (all_handed tags shares (next_slot ring_size d.tail) command (tag_changed tag flying l))) w) [
       | true ↦
@@ -81,8 +83,8 @@ handed-is mediator lane (tag ∷ tags) (share ∷ shares) command o w l d at the
 
 module _ (w : World) (mediator lane : ℕ) (tags : List ℕ) (command : Command) (o : Owner) (l : Lane) (d : DeviceLane) (at : slice_get w.lanes lane ≡ Some l)
     (there : slice_get w.device lane ≡ Some d) where
-  pub carried-is : (plan : Plan) → put_into lane (host_behind plan tags o.given command.entry mediator lane d w.host)
-      (lane_behind plan tags o.given.namespace command.entry d) (tags_behind plan tags o.given.namespace command d.tail l) w
+  pub carried-is : (plan : Plan) → put_into lane (host_behind plan tags o.given command.entry mediator lane d.tail w.host)
+      (record d { tail = tail_behind plan tags o.given.namespace command.entry d.tail }) (tags_behind plan tags o.given.namespace command d.tail l) w
       ≡ carry_out plan mediator lane tags command o w
   carried-is (Answer st) = put-lane w lane d (all_ended tags command st l) there ∙ sym (ended-lane lane tags command st w l at)
   carried-is (NoData work) = sym (handed-is mediator lane tags (shares_of o.given.namespace command.entry (NoData work)) command o w l d at there)

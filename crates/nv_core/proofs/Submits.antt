@@ -4,10 +4,10 @@ use Rattle.std.proofs.Common.{Option, Some, None, arith, refl, sym, ap, ◌∙�
 use Rattle.std.proofs.lemmas.Bool.Decides.{nat_tests}
 use Rattle.std.proofs.lemmas.Option.{slice_get_within}
 use Rattle.nv_core.specs.State.{IsOf, IsStep, State, world_of}
-use Rattle.nv_core.specs.Submit.{HaveRoom, IsSubmitted, host_behind, lane_behind, tag_bytes}
+use Rattle.nv_core.specs.Submit.{HaveRoom, IsSubmitted, host_behind, tag_bytes, tail_behind}
 use Rattle.nv_core.specs.Tags.{untaken}
 use Rattle.nv_core.proofs.GroupWorlds.{IsTakenHere, group-lane, not-taken, taken-found, taken-step}
-use Rattle.nv_core.proofs.Handed.{lane-there}
+use Rattle.nv_core.proofs.Handed.{lane-same, lane-there}
 use Rattle.nv_core.proofs.Placed.{owner, owner-there, same-size}
 use Rattle.nv_core.proofs.SubmitWorlds.{carried-is}
 use Rattle.nv_device.specs.Physical.{lane_of, with_lane}
@@ -140,59 +140,58 @@ module _ (geometry : Geometry) (s : State) (lane tag : ℕ) where
         abbrev tags : List ℕ
         tags = group_in (Some l) tag
 
+        -- the device with the doorbell rung
+        abbrev rung_to : ℕ → Physical
+        rung_to at = with_lane lane (record d { tail = at }) s.device
+
         -- by what came of it
-        by-outcome : (o : Outcome Plan) (r : Reply) (host_new : List ℕ) (p_new : Physical) (l_new : Lane)
-            → IsSubmitted o guest geometry.mediator lane tags t.command r (byte_in s.host) (byte_in host_new) s.device p_new l l_new
-            → (let a : After = record { world = world_of (record s { host = host_new; device = p_new; lanes = set s.lanes lane l_new }); reply = r } in a)
+        by-outcome : (o : Outcome Plan) (r : Reply) (host_new : List ℕ) (at_new : ℕ) (l_new : Lane)
+            → IsSubmitted o guest geometry.mediator lane tags t.command r (byte_in s.host) (byte_in host_new) d.tail at_new l l_new
+            → (let a : After = record { world = world_of (record s { host = host_new; device = rung_to at_new; lanes = set s.lanes lane l_new }); reply = r } in a)
             ≡ submit_by o geometry.mediator lane tags t.command who (world_of s)
-        by-outcome (Wanted addr len) r host_new p_new l_new is =
-            let behind : (ℕ → ℕ) → Physical → Lane → Reply → After = λ h p k x. record {
-              world = record (world_of (record s { device = p; lanes = set s.lanes lane k })) { host = h };
+        by-outcome (Wanted addr len) r host_new at_new l_new is =
+            let behind : (ℕ → ℕ) → ℕ → Lane → Reply → After = λ h n k x. record {
+              world = record (world_of (record s { device = rung_to n; lanes = set s.lanes lane k })) { host = h };
               reply = x;
             } in
-            ap (behind (byte_in host_new) p_new l_new) is.answered
-            ∙ ap (λ (h : ℕ → ℕ). behind h p_new l_new reply.Stale) is.memory
-            ∙ ap (λ (p : Physical). behind (byte_in s.host) p l_new reply.Stale) is.device
-            ∙ ap (λ (k : Lane). behind (byte_in s.host) s.device k reply.Stale) is.tags_are
+            ap (behind (byte_in host_new) at_new l_new) is.answered
+            ∙ ap (λ (h : ℕ → ℕ). behind h at_new l_new reply.Stale) is.memory
+            ∙ ap (λ (n : ℕ). behind (byte_in s.host) n l_new reply.Stale) is.tail
+            ∙ ap (λ (k : Lane). behind (byte_in s.host) d.tail k reply.Stale) is.tags_are
+            ∙ ap (λ (p : Physical). replied reply.Stale (world_of (record s { device = p; lanes = set s.lanes lane l }))) (lane-same lane s.device on-device)
             ∙ ap (λ (ls : List Lane). replied reply.Stale (record (world_of s) { lanes = ls })) (set-same s.lanes lane l here)
-        by-outcome (Settled plan) r host_new p_new l_new is =
-            let behind : (ℕ → ℕ) → Physical → Lane → Reply → After = λ h p k x. record {
-              world = record (world_of (record s { device = p; lanes = set s.lanes lane k })) { host = h };
+        by-outcome (Settled plan) r host_new at_new l_new is =
+            let behind : (ℕ → ℕ) → ℕ → Lane → Reply → After = λ h n k x. record {
+              world = record (world_of (record s { device = rung_to n; lanes = set s.lanes lane k })) { host = h };
               reply = x;
             } in
-            let host = host_behind plan tags guest t.command.entry geometry.mediator lane d (byte_in s.host) in
-            let side = lane_behind plan tags guest.namespace t.command.entry d in
-            ap (behind (byte_in host_new) p_new l_new) is.0
-            ∙ ap (λ (h : ℕ → ℕ). behind h p_new l_new reply.Done) is.1.memory
-            ∙ ap (λ (p : Physical). behind host p l_new reply.Done) is.1.device
-            ∙ ap (λ (k : Lane). behind host (with_lane lane side s.device) k reply.Done) is.1.tags_are
+            let host = host_behind plan tags guest t.command.entry geometry.mediator lane d.tail (byte_in s.host) in
+            let tail = tail_behind plan tags guest.namespace t.command.entry d.tail in
+            ap (behind (byte_in host_new) at_new l_new) is.0
+            ∙ ap (λ (h : ℕ → ℕ). behind h at_new l_new reply.Done) is.1.memory
+            ∙ ap (λ (n : ℕ). behind host n l_new reply.Done) is.1.tail
+            ∙ ap (λ (k : Lane). behind host tail k reply.Done) is.1.tags_are
             ∙ ap (replied reply.Done) (carried-is (world_of s) geometry.mediator lane tags t.command who l d here device-there plan)
 
-        -- the device's area and blocks are where they were
-        device-size : (o : Outcome Plan) (r : Reply) (f g : ℕ → ℕ) (p_new : Physical) (l_new : Lane)
-            → IsSubmitted o guest geometry.mediator lane tags t.command r f g s.device p_new l l_new
-            → (p_new.mediator ≡ s.device.mediator) × (length p_new.disk ≡ length s.device.disk)
-        device-size (Wanted addr len) r f g p_new l_new is = (ap (λ (p : Physical). p.mediator) is.device, ap (λ (p : Physical). length p.disk) is.device)
-        device-size (Settled plan) r f g p_new l_new is =
-            (ap (λ (p : Physical). p.mediator) is.1.device, ap (λ (p : Physical). length p.disk) is.1.device)
-
       -- the event
-      pub submit-done : (old : State) (i : ℕ) (l l_new : Lane) (host_new : List ℕ) (p_new : Physical) (r : Reply) (mediator : ℕ) → s ≡ old → i ≡ lane
-          → l ≡ get_or s.lanes i l → mediator ≡ geometry.mediator → length host_new ≡ length s.host
-          → IsSubmitted (plan_over guest t.command.entry t.reads) guest mediator lane (group_in (Some l) tag) t.command r (byte_in s.host) (byte_in host_new) s.device p_new l l_new
+      pub submit-done : (old : State) (i : ℕ) (l l_new : Lane) (host_new : List ℕ) (at at_new : ℕ) (p_new : Physical) (r : Reply) (mediator : ℕ) → s ≡ old
+          → i ≡ lane → l ≡ get_or s.lanes i l → mediator ≡ geometry.mediator → length host_new ≡ length s.host → at ≡ d.tail
+          → p_new ≡ with_lane lane (record d { tail = at_new }) s.device
+          → IsSubmitted (plan_over guest t.command.entry t.reads) guest mediator lane (group_in (Some l) tag) t.command r (byte_in s.host) (byte_in host_new) at at_new l l_new
           → IsStep geometry (event.Submit lane tag) old r (record s { host = host_new; device = p_new; lanes = set s.lanes i l_new })
-      submit-done old i l l_new host_new p_new r mediator same at found begins sized is =
+      submit-done old i l l_new host_new at at_new p_new r mediator same on found begins sized tail rings is =
           let o = plan_over guest t.command.entry t.reads in
-          let here = taken-found s.lanes lane tag t i l at found in
-          let own : IsSubmitted o guest geometry.mediator lane (group_in (Some l) tag) t.command r (byte_in s.host) (byte_in host_new) s.device p_new l l_new =
-          subst (λ (m : ℕ). IsSubmitted o guest m lane (group_in (Some l) tag) t.command r (byte_in s.host) (byte_in host_new) s.device p_new l l_new) begins is in
-          let size = device-size l here o r (byte_in s.host) (byte_in host_new) p_new l_new own in
+          let here = taken-found s.lanes lane tag t i l on found in
+          let own : IsSubmitted o guest geometry.mediator lane (group_in (Some l) tag) t.command r (byte_in s.host) (byte_in host_new) d.tail at_new l l_new =
+          subst (λ (m : ℕ). IsSubmitted o guest m lane (group_in (Some l) tag) t.command r (byte_in s.host) (byte_in host_new) d.tail at_new l l_new) begins
+          (subst (λ (n : ℕ). IsSubmitted o guest mediator lane (group_in (Some l) tag) t.command r (byte_in s.host) (byte_in host_new) n at_new l l_new) tail is) in
           subst (λ (x : State). IsStep geometry (event.Submit lane tag) x r (record s { host = host_new; device = p_new; lanes = set s.lanes i l_new })) same
-          (subst (λ (k : ℕ). IsStep geometry (event.Submit lane tag) s r (record s { host = host_new; device = p_new; lanes = set s.lanes k l_new })) (sym at)
+          (subst (λ (k : ℕ). IsStep geometry (event.Submit lane tag) s r (record s { host = host_new; device = p_new; lanes = set s.lanes k l_new })) (sym on)
+          (subst (λ (p : Physical). IsStep geometry (event.Submit lane tag) s r (record s { host = host_new; device = p; lanes = set s.lanes lane l_new })) (sym rings)
           (record {
             after =
-                by-outcome l here o r host_new p_new l_new own
+                by-outcome l here o r host_new at_new l_new own
                 ∙ ap (λ (ts : List ℕ). submit_by o geometry.mediator lane ts t.command who (world_of s)) (sym (group-lane (world_of s) lane tag l here))
                 ∙ sym submit-owned;
-            size = record { host = sized; mediator = size.0; blocks = size.1 };
-          }))
+            size = record { host = sized; mediator = refl; blocks = refl };
+          })))

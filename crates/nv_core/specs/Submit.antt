@@ -2,8 +2,6 @@
 use Rattle.std.specs.Prelude.{◌≡◌, ℕ, ◌+◌, ◌*◌, ◌%◌, ◌^◌, ◌<◌, ◌≤◌, false, if◌then◌else◌, List, [], ◌∷◌, length, slice_get, Option, Some, None}
 use Rattle.nv_core.specs.Groups.{AreTaken, all_ended, all_handed}
 use Rattle.nv_core.specs.Tags.{IsTaken}
-use Rattle.nv_device.specs.Physical.{lane_of, with_lane}
-use Rattle.nv_device.specs.State.{Physical}
 use Rattle.nv_mem.specs.GuestMap.{span_met}
 use Rattle.nv_model.specs.Limits.{page}
 use Rattle.nv_model.specs.Transcript.{Outcome, ReadDone, Settled, Wanted}
@@ -12,8 +10,8 @@ use Rattle.nv_model.specs.declared.reply.Reply.TheVariants as reply
 use Rattle.nv_ns.specs.Extents.{Namespace}
 use Rattle.nv_plan.specs.Made.{MadePlan}
 use Rattle.nv_plan.specs.declared.job.Job.{Job}
-use Rattle.nv_world_model.specs.Area.{lane_start, list_page, tag_count}
-use Rattle.nv_world_model.specs.Device.{DeviceLane, rung}
+use Rattle.nv_model.specs.Queue.{next_slot}
+use Rattle.nv_world_model.specs.Area.{lane_start, list_page, ring_size, tag_count}
 use Rattle.nv_world_model.specs.Geometry.{Geometry, Guest, regions_of}
 use Rattle.nv_world_model.specs.Plan.{Answer, Bounced, Direct, NoData, Plan}
 use Rattle.nv_world_model.specs.SetUp.{most_limit}
@@ -91,45 +89,45 @@ IsGoing (Bounced work) = Unit {0}
 
 -- ---- share by share
 
--- the host after a share that is carried out in a tag, and the device's side of the lane: where the share is no physical command, both are as they
--- were
+-- the host after a share that is carried out in a tag, by the entry in slot `at` of the submission ring, and the slot of the next entry: where the
+-- share is no physical command, both are as they were
 abbrev pub host_carried : Share → Guest → (entry : List ℕ) → (mediator lane tag at : ℕ) → (host : ℕ → ℕ) → ℕ → ℕ
 host_carried share guest entry mediator lane tag at host =
     if is_no_command share then host else share_written share guest entry mediator lane tag at host
 
-abbrev pub lane_carried : Share → DeviceLane → DeviceLane
-lane_carried share d = if is_no_command share then d else rung d
+abbrev pub slot_after : Share → (at : ℕ) → ℕ
+slot_after share at = if is_no_command share then at else next_slot ring_size at
 
 -- the same of all shares in order, each in its tag
-abbrev pub host_handed : (tags : List ℕ) → List Share → Guest → (entry : List ℕ) → (mediator lane : ℕ) → DeviceLane → (host : ℕ → ℕ) → ℕ → ℕ
-host_handed [] shares guest entry mediator lane d host = host
-host_handed (tag ∷ tags) [] guest entry mediator lane d host = host
-host_handed (tag ∷ tags) (share ∷ shares) guest entry mediator lane d host =
-    host_handed tags shares guest entry mediator lane (lane_carried share d) (host_carried share guest entry mediator lane tag d.tail host)
+abbrev pub host_handed : (tags : List ℕ) → List Share → Guest → (entry : List ℕ) → (mediator lane at : ℕ) → (host : ℕ → ℕ) → ℕ → ℕ
+host_handed [] shares guest entry mediator lane at host = host
+host_handed (tag ∷ tags) [] guest entry mediator lane at host = host
+host_handed (tag ∷ tags) (share ∷ shares) guest entry mediator lane at host =
+    host_handed tags shares guest entry mediator lane (slot_after share at) (host_carried share guest entry mediator lane tag at host)
 
-abbrev pub lane_handed : (tags : List ℕ) → List Share → DeviceLane → DeviceLane
-lane_handed [] shares d = d
-lane_handed (tag ∷ tags) [] d = d
-lane_handed (tag ∷ tags) (share ∷ shares) d = lane_handed tags shares (lane_carried share d)
+abbrev pub tail_handed : (tags : List ℕ) → List Share → (at : ℕ) → ℕ
+tail_handed [] shares at = at
+tail_handed (tag ∷ tags) [] at = at
+tail_handed (tag ∷ tags) (share ∷ shares) at = tail_handed tags shares (slot_after share at)
 
 -- ---- a plan
 
 -- the host after a plan that was carried out: an answer writes nothing
-abbrev pub host_behind : Plan → (tags : List ℕ) → Guest → (entry : List ℕ) → (mediator lane : ℕ) → DeviceLane → (host : ℕ → ℕ) → ℕ → ℕ
-host_behind (Answer st) tags guest entry mediator lane d host = host
-host_behind (NoData work) tags guest entry mediator lane d host =
-    host_handed tags (shares_of guest.namespace entry (NoData work)) guest entry mediator lane d host
-host_behind (Direct work) tags guest entry mediator lane d host =
-    host_handed tags (shares_of guest.namespace entry (Direct work)) guest entry mediator lane d host
-host_behind (Bounced work) tags guest entry mediator lane d host =
-    host_handed tags (shares_of guest.namespace entry (Bounced work)) guest entry mediator lane d host
+abbrev pub host_behind : Plan → (tags : List ℕ) → Guest → (entry : List ℕ) → (mediator lane at : ℕ) → (host : ℕ → ℕ) → ℕ → ℕ
+host_behind (Answer st) tags guest entry mediator lane at host = host
+host_behind (NoData work) tags guest entry mediator lane at host =
+    host_handed tags (shares_of guest.namespace entry (NoData work)) guest entry mediator lane at host
+host_behind (Direct work) tags guest entry mediator lane at host =
+    host_handed tags (shares_of guest.namespace entry (Direct work)) guest entry mediator lane at host
+host_behind (Bounced work) tags guest entry mediator lane at host =
+    host_handed tags (shares_of guest.namespace entry (Bounced work)) guest entry mediator lane at host
 
--- the device's side of the lane after it: an answer rings no doorbell
-abbrev pub lane_behind : Plan → (tags : List ℕ) → Namespace → (entry : List ℕ) → DeviceLane → DeviceLane
-lane_behind (Answer st) tags ns entry d = d
-lane_behind (NoData work) tags ns entry d = lane_handed tags (shares_of ns entry (NoData work)) d
-lane_behind (Direct work) tags ns entry d = lane_handed tags (shares_of ns entry (Direct work)) d
-lane_behind (Bounced work) tags ns entry d = lane_handed tags (shares_of ns entry (Bounced work)) d
+-- the tail of the submission ring after it, which the doorbell is rung with: an answer has no entry
+abbrev pub tail_behind : Plan → (tags : List ℕ) → Namespace → (entry : List ℕ) → (at : ℕ) → ℕ
+tail_behind (Answer st) tags ns entry at = at
+tail_behind (NoData work) tags ns entry at = tail_handed tags (shares_of ns entry (NoData work)) at
+tail_behind (Direct work) tags ns entry at = tail_handed tags (shares_of ns entry (Direct work)) at
+tail_behind (Bounced work) tags ns entry at = tail_handed tags (shares_of ns entry (Bounced work)) at
 
 -- the tags after it
 abbrev pub tags_behind : Plan → (tags : List ℕ) → Namespace → Command → (at : ℕ) → Lane → Lane
@@ -138,24 +136,24 @@ tags_behind (NoData work) tags ns command at l = all_handed tags (shares_of ns c
 tags_behind (Direct work) tags ns command at l = all_handed tags (shares_of ns command.entry (Direct work)) at command l
 tags_behind (Bounced work) tags ns command at l = all_handed tags (shares_of ns command.entry (Bounced work)) at command l
 
--- a plan of a command with these tags was carried out: what the host, the device and the lane are now
+-- a plan of a command with these tags was carried out: what the host, the tail of the submission ring and the lane are now
 pub record IsCarriedOut (plan : Plan) (guest : Guest) (mediator lane : ℕ) (tags : List ℕ) (command : Command) (host host_new : ℕ → ℕ)
-    (p p_new : Physical) (l l_new : Lane) : Type 0 where
-  pub memory : host_new ≡ host_behind plan tags guest command.entry mediator lane (lane_of p lane) host
-  pub device : p_new ≡ with_lane lane (lane_behind plan tags guest.namespace command.entry (lane_of p lane)) p
-  pub tags_are : l_new ≡ tags_behind plan tags guest.namespace command (lane_of p lane).tail l
+    (at at_new : ℕ) (l l_new : Lane) : Type 0 where
+  pub memory : host_new ≡ host_behind plan tags guest command.entry mediator lane at host
+  pub tail : at_new ≡ tail_behind plan tags guest.namespace command.entry at
+  pub tags_are : l_new ≡ tags_behind plan tags guest.namespace command at l
 
 -- nothing was done
-pub record IsAsBefore (answer r : Reply) (host host_new : ℕ → ℕ) (p p_new : Physical) (l l_new : Lane) : Type 0 where
+pub record IsAsBefore (answer r : Reply) (host host_new : ℕ → ℕ) (at at_new : ℕ) (l l_new : Lane) : Type 0 where
   pub answered : r ≡ answer
   pub memory : host_new ≡ host
-  pub device : p_new ≡ p
+  pub tail : at_new ≡ at
   pub tags_are : l_new ≡ l
 
 -- what has come of a command was carried out; where more is wanted, nothing was done
 abbrev pub IsSubmitted : Outcome Plan → Guest → (mediator lane : ℕ) → (tags : List ℕ) → Command → Reply → (host host_new : ℕ → ℕ)
-    → (p p_new : Physical) → (l l_new : Lane) → Type 0
-IsSubmitted (Wanted addr len) guest mediator lane tags command r host host_new p p_new l l_new =
-    IsAsBefore reply.Stale r host host_new p p_new l l_new
-IsSubmitted (Settled plan) guest mediator lane tags command r host host_new p p_new l l_new =
-    (r ≡ reply.Done) × IsCarriedOut plan guest mediator lane tags command host host_new p p_new l l_new
+    → (at at_new : ℕ) → (l l_new : Lane) → Type 0
+IsSubmitted (Wanted addr len) guest mediator lane tags command r host host_new at at_new l l_new =
+    IsAsBefore reply.Stale r host host_new at at_new l l_new
+IsSubmitted (Settled plan) guest mediator lane tags command r host host_new at at_new l l_new =
+    (r ≡ reply.Done) × IsCarriedOut plan guest mediator lane tags command host host_new at at_new l l_new

@@ -8,6 +8,7 @@ ghost use Rattle.nv_model.specs.Memory.{byte_in};
 ghost use Rattle.nv_model.specs.Transcript.{ReadDone as Read};
 ghost use Rattle.nv_plan.specs.Made.{IsJobsPlan, plan_made};
 ghost use Rattle.nv_tags.specs.declared.state.TagState.TheVariants as state;
+ghost use Rattle.nv_world_model.specs.Area.{ring_size};
 ghost use Rattle.nv_world_model.specs.Plan.{plan_over};
 ghost use Rattle.nv_world_model.specs.World.{Command, Taken, group_in, tag_changed};
 
@@ -17,7 +18,6 @@ use crate::handing::hand_all;
 use crate::lane::Lane;
 use crate::layout::{Grant, Layout};
 use crate::state::Core;
-use nv_device::Device;
 use nv_mem::{MemoryCell, NoMemory};
 use nv_model::Reply;
 use nv_plan::{Job, Plan, PlanKind, Planned, Transcript, make_plan};
@@ -57,15 +57,11 @@ impl Core {
             lane,
             tag,
         };
+        let mut tail = self.device.tail(lane);
         let ring = &mut self.lanes[at];
-        let reply = submit_on(
-            alloc,
-            given,
-            place,
-            slice::from_mut(&mut self.host),
-            &mut self.device,
-            ring,
-        )?;
+        let host = slice::from_mut(&mut self.host);
+        let reply = submit_on(alloc, given, place, host, &mut tail, ring)?;
+        self.device.ring(lane, tail);
         Ok(reply)
     }
 
@@ -89,14 +85,11 @@ impl Core {
             lane: job.lane,
             tag: job.tag,
         };
+        let mut tail = self.device.tail(place.lane);
         let ring = &mut self.lanes[usize::from(place.lane)];
-        carry_out(
-            plan,
-            place,
-            slice::from_mut(&mut self.host),
-            &mut self.device,
-            ring,
-        );
+        let host = slice::from_mut(&mut self.host);
+        carry_out(plan, place, host, &mut tail, ring);
+        self.device.ring(place.lane, tail);
         Some(Reply::Done)
     }
 
@@ -116,24 +109,26 @@ impl Core {
     }
 }
 
-// Plans the command that waits for its plan and goes by a tag, and carries the plan out.
+// Plans the command that waits for its plan and goes by a tag, and carries the plan out. The first entry goes to slot `tail` of the lane's
+// submission ring, which becomes the slot after the last.
 fn submit_on<C: MemoryCell>(
     alloc: Global,
     given: &Grant,
     place: TagPlace,
     host: &mut [C],
-    device: &mut Device,
+    tail: &mut u16,
     ring: &mut Lane,
 ) -> Result<Reply, NoMemory>
     requires room { HaveRoom place.mediator place.lane given.now (C.bytes host.old) }
-    requires lane { place.lane < length device.old.lanes }
+    requires tail { tail.old < ring_size }
     requires waits { WaitsForPlan given.now.namespace place.tag ring.old }
     ensures ok { IfOk result (λ reply. (command : Command) (reads : List Read) →
         slice_get ring.old.tags place.tag ≡ Some (Taken command reads) →
         IsSubmitted (plan_over given.now command.entry reads) given.now place.mediator place.lane (group_in (Some ring.old) place.tag) command reply
-        (byte_in (C.bytes host.old)) (byte_in (C.bytes host.new)) device.old device.new ring.old ring.new) }
-    ensures err { OnErr result (((C.bytes host.new) ≡ (C.bytes host.old)) × ((device.new ≡ device.old) × (ring.new ≡ ring.old))) }
+        (byte_in (C.bytes host.old)) (byte_in (C.bytes host.new)) tail.old tail.new ring.old ring.new) }
+    ensures err { OnErr result (((C.bytes host.new) ≡ (C.bytes host.old)) × ((tail.new ≡ tail.old) × (ring.new ≡ ring.old))) }
     ensures len { length (C.bytes host.new) ≡ length (C.bytes host.old) }
+    ensures fits { tail.new < ring_size }
 {
     let job = take_job(alloc, place, ring);
     match make_plan(alloc, alloc, job, given.map(), given.ns(), given.limit()) {
@@ -146,7 +141,7 @@ fn submit_on<C: MemoryCell>(
             Err(NoMemory)
         }
         Planned::Plan(plan) => {
-            carry_out(plan, place, host, device, ring);
+            carry_out(plan, place, host, tail, ring);
             Ok(Reply::Done)
         }
     }
@@ -176,49 +171,50 @@ fn carry_out<C: MemoryCell>(
     plan: Plan,
     place: TagPlace,
     host: &mut [C],
-    device: &mut Device,
+    tail: &mut u16,
     ring: &mut Lane,
 )
     requires room { HaveRoom place.mediator place.lane plan.given (C.bytes host.old) }
-    requires lane { place.lane < length device.old.lanes }
+    requires tail { tail.old < ring_size }
     requires waits { WaitsForPlan plan.given.namespace place.tag ring.old }
     requires whose { (command : Command) (reads : List Read) → slice_get ring.old.tags place.tag ≡ Some (Taken command reads) →
         command.entry ≡ plan.job.sqe }
     ensures done { (command : Command) (reads : List Read) → slice_get ring.old.tags place.tag ≡ Some (Taken command reads) →
         IsCarriedOut (plan_made plan) plan.given place.mediator place.lane (group_in (Some ring.old) place.tag) command
-        (byte_in (C.bytes host.old)) (byte_in (C.bytes host.new)) device.old device.new ring.old ring.new }
+        (byte_in (C.bytes host.old)) (byte_in (C.bytes host.new)) tail.old tail.new ring.old ring.new }
     ensures len { length (C.bytes host.new) ≡ length (C.bytes host.old) }
+    ensures fits { tail.new < ring_size }
 {
     match plan.kind() {
         PlanKind::Answer(status) => ring.answer(place.tag, status),
         PlanKind::NoData | PlanKind::Direct | PlanKind::Bounced => {
-            hand_on(plan, place, host, device, ring);
+            hand_on(plan, place, host, tail, ring);
         }
     }
 }
 
-// Hands the command that waits for its plan and goes by a tag to the physical controller: what each part of the plan needs is written, and the
-// doorbell is rung for it.
+// Puts the command that waits for its plan and goes by a tag on the lane's submission ring: what each part of the plan needs is written.
 fn hand_on<C: MemoryCell>(
     plan: Plan,
     place: TagPlace,
     host: &mut [C],
-    device: &mut Device,
+    tail: &mut u16,
     ring: &mut Lane,
 )
     requires is_plan { IsJobsPlan plan }
     requires goes { IsGoing (plan_made plan) }
     requires room { HaveRoom place.mediator place.lane plan.given (C.bytes host.old) }
-    requires lane { place.lane < length device.old.lanes }
+    requires tail { tail.old < ring_size }
     requires waits { WaitsForPlan plan.given.namespace place.tag ring.old }
     requires whose { (command : Command) (reads : List Read) → slice_get ring.old.tags place.tag ≡ Some (Taken command reads) →
         command.entry ≡ plan.job.sqe }
     ensures done { (command : Command) (reads : List Read) → slice_get ring.old.tags place.tag ≡ Some (Taken command reads) →
         IsCarriedOut (plan_made plan) plan.given place.mediator place.lane (group_in (Some ring.old) place.tag) command
-        (byte_in (C.bytes host.old)) (byte_in (C.bytes host.new)) device.old device.new ring.old ring.new }
+        (byte_in (C.bytes host.old)) (byte_in (C.bytes host.new)) tail.old tail.new ring.old ring.new }
     ensures len { length (C.bytes host.new) ≡ length (C.bytes host.old) }
+    ensures fits { tail.new < ring_size }
 {
-    let at = device.tail(place.lane);
-    hand_all(&plan, place, ring, host, device);
+    let at = *tail;
+    hand_all(&plan, place, ring, host, tail);
     ring.fly(place.tag, plan, at);
 }

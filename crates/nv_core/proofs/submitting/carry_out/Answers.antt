@@ -1,5 +1,4 @@
 use Rattle.std.proofs.Common.{◌≡◌, ◌⊎◌, ◌∙◌, Some, sym, subst, refl}
-use Rattle.nv_core.proofs.Handed.{lane-same}
 use Rattle.nv_core.proofs.SubmitJobs.{kind-answer, kind-goes}
 use Rattle.nv_core.specs.Submit.{IsCarriedOut}
 use Rattle.nv_model.specs.Memory.{byte_in}
@@ -21,5 +20,5 @@ returns-in-Answer-clause-done g c = λ command reads there.
     let place = c.args.place in
     let plan = kind-answer (plan_made p) c.in-Answer.status (sym c.kind.ensures.made ∙ c.in-Answer.is) in
     subst (λ (q : Plan). IsCarriedOut q p.given place.mediator place.lane (group_in (Some c.args.ring.now) place.tag) command
-    (byte_in (g.C.MemoryCell.bytes c.args.host.now)) (byte_in (g.C.MemoryCell.bytes c.args.host.now)) c.args.device.now c.args.device.now c.args.ring.now c.answer.new.self) (sym plan)
-    (record { memory = refl; device = sym (lane-same place.lane c.args.device.now c.requires.lane); tags_are = c.answer.ensures command reads there })
+    (byte_in (g.C.MemoryCell.bytes c.args.host.now)) (byte_in (g.C.MemoryCell.bytes c.args.host.now)) c.args.tail.now c.args.tail.now c.args.ring.now c.answer.new.self) (sym plan)
+    (record { memory = refl; tail = refl; tags_are = c.answer.ensures command reads there })

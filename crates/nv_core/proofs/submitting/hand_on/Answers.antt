@@ -1,11 +1,9 @@
 use Rattle.std.proofs.Common.{◌≡◌, ◌∙◌, ℕ, List, Some, ap, sym}
-use Rattle.nv_core.proofs.SubmitJobs.{going-host, going-lane, going-tags, shares-some}
+use Rattle.nv_core.proofs.SubmitJobs.{going-host, going-tags, going-tail, shares-some}
 use Rattle.nv_core.specs.Groups.{all_handed}
-use Rattle.nv_core.specs.Submit.{host_behind, lane_behind}
-use Rattle.nv_device.specs.Physical.{lane_of, with_lane}
+use Rattle.nv_core.specs.Submit.{host_behind, tail_behind}
 use Rattle.nv_model.specs.Memory.{byte_in}
 use Rattle.nv_plan.specs.Made.{plan_made}
-use Rattle.nv_world_model.specs.Device.{DeviceLane}
 use Rattle.nv_world_model.specs.Share.{shares_of, tags_of_entry}
 use Rattle.nv_world_model.specs.World.{group_in}
 use Rattle.nv_core.proofs.submitting.hand_on.Goals as goal
@@ -23,19 +21,16 @@ returns-clause-done g c = λ command reads there.
     let place = c.args.place in
     let plan = plan_made p in
     let tags = group_in (Some c.args.ring.now) place.tag in
-    let d = lane_of c.args.device.now place.lane in
     let entry : p.job.sqe ≡ command.entry = sym (c.requires.whose command reads there) in
     record {
       memory =
-          c.hand_all.ensures.bytes ∙ going-host plan tags p.given p.job.sqe place.mediator place.lane d (byte_in (g.C.MemoryCell.bytes c.args.host.now)) c.requires.goes
-          ∙ ap (λ (e : List ℕ). host_behind plan tags p.given e place.mediator place.lane d (byte_in (g.C.MemoryCell.bytes c.args.host.now))) entry;
-      device =
-          c.hand_all.ensures.device
-          ∙ ap (λ (e : DeviceLane). with_lane place.lane e c.args.device.now)
-          (going-lane plan tags p.given.namespace p.job.sqe d c.requires.goes ∙ ap (λ (e : List ℕ). lane_behind plan tags p.given.namespace e d) entry);
+          c.hand_all.ensures.bytes ∙ going-host plan tags p.given p.job.sqe place.mediator place.lane c.args.tail.now (byte_in (g.C.MemoryCell.bytes c.args.host.now)) c.requires.goes
+          ∙ ap (λ (e : List ℕ). host_behind plan tags p.given e place.mediator place.lane c.args.tail.now (byte_in (g.C.MemoryCell.bytes c.args.host.now))) entry;
+      tail =
+          c.hand_all.ensures.tail ∙ going-tail plan tags p.given.namespace p.job.sqe c.args.tail.now c.requires.goes
+          ∙ ap (λ (e : List ℕ). tail_behind plan tags p.given.namespace e c.args.tail.now) entry;
       tags_are =
           c.fly.ensures command reads there
-          ∙ ap (λ (e : List ℕ). all_handed tags (shares_of p.given.namespace e plan) c.tail-at.result command c.args.ring.now) entry
-          ∙ ap (λ (n : ℕ). all_handed tags (shares_of p.given.namespace command.entry plan) n command c.args.ring.now) c.tail-at.ensures.value
-          ∙ going-tags plan tags p.given.namespace command d.tail c.args.ring.now c.requires.goes;
+          ∙ ap (λ (e : List ℕ). all_handed tags (shares_of p.given.namespace e plan) c.args.tail.now command c.args.ring.now) entry
+          ∙ going-tags plan tags p.given.namespace command c.args.tail.now c.args.ring.now c.requires.goes;
     }

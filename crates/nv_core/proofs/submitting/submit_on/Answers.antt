@@ -67,11 +67,11 @@ returns-in-Need-clause-ok g c = λ command reads there.
     let planned = subst (λ (x : Planned). IsPlanned x c.take_job-job.result given) c.in-Need.is c.make_plan.ensures in
     let come = outcome-is c.args.given.now given place.lane place.tag command reads c.take_job-job.result _ whose job planned.1 in
     subst (λ (o : Outcome Plan). IsSubmitted o c.args.given.now place.mediator place.lane (group_in (Some c.args.ring.now) place.tag) command reply.Stale
-    (byte_in (g.C.MemoryCell.bytes c.args.host.now)) (byte_in (g.C.MemoryCell.bytes c.args.host.now)) c.args.device.now c.args.device.now c.args.ring.now c.replace_reads.new.self) (sym come)
+    (byte_in (g.C.MemoryCell.bytes c.args.host.now)) (byte_in (g.C.MemoryCell.bytes c.args.host.now)) c.args.tail.now c.args.tail.now c.args.ring.now c.replace_reads.new.self) (sym come)
     (record {
       answered = refl;
       memory = refl;
-      device = refl;
+      tail = refl;
       tags_are =
           put-back c.args.given.now.namespace c.args.ring.now c.take_job-job.new.ring place.tag c.requires.waits moved c.replace_reads.new.self c.in-Need.job.reads
           (ap (λ (j : Job). j.reads) planned.0 ∙ own.read)
@@ -112,14 +112,14 @@ returns-in-Plan-clause-ok g c = λ command reads there.
     let plan = made-is c.in-Plan.plan c.take_job-job.result given planned.0 own has planned.1.0 in
     let same = one-taken led.command command led.reads reads (some-same (Taken led.command led.reads) (Taken command reads) (sym led.is ∙ there)) in
     let out = carried-on ns c.args.ring.now c.take_job-job.new.ring place.tag waits moved (plan_made c.in-Plan.plan) planned.0 c.in-Plan.plan.given c.args.given.now
-    place.mediator place.lane (byte_in (g.C.MemoryCell.bytes c.args.host.now)) (byte_in (g.C.MemoryCell.bytes c.carry_out.new.host)) c.args.device.now c.carry_out.new.device c.carry_out.new.ring plan (has ∙ whose)
+    place.mediator place.lane (byte_in (g.C.MemoryCell.bytes c.args.host.now)) (byte_in (g.C.MemoryCell.bytes c.carry_out.new.host)) c.args.tail.now c.carry_out.new.tail c.carry_out.new.ring plan (has ∙ whose)
     (come-some c.args.given.now led.command.entry led.reads planned.0
     (outcome-is c.args.given.now given place.lane place.tag led.command led.reads c.take_job-job.result _ whose (c.take_job-job.ensures.job led.command led.reads led.is) planned.1.0)
     waits.some)
     (c.carry_out.ensures.done led.command [] (moved-there ns c.args.ring.now c.take_job-job.new.ring place.tag waits moved)) in
     subst (λ (o : Outcome Plan). IsSubmitted o c.args.given.now place.mediator place.lane (group_in (Some c.args.ring.now) place.tag) command reply.Done
-    (byte_in (g.C.MemoryCell.bytes c.args.host.now)) (byte_in (g.C.MemoryCell.bytes c.carry_out.new.host)) c.args.device.now c.carry_out.new.device c.args.ring.now c.carry_out.new.ring) (sym come) (
+    (byte_in (g.C.MemoryCell.bytes c.args.host.now)) (byte_in (g.C.MemoryCell.bytes c.carry_out.new.host)) c.args.tail.now c.carry_out.new.tail c.args.ring.now c.carry_out.new.ring) (sym come) (
       refl,
       subst (λ (x : Command). IsCarriedOut planned.0 c.args.given.now place.mediator place.lane (group_in (Some c.args.ring.now) place.tag) x
-          (byte_in (g.C.MemoryCell.bytes c.args.host.now)) (byte_in (g.C.MemoryCell.bytes c.carry_out.new.host)) c.args.device.now c.carry_out.new.device c.args.ring.now c.carry_out.new.ring) same.0 out,
+          (byte_in (g.C.MemoryCell.bytes c.args.host.now)) (byte_in (g.C.MemoryCell.bytes c.carry_out.new.host)) c.args.tail.now c.carry_out.new.tail c.args.ring.now c.carry_out.new.ring) same.0 out,
     )

@@ -47,8 +47,8 @@ index_mut-ring-requires c =
 
 pub submit_on-requires-clause-room : goal.submit_on-requires-clause-room
 submit_on-requires-clause-room c =
-    let lent : bytes_of_hosts c.from_mut.result.now ≡ c.self.inside.host = ap bytes_of_hosts c.from_mut.ensures.value in
-    let s : State = record { host = bytes_of_hosts c.from_mut.result.now; device = c.self.inside.device; lanes = c.self.inside.lanes.items; controllers = c.self.inside.controllers.items } in
+    let lent : bytes_of_hosts c.from_mut-host.result.now ≡ c.self.inside.host = ap bytes_of_hosts c.from_mut-host.ensures.value in
+    let s : State = record { host = bytes_of_hosts c.from_mut-host.result.now; device = c.self.inside.device; lanes = c.self.inside.lanes.items; controllers = c.self.inside.controllers.items } in
     let view_is : s ≡ c.args.self.now = ap (λ (h : List ℕ). let o : State = record { host = h; device = c.self.inside.device; lanes = c.self.inside.lanes.items; controllers = c.self.inside.controllers.items } in o) lent ∙ c.self.view_is in
     let t = taken-here s c.args.self.now c.args.lane c.args.tag c.untaken.result view_is c.untaken.ensures c.in_default.is in
     let guest =
@@ -59,8 +59,19 @@ submit_on-requires-clause-room c =
     subst (λ (m : ℕ). HaveRoom m c.args.lane c.in-Some-guest.given.now s.host) (sym c.mediator.ensures)
     (have-room c.args.layout.now s c.args.lane c.args.tag t c.in-Some-guest.given.now of there)
 
-pub submit_on-requires-clause-lane : goal.submit_on-requires-clause-lane
-submit_on-requires-clause-lane c =
+pub tail-tail-requires : goal.tail-tail-requires
+tail-tail-requires c =
+    let s : State = record { host = c.self.inside.host; device = c.self.inside.device; lanes = c.self.inside.lanes.items; controllers = c.self.inside.controllers.items } in
+    let t = taken-here s c.args.self.now c.args.lane c.args.tag c.untaken.result c.self.view_is c.untaken.ensures c.in_default.is in
+    let guest =
+    ap (λ (d : Command). d.guest) (c.claimed.ensures t.command t.reads
+    (taken-there c.self.inside.lanes.items c.args.lane c.args.tag t c.from-at.result c.index.result.now c.from-at.ensures c.index.ensures)) in
+    let there = subst (λ (n : ℕ). slice_get c.args.layout.now.guests n ≡ Some c.in-Some-guest.given.now) guest c.in-Some-guest.ensures in
+    let of = subst (IsOf c.args.layout.now) (sym c.self.view_is) c.requires in
+    on-device c.args.layout.now s c.args.lane c.args.tag t c.in-Some-guest.given.now of there
+
+pub ring-requires-clause-lane : goal.ring-requires-clause-lane
+ring-requires-clause-lane c =
     let s : State = record { host = c.self.inside.host; device = c.self.inside.device; lanes = c.self.inside.lanes.items; controllers = c.self.inside.controllers.items } in
     let t = taken-here s c.args.self.now c.args.lane c.args.tag c.untaken.result c.self.view_is c.untaken.ensures c.in_default.is in
     let guest =
@@ -83,8 +94,8 @@ submit_on-requires-clause-waits c =
 
 pub returns-clause-ok : goal.returns-clause-ok
 returns-clause-ok c =
-    let lent : bytes_of_hosts c.from_mut.result.now ≡ c.self.inside.host = ap bytes_of_hosts c.from_mut.ensures.value in
-    let s : State = record { host = bytes_of_hosts c.from_mut.result.now; device = c.self.inside.device; lanes = c.self.inside.lanes.items; controllers = c.self.inside.controllers.items } in
+    let lent : bytes_of_hosts c.from_mut-host.result.now ≡ c.self.inside.host = ap bytes_of_hosts c.from_mut-host.ensures.value in
+    let s : State = record { host = bytes_of_hosts c.from_mut-host.result.now; device = c.self.inside.device; lanes = c.self.inside.lanes.items; controllers = c.self.inside.controllers.items } in
     let view_is : s ≡ c.args.self.now = ap (λ (h : List ℕ). let o : State = record { host = h; device = c.self.inside.device; lanes = c.self.inside.lanes.items; controllers = c.self.inside.controllers.items } in o) lent ∙ c.self.view_is in
     let t = taken-here s c.args.self.now c.args.lane c.args.tag c.untaken.result view_is c.untaken.ensures c.in_default.is in
     let guest =
@@ -92,10 +103,10 @@ returns-clause-ok c =
     (taken-there c.self.inside.lanes.items c.args.lane c.args.tag t c.from-at.result c.index.result.now c.from-at.ensures c.index.ensures)) in
     let there = subst (λ (n : ℕ). slice_get c.args.layout.now.guests n ≡ Some c.in-Some-guest.given.now) guest c.in-Some-guest.ensures in
     let of = subst (IsOf c.args.layout.now) (sym view_is) c.requires in
-    subst (λ (h : List ℕ). IsStep c.args.layout.now (event.Submit c.args.lane c.args.tag) c.args.self.now c.in_ok-reply.reply (let o : State = record { host = h; device = c.submit_on.new.device; lanes = set c.self.inside.lanes.items c.from-at.result c.submit_on.new.ring; controllers = c.self.inside.controllers.items } in o))
-    (after-lent c.from_mut.result.now c.self.inside.host c.from_mut.ensures.value c.submit_on.new.host c.submit_on.ensures.len)
+    subst (λ (h : List ℕ). IsStep c.args.layout.now (event.Submit c.args.lane c.args.tag) c.args.self.now c.in_ok-reply.reply (let o : State = record { host = h; device = c.ring.new.self; lanes = set c.self.inside.lanes.items c.from-at.result c.submit_on.new.ring; controllers = c.self.inside.controllers.items } in o))
+    (after-lent c.from_mut-host.result.now c.self.inside.host c.from_mut-host.ensures.value c.submit_on.new.host c.submit_on.ensures.len)
     (submit-done c.args.layout.now s c.args.lane c.args.tag t c.in-Some-guest.given.now of there c.args.self.now
-    c.from-at.result c.index_mut-ring.result.now c.submit_on.new.ring (bytes_of_hosts c.submit_on.new.host) c.submit_on.new.device c.in_ok-reply.reply c.mediator.result
-    view_is c.from-at.ensures c.index_mut-ring.ensures.value c.mediator.ensures c.submit_on.ensures.len
+    c.from-at.result c.index_mut-ring.result.now c.submit_on.new.ring (bytes_of_hosts c.submit_on.new.host) c.tail-tail.result c.submit_on.new.tail c.ring.new.self c.in_ok-reply.reply c.mediator.result
+    view_is c.from-at.ensures c.index_mut-ring.ensures.value c.mediator.ensures c.submit_on.ensures.len c.tail-tail.ensures.value c.ring.ensures
     (c.in_ok-reply.ensures.ok t.command t.reads
     (taken-there c.self.inside.lanes.items c.args.lane c.args.tag t c.from-at.result c.index_mut-ring.result.now c.from-at.ensures c.index_mut-ring.ensures.value)))

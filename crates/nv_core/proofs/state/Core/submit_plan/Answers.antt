@@ -6,6 +6,7 @@ use Rattle.nv_core.proofs.Submits.{have-room, on-device, submit-done}
 use Rattle.nv_core.proofs.Waits.{waits}
 use Rattle.nv_core.specs.State.{IsOf, State, IsStep}
 use Rattle.nv_core.specs.Submit.{HaveRoom, IsCarriedOut, IsSubmitted, WaitsForPlan}
+use Rattle.nv_device.specs.Physical.{lane_of, with_lane}
 use Rattle.nv_laws_sound.proofs.Lists.{some-same}
 use Rattle.nv_model.specs.Memory.{byte_in}
 use Rattle.nv_model.specs.Transcript.{Outcome}
@@ -21,8 +22,8 @@ use Rattle.nv_core.proofs.state.Core.submit_plan.Goals as goal
 
 pub carry_out-requires-clause-room : goal.carry_out-requires-clause-room
 carry_out-requires-clause-room c =
-    let lent : bytes_of_hosts c.from_mut.result.now ≡ c.self.inside.host = ap bytes_of_hosts c.from_mut.ensures.value in
-    let s : State = record { host = bytes_of_hosts c.from_mut.result.now; device = c.self.inside.device; lanes = c.self.inside.lanes.items; controllers = c.self.inside.controllers.items } in
+    let lent : bytes_of_hosts c.from_mut-host.result.now ≡ c.self.inside.host = ap bytes_of_hosts c.from_mut-host.ensures.value in
+    let s : State = record { host = bytes_of_hosts c.from_mut-host.result.now; device = c.self.inside.device; lanes = c.self.inside.lanes.items; controllers = c.self.inside.controllers.items } in
     let view_is : s ≡ c.args.self.now = ap (λ (h : List ℕ). let o : State = record { host = h; device = c.self.inside.device; lanes = c.self.inside.lanes.items; controllers = c.self.inside.controllers.items } in o) lent ∙ c.self.view_is in
     let p = c.args.plan in
     let is = c.is_current.ensures.0 c.if-not-is_current.false in
@@ -32,8 +33,18 @@ carry_out-requires-clause-room c =
     (subst (λ (j : Job). HaveRoom c.args.layout.now.mediator j.lane p.given s.host) (sym c.job-job.ensures.value)
     (have-room c.args.layout.now s p.job.lane p.job.tag t.taken p.given of (guest-of c.args.layout.now s c.args.self.now p view_is is)))
 
-pub carry_out-requires-clause-lane : goal.carry_out-requires-clause-lane
-carry_out-requires-clause-lane c =
+pub tail-tail-requires : goal.tail-tail-requires
+tail-tail-requires c =
+    let s : State = record { host = c.self.inside.host; device = c.self.inside.device; lanes = c.self.inside.lanes.items; controllers = c.self.inside.controllers.items } in
+    let p = c.args.plan in
+    let is = c.is_current.ensures.0 c.if-not-is_current.false in
+    let t = tag-of c.args.layout.now s c.args.self.now p c.self.view_is is in
+    let of = subst (IsOf c.args.layout.now) (sym c.self.view_is) c.requires in
+    subst (λ (j : Job). j.lane < length c.self.inside.device.lanes) (sym c.job-job.ensures.value)
+    (on-device c.args.layout.now s p.job.lane p.job.tag t.taken p.given of (guest-of c.args.layout.now s c.args.self.now p c.self.view_is is))
+
+pub ring-requires-clause-lane : goal.ring-requires-clause-lane
+ring-requires-clause-lane c =
     let s : State = record { host = c.self.inside.host; device = c.self.inside.device; lanes = c.self.inside.lanes.items; controllers = c.self.inside.controllers.items } in
     let p = c.args.plan in
     let is = c.is_current.ensures.0 c.if-not-is_current.false in
@@ -68,8 +79,8 @@ carry_out-requires-clause-whose c = λ command reads there.
 
 pub returns-clause-some : goal.returns-clause-some
 returns-clause-some c =
-    let lent : bytes_of_hosts c.from_mut.result.now ≡ c.self.inside.host = ap bytes_of_hosts c.from_mut.ensures.value in
-    let s : State = record { host = bytes_of_hosts c.from_mut.result.now; device = c.self.inside.device; lanes = c.self.inside.lanes.items; controllers = c.self.inside.controllers.items } in
+    let lent : bytes_of_hosts c.from_mut-host.result.now ≡ c.self.inside.host = ap bytes_of_hosts c.from_mut-host.ensures.value in
+    let s : State = record { host = bytes_of_hosts c.from_mut-host.result.now; device = c.self.inside.device; lanes = c.self.inside.lanes.items; controllers = c.self.inside.controllers.items } in
     let view_is : s ≡ c.args.self.now = ap (λ (h : List ℕ). let o : State = record { host = h; device = c.self.inside.device; lanes = c.self.inside.lanes.items; controllers = c.self.inside.controllers.items } in o) lent ∙ c.self.view_is in
     let p = c.args.plan in
     let is = c.is_current.ensures.0 c.if-not-is_current.false in
@@ -80,17 +91,20 @@ returns-clause-some c =
     let here = subst (λ (j : Job). slice_get c.index_mut-ring.result.now.tags j.tag ≡ Some (Taken t.taken.command t.taken.reads)) (sym c.job-job.ensures.value) held in
     let out = c.carry_out.ensures.done t.taken.command t.taken.reads here in (
       is,
-      subst (λ (h : List ℕ). IsStep c.args.layout.now (event.Submit p.job.lane p.job.tag) c.args.self.now reply.Done (let o : State = record { host = h; device = c.carry_out.new.device; lanes = set c.self.inside.lanes.items c.from.result c.carry_out.new.ring; controllers = c.self.inside.controllers.items } in o))
-          (after-lent c.from_mut.result.now c.self.inside.host c.from_mut.ensures.value c.carry_out.new.host c.carry_out.ensures.len)
+      subst (λ (h : List ℕ). IsStep c.args.layout.now (event.Submit p.job.lane p.job.tag) c.args.self.now reply.Done (let o : State = record { host = h; device = c.ring.new.self; lanes = set c.self.inside.lanes.items c.from.result c.carry_out.new.ring; controllers = c.self.inside.controllers.items } in o))
+          (after-lent c.from_mut-host.result.now c.self.inside.host c.from_mut-host.ensures.value c.carry_out.new.host c.carry_out.ensures.len)
           (submit-done c.args.layout.now s p.job.lane p.job.tag t.taken p.given of (guest-of c.args.layout.now s c.args.self.now p view_is is) c.args.self.now
-          c.from.result c.index_mut-ring.result.now c.carry_out.new.ring (bytes_of_hosts c.carry_out.new.host) c.carry_out.new.device reply.Done c.mediator.result
+          c.from.result c.index_mut-ring.result.now c.carry_out.new.ring (bytes_of_hosts c.carry_out.new.host) c.tail-tail.result c.carry_out.new.tail c.ring.new.self reply.Done c.mediator.result
           view_is at c.index_mut-ring.ensures.value c.mediator.ensures c.carry_out.ensures.len
+          (subst (λ (j : Job). c.tail-tail.result ≡ (lane_of c.self.inside.device j.lane).tail) c.job-job.ensures.value c.tail-tail.ensures.value)
+          (subst (λ (j : Job). c.ring.new.self ≡ with_lane j.lane (record (lane_of c.self.inside.device j.lane) { tail = c.carry_out.new.tail }) c.self.inside.device)
+          c.job-job.ensures.value c.ring.ensures)
           (subst (λ (o : Outcome Plan). IsSubmitted o p.given c.mediator.result p.job.lane (group_in (Some c.index_mut-ring.result.now) p.job.tag) t.taken.command reply.Done
-          (byte_in s.host) (byte_in (bytes_of_hosts c.carry_out.new.host)) c.self.inside.device c.carry_out.new.device c.index_mut-ring.result.now c.carry_out.new.ring)
+          (byte_in s.host) (byte_in (bytes_of_hosts c.carry_out.new.host)) c.tail-tail.result c.carry_out.new.tail c.index_mut-ring.result.now c.carry_out.new.ring)
           (sym (come-of c.args.layout.now s c.args.self.now p view_is is c.job-job.ensures.is_plan)) (
             refl,
             subst (λ (j : Job). IsCarriedOut (plan_made p) p.given c.mediator.result j.lane (group_in (Some c.index_mut-ring.result.now) j.tag) t.taken.command
-                (byte_in s.host) (byte_in (bytes_of_hosts c.carry_out.new.host)) c.self.inside.device c.carry_out.new.device c.index_mut-ring.result.now c.carry_out.new.ring)
+                (byte_in s.host) (byte_in (bytes_of_hosts c.carry_out.new.host)) c.tail-tail.result c.carry_out.new.tail c.index_mut-ring.result.now c.carry_out.new.ring)
                 c.job-job.ensures.value out,
           ))),
     )
