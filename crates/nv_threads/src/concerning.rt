@@ -3,17 +3,15 @@
 //! They are notified where another entry may be at the front of a queue, or the one at the front has other bytes, and a lane is short of tags; and
 //! where a deletion can be finished.
 
+use crate::brought_up::{brought_up, expect_done, ring, store};
 use crate::concern::Concern;
-use crate::ending::brought_up;
 use crate::locked::{Errand, Locked};
 use crate::notes::Notes;
 use crate::planning::GuestPlanner;
 use crate::reaping::LaneReaper;
 use crate::simulated_guest::{entry_of, rings};
-use crate::simulated_worlds::TWO;
+use crate::simulated_worlds::{TWO, events};
 use crate::tasks::Turn;
-use nv_mem::BoxedBytes;
-use nv_model::{Act, Reply};
 use nv_world::World;
 use nv_world_model::Event;
 use std::alloc::Global;
@@ -27,21 +25,9 @@ const TURNS: u32 = 100;
 fn with_flush(alloc: Global) -> Result<World, Fail> {
     let mut world = brought_up(alloc, &TWO)?;
     let flush = entry_of(0x00, 1, 0, (0, 0), [0, 0, 0]);
-    store(&mut world, alloc, 0x1_3000, &flush)?;
-    world.step(alloc, Event::Guest(0, rings(0x1008, 1)));
+    store(&mut world, alloc, 0, 0x1_3000, &flush)?;
+    ring(&mut world, alloc, 0, 0x1008, 1);
     Ok(world)
-}
-
-// Guest 0 stores an entry.
-fn store(world: &mut World, alloc: Global, addr: u64, entry: &[u8; 64]) -> Result<(), Fail> {
-    let bytes = BoxedBytes::from_slice(alloc, entry)?;
-    world.step(alloc, Event::Guest(0, Act::Store { addr, bytes }));
-    Ok(())
-}
-
-// An event is done.
-fn expect_done(rt: &impl Abort, world: &mut World, alloc: Global, event: Event) {
-    assert!(rt; matches!(world.step(alloc, event), Reply::Done));
 }
 
 // The world, with what is noted of it. Lane 1 has one free tag or 64, as far as is noted, and a command takes up to two.
@@ -57,13 +43,13 @@ fn noted(world: World, is_short: bool) -> Locked {
 
 // Whom the first event concerns that guest 0's planner on lane 0 makes.
 fn by_planner(locked: &mut Locked, alloc: Global) -> Concern {
-    let before = locked.world.log().len();
+    let before = events(&locked.world);
     let mut planner = GuestPlanner::new(0, 0);
     for _turn in 0..TURNS {
         let Turn::Done(told) = planner.turn(locked, alloc) else {
             break;
         };
-        if locked.world.log().len() != before {
+        if events(&locked.world) != before {
             return told;
         }
     }
@@ -79,28 +65,28 @@ fn by_reaper(locked: &mut Locked, alloc: Global) -> Concern {
 
 // Guest 0's planners are notified where they should be, and no others are.
 fn expect_planners(rt: &impl Abort, told: Concern, are_rung_for: bool, behind: &str) {
-    assert_eq!(rt; told.planners, u64::from(are_rung_for), "behind {behind}");
+    assert!(rt; told.planners == u64::from(are_rung_for), "{behind}");
+}
+
+// The guest itself is notified, too.
+fn expect_guest(rt: &impl Abort, told: Concern, are_rung_for: bool, behind: &str) {
+    expect_planners(rt, told, are_rung_for, behind);
+    assert!(rt; told.guests == 1, "{behind}");
 }
 
 // Guest 0 stores bytes, its planner takes the Flush and gives it up, it is posted, and an admin command is answered.
 fn expect_told(rt: &impl Abort, alloc: Global, locked: &mut Locked, is_short: bool) {
-    let told = locked.concern(0, Errand::Bytes);
-    expect_planners(rt, told, is_short, "a store");
-    let told = by_planner(locked, alloc);
-    expect_planners(rt, told, is_short, "a take");
+    expect_planners(rt, locked.concern(0, Errand::Bytes), is_short, "a store");
+    expect_planners(rt, by_planner(locked, alloc), is_short, "a take");
     expect_done(rt, &mut locked.world, alloc, Event::GiveUp(0, 0));
-    let told = by_reaper(locked, alloc);
-    expect_planners(rt, told, is_short, "a post");
-    assert_eq!(rt; told.guests, 1);
+    expect_guest(rt, by_reaper(locked, alloc), is_short, "a post");
     expect_done(
         rt,
         &mut locked.world,
         alloc,
         Event::Guest(0, rings(0x1000, 3)),
     );
-    let told = by_planner(locked, alloc);
-    expect_planners(rt, told, is_short, "an answer");
-    assert_eq!(rt; told.guests, 1);
+    expect_guest(rt, by_planner(locked, alloc), is_short, "an answer");
 }
 
 #[test]
@@ -119,19 +105,18 @@ fn a_deletion_that_can_be_finished_is_told_of(rt: HostRuntime) -> Result<(), Fai
     let alloc = rt.alloc();
     let mut world = with_flush(alloc)?;
     let delete = entry_of(0x00, 2, 0, (0, 0), [1, 0, 0]);
-    store(&mut world, alloc, 0x1_0080, &delete)?;
-    for event in [
-        Event::Take(0, 1, 0),
-        Event::GiveUp(0, 0),
-        Event::Guest(0, rings(0x1000, 3)),
-        Event::Admin(0),
-    ] {
-        expect_done(&rt, &mut world, alloc, event);
-    }
-    assert!(rt; !world.due(&Event::Admin(0)));
+    store(&mut world, alloc, 0, 0x1_0080, &delete)?;
+    expect_deletion(&rt, &mut world, alloc);
     let mut locked = noted(world, false);
-    let told = by_reaper(&mut locked, alloc);
-    expect_planners(&rt, told, true, "a post");
-    assert_eq!(rt; told.guests, 1);
+    expect_guest(&rt, by_reaper(&mut locked, alloc), true, "a post");
     Ok(())
+}
+
+// The Flush is taken and ends, and the deletion begins.
+fn expect_deletion(rt: &impl Abort, world: &mut World, alloc: Global) {
+    expect_done(rt, world, alloc, Event::Take(0, 1, 0));
+    expect_done(rt, world, alloc, Event::GiveUp(0, 0));
+    expect_done(rt, world, alloc, Event::Guest(0, rings(0x1000, 3)));
+    expect_done(rt, world, alloc, Event::Admin(0));
+    assert!(rt; !world.due(&Event::Admin(0)));
 }

@@ -3,20 +3,18 @@
 //! A Dataset Management has a part in each extent. The parts that none of its ranges meets have ended once it is handed on. All have ended where it
 //! is answered or given up. Then the lane's reaper is notified, and else the physical controller.
 
+use crate::brought_up::{brought_up, ring, store};
 use crate::concern::Concern;
 use crate::locked::Locked;
 use crate::maker::Prepared;
 use crate::notes::Notes;
 use crate::planning::GuestPlanner;
 use crate::simulated::go_on;
-use crate::simulated_guest::{Guest, entry_of, rings};
+use crate::simulated_guest::{entry_of, range_of};
 use crate::simulated_start::planned;
-use crate::simulated_worlds::{Extents, MANY, ONE, TWO, opened};
+use crate::simulated_worlds::{Extents, MANY, ONE, TWO};
 use crate::tasks::Turn;
-use nv_mem::BoxedBytes;
-use nv_model::Act;
 use nv_world::World;
-use nv_world_model::Event;
 use std::alloc::Global;
 use std::process::Abort;
 use std::test::Fail;
@@ -36,7 +34,7 @@ struct Case {
 }
 
 /// A range in the first extent, in the second and in both, one that leaves the namespace, and one that there is no memory to plan.
-const CASES: [Case; 8] = [
+const CASES: &[Case] = &[
     Case {
         extents: TWO,
         start: 0,
@@ -105,35 +103,11 @@ const CASES: [Case; 8] = [
 
 // Guest 0 gives a Dataset Management of one range.
 fn give(world: &mut World, alloc: Global, start: u8, count: u8) -> Result<(), Fail> {
-    let mut range = [0; 16];
-    range[4] = count;
-    range[8] = start;
+    store(world, alloc, 0, 0x1_8000, &range_of(start, count))?;
     let entry = entry_of(0x09, 1, 0x1_8000, (0, 0), [0, 4, 0]);
-    let range = Act::Store {
-        addr: 0x1_8000,
-        bytes: BoxedBytes::from_slice(alloc, &range)?,
-    };
-    let entry = Act::Store {
-        addr: 0x1_3000,
-        bytes: BoxedBytes::from_slice(alloc, &entry)?,
-    };
-    for act in [range, entry, rings(0x1008, 1)] {
-        world.step(alloc, Event::Guest(0, act));
-    }
+    store(world, alloc, 0, 0x1_3000, &entry)?;
+    ring(world, alloc, 0, 0x1008, 1);
     Ok(())
-}
-
-/// A world in which guest 0 has queue pair 1.
-pub(crate) fn brought_up(alloc: Global, extents: &Extents) -> Result<World, Fail> {
-    let mut world = opened(alloc, extents)?;
-    let mut acts = Vec::new(alloc);
-    Guest::new(false).bring_up(alloc, &mut acts)?;
-    for act in acts {
-        world.step(alloc, Event::Guest(0, act));
-    }
-    world.step(alloc, Event::Admin(0));
-    world.step(alloc, Event::Admin(0));
-    Ok(world)
 }
 
 // Turns of guest 0's planner on lane 0, until it has nothing to do: which reapers it rings for, and which physical controllers.
@@ -141,17 +115,7 @@ fn plan(locked: &mut Locked, alloc: Global, is_starved: bool) -> [u64; 2] {
     let mut planner = GuestPlanner::new(0, 0);
     let mut rung = [0, 0];
     for _turn in 0..TURNS {
-        let told = match planner.turn(locked, alloc) {
-            Turn::Job(job) => {
-                let planned = planned(&locked.world, alloc, job, is_starved);
-                go_on(&mut planner, locked, Prepared::of(planned))
-            }
-            // with no plan that is fed, the job is examined again
-            Turn::Read(_, _) => Some(Concern::nobody()),
-            Turn::Done(told) => Some(told),
-            Turn::Nothing => None,
-        };
-        let Some(told) = told else {
+        let Some(told) = plan_on(&mut planner, locked, alloc, is_starved) else {
             return rung;
         };
         rung = [rung[0] | told.reapers, rung[1] | told.devices];
@@ -159,40 +123,55 @@ fn plan(locked: &mut Locked, alloc: Global, is_starved: bool) -> [u64; 2] {
     rung
 }
 
+// One of these turns: whom it concerns, or `None` where there was nothing to do.
+fn plan_on(
+    planner: &mut GuestPlanner,
+    locked: &mut Locked,
+    alloc: Global,
+    is_starved: bool,
+) -> Option<Concern> {
+    match planner.turn(locked, alloc) {
+        Turn::Job(job) => {
+            let planned = planned(&locked.world, alloc, job, is_starved);
+            go_on(planner, locked, Prepared::of(planned))
+        }
+        // with no plan that is fed, the job is examined again
+        Turn::Read(_, _) => Some(Concern::nobody()),
+        Turn::Done(told) => Some(told),
+        Turn::Nothing => None,
+    }
+}
+
 // This many parts are noted as ended, no more and no fewer: with the others and one of another command, which is posted after this one, one is left
 // and then none.
 fn expect_ended(rt: &impl Abort, notes: &mut Notes, case: &Case) {
     let others = case.parts.saturating_sub(case.ended);
-    assert_eq!(rt; notes.size(0, 0), case.parts);
     notes.end(0, others.saturating_add(1));
     let _concern = notes.post(0, 0);
-    assert!(rt;
-        notes.has_ended(0),
-        "too few of {} in {}",
-        case.ended,
-        case.parts
-    );
+    assert!(rt; notes.has_ended(0), "too few have ended");
     let _concern = notes.post(0, 63);
-    assert!(rt;
-        !notes.has_ended(0),
-        "too many of {} in {}",
-        case.ended,
-        case.parts
-    );
+    assert!(rt; !notes.has_ended(0), "too many have ended");
+}
+
+// Its planner is through with a case.
+fn expect_planned(rt: &impl Abort, alloc: Global, world: World, case: &Case) {
+    let notes = Notes::of(&world);
+    let mut locked = Locked { world, notes };
+    let rung = plan(&mut locked, alloc, case.is_starved);
+    let have_all = case.ended == case.parts;
+    assert!(rt; rung[0] == u64::from(have_all), "the reaper");
+    assert!(rt; rung[1] == u64::from(!have_all), "the physical controller");
+    assert!(rt; locked.notes.size(0, 0) == case.parts);
+    expect_ended(rt, &mut locked.notes, case);
 }
 
 #[test]
 fn parts_that_are_no_commands_have_ended(rt: HostRuntime) -> Result<(), Fail> {
     let alloc = rt.alloc();
-    for case in &CASES {
+    for case in CASES {
         let mut world = brought_up(alloc, &case.extents)?;
         give(&mut world, alloc, case.start, case.count)?;
-        let notes = Notes::of(&world);
-        let mut locked = Locked { world, notes };
-        let rung = plan(&mut locked, alloc, case.is_starved);
-        let have_all = case.ended == case.parts;
-        assert_eq!(rt; rung, [u64::from(have_all), u64::from(!have_all)]);
-        expect_ended(&rt, &mut locked.notes, case);
+        expect_planned(&rt, alloc, world, case);
     }
     Ok(())
 }

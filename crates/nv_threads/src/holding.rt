@@ -3,16 +3,16 @@
 //! Each worker has nothing to do at first. Then somebody takes the lock, gives the worker several events to make, waits until it waits for the
 //! lock, and asks it to stop. So it makes one event, or none.
 
+use crate::brought_up::{brought_up, ring, store};
 use crate::device_side::device_loop;
 use crate::gate::Open;
+use crate::locked::Locked;
 use crate::planning::planner;
 use crate::reaping::reaper;
 use crate::share::Share;
 use crate::shared::Shared;
-use crate::simulated_guest::{Guest, entry_of};
-use crate::simulated_worlds::{ONE, opened};
-use nv_mem::BoxedBytes;
-use nv_model::Act;
+use crate::simulated_guest::entry_of;
+use crate::simulated_worlds::{ONE, step};
 use nv_world::World;
 use nv_world_model::Event;
 use std::alloc::Global;
@@ -36,15 +36,7 @@ enum Worker {
     Reaper,
 }
 
-/// What was done before the physical controller came, and before the reaper: guest 0 rings for a Read, which is handed on and moved.
-const BEFORE_DEVICE: [Event; 1] = [Event::Guest(
-    0,
-    Act::Doorbell {
-        offset: 0x1008,
-        value: 1,
-    },
-)];
-
+/// What was done before the reaper came: a Read that guest 0 rang for is handed on and moved.
 const BEFORE_REAPER: [Event; 4] = [
     Event::Take(0, 1, 0),
     Event::Submit(0, 0),
@@ -52,78 +44,40 @@ const BEFORE_REAPER: [Event; 4] = [
     Event::DevMove(0, 0, 0),
 ];
 
-/// What gives each worker several events to make: guest 0 rings for a Read and an admin command, the Read is handed on, and it is completed.
-const FOR_PLANNER: [Event; 2] = [
-    Event::Guest(
-        0,
-        Act::Doorbell {
-            offset: 0x1008,
-            value: 1,
-        },
-    ),
-    Event::Guest(
-        0,
-        Act::Doorbell {
-            offset: 0x1000,
-            value: 3,
-        },
-    ),
-];
-
-const FOR_DEVICE: [Event; 2] = [Event::Take(0, 1, 0), Event::Submit(0, 0)];
-
-const FOR_REAPER: [Event; 1] = [Event::DevPost(0, 0)];
-
 // Guest 0 has queue pair 1, with a Read for which it has not rung the doorbell.
-fn brought_up(alloc: Global) -> Result<World, Fail> {
-    let mut world = opened(alloc, &ONE)?;
-    let mut acts = Vec::new(alloc);
-    Guest::new(false).bring_up(alloc, &mut acts)?;
+fn with_read(alloc: Global) -> Result<World, Fail> {
+    let mut world = brought_up(alloc, &ONE)?;
     let read = entry_of(0x02, 1, 0x6000, (0, 0), [5, 0, 0]);
-    acts.push(Act::Store {
-        addr: 0x1_3000,
-        bytes: BoxedBytes::from_slice(alloc, &read)?,
-    })?;
-    for act in acts {
-        world.step(alloc, Event::Guest(0, act));
-    }
-    world.step(alloc, Event::Admin(0));
-    world.step(alloc, Event::Admin(0));
+    store(&mut world, alloc, 0, 0x1_3000, &read)?;
     Ok(world)
 }
 
-// What is done before a worker comes.
+// What is done before a worker comes: guest 0 rings for the Read before the physical controller and the reaper do.
 fn prepare(world: &mut World, alloc: Global, worker: Worker) {
     if matches!(worker, Worker::Planner) {
         return;
     }
-    for event in BEFORE_DEVICE {
-        world.step(alloc, event);
-    }
+    ring(world, alloc, 0, 0x1008, 1);
     if matches!(worker, Worker::Reaper) {
         for event in BEFORE_REAPER {
-            world.step(alloc, event);
+            step(world, alloc, event);
         }
     }
 }
 
-// What gives a worker several events to make.
+// What gives a worker several events to make: guest 0 rings for a Read and an admin command, the Read is handed on, and it is completed.
 fn give(world: &mut World, alloc: Global, worker: Worker) {
     match worker {
         Worker::Planner => {
-            for event in FOR_PLANNER {
-                world.step(alloc, event);
-            }
+            ring(world, alloc, 0, 0x1008, 1);
+            ring(world, alloc, 0, 0x1000, 3);
         }
         Worker::Device => {
-            for event in FOR_DEVICE {
-                world.step(alloc, event);
-            }
+            step(world, alloc, Event::Take(0, 1, 0));
+            step(world, alloc, Event::Submit(0, 0));
         }
         Worker::Reaper => {
-            for event in FOR_REAPER {
-                world.step(alloc, event);
-            }
+            step(world, alloc, Event::DevPost(0, 0));
         }
     }
 }
@@ -141,12 +95,17 @@ fn works<R: Wait + Clock>(rt: &R, alloc: Global, shared: &Shared, worker: Worker
 fn gives<R: Wait + Clock>(rt: &R, alloc: Global, shared: &Shared, worker: Worker) {
     thread::sleep(rt, Duration::from_millis(A_WHILE));
     let mut locked = shared.lock(rt);
-    give(&mut locked.world, alloc, worker);
-    locked.notes.ring_for(0, 1);
+    give_noted(&mut locked, alloc, worker);
     shared.bells.ring_all();
     thread::sleep(rt, Duration::from_millis(A_WHILE));
     shared.stop();
     drop(locked);
+}
+
+// Gives a worker what it has to do, and notes it.
+fn give_noted(locked: &mut Locked, alloc: Global, worker: Worker) {
+    give(&mut locked.world, alloc, worker);
+    locked.notes.ring_for(0, 1);
 }
 
 // How many events a worker makes.
@@ -169,7 +128,7 @@ fn made<R: Threads + Wait + Clock + Sync>(
 fn a_worker_makes_one_event_under_the_lock(rt: HostRuntime) -> Result<(), Fail> {
     let alloc = rt.alloc();
     for worker in [Worker::Planner, Worker::Device, Worker::Reaper] {
-        let mut world = brought_up(alloc)?;
+        let mut world = with_read(alloc)?;
         prepare(&mut world, alloc, worker);
         let count = made(&rt, alloc, world, worker);
         assert!(rt; count <= 1, "{worker:?} made {count}");

@@ -34,6 +34,8 @@ pub mod alike;
 mod bell;
 mod bells;
 mod bits;
+#[cfg(test)]
+mod brought_up;
 mod calls;
 mod concern;
 #[cfg(test)]
@@ -64,9 +66,13 @@ mod shared;
 #[cfg(test)]
 mod simulated;
 #[cfg(test)]
+mod simulated_alike;
+#[cfg(test)]
 mod simulated_counts;
 #[cfg(test)]
 mod simulated_guest;
+#[cfg(test)]
+mod simulated_seats;
 #[cfg(test)]
 mod simulated_start;
 #[cfg(test)]

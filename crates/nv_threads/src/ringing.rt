@@ -3,6 +3,7 @@
 use crate::bell::Bell;
 use crate::bells::Bells;
 use crate::bits::bit;
+use crate::brought_up::{brought_up, ring, store};
 use crate::concern::Concern;
 use crate::device_side::device_loop;
 use crate::gate::Gate;
@@ -11,9 +12,9 @@ use crate::planning::planner;
 use crate::port::Port;
 use crate::reaping::reaper;
 use crate::shared::Shared;
-use crate::simulated_guest::{Guest, entry_of, rings};
-use crate::simulated_worlds::{Extents, MANY, ONE, TWO, opened};
-use nv_mem::{BoxedBytes, GuestMap, NoMemory};
+use crate::simulated_guest::{entry_of, rings};
+use crate::simulated_worlds::{Extents, MANY, ONE, TWO, opened, step};
+use nv_mem::{GuestMap, NoMemory};
 use nv_model::Act;
 use nv_model::limits::{MOST_GUESTS, TAGS};
 use nv_ns::VirtualNs;
@@ -41,25 +42,36 @@ const HEAP: u64 = 65_536;
 fn rung(bells: &Bells, times: u64) -> [u64; 4] {
     let mut rung = [0; 4];
     for number in 0..MOST_GUESTS {
-        let of = [
-            bells.guest(number),
-            bells.planner(number),
-            bells.reaper(number),
-            bells.device(number),
-        ];
-        for (set, bell) in rung.iter_mut().zip(of) {
-            if bell.rings() >= times {
-                *set |= bit(number);
-            }
-        }
+        rung[0] |= rung_as(bells.guest(number), times, number);
+        rung[1] |= rung_as(bells.planner(number), times, number);
+        rung[2] |= rung_as(bells.reaper(number), times, number);
+        rung[3] |= rung_as(bells.device(number), times, number);
     }
     // There are eight lanes.
-    let [guests, planners, reapers, devices] = rung;
-    [guests, planners, reapers % 256, devices % 256]
+    [rung[0], rung[1], rung[2] % 256, rung[3] % 256]
+}
+
+// The set of this number, where the bell was rung at least so often.
+fn rung_as(bell: &Bell, times: u64, number: u8) -> u64 {
+    if bell.rings() >= times {
+        bit(number)
+    } else {
+        0
+    }
+}
+
+// These bells were rung at least so often, and no others.
+fn expect_rung(rt: &impl Abort, bells: &Bells, times: u64, sets: [u64; 4]) {
+    expect_sets(rt, rung(bells, times), sets);
+}
+
+// These are the sets of bells.
+fn expect_sets(rt: &impl Abort, rung: [u64; 4], sets: [u64; 4]) {
+    assert_eq!(rt; rung, sets);
 }
 
 /// Bells that are rung, each with a number of its own and some together.
-const CALLED: [Concern; 3] = [
+const CALLED: &[Concern] = &[
     Concern {
         guests: 0x8005,
         planners: 0x0002,
@@ -83,21 +95,26 @@ const CALLED: [Concern; 3] = [
 #[test]
 fn each_bell_is_rung_for_its_own(rt: HostRuntime) -> Result<(), Fail> {
     for called in CALLED {
-        let bells = Bells::new();
-        bells.ring(called);
-        let sets = [
-            called.guests,
-            called.planners,
-            called.reapers,
-            called.devices,
-        ];
-        assert_eq!(rt; rung(&bells, 1), sets);
-        assert_eq!(rt; rung(&bells, 2), [0; 4]);
+        expect_called(&rt, *called);
     }
     let bells = Bells::new();
     bells.ring_all();
-    assert_eq!(rt; rung(&bells, 1), [0xffff, 0xffff, 0xff, 0xff]);
+    expect_rung(&rt, &bells, 1, [0xffff, 0xffff, 0xff, 0xff]);
     Ok(())
+}
+
+// The bells that are called are rung once, and no others.
+fn expect_called(rt: &impl Abort, called: Concern) {
+    let bells = Bells::new();
+    bells.ring(called);
+    let sets = [
+        called.guests,
+        called.planners,
+        called.reapers,
+        called.devices,
+    ];
+    expect_rung(rt, &bells, 1, sets);
+    expect_rung(rt, &bells, 2, [0; 4]);
 }
 
 #[test]
@@ -105,7 +122,7 @@ fn each_guest_has_its_own_news(rt: HostRuntime) -> Result<(), Fail> {
     let shared = Shared::new(opened(rt.alloc(), &ONE)?);
     shared.bells.ring(Concern::guest(5));
     for guest in 0..MOST_GUESTS {
-        assert_eq!(rt; shared.news(guest), u64::from(guest == 5));
+        assert!(rt; shared.news(guest) == u64::from(guest == 5));
     }
     // None of them waits. A millisecond for each would be too long.
     for _wait in 0..WAITS {
@@ -187,15 +204,27 @@ const ENABLE: [Act; 5] = [
 fn expect_rings<R: Wait + Abort>(rt: &R, alloc: Global, shared: &Shared) -> Result<(), NoMemory> {
     let mut port = Port::new(alloc, 1);
     for act in ENABLE {
-        assert_eq!(rt; rung(&shared.bells, 1), [0; 4]);
-        let _reply = port.act(rt, alloc, shared, act)?;
+        expect_rung(rt, &shared.bells, 1, [0; 4]);
+        acts(rt, alloc, shared, &mut port, act)?;
     }
-    assert_eq!(rt; rung(&shared.bells, 1), [0, 0b10, 0, 0]);
-    assert_eq!(rt; rung(&shared.bells, 2), [0; 4]);
-    let _reply = shared.lock(rt).world.step(alloc, Event::Admin(1));
-    let _reply = port.act(rt, alloc, shared, rings(0x1004, 1))?;
-    assert_eq!(rt; rung(&shared.bells, 2), [0, 0b10, 0, 0]);
-    assert_eq!(rt; rung(&shared.bells, 3), [0; 4]);
+    expect_rung(rt, &shared.bells, 1, [0, 0b10, 0, 0]);
+    expect_rung(rt, &shared.bells, 2, [0; 4]);
+    let _reply = step(&mut shared.lock(rt).world, alloc, Event::Admin(1));
+    acts(rt, alloc, shared, &mut port, rings(0x1004, 1))?;
+    expect_rung(rt, &shared.bells, 2, [0, 0b10, 0, 0]);
+    expect_rung(rt, &shared.bells, 3, [0; 4]);
+    Ok(())
+}
+
+// A guest acts by its port.
+fn acts<R: Wait>(
+    rt: &R,
+    alloc: Global,
+    shared: &Shared,
+    port: &mut Port,
+    act: Act,
+) -> Result<(), NoMemory> {
+    let _reply = port.act(rt, alloc, shared, act)?;
     Ok(())
 }
 
@@ -215,8 +244,8 @@ fn a_reset_rings_where_commands_have_ended(rt: HostRuntime) -> Result<(), Fail> 
         value: 0,
     };
     let mut port = Port::new(rt.alloc(), 0);
-    let _reply = port.act(&rt, rt.alloc(), &shared, reset)?;
-    assert_eq!(rt; rung(&shared.bells, 1), [0, 0, 0b10, 0]);
+    acts(&rt, rt.alloc(), &shared, &mut port, reset)?;
+    expect_rung(&rt, &shared.bells, 1, [0, 0, 0b10, 0]);
     Ok(())
 }
 
@@ -224,22 +253,41 @@ fn a_reset_rings_where_commands_have_ended(rt: HostRuntime) -> Result<(), Fail> 
 const ALL: u32 = TAGS as u32;
 
 /// Worlds, and how many tags their largest commands take.
-const SHORT: [(Extents, u32); 3] = [(ONE, 1), (TWO, 2), (MANY, 8)];
+const SHORT: &[Short] = &[
+    Short {
+        extents: ONE,
+        most: 1,
+    },
+    Short {
+        extents: TWO,
+        most: 2,
+    },
+    Short {
+        extents: MANY,
+        most: 8,
+    },
+];
+
+/// The extents of a world's guests, and how many tags the largest commands take there.
+struct Short {
+    extents: Extents,
+    most: u32,
+}
 
 // Tags of lane 1 are taken one by one: it is short while fewer are free than a command may take, but some.
 fn expect_short(rt: &impl Abort, world: &World, most: u32) {
     let mut notes = Notes::of(world);
     for taken in 0..=ALL {
         let is_short = taken != ALL && ALL - taken < most;
-        assert_eq!(rt; notes.are_short(), is_short, "{taken} taken");
+        assert!(rt; notes.are_short() == is_short, "{taken} taken");
         let _tag = notes.take(world, 1, 0);
     }
 }
 
 #[test]
 fn a_lane_is_short_of_tags(rt: HostRuntime) -> Result<(), Fail> {
-    for (extents, most) in SHORT {
-        expect_short(&rt, &opened(rt.alloc(), &extents)?, most);
+    for short in SHORT {
+        expect_short(&rt, &opened(rt.alloc(), &short.extents)?, short.most);
     }
     Ok(())
 }
@@ -252,15 +300,15 @@ fn expect_post_rings(rt: &impl Abort, world: &World, most: u32) {
         let mut behind = notes;
         let told = behind.post(1, 0);
         let planners = if ALL - taken < most { u64::MAX } else { 0 };
-        assert_eq!(rt; told.planners, planners, "{taken} taken");
-        assert_eq!(rt; told.guests, bit(2));
+        assert!(rt; told.planners == planners, "{taken} taken");
+        assert!(rt; told.guests == bit(2));
     }
 }
 
 #[test]
 fn a_post_rings_for_planners_where_tags_were_few(rt: HostRuntime) -> Result<(), Fail> {
-    for (extents, most) in SHORT {
-        expect_post_rings(&rt, &opened(rt.alloc(), &extents)?, most);
+    for short in SHORT {
+        expect_post_rings(&rt, &opened(rt.alloc(), &short.extents)?, short.most);
     }
     Ok(())
 }
@@ -289,23 +337,11 @@ impl Gate for Last<'_> {
 
 // Guest 0 has queue pair 1, in which a Read waits, and an admin command waits, too.
 fn waiting(alloc: Global) -> Result<World, Fail> {
-    let mut world = opened(alloc, &ONE)?;
-    let mut acts = Vec::new(alloc);
-    Guest::new(false).bring_up(alloc, &mut acts)?;
-    for act in acts {
-        world.step(alloc, Event::Guest(0, act));
-    }
-    world.step(alloc, Event::Admin(0));
-    world.step(alloc, Event::Admin(0));
+    let mut world = brought_up(alloc, &ONE)?;
     let read = entry_of(0x02, 1, 0x6000, (0, 0), [5, 0, 0]);
-    let bytes = BoxedBytes::from_slice(alloc, &read)?;
-    let store = Act::Store {
-        addr: 0x1_3000,
-        bytes,
-    };
-    for act in [store, rings(0x1008, 1), rings(0x1000, 3)] {
-        world.step(alloc, Event::Guest(0, act));
-    }
+    store(&mut world, alloc, 0, 0x1_3000, &read)?;
+    ring(&mut world, alloc, 0, 0x1008, 1);
+    ring(&mut world, alloc, 0, 0x1000, 3);
     Ok(world)
 }
 
@@ -367,10 +403,10 @@ fn reaped<R: Threads + Wait + Clock + Sync>(
 fn each_worker_rings_for_the_next(rt: HostRuntime) -> Result<(), Fail> {
     let alloc = rt.alloc();
     let (by_planner, world) = planned(&rt, alloc, waiting(alloc)?);
-    assert_eq!(rt; by_planner, [1, 0, 0, 1]);
+    expect_sets(&rt, by_planner, [1, 0, 0, 1]);
     let (by_device, world) = moved(&rt, alloc, world);
-    assert_eq!(rt; by_device, [0, 0, 1, 0]);
+    expect_sets(&rt, by_device, [0, 0, 1, 0]);
     let (by_reaper, _) = reaped(&rt, alloc, world);
-    assert_eq!(rt; by_reaper, [1, 0, 0, 0]);
+    expect_sets(&rt, by_reaper, [1, 0, 0, 0]);
     Ok(())
 }

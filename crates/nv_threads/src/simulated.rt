@@ -6,29 +6,31 @@
 //! front of its queue and a lane is short of tags. From time to time both worlds are shared anew, so that workers start with commands that are
 //! under way. Guests have one extent each, or several, so that their commands take several tags and tags run out.
 
-use crate::alike::{same_act, same_reply};
 use crate::bits::bit;
 use crate::concern::Concern;
 use crate::device_side::LaneDevice;
-use crate::gate::Open;
 use crate::given::GrantCopy;
 use crate::locked::{Errand, Locked};
-use crate::maker::{PlanMaker, Prepared};
+use crate::maker::Prepared;
 use crate::notes::Notes;
 use crate::planning::GuestPlanner;
 use crate::reaping::LaneReaper;
 use crate::shared::Shared;
-use crate::simulated_counts::{Ended, are_sizes_noted};
+use crate::simulated_alike::{Move, are_all_alike, moved, note_the_same};
+use crate::simulated_counts::{Ended, Met, are_sizes_noted};
 use crate::simulated_guest::{Chance, Guest, is_reset, is_store};
+use crate::simulated_seats::{MakerSeat, Seat, devices, makers, planners, reapers};
 use crate::simulated_start::{LOOKS, PASSES, Start};
-use crate::simulated_worlds::{Extents, FEW, GUESTS, LANES, MANY, ONE, most_of, opened};
+use crate::simulated_worlds::{
+    Extents, FEW, GUESTS, LANES, MANY, ONE, entry, events, most_of, opened, step,
+};
 use crate::tasks::{Task, Turn};
 use crate::telling::tell;
+use nv_mem::NoMemory;
 use nv_model::Act;
 use nv_model::limits::TAGS;
-use nv_plan::{Plan, PlanKind, ReadDone};
 use nv_world::World;
-use nv_world_model::{Event, Logged};
+use nv_world_model::Event;
 use std::alloc::Global;
 use std::process::Abort;
 use std::sync::Wait;
@@ -53,82 +55,6 @@ const CHECKED: u32 = 61;
 /// How many turns workers have alone until all commands have run out.
 const LAST_TURNS: u32 = 10_000;
 
-/// An event other than a guest's.
-#[derive(Clone, Copy, PartialEq, Eq)]
-enum Move {
-    Admin(u8),
-    Take(u8, u16, u8),
-    List(u8, u8, u64, u64),
-    Submit(u8, u8),
-    GiveUp(u8, u8),
-    DevTake(u8),
-    DevMove(u8, u8, u64),
-    DevPost(u8, u8),
-    Reap(u8),
-    Post(u8, u8),
-}
-
-// What was done by an event that workers make.
-fn moved(event: &Event) -> Option<Move> {
-    match event {
-        Event::Admin(guest) => Some(Move::Admin(*guest)),
-        Event::Take(guest, queue, lane) => Some(Move::Take(*guest, *queue, *lane)),
-        Event::List(lane, tag, addr, len) => Some(Move::List(*lane, *tag, *addr, *len)),
-        Event::Submit(lane, tag) => Some(Move::Submit(*lane, *tag)),
-        Event::GiveUp(lane, tag) => Some(Move::GiveUp(*lane, *tag)),
-        Event::DevTake(lane) => Some(Move::DevTake(*lane)),
-        Event::DevMove(lane, slot, unit) => Some(Move::DevMove(*lane, *slot, *unit)),
-        Event::DevPost(lane, slot) => Some(Move::DevPost(*lane, *slot)),
-        Event::Reap(lane) => Some(Move::Reap(*lane)),
-        Event::Post(lane, tag) => Some(Move::Post(*lane, *tag)),
-        _ => None,
-    }
-}
-
-// Whether two events are the same, and were answered the same.
-fn are_alike(one: &Logged, other: &Logged) -> bool {
-    let same = match (&one.event, &other.event) {
-        (Event::Guest(guest, act), Event::Guest(another, again)) => {
-            guest == another && same_act(act, again)
-        }
-        (event, again) => moved(event).is_some() && moved(event) == moved(again),
-    };
-    same && same_reply(&one.reply, &other.reply)
-}
-
-/// A worker, and whether it waits for its bell, and whether that was rung since its last poll.
-#[derive(Drop)]
-struct Seat<T> {
-    worker: T,
-    waits: bool,
-    is_rung: bool,
-}
-
-impl<T> Seat<T> {
-    fn new(worker: T) -> Self {
-        Seat {
-            worker,
-            waits: false,
-            is_rung: false,
-        }
-    }
-
-    // Whether it polls now: it doesn't wait, its bell was rung, or it has waited long enough.
-    fn looks(&self, is_late: bool) -> bool {
-        !self.waits || self.is_rung || is_late
-    }
-}
-
-/// The gate of all planners.
-const GATE: &Open = &Open;
-
-/// Where a planner makes its plans, and what it has read and not fed to one: it does so at its next turn, when there may be no memory for it.
-#[derive(Drop)]
-struct MakerSeat<'a> {
-    maker: PlanMaker<'a, Open, Global>,
-    read: Option<(u8, ReadDone)>,
-}
-
 /// Both worlds with their guests and workers.
 #[derive(Drop)]
 struct Simulation<'a> {
@@ -149,20 +75,7 @@ struct Simulation<'a> {
     owners: Vec<u8>,
     // what has ended and is not posted
     ended: Ended,
-    // how often a lane had no free tag, and how often some but fewer than a command may take
-    full: u64,
-    short: u64,
-    // how often a worker that waited was notified
-    woken: u64,
-    // how many plans had several parts, and how many of these had one that is no physical command
-    parted: u64,
-    idle: u64,
-    // how many commands were taken where a lane was short of tags, so that its guest's other planners were notified
-    passed: u64,
-    // how often a guest disabled its controller
-    resets: u64,
-    // how many reads plans were fed with
-    fed: u64,
+    met: Met,
 }
 
 impl<'a> Simulation<'a> {
@@ -187,14 +100,7 @@ impl<'a> Simulation<'a> {
             reapers: Vec::new(alloc),
             owners: vec![in alloc; 0; usize::from(LANES) * usize::from(TAGS)]?,
             ended: Ended::new(),
-            full: 0,
-            short: 0,
-            woken: 0,
-            parted: 0,
-            idle: 0,
-            passed: 0,
-            resets: 0,
-            fed: 0,
+            met: Met::new(),
         })
     }
 
@@ -214,38 +120,17 @@ impl<'a> Simulation<'a> {
 
     // So many commands of a guest are taken in both worlds, where there are as many.
     fn take(&mut self, guest: u8, lane: u8, count: u64) {
-        for _ in 0..count {
-            self.start
-                .world
-                .step(self.alloc, Event::Take(guest, 1, lane));
-            self.locked
-                .world
-                .step(self.alloc, Event::Take(guest, 1, lane));
-        }
+        take_in(&mut self.start.world, self.alloc, guest, lane, count);
+        take_in(&mut self.locked.world, self.alloc, guest, lane, count);
     }
 
     // Workers that have polled nothing yet.
     fn sit_down(&mut self) -> Result<(), Fail> {
         let used = self.locked.notes.served();
-        self.planners = Vec::new(self.alloc);
-        self.makers = Vec::new(self.alloc);
-        self.devices = Vec::new(self.alloc);
-        self.reapers = Vec::new(self.alloc);
-        for (guest, given) in (0..GUESTS).zip(self.givens) {
-            for lane in 0..LANES {
-                self.planners
-                    .push(Seat::new(GuestPlanner::new(guest, lane)))?;
-                self.makers.push(MakerSeat {
-                    maker: PlanMaker::new(GATE, self.alloc, self.alloc, given),
-                    read: None,
-                })?;
-            }
-        }
-        for (lane, was_used) in (0..LANES).zip(used) {
-            self.devices
-                .push(Seat::new(LaneDevice::new(lane, was_used)))?;
-            self.reapers.push(Seat::new(LaneReaper::new(lane)))?;
-        }
+        self.planners = planners(self.alloc)?;
+        self.makers = makers(self.alloc, self.givens)?;
+        self.devices = devices(self.alloc, &used)?;
+        self.reapers = reapers(self.alloc)?;
         Ok(())
     }
 
@@ -264,30 +149,19 @@ impl<'a> Simulation<'a> {
 
     // Whether both logs have the same entries after so many events.
     fn went_alike(&self, before: usize) -> bool {
-        let then = self.start.world.log().get(before..);
-        let now = self.locked.world.log().get(before..);
-        match (then, now) {
-            (Some(then), Some(now)) => {
-                then.len() == now.len()
-                    && then
-                        .iter()
-                        .zip(now)
-                        .all(|(one, other)| are_alike(one, other))
-            }
-            _ => false,
-        }
+        are_all_alike(&self.start.world, &self.locked.world, before)
     }
 
     // What the last event was, where it was made after so many.
     fn made(&self, before: usize) -> Option<Move> {
-        moved(&self.locked.world.log().get(before)?.event)
+        moved(&entry(&self.locked.world, before)?.event)
     }
 
     // A guest's act, in both worlds; whether those that should be notified were.
     fn act(&mut self, guest: u8, act: Act) -> Result<bool, Fail> {
         let errand = Errand::of(&act);
         let is_store = is_store(&act);
-        self.resets = self.resets.saturating_add(u64::from(is_reset(&act)));
+        self.met.resets = self.met.resets.saturating_add(u64::from(is_reset(&act)));
         let again = act.try_clone(self.alloc)?;
         tell(&mut self.start.world, self.alloc, guest, again)?;
         tell(&mut self.locked.world, self.alloc, guest, act)?;
@@ -323,7 +197,7 @@ impl<'a> Simulation<'a> {
 
     // A turn of a lane's reaper; whether it notified those it should.
     fn reaper_turn(&mut self, lane: u8, is_late: bool) -> bool {
-        let before = self.locked.world.log().len();
+        let before = events(&self.locked.world);
         let notes = self.locked.notes;
         self.start.reaper_turn(lane);
         let Some(seat) = self.reapers.get_mut(usize::from(lane)) else {
@@ -333,7 +207,7 @@ impl<'a> Simulation<'a> {
             return true;
         }
         if seat.waits {
-            self.woken = self.woken.saturating_add(u64::from(seat.is_rung));
+            self.met.woken = self.met.woken.saturating_add(u64::from(seat.is_rung));
             seat.worker.thorough = !seat.is_rung;
         }
         seat.is_rung = false;
@@ -341,8 +215,7 @@ impl<'a> Simulation<'a> {
         seat.waits = concern.is_none();
         let told = concern.unwrap_or(Concern::nobody());
         self.ring(told);
-        self.ended
-            .follow(&notes, self.locked.world.log().get(before));
+        self.ended.follow(&notes, entry(&self.locked.world, before));
         match self.made(before) {
             Some(Move::Post(lane, tag)) => {
                 let owner = self.owner(lane, tag);
@@ -363,9 +236,8 @@ impl<'a> Simulation<'a> {
     // Notes whose commands those of a lane are that were taken and not planned.
     fn note_owners(&mut self, lane: u8) -> Result<(), Fail> {
         for tag in 0..TAGS {
-            let job = self.locked.world.job(self.alloc, lane, tag)?;
-            if let (Some(job), Some(owner)) = (job, self.owners.get_mut(place_of(lane, tag))) {
-                *owner = job.guest;
+            if let Some(guest) = taken_by(&self.locked.world, self.alloc, lane, tag)? {
+                note_owner(&mut self.owners, lane, tag, guest);
             }
         }
         Ok(())
@@ -373,7 +245,7 @@ impl<'a> Simulation<'a> {
 
     // Turns of the physical controller on a lane until it has made an event or has none to make; whether they came to an end.
     fn device_turn(&mut self, lane: u8, is_late: bool) -> bool {
-        let before = self.locked.world.log().len();
+        let before = events(&self.locked.world);
         let ended = self.start.device_turn(lane);
         let Some(seat) = self.devices.get_mut(usize::from(lane)) else {
             return false;
@@ -382,7 +254,7 @@ impl<'a> Simulation<'a> {
             return ended;
         }
         if seat.waits {
-            self.woken = self.woken.saturating_add(u64::from(seat.is_rung));
+            self.met.woken = self.met.woken.saturating_add(u64::from(seat.is_rung));
             if !seat.is_rung {
                 seat.worker.look_everywhere();
             }
@@ -394,7 +266,7 @@ impl<'a> Simulation<'a> {
             if seat.waits {
                 return ended;
             }
-            if self.locked.world.log().len() != before {
+            if events(&self.locked.world) != before {
                 self.ring(concern.unwrap_or(Concern::nobody()));
                 return ended;
             }
@@ -410,7 +282,7 @@ impl<'a> Simulation<'a> {
         is_late: bool,
         is_starved: bool,
     ) -> Result<bool, Fail> {
-        let before = self.locked.world.log().len();
+        let before = events(&self.locked.world);
         if !self.start.planner_turn(at, is_starved) {
             return Ok(false);
         }
@@ -421,7 +293,7 @@ impl<'a> Simulation<'a> {
             return Ok(true);
         }
         if seat.waits {
-            self.woken = self.woken.saturating_add(u64::from(seat.is_rung));
+            self.met.woken = self.met.woken.saturating_add(u64::from(seat.is_rung));
         }
         seat.is_rung = false;
         for _ in 0..LOOKS {
@@ -429,7 +301,7 @@ impl<'a> Simulation<'a> {
                 return Ok(true);
             };
             self.ring(told);
-            if self.locked.world.log().len() != before {
+            if events(&self.locked.world) != before {
                 return self.has_told(before, told);
             }
         }
@@ -439,14 +311,17 @@ impl<'a> Simulation<'a> {
     // Whether the guest was notified of the event after so many, where that event has an admin command's answer. Whose commands were taken is
     // noted.
     fn has_told(&mut self, before: usize, told: Concern) -> Result<bool, Fail> {
-        let logged = self.locked.world.log().get(before);
+        let logged = entry(&self.locked.world, before);
         self.ended.follow(&self.locked.notes, logged);
         match self.made(before) {
             Some(Move::Admin(guest)) => {
                 Ok(told.guests == bit(guest) && self.has_rung(guest, told))
             }
             Some(Move::Take(guest, _, lane)) => {
-                self.passed = self.passed.saturating_add(u64::from(told.planners != 0));
+                self.met.passed = self
+                    .met
+                    .passed
+                    .saturating_add(u64::from(told.planners != 0));
                 self.note_owners(lane)?;
                 Ok(told.guests == 0 && self.has_rung(guest, told))
             }
@@ -467,7 +342,7 @@ impl<'a> Simulation<'a> {
         let prepared = match making.read.take() {
             Some((tag, _)) if is_starved => Prepared::NoMemory(tag),
             Some((tag, read)) => {
-                self.fed = self.fed.saturating_add(1);
+                self.met.fed = self.met.fed.saturating_add(1);
                 making.maker.feed(rt, tag, read)
             }
             None => {
@@ -487,8 +362,7 @@ impl<'a> Simulation<'a> {
         };
         if let Prepared::Plan(plan) = &prepared {
             self.ended.see(plan);
-            self.parted = self.parted.saturating_add(u64::from(plan.parts() > 1));
-            self.idle = self.idle.saturating_add(u64::from(has_idle_part(plan)));
+            self.met.see(plan);
         }
         go_on(&mut seat.worker, &mut self.locked, prepared)
     }
@@ -497,8 +371,8 @@ impl<'a> Simulation<'a> {
     fn look_at_lanes(&mut self) {
         for lane in 0..LANES {
             match self.locked.notes.used(lane).count_zeros() {
-                0 => self.full = self.full.saturating_add(1),
-                1..=7 => self.short = self.short.saturating_add(1),
+                0 => self.met.full = self.met.full.saturating_add(1),
+                1..=7 => self.met.short = self.met.short.saturating_add(1),
                 _ => {}
             }
         }
@@ -506,19 +380,8 @@ impl<'a> Simulation<'a> {
 
     // Whether notes say of the tags what the world says of them, and of the queues what its log says.
     fn is_well_noted(&self) -> bool {
-        let notes = &self.locked.notes;
         let anew = Notes::of(&self.locked.world);
-        (0..GUESTS).all(|guest| notes.queues(guest) == anew.queues(guest))
-            && (0..LANES).all(|lane| {
-                notes.used(lane) == anew.used(lane)
-                    && notes.leaders(lane) == anew.leaders(lane)
-                    && (0..TAGS)
-                        .filter(|tag| notes.leaders(lane) & bit(*tag) != 0)
-                        .all(|tag| {
-                            notes.size(lane, tag) == anew.size(lane, tag)
-                                && notes.owner(lane, tag) == anew.owner(lane, tag)
-                        })
-            })
+        note_the_same(&self.locked.notes, &anew)
     }
 
     // One turn of somebody, by chance; whether it was as it should be. In one phase of four the physical controller has no turns, in one the
@@ -529,7 +392,7 @@ impl<'a> Simulation<'a> {
         number: u32,
         chance: &mut Chance,
     ) -> Result<bool, Fail> {
-        let before = self.locked.world.log().len();
+        let before = events(&self.locked.world);
         let phase = number / PHASE % 4;
         let is_late = chance.below(8) == 0;
         let guest = chance.below(u64::from(GUESTS)) as u8;
@@ -548,7 +411,7 @@ impl<'a> Simulation<'a> {
 
     // One turn of some worker, by chance; whether it was what it should be.
     fn workers_turn<R: Wait + Clock>(&mut self, rt: &R, chance: &mut Chance) -> Result<bool, Fail> {
-        let before = self.locked.world.log().len();
+        let before = events(&self.locked.world);
         let guest = chance.below(u64::from(GUESTS)) as u8;
         let lane = chance.below(u64::from(LANES)) as u8;
         let is_right = match chance.below(6) {
@@ -580,10 +443,26 @@ pub(crate) fn go_on(
     Some(Concern::nobody())
 }
 
-// Whether a part of a plan is no physical command, since it manages no range.
-fn has_idle_part(plan: &Plan) -> bool {
-    let is_bounced = matches!(plan.kind(), PlanKind::Bounced);
-    is_bounced && (0..plan.parts()).any(|part| plan.part_len(part) == 0)
+// So many commands of a guest are taken in a world, where there are as many.
+fn take_in(world: &mut World, alloc: Global, guest: u8, lane: u8, count: u64) {
+    for _ in 0..count {
+        step(world, alloc, Event::Take(guest, 1, lane));
+    }
+}
+
+// Whose command a tag has that was taken and not planned; `None` where it has none.
+fn taken_by(world: &World, alloc: Global, lane: u8, tag: u8) -> Result<Option<u8>, NoMemory> {
+    match world.job(alloc, lane, tag)? {
+        Some(job) => Ok(Some(job.guest)),
+        None => Ok(None),
+    }
+}
+
+// Notes whose command a tag has.
+fn note_owner(owners: &mut [u8], lane: u8, tag: u8, guest: u8) {
+    if let Some(owner) = owners.get_mut(place_of(lane, tag)) {
+        *owner = guest;
+    }
 }
 
 // Where the owner of a lane's tag is stored.
@@ -603,98 +482,56 @@ fn givens<R: Wait>(rt: &R, alloc: Global, extents: &Extents) -> Result<Vec<Grant
     Ok(givens)
 }
 
-// A simulation of so many turns; the test ends where a worker did something else than it should.
-fn simulated<'a, R: Abort + Wait + Clock>(
+// So many turns of a simulation; the test ends where a worker did something else than it should.
+fn simulate<R: Abort + Wait + Clock>(
     rt: &R,
-    alloc: Global,
-    extents: &Extents,
-    givens: &'a [GrantCopy],
+    simulation: &mut Simulation,
     seed: u64,
     turns: u32,
-) -> Result<Simulation<'a>, Fail> {
-    let mut simulation = Simulation::new(alloc, extents, givens)?;
+) -> Result<(), Fail> {
     let mut chance = Chance::new(seed);
     for number in 0..turns {
         if number % (PHASE * PHASES) == 0 {
             simulation.share(&mut chance)?;
         }
         let is_right = simulation.turn(rt, number, &mut chance)?;
-        let events = simulation.locked.world.log().len();
-        assert!(rt; is_right, "turn {number} behind {events} events");
+        expect_right(rt, is_right, number, events(&simulation.locked.world));
         if number % CHECKED == 0 {
-            let is_noted = simulation.is_well_noted() && are_sizes_noted(&simulation.locked);
-            assert!(rt; is_noted, "notes of turn {number} behind {events} events");
+            expect_noted(rt, number, simulation);
         }
         simulation.look_at_lanes();
     }
-    Ok(simulation)
+    Ok(())
 }
 
-// Ends the test where a worker did something other than it should, or where no lane was ever full, nobody was ever notified or no plan was fed.
-fn simulate<'a, R: Abort + Wait + Clock>(
-    rt: &R,
-    alloc: Global,
-    givens: &'a [GrantCopy],
-    seed: u64,
-) -> Result<Simulation<'a>, Fail> {
-    let simulation = simulated(rt, alloc, &ONE, givens, seed, TURNS)?;
-    let events = simulation.locked.world.log().len();
-    let (full, woken, fed) = (simulation.full, simulation.woken, simulation.fed);
-    assert!(rt;
-        full > 0 && woken > 0 && fed > 0 && events > 10_000,
-        "{full} {woken} {fed} {events}"
-    );
-    Ok(simulation)
+// A turn was as it should be.
+fn expect_right(rt: &impl Abort, is_right: bool, number: u32, events: usize) {
+    assert!(rt; is_right, "turn {number} behind {events} events");
+}
+
+// Notes are what they should be after a turn.
+fn expect_noted(rt: &impl Abort, number: u32, simulation: &Simulation) {
+    let is_noted = simulation.is_well_noted() && are_sizes_noted(&simulation.locked);
+    assert!(rt; is_noted, "notes of turn {number}");
+}
+
+// Ends the test where no lane was ever full, nobody was ever notified, no plan was fed, or a plan had several parts.
+fn expect_met(rt: &impl Abort, simulation: &Simulation) {
+    let met = &simulation.met;
+    assert!(rt; met.full > 0 && met.woken > 0 && met.fed > 0);
+    assert!(rt; events(&simulation.locked.world) > 10_000);
+    assert!(rt; met.parted == 0);
 }
 
 #[test]
 fn workers_choose_as_at_the_start(rt: HostRuntime) -> Result<(), Fail> {
     let givens = givens(&rt, rt.alloc(), &ONE)?;
     for seed in 1..=SIMULATIONS {
-        let simulation = simulate(&rt, rt.alloc(), &givens, seed)?;
-        assert_eq!(rt; simulation.parted, 0);
+        let mut simulation = Simulation::new(rt.alloc(), &ONE, &givens)?;
+        simulate(&rt, &mut simulation, seed, TURNS)?;
+        expect_met(&rt, &simulation);
     }
     Ok(())
-}
-
-/// What simulations of several extents met with: the sums of what each counted.
-#[derive(Debug, Drop)]
-struct Met {
-    full: u64,
-    short: u64,
-    parted: u64,
-    idle: u64,
-    passed: u64,
-    resets: u64,
-}
-
-impl Met {
-    fn new() -> Self {
-        Met {
-            full: 0,
-            short: 0,
-            parted: 0,
-            idle: 0,
-            passed: 0,
-            resets: 0,
-        }
-    }
-
-    fn add(&mut self, simulation: &Simulation) {
-        self.full = self.full.saturating_add(simulation.full);
-        self.short = self.short.saturating_add(simulation.short);
-        self.parted = self.parted.saturating_add(simulation.parted);
-        self.idle = self.idle.saturating_add(simulation.idle);
-        self.passed = self.passed.saturating_add(simulation.passed);
-        self.resets = self.resets.saturating_add(simulation.resets);
-    }
-
-    // Whether lanes were full and short of tags, commands took several tags, parts of some ended where they were handed on, commands were taken
-    // where a lane was short of tags, and controllers were reset.
-    fn has_all(&self) -> bool {
-        let have_tags_run_out = self.full > 0 && self.short > 0 && self.passed > 0;
-        have_tags_run_out && self.parted > 100 && self.idle > 0 && self.resets > 0
-    }
 }
 
 // Ends the test where a worker did something else than it should, or where the simulations did not meet with all that they are for.
@@ -706,9 +543,12 @@ fn simulate_apart<R: Abort + Wait + Clock>(
     let givens = givens(rt, alloc, extents)?;
     let mut met = Met::new();
     for seed in 1..=SIMULATIONS_APART {
-        met.add(&simulated(rt, alloc, extents, &givens, seed, TURNS)?);
+        let mut simulation = Simulation::new(alloc, extents, &givens)?;
+        simulation.met = met;
+        simulate(rt, &mut simulation, seed, TURNS)?;
+        met = simulation.met;
     }
-    assert!(rt; met.has_all(), "{met:?}");
+    met.expect_all(rt);
     Ok(())
 }
 
@@ -732,7 +572,8 @@ fn run_out<R: Abort + Wait + Clock>(
     seed: u64,
 ) -> Result<(), Fail> {
     let givens = givens(rt, alloc, extents)?;
-    let mut simulation = simulated(rt, alloc, extents, &givens, seed, PHASE * 4)?;
+    let mut simulation = Simulation::new(alloc, extents, &givens)?;
+    simulate(rt, &mut simulation, seed, PHASE * 4)?;
     for guest in 0..GUESTS {
         let reset = Act::RegWrite {
             offset: 0x14,
@@ -740,17 +581,31 @@ fn run_out<R: Abort + Wait + Clock>(
         };
         simulation.act(guest, reset)?;
     }
+    work_to_the_end(rt, &mut simulation, seed)?;
+    expect_nothing(rt, &simulation.locked.notes);
+    Ok(())
+}
+
+// Workers get turns alone.
+fn work_to_the_end<R: Abort + Wait + Clock>(
+    rt: &R,
+    simulation: &mut Simulation,
+    seed: u64,
+) -> Result<(), Fail> {
     let mut chance = Chance::new(seed);
     for number in 0..LAST_TURNS {
         let is_right = simulation.workers_turn(rt, &mut chance)?;
-        assert!(rt; is_right, "last turn {number}");
+        expect_right(rt, is_right, number, events(&simulation.locked.world));
     }
-    let notes = &simulation.locked.notes;
-    for lane in 0..LANES {
-        assert_eq!(rt; notes.used(lane), 0);
-    }
-    assert_eq!(rt; notes.with_ended(), 0);
     Ok(())
+}
+
+// No tag is noted as taken, and none as ended.
+fn expect_nothing(rt: &impl Abort, notes: &Notes) {
+    for lane in 0..LANES {
+        assert!(rt; notes.used(lane) == 0);
+    }
+    assert!(rt; notes.with_ended() == 0);
 }
 
 #[test]

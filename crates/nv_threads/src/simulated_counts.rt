@@ -9,9 +9,10 @@ use nv_model::limits::TAGS;
 use nv_plan::{Plan, PlanKind};
 use nv_world::World;
 use nv_world_model::{Event, Logged};
+use std::process::Abort;
 
 /// Of how many tags of each lane the parts have ended that are not posted.
-#[derive(Debug, Drop)]
+#[derive(Drop)]
 pub(crate) struct Ended {
     lanes: [u64; LANES as usize],
     // how many parts end where the last plan is handed on; `None` where it answers its command
@@ -29,8 +30,10 @@ impl Ended {
 
     /// Workers come to the world as it is: parts of all tags that are taken may have ended.
     pub(crate) fn share(&mut self, notes: &Notes) {
-        for (ended, lane) in self.lanes.iter_mut().zip(0..LANES) {
-            *ended = u64::from(notes.used(lane).count_ones());
+        for lane in 0..LANES {
+            if let Some(ended) = self.lanes.get_mut(usize::from(lane)) {
+                *ended = u64::from(notes.used(lane).count_ones());
+            }
         }
     }
 
@@ -78,31 +81,60 @@ impl Ended {
 
     /// Whether it is noted on which lanes parts have ended.
     pub(crate) fn is_noted(&self, notes: &Notes) -> bool {
-        let with_ended = notes.with_ended();
-        self.lanes.iter().zip(0..LANES).all(|(ended, lane)| (with_ended & bit(lane) != 0)
-            == (*ended != 0))
+        let mut with_ended = 0;
+        for lane in 0..LANES {
+            with_ended |= self.is_left(lane);
+        }
+        notes.with_ended() == with_ended
+    }
+
+    // The lane, as a set, where parts have ended.
+    fn is_left(&self, lane: u8) -> u64 {
+        match self.lanes.get(usize::from(lane)) {
+            Some(ended) if *ended != 0 => bit(lane),
+            _ => 0,
+        }
     }
 }
 
 /// Whether it is noted of each command how many tags it has.
 pub(crate) fn are_sizes_noted(locked: &Locked) -> bool {
-    let notes = &locked.notes;
-    (0..LANES).all(|lane| {
-        (0..TAGS)
-            .filter(|tag| notes.leaders(lane) & bit(*tag) != 0)
-            .all(|tag| notes.size(lane, tag) == tags_of(&locked.world, lane, tag))
-    })
+    for lane in 0..LANES {
+        if !is_size_noted(locked, lane) {
+            return false;
+        }
+    }
+    true
+}
+
+// Whether it is noted of each command of a lane how many tags it has.
+fn is_size_noted(locked: &Locked, lane: u8) -> bool {
+    let leaders = locked.notes.leaders(lane);
+    for tag in 0..TAGS {
+        if leaders & bit(tag) != 0
+            && locked.notes.size(lane, tag) != tags_of(&locked.world, lane, tag)
+        {
+            return false;
+        }
+    }
+    true
 }
 
 // How many tags the command has that goes by this one.
 fn tags_of(world: &World, lane: u8, leader: u8) -> u64 {
     let mut tags: u64 = 0;
     for tag in 0..TAGS {
-        if let Some(holder) = world.holder(lane, tag) {
-            tags = tags.saturating_add(u64::from(holder.leader == leader));
-        }
+        tags = tags.saturating_add(u64::from(is_of(world, lane, tag, leader)));
     }
     tags
+}
+
+// Whether a tag is one of the command that goes by another.
+fn is_of(world: &World, lane: u8, tag: u8, leader: u8) -> bool {
+    match world.holder(lane, tag) {
+        Some(holder) => holder.leader == leader,
+        None => false,
+    }
 }
 
 // How many parts of a plan are no physical commands, since they manage no range.
@@ -114,4 +146,53 @@ fn idle_parts(plan: &Plan) -> u64 {
         }
     }
     idle
+}
+
+/// What simulations met with.
+#[derive(Clone, Copy)]
+pub(crate) struct Met {
+    /// how often a lane had no free tag, and how often some but fewer than a command may take
+    pub(crate) full: u64,
+    pub(crate) short: u64,
+    /// how often a worker that waited was notified
+    pub(crate) woken: u64,
+    /// how many plans had several parts, and how many had one that is no physical command
+    pub(crate) parted: u64,
+    pub(crate) idle: u64,
+    /// how many commands were taken where a lane was short of tags, so that its guest's other planners were notified
+    pub(crate) passed: u64,
+    /// how often a guest disabled its controller
+    pub(crate) resets: u64,
+    /// how many reads plans were fed with
+    pub(crate) fed: u64,
+}
+
+impl Met {
+    /// Nothing yet.
+    pub(crate) fn new() -> Self {
+        Met {
+            full: 0,
+            short: 0,
+            woken: 0,
+            parted: 0,
+            idle: 0,
+            passed: 0,
+            resets: 0,
+            fed: 0,
+        }
+    }
+
+    /// A plan was made.
+    pub(crate) fn see(&mut self, plan: &Plan) {
+        self.parted = self.parted.saturating_add(u64::from(plan.parts() > 1));
+        self.idle = self.idle.saturating_add(u64::from(idle_parts(plan) != 0));
+    }
+
+    /// Lanes were full and short of tags, commands took several tags, parts of some ended where they were handed on, commands were taken where a
+    /// lane was short of tags, and controllers were reset.
+    pub(crate) fn expect_all(&self, rt: &impl Abort) {
+        assert!(rt; self.full > 0 && self.short > 0 && self.passed > 0, "tags");
+        assert!(rt; self.parted > 100 && self.idle > 0, "parts");
+        assert!(rt; self.resets > 0, "resets");
+    }
 }

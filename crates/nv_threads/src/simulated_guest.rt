@@ -132,9 +132,14 @@ fn transfer(chance: &mut Chance, identifier: u32) -> [u8; 64] {
 
 // A range by chance, of up to 15 blocks.
 fn range(chance: &mut Chance) -> [u8; 16] {
-    let mut bytes = [0; 16];
     let start = chance.below(52) as u8;
     let count = chance.below(16) as u8;
+    range_of(start, count)
+}
+
+/// A range of so many blocks from that one on.
+pub(crate) fn range_of(start: u8, count: u8) -> [u8; 16] {
+    let mut bytes = [0; 16];
     bytes[4] = count;
     bytes[8] = start;
     bytes

@@ -1,8 +1,11 @@
 //! The worlds that are simulated.
 
 use nv_mem::{GuestMap, Region};
+use nv_model::Reply;
 use nv_model::limits::MOST_DESCRIPTORS;
+use nv_plan::Plan;
 use nv_world::{Extent, GuestSetup, Setup, World};
+use nv_world_model::{Event, Logged};
 use std::alloc::Global;
 use std::test::Fail;
 
@@ -52,43 +55,105 @@ pub(crate) fn most_of(extents: &Extents) -> u32 {
     most
 }
 
+/// How many events a world's log has.
+pub(crate) fn events(world: &World) -> usize {
+    world.log().len()
+}
+
+/// What a world's log has after so many events.
+pub(crate) fn entry(world: &World, before: usize) -> Option<&Logged> {
+    world.log().get(before)
+}
+
+/// An event is made in a world, whatever comes of it.
+pub(crate) fn step(world: &mut World, alloc: Global, event: Event) -> Reply {
+    world.step(alloc, event)
+}
+
+/// A plan is carried out in a world, whatever comes of it.
+pub(crate) fn submit(world: &mut World, plan: Plan) -> Reply {
+    world.submit_plan(plan)
+}
+
 /// A world of guests with these extents at its start.
 pub(crate) fn opened(alloc: Global, extents: &Extents) -> Result<World, Fail> {
-    let mut guests = Vec::new(alloc);
-    for (guest, blocks) in (0..GUESTS).zip(extents) {
-        guests.push(guest_with(alloc, guest, blocks)?)?;
-    }
+    let guests = guests_with(alloc, extents)?;
+    world_with(alloc, HOST, 0x40_0000, LANES, guests)
+}
+
+/// The world of such a set-up at its start.
+pub(crate) fn world_with(
+    alloc: Global,
+    host_bytes: u64,
+    mediator: u64,
+    lanes: u8,
+    guests: Vec<GuestSetup>,
+) -> Result<World, Fail> {
     Ok(World::new(
         alloc,
         Setup {
-            host_bytes: HOST,
-            mediator: 0x40_0000,
+            host_bytes,
+            mediator,
             disk_blocks: 4096,
-            lanes: u64::from(LANES),
+            lanes: u64::from(lanes),
             guests,
         },
     )?)
 }
 
+// What the guests are given.
+fn guests_with(alloc: Global, extents: &Extents) -> Result<Vec<GuestSetup>, Fail> {
+    let mut guests = Vec::new(alloc);
+    let mut guest: u8 = 0;
+    for blocks in extents {
+        guests.push(guest_with(alloc, guest, blocks)?)?;
+        guest = guest.wrapping_add(1);
+    }
+    Ok(guests)
+}
+
 // What a guest is given. Its extents lie apart.
 fn guest_with(alloc: Global, guest: u8, blocks: &[u64; 8]) -> Result<GuestSetup, Fail> {
+    let number = u64::from(guest);
+    let extents = extents_with(alloc, 1000 * number, blocks)?;
+    setup_with(alloc, HOST, 0x10_0000 * (number + 1), extents)
+}
+
+/// What a guest is given that has these extents, and memory from that byte of the host on.
+pub(crate) fn setup_with(
+    alloc: Global,
+    host_bytes: u64,
+    host: u64,
+    extents: Vec<Extent>,
+) -> Result<GuestSetup, Fail> {
     let region = Region {
         guest: 0,
-        host: 0x10_0000 * (u64::from(guest) + 1),
+        host,
         len: MEMORY,
     };
-    let mut extents = Vec::new(alloc);
-    for (number, blocks) in (0..8u8).zip(blocks) {
-        if *blocks != 0 {
-            extents.push(Extent {
-                base: 1000 * u64::from(guest) + 100 * u64::from(number),
-                blocks: *blocks,
-            })?;
-        }
-    }
     Ok(GuestSetup {
-        map: GuestMap::new(HOST, vec![in alloc; region]?)?,
+        map: GuestMap::new(host_bytes, vec![in alloc; region]?)?,
         extents,
         limit: MOST_DESCRIPTORS,
     })
+}
+
+/// Extents of so many blocks each, a hundred blocks apart, from a block on.
+pub(crate) fn extents_with(
+    alloc: Global,
+    first: u64,
+    blocks: &[u64; 8],
+) -> Result<Vec<Extent>, Fail> {
+    let mut extents = Vec::new(alloc);
+    let mut base = first;
+    for blocks in blocks {
+        if *blocks != 0 {
+            extents.push(Extent {
+                base,
+                blocks: *blocks,
+            })?;
+        }
+        base = base.saturating_add(100);
+    }
+    Ok(extents)
 }

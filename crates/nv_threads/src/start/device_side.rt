@@ -2,7 +2,7 @@
 
 ghost use Rattle.std.specs.Prelude.{◌<◌};
 
-use crate::share::Share;
+use crate::simulated_worlds::step;
 use nv_model::Reply;
 use nv_model::limits::{TAG_COUNT, TAGS};
 use nv_world::World;
@@ -13,7 +13,7 @@ use std::alloc::Global;
 const UNITS: u64 = 65_536;
 
 // The physical controller on a lane.
-#[derive(Debug, Drop)]
+#[derive(Drop)]
 pub(crate) struct LaneDevice {
     lane: u8,
     // the slot that was examined last
@@ -24,7 +24,6 @@ pub(crate) struct LaneDevice {
     units: [u64; TAG_COUNT],
     // of commands that were there before the worker came, no unit below this one is left
     earlier: u64,
-    share: Share,
     ghost in_range: { slot < 64 },
 }
 
@@ -36,7 +35,6 @@ impl LaneDevice {
             held: true,
             units: [0; TAG_COUNT],
             earlier: if was_used { 0 } else { UNITS },
-            share: Share::new(),
         }
     }
 
@@ -49,7 +47,7 @@ impl LaneDevice {
         let take = Event::DevTake(self.lane);
         if world.due(&take) {
             self.held = true;
-            return is_done(self.share.step(world, alloc, take));
+            return is_done(step(world, alloc, take));
         }
         if self.held {
             return self.turn_to_another(world, alloc);
@@ -87,7 +85,7 @@ impl LaneDevice {
             Event::DevMove(_, _, unit) => unit.wrapping_add(1),
             _ => 0,
         };
-        let done = is_done(self.share.step(world, alloc, event));
+        let done = is_done(step(world, alloc, event));
         if done {
             self.units[usize::from(self.slot)] = next;
         }

@@ -1,6 +1,6 @@
 //! The worker that takes and plans a guest's commands.
 
-use crate::share::Share;
+use crate::simulated_worlds::{step, submit};
 use crate::start::tasks::{Task, Turn};
 use nv_mem::NoMemory;
 use nv_model::Reply;
@@ -11,7 +11,7 @@ use nv_world_model::Event;
 use std::alloc::Global;
 
 // A guest's planner on a lane.
-#[derive(Debug, Drop)]
+#[derive(Drop)]
 pub(crate) struct GuestPlanner {
     guest: u8,
     lane: u8,
@@ -22,7 +22,6 @@ pub(crate) struct GuestPlanner {
     // whether commands may be left that were taken before it came
     thorough: bool,
     task: Task,
-    share: Share,
 }
 
 impl GuestPlanner {
@@ -35,7 +34,6 @@ impl GuestPlanner {
             tag: 0,
             thorough: true,
             task: Task::Search(0),
-            share: Share::new(),
         }
     }
 
@@ -62,7 +60,7 @@ impl GuestPlanner {
     // Hands a plan over. Where it is stale, or there was no memory, its job is examined again.
     fn submit(&mut self, world: &mut World, plan: Plan) -> Task {
         let tag = plan.job().tag;
-        match self.share.submit(world, plan) {
+        match submit(world, plan) {
             Reply::Done => Task::TakeUp,
             _ => Task::Plan(tag),
         }
@@ -97,7 +95,7 @@ impl GuestPlanner {
     fn take_up(&mut self, world: &mut World, alloc: Global) -> Turn {
         let admin = Event::Admin(self.guest);
         if world.due(&admin) {
-            return done(self.share.step(world, alloc, admin));
+            return done(step(world, alloc, admin));
         }
         for step in 0..LAST_QUEUE {
             let queue = self.queue.wrapping_add(step) % LAST_QUEUE + 1;
@@ -116,7 +114,7 @@ impl GuestPlanner {
 
     // Takes a command, whose tag is to be searched for.
     fn take(&mut self, world: &mut World, alloc: Global, take: Event) -> Turn {
-        match self.share.step(world, alloc, take) {
+        match step(world, alloc, take) {
             Reply::Done => {
                 self.task = Task::Search(0);
                 Turn::Done
@@ -140,7 +138,7 @@ impl GuestPlanner {
     // Reads bytes for the command of a tag, which is to be planned with them.
     fn read(&mut self, world: &mut World, alloc: Global, tag: u8, addr: u64, len: u64) -> Turn {
         let list = Event::List(self.lane, tag, addr, len);
-        match self.share.step(world, alloc, list) {
+        match step(world, alloc, list) {
             Reply::NoMemory => Turn::Nothing,
             _ => {
                 self.task = Task::Plan(tag);
@@ -151,7 +149,7 @@ impl GuestPlanner {
 
     // Gives up the command of a tag.
     fn give_up(&mut self, world: &mut World, alloc: Global, tag: u8) -> Turn {
-        match self.share.step(world, alloc, Event::GiveUp(self.lane, tag)) {
+        match step(world, alloc, Event::GiveUp(self.lane, tag)) {
             Reply::NoMemory => Turn::Nothing,
             _ => {
                 self.task = Task::TakeUp;

@@ -3,7 +3,7 @@
 use nv_plan::Job;
 
 /// What a planner does next.
-#[derive(Clone, Copy, Debug)]
+#[derive(Clone, Copy)]
 pub(crate) enum Task {
     /// It searches for a tag of its lane with a command of its guest's that was taken, and has examined so many.
     Search(u8),
@@ -18,7 +18,7 @@ pub(crate) enum Task {
 }
 
 /// How a turn under the lock ends.
-#[derive(Debug, Drop)]
+#[derive(Drop)]
 pub(crate) enum Turn {
     /// A job is to be planned, outside the lock.
     Job(Job),
