@@ -527,10 +527,37 @@ fn expect_met(rt: &impl Abort, simulation: &Simulation) {
 fn workers_choose_as_at_the_start(rt: HostRuntime) -> Result<(), Fail> {
     let givens = givens(&rt, rt.alloc(), &ONE)?;
     for seed in 1..=SIMULATIONS {
-        let mut simulation = Simulation::new(rt.alloc(), &ONE, &givens)?;
-        simulate(&rt, &mut simulation, seed, TURNS)?;
-        expect_met(&rt, &simulation);
+        simulate_one(&rt, rt.alloc(), &givens, seed)?;
     }
+    Ok(())
+}
+
+// A simulation of guests that have one extent; the test ends where it did not meet with what it is for.
+fn simulate_one<R: Abort + Wait + Clock>(
+    rt: &R,
+    alloc: Global,
+    givens: &[GrantCopy],
+    seed: u64,
+) -> Result<(), Fail> {
+    let mut simulation = Simulation::new(alloc, &ONE, givens)?;
+    simulate(rt, &mut simulation, seed, TURNS)?;
+    expect_met(rt, &simulation);
+    Ok(())
+}
+
+// Goes on counting what simulations meet with.
+fn simulate_more<R: Abort + Wait + Clock>(
+    rt: &R,
+    alloc: Global,
+    extents: &Extents,
+    givens: &[GrantCopy],
+    seed: u64,
+    met: &mut Met,
+) -> Result<(), Fail> {
+    let mut simulation = Simulation::new(alloc, extents, givens)?;
+    simulation.met = *met;
+    simulate(rt, &mut simulation, seed, TURNS)?;
+    *met = simulation.met;
     Ok(())
 }
 
@@ -543,10 +570,7 @@ fn simulate_apart<R: Abort + Wait + Clock>(
     let givens = givens(rt, alloc, extents)?;
     let mut met = Met::new();
     for seed in 1..=SIMULATIONS_APART {
-        let mut simulation = Simulation::new(alloc, extents, &givens)?;
-        simulation.met = met;
-        simulate(rt, &mut simulation, seed, TURNS)?;
-        met = simulation.met;
+        simulate_more(rt, alloc, extents, &givens, seed, &mut met)?;
     }
     met.expect_all(rt);
     Ok(())
