@@ -8,7 +8,6 @@ use nv_entry::Sqe;
 use nv_flat::FlatController;
 use std::alloc::Global;
 use std::process::Abort;
-use std::test::Fail;
 
 /// The dwords of a Read of one block from LBA 5 by one Data Block of 512 bytes at 3000h, CID 7.
 pub(crate) const READ: [u32; 16] = [
@@ -64,12 +63,12 @@ pub(crate) fn changed(rt: &impl Abort, changes: &[(usize, u32)]) -> Sqe {
 }
 
 /// A controller with 20000h bytes of memory and 64 blocks, of which block 5 is filled with 55h and block 6 with 66h.
-pub(crate) fn prepared(rt: &impl Abort, alloc: Global) -> Result<FlatController, Fail> {
-    let mut controller = FlatController::new(alloc, 0x2_0000, 64)?;
+pub(crate) fn prepared(rt: &impl Abort, alloc: Global) -> FlatController {
+    let mut controller = FlatController::new(alloc, 0x2_0000, 64).expect(rt, "memory");
     assert!(rt; controller.blocks() == 64);
     controller.paint(5, 0x55);
     controller.paint(6, 0x66);
-    Ok(controller)
+    controller
 }
 
 /// Puts bytes into a controller's memory.
@@ -92,9 +91,9 @@ pub(crate) fn run(
     controller: &mut FlatController,
     sqe: &Sqe,
     want: u32,
-) -> Result<(), Fail> {
-    assert_eq!(rt; controller.one(alloc, sqe)?.bytes(), completion(want));
-    Ok(())
+) {
+    let ended = controller.one(alloc, sqe).expect(rt, "memory");
+    assert!(rt; ended.bytes() == completion(want), "{ended:?}");
 }
 
 // Whether each of the 512 bytes from an address on is this one.

@@ -3,7 +3,6 @@
 use nv_mem::{GuestMap, MapError, NoMemory, PAGE_SIZE, Region};
 use std::alloc::Global;
 use std::process::Abort;
-use std::test::Fail;
 
 const MAX: u64 = u64::MAX;
 
@@ -198,35 +197,26 @@ const REFUSALS: &[(u64, &[Region], Option<MapError>)] = &[
     ),
 ];
 
-fn refusal_of(
-    alloc: Global,
-    host_len: u64,
-    regions: &[Region],
-) -> Result<Option<MapError>, NoMemory> {
-    Ok(GuestMap::new(host_len, Vec::from_slice(alloc, regions)?).err())
+// The regions, as a map takes them.
+fn listed(rt: &impl Abort, alloc: Global, regions: &[Region]) -> Vec<Region> {
+    Vec::from_slice(alloc, regions).expect(rt, "memory")
 }
 
-fn check_refusals(
-    rt: &impl Abort,
-    alloc: Global,
-    rows: &[(u64, &[Region], Option<MapError>)],
-) -> Result<(), NoMemory> {
+fn check_refusals(rt: &impl Abort, alloc: Global, rows: &[(u64, &[Region], Option<MapError>)]) {
     for (host_len, regions, want) in rows {
-        let refusal = refusal_of(alloc, *host_len, regions)?;
+        let refusal = GuestMap::new(*host_len, listed(rt, alloc, regions)).err();
         assert!(rt; refusal == *want, "{regions:?} in {host_len}");
     }
-    Ok(())
 }
 
 #[test]
-fn new_refuses_with_the_lowest_number(rt: HostRuntime) -> Result<(), Fail> {
-    check_refusals(&rt, rt.alloc(), REFUSALS)?;
-    Ok(())
+fn new_refuses_with_the_lowest_number(rt: HostRuntime) {
+    check_refusals(&rt, rt.alloc(), REFUSALS);
 }
 
 // The map of the regions for a host of `host_len` bytes.
-fn map_of(alloc: Global, host_len: u64, regions: &[Region]) -> Result<GuestMap, Fail> {
-    Ok(GuestMap::new(host_len, Vec::from_slice(alloc, regions)?)?)
+fn map_of(rt: &impl Abort, alloc: Global, host_len: u64, regions: &[Region]) -> GuestMap {
+    GuestMap::new(host_len, listed(rt, alloc, regions)).expect(rt, "a map")
 }
 
 /// Five regions in no order. By guest address, the first two touch in guest and host, the third
@@ -240,8 +230,8 @@ const FIVE: &[Region] = &[
     region!(0x4000, 0x2000, PAGE_SIZE),
 ];
 
-fn five(alloc: Global) -> Result<GuestMap, Fail> {
-    map_of(alloc, 0xb000, FIVE)
+fn five(rt: &impl Abort, alloc: Global) -> GuestMap {
+    map_of(rt, alloc, 0xb000, FIVE)
 }
 
 /// An address, a length, and whether so many bytes from there on are mapped by `FIVE`.
@@ -273,9 +263,8 @@ fn check_held(rt: &impl Abort, map: &GuestMap, rows: &[(u64, u64, bool)]) {
 }
 
 #[test]
-fn holds_what_is_mapped(rt: HostRuntime) -> Result<(), Fail> {
-    check_held(&rt, &five(rt.alloc())?, HELD);
-    Ok(())
+fn holds_what_is_mapped(rt: HostRuntime) {
+    check_held(&rt, &five(&rt, rt.alloc()), HELD);
 }
 
 /// An address, a length, and the run of `FIVE` that begins there.
@@ -306,9 +295,8 @@ fn check_runs(rt: &impl Abort, map: &GuestMap, rows: &[(u64, u64, Option<(u64, u
 }
 
 #[test]
-fn runs_as_far_as_guest_and_host_go_on(rt: HostRuntime) -> Result<(), Fail> {
-    check_runs(&rt, &five(rt.alloc())?, RUNS);
-    Ok(())
+fn runs_as_far_as_guest_and_host_go_on(rt: HostRuntime) {
+    check_runs(&rt, &five(&rt, rt.alloc()), RUNS);
 }
 
 // 64 pages of a guest, the last first, after the first page of the host.
@@ -321,8 +309,9 @@ fn sixty_four(alloc: Global) -> Result<Vec<Region>, NoMemory> {
     Ok(regions)
 }
 
-fn map_of_sixty_four(alloc: Global) -> Result<GuestMap, Fail> {
-    map_of(alloc, 65 * PAGE_SIZE, &sixty_four(alloc)?)
+fn map_of_sixty_four(rt: &impl Abort, alloc: Global) -> GuestMap {
+    let regions = sixty_four(alloc).expect(rt, "memory");
+    map_of(rt, alloc, 65 * PAGE_SIZE, &regions)
 }
 
 fn is_map_of(map: &GuestMap, host_len: u64, regions: &[Region]) -> bool {
@@ -330,19 +319,24 @@ fn is_map_of(map: &GuestMap, host_len: u64, regions: &[Region]) -> bool {
 }
 
 // Whether a map of 64 pages, and its clone, return these regions.
-fn are_told(alloc: Global, map: &GuestMap) -> Result<bool, NoMemory> {
-    let regions = sixty_four(alloc)?;
-    let clone = map.try_clone(alloc)?;
-    Ok(is_map_of(map, 65 * PAGE_SIZE, &regions) && is_map_of(&clone, 65 * PAGE_SIZE, &regions))
+fn are_told(rt: &impl Abort, alloc: Global, map: &GuestMap) -> bool {
+    let regions = sixty_four(alloc).expect(rt, "memory");
+    let clone = map.try_clone(alloc).expect(rt, "memory");
+    is_map_of(map, 65 * PAGE_SIZE, &regions) && is_map_of(&clone, 65 * PAGE_SIZE, &regions)
+}
+
+// Whether a map of 64 pages goes to its last page, and no further.
+fn goes_to_its_end(map: &GuestMap) -> bool {
+    map.holds(0, 64 * PAGE_SIZE)
+        && !map.holds(0, 64 * PAGE_SIZE + 1)
+        && map.run(1, MAX) == Some((PAGE_SIZE + 1, 64 * PAGE_SIZE - 1))
 }
 
 #[test]
-fn takes_sixty_four_regions(rt: HostRuntime) -> Result<(), Fail> {
-    let map = map_of_sixty_four(rt.alloc())?;
-    assert!(rt; are_told(rt.alloc(), &map)?);
-    assert!(rt; map.holds(0, 64 * PAGE_SIZE) && !map.holds(0, 64 * PAGE_SIZE + 1));
-    assert!(rt; map.run(1, MAX) == Some((PAGE_SIZE + 1, 64 * PAGE_SIZE - 1)));
-    Ok(())
+fn takes_sixty_four_regions(rt: HostRuntime) {
+    let map = map_of_sixty_four(&rt, rt.alloc());
+    assert!(rt; are_told(&rt, rt.alloc(), &map));
+    assert!(rt; goes_to_its_end(&map));
 }
 
 // The host address of a guest address in a map of pages that lie in pairs, a page apart: those of every other pair touch in guest and
@@ -424,22 +418,26 @@ const RUNS_PAIRED: &[(u64, u64, Option<(u64, u64)>)] = &[
 ];
 
 // A map of that many paired pages is right in every page, and in runs and ranges that go from one to another.
-fn check_paired(rt: &impl Abort, alloc: Global, count: u64) -> Result<(), Fail> {
-    let map = map_of(alloc, 0x80_000, &paired(alloc, count)?)?;
+fn check_paired(rt: &impl Abort, alloc: Global, count: u64) {
+    let map = map_of_paired(rt, alloc, count);
     assert!(rt; has_each_page_in_place(&map, 3 * 32));
     check_held(rt, &map, HELD_PAIRED);
     check_runs(rt, &map, RUNS_PAIRED);
-    Ok(())
+}
+
+fn map_of_paired(rt: &impl Abort, alloc: Global, count: u64) -> GuestMap {
+    let regions = paired(alloc, count).expect(rt, "memory");
+    map_of(rt, alloc, 0x80_000, &regions)
 }
 
 #[test]
-fn finds_sixty_four_regions_in_no_order(rt: HostRuntime) -> Result<(), Fail> {
-    check_paired(&rt, rt.alloc(), 64)
+fn finds_sixty_four_regions_in_no_order(rt: HostRuntime) {
+    check_paired(&rt, rt.alloc(), 64);
 }
 
 #[test]
-fn finds_more_than_sixty_four_regions_in_no_order(rt: HostRuntime) -> Result<(), Fail> {
-    check_paired(&rt, rt.alloc(), 128)
+fn finds_more_than_sixty_four_regions_in_no_order(rt: HostRuntime) {
+    check_paired(&rt, rt.alloc(), 128);
 }
 
 // Whether the map of 64 pages meets the host in all but its first page.
@@ -456,25 +454,25 @@ fn meets_the_last_page_alone(map: &GuestMap, last: &GuestMap, first: &GuestMap) 
 }
 
 #[test]
-fn meets_what_has_a_byte_in_common(rt: HostRuntime) -> Result<(), Fail> {
-    let map = map_of_sixty_four(rt.alloc())?;
+fn meets_what_has_a_byte_in_common(rt: HostRuntime) {
+    let map = map_of_sixty_four(&rt, rt.alloc());
     assert!(rt; meets_all_but_the_first_page(&map));
-    let last = map_of(
-        rt.alloc(),
-        65 * PAGE_SIZE,
-        &[region!(0, 64 * PAGE_SIZE, PAGE_SIZE)],
-    )?;
-    let first = map_of(rt.alloc(), 65 * PAGE_SIZE, &[FIRST])?;
+    let last = map_of(&rt, rt.alloc(), 65 * PAGE_SIZE, LAST);
+    let first = map_of(&rt, rt.alloc(), 65 * PAGE_SIZE, &[FIRST]);
     assert!(rt; meets_the_last_page_alone(&map, &last, &first));
-    Ok(())
+}
+
+/// The first page of a guest at the last page of a host of 65.
+const LAST: &[Region] = &[region!(0, 64 * PAGE_SIZE, PAGE_SIZE)];
+
+// Whether a map of no region maps nothing.
+fn maps_nothing(map: &GuestMap) -> bool {
+    map.holds(0, 0) && !map.holds(0, 1) && map.regions().is_empty() && map.run(0, 1).is_none()
 }
 
 #[test]
-fn maps_nothing_without_regions(rt: HostRuntime) -> Result<(), Fail> {
-    let map = map_of(rt.alloc(), 0, &[])?;
-    assert!(rt; map.holds(0, 0) && !map.holds(0, 1) && map.regions().is_empty());
-    assert!(rt; map.run(0, 1).is_none());
-    Ok(())
+fn maps_nothing_without_regions(rt: HostRuntime) {
+    assert!(rt; maps_nothing(&map_of(&rt, rt.alloc(), 0, &[])));
 }
 
 /// A map as it was before its regions had an order, when what it shows was derived.
@@ -489,22 +487,29 @@ mod derived {
 }
 
 // A map of that many paired pages is shown as one without an order, on one line and on many.
-fn check_shown(rt: &impl Abort, alloc: Global, count: u64) -> Result<(), Fail> {
-    let map = map_of(alloc, 0x80_000, &paired(alloc, count)?)?;
+fn check_shown(rt: &impl Abort, alloc: Global, count: u64) {
+    let shown = shown(rt, alloc, &map_of_paired(rt, alloc, count));
+    let wanted = shown_plainly(rt, alloc, count);
+    assert!(rt; shown == wanted, "{shown}, and not {wanted}");
+}
+
+// What is shown of a map.
+fn shown(rt: &impl Abort, alloc: Global, map: &GuestMap) -> String {
+    format!(in alloc; "{map:?} {map:#?}").expect(rt, "memory")
+}
+
+// What is shown of a map of that many paired pages without an order.
+fn shown_plainly(rt: &impl Abort, alloc: Global, count: u64) -> String {
     let plain = derived::GuestMap {
         host_len: 0x80_000,
-        regions: paired(alloc, count)?,
+        regions: paired(alloc, count).expect(rt, "memory"),
     };
-    let shown = format!(in alloc; "{map:?} {map:#?}")?;
-    let wanted = format!(in alloc; "{plain:?} {plain:#?}")?;
-    assert_eq!(rt; shown, wanted);
-    Ok(())
+    format!(in alloc; "{plain:?} {plain:#?}").expect(rt, "memory")
 }
 
 #[test]
-fn is_shown_without_an_order(rt: HostRuntime) -> Result<(), Fail> {
+fn is_shown_without_an_order(rt: HostRuntime) {
     for count in [0, 2, 62, 64, 66, 128] {
-        check_shown(&rt, rt.alloc(), count)?;
+        check_shown(&rt, rt.alloc(), count);
     }
-    Ok(())
 }

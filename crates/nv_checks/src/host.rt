@@ -2,7 +2,6 @@
 
 use nv_mem::Host;
 use std::process::Abort;
-use std::test::Fail;
 
 // Whether these bytes, 8 at most, are loaded from an address.
 fn loads(host: &Host, addr: u64, want: &[u8]) -> bool {
@@ -28,17 +27,17 @@ fn stores(host: &mut Host, addr: u64, bytes: &[u8]) -> bool {
 }
 
 #[test]
-fn loads_what_was_stored(rt: HostRuntime) -> Result<(), Fail> {
-    let mut host = Host::new(rt.alloc(), 8)?;
-    assert!(rt; host.len() == 8 && !host.is_empty());
-    assert!(rt; loads(&host, 0, &[0; 8]));
+fn loads_what_was_stored(rt: HostRuntime) {
+    let mut host = Host::new(rt.alloc(), 8).expect(&rt, "memory");
+    assert!(rt; host.len() == 8 && !host.is_empty() && loads(&host, 0, &[0; 8]));
     assert!(rt; stores(&mut host, 2, &[1, 2, 3]) && stores(&mut host, 5, &[4, 5, 6]));
-    assert!(rt; loads(&host, 0, &[0, 0, 1, 2, 3, 4, 5, 6]) && loads(&host, 4, &[3, 4]));
+    assert!(rt; loads(&host, 0, &STORED) && loads(&host, 4, &[3, 4]));
     // no bytes lie in the host at any address
     assert!(rt; stores(&mut host, u64::MAX, &[]) && loads(&host, 9, &[]));
-    assert!(rt; loads(&host, 0, &[0, 0, 1, 2, 3, 4, 5, 6]));
-    Ok(())
+    assert!(rt; loads(&host, 0, &STORED));
 }
+
+const STORED: [u8; 8] = [0, 0, 1, 2, 3, 4, 5, 6];
 
 /// An address, a length, and whether a host of 8 bytes holds so many from there on.
 const HELD: &[(u64, u64, bool)] = &[
@@ -59,10 +58,9 @@ fn check_held(rt: &impl Abort, host: &Host, rows: &[(u64, u64, bool)]) {
 }
 
 #[test]
-fn holds_ranges(rt: HostRuntime) -> Result<(), Fail> {
-    check_held(&rt, &Host::new(rt.alloc(), 8)?, HELD);
+fn holds_ranges(rt: HostRuntime) {
+    check_held(&rt, &Host::new(rt.alloc(), 8).expect(&rt, "memory"), HELD);
     assert!(rt; Host::new(rt.alloc(), u64::MAX).is_err());
-    let none = Host::new(rt.alloc(), 0)?;
+    let none = Host::new(rt.alloc(), 0).expect(&rt, "memory");
     assert!(rt; none.is_empty() && none.holds(0, 0) && !none.holds(0, 1));
-    Ok(())
 }

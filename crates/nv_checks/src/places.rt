@@ -1,7 +1,6 @@
 //! Places keep the pieces as a list named them.
 
 use nv_mem::{NoMemory, Piece, Places};
-use std::test::Fail;
 
 /// The first two touch, the third names addresses of the first again, and one is empty.
 const PIECES: &[Piece] = &[
@@ -34,11 +33,10 @@ fn push_all(places: &mut Places, pieces: &[Piece]) -> Result<(), NoMemory> {
 }
 
 #[test]
-fn keeps_pieces_as_they_were_named(rt: HostRuntime) -> Result<(), Fail> {
+fn keeps_pieces_as_they_were_named(rt: HostRuntime) {
     let mut places = Places::new(rt.alloc());
     assert!(rt; places.pieces().is_empty());
-    push_all(&mut places, PIECES)?;
+    push_all(&mut places, PIECES).expect(&rt, "memory");
     assert!(rt; places.pieces() == PIECES);
-    assert!(rt; places.try_clone(rt.alloc())?.pieces() == PIECES);
-    Ok(())
+    assert!(rt; places.try_clone(rt.alloc()).expect(&rt, "memory").pieces() == PIECES);
 }

@@ -2,25 +2,22 @@
 
 use nv_mem::{MapError, NoMemory};
 use std::alloc::AllocError;
-use std::test::Fail;
 
 #[test]
-fn comes_of_the_errors_of_the_library(rt: HostRuntime) -> Result<(), Fail> {
+fn comes_of_the_errors_of_the_library(rt: HostRuntime) {
     let error = NoMemory::from(AllocError);
-    let text = format!(in rt.alloc(); "{error}")?;
+    let text = format!(in rt.alloc(); "{error}").expect(&rt, "memory");
     assert_eq!(rt; text.as_str(), "no memory");
-    Ok(())
 }
 
 #[test]
-fn maps_are_refused_with_number_and_name(rt: HostRuntime) -> Result<(), Fail> {
+fn maps_are_refused_with_number_and_name(rt: HostRuntime) {
     for (error, want) in [
         (MapError::Unaligned, "1 Unaligned"),
         (MapError::Overlap, "2 Overlap"),
         (MapError::OutsideHost, "3 OutsideHost"),
     ] {
-        let text = format!(in rt.alloc(); "{error}")?;
+        let text = format!(in rt.alloc(); "{error}").expect(&rt, "memory");
         assert_eq!(rt; text.as_str(), want);
     }
-    Ok(())
 }

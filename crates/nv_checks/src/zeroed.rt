@@ -1,7 +1,6 @@
 //! A memory that is zero until it is written, over the ends of its chunks of 262,144 bytes.
 
 use nv_zeroed::Zeroed;
-use std::test::Fail;
 
 // Whether these bytes, 16 at most, are loaded, lent and reported equal, and others are not.
 fn shows(zeroed: &Zeroed, at: usize, want: &[u8]) -> bool {
@@ -43,17 +42,16 @@ fn copies(zeroed: &mut Zeroed, from: usize, to: usize, len: usize) -> bool {
 const ROW: [u8; 12] = [1, 2, 3, 4, 5, 6, 7, 8, 9, 10, 11, 12];
 
 #[test]
-fn is_zero_at_first(rt: HostRuntime) -> Result<(), Fail> {
-    let zeroed = Zeroed::new(rt.alloc(), 800_000)?;
+fn is_zero_at_first(rt: HostRuntime) {
+    let zeroed = Zeroed::new(rt.alloc(), 800_000).expect(&rt, "memory");
     assert!(rt; zeroed.len() == 800_000 && !zeroed.is_empty());
     assert!(rt; shows(&zeroed, 0, &[0; 16]) && shows(&zeroed, 262_138, &[0; 12]));
     assert!(rt; shows(&zeroed, 799_988, &[0; 12]) && !shows(&zeroed, 799_989, &[0; 12]));
-    Ok(())
 }
 
 #[test]
-fn shows_what_was_stored(rt: HostRuntime) -> Result<(), Fail> {
-    let mut zeroed = Zeroed::new(rt.alloc(), 800_000)?;
+fn shows_what_was_stored(rt: HostRuntime) {
+    let mut zeroed = Zeroed::new(rt.alloc(), 800_000).expect(&rt, "memory");
     assert!(rt; stores(&mut zeroed, 262_138, &ROW) && stores(&mut zeroed, 799_988, &ROW));
     assert!(rt;
         shows(
@@ -67,12 +65,11 @@ fn shows_what_was_stored(rt: HostRuntime) -> Result<(), Fail> {
     assert!(rt; stores(&mut zeroed, 262_143, &[20, 21]));
     assert!(rt; shows(&zeroed, 262_138, &[1, 2, 3, 4, 5, 20, 21, 8, 9, 10, 11, 12]));
     assert!(rt; stores(&mut zeroed, 800_000, &[]) && !stores(&mut zeroed, 800_000, &[1]));
-    Ok(())
 }
 
 #[test]
-fn copies_from_chunk_to_chunk(rt: HostRuntime) -> Result<(), Fail> {
-    let mut zeroed = Zeroed::new(rt.alloc(), 800_000)?;
+fn copies_from_chunk_to_chunk(rt: HostRuntime) {
+    let mut zeroed = Zeroed::new(rt.alloc(), 800_000).expect(&rt, "memory");
     assert!(rt; stores(&mut zeroed, 262_138, &ROW));
     assert!(rt; copies(&mut zeroed, 262_138, 524_284, 12) && copies(&mut zeroed, 262_140, 10, 8));
     assert!(rt;
@@ -90,25 +87,23 @@ fn copies_from_chunk_to_chunk(rt: HostRuntime) -> Result<(), Fail> {
         shows(&zeroed, 8, &[0, 0, 3, 4, 0, 0, 0, 8, 9, 10, 0, 0])
             && shows(&zeroed, 22, &[0, 0, 5, 6, 7, 8, 0])
     );
-    Ok(())
 }
 
 #[test]
-fn has_the_length_asked_for(rt: HostRuntime) -> Result<(), Fail> {
-    let none = Zeroed::new(rt.alloc(), 0)?;
+fn has_the_length_asked_for(rt: HostRuntime) {
+    let none = Zeroed::new(rt.alloc(), 0).expect(&rt, "memory");
     assert!(rt; none.is_empty() && shows(&none, 0, &[]) && !shows(&none, 0, &[0]));
-    let mut more = Zeroed::new(rt.alloc(), 262_145)?;
+    let mut more = Zeroed::new(rt.alloc(), 262_145).expect(&rt, "memory");
     assert!(rt;
         stores(&mut more, 262_144, &[7])
             && shows(&more, 262_143, &[0, 7])
             && !shows(&more, 262_144, &[7, 0])
     );
-    let mut whole = Zeroed::new(rt.alloc(), 262_144)?;
+    let mut whole = Zeroed::new(rt.alloc(), 262_144).expect(&rt, "memory");
     assert!(rt;
         stores(&mut whole, 262_143, &[7])
             && shows(&whole, 262_142, &[0, 7])
             && !stores(&mut whole, 262_144, &[7])
     );
     assert!(rt; Zeroed::new(rt.alloc(), usize::MAX).is_err());
-    Ok(())
 }

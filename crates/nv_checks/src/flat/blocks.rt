@@ -7,7 +7,6 @@ use crate::flat::{
 use nv_flat::FlatController;
 use std::alloc::Global;
 use std::process::Abort;
-use std::test::Fail;
 
 /// Commands one after another, and what is in memory and on the disk after them.
 struct Case {
@@ -155,19 +154,15 @@ const CASES: &[Case] = &[
 ];
 
 // A prepared controller whose memory holds these bytes.
-fn holding(
-    rt: &impl Abort,
-    alloc: Global,
-    stored: &[(u64, u8, usize)],
-) -> Result<FlatController, Fail> {
-    let mut controller = prepared(rt, alloc)?;
+fn holding(rt: &impl Abort, alloc: Global, stored: &[(u64, u8, usize)]) -> FlatController {
+    let mut controller = prepared(rt, alloc);
     assert!(rt; controller.blocks() == 64);
     controller.paint(63, 0xcd);
     for (addr, byte, len) in stored {
         assert!(rt; *len <= 512);
         put(rt, &mut controller, *addr, &[*byte; 512][..*len]);
     }
-    Ok(controller)
+    controller
 }
 
 fn run_all(
@@ -175,11 +170,10 @@ fn run_all(
     alloc: Global,
     controller: &mut FlatController,
     commands: &[(&[(usize, u32)], u32)],
-) -> Result<(), Fail> {
+) {
     for (changes, want) in commands {
-        run(rt, alloc, controller, &changed(rt, changes), *want)?;
+        run(rt, alloc, controller, &changed(rt, changes), *want);
     }
-    Ok(())
 }
 
 fn is_as_expected(rt: &impl Abort, controller: &FlatController, case: &Case) {
@@ -188,18 +182,17 @@ fn is_as_expected(rt: &impl Abort, controller: &FlatController, case: &Case) {
     marks_are(rt, controller, case.marks);
 }
 
-fn check(rt: &impl Abort, alloc: Global, cases: &[Case]) -> Result<(), Fail> {
+fn check(rt: &impl Abort, alloc: Global, cases: &[Case]) {
     for case in cases {
-        let mut controller = holding(rt, alloc, case.stored)?;
-        run_all(rt, alloc, &mut controller, case.commands)?;
+        let mut controller = holding(rt, alloc, case.stored);
+        run_all(rt, alloc, &mut controller, case.commands);
         is_as_expected(rt, &controller, case);
     }
-    Ok(())
 }
 
 #[test]
-fn reads_writes_and_compares(rt: HostRuntime) -> Result<(), Fail> {
-    check(&rt, rt.alloc(), CASES)
+fn reads_writes_and_compares(rt: HostRuntime) {
+    check(&rt, rt.alloc(), CASES);
 }
 
 // A Read with these changes, which is refused with this last dword: nothing moves.
@@ -234,8 +227,8 @@ const REFUSED: &[Case] = &[
 ];
 
 #[test]
-fn refuses_without_a_move(rt: HostRuntime) -> Result<(), Fail> {
-    check(&rt, rt.alloc(), REFUSED)
+fn refuses_without_a_move(rt: HostRuntime) {
+    check(&rt, rt.alloc(), REFUSED);
 }
 
 // Block 5 is kept or not, and all others are kept.
@@ -245,21 +238,31 @@ fn others_are_kept(rt: &impl Abort, controller: &FlatController, kept: bool) {
     }
 }
 
-#[test]
-fn flushes_and_writes_zeroes(rt: HostRuntime) -> Result<(), Fail> {
-    let mut controller = prepared(&rt, rt.alloc())?;
-    // a Flush, and Write Zeroes without and with FUA, neither of which examines PSDT: dwords 0 and 12, the bytes of block 5, its mark
-    for (dword, cdw12, byte, kept) in [
-        (0x0007_c000, 0, 0x55, true),
-        (0x0007_c008, 0, 0, false),
-        (0x0007_c008, 0x4000_0000, 0, true),
-    ] {
-        let sqe = changed(&rt, &[(0, dword), (12, cdw12)]);
-        run(&rt, rt.alloc(), &mut controller, &sqe, SUCCESS)?;
-        blocks_are(&rt, &controller, &[(4, 0), (5, byte), (6, 0x66)]);
-        others_are_kept(&rt, &controller, kept);
+fn check_in_turn(
+    rt: &impl Abort,
+    alloc: Global,
+    controller: &mut FlatController,
+    rows: &[(u32, u32, u8, bool)],
+) {
+    for (dword, cdw12, byte, kept) in rows {
+        let sqe = changed(rt, &[(0, *dword), (12, *cdw12)]);
+        run(rt, alloc, controller, &sqe, SUCCESS);
+        blocks_are(rt, controller, &[(4, 0), (5, *byte), (6, 0x66)]);
+        others_are_kept(rt, controller, *kept);
     }
-    Ok(())
+}
+
+/// A Flush, and Write Zeroes without and with FUA, neither of which examines PSDT: dwords 0 and 12, the bytes of block 5, its mark.
+const IN_TURN: &[(u32, u32, u8, bool)] = &[
+    (0x0007_c000, 0, 0x55, true),
+    (0x0007_c008, 0, 0, false),
+    (0x0007_c008, 0x4000_0000, 0, true),
+];
+
+#[test]
+fn flushes_and_writes_zeroes(rt: HostRuntime) {
+    let mut controller = prepared(&rt, rt.alloc());
+    check_in_turn(&rt, rt.alloc(), &mut controller, IN_TURN);
 }
 
 // The 16 bytes of a range of Dataset Management.
@@ -271,15 +274,15 @@ fn range(start: u32, blocks: u32) -> [u8; 16] {
 }
 
 // A controller of 64 blocks, each filled with 77h and kept.
-fn full(rt: &impl Abort, alloc: Global) -> Result<FlatController, Fail> {
-    let mut controller = FlatController::new(alloc, 0x1_0000, 64)?;
+fn full(rt: &impl Abort, alloc: Global) -> FlatController {
+    let mut controller = FlatController::new(alloc, 0x1_0000, 64).expect(rt, "memory");
     for block in 0..64 {
         assert!(rt; controller.blocks() == 64);
         controller.paint(block, 0x77);
     }
     let flush = changed(rt, &[(0, 0x0007_4000)]);
-    run(rt, alloc, &mut controller, &flush, SUCCESS)?;
-    Ok(controller)
+    run(rt, alloc, &mut controller, &flush, SUCCESS);
+    controller
 }
 
 // Puts 256 ranges at 3000h: block 0, time and again, and this one.
@@ -299,28 +302,40 @@ fn cleared_are(rt: &impl Abort, controller: &FlatController, first: u64, others:
     }
 }
 
-#[test]
-fn manages_datasets(rt: HostRuntime) -> Result<(), Fail> {
-    // the last range, dword 11, the last dword of the completion, and how many blocks are deallocated from LBA 0 and from LBA 5 on: none where the
-    // last range is past the end or nothing is asked for; no blocks at the end pass; ranges of several blocks
-    for (last, asked, want, first, others) in [
-        (range(64, 1), 4, 0x8101_0007, 0, 0),
-        (range(63, 1), 0, SUCCESS, 0, 0),
-        (range(64, 0), 4, SUCCESS, 1, 0),
-        (range(5, 58), 4, SUCCESS, 1, 58),
-        (range(5, 59), 4, SUCCESS, 1, 59),
-    ] {
-        let mut controller = full(&rt, rt.alloc())?;
-        put_ranges(&rt, &mut controller, &last);
-        let changes = [(0, 0x0007_4009), (8, 4096), (10, 0xff), (11, asked)];
-        run(
-            &rt,
-            rt.alloc(),
-            &mut controller,
-            &changed(&rt, &changes),
-            want,
-        )?;
-        cleared_are(&rt, &controller, first, others);
+// A controller of full blocks that was asked to manage ranges, the last of which is this one.
+fn managed(
+    rt: &impl Abort,
+    alloc: Global,
+    last: (u32, u32),
+    asked: u32,
+    want: u32,
+) -> FlatController {
+    let (start, blocks) = last;
+    let mut controller = full(rt, alloc);
+    put_ranges(rt, &mut controller, &range(start, blocks));
+    let sqe = changed(rt, &[(0, 0x0007_4009), (8, 4096), (10, 0xff), (11, asked)]);
+    run(rt, alloc, &mut controller, &sqe, want);
+    controller
+}
+
+fn check_managed(rt: &impl Abort, alloc: Global, rows: &[((u32, u32), u32, u32, u64, u64)]) {
+    for (last, asked, want, first, others) in rows {
+        let controller = managed(rt, alloc, *last, *asked, *want);
+        cleared_are(rt, &controller, *first, *others);
     }
-    Ok(())
+}
+
+/// The last range, dword 11, the last dword of the completion, and how many blocks are deallocated from LBA 0 and from LBA 5 on: none where the
+/// last range is past the end or nothing is asked for; no blocks at the end pass; ranges of several blocks.
+const MANAGED: &[((u32, u32), u32, u32, u64, u64)] = &[
+    ((64, 1), 4, 0x8101_0007, 0, 0),
+    ((63, 1), 0, SUCCESS, 0, 0),
+    ((64, 0), 4, SUCCESS, 1, 0),
+    ((5, 58), 4, SUCCESS, 1, 58),
+    ((5, 59), 4, SUCCESS, 1, 59),
+];
+
+#[test]
+fn manages_datasets(rt: HostRuntime) {
+    check_managed(&rt, rt.alloc(), MANAGED);
 }

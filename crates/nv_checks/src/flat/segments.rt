@@ -8,7 +8,6 @@ use nv_entry::Sqe;
 use nv_flat::FlatController;
 use std::alloc::Global;
 use std::process::Abort;
-use std::test::Fail;
 
 /// A descriptor as a table has it: its kind, as it is in the upper bits of dword 3, with subtype 0; its address; its length.
 type Row = (u32, u32, u32);
@@ -38,63 +37,110 @@ fn put_descriptor(
 }
 
 // A prepared controller with these descriptors at 6000h.
-fn with_array(rt: &impl Abort, alloc: Global, rows: &[Row]) -> Result<FlatController, Fail> {
-    let mut controller = prepared(rt, alloc)?;
+fn with_array(rt: &impl Abort, alloc: Global, rows: &[Row]) -> FlatController {
+    let mut controller = prepared(rt, alloc);
     let mut at = 0x6000u64;
     for row in rows {
         put_descriptor(rt, &mut controller, at, *row);
         at = at.wrapping_add(16);
     }
-    Ok(controller)
+    controller
 }
 
-// A command of two blocks from LBA 5 through the two descriptors at 6000h, that a Last Segment names.
-fn through_last_segment(rt: &impl Abort, first_dword: u32) -> Sqe {
-    let changes = [
-        (0, first_dword),
-        (6, 0x6000),
-        (8, 32),
-        (9, LAST_SEGMENT),
-        (12, 1),
-    ];
-    changed(rt, &changes)
+/// Descriptors from 6000h on, what is changed of the Read, the last dword of its completion, and what is in memory and on the disk after it.
+struct Case {
+    rows: &'static [Row],
+    changes: &'static [(usize, u32)],
+    want: u32,
+    memory: &'static [(u64, u8)],
+    blocks: &'static [(u64, u8)],
 }
+
+fn check(rt: &impl Abort, alloc: Global, cases: &[Case]) {
+    for case in cases {
+        let mut controller = with_array(rt, alloc, case.rows);
+        run(
+            rt,
+            alloc,
+            &mut controller,
+            &changed(rt, case.changes),
+            case.want,
+        );
+        filled_are(rt, &controller, case.memory);
+        blocks_are(rt, &controller, case.blocks);
+    }
+}
+
+/// A Read and a Write of two blocks from LBA 5 through the two descriptors at 6000h, that a Last Segment names.
+const READ_TWO: &[(usize, u32)] = &[
+    (0, READ_BY_SGL),
+    (6, 0x6000),
+    (8, 32),
+    (9, LAST_SEGMENT),
+    (12, 1),
+];
+
+const WRITE_TWO: &[(usize, u32)] = &[
+    (0, WRITE_BY_SGL),
+    (6, 0x6000),
+    (8, 32),
+    (9, LAST_SEGMENT),
+    (12, 1),
+];
+
+// A Read of two blocks, the second of which goes to that place.
+macro_rules! delivered {
+    ($second:expr, $memory:expr) => {
+        Case {
+            rows: &[(DATA_BLOCK, 0x3e00, 512), (DATA_BLOCK, $second, 512)],
+            changes: READ_TWO,
+            want: SUCCESS,
+            memory: $memory,
+            blocks: &[],
+        }
+    };
+}
+
+/// Where the second block is delivered, and what else is at some address: a place that is named twice has what was delivered last.
+const DELIVERED: &[Case] = &[
+    delivered!(0x5000, &[(0x5000, 0x66), (0x3e00, 0x55)]),
+    delivered!(0x5200, &[(0x5200, 0x66), (0x3e00, 0x55)]),
+    delivered!(0x3ff0, &[(0x3ff0, 0x66), (0x41f0, 0)]),
+    delivered!(0x3e00, &[(0x3e00, 0x66), (0x4000, 0)]),
+];
 
 #[test]
-fn delivers_through_a_chain(rt: HostRuntime) -> Result<(), Fail> {
-    // where the second block is delivered, and what else is at some address: a place that is named twice has what was delivered last
-    for (second, other) in [
-        (0x5000, (0x3e00, 0x55)),
-        (0x5200, (0x3e00, 0x55)),
-        (0x3ff0, (0x41f0, 0)),
-        (0x3e00, (0x4000, 0)),
-    ] {
-        let rows = [(DATA_BLOCK, 0x3e00, 512), (DATA_BLOCK, second, 512)];
-        let mut controller = with_array(&rt, rt.alloc(), &rows)?;
-        let sqe = through_last_segment(&rt, READ_BY_SGL);
-        run(&rt, rt.alloc(), &mut controller, &sqe, SUCCESS)?;
-        filled_are(&rt, &controller, &[(u64::from(second), 0x66), other]);
-    }
-    Ok(())
+fn delivers_through_a_chain(rt: HostRuntime) {
+    check(&rt, rt.alloc(), DELIVERED);
 }
 
+const BUCKET: Row = (BIT_BUCKET, 0, 512);
+
+const BLOCK: Row = (DATA_BLOCK, 0x3000, 512);
+
+// A command of two blocks that leaves the disk as it was, and this byte in its block of memory.
+macro_rules! discarded {
+    ($changes:expr, $rows:expr, $want:expr, $delivered:expr) => {
+        Case {
+            rows: $rows,
+            changes: $changes,
+            want: $want,
+            memory: &[(0x3000, $delivered), (0x3200, 0)],
+            blocks: &[(5, 0x55), (6, 0x66)],
+        }
+    };
+}
+
+/// A bucket is nothing for a source: then the list names half the bytes.
+const DISCARDED: &[Case] = &[
+    discarded!(READ_TWO, &[BUCKET, BLOCK], SUCCESS, 0x66),
+    discarded!(READ_TWO, &[BLOCK, BUCKET], SUCCESS, 0x55),
+    discarded!(WRITE_TWO, &[BLOCK, BUCKET], 0x801f_0007, 0),
+];
+
 #[test]
-fn discards_into_a_bit_bucket(rt: HostRuntime) -> Result<(), Fail> {
-    let bucket = (BIT_BUCKET, 0, 512);
-    let block = (DATA_BLOCK, 0x3000, 512);
-    // a bucket is nothing for a source: then the list names half the bytes
-    for (first_dword, rows, want, delivered) in [
-        (READ_BY_SGL, [bucket, block], SUCCESS, 0x66),
-        (READ_BY_SGL, [block, bucket], SUCCESS, 0x55),
-        (WRITE_BY_SGL, [block, bucket], 0x801f_0007, 0),
-    ] {
-        let mut controller = with_array(&rt, rt.alloc(), &rows)?;
-        let sqe = through_last_segment(&rt, first_dword);
-        run(&rt, rt.alloc(), &mut controller, &sqe, want)?;
-        filled_are(&rt, &controller, &[(0x3000, delivered), (0x3200, 0)]);
-        blocks_are(&rt, &controller, &[(5, 0x55), (6, 0x66)]);
-    }
-    Ok(())
+fn discards_into_a_bit_bucket(rt: HostRuntime) {
+    check(&rt, rt.alloc(), DISCARDED);
 }
 
 /// Where the pieces of one block lie, and the first byte of the block that each has: 100, 300 and 112 bytes.
@@ -135,40 +181,60 @@ fn through_parts(
 }
 
 // A prepared controller whose block 5 was written from the three pieces.
-fn written_by_parts(rt: &impl Abort, alloc: Global) -> Result<FlatController, Fail> {
-    let mut controller = prepared(rt, alloc)?;
+fn written_by_parts(rt: &impl Abort, alloc: Global) -> FlatController {
+    let mut controller = prepared(rt, alloc);
     put_parts(rt, &mut controller);
     let write = through_parts(rt, &mut controller, WRITE_BY_SGL, DATA_BLOCK);
-    run(rt, alloc, &mut controller, &write, SUCCESS)?;
-    Ok(controller)
+    run(rt, alloc, &mut controller, &write, SUCCESS);
+    controller
 }
 
-#[test]
-fn writes_pieces_that_part_inside_a_block(rt: HostRuntime) -> Result<(), Fail> {
-    let controller = written_by_parts(&rt, rt.alloc())?;
+// Whether the bytes of block 5 count up from 0.
+fn counts_in_block_5(rt: &impl Abort, controller: &FlatController) -> bool {
     let mut want = [0; 512];
-    counting(&rt, 0, 512, &mut want);
+    counting(rt, 0, 512, &mut want);
     assert!(rt; controller.blocks() == 64);
-    assert_eq!(rt; *controller.block(5), want);
-    blocks_are(&rt, &controller, &[(6, 0x66)]);
-    Ok(())
+    *controller.block(5) == want
 }
 
 #[test]
-fn compares_pieces_that_part_inside_a_block(rt: HostRuntime) -> Result<(), Fail> {
-    // where a byte is changed, and the last dword: after the first piece, the ends of the second, after it
-    for (addr, want) in [
-        (0x3064, SUCCESS),
-        (0x4001, DIFFERS),
-        (0x412c, DIFFERS),
-        (0x412d, SUCCESS),
-    ] {
-        let mut controller = written_by_parts(&rt, rt.alloc())?;
-        put(&rt, &mut controller, addr, &[0xee]);
-        let compare = through_parts(&rt, &mut controller, COMPARE_BY_SGL, DATA_BLOCK);
-        run(&rt, rt.alloc(), &mut controller, &compare, want)?;
+fn writes_pieces_that_part_inside_a_block(rt: HostRuntime) {
+    let controller = written_by_parts(&rt, rt.alloc());
+    assert!(rt; counts_in_block_5(&rt, &controller));
+    blocks_are(&rt, &controller, &[(6, 0x66)]);
+}
+
+// Compares the three pieces with block 5, after the byte at an address was changed.
+fn compare_parts(
+    rt: &impl Abort,
+    alloc: Global,
+    controller: &mut FlatController,
+    addr: u64,
+    want: u32,
+) {
+    put(rt, controller, addr, &[0xee]);
+    let compare = through_parts(rt, controller, COMPARE_BY_SGL, DATA_BLOCK);
+    run(rt, alloc, controller, &compare, want);
+}
+
+fn check_compared(rt: &impl Abort, alloc: Global, rows: &[(u64, u32)]) {
+    for (addr, want) in rows {
+        let mut controller = written_by_parts(rt, alloc);
+        compare_parts(rt, alloc, &mut controller, *addr, *want);
     }
-    Ok(())
+}
+
+/// Where a byte is changed, and the last dword: after the first piece, the ends of the second, after it.
+const COMPARED: &[(u64, u32)] = &[
+    (0x3064, SUCCESS),
+    (0x4001, DIFFERS),
+    (0x412c, DIFFERS),
+    (0x412d, SUCCESS),
+];
+
+#[test]
+fn compares_pieces_that_part_inside_a_block(rt: HostRuntime) {
+    check_compared(&rt, rt.alloc(), COMPARED);
 }
 
 // Whether so many bytes that count up from this one are at an address, and zeros after them: 512 bytes.
@@ -186,49 +252,71 @@ fn counting_at(
     bytes == want
 }
 
-#[test]
-fn reads_around_a_bucket_inside_a_block(rt: HostRuntime) -> Result<(), Fail> {
-    // a page, where its piece begins, the first byte that it gets, and how many: none for the bucket's
-    for (page, addr, from, len) in [
-        (0x3000, 0x3000, 0, 100),
-        (0x4000, 0x4001, 100, 0),
-        (0x5000, 0x5002, 144, 112),
-    ] {
-        let mut controller = written_by_parts(&rt, rt.alloc())?;
-        put(&rt, &mut controller, page, &[0; 1024]);
-        let read = through_parts(&rt, &mut controller, READ_BY_SGL, BIT_BUCKET);
-        run(&rt, rt.alloc(), &mut controller, &read, SUCCESS)?;
-        assert!(rt; counting_at(&rt, &controller, addr, from, len));
-    }
-    Ok(())
+// A controller that has read block 5 around a bucket, after the page was cleared.
+fn read_around(rt: &impl Abort, alloc: Global, page: u64) -> FlatController {
+    let mut controller = written_by_parts(rt, alloc);
+    put(rt, &mut controller, page, &[0; 1024]);
+    let read = through_parts(rt, &mut controller, READ_BY_SGL, BIT_BUCKET);
+    run(rt, alloc, &mut controller, &read, SUCCESS);
+    controller
 }
 
-#[test]
-fn answers_faulty_lists(rt: HostRuntime) -> Result<(), Fail> {
-    let block = (DATA_BLOCK, 0x3000, 512);
-    let segment = (SEGMENT, 0x7000, 16);
-    let outside = (DATA_BLOCK, 0x2_0000, 512);
-    let unknown = (UNKNOWN, 0x3000, 512);
-    // the command's own descriptor, the two at 6000h, and the last dword; the last list names itself without end
-    for (own, rows, want) in [
-        ((SEGMENT, 0x6000, 24), [block, block], 0x801b_0007),
-        ((SEGMENT, 0x6000, 32), [segment, block], 0x801d_0007),
-        ((LAST_SEGMENT, 0x6000, 32), [segment, block], 0x801b_0007),
-        ((UNKNOWN, 0x6000, 32), [block, block], 0x8023_0007),
-        ((LAST_SEGMENT, 0x6000, 32), [outside, unknown], 0x8009_0007),
-        (
-            (SEGMENT, 0x6000, 32),
-            [(DATA_BLOCK, 0, 0), (SEGMENT, 0x6000, 32)],
-            0x000d_0007,
-        ),
-    ] {
-        let mut controller = with_array(&rt, rt.alloc(), &rows)?;
-        let (kind, addr, len) = own;
-        let sqe = changed(&rt, &[(6, addr), (8, len), (9, kind)]);
-        run(&rt, rt.alloc(), &mut controller, &sqe, want)?;
-        filled_are(&rt, &controller, &[(0x3000, 0)]);
+fn check_around(rt: &impl Abort, alloc: Global, rows: &[(u64, u64, u8, usize)]) {
+    for (page, addr, from, len) in rows {
+        let controller = read_around(rt, alloc, *page);
+        assert!(rt; counting_at(rt, &controller, *addr, *from, *len));
     }
-    Ok(())
+}
+
+/// A page, where its piece begins, the first byte that it gets, and how many: none for the bucket's.
+const AROUND: &[(u64, u64, u8, usize)] = &[
+    (0x3000, 0x3000, 0, 100),
+    (0x4000, 0x4001, 100, 0),
+    (0x5000, 0x5002, 144, 112),
+];
+
+#[test]
+fn reads_around_a_bucket_inside_a_block(rt: HostRuntime) {
+    check_around(&rt, rt.alloc(), AROUND);
+}
+
+const OUTSIDE: Row = (DATA_BLOCK, 0x2_0000, 512);
+
+const UNKNOWN_KIND: Row = (UNKNOWN, 0x3000, 512);
+
+const NO_BYTES: Row = (DATA_BLOCK, 0, 0);
+
+// A Read with this descriptor, which names the two at 6000h: nothing is delivered.
+macro_rules! faulty {
+    ($kind:expr, $len:expr, $rows:expr, $want:expr) => {
+        Case {
+            rows: $rows,
+            changes: &[(6, 0x6000), (8, $len), (9, $kind)],
+            want: $want,
+            memory: &[(0x3000, 0)],
+            blocks: &[],
+        }
+    };
+}
+
+/// The last list names itself without end.
+const FAULTY: &[Case] = &[
+    faulty!(SEGMENT, 24, &[BLOCK, BLOCK], 0x801b_0007),
+    faulty!(SEGMENT, 32, &[(SEGMENT, 0x7000, 16), BLOCK], 0x801d_0007),
+    faulty!(
+        LAST_SEGMENT,
+        32,
+        &[(SEGMENT, 0x7000, 16), BLOCK],
+        0x801b_0007
+    ),
+    faulty!(UNKNOWN, 32, &[BLOCK, BLOCK], 0x8023_0007),
+    faulty!(LAST_SEGMENT, 32, &[OUTSIDE, UNKNOWN_KIND], 0x8009_0007),
+    faulty!(SEGMENT, 32, &[NO_BYTES, (SEGMENT, 0x6000, 32)], 0x000d_0007),
+];
+
+#[test]
+fn answers_faulty_lists(rt: HostRuntime) {
+    check(&rt, rt.alloc(), FAULTY);
 }
 
 // Puts 1,024 descriptors at 8000h: Data Blocks of no bytes, but for that of this number (from 1 on) with 512 bytes, and one of an
@@ -251,21 +339,38 @@ fn put_array(rt: &impl Abort, controller: &mut FlatController, whole: u32, unkno
     }
 }
 
-#[test]
-fn reads_a_thousand_descriptors(rt: HostRuntime) -> Result<(), Fail> {
-    // the bytes of the array, the number of its last descriptor and of one of type 4h (from 1 on, 0 for none), the last dword, and what
-    // is delivered
-    for (len, count, unknown, want, delivered) in [
-        (0x3ff0, 1023, 0, SUCCESS, 0x55),
-        (0x4000, 1024, 0, 0x000d_0007, 0),
-        (0x4000, 1024, 1023, 0x8023_0007, 0),
-        (0x4000, 1024, 1024, 0x000d_0007, 0),
-    ] {
-        let mut controller = prepared(&rt, rt.alloc())?;
-        put_array(&rt, &mut controller, count, unknown);
-        let sqe = changed(&rt, &[(6, 0x8000), (8, len), (9, LAST_SEGMENT)]);
-        run(&rt, rt.alloc(), &mut controller, &sqe, want)?;
-        filled_are(&rt, &controller, &[(0x3000, delivered)]);
+// A controller that was asked to read through an array of so many bytes.
+fn read_array(
+    rt: &impl Abort,
+    alloc: Global,
+    numbers: (u32, u32, u32),
+    want: u32,
+) -> FlatController {
+    let (len, count, unknown) = numbers;
+    let mut controller = prepared(rt, alloc);
+    put_array(rt, &mut controller, count, unknown);
+    let sqe = changed(rt, &[(6, 0x8000), (8, len), (9, LAST_SEGMENT)]);
+    run(rt, alloc, &mut controller, &sqe, want);
+    controller
+}
+
+fn check_arrays(rt: &impl Abort, alloc: Global, rows: &[((u32, u32, u32), u32, u8)]) {
+    for (numbers, want, delivered) in rows {
+        let controller = read_array(rt, alloc, *numbers, *want);
+        filled_are(rt, &controller, &[(0x3000, *delivered)]);
     }
-    Ok(())
+}
+
+/// The bytes of the array, the number of its last descriptor and of one of type 4h (from 1 on, 0 for none), the last dword, and what is
+/// delivered.
+const ARRAYS: &[((u32, u32, u32), u32, u8)] = &[
+    ((0x3ff0, 1023, 0), SUCCESS, 0x55),
+    ((0x4000, 1024, 0), 0x000d_0007, 0),
+    ((0x4000, 1024, 1023), 0x8023_0007, 0),
+    ((0x4000, 1024, 1024), 0x000d_0007, 0),
+];
+
+#[test]
+fn reads_a_thousand_descriptors(rt: HostRuntime) {
+    check_arrays(&rt, rt.alloc(), ARRAYS);
 }
