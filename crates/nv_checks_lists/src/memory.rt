@@ -4,7 +4,7 @@ ghost use Rattle.std.specs.Prelude.{◌≡◌, IfSome, length};
 
 use nv_mem::{GuestMap, Region};
 use std::alloc::Global;
-use std::test::Fail;
+use std::process::Abort;
 
 /// The last byte of a descriptor: its type and subtype.
 pub(crate) const DATA: u8 = 0x00;
@@ -42,18 +42,19 @@ pub(crate) const APART: &[Region] = &[
 ];
 
 /// The map of these regions.
-pub(crate) fn map_of(alloc: Global, regions: &[Region]) -> Result<GuestMap, Fail> {
-    Ok(GuestMap::new(0x100_0000, Vec::from_slice(alloc, regions)?)?)
+pub(crate) fn map_of(rt: &impl Abort, alloc: Global, regions: &[Region]) -> GuestMap {
+    let regions = Vec::from_slice(alloc, regions).expect(rt, "memory");
+    GuestMap::new(0x100_0000, regions).expect(rt, "a map")
 }
 
 /// The map of a guest whose memory of so many bytes is mapped to its end, and no further.
-pub(crate) fn whole_map(alloc: Global, len: u64) -> Result<GuestMap, Fail> {
+pub(crate) fn whole_map(rt: &impl Abort, alloc: Global, len: u64) -> GuestMap {
     let region = Region {
         guest: 0,
         host: 0x10_0000,
         len,
     };
-    map_of(alloc, &[region])
+    map_of(rt, alloc, &[region])
 }
 
 /// The bytes of a descriptor of that last byte, address and length.

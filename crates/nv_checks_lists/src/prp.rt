@@ -5,9 +5,9 @@ mod reading;
 use crate::memory::whole_map;
 use nv_mem::GuestMap;
 use std::alloc::Global;
-use std::test::Fail;
+use std::process::Abort;
 
 // The guest's memory is mapped to its end, and no further.
-fn map(alloc: Global) -> Result<GuestMap, Fail> {
-    whole_map(alloc, 0x4_0000)
+fn map(rt: &impl Abort, alloc: Global) -> GuestMap {
+    whole_map(rt, alloc, 0x4_0000)
 }

@@ -41,18 +41,20 @@ pub(crate) struct Guest {
 }
 
 // The guest's memory is mapped to its end, and no further.
-fn map(alloc: Global) -> Result<GuestMap, Fail> {
-    whole_map(alloc, 0x2_0000)
+fn map(rt: &impl Abort, alloc: Global) -> GuestMap {
+    whole_map(rt, alloc, 0x2_0000)
 }
 
-fn guest_of(alloc: Global, memory: Vec<u8>) -> Result<Guest, Fail> {
-    let map = map(alloc)?;
-    Ok(Guest { memory, map })
+fn guest_of(rt: &impl Abort, alloc: Global, memory: Vec<u8>) -> Guest {
+    Guest {
+        memory,
+        map: map(rt, alloc),
+    }
 }
 
 /// A guest with these descriptors in its memory.
-pub(crate) fn guest_with(alloc: Global, rows: &[(usize, Row)]) -> Result<Guest, Fail> {
-    guest_of(alloc, memory_of(alloc, rows)?)
+pub(crate) fn guest_with(rt: &impl Abort, alloc: Global, rows: &[(usize, Row)]) -> Guest {
+    guest_of(rt, alloc, memory_of(alloc, rows).expect(rt, "memory"))
 }
 
 /// Feeds the parse the next part that it wants, or says how it ended.
@@ -152,8 +154,8 @@ pub(crate) fn has_read_three<A: Allocator + Clone>(
 }
 
 /// A guest with a list of 512 arrays: each names a block and the next array. It has 1,023 descriptors.
-pub(crate) fn guest_with_long_list(alloc: Global) -> Result<Guest, Fail> {
-    guest_of(alloc, long_list(alloc)?)
+pub(crate) fn guest_with_long_list(rt: &impl Abort, alloc: Global) -> Guest {
+    guest_of(rt, alloc, long_list(alloc).expect(rt, "memory"))
 }
 
 fn long_list(alloc: Global) -> Result<Vec<u8>, NoMemory> {

@@ -11,7 +11,6 @@ use nv_ns::{Extent, VirtualNs};
 use nv_plan::{Job, Plan, PlanKind, Planned, ReadDone, Transcript, make_plan};
 use std::alloc::{Allocator, Global};
 use std::process::Abort;
-use std::test::Fail;
 
 /// A descriptor in the guest's memory: where it is, its last byte, its address and its length.
 pub type Row = (usize, u8, u64, u32);
@@ -60,32 +59,32 @@ pub struct Guest {
 
 impl Guest {
     /// A guest whose memory is mapped by these regions and holds zeros.
-    pub fn mapped(alloc: Global, regions: &[Region]) -> Result<Self, Fail> {
-        Guest::with_map(alloc, map_of(alloc, regions)?)
+    pub fn mapped(rt: &impl Abort, alloc: Global, regions: &[Region]) -> Self {
+        Guest::with_map(rt, alloc, map_of(rt, alloc, regions))
     }
 
     // A guest whose memory has that map and holds zeros.
-    fn with_map(alloc: Global, map: GuestMap) -> Result<Self, Fail> {
-        let memory = vec![in alloc; 0u8; 0x20000]?;
-        Ok(Guest {
+    fn with_map(rt: &impl Abort, alloc: Global, map: GuestMap) -> Self {
+        let memory = vec![in alloc; 0u8; 0x20000].expect(rt, "memory");
+        Guest {
             memory,
             map,
             ns: range(),
-        })
+        }
     }
 
     /// The guest.
-    pub fn new(alloc: Global) -> Result<Self, Fail> {
-        Guest::with_map(alloc, whole_map(alloc, 0x2_0000)?)
+    pub fn new(rt: &impl Abort, alloc: Global) -> Self {
+        Guest::with_map(rt, alloc, whole_map(rt, alloc, 0x2_0000))
     }
 
     /// The guest, with these descriptors in its memory.
-    pub fn with(alloc: Global, rows: &[Row]) -> Result<Self, Fail> {
-        let mut guest = Guest::new(alloc)?;
+    pub fn with(rt: &impl Abort, alloc: Global, rows: &[Row]) -> Self {
+        let mut guest = Guest::new(rt, alloc);
         for (at, kind, addr, len) in rows {
             guest.put_descriptor(*at, *kind, *addr, *len);
         }
-        Ok(guest)
+        guest
     }
 
     /// Stores a descriptor.
@@ -117,15 +116,9 @@ impl Guest {
     }
 
     /// Reads bytes of the guest's memory into a transcript.
-    pub fn read(
-        &self,
-        alloc: Global,
-        addr: u64,
-        len: u64,
-        to: &mut Transcript,
-    ) -> Result<(), NoMemory> {
-        let read = self.done(alloc, addr, len)?;
-        to.push(read)
+    pub fn read(&self, rt: &impl Abort, alloc: Global, addr: u64, len: u64, to: &mut Transcript) {
+        let read = self.done(alloc, addr, len).expect(rt, "memory");
+        to.push(read).expect(rt, "memory");
     }
 
     /// A read of bytes of the guest's memory.
@@ -137,18 +130,30 @@ impl Guest {
     }
 
     /// A job of the command with these reads.
-    pub fn job(&self, alloc: Global, sqe: Sqe, reads: &[(u64, u64)]) -> Result<Job, NoMemory> {
+    pub fn job(&self, rt: &impl Abort, alloc: Global, sqe: Sqe, reads: &[(u64, u64)]) -> Job {
         let mut transcript = Transcript::new(alloc);
         for (addr, len) in reads {
-            self.read(alloc, *addr, *len, &mut transcript)?;
+            self.read(rt, alloc, *addr, *len, &mut transcript);
         }
-        Ok(Job {
+        Job {
             lane: 1,
             tag: 9,
             guest: 3,
             sqe,
             reads: transcript,
-        })
+        }
+    }
+
+    /// What comes of a command with these dwords changed, after these reads.
+    pub fn planned(
+        &self,
+        rt: &impl Abort,
+        alloc: Global,
+        changes: &[(usize, u32)],
+        reads: &[(u64, u64)],
+    ) -> Planned {
+        let job = self.job(rt, alloc, command(rt, changes), reads);
+        self.plan(alloc, alloc, job)
     }
 
     /// What comes of a job, under the usual limit on descriptors.
@@ -249,12 +254,10 @@ pub struct Case {
 }
 
 /// Each of these comes to what is expected.
-pub fn check_all(rt: &impl Abort, alloc: Global, cases: &[Case]) -> Result<(), Fail> {
+pub fn check_all(rt: &impl Abort, alloc: Global, cases: &[Case]) {
     for case in cases {
-        let guest = Guest::with(alloc, case.rows)?;
-        let job = guest.job(alloc, command(rt, case.changes), case.reads)?;
-        let planned = guest.plan(alloc, alloc, job);
+        let guest = Guest::with(rt, alloc, case.rows);
+        let planned = guest.planned(rt, alloc, case.changes, case.reads);
         assert!(rt; is_expected(&planned, &case.expected), "{}", case.name);
     }
-    Ok(())
 }

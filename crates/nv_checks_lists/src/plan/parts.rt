@@ -7,7 +7,6 @@ use nv_mem::Piece;
 use nv_plan::{Plan, PlanKind, Planned, tags_wanted};
 use std::alloc::Global;
 use std::process::Abort;
-use std::test::Fail;
 
 /// A part: where its bytes lie, how many they are, its first block on the disk, and how many blocks it has.
 struct Told {
@@ -208,27 +207,29 @@ fn has_parts(planned: &Planned, kind: PlanKind, parts: &[Told]) -> bool {
     }
 }
 
-fn check(rt: &impl Abort, alloc: Global, case: &Parted) -> Result<(), Fail> {
-    let mut guest = Guest::with(alloc, case.rows)?;
+fn check(rt: &impl Abort, alloc: Global, case: &Parted) {
+    let mut guest = Guest::with(rt, alloc, case.rows);
     guest.ns = joined(rt, case.first, case.others);
-    let tags = tags_wanted(&command(rt, case.changes), &guest.ns);
+    let tags = tags_of(rt, &guest, case.changes);
     assert!(rt; usize::from(tags) == case.parts.len(), "{}", case.name);
-    let job = guest.job(alloc, command(rt, case.changes), case.reads)?;
-    let planned = guest.plan(alloc, alloc, job);
+    let planned = guest.planned(rt, alloc, case.changes, case.reads);
     assert!(rt;
         has_parts(&planned, case.kind.of_plan(), case.parts),
         "{}",
         case.name
     );
-    Ok(())
+}
+
+// How many tags a command takes.
+fn tags_of(rt: &impl Abort, guest: &Guest, changes: Changes) -> u8 {
+    tags_wanted(&command(rt, changes), &guest.ns)
 }
 
 #[test]
-fn transfers_over_joins(rt: HostRuntime) -> Result<(), Fail> {
+fn transfers_over_joins(rt: HostRuntime) {
     for case in PARTED {
-        check(&rt, rt.alloc(), case)?;
+        check(&rt, rt.alloc(), case);
     }
-    Ok(())
 }
 
 // A range of the disk without attributes.
@@ -240,10 +241,10 @@ fn on_disk(start: u64, blocks: u32) -> [u8; 16] {
 }
 
 // A guest with extents of 4, 2 and 58 blocks, from blocks 1,000, 3,000 and 7,000 of the disk on.
-fn in_three(rt: &impl Abort, alloc: Global) -> Result<Guest, Fail> {
-    let mut guest = Guest::new(alloc)?;
+fn in_three(rt: &impl Abort, alloc: Global) -> Guest {
+    let mut guest = Guest::new(rt, alloc);
     guest.ns = joined(rt, (1000, 4), &[(3000, 2), (7000, 58)]);
-    Ok(guest)
+    guest
 }
 
 /// A deallocation of one range by a Data Block of 16 bytes at 3000h.
@@ -269,13 +270,11 @@ fn is_managed(
 }
 
 #[test]
-fn a_range_over_three_extents(rt: HostRuntime) -> Result<(), Fail> {
-    let alloc = rt.alloc();
-    let mut guest = in_three(&rt, alloc)?;
+fn a_range_over_three_extents(rt: HostRuntime) {
+    let mut guest = in_three(&rt, rt.alloc());
     guest.put_range(0x3000, 2, 6);
-    assert_eq!(rt; tags_wanted(&command(&rt, ONE), &guest.ns), 3);
-    let job = guest.job(alloc, command(&rt, ONE), &[(0x3000, 16)])?;
-    let planned = guest.plan(alloc, alloc, job);
+    assert!(rt; tags_of(&rt, &guest, ONE) == 3);
+    let planned = guest.planned(&rt, rt.alloc(), ONE, &[(0x3000, 16)]);
     assert!(rt;
         is_managed(
             &planned,
@@ -284,29 +283,22 @@ fn a_range_over_three_extents(rt: HostRuntime) -> Result<(), Fail> {
             &[on_disk(7000, 2)]
         )
     );
-    Ok(())
 }
 
 #[test]
-fn a_range_of_no_blocks(rt: HostRuntime) -> Result<(), Fail> {
-    let alloc = rt.alloc();
-    let mut guest = in_three(&rt, alloc)?;
+fn a_range_of_no_blocks(rt: HostRuntime) {
+    let mut guest = in_three(&rt, rt.alloc());
     guest.put_range(0x3000, 5, 0);
     guest.put_range(0x3010, 5, 1);
-    let job = guest.job(alloc, command(&rt, TWO), &[(0x3000, 32)])?;
-    let planned = guest.plan(alloc, alloc, job);
+    let planned = guest.planned(&rt, rt.alloc(), TWO, &[(0x3000, 32)]);
     assert!(rt; is_managed(&planned, &[on_disk(1005, 0)], &[on_disk(3001, 1)], &[]));
-    Ok(())
 }
 
 #[test]
-fn commands_of_one_tag(rt: HostRuntime) -> Result<(), Fail> {
-    let guest = in_three(&rt, rt.alloc())?;
-    let flush = command(&rt, &[(0, 0x0007_0000)]);
-    assert_eq!(rt; tags_wanted(&flush, &guest.ns), 1);
-    let beyond = command(&rt, &[(10, 63), (12, 1)]);
-    assert_eq!(rt; tags_wanted(&beyond, &guest.ns), 1);
-    let unknown = command(&rt, &[(0, 0x0007_4004)]);
-    assert_eq!(rt; tags_wanted(&unknown, &guest.ns), 1);
-    Ok(())
+fn commands_of_one_tag(rt: HostRuntime) {
+    let guest = in_three(&rt, rt.alloc());
+    // a Flush, a transfer past the end, an unknown opcode
+    assert!(rt; tags_of(&rt, &guest, &[(0, 0x0007_0000)]) == 1);
+    assert!(rt; tags_of(&rt, &guest, &[(10, 63), (12, 1)]) == 1);
+    assert!(rt; tags_of(&rt, &guest, &[(0, 0x0007_4004)]) == 1);
 }

@@ -1,10 +1,9 @@
 //! Which transfers are direct, and which are bounced.
 use crate::memory::{APART, BUCKET, DATA, run};
-use crate::plan::guest::{Case, Expected, Guest, check_all, command, is_expected};
+use crate::plan::guest::{Case, Expected, Guest, check_all, is_expected};
 use nv_mem::Piece;
 use std::alloc::Global;
 use std::process::Abort;
-use std::test::Fail;
 
 const TRANSFERS: &[Case] = &[
     Case {
@@ -66,8 +65,8 @@ const TRANSFERS: &[Case] = &[
 ];
 
 #[test]
-fn transfers(rt: HostRuntime) -> Result<(), Fail> {
-    check_all(&rt, rt.alloc(), TRANSFERS)
+fn transfers(rt: HostRuntime) {
+    check_all(&rt, rt.alloc(), TRANSFERS);
 }
 
 const BESIDE_THE_GAP: &[(u32, Expected)] = &[
@@ -76,41 +75,42 @@ const BESIDE_THE_GAP: &[(u32, Expected)] = &[
     (0xfe00, Expected::Direct(&[run!(0xfe00, 512)])),
 ];
 
-fn check_gap(rt: &impl Abort, alloc: Global, guest: &Guest) -> Result<(), Fail> {
+fn check_gap(rt: &impl Abort, alloc: Global, guest: &Guest) {
     for (addr, expected) in BESIDE_THE_GAP {
-        let job = guest.job(alloc, command(rt, &[(6, *addr)]), &[])?;
-        let planned = guest.plan(alloc, alloc, job);
+        let planned = guest.planned(rt, alloc, &[(6, *addr)], &[]);
         assert!(rt; is_expected(&planned, expected), "{addr:#x}");
     }
-    Ok(())
 }
 
 #[test]
-fn memory_that_lies_apart_in_the_host(rt: HostRuntime) -> Result<(), Fail> {
-    let guest = Guest::mapped(rt.alloc(), APART)?;
-    check_gap(&rt, rt.alloc(), &guest)
+fn memory_that_lies_apart_in_the_host(rt: HostRuntime) {
+    let guest = Guest::mapped(&rt, rt.alloc(), APART);
+    check_gap(&rt, rt.alloc(), &guest);
 }
 
 /// A Read of 24 blocks, three pages, whose list chains to a second page.
 pub const CHAINED: &[(usize, u32)] = &[(0, 0x0007_0002), (8, 0x6ff8), (12, 23)];
 
-#[test]
-fn a_list_page_that_chains(rt: HostRuntime) -> Result<(), Fail> {
-    let alloc = rt.alloc();
-    let mut guest = Guest::new(alloc)?;
-    guest.put_slots(0x6ff8, &[0x7000, 0x8000, 0x9000]);
-    let steps = [
-        (0, Expected::Need(0x6ff8, 8)),
-        (1, Expected::Need(0x7000, 16)),
-        (
-            2,
-            Expected::Direct(&[run!(0x3000, 4096), run!(0x8000, 4096), run!(0x9000, 4096)]),
-        ),
-    ];
-    let reads: [(u64, u64); 2] = [(0x6ff8, 8), (0x7000, 16)];
-    for (count, expected) in steps.iter() {
-        let job = guest.job(alloc, command(&rt, CHAINED), &reads[..*count])?;
-        assert!(rt; is_expected(&guest.plan(alloc, alloc, job), expected));
+/// What was read of it, and what comes of that.
+const STEPS: &[(&[(u64, u64)], Expected)] = &[
+    (&[], Expected::Need(0x6ff8, 8)),
+    (&[(0x6ff8, 8)], Expected::Need(0x7000, 16)),
+    (
+        &[(0x6ff8, 8), (0x7000, 16)],
+        Expected::Direct(&[run!(0x3000, 4096), run!(0x8000, 4096), run!(0x9000, 4096)]),
+    ),
+];
+
+fn check_steps(rt: &impl Abort, alloc: Global, guest: &Guest) {
+    for (reads, expected) in STEPS {
+        let planned = guest.planned(rt, alloc, CHAINED, reads);
+        assert!(rt; is_expected(&planned, expected));
     }
-    Ok(())
+}
+
+#[test]
+fn a_list_page_that_chains(rt: HostRuntime) {
+    let mut guest = Guest::new(&rt, rt.alloc());
+    guest.put_slots(0x6ff8, &[0x7000, 0x8000, 0x9000]);
+    check_steps(&rt, rt.alloc(), &guest);
 }

@@ -1,11 +1,10 @@
 //! Dataset Management.
 use crate::memory::DATA;
-use crate::plan::guest::{Changes, Expected, Guest, command, is_expected};
+use crate::plan::guest::{Changes, Expected, Guest, is_expected};
 use nv_entry::StatusCode;
 use nv_plan::{Plan, PlanKind, Planned};
 use std::alloc::Global;
 use std::process::Abort;
-use std::test::Fail;
 
 /// A deallocation of two ranges by a Data Block of 32 bytes at 3000h.
 pub const TWO: Changes = &[(0, 0x0007_4009), (8, 32), (10, 1), (11, 4)];
@@ -56,53 +55,62 @@ pub const TRANSLATED: &[[u8; 16]] = &[
 ];
 
 #[test]
-fn two_ranges(rt: HostRuntime) -> Result<(), Fail> {
+fn two_ranges(rt: HostRuntime) {
     let alloc = rt.alloc();
-    let mut guest = Guest::new(alloc)?;
+    let mut guest = Guest::new(&rt, alloc);
     guest.put_range(0x3000, 5, 2);
     guest.put_range(0x3010, 0, 1);
-    let asked = guest.plan(alloc, alloc, guest.job(alloc, command(&rt, TWO), &[])?);
-    assert!(rt; is_expected(&asked, &Expected::Need(0x3000, 32)));
-    let job = guest.job(alloc, command(&rt, TWO), &[(0x3000, 32)])?;
-    let planned = guest.plan(alloc, alloc, job);
+    needs(&rt, alloc, &guest, TWO, &[], (0x3000, 32));
+    translates(&rt, alloc, &guest, TWO, &[(0x3000, 32)]);
+}
+
+// After these reads a command wants so many bytes at an address.
+fn needs(
+    rt: &impl Abort,
+    alloc: Global,
+    guest: &Guest,
+    changes: Changes,
+    reads: &[(u64, u64)],
+    want: (u64, u64),
+) {
+    let planned = guest.planned(rt, alloc, changes, reads);
+    assert!(rt; is_expected(&planned, &Expected::Need(want.0, want.1)));
+}
+
+// After these reads a command has its ranges as the disk has them.
+fn translates(
+    rt: &impl Abort,
+    alloc: Global,
+    guest: &Guest,
+    changes: Changes,
+    reads: &[(u64, u64)],
+) {
+    let planned = guest.planned(rt, alloc, changes, reads);
     assert!(rt; has_ranges(&planned, TRANSLATED));
-    Ok(())
 }
 
 /// A guest whose ranges, as `TRANSLATED` has them, are in two runs: 8 bytes and 24.
-pub fn lying_apart(alloc: Global) -> Result<Guest, Fail> {
-    let mut guest = Guest::new(alloc)?;
+pub fn lying_apart(rt: &impl Abort, alloc: Global) -> Guest {
+    let mut guest = Guest::new(rt, alloc);
     guest.put_range(0x4ff9, 5, 2);
     guest.put_range(0x5009, 0, 1);
     guest.put_range(0x3000, 0, 2);
     guest.put_descriptor(0x6000, DATA, 0x3000, 8);
     guest.put_descriptor(0x6010, DATA, 0x5001, 24);
-    Ok(guest)
+    guest
 }
 
+/// The reads of the list and of the bytes of the ranges, in another order and in theirs.
+const OUT_OF_ORDER: &[(u64, u64)] = &[(0x6000, 32), (0x5001, 24), (0x3000, 8)];
+
+const IN_ORDER: &[(u64, u64)] = &[(0x6000, 32), (0x3000, 8), (0x5001, 24)];
+
 #[test]
-fn ranges_that_lie_apart(rt: HostRuntime) -> Result<(), Fail> {
+fn ranges_that_lie_apart(rt: HostRuntime) {
     let alloc = rt.alloc();
-    let guest = lying_apart(alloc)?;
-    let first = guest.job(
-        alloc,
-        command(&rt, PARTED),
-        &[(0x6000, 32), (0x5001, 24), (0x3000, 8)],
-    )?;
-    assert!(rt;
-        is_expected(
-            &guest.plan(alloc, alloc, first),
-            &Expected::Need(0x5001, 24)
-        )
-    );
-    let job = guest.job(
-        alloc,
-        command(&rt, PARTED),
-        &[(0x6000, 32), (0x3000, 8), (0x5001, 24)],
-    )?;
-    let planned = guest.plan(alloc, alloc, job);
-    assert!(rt; has_ranges(&planned, TRANSLATED));
-    Ok(())
+    let guest = lying_apart(&rt, alloc);
+    needs(&rt, alloc, &guest, PARTED, OUT_OF_ORDER, (0x5001, 24));
+    translates(&rt, alloc, &guest, PARTED, IN_ORDER);
 }
 
 /// The last range of 256, of which the others are block 0, and whether all lie in the namespace.
@@ -114,33 +122,30 @@ const LAST_RANGES: &[(u64, u32, bool)] = &[
 ];
 
 // A guest with 255 ranges of block 0, and another last one.
-fn with_ranges(alloc: Global, start: u64, blocks: u32) -> Result<Guest, Fail> {
-    let mut guest = Guest::new(alloc)?;
+fn with_ranges(rt: &impl Abort, alloc: Global, start: u64, blocks: u32) -> Guest {
+    let mut guest = Guest::new(rt, alloc);
     for range in 0..255usize {
         guest.put_range(0x3000 + 16 * range, 0, 1);
     }
     guest.put_range(0x3ff0, start, blocks);
-    Ok(guest)
+    guest
 }
 
-fn check_last(rt: &impl Abort, alloc: Global, last: (u64, u32, bool)) -> Result<(), Fail> {
+fn check_last(rt: &impl Abort, alloc: Global, last: (u64, u32, bool)) {
     let (start, blocks, fits) = last;
-    let guest = with_ranges(alloc, start, blocks)?;
-    let job = guest.job(alloc, command(rt, MOST), &[(0x3000, 4096)])?;
-    let planned = guest.plan(alloc, alloc, job);
+    let guest = with_ranges(rt, alloc, start, blocks);
+    let planned = guest.planned(rt, alloc, MOST, &[(0x3000, 4096)]);
     let expected = if fits {
         Expected::Bounced(&[])
     } else {
         Expected::Refused(StatusCode::LbaOutOfRange)
     };
     assert!(rt; is_expected(&planned, &expected), "{start}");
-    Ok(())
 }
 
 #[test]
-fn the_last_of_256_ranges(rt: HostRuntime) -> Result<(), Fail> {
+fn the_last_of_256_ranges(rt: HostRuntime) {
     for last in LAST_RANGES {
-        check_last(&rt, rt.alloc(), *last)?;
+        check_last(&rt, rt.alloc(), *last);
     }
-    Ok(())
 }

@@ -7,10 +7,10 @@ use crate::plan::guest::{
     Case, Changes, Expected, Guest, Row, check_all, command, is_expected, range,
 };
 use nv_entry::{Sqe, StatusCode};
-use nv_mem::{NoMemory, Piece};
+use nv_mem::Piece;
 use nv_plan::{Planned, make_plan};
 use std::alloc::Global;
-use std::test::Fail;
+use std::process::Abort;
 
 /// A Read of two blocks by a Last Segment of two descriptors at 6000h.
 const TWO: &[(usize, u32)] = &[(6, 0x6000), (8, 32), (9, 0x3000_0000), (12, 1)];
@@ -81,8 +81,8 @@ const READINGS: &[Case] = &[
 ];
 
 #[test]
-fn reads_that_meet_a_want(rt: HostRuntime) -> Result<(), Fail> {
-    check_all(&rt, rt.alloc(), READINGS)
+fn reads_that_meet_a_want(rt: HostRuntime) {
+    check_all(&rt, rt.alloc(), READINGS);
 }
 
 /// A Read of one block by a Segment at 6000h that leads to a Last Segment at 7000h.
@@ -124,32 +124,33 @@ const CHAINED: &[Case] = &[
 ];
 
 #[test]
-fn arrays_in_their_order(rt: HostRuntime) -> Result<(), Fail> {
-    check_all(&rt, rt.alloc(), CHAINED)
+fn arrays_in_their_order(rt: HostRuntime) {
+    check_all(&rt, rt.alloc(), CHAINED);
 }
 
 // Reads what is wanted until there is a plan, and says how often that was.
 fn driven(
+    rt: &impl Abort,
     alloc: Global,
     guest: &Guest,
     sqe: Sqe,
     limit: u32,
-) -> Result<Option<(Planned, u32)>, NoMemory>
+) -> Option<(Planned, u32)>
     requires some { 0 < limit }
     requires most { limit ≤ 4096 }
 {
-    let mut next = guest.job(alloc, sqe, &[])?;
+    let mut next = guest.job(rt, alloc, sqe, &[]);
     for count in 0..3000u32 {
         match make_plan(alloc, alloc, next, &guest.map, &range(), limit) {
             Planned::Need(mut job, addr, len) => {
-                guest.read(alloc, addr, len, &mut job.reads)?;
+                guest.read(rt, alloc, addr, len, &mut job.reads);
                 next = job;
             }
-            planned => return Ok(Some((planned, count))),
+            planned => return Some((planned, count)),
         }
     }
     drop(next);
-    Ok(None)
+    None
 }
 
 /// A list in a guest's memory, the limit on descriptors, what comes of it, and how often something is wanted before.
@@ -164,15 +165,15 @@ struct Limited {
 }
 
 // Whether what comes of such a list is what is expected, by a plan that is made anew after each read and by one that is fed.
-fn is_as_expected(alloc: Global, sqe: Sqe, list: &Limited) -> Result<bool, Fail> {
-    let guest = Guest::with(alloc, list.rows)?;
+fn is_as_expected(rt: &impl Abort, alloc: Global, list: &Limited) -> bool {
+    let guest = Guest::with(rt, alloc, list.rows);
     let limit = list.limit;
     if limit == 0 || limit > 4096 {
-        return Ok(false);
+        return false;
     }
-    let made = driven(alloc, &guest, sqe, limit)?;
-    let fed = fed(alloc, &guest, sqe, limit)?;
-    Ok(comes_to(&made, list) && comes_to(&fed, list))
+    let sqe = command(rt, list.changes);
+    comes_to(&driven(rt, alloc, &guest, sqe, limit), list)
+        && comes_to(&fed(rt, alloc, &guest, sqe, limit), list)
 }
 
 // Whether that comes after as many wants.
@@ -254,36 +255,28 @@ const LIMITED: &[Limited] = &[
 ];
 
 #[test]
-fn limits_on_descriptors(rt: HostRuntime) -> Result<(), Fail> {
+fn limits_on_descriptors(rt: HostRuntime) {
     for list in LIMITED {
-        let sqe = command(&rt, list.changes);
-        assert!(rt; is_as_expected(rt.alloc(), sqe, list)?, "{}", list.name);
+        assert!(rt; is_as_expected(&rt, rt.alloc(), list), "{}", list.name);
     }
-    Ok(())
 }
 
 // What comes of a Segment that names itself, which was read so often, where 4,096 descriptors may be read.
-fn of_the_largest_limit(
-    alloc: Global,
-    guest: &Guest,
-    sqe: Sqe,
-    count: u32,
-) -> Result<Planned, NoMemory> {
-    let mut job = guest.job(alloc, sqe, &[])?;
+fn of_the_largest_limit(rt: &impl Abort, alloc: Global, guest: &Guest, count: u32) -> Planned {
+    let sqe = command(rt, &[(6, 0x6000), (8, 32), (9, 0x2000_0000)]);
+    let mut job = guest.job(rt, alloc, sqe, &[]);
     for _ in 0..count {
-        guest.read(alloc, 0x6000, 32, &mut job.reads)?;
+        guest.read(rt, alloc, 0x6000, 32, &mut job.reads);
     }
-    Ok(make_plan(alloc, alloc, job, &guest.map, &range(), 4096))
+    make_plan(alloc, alloc, job, &guest.map, &range(), 4096)
 }
 
 #[test]
-fn the_largest_limit(rt: HostRuntime) -> Result<(), Fail> {
+fn the_largest_limit(rt: HostRuntime) {
     let alloc = rt.alloc();
-    let guest = Guest::with(alloc, &[(0x6010, SEGMENT, 0x6000, 32)])?;
-    let sqe = command(&rt, &[(6, 0x6000), (8, 32), (9, 0x2000_0000)]);
-    let short = of_the_largest_limit(alloc, &guest, sqe, 2047)?;
+    let guest = Guest::with(&rt, alloc, &[(0x6010, SEGMENT, 0x6000, 32)]);
+    let short = of_the_largest_limit(&rt, alloc, &guest, 2047);
     assert!(rt; is_expected(&short, &Expected::Need(0x6000, 32)));
-    let whole = of_the_largest_limit(alloc, &guest, sqe, 2048)?;
+    let whole = of_the_largest_limit(&rt, alloc, &guest, 2048);
     assert!(rt; is_expected(&whole, &Expected::TooLong));
-    Ok(())
 }

@@ -2,12 +2,11 @@
 use crate::memory::run;
 use crate::plan::chain::{CHAIN, ROWS, is_in_halves};
 use crate::plan::guest::{Guest, command, joined};
-use nv_mem::{NoMemory, Piece};
+use nv_mem::Piece;
 use nv_plan::{Job, Planned};
 use nv_refusing::Refusing;
 use std::alloc::Global;
 use std::process::Abort;
-use std::test::Fail;
 
 const READS: &[(u64, u64)] = &[(0x6000, 32), (0x7000, 16)];
 
@@ -54,31 +53,25 @@ fn refused_once(
 }
 
 // How many allocations of the heap were refused, one after another; nothing where a refusal was not answered as such.
-fn refusals(
-    rt: &impl Abort,
-    heap: &Refusing<Global>,
-    alloc: Global,
-    guest: &Guest,
-) -> Result<Option<u64>, NoMemory> {
+fn refusals(rt: &impl Abort, heap: &Refusing<Global>, alloc: Global, guest: &Guest) -> Option<u64> {
     for granted in 0..100u64 {
-        let job = guest.job(alloc, command(rt, CHAIN), READS)?;
+        let job = guest.job(rt, alloc, command(rt, CHAIN), READS);
         match refused_once(heap, alloc, guest, job, granted) {
             Some(true) => {}
-            Some(false) => return Ok(None),
-            None => return Ok(Some(granted)),
+            Some(false) => return None,
+            None => return Some(granted),
         }
     }
-    Ok(None)
+    None
 }
 
 #[test]
-fn each_allocation_refused_in_turn(rt: HostRuntime) -> Result<(), Fail> {
+fn each_allocation_refused_in_turn(rt: HostRuntime) {
     let alloc = rt.alloc();
-    let mut guest = Guest::with(alloc, ROWS)?;
+    let mut guest = Guest::with(&rt, alloc, ROWS);
     let heap = Refusing::new(alloc);
     // the own descriptor takes one block of memory, and each array two
-    assert_eq!(rt; refusals(&rt, &heap, alloc, &guest)?, Some(5));
+    assert!(rt; refusals(&rt, &heap, alloc, &guest) == Some(5));
     guest.ns = joined(&rt, (1000, 6), &[(5000, 58)]);
-    assert_eq!(rt; refusals(&rt, &heap, alloc, &guest)?, Some(5));
-    Ok(())
+    assert!(rt; refusals(&rt, &heap, alloc, &guest) == Some(5));
 }

@@ -6,18 +6,17 @@ ghost use Rattle.nv_model.specs.Laws.{IsMappedPiece};
 
 use super::map;
 use crate::memory::{APART, map_of, run};
-use nv_mem::{GuestMap, NoMemory, Piece, Places, len_of};
+use nv_mem::{GuestMap, Piece, Places, len_of};
 use nv_prp::{Prps, build, build_run, fits};
 use std::alloc::Global;
 use std::process::Abort;
-use std::test::Fail;
 
-fn places_of(alloc: Global, pieces: &[Piece]) -> Result<Places, NoMemory> {
+fn places_of(rt: &impl Abort, alloc: Global, pieces: &[Piece]) -> Places {
     let mut places = Places::new(alloc);
     for piece in pieces {
-        places.push(*piece)?;
+        places.push(*piece).expect(rt, "memory");
     }
-    Ok(places)
+    places
 }
 
 // Whether these places fit, or nothing where one of them is not mapped.
@@ -69,24 +68,17 @@ const PAIRS: &[(&[Piece], bool)] = &[
     (&[BUCKET, run!(0x3000, 512)], false),
 ];
 
-fn check_fit(
-    rt: &impl Abort,
-    alloc: Global,
-    map: &GuestMap,
-    pairs: &[(&[Piece], bool)],
-) -> Result<(), NoMemory> {
+fn check_fit(rt: &impl Abort, alloc: Global, map: &GuestMap, pairs: &[(&[Piece], bool)]) {
     for (pieces, expected) in pairs {
-        let fit = fit(map, &places_of(alloc, pieces)?);
+        let fit = fit(map, &places_of(rt, alloc, pieces));
         assert!(rt; fit == Some(*expected), "{pieces:?}");
     }
-    Ok(())
 }
 
 #[test]
-fn which_places_fit(rt: HostRuntime) -> Result<(), Fail> {
-    let map = map_of(rt.alloc(), APART)?;
-    check_fit(&rt, rt.alloc(), &map, PAIRS)?;
-    Ok(())
+fn which_places_fit(rt: HostRuntime) {
+    let map = map_of(&rt, rt.alloc(), APART);
+    check_fit(&rt, rt.alloc(), &map, PAIRS);
 }
 
 // Whether these places are 131,072 bytes at most.
@@ -179,25 +171,18 @@ const TRANSFERS: &[Transfer] = &[
     },
 ];
 
-fn check_built(
-    rt: &impl Abort,
-    alloc: Global,
-    map: &GuestMap,
-    cases: &[Transfer],
-) -> Result<(), NoMemory> {
+fn check_built(rt: &impl Abort, alloc: Global, map: &GuestMap, cases: &[Transfer]) {
     for case in cases {
-        let found = built(map, &places_of(alloc, case.pieces)?, LIST_PAGE);
+        let found = built(map, &places_of(rt, alloc, case.pieces), LIST_PAGE);
         let expected = prps_of(case.prp1, case.prp2, case.entries);
         assert!(rt; found == Some(expected), "{}", case.name);
     }
-    Ok(())
 }
 
 #[test]
-fn what_is_built(rt: HostRuntime) -> Result<(), Fail> {
-    let map = map_of(rt.alloc(), APART)?;
-    check_built(&rt, rt.alloc(), &map, TRANSFERS)?;
-    Ok(())
+fn what_is_built(rt: HostRuntime) {
+    let map = map_of(&rt, rt.alloc(), APART);
+    check_built(&rt, rt.alloc(), &map, TRANSFERS);
 }
 
 // Whether a list names 33 pages from an offset of 4: its first entry, and the last.
@@ -210,18 +195,17 @@ fn names_33_pages(prps: &Prps) -> bool {
 }
 
 // Whether the largest transfer from this place on is built.
-fn is_largest_built(alloc: Global, map: &GuestMap, addr: u64) -> Result<bool, NoMemory> {
-    match built(map, &places_of(alloc, &[run!(addr, 131072)])?, LIST_PAGE) {
-        Some(prps) => Ok(names_33_pages(&prps)),
-        None => Ok(false),
+fn is_largest_built(rt: &impl Abort, alloc: Global, map: &GuestMap, addr: u64) -> bool {
+    match built(map, &places_of(rt, alloc, &[run!(addr, 131072)]), LIST_PAGE) {
+        Some(prps) => names_33_pages(&prps),
+        None => false,
     }
 }
 
 #[test]
-fn all_entries_of_a_list(rt: HostRuntime) -> Result<(), Fail> {
-    let map = map(rt.alloc())?;
-    assert!(rt; is_largest_built(rt.alloc(), &map, 0x3004)?);
-    Ok(())
+fn all_entries_of_a_list(rt: HostRuntime) {
+    let map = map(&rt, rt.alloc());
+    assert!(rt; is_largest_built(&rt, rt.alloc(), &map, 0x3004));
 }
 
 /// The lengths of runs from 404000h on, and the PRP2 and the entries that name them.

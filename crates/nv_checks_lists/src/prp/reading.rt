@@ -2,12 +2,11 @@
 use super::map;
 use crate::memory::{part, run, store};
 use nv_entry::StatusCode;
-use nv_mem::{GuestMap, NoMemory, Piece};
+use nv_mem::{GuestMap, Piece};
 use nv_model::Want;
 use nv_prp::PrpParse;
 use std::alloc::Global;
 use std::process::Abort;
-use std::test::Fail;
 
 /// A transfer: the numbers in the guest's memory, its PRP1 and PRP2 and its length. What it wants in turn, the code with which it
 /// is refused, and the pieces that it names where it isn't.
@@ -210,12 +209,12 @@ const REFUSED_LISTS: &[Case] = &[
 ];
 
 // A memory of zeros with these numbers in it, each in 8 bytes.
-fn holding(alloc: Global, slots: &[(usize, u64)]) -> Result<Vec<u8>, NoMemory> {
-    let mut memory = vec![in alloc; 0u8; 0x40000]?;
+fn holding(rt: &impl Abort, alloc: Global, slots: &[(usize, u64)]) -> Vec<u8> {
+    let mut memory = vec![in alloc; 0u8; 0x40000].expect(rt, "memory");
     for (at, number) in slots {
         store(&mut memory, *at, &number.to_le_bytes());
     }
-    Ok(memory)
+    memory
 }
 
 // Feeds the parse the next part that it wants, and says which that was; or nothing where it has ended.
@@ -252,49 +251,47 @@ fn has_ended(parse: &PrpParse<'_>, refusal: Option<StatusCode>) -> bool {
 }
 
 // Whether a parse that is done names these pieces; where it isn't done, whether they are none.
-fn has_pieces(alloc: Global, parse: &PrpParse<'_>, pieces: &[Piece]) -> Result<bool, NoMemory> {
+fn has_pieces(rt: &impl Abort, alloc: Global, parse: &PrpParse<'_>, pieces: &[Piece]) -> bool {
     if let Want::Done = parse.wants() {
-        Ok(parse.places(alloc)?.pieces() == pieces)
+        parse.places(alloc).expect(rt, "memory").pieces() == pieces
     } else {
-        Ok(pieces.is_empty())
+        pieces.is_empty()
     }
 }
 
 // Whether reading a transfer comes to what is expected.
-fn is_as_expected(alloc: Global, map: &GuestMap, case: &Case) -> Result<bool, NoMemory> {
+fn is_as_expected(rt: &impl Abort, alloc: Global, map: &GuestMap, case: &Case) -> bool {
     if case.need == 0 || case.need > 131072 {
-        return Ok(false);
+        return false;
     }
-    let memory = holding(alloc, case.slots)?;
+    let memory = holding(rt, alloc, case.slots);
     let mut parse = PrpParse::new(map, case.prp1, case.prp2, case.need);
     let is_read = takes(&mut parse, &memory, case.wants) && has_ended(&parse, case.refusal);
-    Ok(is_read && has_pieces(alloc, &parse, case.pieces)?)
+    is_read && has_pieces(rt, alloc, &parse, case.pieces)
 }
 
-fn check(rt: &impl Abort, alloc: Global, map: &GuestMap, cases: &[Case]) -> Result<(), NoMemory> {
+fn check(rt: &impl Abort, alloc: Global, map: &GuestMap, cases: &[Case]) {
     for case in cases {
-        assert!(rt; is_as_expected(alloc, map, case)?, "{}", case.name);
+        assert!(rt; is_as_expected(rt, alloc, map, case), "{}", case.name);
     }
-    Ok(())
 }
 
 #[test]
-fn transfers(rt: HostRuntime) -> Result<(), Fail> {
-    let map = map(rt.alloc())?;
-    check(&rt, rt.alloc(), &map, DONE)?;
-    check(&rt, rt.alloc(), &map, REFUSED)?;
-    check(&rt, rt.alloc(), &map, REFUSED_LISTS)?;
-    Ok(())
+fn transfers(rt: HostRuntime) {
+    let map = map(&rt, rt.alloc());
+    check(&rt, rt.alloc(), &map, DONE);
+    check(&rt, rt.alloc(), &map, REFUSED);
+    check(&rt, rt.alloc(), &map, REFUSED_LISTS);
 }
 
 // 33 pages from an offset of 4: 32 entries of a list, the last of which represents 4 bytes.
-fn list_of_largest(alloc: Global) -> Result<Vec<u8>, NoMemory> {
-    let mut memory = holding(alloc, &[])?;
+fn list_of_largest(rt: &impl Abort, alloc: Global) -> Vec<u8> {
+    let mut memory = holding(rt, alloc, &[]);
     for i in 0..32 {
         let entry = 0x8000 + 0x1000 * i as u64;
         store(&mut memory, 0x2000 + 8 * i, &entry.to_le_bytes());
     }
-    Ok(memory)
+    memory
 }
 
 fn are_of_largest(pieces: &[Piece]) -> bool {
@@ -304,21 +301,20 @@ fn are_of_largest(pieces: &[Piece]) -> bool {
         && pieces.get(32).copied() == Some(run!(0x2_7000, 4))
 }
 
-fn is_largest_read(alloc: Global, map: &GuestMap) -> Result<bool, NoMemory> {
-    let memory = list_of_largest(alloc)?;
+fn is_largest_read(rt: &impl Abort, alloc: Global, map: &GuestMap) -> bool {
+    let memory = list_of_largest(rt, alloc);
     let mut parse = PrpParse::new(map, 0x3004, 0x2000, 131072);
     if !takes(&mut parse, &memory, &[(0x2000, 256)]) {
-        return Ok(false);
+        return false;
     }
     match parse.wants() {
-        Want::Done => Ok(are_of_largest(parse.places(alloc)?.pieces())),
-        _ => Ok(false),
+        Want::Done => are_of_largest(parse.places(alloc).expect(rt, "memory").pieces()),
+        _ => false,
     }
 }
 
 #[test]
-fn the_largest_transfer(rt: HostRuntime) -> Result<(), Fail> {
-    let map = map(rt.alloc())?;
-    assert!(rt; is_largest_read(rt.alloc(), &map)?);
-    Ok(())
+fn the_largest_transfer(rt: HostRuntime) {
+    let map = map(&rt, rt.alloc());
+    assert!(rt; is_largest_read(&rt, rt.alloc(), &map));
 }

@@ -99,7 +99,7 @@ fn check_first(
 
 #[test]
 fn first_answers(rt: HostRuntime) -> Result<(), Fail> {
-    let map = map(rt.alloc())?;
+    let map = map(&rt, rt.alloc());
     check_first(&rt, rt.alloc(), &map, FIRST)?;
     Ok(())
 }
@@ -367,7 +367,7 @@ fn check(rt: &impl Abort, alloc: Global, map: &GuestMap, cases: &[Case]) -> Resu
 
 #[test]
 fn lists(rt: HostRuntime) -> Result<(), Fail> {
-    let map = map(rt.alloc())?;
+    let map = map(&rt, rt.alloc());
     check(&rt, rt.alloc(), &map, CASES)?;
     Ok(())
 }
@@ -375,7 +375,7 @@ fn lists(rt: HostRuntime) -> Result<(), Fail> {
 // Run it with each allocation of the process refused in turn: it succeeds, or ends with an error because it is out of memory.
 #[test]
 fn a_list_from_its_descriptor_to_its_places(rt: HostRuntime) -> Result<(), Fail> {
-    let map = map(rt.alloc())?;
+    let map = map(&rt, rt.alloc());
     check(&rt, rt.alloc(), &map, &[THREE])?;
     Ok(())
 }

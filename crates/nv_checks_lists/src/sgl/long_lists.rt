@@ -13,26 +13,23 @@ fn feedings(parse: &mut SglParse<'_, Global>, memory: &[u8], part: Want) -> Resu
 }
 
 // Whether a Segment that names itself is read 512 times.
-fn is_read_512_times(alloc: Global, guest: &Guest) -> Result<bool, NoMemory> {
+fn is_read_512_times(rt: &impl Abort, alloc: Global, guest: &Guest) -> bool {
     let first = descriptor((SEGMENT, 0x6000, 32));
-    let mut parse = SglParse::new(alloc, &guest.map, first, true, 512)?;
+    let mut parse = SglParse::new(alloc, &guest.map, first, true, 512).expect(rt, "memory");
     let part = Want::Read {
         addr: 0x6000,
         len: 32,
     };
     // the 512th reading stops after descriptor 1,024, the array's first
-    Ok(
-        feedings(&mut parse, &guest.memory, part)? == 512
-            && parse.wants() == Want::TooLong
-            && parse.chain().blocks().len() == 1,
-    )
+    feedings(&mut parse, &guest.memory, part).expect(rt, "memory") == 512
+        && parse.wants() == Want::TooLong
+        && parse.chain().blocks().len() == 1
 }
 
 #[test]
-fn a_segment_that_names_itself(rt: HostRuntime) -> Result<(), Fail> {
-    let guest = guest_with(rt.alloc(), &[(0x6010, (SEGMENT, 0x6000, 32))])?;
-    assert!(rt; is_read_512_times(rt.alloc(), &guest)?);
-    Ok(())
+fn a_segment_that_names_itself(rt: HostRuntime) {
+    let guest = guest_with(&rt, rt.alloc(), &[(0x6010, (SEGMENT, 0x6000, 32))]);
+    assert!(rt; is_read_512_times(&rt, rt.alloc(), &guest));
 }
 
 /// An array of 1,023 descriptors, two of which name bytes.
@@ -82,21 +79,18 @@ fn has_array_in_front(chain: &Chain<Global>, own: Descriptor) -> bool {
         && older == [own].as_slice()
 }
 
-fn is_read_in_four_parts(alloc: Global, guest: &Guest) -> Result<bool, NoMemory> {
+fn is_read_in_four_parts(rt: &impl Abort, alloc: Global, guest: &Guest) -> bool {
     let first = descriptor((LAST, 0x8000, 16 * 1023));
-    let mut parse = SglParse::new(alloc, &guest.map, first, true, 1024)?;
-    Ok(
-        takes(&mut parse, &guest.memory, PARTS)?
-            && parse.wants() == Want::Done
-            && has_array_in_front(parse.chain(), first),
-    )
+    let mut parse = SglParse::new(alloc, &guest.map, first, true, 1024).expect(rt, "memory");
+    takes(&mut parse, &guest.memory, PARTS).expect(rt, "memory")
+        && parse.wants() == Want::Done
+        && has_array_in_front(parse.chain(), first)
 }
 
 #[test]
-fn an_array_in_four_parts(rt: HostRuntime) -> Result<(), Fail> {
-    let guest = guest_with(rt.alloc(), BLOCKS)?;
-    assert!(rt; is_read_in_four_parts(rt.alloc(), &guest)?);
-    Ok(())
+fn an_array_in_four_parts(rt: HostRuntime) {
+    let guest = guest_with(&rt, rt.alloc(), BLOCKS);
+    assert!(rt; is_read_in_four_parts(&rt, rt.alloc(), &guest));
 }
 
 // Whether these are the pieces of the long list.
@@ -114,26 +108,24 @@ fn are_of_long_list(pieces: &[Piece]) -> bool {
 }
 
 // Whether a parse has read the long list.
-fn has_read_long_list(alloc: Global, parse: &SglParse<'_, &LocalHeap>) -> Result<bool, NoMemory> {
-    Ok(
-        parse.wants() == Want::Done
-            && arrays(parse.chain()) == 512
-            && are_of_long_list(parse.places(alloc)?.pieces()),
-    )
+fn has_read_long_list(rt: &impl Abort, alloc: Global, parse: &SglParse<'_, &LocalHeap>) -> bool {
+    parse.wants() == Want::Done
+        && arrays(parse.chain()) == 512
+        && are_of_long_list(parse.places(alloc).expect(rt, "memory").pieces())
 }
 
 // Whether the long list is read to its end in a heap.
-fn is_read_in(heap: &LocalHeap, alloc: Global, guest: &Guest) -> Result<bool, NoMemory> {
-    let mut parse = parse_of_long_list(heap, &guest.map)?;
-    Ok(drive(&mut parse, &guest.memory)? == Want::Done && has_read_long_list(alloc, &parse)?)
+fn is_read_in(rt: &impl Abort, heap: &LocalHeap, alloc: Global, guest: &Guest) -> bool {
+    let mut parse = parse_of_long_list(heap, &guest.map).expect(rt, "memory");
+    drive(&mut parse, &guest.memory).expect(rt, "memory") == Want::Done
+        && has_read_long_list(rt, alloc, &parse)
 }
 
 #[test]
-fn hundreds_of_arrays(rt: HostRuntime) -> Result<(), Fail> {
-    let guest = guest_with_long_list(rt.alloc())?;
-    let heap = LocalHeap::new(rt.alloc(), 0x4_0000)?;
-    assert!(rt; is_read_in(&heap, rt.alloc(), &guest)?);
-    Ok(())
+fn hundreds_of_arrays(rt: HostRuntime) {
+    let guest = guest_with_long_list(&rt, rt.alloc());
+    let heap = LocalHeap::new(rt.alloc(), 0x4_0000).expect(&rt, "memory");
+    assert!(rt; is_read_in(&rt, &heap, rt.alloc(), &guest));
 }
 
 // Whether a parse is refused before its end, and goes on wanting the same.
@@ -144,15 +136,14 @@ fn is_refused(parse: &mut SglParse<'_, &LocalHeap>, memory: &[u8]) -> bool {
 }
 
 // Whether the long list is refused in a heap that is too small.
-fn is_refused_in(heap: &LocalHeap, guest: &Guest) -> Result<bool, NoMemory> {
-    let mut parse = parse_of_long_list(heap, &guest.map)?;
-    Ok(is_refused(&mut parse, &guest.memory))
+fn is_refused_in(rt: &impl Abort, heap: &LocalHeap, guest: &Guest) -> bool {
+    let mut parse = parse_of_long_list(heap, &guest.map).expect(rt, "memory");
+    is_refused(&mut parse, &guest.memory)
 }
 
 #[test]
-fn a_heap_too_small(rt: HostRuntime) -> Result<(), Fail> {
-    let guest = guest_with_long_list(rt.alloc())?;
-    let heap = LocalHeap::new(rt.alloc(), 0x1000)?;
-    assert!(rt; is_refused_in(&heap, &guest)?);
-    Ok(())
+fn a_heap_too_small(rt: HostRuntime) {
+    let guest = guest_with_long_list(&rt, rt.alloc());
+    let heap = LocalHeap::new(rt.alloc(), 0x1000).expect(&rt, "memory");
+    assert!(rt; is_refused_in(&rt, &heap, &guest));
 }

@@ -132,7 +132,7 @@ fn is_read_all_the_same(
 
 #[test]
 fn each_allocation_refused(rt: HostRuntime) -> Result<(), Fail> {
-    let guest = guest_with(rt.alloc(), THREE_ARRAYS)?;
+    let guest = guest_with(&rt, rt.alloc(), THREE_ARRAYS);
     let heap = Refusing::new(rt.alloc());
     assert!(rt; is_new_refused(&heap, &guest.map));
     assert!(rt; is_read_all_the_same(&heap, rt.alloc(), &guest)?);
@@ -211,7 +211,7 @@ fn are_copied(heap: &Refusing<Global>, alloc: Global, guest: &Guest) -> Result<b
 
 #[test]
 fn copies(rt: HostRuntime) -> Result<(), Fail> {
-    let guest = guest_with(rt.alloc(), THREE_ARRAYS)?;
+    let guest = guest_with(&rt, rt.alloc(), THREE_ARRAYS);
     let heap = Refusing::new(rt.alloc());
     assert!(rt; are_copied(&heap, rt.alloc(), &guest)?);
     Ok(())
@@ -229,7 +229,7 @@ fn is_long_chain_copied(alloc: Global, guest: &Guest) -> Result<bool, NoMemory> 
 
 #[test]
 fn a_long_chain_copied(rt: HostRuntime) -> Result<(), Fail> {
-    let guest = guest_with_long_list(rt.alloc())?;
+    let guest = guest_with_long_list(&rt, rt.alloc());
     assert!(rt; is_long_chain_copied(rt.alloc(), &guest)?);
     Ok(())
 }

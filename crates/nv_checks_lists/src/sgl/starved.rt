@@ -73,21 +73,22 @@ fn is_new_refused(heap: &LocalHeap, map: &GuestMap) -> bool {
 }
 
 fn is_refused_and_fed_again(
+    rt: &impl Abort,
     heap: &LocalHeap,
     alloc: Global,
     guest: &Guest,
-) -> Result<bool, NoMemory> {
-    let mut parse = parse_of_three(heap, &guest.map)?;
+) -> bool {
+    let mut parse = parse_of_three(heap, &guest.map).expect(rt, "memory");
     // each array's first part takes two blocks, one for its descriptors and one for its place in the chain, and a further part none
-    Ok(are_refused(&mut parse, heap, &guest.memory, &[2, 2, 0]) && has_read_three(alloc, &parse)?)
+    are_refused(&mut parse, heap, &guest.memory, &[2, 2, 0])
+        && has_read_three(alloc, &parse).expect(rt, "memory")
 }
 
 #[test]
-fn refused_and_fed_again(rt: HostRuntime) -> Result<(), Fail> {
-    let guest = guest_with(rt.alloc(), THREE_ARRAYS)?;
-    let heap = LocalHeap::new(rt.alloc(), 0x8000)?;
+fn refused_and_fed_again(rt: HostRuntime) {
+    let guest = guest_with(&rt, rt.alloc(), THREE_ARRAYS);
+    let heap = LocalHeap::new(rt.alloc(), 0x8000).expect(&rt, "memory");
     assert!(rt; is_new_refused(&heap, &guest.map));
-    assert!(rt; is_refused_and_fed_again(&heap, rt.alloc(), &guest)?);
-    assert_eq!(rt; heap.used(), 0);
-    Ok(())
+    assert!(rt; is_refused_and_fed_again(&rt, &heap, rt.alloc(), &guest));
+    assert!(rt; heap.used() == 0);
 }
