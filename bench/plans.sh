@@ -10,17 +10,17 @@ set -euo pipefail
 export LC_ALL=C
 
 root=$(dirname "$(dirname "$(readlink -f "$0")")")
-program=$root/crates/nv_bench_plan/out/nv_bench_plan
+program=$root/crates/nv_workloads/out/nv_workloads
 plans=${1:-20000}
 
-[[ -x $program ]] || (cd "$root/crates/nv_bench_plan" && rt run </dev/null >&2)
+[[ -x $program ]] || (cd "$root/crates/nv_workloads" && rt run </dev/null >&2)
 
-# How long the program takes for a line of input: the least of five runs, in nanoseconds.
+# How long the program takes for these words: the least of five runs, in nanoseconds.
 least() {
     local took="" start now
     for _ in 1 2 3 4 5; do
         start=$(date +%s%N)
-        printf '%s\n' "$1" | "$program" >/dev/null
+        "$program" "$@" >/dev/null
         now=$(($(date +%s%N) - start))
         [[ -n $took && $took -le $now ]] || took=$now
     done
@@ -29,8 +29,8 @@ least() {
 
 for kind in descriptors ranges pages; do
     for count in $((plans / 2)) "$plans"; do
-        whole=$(least "$kind $count")
-        jobs=$(least "jobs $kind $count")
+        whole=$(least plans "$kind" "$count")
+        jobs=$(least jobs "$kind" "$count")
         awk -v kind="$kind" -v count="$count" -v whole="$whole" -v jobs="$jobs" 'BEGIN {
             printf "%-12s %8d plans: %8.2f us a plan, and %.2f us its job\n", kind, count, (whole - jobs) / count / 1000, jobs / count / 1000
         }'

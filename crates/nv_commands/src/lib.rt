@@ -12,7 +12,7 @@
 //!
 //! What `once` prints is proved from the contract of the trait `One` of `nv_flat` alone. Of the subcommands only `run` waits. So it is a request of
 //! its own, and only [`serve`], [`program`] and the function that performs it need a bound on threads. This is a crate apart from `nvmed` so that
-//! tests, and a program without a command line (`nv_checks_run`), can use it.
+//! tests, and a program without a command line (`nv_workloads`), can use it.
 #![tactic(auto)]
 
 mod command;

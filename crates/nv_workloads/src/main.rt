@@ -17,6 +17,15 @@
 //! `nv_workloads forever SEED EVENTS` goes on for so many events, in rounds of a million: 16 guests of a mediator that keeps no log, some of them
 //! hostile, slow or reset. Each round has the same commands, and prints how many events there were so far and a digest of their answers.
 //!
+//! `nv_workloads plans KIND COUNT` makes the same plan so often, and prints how many there were. The kind `descriptors` is a Read of one block
+//! through a Last Segment of 1,023 Data Blocks, `ranges` a Dataset Management of 256 ranges, `pages` a Read of 24 blocks whose list of region pages
+//! chains. `nv_workloads jobs KIND COUNT` makes no plan: so the job alone, which is made anew each time, is measured.
+//!
+//! `nv_workloads once` runs a script from standard input as `nvmed once` does, with no command line.
+//!
+//! Several of these, with the word `then` between them, are done one after another. So one run in the gate shows what each kind prints, by both
+//! compilers. The run of `nvmed` there ends with a fault, so that its exit status is seen.
+//!
 //! It is proved to be safe, and to terminate except for the threads that `guests` and `loops` wait for. What it prints is not proved.
 #![tactic(auto)]
 
@@ -25,6 +34,7 @@ mod entry;
 mod guests;
 mod hosted;
 mod lists;
+mod plans;
 mod random;
 mod shape;
 mod sink;
@@ -33,62 +43,97 @@ mod traffic;
 mod transfer;
 mod workload;
 
+use crate::plans::{Kind, planned};
 use crate::traffic::forever::{Forever, ROUND};
 use crate::workload::{Failed, Workload};
-use nv_commands::words;
+use nv_commands::{Command, ExitStatus, run, words};
+use nv_flat::FlatController;
+use nv_mem::NoMemory;
 use std::alloc::Global;
 use std::io;
-use std::io::Write;
+use std::io::{Stderr, Stdin, Stdout, Write};
+use std::process::ExitCode;
 use std::sync::Wait;
 use std::thread::Threads;
 use std::time::Clock;
 
-/// What the words ask for: which workload, or none where it is to go on for ever; from which seed, how large, and whether its script is
-/// printed.
-#[derive(Drop)]
-struct Asked {
-    workload: Option<Workload>,
-    seed: u64,
-    count: u64,
-    is_script: bool,
+const USAGE: &str =
+    "usage: nv_workloads replay|host|host-without-log|lists|guests|loops|awkward|extents SEED COUNT [script] | forever SEED EVENTS | plans|jobs descriptors|ranges|pages COUNT | once";
+
+/// What is done.
+#[derive(Clone, Copy, Debug)]
+enum Task {
+    /// a workload
+    Work(Workload),
+    /// the script of a workload
+    Script(Workload),
+    /// traffic that goes on for ever
+    Forever,
+    /// jobs of a kind, and their plans where that is `true`
+    Plans(Kind, bool),
 }
 
-// What the words ask for.
-fn reading_of(words: &[String]) -> Option<Asked> {
-    let name = words.first()?.as_str();
-    let workload = Workload::of(name);
-    if workload.is_none() && name != "forever" {
-        return None;
+/// What the words ask for: what is done, from which seed, and how much of it.
+#[derive(Clone, Copy, Debug)]
+struct Asked {
+    task: Task,
+    seed: u64,
+    count: u64,
+}
+
+// The task of a name, and of the word after it.
+fn task_of(name: &str, next: &str, is_script: bool) -> Option<Task> {
+    match name {
+        "forever" => Some(Task::Forever),
+        "plans" => Some(Task::Plans(Kind::of(next)?, true)),
+        "jobs" => Some(Task::Plans(Kind::of(next)?, false)),
+        _ => {
+            let workload = Workload::of(name)?;
+            Some(if is_script {
+                Task::Script(workload)
+            } else {
+                Task::Work(workload)
+            })
+        }
     }
-    Some(Asked {
-        workload,
-        seed: words.get(1)?.as_str().parse::<u64>().ok()?,
-        count: words.get(2)?.as_str().parse::<u64>().ok()?,
-        is_script: words.get(3).is_some(),
-    })
+}
+
+// What the words ask for. A plan has no seed.
+fn reading_of(words: &[String]) -> Option<Asked> {
+    let next = words.get(1)?.as_str();
+    let task = task_of(words.first()?.as_str(), next, words.get(3).is_some())?;
+    let seed = match task {
+        Task::Plans(_, _) => 0,
+        _ => next.parse::<u64>().ok()?,
+    };
+    let count = words.get(2)?.as_str().parse::<u64>().ok()?;
+    Some(Asked { task, seed, count })
 }
 
 // Does what is asked for, and prints what came of it.
 fn answer<R: Threads + Wait + Clock + Sync + Print>(
     rt: &R,
     alloc: Global,
-    asked: &Asked,
+    asked: Asked,
 ) -> io::Result<()> {
-    let Some(workload) = asked.workload else {
-        return go_on(rt, alloc, asked.seed, asked.count);
-    };
-    if asked.is_script {
-        return match workload.script(alloc, asked.seed, asked.count) {
+    let Asked { task, seed, count } = asked;
+    match task {
+        Task::Work(workload) => match workload.run(rt, alloc, seed, count) {
+            Ok(digest) => {
+                let (value, count) = (digest.value(), digest.count());
+                println!(rt; "{value:016x} {count}")
+            }
+            Err(Failed) => rt.println("failed"),
+        },
+        Task::Script(workload) => match workload.script(alloc, seed, count) {
             Ok(text) => io::writer(rt).write_all(text.as_slice()),
             Err(_) => rt.println("no memory"),
-        };
-    }
-    match workload.run(rt, alloc, asked.seed, asked.count) {
-        Ok(digest) => {
-            let (value, count) = (digest.value(), digest.count());
-            println!(rt; "{value:016x} {count}")
-        }
-        Err(Failed) => rt.println("failed"),
+        },
+        Task::Forever => go_on(rt, alloc, seed, count),
+        Task::Plans(kind, plans) => match planned(alloc, kind, count, plans) {
+            Ok(made) => println!(rt; "{made}"),
+            Err(NoMemory) => rt.println("no memory"),
+        },
     }
 }
 
@@ -107,14 +152,41 @@ fn go_on<R: Print>(rt: &R, alloc: Global, seed: u64, events: u64) -> io::Result<
     Ok(())
 }
 
-fn main(rt: HostRuntime) -> io::Result<()> {
-    let Ok(words) = words(&rt) else {
-        return Ok(());
-    };
-    match reading_of(&words) {
-        Some(asked) => answer(&rt, rt.alloc(), &asked),
-        None => println!(rt;
-            "usage: nv_workloads replay|host|host-without-log|lists|guests|loops|awkward|extents SEED COUNT [script] | forever SEED EVENTS"
-        ),
+// Runs a script from standard input, and returns how that ended.
+fn once(rt: &HostRuntime) -> ExitStatus {
+    let ended = run::<FlatController, Stdin, Stdout, Stderr>(
+        rt.alloc(),
+        Ok(Command::Once),
+        &mut rt.stdin(),
+        rt.stdout(),
+        &mut rt.stderr(),
+    );
+    ExitStatus::of(&ended)
+}
+
+// Does what these words ask for, or says what they may be.
+fn perform<R: Threads + Wait + Clock + Sync + Print>(
+    rt: &R,
+    alloc: Global,
+    words: &[String],
+) -> io::Result<()> {
+    match reading_of(words) {
+        Some(asked) => answer(rt, alloc, asked),
+        None => rt.println(USAGE),
     }
+}
+
+fn main(rt: HostRuntime) -> io::Result<ExitCode> {
+    let Ok(words) = words(&rt) else {
+        return Ok(ExitCode::SUCCESS);
+    };
+    let mut ended = ExitStatus::Success;
+    for request in words.split(|word| word.as_str() == "then") {
+        if request.first().is_some_and(|word| word.as_str() == "once") {
+            ended = once(&rt);
+        } else {
+            perform(&rt, rt.alloc(), request)?;
+        }
+    }
+    Ok(ExitCode::from(ended))
 }

@@ -1,7 +1,7 @@
-//! The commands whose plans are made.
+//! Plans of one command, made again and again.
 
 use nv_entry::Sqe;
-use nv_mem::{Bytes, GuestMap, NoMemory};
+use nv_mem::{Bytes, GuestMap, NoMemory, Region};
 use nv_model::limits::MOST_DESCRIPTORS;
 use nv_ns::{Extent, VirtualNs};
 use nv_plan::{Job, Planned, ReadDone, Transcript, make_plan};
@@ -116,20 +116,35 @@ fn job(alloc: Global, kind: Kind) -> Result<Job, NoMemory> {
     })
 }
 
-/// Makes so many jobs of a kind, and their plans where these are asked for, and says how many there were.
-pub fn planned(
-    alloc: Global,
-    map: &GuestMap,
-    kind: Kind,
-    count: u32,
-    plans: bool,
-) -> Result<u32, NoMemory> {
+// The map of a guest of 20000h bytes of memory.
+fn map(alloc: Global) -> Result<Option<GuestMap>, NoMemory> {
+    let mut regions = Vec::new(alloc);
+    regions.push(Region {
+        guest: 0,
+        host: 0x10_0000,
+        len: 0x2_0000,
+    })?;
+    Ok(GuestMap::new(0x100_0000, regions).ok())
+}
+
+/// Makes so many jobs of a kind, and their plans where these are asked for, and returns how many plans there were.
+pub fn planned(alloc: Global, kind: Kind, count: u64, plans: bool) -> Result<u64, NoMemory> {
+    let Some(map) = map(alloc)? else {
+        return Ok(0);
+    };
     let ns = VirtualNs::of(Extent::new(0, 1024));
-    let mut made = 0u32;
+    let mut made = 0u64;
     for _ in 0..count {
         let job = job(alloc, kind)?;
         if plans {
-            if let Planned::Plan(_plan) = make_plan(alloc, alloc, job, map, &ns, MOST_DESCRIPTORS) {
+            if let Planned::Plan(_plan) = make_plan(
+                alloc,
+                alloc,
+                job,
+                &map,
+                &ns,
+                MOST_DESCRIPTORS,
+            ) {
                 made = made.saturating_add(1);
             }
         }
