@@ -47,3 +47,4 @@ pub mod CountedSteps
 pub mod CountedRuns
 pub mod GroupShares
 pub mod phases
+pub mod Mediators

@@ -4,3 +4,4 @@ pub mod Groups
 pub mod Consistent
 pub mod Counted
 pub mod Phased
+pub mod Mediators

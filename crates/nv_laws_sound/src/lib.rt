@@ -4,7 +4,8 @@
 //! [`laws`] says: a set-up that is not refused keeps guests' bytes and blocks, and the mediator's area, apart; its world is consistent at the
 //! start, and each event keeps it so, including those of hostile guests and the failing of commands; no physical ring overflows, and a slot of a
 //! ring is one tag's; a completion is there to be reaped exactly where the next slot has the phase tag that is wanted there; a command goes by the
-//! lowest of its tags, has as many as its fields ask for, and its plan's shares in order; and each guest's controller counts its commands.
+//! lowest of its tags, has as many as its fields ask for, and its plan's shares in order; each guest's controller counts its commands; and an
+//! event of a guest or of the mediator neither reads nor changes the disk and its marks.
 //!
 //! What is kept is one record, `IsConsistent` (`specs/Consistent`). In it, a tag that was handed on is queued, in the device or answered, and its
 //! entry, list and ranges are in the host as its plan has them. `AreGroups` (`specs/Groups`) says that the shares of a command's tags are all
