@@ -1,5 +1,5 @@
 -- The claim of a tag, and the command that it is the claim of.
-use Rattle.std.proofs.Common.{◌≡◌, ℕ, Bool, true, Option, Some, None, is_some, refl, sym, ap, ◌∙◌}
+use Rattle.std.proofs.Common.{◌≡◌, ℕ, true, Option, Some, None, is_some, refl, sym, ap, ◌∙◌}
 use Rattle.nv_laws_sound.proofs.Lists.{some-same}
 use Rattle.nv_core.specs.Jobs.{held_by}
 use Rattle.nv_core.specs.declared.holding.Holder.{Holder}

@@ -1,6 +1,9 @@
 pub mod Placed
 pub mod Clear
 pub mod LentHost
+pub mod Sides
+pub mod Delegated
+pub mod PhasedReaps
 pub mod Openings
 pub mod GroupWorlds
 pub mod GiveUps

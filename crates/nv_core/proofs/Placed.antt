@@ -264,7 +264,7 @@ module _ (geometry : Geometry) (s old : State) (number : ℕ) where
       }))
 
   -- the controller of a guest that is there
-  controller-of : (guest : Guest) → s ≡ old → IsOf geometry old → slice_get geometry.guests number ≡ Some guest
+  pub controller-of : (guest : Guest) → s ≡ old → IsOf geometry old → slice_get geometry.guests number ≡ Some guest
       → (c : Controller) × (slice_get s.controllers number ≡ Some c)
   controller-of guest same is there =
       let here = subst (λ (o : State). IsOf geometry o) (sym same) is in
@@ -289,7 +289,7 @@ module _ (geometry : Geometry) (s old : State) (number : ℕ) where
       })
 
   -- an act that leaves the host as it is, too
-  act-quiet : (guest : Guest) (c : Controller) (a : Act) (r : Reply) → s ≡ old → IsOf geometry old → slice_get geometry.guests number ≡ Some guest
+  pub act-quiet : (guest : Guest) (c : Controller) (a : Act) (r : Reply) → s ≡ old → IsOf geometry old → slice_get geometry.guests number ≡ Some guest
       → slice_get s.controllers number ≡ Some c → IsActed guest a (byte_in s.host) c r (byte_in s.host) c
       → IsStep geometry (event.Guest number a) old r old
   act-quiet guest c a r same is there has acts =

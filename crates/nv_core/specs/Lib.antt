@@ -1,4 +1,5 @@
 pub mod State
+pub mod Front
 pub mod Tags
 pub mod Groups
 pub mod Handing

@@ -1,9 +1,11 @@
 -- The mediated world on lists: what the code holds of it, what that means as the world of the definitions, and what an event that was
 -- carried out comes to (profile).
 use Rattle.std.specs.Prelude.{◌≡◌, ℕ, ◌<◌, List, length, slice_get, slice_index, Some}
+use Rattle.nv_core.specs.Front.{Side}
 use Rattle.nv_device.specs.State.{Physical}
 use Rattle.nv_laws_sound.specs.Consistent.{IsConsistent}
 use Rattle.nv_laws_sound.specs.LaidOut.{IsLaidOut}
+use Rattle.nv_laws_sound.specs.Phased.{ArePhased}
 use Rattle.nv_model.specs.Controller.{Controller}
 use Rattle.nv_model.specs.Memory.{byte_in}
 use Rattle.nv_model.specs.declared.reply.Reply.{Reply}
@@ -36,14 +38,19 @@ world_of s =
       controllers = s.controllers;
     }
 
+-- the state by the host's bytes, the physical controller and the mediator's side
+abbrev pub state_of : (host : List ℕ) → Physical → Side → State
+state_of host device side = record { host = host; device = device; lanes = side.lanes; controllers = side.controllers }
+
 -- ---- what every call needs
 
--- the state is one of this set-up, and its world is consistent
+-- the state is one of this set-up, its world is consistent, and completions have the phase tags of their passes
 pub record IsOf (geometry : Geometry) (s : State) : Type 0 where
   pub mediator : s.device.mediator ≡ geometry.mediator
   pub blocks : length s.device.disk ≡ geometry.disk_blocks
   pub laid_out : IsLaidOut (length s.host) (length s.lanes) geometry
   pub consistent : IsConsistent geometry (world_of s)
+  pub phased : ArePhased geometry (world_of s)
 
 -- one more taken command of each queue of a guest can be counted
 abbrev pub CountsMore : (guest : ℕ) → State → Type 0

@@ -17,7 +17,7 @@ use Rattle.nv_world_model.specs.Plan.{Answer, Bounced, Direct, NoData, Plan}
 use Rattle.nv_world_model.specs.SetUp.{most_limit}
 use Rattle.nv_world_model.specs.Share.{Share, shares_of, tags_of_entry}
 use Rattle.nv_world_model.specs.ShareArea.{is_no_command, share_written}
-use Rattle.nv_world_model.specs.World.{Command, Ended, Flying, Free, Lane, Tag, Taken, World, group_in, tag_of}
+use Rattle.nv_world_model.specs.World.{Command, Ended, Flying, Free, Lane, Tag, Taken, World, group_in, tag_in}
 
 -- a limit on descriptors that may be
 pub record IsLimit (limit : ℕ) : Type 0 where
@@ -67,9 +67,12 @@ IsOfTag (Some (Flying command share at)) job = ⊥
 IsOfTag (Some (Ended command st share)) job = ⊥
 
 -- a plan was made of the state as it is: its job is that of its tag, and it was made with what the guest was given
-pub record IsCurrent (geometry : Geometry) (w : World) (p : MadePlan) : Type 0 where
-  pub of_tag : IsOfTag (tag_of w p.job.lane p.job.tag) p.job
+pub record IsCurrentIn (geometry : Geometry) (lanes : List Lane) (p : MadePlan) : Type 0 where
+  pub of_tag : IsOfTag (tag_in (slice_get lanes p.job.lane) p.job.tag) p.job
   pub made_with : slice_get geometry.guests p.job.guest ≡ Some p.given
+
+abbrev pub IsCurrent : Geometry → World → MadePlan → Type 0
+IsCurrent geometry w p = IsCurrentIn geometry w.lanes p
 
 -- a command waits for its plan: it goes by this tag, the first of its tags, all of which were taken, and it has some tags
 pub record WaitsForPlan (ns : Namespace) (tag : ℕ) (l : Lane) : Type 0 where

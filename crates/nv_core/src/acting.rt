@@ -2,20 +2,19 @@
 
 ghost use Rattle.std.specs.Prelude.{◌≡◌, IfOk, IsTrue, OnErr, length};
 ghost use Rattle.nv_core.specs.Seat.{IsActed, is_long_load};
-ghost use Rattle.nv_core.specs.State.{IsOf, IsStep};
+ghost use Rattle.nv_core.specs.Front.{HasWorld, IsSideStep};
 ghost use Rattle.nv_model.specs.Memory.{byte_in};
 
+use crate::front::Front;
 use crate::layout::{Grant, Layout};
 use crate::seat;
-use crate::state::Core;
 use nv_mem::{MemoryCell, NoMemory};
 use nv_model::{Act, Reply};
 use nv_vctl::Vctl;
 use nv_world_model::Event;
 use std::alloc::Global;
-use std::slice;
 
-impl Core {
+impl Front {
     /// A guest acts: it reads and writes its memory, its controller's registers and its doorbells. Ignored where there is no such guest.
     ///
     /// # Errors
@@ -23,16 +22,20 @@ impl Core {
     /// [`NoMemory`] where memory for the bytes of a load is refused: nothing has changed. Memory is taken for the bytes of a load that a
     /// reply does not hold in itself, and for nothing else.
     #[inline(never)]
-    pub fn act(
+    pub fn act<C: MemoryCell>(
         &mut self,
         alloc: Global,
         layout: &Layout,
         guest: u8,
         act: &Act,
+        host: &mut [C],
     ) -> Result<Reply, NoMemory>
-        requires { IsOf layout.now self.old }
-        ensures ok { IfOk result (λ reply. IsStep layout.now (Event.Guest guest act.now) self.old reply self.new) }
-        ensures err { OnErr result ((self.new ≡ self.old) × IsTrue (is_long_load act.now)) }
+        requires { HasWorld layout.now self.old (C.bytes host.old) }
+        ensures ok { IfOk result (λ reply.
+            IsSideStep layout.now (Event.Guest guest act.now) self.old (C.bytes host.old) reply self.new (C.bytes host.new)) }
+        ensures err { OnErr result ((self.new ≡ self.old) × ((C.bytes host.new ≡ C.bytes host.old) × IsTrue (is_long_load act.now))) }
+        ensures tails { self.new.tails ≡ self.old.tails }
+        ensures len { length (C.bytes host.new) ≡ length (C.bytes host.old) }
     {
         let Some(given) = layout.guest(guest) else {
             return Ok(Reply::Ignored);
@@ -42,7 +45,7 @@ impl Core {
             return Ok(Reply::Ignored);
         }
         let vctl = &mut self.controllers[number];
-        let reply = act_in_seat(alloc, given, act, vctl, slice::from_mut(&mut self.host))?;
+        let reply = act_in_seat(alloc, given, act, vctl, host)?;
         Ok(reply)
     }
 }

@@ -1,23 +1,25 @@
 //! The guests' admin queues.
 
-ghost use Rattle.std.specs.Prelude.{◌≡◌};
+ghost use Rattle.std.specs.Prelude.{◌≡◌, length};
 ghost use Rattle.nv_core.specs.Seat.{told_by};
-ghost use Rattle.nv_core.specs.State.{IsOf, IsStep};
+ghost use Rattle.nv_core.specs.Front.{HasWorld, IsSideStep};
 
+use crate::front::Front;
 use crate::layout::Layout;
-use crate::state::Core;
 use nv_admin::Admin;
+use nv_mem::MemoryCell;
 use nv_model::Reply;
 use nv_world_model::Event;
-use std::slice;
 
-impl Core {
+impl Front {
     /// One event of a guest's admin queue: a command of it, or the end of a deletion that waits. Idle where there is nothing to do, Held
     /// where the admin completion queue is full, Ignored where there is no such guest.
     #[inline(never)]
-    pub fn admin(&mut self, layout: &Layout, guest: u8) -> Reply
-        requires { IsOf layout.now self.old }
-        ensures { IsStep layout.now (Event.Admin guest) self.old result self.new }
+    pub fn admin<C: MemoryCell>(&mut self, layout: &Layout, guest: u8, host: &mut [C]) -> Reply
+        requires { HasWorld layout.now self.old (C.bytes host.old) }
+        ensures step { IsSideStep layout.now (Event.Admin guest) self.old (C.bytes host.old) result self.new (C.bytes host.new) }
+        ensures tails { self.new.tails ≡ self.old.tails }
+        ensures len { length (C.bytes host.new) ≡ length (C.bytes host.old) }
     {
         let Some(given) = layout.guest(guest) else {
             return Reply::Ignored;
@@ -28,12 +30,7 @@ impl Core {
         }
         let block_count = given.ns().blocks();
         let vctl = &mut self.controllers[number];
-        reply_of(nv_admin::admin(
-            vctl,
-            block_count,
-            given.map(),
-            slice::from_mut(&mut self.host),
-        ))
+        reply_of(nv_admin::admin(vctl, block_count, given.map(), host))
     }
 }
 

@@ -1,10 +1,12 @@
 //! Where a tag's pages and the slots of its lane's submission ring lie in the mediator's area of the host's memory.
 
-ghost use Rattle.std.specs.Prelude.{◌≡◌, ◌<◌};
+ghost use Rattle.std.specs.Prelude.{◌≡◌, ◌+◌, ◌<◌, ◌^◌};
 ghost use Rattle.nv_core.specs.Submit.{IsPlaced};
-ghost use Rattle.nv_world_model.specs.Area.{bounce_page, list_page, ring_size, submission_slot};
+ghost use Rattle.nv_world_model.specs.Area.{bounce_page, completion_slot, lane_start, list_page, ring_size, submission_slot};
 
-use nv_model::limits::{LANE_PAGES, PAGE_SIZE, RING_PAGES, SQE_SIZE, TAG_PAGES};
+use nv_model::limits::{
+    CQE_SIZE, LANE_PAGES, PAGE_SIZE, RING_PAGES, SQE_SIZE, SUBMISSION_RING_PAGES, TAG_PAGES,
+};
 
 /// A tag of a lane, and the host address at which the area of all lanes begins.
 #[derive(Clone, Copy, Debug, PartialEq, Eq)]
@@ -44,4 +46,15 @@ impl TagPlace {
     {
         self.mediator + PAGE_SIZE * LANE_PAGES * u64::from(self.lane) + SQE_SIZE * u64::from(at)
     }
+}
+
+/// The host address of a slot of a lane's completion ring, where the area of all lanes begins at `mediator`.
+pub(crate) fn completion_slot(mediator: u64, lane: u8, at: u16) -> u64
+    requires area { lane_start mediator (lane + 1) < 2 ^ 64 }
+    requires at { at < ring_size }
+    ensures { result ≡ completion_slot mediator lane at }
+{
+    mediator
+        + PAGE_SIZE * (LANE_PAGES * u64::from(lane) + SUBMISSION_RING_PAGES)
+        + CQE_SIZE * u64::from(at)
 }

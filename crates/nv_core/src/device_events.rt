@@ -2,15 +2,17 @@
 
 ghost use Rattle.std.specs.Prelude.{◌≡◌, ◌&&◌, IfOk, OnErr, length, nat_lt};
 ghost use Rattle.nv_core.specs.Answers.{said};
-ghost use Rattle.nv_core.specs.State.{IsOf, IsStep};
+ghost use Rattle.nv_core.specs.Front.{TailsStay};
+ghost use Rattle.nv_core.specs.State.{IsOf, IsStep, state_of};
 ghost use Rattle.nv_world_model.specs.Area.{tag_count};
 
+use crate::front::Front;
 use crate::layout::Layout;
 use crate::standing::Standing;
 use crate::state::Core;
-use nv_device::{IDENTIFIERS, Response};
+use nv_device::{Device, IDENTIFIERS, Response};
 use nv_entry::Status;
-use nv_mem::NoMemory;
+use nv_mem::{Host, NoMemory};
 use nv_model::Reply;
 use nv_world_model::Event;
 use std::alloc::Global;
@@ -22,85 +24,163 @@ impl Core {
     /// # Errors
     ///
     /// [`NoMemory`] where memory for the command in the controller is refused: nothing has changed. Memory is taken for that command.
-    #[inline(never)]
+    #[inline]
     pub fn dev_take(&mut self, alloc: Global, _layout: &Layout, lane: u8) -> Result<Reply, NoMemory>
         requires { IsOf _layout.now self.old }
         ensures ok { IfOk result (λ reply. IsStep _layout.now (Event.DevTake lane) self.old reply self.new) }
         ensures err { OnErr result (self.new ≡ self.old) }
     {
-        if lane >= self.device.lanes() {
-            return Ok(Reply::Ignored);
-        }
-        let Some(tag) = self.device.front_identifier(lane, &self.host) else {
-            return Ok(Reply::Idle);
-        };
-        self.device.take(alloc, lane, &self.host)?;
-        self.lanes[usize::from(lane)].stands(tag as u8, Standing::InDevice);
-        Ok(Reply::Done)
+        let (device, front) = (&mut self.device, &mut self.front);
+        device_takes(alloc, _layout, lane, &self.host, device, front)
     }
 
     /// The physical controller moves a unit, by its number, of the command that it holds in a slot of a lane. Idle where it holds none there,
     /// or one without such a unit left, Ignored where there is no such lane or slot.
-    #[inline(never)]
+    #[inline]
     pub fn dev_move(&mut self, _layout: &Layout, lane: u8, slot: u8, number: u64) -> Reply
         requires { IsOf _layout.now self.old }
         ensures { IsStep _layout.now (Event.DevMove lane slot number) self.old result self.new }
     {
-        if !self.has_slot(lane, slot) {
-            return Reply::Ignored;
-        }
-        let response = self.device.move_unit(lane, slot, number, &mut self.host);
-        reply_of(response)
+        let (host, device) = (&mut self.host, &mut self.device);
+        device_moves(_layout, lane, slot, number, host, device, &self.front)
     }
 
     /// The physical controller completes the command that it holds in a slot of a lane: with success, or with Compare Failure. Idle where it
     /// holds none there, or one that has units left, Ignored where there is no such lane or slot.
-    #[inline(never)]
+    #[inline]
     pub fn dev_post(&mut self, _layout: &Layout, lane: u8, slot: u8) -> Reply
         requires { IsOf _layout.now self.old }
         ensures { IsStep _layout.now (Event.DevPost lane slot) self.old result self.new }
     {
-        if !self.has_slot(lane, slot) {
-            return Reply::Ignored;
-        }
-        let posted = self.device.posted(lane);
-        match self.device.post(lane, slot, &mut self.host) {
-            Response::Idle => Reply::Idle,
-            Response::Done => {
-                self.lanes[usize::from(lane)].stands(slot, Standing::Answered(posted));
-                Reply::Done
-            }
-        }
+        let (host, device) = (&mut self.host, &mut self.device);
+        device_posts(_layout, lane, slot, host, device, &mut self.front)
     }
 
     /// The command that the physical controller holds in a slot of a lane fails with that status. Idle where it holds none there, Ignored
     /// where there is no such lane or slot, or the status is that of success.
-    #[inline(never)]
+    #[inline]
     pub fn dev_fail(&mut self, _layout: &Layout, lane: u8, slot: u8, status: Status) -> Reply
         requires { IsOf _layout.now self.old }
         ensures { IsStep _layout.now (Event.DevFail lane slot status) self.old result self.new }
     {
-        if !self.has_slot(lane, slot) {
-            return Reply::Ignored;
-        }
-        if !self.device.holds(lane, slot) {
-            return Reply::Idle;
-        }
-        if status.is_success() {
-            return Reply::Ignored;
-        }
-        let posted = self.device.posted(lane);
-        self.device.fail(lane, slot, status, &mut self.host);
-        self.lanes[usize::from(lane)].stands(slot, Standing::Answered(posted));
-        Reply::Done
+        let (host, device) = (&mut self.host, &mut self.device);
+        device_fails(_layout, lane, slot, status, host, device, &mut self.front)
     }
+}
 
-    // Whether there is such a lane and such a slot.
-    pub(crate) fn has_slot(&self, lane: u8, slot: u8) -> bool
-        ensures { result ≡ (nat_lt lane (length self.now.device.lanes) && nat_lt slot tag_count) }
-    {
-        lane < self.device.lanes() && slot < IDENTIFIERS
+// The physical controller takes the front entry of a lane's submission ring.
+#[inline(never)]
+fn device_takes(
+    alloc: Global,
+    _layout: &Layout,
+    lane: u8,
+    host: &Host,
+    device: &mut Device,
+    front: &mut Front,
+) -> Result<Reply, NoMemory>
+    requires { IsOf _layout.now (state_of host.now device.old front.old) }
+    ensures ok { IfOk result (λ reply.
+        IsStep _layout.now (Event.DevTake lane) (state_of host.now device.old front.old) reply (state_of host.now device.new front.new)) }
+    ensures err { OnErr result ((device.new ≡ device.old) × (front.new ≡ front.old)) }
+    ensures tails { TailsStay device.old.lanes device.new.lanes front.old front.new }
+{
+    if lane >= device.lanes() {
+        return Ok(Reply::Ignored);
     }
+    let Some(tag) = device.front_identifier(lane, host) else {
+        return Ok(Reply::Idle);
+    };
+    device.take(alloc, lane, host)?;
+    front.lanes[usize::from(lane)].stands(tag as u8, Standing::InDevice);
+    Ok(Reply::Done)
+}
+
+// The physical controller moves a unit of the command that it holds in a slot of a lane.
+#[inline(never)]
+fn device_moves(
+    _layout: &Layout,
+    lane: u8,
+    slot: u8,
+    number: u64,
+    host: &mut Host,
+    device: &mut Device,
+    _front: &Front,
+) -> Reply
+    requires { IsOf _layout.now (state_of host.old device.old _front.now) }
+    ensures step { IsStep _layout.now (Event.DevMove lane slot number) (state_of host.old device.old _front.now) result
+        (state_of host.new device.new _front.now) }
+    ensures tails { TailsStay device.old.lanes device.new.lanes _front.now _front.now }
+{
+    if !has_slot(device, lane, slot) {
+        return Reply::Ignored;
+    }
+    let response = device.move_unit(lane, slot, number, host);
+    reply_of(response)
+}
+
+// The physical controller completes the command that it holds in a slot of a lane.
+#[inline(never)]
+fn device_posts(
+    _layout: &Layout,
+    lane: u8,
+    slot: u8,
+    host: &mut Host,
+    device: &mut Device,
+    front: &mut Front,
+) -> Reply
+    requires { IsOf _layout.now (state_of host.old device.old front.old) }
+    ensures step { IsStep _layout.now (Event.DevPost lane slot) (state_of host.old device.old front.old) result (state_of host.new device.new front.new) }
+    ensures tails { TailsStay device.old.lanes device.new.lanes front.old front.new }
+{
+    if !has_slot(device, lane, slot) {
+        return Reply::Ignored;
+    }
+    let posted = device.posted(lane);
+    match device.post(lane, slot, host) {
+        Response::Idle => Reply::Idle,
+        Response::Done => {
+            front.lanes[usize::from(lane)].stands(slot, Standing::Answered(posted));
+            Reply::Done
+        }
+    }
+}
+
+// The command that the physical controller holds in a slot of a lane fails with that status.
+#[inline(never)]
+fn device_fails(
+    _layout: &Layout,
+    lane: u8,
+    slot: u8,
+    status: Status,
+    host: &mut Host,
+    device: &mut Device,
+    front: &mut Front,
+) -> Reply
+    requires { IsOf _layout.now (state_of host.old device.old front.old) }
+    ensures step { IsStep _layout.now (Event.DevFail lane slot status) (state_of host.old device.old front.old) result
+        (state_of host.new device.new front.new) }
+    ensures tails { TailsStay device.old.lanes device.new.lanes front.old front.new }
+{
+    if !has_slot(device, lane, slot) {
+        return Reply::Ignored;
+    }
+    if !device.holds(lane, slot) {
+        return Reply::Idle;
+    }
+    if status.is_success() {
+        return Reply::Ignored;
+    }
+    let posted = device.posted(lane);
+    device.fail(lane, slot, status, host);
+    front.lanes[usize::from(lane)].stands(slot, Standing::Answered(posted));
+    Reply::Done
+}
+
+/// Whether the physical controller has such a lane and such a slot.
+pub(crate) fn has_slot(device: &Device, lane: u8, slot: u8) -> bool
+    ensures { result ≡ (nat_lt lane (length device.now.lanes) && nat_lt slot tag_count) }
+{
+    lane < device.lanes() && slot < IDENTIFIERS
 }
 
 // What is answered where the physical controller has answered.

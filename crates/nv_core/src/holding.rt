@@ -1,13 +1,12 @@
 //! Whose commands tags have.
 
 ghost use Rattle.std.specs.Prelude.{◌≡◌, Some, is_some, slice_get, true};
-ghost use Rattle.nv_core.specs.Jobs.{held_by, holder_in, holder_of};
-ghost use Rattle.nv_core.specs.State.{world_of};
+ghost use Rattle.nv_core.specs.Jobs.{held_by, holder_in};
 ghost use Rattle.nv_core.specs.Tags.{command_at};
-ghost use Rattle.nv_world_model.specs.World.{Command};
+ghost use Rattle.nv_world_model.specs.World.{Command, tag_in};
 
+use crate::front::Front;
 use crate::lane::Lane;
-use crate::state::Core;
 use nv_tags::TagState;
 
 /// Whose command a tag has, and the tag that the command goes by.
@@ -19,10 +18,10 @@ pub struct Holder {
     pub leader: u8,
 }
 
-impl Core {
+impl Front {
     /// Whose command a tag of a lane has, and the tag that it goes by; `None` where the tag is free, or there is none.
     pub fn holder(&self, lane: u8, tag: u8) -> Option<Holder>
-        ensures { result ≡ holder_of (world_of self.now) lane tag }
+        ensures { result ≡ holder_in (tag_in (slice_get self.now.lanes lane) tag) }
     {
         let number = usize::from(lane);
         if number >= self.lanes.len() {

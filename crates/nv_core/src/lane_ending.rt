@@ -29,6 +29,13 @@ impl Lane {
         self.head
     }
 
+    /// The phase tag that a completion in that slot has.
+    pub(crate) fn wanted_phase(&self) -> bool
+        ensures { result ≡ self.now.phase }
+    {
+        self.phase.expected()
+    }
+
     /// The completion in the slot that is read next was read.
     pub(crate) fn read_completion(&mut self)
         ensures { self.new ≡ completion_read self.old }

@@ -1,11 +1,13 @@
 //! The world at its start.
 
 ghost use Rattle.std.specs.Prelude.{◌≡◌, IfOk, length, replicate};
+ghost use Rattle.nv_core.specs.Front.{opening_side};
 ghost use Rattle.nv_core.specs.State.{IsOpening};
 ghost use Rattle.nv_device.specs.Physical.{FitsLimits};
 ghost use Rattle.nv_model.specs.Controller.{opening};
 ghost use Rattle.nv_world_model.specs.World.{opening_lane};
 
+use crate::front::Front;
 use crate::lane::Lane;
 use crate::layout::Layout;
 use crate::state::Core;
@@ -29,12 +31,31 @@ impl Core {
     {
         let host = Host::new(alloc, host_bytes)?;
         let device = Device::new(alloc, layout.mediator, lanes, layout.disk_blocks)?;
-        let lanes = opening_lanes(alloc, lanes)?;
-        let controllers = opening_controllers(alloc, layout.guests.len())?;
+        let front = Front::new(alloc, layout, lanes)?;
         Ok(Core {
             host,
             device,
+            front,
+        })
+    }
+}
+
+impl Front {
+    /// The side of a layout at its start, with so many lanes: all tags are free, rings are empty, and no controller is enabled.
+    ///
+    /// # Errors
+    ///
+    /// [`NoMemory`] where memory for the lanes or the controllers is refused.
+    pub fn new(alloc: Global, layout: &Layout, lanes: u8) -> Result<Self, NoMemory>
+        ensures { IfOk result (λ side. side ≡ opening_side layout.now lanes) }
+    {
+        let count = usize::from(lanes);
+        let lanes = opening_lanes(alloc, lanes)?;
+        let tails = vec![in alloc; 0; count]?;
+        let controllers = opening_controllers(alloc, layout.guests.len())?;
+        Ok(Front {
             lanes,
+            tails,
             controllers,
         })
     }

@@ -3,7 +3,7 @@
 ghost use Rattle.std.specs.Prelude.{◌≡◌, ◌∷◌, ◌<◌, List, ℕ, Option, Some, length, slice_get, true};
 ghost use Rattle.nv_core.specs.Ending.{AreParts, AreReadParts, IsBouncedRead, IsEnded, IsReadPart, MaySettle};
 ghost use Rattle.nv_core.specs.Ending.{delivered_host, delivers, is_bounced, is_read_of, part_delivered, settled, tag_delivered, tags_delivered};
-ghost use Rattle.nv_core.specs.State.{IsOf, IsStep, world_of};
+ghost use Rattle.nv_core.specs.Front.{HasWorld, IsSideOf, IsSideStep};
 ghost use Rattle.nv_core.specs.Submit.{IsPlaced};
 ghost use Rattle.nv_entry.specs.Opcode.{io_opcode};
 ghost use Rattle.nv_entry.specs.Status.{StatusField};
@@ -16,21 +16,20 @@ ghost use Rattle.nv_plan.specs.Made.{share_made, shares_made};
 ghost use Rattle.nv_world_model.specs.Area.{bounce_page};
 ghost use Rattle.nv_world_model.specs.Share.{Share};
 ghost use Rattle.nv_world_model.specs.Step.{is_success};
-ghost use Rattle.nv_world_model.specs.World.{Command, Ended, group_in};
+ghost use Rattle.nv_world_model.specs.World.{Command, Ended, World, group_in};
 
 use crate::area::TagPlace;
+use crate::front::Front;
 use crate::lane::Lane;
 use crate::layout::Layout;
-use crate::state::Core;
 use nv_entry::{IoOpcode, Sqe, Status};
 use nv_mem::{GuestMap, MemoryCell};
 use nv_model::Reply;
 use nv_plan::{Plan, PlanKind};
 use nv_vctl::{Posted, Vctl};
 use nv_world_model::Event;
-use std::slice;
 
-impl Core {
+impl Front {
     /// The command that goes by a tag, whose parts have all ended, is completed for its guest, and its tags become free. The bytes of a
     /// bounced Read that succeeded reach the guest first. Where the guest has reset its controller meanwhile, the command runs out without a
     /// completion. Held, with nothing changed, where the guest's completion queue is full; Stale where some part has not ended, or the tag is
@@ -38,10 +37,18 @@ impl Core {
     ///
     /// The caller knows that each guest's controller counts the guest's commands, as it does in every world that events lead to.
     #[inline(never)]
-    pub fn post(&mut self, layout: &Layout, lane: u8, tag: u8) -> Reply
-        requires of { IsOf layout.now self.old }
-        requires counted { IsCounted layout.now (world_of self.old) }
-        ensures { IsStep layout.now (Event.Post lane tag) self.old result self.new }
+    pub fn post<C: MemoryCell>(
+        &mut self,
+        layout: &Layout,
+        lane: u8,
+        tag: u8,
+        host: &mut [C],
+    ) -> Reply
+        requires world { HasWorld layout.now self.old (C.bytes host.old) }
+        requires counted { (w : World) → IsSideOf layout.now self.old (C.bytes host.old) w → IsCounted layout.now w }
+        ensures step { IsSideStep layout.now (Event.Post lane tag) self.old (C.bytes host.old) result self.new (C.bytes host.new) }
+        ensures tails { self.new.tails ≡ self.old.tails }
+        ensures len { length (C.bytes host.new) ≡ length (C.bytes host.old) }
     {
         if let Some(reply) = self.unended(lane, tag) {
             return reply;
@@ -56,21 +63,14 @@ impl Core {
             return Reply::Stale;
         };
         // The end of the host fits in 64 bits.
-        let _known = self.host.len();
+        let _known = C::len(host);
         let place = TagPlace {
             mediator: layout.mediator(),
             lane,
             tag,
         };
         let vctl = &mut self.controllers[usize::from(guest)];
-        match settle(
-            place,
-            status,
-            given.map(),
-            ring,
-            vctl,
-            slice::from_mut(&mut self.host),
-        ) {
+        match settle(place, status, given.map(), ring, vctl, host) {
             Posted::Held => Reply::Held,
             Posted::Done => {
                 self.lanes[at].release(tag);

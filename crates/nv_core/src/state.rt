@@ -1,24 +1,26 @@
 //! The state of the world.
 
-use crate::lane::Lane;
+use crate::front::Front;
 use nv_device::Device;
 use nv_mem::Host;
-use nv_vctl::Vctl;
 use std::marker::Model;
 
-/// The mediated world: the host's memory, the physical controller, the mediator's side of each lane, and each guest's controller.
+/// The mediated world: the host's memory, the physical controller, and the mediator's side.
 #[derive(Drop)]
 pub struct Core {
     pub(crate) host: Host,
     pub(crate) device: Device,
-    pub(crate) lanes: Vec<Lane>,
-    pub(crate) controllers: Vec<Vctl>,
+    pub(crate) front: Front,
 }
 
 impl Model for Core {
+    ghost use Rattle.std.specs.Prelude.{◌≡◌};
+    ghost use Rattle.nv_core.specs.Front.{tails_of};
     ghost use Rattle.nv_core.specs.State.{State};
 
     ghost Value = { State };
 
-    ghost view = { λ c. record { host = c.host; device = c.device; lanes = c.lanes.items; controllers = c.controllers.items } };
+    ghost view = { λ c. record { host = c.host; device = c.device; lanes = c.front.lanes; controllers = c.front.controllers } };
+
+    ghost invariant = { λ c. tails_of c.device.lanes ≡ c.front.tails };
 }

@@ -1,8 +1,8 @@
 //! Commands that were taken, planned, and handed on or answered.
 
 ghost use Rattle.std.specs.Prelude.{◌≡◌, ◌<◌, ◌↔◌, [], IfOk, IfSome, IsTrue, List, None, OnErr, Some, length, slice_get};
-ghost use Rattle.nv_core.specs.State.{IsOf, IsStep, world_of};
-ghost use Rattle.nv_core.specs.Submit.{HaveRoom, IsCarriedOut, IsCurrent, IsGoing, IsJobOf, IsSubmitted, WaitsForPlan};
+ghost use Rattle.nv_core.specs.Front.{HasTailMoved, HasWorld, IsSideStep};
+ghost use Rattle.nv_core.specs.Submit.{HaveRoom, IsCarriedOut, IsCurrentIn, IsGoing, IsJobOf, IsSubmitted, WaitsForPlan};
 ghost use Rattle.nv_core.specs.Tags.{state_in};
 ghost use Rattle.nv_model.specs.Memory.{byte_in};
 ghost use Rattle.nv_model.specs.Transcript.{ReadDone as Read};
@@ -14,18 +14,17 @@ ghost use Rattle.nv_world_model.specs.World.{Command, Taken, group_in, tag_chang
 
 use crate::area::TagPlace;
 use crate::comparing::is_given;
+use crate::front::Front;
 use crate::handing::hand_all;
 use crate::lane::Lane;
 use crate::layout::{Grant, Layout};
-use crate::state::Core;
 use nv_mem::{MemoryCell, NoMemory};
 use nv_model::Reply;
 use nv_plan::{Job, Plan, PlanKind, Planned, Transcript, make_plan};
 use nv_world_model::Event;
 use std::alloc::Global;
-use std::slice;
 
-impl Core {
+impl Front {
     /// Plans the command of a tag that was taken, and carries the plan out: the command is handed to the physical controller, or ends at
     /// once. Stale where the tag is at another point, or more of the command's lists is wanted; Ignored where there is no such tag.
     ///
@@ -33,16 +32,20 @@ impl Core {
     ///
     /// [`NoMemory`] where memory is refused: nothing has changed.
     #[inline(never)]
-    pub fn submit(
+    pub fn submit<C: MemoryCell>(
         &mut self,
         alloc: Global,
         layout: &Layout,
         lane: u8,
         tag: u8,
+        host: &mut [C],
     ) -> Result<Reply, NoMemory>
-        requires { IsOf layout.now self.old }
-        ensures ok { IfOk result (λ reply. IsStep layout.now (Event.Submit lane tag) self.old reply self.new) }
-        ensures err { OnErr result (self.new ≡ self.old) }
+        requires { HasWorld layout.now self.old (C.bytes host.old) }
+        ensures ok { IfOk result (λ reply.
+            IsSideStep layout.now (Event.Submit lane tag) self.old (C.bytes host.old) reply self.new (C.bytes host.new)) }
+        ensures err { OnErr result ((self.new ≡ self.old) × (C.bytes host.new ≡ C.bytes host.old)) }
+        ensures tails { HasTailMoved lane self.old.tails self.new.tails }
+        ensures len { length (C.bytes host.new) ≡ length (C.bytes host.old) }
     {
         if let Some(reply) = self.untaken(lane, tag) {
             return Ok(reply);
@@ -57,24 +60,30 @@ impl Core {
             lane,
             tag,
         };
-        let mut tail = self.device.tail(lane);
         let ring = &mut self.lanes[at];
-        let host = slice::from_mut(&mut self.host);
-        let reply = submit_on(alloc, given, place, host, &mut tail, ring)?;
-        self.device.ring(lane, tail);
+        let tail = &mut self.tails[at];
+        let reply = submit_on(alloc, given, place, host, tail, ring)?;
         Ok(reply)
     }
 
     /// Carries out a plan that was made elsewhere, where it was made of the state as it is: its tag was taken, by the guest's command of its job,
     /// with the same reads of its lists, and the guest's map, namespace and limit are those that it was made with. `None` where not, and nothing
     /// has changed.
-    pub fn submit_plan(&mut self, layout: &Layout, plan: Plan) -> Option<Reply>
-        requires { IsOf layout.now self.old }
+    pub fn submit_plan<C: MemoryCell>(
+        &mut self,
+        layout: &Layout,
+        plan: Plan,
+        host: &mut [C],
+    ) -> Option<Reply>
+        requires { HasWorld layout.now self.old (C.bytes host.old) }
         ensures some { IfSome result (λ reply.
-            IsCurrent layout.now (world_of self.old) plan
-            × IsStep layout.now (Event.Submit plan.job.lane plan.job.tag) self.old reply self.new) }
+            IsCurrentIn layout.now self.old.lanes plan
+            × IsSideStep layout.now (Event.Submit plan.job.lane plan.job.tag) self.old (C.bytes host.old) reply self.new (C.bytes host.new)) }
         ensures done { IfSome result (λ reply. reply ≡ Reply.Done) }
-        ensures none { result ≡ None → (self.new ≡ self.old) × (IsCurrent layout.now (world_of self.old) plan → ⊥) }
+        ensures none { result ≡ None → (self.new ≡ self.old)
+            × ((C.bytes host.new ≡ C.bytes host.old) × (IsCurrentIn layout.now self.old.lanes plan → ⊥)) }
+        ensures tails { HasTailMoved plan.job.lane self.old.tails self.new.tails }
+        ensures len { length (C.bytes host.new) ≡ length (C.bytes host.old) }
     {
         if !self.is_current(layout, &plan) {
             return None;
@@ -85,17 +94,16 @@ impl Core {
             lane: job.lane,
             tag: job.tag,
         };
-        let mut tail = self.device.tail(place.lane);
-        let ring = &mut self.lanes[usize::from(place.lane)];
-        let host = slice::from_mut(&mut self.host);
-        carry_out(plan, place, host, &mut tail, ring);
-        self.device.ring(place.lane, tail);
+        let at = usize::from(place.lane);
+        let ring = &mut self.lanes[at];
+        let tail = &mut self.tails[at];
+        carry_out(plan, place, host, tail, ring);
         Some(Reply::Done)
     }
 
     // Whether a plan was made of the state as it is.
     fn is_current(&self, layout: &Layout, plan: &Plan) -> bool
-        ensures { IsTrue result ↔ IsCurrent layout.now (world_of self.now) plan.now }
+        ensures { IsTrue result ↔ IsCurrentIn layout.now self.now.lanes plan.now }
     {
         let job = plan.job();
         if self.untaken(job.lane, job.tag).is_some() {

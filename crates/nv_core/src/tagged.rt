@@ -1,31 +1,31 @@
 //! Events of tags that were taken.
 
-ghost use Rattle.std.specs.Prelude.{◌≡◌, ◌&&◌, IfOk, OnErr, nat_le};
-ghost use Rattle.nv_core.specs.State.{IsOf, IsStep, world_of};
+ghost use Rattle.std.specs.Prelude.{◌≡◌, ℕ, ◌&&◌, IfOk, List, OnErr, nat_le, slice_get};
+ghost use Rattle.nv_core.specs.Front.{HasWorld, IsInWorld, IsSideStep};
 ghost use Rattle.nv_core.specs.Seat.{bytes_told};
 ghost use Rattle.nv_core.specs.Tags.{unended, untaken};
 ghost use Rattle.nv_model.specs.Limits.{part_size};
-ghost use Rattle.nv_world_model.specs.World.{tag_of};
+ghost use Rattle.nv_world_model.specs.World.{tag_in};
 
+use crate::front::Front;
 use crate::layout::Layout;
 use crate::seat;
-use crate::state::Core;
 use nv_entry::StatusCode;
-use nv_mem::{Bytes, NoMemory};
+use nv_mem::{Bytes, MemoryCell, NoMemory};
 use nv_model::Reply;
 use nv_model::limits::PART_SIZE;
 use nv_plan::ReadDone;
 use nv_world_model::Event;
 use std::alloc::Global;
-use std::slice;
 
-impl Core {
+impl Front {
     /// Ends the command of a tag that was taken with Internal Error. Stale where the tag is at another point, Ignored where there is no
     /// such tag.
     #[inline(never)]
     pub fn give_up(&mut self, _layout: &Layout, lane: u8, tag: u8) -> Reply
-        requires { IsOf _layout.now self.old }
-        ensures { IsStep _layout.now (Event.GiveUp lane tag) self.old result self.new }
+        requires { IsInWorld _layout.now self.old }
+        ensures step { (memory : List ℕ) → IsSideStep _layout.now (Event.GiveUp lane tag) self.old memory result self.new memory }
+        ensures tails { self.new.tails ≡ self.old.tails }
     {
         if let Some(reply) = self.untaken(lane, tag) {
             return reply;
@@ -44,7 +44,7 @@ impl Core {
     ///
     /// [`NoMemory`] where memory for the bytes, or for their place in the transcript, is refused: nothing has changed.
     #[inline(never)]
-    pub fn list(
+    pub fn list<C: MemoryCell>(
         &mut self,
         alloc: Global,
         layout: &Layout,
@@ -52,11 +52,14 @@ impl Core {
         tag: u8,
         addr: u64,
         len: u64,
+        host: &[C],
     ) -> Result<(Reply, Option<Bytes>), NoMemory>
-        requires { IsOf layout.now self.old }
-        ensures ok { IfOk result (λ told. IsStep layout.now (Event.List lane tag addr len) self.old told.0 self.new) }
+        requires { HasWorld layout.now self.old (C.bytes host.now) }
+        ensures ok { IfOk result (λ told.
+            IsSideStep layout.now (Event.List lane tag addr len) self.old (C.bytes host.now) told.0 self.new (C.bytes host.now)) }
         ensures again { IfOk result (λ told. told.1 ≡ bytes_told told.0) }
         ensures err { OnErr result (self.new ≡ self.old) }
+        ensures tails { self.new.tails ≡ self.old.tails }
     {
         if let Some(reply) = self.untaken(lane, tag) {
             return Ok((reply, None));
@@ -74,7 +77,7 @@ impl Core {
         if !is_part(len) {
             return Ok((Reply::Ignored, None));
         }
-        let shown = seat::read_bytes(alloc, given, addr, len, slice::from_ref(&self.host))?;
+        let shown = seat::read_bytes(alloc, given, addr, len, host)?;
         let again = Bytes::from_slice(alloc, shown.as_slice())?;
         let kept = Bytes::from_slice(alloc, shown.as_slice())?;
         let ring = &mut self.lanes[at];
@@ -84,7 +87,7 @@ impl Core {
 
     /// What is answered where an event wants a command that was taken, by the tag that it goes by; `None` where it is one.
     pub(crate) fn untaken(&self, lane: u8, tag: u8) -> Option<Reply>
-        ensures { result ≡ untaken tag (tag_of (world_of self.now) lane tag) }
+        ensures { result ≡ untaken tag (tag_in (slice_get self.now.lanes lane) tag) }
     {
         let number = usize::from(lane);
         if number >= self.lanes.len() {
@@ -95,7 +98,7 @@ impl Core {
 
     /// What is answered where an event wants a command whose first part has ended, by the tag that it goes by; `None` where it is one.
     pub(crate) fn unended(&self, lane: u8, tag: u8) -> Option<Reply>
-        ensures { result ≡ unended tag (tag_of (world_of self.now) lane tag) }
+        ensures { result ≡ unended tag (tag_in (slice_get self.now.lanes lane) tag) }
     {
         let number = usize::from(lane);
         if number >= self.lanes.len() {

@@ -1,7 +1,7 @@
 //! Commands that are taken from the guests' queues.
 
 ghost use Rattle.std.specs.Prelude.{◌≡◌, ◌<◌, length, slice_index};
-ghost use Rattle.nv_core.specs.State.{CountsMore, IsOf, IsStep};
+ghost use Rattle.nv_core.specs.Front.{CountMore, HasWorld, IsSideStep};
 ghost use Rattle.nv_core.specs.Take.{IsFrontTaken};
 ghost use Rattle.nv_mem.specs.GuestMap.{mapped};
 ghost use Rattle.nv_model.specs.Controller.{front};
@@ -10,9 +10,9 @@ ghost use Rattle.nv_model.specs.Memory.{byte_in, image};
 ghost use Rattle.nv_vctl.specs.Vctl.{most_taken};
 ghost use Rattle.nv_world_model.specs.Step.{is_io_queue};
 
+use crate::front::Front;
 use crate::lane::Lane;
 use crate::layout::{Grant, Layout};
-use crate::state::Core;
 use nv_mem::MemoryCell;
 use nv_model::Reply;
 use nv_model::limits::LAST_QUEUE;
@@ -21,18 +21,26 @@ use nv_tags::Claim;
 use nv_vctl::Vctl;
 use nv_world_model::Event;
 use std::alloc::Global;
-use std::slice;
 
-impl Core {
+impl Front {
     /// The command at the front of a guest's I/O queue gets the lowest free tags of a lane, as many as it may become physical commands. Idle
     /// where none may be taken, Busy where fewer tags are free, Ignored where there is no such guest or lane, or the queue is none of 1 to 8.
     ///
     /// The caller knows that one more taken command can be counted.
     #[inline(never)]
-    pub fn take(&mut self, alloc: Global, layout: &Layout, guest: u8, queue: u16, lane: u8) -> Reply
-        requires of { IsOf layout.now self.old }
-        requires counted { CountsMore guest self.old }
-        ensures { IsStep layout.now (Event.Take guest queue lane) self.old result self.new }
+    pub fn take<C: MemoryCell>(
+        &mut self,
+        alloc: Global,
+        layout: &Layout,
+        guest: u8,
+        queue: u16,
+        lane: u8,
+        host: &[C],
+    ) -> Reply
+        requires world { HasWorld layout.now self.old (C.bytes host.now) }
+        requires counted { CountMore guest self.old.controllers }
+        ensures step { IsSideStep layout.now (Event.Take guest queue lane) self.old (C.bytes host.now) result self.new (C.bytes host.now) }
+        ensures tails { self.new.tails ≡ self.old.tails }
     {
         let Some(given) = layout.guest(guest) else {
             return Reply::Ignored;
@@ -50,15 +58,7 @@ impl Core {
         }
         let vctl = &mut self.controllers[number];
         let ring = &mut self.lanes[at];
-        take_front(
-            alloc,
-            guest,
-            queue,
-            given,
-            slice::from_ref(&self.host),
-            vctl,
-            ring,
-        )
+        take_front(alloc, guest, queue, given, host, vctl, ring)
     }
 }
 

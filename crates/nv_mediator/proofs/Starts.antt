@@ -6,9 +6,11 @@ use Rattle.nv_device.specs.Physical.{FitsLimits}
 use Rattle.nv_laws_sound.proofs.CountedRuns.{opening-counted}
 use Rattle.nv_laws_sound.proofs.LaidOuts.{accepted, all-one, laid-out, limit-fits, sizes-of}
 use Rattle.nv_laws_sound.proofs.Openings.{opening-consistent}
+use Rattle.nv_laws_sound.proofs.phases.Steps.{opening-phased}
 use Rattle.nv_laws_sound.specs.Consistent.{IsConsistent}
 use Rattle.nv_laws_sound.specs.Counted.{IsCounted}
 use Rattle.nv_laws_sound.specs.LaidOut.{IsLaidOut}
+use Rattle.nv_laws_sound.specs.Phased.{ArePhased}
 use Rattle.nv_mem.specs.GuestMap.{IsSound}
 use Rattle.nv_mediator.proofs.Logs.{log-none}
 use Rattle.nv_mediator.proofs.Namespaces.{guest-namespace}
@@ -66,6 +68,7 @@ module _ (s : SetUp) (core : State) (opening : IsOpening s.geometry s.host_bytes
           subst (λ (n : ℕ). IsLaidOut n (length core.lanes) s.geometry) (sym opening.host)
           (subst (λ (n : ℕ). IsLaidOut s.host_bytes n s.geometry) (sym lanes-are) (laid-out s none sound));
       consistent = subst (IsConsistent s.geometry) (sym opening.world) (opening-consistent s.geometry s.lanes);
+      phased = subst (ArePhased s.geometry) (sym opening.world) (opening-phased s.geometry s.lanes);
     };
     counted = subst (IsCounted s.geometry) (sym opening.world) (opening-counted s.geometry s.lanes);
     led = record { log = []; leads = log-none s (record { geometry = s.geometry; state = core }) (record { setup = setup-is; world = opening.world }) };

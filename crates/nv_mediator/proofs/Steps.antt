@@ -7,9 +7,11 @@ use Rattle.nv_laws.specs.Alike.{HasFittingStatus}
 use Rattle.nv_laws_sound.proofs.CountedSteps.{step-counted}
 use Rattle.nv_laws_sound.proofs.ManyLanes.{lanes-kept}
 use Rattle.nv_laws_sound.proofs.Steps.{step-consistent}
+use Rattle.nv_laws_sound.proofs.phases.Steps.{step-phased}
 use Rattle.nv_laws_sound.specs.Consistent.{IsConsistent}
 use Rattle.nv_laws_sound.specs.Counted.{IsCounted}
 use Rattle.nv_laws_sound.specs.LaidOut.{IsLaidOut}
+use Rattle.nv_laws_sound.specs.Phased.{ArePhased}
 use Rattle.nv_mediator.proofs.Logs.{log-more, log-same}
 use Rattle.nv_mediator.specs.Hosted.{HasLog, Hosted, IsHosted, IsMade, IsPromised, IsSame, IsUnchanged, setup_of}
 use Rattle.nv_model.specs.declared.reply.Reply.{Reply}
@@ -28,9 +30,10 @@ module _ (h : Hosted) (new : State) (hosted : IsHosted h) (size : IsSameSize h.s
       ap (λ (n : ℕ). let t : SetUp = record { host_bytes = n; lanes = length new.lanes; geometry = h.geometry } in t) size.host
       ∙ ap (λ (n : ℕ). let t : SetUp = record { host_bytes = length h.state.host; lanes = n; geometry = h.geometry } in t) lanes
 
-  -- parts of the same size, and a world that is consistent, counted and led to
-  still-hosted : IsConsistent h.geometry (world_of new) → IsCounted h.geometry (world_of new) → HasLog (hosting h new) → IsHosted (hosting h new)
-  still-hosted consistent counted led =
+  -- parts of the same size, and a world that is consistent, phased, counted and led to
+  still-hosted : IsConsistent h.geometry (world_of new) → ArePhased h.geometry (world_of new) → IsCounted h.geometry (world_of new)
+      → HasLog (hosting h new) → IsHosted (hosting h new)
+  still-hosted consistent phased counted led =
       record {
         accepted = ap refusal_of setup-same ∙ hosted.accepted;
         of = record {
@@ -40,6 +43,7 @@ module _ (h : Hosted) (new : State) (hosted : IsHosted h) (size : IsSameSize h.s
               subst (λ (n : ℕ). IsLaidOut n (length new.lanes) h.geometry) (sym size.host)
               (subst (λ (n : ℕ). IsLaidOut (length h.state.host) n h.geometry) (sym lanes) hosted.of.laid_out);
           consistent = consistent;
+          phased = phased;
         };
         counted = counted;
         led = led;
@@ -56,6 +60,7 @@ module _ (h : Hosted) (new : State) (hosted : IsHosted h) (is : IsUnchanged h.st
   pub unchanged-hosted : IsHosted (hosting h new)
   unchanged-hosted =
       still-hosted h new hosted is.size lanes-unchanged (subst (IsConsistent h.geometry) (sym is.world) hosted.of.consistent)
+      (subst (ArePhased h.geometry) (sym is.world) hosted.of.phased)
       (subst (IsCounted h.geometry) (sym is.world) hosted.counted)
       (record { log = hosted.led.log; leads = log-same h (hosting h new) hosted.led.log hosted.led.leads unchanged-same })
 
@@ -75,6 +80,8 @@ module _ (h : Hosted) (new : State) (e : Event) (r : Reply) (hosted : IsHosted h
       still-hosted h new hosted is.size lanes-same
       (subst (IsConsistent h.geometry) (sym world-is)
       (step-consistent (length h.state.host) h.geometry e (world_of h.state) hosted.of.laid_out hosted.of.consistent))
+      (subst (ArePhased h.geometry) (sym world-is)
+      (step-phased (length h.state.host) h.geometry e (world_of h.state) hosted.of.laid_out hosted.of.consistent hosted.of.phased))
       (subst (IsCounted h.geometry) (sym world-is)
       (step-counted (length h.state.host) h.geometry e (world_of h.state) hosted.of.laid_out hosted.of.consistent hosted.counted))
       (record {

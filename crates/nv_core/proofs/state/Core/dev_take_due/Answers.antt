@@ -16,7 +16,7 @@ returns-then-lane-lanes c =
 
 pub returns : goal.returns
 returns c =
-    let s : State = record { host = c.self.inside.host; device = c.self.inside.device; lanes = c.self.inside.lanes.items; controllers = c.self.inside.controllers.items } in
+    let s : State = record { host = c.self.inside.host; device = c.self.inside.device; lanes = c.self.inside.front.lanes; controllers = c.self.inside.front.controllers } in
     let is = subst (IsOf c.args._layout.now) (sym c.self.view_is) c.requires in
     let below : c.args.lane < length s.device.lanes = (let many = c.lanes.ensures.value in let t = c.if-lane-lanes.false in omega arith) in
     subst (λ (x : State). c.waits.result ≡ due c.args._layout.now (event.DevTake c.args.lane) (world_of x)) c.self.view_is

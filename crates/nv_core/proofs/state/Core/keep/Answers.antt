@@ -14,6 +14,6 @@ returns-then-block-disk_blocks c =
 pub returns : goal.returns
 returns c =
     let below : c.args.block < c.args.layout.now.disk_blocks = (let e = c.disk_blocks.ensures in let p = c.if-block-disk_blocks.false in omega arith) in
-    let s : State = record { host = c.self.inside.host; device = c.self.inside.device; lanes = c.self.inside.lanes.items; controllers = c.self.inside.controllers.items } in
+    let s : State = record { host = c.self.inside.host; device = c.self.inside.device; lanes = c.self.inside.front.lanes; controllers = c.self.inside.front.controllers } in
     subst (λ (d : Physical). IsStep c.args.layout.now (event.Keep c.args.block) c.args.self.now reply.Done (record s { device = d })) (sym c.keep.ensures.state)
     (keep-marks c.args.layout.now s c.args.self.now c.args.block c.self.view_is c.requires c.blocks-known.ensures.marked below)

@@ -1,4 +1,4 @@
-use Rattle.std.proofs.Common.{◌≡◌, ◌&&◌, ◌∙◌, length, nat_lt, sym, subst}
+use Rattle.std.proofs.Common.{◌≡◌, false, ◌∙◌, length, sym, subst}
 use Rattle.nv_core.proofs.DeviceSteps.{both-below, move-no_slot}
 use Rattle.nv_core.proofs.Dues.{dev_move-due, due-told, lowest-same}
 use Rattle.nv_core.specs.State.{IsOf, State, world_of}
@@ -12,15 +12,17 @@ use Rattle.nv_core.proofs.state.Core.next_unit.Goals as goal
 
 pub returns-then-not-has_slot : goal.returns-then-not-has_slot
 returns-then-not-has_slot c k =
-    due-told c.args._layout.now (event.DevMove c.args.lane c.args.slot k) c.args.self.now c.args.self.now reply.Ignored
-    (move-no_slot c.args._layout.now c.args.self.now c.requires c.args.lane c.args.slot k (sym c.has_slot.ensures ∙ c.if-not-has_slot.true))
+    let s : State = record { host = c.self.inside.host; device = c.self.inside.device; lanes = c.self.inside.front.lanes; controllers = c.self.inside.front.controllers } in
+    let is = subst (IsOf c.args._layout.now) (sym c.self.view_is) c.requires in
+    let e = event.DevMove c.args.lane c.args.slot k in
+    subst (λ (x : State). due c.args._layout.now e (world_of x) ≡ false) c.self.view_is
+    (due-told c.args._layout.now e s s reply.Ignored (move-no_slot c.args._layout.now s is c.args.lane c.args.slot k (sym c.has_slot.ensures ∙ c.if-not-has_slot.true)))
 
 pub returns : goal.returns
 returns c =
-    let s : State = record { host = c.self.inside.host; device = c.self.inside.device; lanes = c.self.inside.lanes.items; controllers = c.self.inside.controllers.items } in
+    let s : State = record { host = c.self.inside.host; device = c.self.inside.device; lanes = c.self.inside.front.lanes; controllers = c.self.inside.front.controllers } in
     let is = subst (IsOf c.args._layout.now) (sym c.self.view_is) c.requires in
-    let test = subst (λ (o : State). c.has_slot.result ≡ (nat_lt c.args.lane (length o.device.lanes) && nat_lt c.args.slot tag_count)) (sym c.self.view_is) c.has_slot.ensures in
-    let there = both-below c.args.lane (length c.self.inside.device.lanes) c.args.slot tag_count c.has_slot.result test c.if-not-has_slot.false in
+    let there = both-below c.args.lane (length c.self.inside.device.lanes) c.args.slot tag_count c.has_slot.result c.has_slot.ensures c.if-not-has_slot.false in
     subst (λ (x : State). IsLowest (λ number. due c.args._layout.now (event.DevMove c.args.lane c.args.slot number) (world_of x)) c.next_unit.result) c.self.view_is
     (lowest-same (λ number. has_left number (held_at s.device c.args.lane c.args.slot))
     (λ number. due c.args._layout.now (event.DevMove c.args.lane c.args.slot number) (world_of s)) c.next_unit.result

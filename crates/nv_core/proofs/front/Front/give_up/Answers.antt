@@ -1,0 +1,61 @@
+use Rattle.std.proofs.Common.{sym, arith, subst, ◌≡◌, ℕ, List, ap, refl, set}
+use Rattle.nv_core.proofs.GiveUps.{give_up-done, give_up-not}
+use Rattle.nv_core.proofs.GroupWorlds.{all-taken, taken-below, taken-here, taken-led}
+use Rattle.nv_core.specs.State.{IsOf, State}
+use Rattle.nv_core.specs.Front.{IsSideOf, Side}
+use Rattle.nv_core.proofs.Sides.{of-side, quiet-in, state_in}
+use Rattle.nv_world_model.specs.World.{World}
+use Rattle.nv_world_model.specs.declared.event.Event.TheVariants as event
+use Rattle.nv_core.proofs.front.Front.give_up.Goals as goal
+
+pub returns-in-Some-clause-step : goal.returns-in-Some-clause-step
+returns-in-Some-clause-step c = λ m w is.
+    let old : State = state_in c.args._layout.now c.args.self.now m w is in
+    quiet-in c.args._layout.now c.args.self.now m w is (event.GiveUp c.args.lane c.args.tag) tt _ c.args.self.now m refl
+    (give_up-not c.args._layout.now old c.args.lane c.args.tag c.untaken.result c.in-Some.reply c.untaken.ensures c.in-Some.is)
+
+pub index_mut-requires : goal.index_mut-requires
+index_mut-requires c =
+    let m : List ℕ = c.requires.memory in
+    let w : World = c.requires.world in
+    let is : IsSideOf c.args._layout.now c.args.self.now m w = c.requires.is in
+    let old : State = state_in c.args._layout.now c.args.self.now m w is in
+    let s : State = record { host = m; device = old.device; lanes = c.self.inside.lanes.items; controllers = c.self.inside.controllers.items } in
+    let same : s ≡ old = ap (λ (f : Side). let o : State = record { host = m; device = old.device; lanes = f.lanes; controllers = f.controllers } in o) c.self.view_is in
+    let t = taken-here s old c.args.lane c.args.tag c.untaken.result same c.untaken.ensures c.in_default.is in
+    let below = taken-below c.self.inside.lanes.items c.args.lane c.args.tag t in
+    let number = c.from.ensures in omega arith
+
+pub answer-requires-clause-led : goal.answer-requires-clause-led
+answer-requires-clause-led c =
+    let m : List ℕ = c.requires.memory in
+    let w : World = c.requires.world in
+    let is : IsSideOf c.args._layout.now c.args.self.now m w = c.requires.is in
+    let old : State = state_in c.args._layout.now c.args.self.now m w is in
+    let s : State = record { host = m; device = old.device; lanes = c.self.inside.lanes.items; controllers = c.self.inside.controllers.items } in
+    let same : s ≡ old = ap (λ (f : Side). let o : State = record { host = m; device = old.device; lanes = f.lanes; controllers = f.controllers } in o) c.self.view_is in
+    let t = taken-here s old c.args.lane c.args.tag c.untaken.result same c.untaken.ensures c.in_default.is in
+    taken-led c.self.inside.lanes.items c.args.lane c.args.tag t c.from.result c.index_mut.result.now c.from.ensures c.index_mut.ensures.value
+
+pub answer-requires-clause-together : goal.answer-requires-clause-together
+answer-requires-clause-together c =
+    let m : List ℕ = c.requires.memory in
+    let w : World = c.requires.world in
+    let is : IsSideOf c.args._layout.now c.args.self.now m w = c.requires.is in
+    let old : State = state_in c.args._layout.now c.args.self.now m w is in
+    let s : State = record { host = m; device = old.device; lanes = c.self.inside.lanes.items; controllers = c.self.inside.controllers.items } in
+    let same : s ≡ old = ap (λ (f : Side). let o : State = record { host = m; device = old.device; lanes = f.lanes; controllers = f.controllers } in o) c.self.view_is in
+    let of : IsOf c.args._layout.now old = of-side c.args._layout.now c.args.self.now m w is in
+    let t = taken-here s old c.args.lane c.args.tag c.untaken.result same c.untaken.ensures c.in_default.is in
+    all-taken c.args._layout.now s (subst (λ (o : State). IsOf c.args._layout.now o) (sym same) of) c.args.lane c.args.tag
+    c.from.result c.index_mut.result.now t c.from.ensures c.index_mut.ensures.value
+
+pub returns-clause-step : goal.returns-clause-step
+returns-clause-step c = λ m w is.
+    let old : State = state_in c.args._layout.now c.args.self.now m w is in
+    let s : State = record { host = m; device = old.device; lanes = c.self.inside.lanes.items; controllers = c.self.inside.controllers.items } in
+    let same : s ≡ old = ap (λ (f : Side). let o : State = record { host = m; device = old.device; lanes = f.lanes; controllers = f.controllers } in o) c.self.view_is in
+    let t = taken-here s old c.args.lane c.args.tag c.untaken.result same c.untaken.ensures c.in_default.is in
+    quiet-in c.args._layout.now c.args.self.now m w is (event.GiveUp c.args.lane c.args.tag) tt _ (let n : Side = record { lanes = (set c.self.inside.lanes.items c.from.result c.answer.new.self); tails = c.self.inside.tails.items; controllers = c.self.inside.controllers.items } in n) m (ap (λ (f : Side). f.tails) c.self.view_is)
+    (give_up-done c.args._layout.now s old c.args.lane c.args.tag c.from.result c.index_mut.result.now c.answer.new.self c.status.result same t
+    c.from.ensures c.index_mut.ensures.value c.status.ensures c.answer.ensures)

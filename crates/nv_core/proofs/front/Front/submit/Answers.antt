@@ -1,0 +1,196 @@
+use Rattle.std.proofs.Common.{◌≡◌, ◌<◌, ◌∙◌, ℕ, List, Some, length, set, slice_get, ap, refl, sym, subst, arith}
+use Rattle.std.proofs.lemmas.Option.{slice_get_read}
+use Rattle.nv_core.proofs.GroupWorlds.{taken-below, taken-here, taken-state, taken-there}
+use Rattle.nv_core.proofs.Handed.{lane-there}
+use Rattle.nv_core.proofs.Sides.{of-side, quiet-in, rung-in, state_in, tail-stays, tail-there, tails-many}
+use Rattle.nv_core.proofs.Submits.{have-room, on-device, submit-done, submit-nobody, submit-not}
+use Rattle.nv_core.proofs.Waits.{waits}
+use Rattle.nv_core.specs.Front.{HasTailMoved, IsSideOf, Side}
+use Rattle.nv_core.specs.State.{IsOf, IsStep, State}
+use Rattle.nv_core.specs.Submit.{HaveRoom}
+use Rattle.nv_device.specs.Physical.{lane_of}
+use Rattle.nv_laws_sound.proofs.Lists.{some-same}
+use Rattle.nv_model.specs.declared.reply.Reply.TheVariants as reply
+use Rattle.nv_world_model.specs.Area.{ring_size}
+use Rattle.nv_world_model.specs.Device.{DeviceLane}
+use Rattle.nv_world_model.specs.World.{Command, World}
+use Rattle.nv_world_model.specs.declared.event.Event.TheVariants as event
+use Rattle.nv_core.proofs.front.Front.submit.Goals as goal
+
+pub returns-in-Some-clause-ok : goal.returns-in-Some-clause-ok
+returns-in-Some-clause-ok g c = λ w is.
+    let m : List ℕ = g.C.MemoryCell.bytes c.args.host.now in
+    let old : State = state_in c.args.layout.now c.args.self.now m w is in
+    quiet-in c.args.layout.now c.args.self.now m w is (event.Submit c.args.lane c.args.tag) tt _ c.args.self.now m refl
+    (submit-not c.args.layout.now old c.args.lane c.args.tag c.untaken.result c.in-Some.reply c.untaken.ensures c.in-Some.is)
+
+pub returns-in-Some-clause-tails : goal.returns-in-Some-clause-tails
+returns-in-Some-clause-tails g c =
+    tail-stays c.args.layout.now c.args.self.now (g.C.MemoryCell.bytes c.args.host.now) c.requires.world c.requires.is c.args.lane
+
+pub index-requires : goal.index-requires
+index-requires g c =
+    let m : List ℕ = g.C.MemoryCell.bytes c.args.host.now in
+    let w : World = c.requires.world in
+    let is : IsSideOf c.args.layout.now c.args.self.now m w = c.requires.is in
+    let old : State = state_in c.args.layout.now c.args.self.now m w is in
+    let s : State = record { host = m; device = old.device; lanes = c.self.inside.lanes.items; controllers = c.self.inside.controllers.items } in
+    let same : s ≡ old = ap (λ (f : Side). let o : State = record { host = m; device = old.device; lanes = f.lanes; controllers = f.controllers } in o) c.self.view_is in
+    let t = taken-here s old c.args.lane c.args.tag c.untaken.result same c.untaken.ensures c.in_default.is in
+    let below = taken-below c.self.inside.lanes.items c.args.lane c.args.tag t in
+    let number = c.from-at.ensures in
+    omega (arith, below, number)
+
+pub claimed-requires : goal.claimed-requires
+claimed-requires g c =
+    let m : List ℕ = g.C.MemoryCell.bytes c.args.host.now in
+    let w : World = c.requires.world in
+    let is : IsSideOf c.args.layout.now c.args.self.now m w = c.requires.is in
+    let old : State = state_in c.args.layout.now c.args.self.now m w is in
+    let s : State = record { host = m; device = old.device; lanes = c.self.inside.lanes.items; controllers = c.self.inside.controllers.items } in
+    let same : s ≡ old = ap (λ (f : Side). let o : State = record { host = m; device = old.device; lanes = f.lanes; controllers = f.controllers } in o) c.self.view_is in
+    let t = taken-here s old c.args.lane c.args.tag c.untaken.result same c.untaken.ensures c.in_default.is in
+    taken-state c.self.inside.lanes.items c.args.lane c.args.tag t c.from-at.result c.index.result.now c.from-at.ensures c.index.ensures
+
+pub returns-in_default-guest-clause-ok : goal.returns-in_default-guest-clause-ok
+returns-in_default-guest-clause-ok g c = λ w is.
+    let m : List ℕ = g.C.MemoryCell.bytes c.args.host.now in
+    let old : State = state_in c.args.layout.now c.args.self.now m w is in
+    let s : State = record { host = m; device = old.device; lanes = c.self.inside.lanes.items; controllers = c.self.inside.controllers.items } in
+    let same : s ≡ old = ap (λ (f : Side). let o : State = record { host = m; device = old.device; lanes = f.lanes; controllers = f.controllers } in o) c.self.view_is in
+    let t = taken-here s old c.args.lane c.args.tag c.untaken.result same c.untaken.ensures c.in_default.is in
+    let guest =
+    ap (λ (d : Command). d.guest) (c.claimed.ensures t.command t.reads
+    (taken-there c.self.inside.lanes.items c.args.lane c.args.tag t c.from-at.result c.index.result.now c.from-at.ensures c.index.ensures)) in
+    quiet-in c.args.layout.now c.args.self.now m w is (event.Submit c.args.lane c.args.tag) tt _ c.args.self.now m refl
+    (subst (λ (o : State). IsStep c.args.layout.now (event.Submit c.args.lane c.args.tag) o reply.Stale o) same
+    (submit-nobody c.args.layout.now s c.args.lane c.args.tag t c.claimed.result.now.guest guest c.in_default-guest.ensures))
+
+pub returns-in_default-guest-clause-tails : goal.returns-in_default-guest-clause-tails
+returns-in_default-guest-clause-tails g c =
+    tail-stays c.args.layout.now c.args.self.now (g.C.MemoryCell.bytes c.args.host.now) c.requires.world c.requires.is c.args.lane
+
+pub index_mut-ring-requires : goal.index_mut-ring-requires
+index_mut-ring-requires g c =
+    let m : List ℕ = g.C.MemoryCell.bytes c.args.host.now in
+    let w : World = c.requires.world in
+    let is : IsSideOf c.args.layout.now c.args.self.now m w = c.requires.is in
+    let old : State = state_in c.args.layout.now c.args.self.now m w is in
+    let s : State = record { host = m; device = old.device; lanes = c.self.inside.lanes.items; controllers = c.self.inside.controllers.items } in
+    let same : s ≡ old = ap (λ (f : Side). let o : State = record { host = m; device = old.device; lanes = f.lanes; controllers = f.controllers } in o) c.self.view_is in
+    let t = taken-here s old c.args.lane c.args.tag c.untaken.result same c.untaken.ensures c.in_default.is in
+    let below = taken-below c.self.inside.lanes.items c.args.lane c.args.tag t in
+    let number = c.from-at.ensures in
+    omega (arith, below, number)
+
+pub index_mut-tail-requires : goal.index_mut-tail-requires
+index_mut-tail-requires g c =
+    let m : List ℕ = g.C.MemoryCell.bytes c.args.host.now in
+    let w : World = c.requires.world in
+    let is : IsSideOf c.args.layout.now c.args.self.now m w = c.requires.is in
+    let old : State = state_in c.args.layout.now c.args.self.now m w is in
+    let s : State = record { host = m; device = old.device; lanes = c.self.inside.lanes.items; controllers = c.self.inside.controllers.items } in
+    let same : s ≡ old = ap (λ (f : Side). let o : State = record { host = m; device = old.device; lanes = f.lanes; controllers = f.controllers } in o) c.self.view_is in
+    let t = taken-here s old c.args.lane c.args.tag c.untaken.result same c.untaken.ensures c.in_default.is in
+    let below = taken-below c.self.inside.lanes.items c.args.lane c.args.tag t in
+    let number = c.from-at.ensures in
+    let many : length c.self.inside.tails.items ≡ length c.self.inside.lanes.items = subst (λ (f : Side). length f.tails ≡ length f.lanes) (sym c.self.view_is) (tails-many c.args.layout.now c.args.self.now m w is) in
+    omega (arith, below, number, many)
+
+pub submit_on-requires-clause-room : goal.submit_on-requires-clause-room
+submit_on-requires-clause-room g c =
+    let m : List ℕ = g.C.MemoryCell.bytes c.args.host.now in
+    let w : World = c.requires.world in
+    let is : IsSideOf c.args.layout.now c.args.self.now m w = c.requires.is in
+    let old : State = state_in c.args.layout.now c.args.self.now m w is in
+    let s : State = record { host = m; device = old.device; lanes = c.self.inside.lanes.items; controllers = c.self.inside.controllers.items } in
+    let same : s ≡ old = ap (λ (f : Side). let o : State = record { host = m; device = old.device; lanes = f.lanes; controllers = f.controllers } in o) c.self.view_is in
+    let of : IsOf c.args.layout.now s = subst (IsOf c.args.layout.now) (sym same) (of-side c.args.layout.now c.args.self.now m w is) in
+    let t = taken-here s old c.args.lane c.args.tag c.untaken.result same c.untaken.ensures c.in_default.is in
+    let guest =
+    ap (λ (d : Command). d.guest) (c.claimed.ensures t.command t.reads
+    (taken-there c.self.inside.lanes.items c.args.lane c.args.tag t c.from-at.result c.index.result.now c.from-at.ensures c.index.ensures)) in
+    let there = subst (λ (n : ℕ). slice_get c.args.layout.now.guests n ≡ Some c.in-Some-guest.given.now) guest c.in-Some-guest.ensures in
+    subst (λ (n : ℕ). HaveRoom n c.args.lane c.in-Some-guest.given.now m) (sym c.mediator.ensures)
+    (have-room c.args.layout.now s c.args.lane c.args.tag t c.in-Some-guest.given.now of there)
+
+pub submit_on-requires-clause-tail : goal.submit_on-requires-clause-tail
+submit_on-requires-clause-tail g c =
+    let m : List ℕ = g.C.MemoryCell.bytes c.args.host.now in
+    let w : World = c.requires.world in
+    let is : IsSideOf c.args.layout.now c.args.self.now m w = c.requires.is in
+    let old : State = state_in c.args.layout.now c.args.self.now m w is in
+    let s : State = record { host = m; device = old.device; lanes = c.self.inside.lanes.items; controllers = c.self.inside.controllers.items } in
+    let same : s ≡ old = ap (λ (f : Side). let o : State = record { host = m; device = old.device; lanes = f.lanes; controllers = f.controllers } in o) c.self.view_is in
+    let of : IsOf c.args.layout.now s = subst (IsOf c.args.layout.now) (sym same) (of-side c.args.layout.now c.args.self.now m w is) in
+    let t = taken-here s old c.args.lane c.args.tag c.untaken.result same c.untaken.ensures c.in_default.is in
+    let below = taken-below c.self.inside.lanes.items c.args.lane c.args.tag t in
+    let number = c.from-at.ensures in
+    let guest =
+    ap (λ (d : Command). d.guest) (c.claimed.ensures t.command t.reads
+    (taken-there c.self.inside.lanes.items c.args.lane c.args.tag t c.from-at.result c.index.result.now c.from-at.ensures c.index.ensures)) in
+    let there = subst (λ (n : ℕ). slice_get c.args.layout.now.guests n ≡ Some c.in-Some-guest.given.now) guest c.in-Some-guest.ensures in
+    let many : length c.self.inside.tails.items ≡ length c.self.inside.lanes.items = subst (λ (f : Side). length f.tails ≡ length f.lanes) (sym c.self.view_is) (tails-many c.args.layout.now c.args.self.now m w is) in
+    let d : DeviceLane = lane_of s.device c.args.lane in
+    let there_d = lane-there c.args.lane s.device (on-device c.args.layout.now s c.args.lane c.args.tag t c.in-Some-guest.given.now of there) in
+    let at : c.index_mut-tail.result.now ≡ d.tail =
+    some-same c.index_mut-tail.result.now d.tail
+    (sym (slice_get_read c.self.inside.tails.items (length c.self.inside.tails.items) c.from-at.result c.index_mut-tail.result.now refl (omega (arith, below, number, many)) c.index_mut-tail.ensures.value)
+    ∙ ap (λ (n : ℕ). slice_get c.self.inside.tails.items n) c.from-at.ensures
+    ∙ ap (λ (f : Side). slice_get f.tails c.args.lane) c.self.view_is
+    ∙ tail-there c.args.layout.now c.args.self.now m w is c.args.lane d there_d) in
+    let fits : d.tail < ring_size = (of.consistent.of_tags.lanes c.args.lane t.at d t.found there_d).positions.tail in
+    subst (λ (n : ℕ). n < ring_size) (sym at) fits
+
+pub submit_on-requires-clause-waits : goal.submit_on-requires-clause-waits
+submit_on-requires-clause-waits g c =
+    let m : List ℕ = g.C.MemoryCell.bytes c.args.host.now in
+    let w : World = c.requires.world in
+    let is : IsSideOf c.args.layout.now c.args.self.now m w = c.requires.is in
+    let old : State = state_in c.args.layout.now c.args.self.now m w is in
+    let s : State = record { host = m; device = old.device; lanes = c.self.inside.lanes.items; controllers = c.self.inside.controllers.items } in
+    let same : s ≡ old = ap (λ (f : Side). let o : State = record { host = m; device = old.device; lanes = f.lanes; controllers = f.controllers } in o) c.self.view_is in
+    let of : IsOf c.args.layout.now s = subst (IsOf c.args.layout.now) (sym same) (of-side c.args.layout.now c.args.self.now m w is) in
+    let t = taken-here s old c.args.lane c.args.tag c.untaken.result same c.untaken.ensures c.in_default.is in
+    let guest =
+    ap (λ (d : Command). d.guest) (c.claimed.ensures t.command t.reads
+    (taken-there c.self.inside.lanes.items c.args.lane c.args.tag t c.from-at.result c.index.result.now c.from-at.ensures c.index.ensures)) in
+    let there = subst (λ (n : ℕ). slice_get c.args.layout.now.guests n ≡ Some c.in-Some-guest.given.now) guest c.in-Some-guest.ensures in
+    waits c.args.layout.now s of c.args.lane c.args.tag c.from-at.result c.index_mut-ring.result.now t c.from-at.ensures c.index_mut-ring.ensures.value c.in-Some-guest.given.now there
+
+pub returns-clause-ok : goal.returns-clause-ok
+returns-clause-ok g c = λ w is.
+    let m : List ℕ = g.C.MemoryCell.bytes c.args.host.now in
+    let old : State = state_in c.args.layout.now c.args.self.now m w is in
+    let s : State = record { host = m; device = old.device; lanes = c.self.inside.lanes.items; controllers = c.self.inside.controllers.items } in
+    let same : s ≡ old = ap (λ (f : Side). let o : State = record { host = m; device = old.device; lanes = f.lanes; controllers = f.controllers } in o) c.self.view_is in
+    let of : IsOf c.args.layout.now s = subst (IsOf c.args.layout.now) (sym same) (of-side c.args.layout.now c.args.self.now m w is) in
+    let t = taken-here s old c.args.lane c.args.tag c.untaken.result same c.untaken.ensures c.in_default.is in
+    let below = taken-below c.self.inside.lanes.items c.args.lane c.args.tag t in
+    let number = c.from-at.ensures in
+    let guest =
+    ap (λ (d : Command). d.guest) (c.claimed.ensures t.command t.reads
+    (taken-there c.self.inside.lanes.items c.args.lane c.args.tag t c.from-at.result c.index.result.now c.from-at.ensures c.index.ensures)) in
+    let there = subst (λ (n : ℕ). slice_get c.args.layout.now.guests n ≡ Some c.in-Some-guest.given.now) guest c.in-Some-guest.ensures in
+    let many : length c.self.inside.tails.items ≡ length c.self.inside.lanes.items = subst (λ (f : Side). length f.tails ≡ length f.lanes) (sym c.self.view_is) (tails-many c.args.layout.now c.args.self.now m w is) in
+    let d : DeviceLane = lane_of s.device c.args.lane in
+    let there_d = lane-there c.args.lane s.device (on-device c.args.layout.now s c.args.lane c.args.tag t c.in-Some-guest.given.now of there) in
+    let at : c.index_mut-tail.result.now ≡ d.tail =
+    some-same c.index_mut-tail.result.now d.tail
+    (sym (slice_get_read c.self.inside.tails.items (length c.self.inside.tails.items) c.from-at.result c.index_mut-tail.result.now refl (omega (arith, below, number, many)) c.index_mut-tail.ensures.value)
+    ∙ ap (λ (n : ℕ). slice_get c.self.inside.tails.items n) c.from-at.ensures
+    ∙ ap (λ (f : Side). slice_get f.tails c.args.lane) c.self.view_is
+    ∙ tail-there c.args.layout.now c.args.self.now m w is c.args.lane d there_d) in
+    rung-in c.args.layout.now c.args.self.now m w is (event.Submit c.args.lane c.args.tag) tt _ (let n : Side = record { lanes = set c.self.inside.lanes.items c.from-at.result c.submit_on.new.ring; tails = set c.self.inside.tails.items c.from-at.result c.submit_on.new.tail; controllers = c.self.inside.controllers.items } in n)
+    (g.C.MemoryCell.bytes c.submit_on.new.host) c.args.lane c.submit_on.new.tail d there_d
+    (ap (λ (n : ℕ). set c.self.inside.tails.items n c.submit_on.new.tail) c.from-at.ensures ∙ ap (λ (f : Side). set f.tails c.args.lane c.submit_on.new.tail) c.self.view_is)
+    (submit-done c.args.layout.now s c.args.lane c.args.tag t c.in-Some-guest.given.now of there old
+    c.from-at.result c.index_mut-ring.result.now c.submit_on.new.ring (g.C.MemoryCell.bytes c.submit_on.new.host) c.index_mut-tail.result.now c.submit_on.new.tail _ c.in_ok-reply.reply c.mediator.result
+    same c.from-at.ensures c.index_mut-ring.ensures.value c.mediator.ensures c.submit_on.ensures.len at refl
+    (c.in_ok-reply.ensures.ok t.command t.reads
+    (taken-there c.self.inside.lanes.items c.args.lane c.args.tag t c.from-at.result c.index_mut-ring.result.now c.from-at.ensures c.index_mut-ring.ensures.value)))
+
+pub returns-clause-tails : goal.returns-clause-tails
+returns-clause-tails g c =
+    subst (λ (ts : List ℕ). HasTailMoved c.args.lane ts (set c.self.inside.tails.items c.from-at.result c.submit_on.new.tail)) (ap (λ (f : Side). f.tails) c.self.view_is)
+    (record { tail = c.submit_on.new.tail; fits = c.submit_on.ensures.fits; is = ap (λ (n : ℕ). set c.self.inside.tails.items n c.submit_on.new.tail) c.from-at.ensures })

@@ -1,0 +1,87 @@
+-- The mediator's side of the world, which has neither the host's memory nor the physical controller: in which worlds it may be, and what a call comes to
+-- in each of them (profile).
+use Rattle.std.specs.Prelude.{◌≡◌, ℕ, ◌<◌, List, [], ◌∷◌, length, map, replicate, slice_get, slice_index, slice_set, Some}
+use Rattle.nv_laws_sound.specs.Consistent.{IsConsistent}
+use Rattle.nv_laws_sound.specs.LaidOut.{IsLaidOut}
+use Rattle.nv_laws_sound.specs.Phased.{ArePhased}
+use Rattle.nv_model.specs.Controller.{Controller, opening}
+use Rattle.nv_model.specs.Memory.{byte_in}
+use Rattle.nv_model.specs.declared.reply.Reply.{Reply}
+use Rattle.nv_vctl.specs.Vctl.{most_taken}
+use Rattle.nv_world_model.specs.Area.{ring_size}
+use Rattle.nv_world_model.specs.Device.{DeviceLane}
+use Rattle.nv_world_model.specs.Geometry.{Geometry}
+use Rattle.nv_world_model.specs.Step.{After, step}
+use Rattle.nv_world_model.specs.World.{Lane, World, opening_lane}
+use Rattle.nv_world_model.specs.declared.event.Event.{Event}
+
+-- lanes, the tail of each lane's submission ring, and each guest's controller
+pub record Side : Type 0 where
+  pub lanes : List Lane
+  pub tails : List ℕ
+  pub controllers : List Controller
+
+-- the tails of the submission rings as the physical controller has them
+abbrev pub tails_of : List DeviceLane → List ℕ
+tails_of ds = map (λ d. d.tail) ds
+
+-- the physical controller's side of the lanes once the doorbells were rung with these tails
+abbrev pub rung_with : (tails : List ℕ) → List DeviceLane → List DeviceLane
+rung_with [] ds = ds
+rung_with (tail ∷ tails) [] = []
+rung_with (tail ∷ tails) (d ∷ ds) = record d { tail = tail } ∷ rung_with tails ds
+
+-- a world has this side, its host is that memory, and it is as events leave it: consistent, and with the phase tags of its passes
+pub record IsSideOf (geometry : Geometry) (side : Side) (memory : List ℕ) (w : World) : Type 0 where
+  pub host : w.host ≡ byte_in memory
+  pub lanes : w.lanes ≡ side.lanes
+  pub controllers : w.controllers ≡ side.controllers
+  pub tails : tails_of w.device ≡ side.tails
+  pub laid_out : IsLaidOut (length memory) (length side.lanes) geometry
+  pub consistent : IsConsistent geometry w
+  pub phased : ArePhased geometry w
+
+-- the side is that of some world
+pub record IsInWorld (geometry : Geometry) (side : Side) : Type 0 where
+  pub memory : List ℕ
+  pub world : World
+  pub is : IsSideOf geometry side memory world
+
+-- there is such a world
+pub record HasWorld (geometry : Geometry) (side : Side) (memory : List ℕ) : Type 0 where
+  pub world : World
+  pub is : IsSideOf geometry side memory world
+
+-- the world with another side and memory, and with the doorbells rung
+abbrev pub with_side : Side → (memory : List ℕ) → World → World
+with_side side memory w =
+    record w { host = byte_in memory; device = rung_with side.tails w.device; lanes = side.lanes; controllers = side.controllers }
+
+-- in every world that has this side and memory the event is the definition's step: it leaves that side and memory, and is answered so
+abbrev pub IsSideStep : Geometry → Event → (old : Side) → (before : List ℕ) → Reply → (new : Side) → (after : List ℕ) → Type 0
+IsSideStep geometry e old before r new after =
+    (w : World) → IsSideOf geometry old before w → (let a : After = record { world = with_side new after w; reply = r } in a) ≡ step geometry e w
+
+-- the tail of one lane's ring alone has moved
+pub record HasTailMoved (lane : ℕ) (old new : List ℕ) : Type 0 where
+  pub tail : ℕ
+  pub fits : tail < ring_size
+  pub is : new ≡ slice_set old lane tail
+
+-- no tail has moved, neither the physical controller's nor the side's
+abbrev pub TailsStay : (old new : List DeviceLane) → (before after : Side) → Type 0
+TailsStay old new before after = (tails_of new ≡ tails_of old) × (after.tails ≡ before.tails)
+
+-- one more taken command of each queue of a guest can be counted
+abbrev pub CountMore : (guest : ℕ) → List Controller → Type 0
+CountMore guest controllers =
+    (c : Controller) (queue : ℕ) → slice_get controllers guest ≡ Some c → slice_index c.taken queue < most_taken
+
+-- the side at the start, with so many lanes
+abbrev pub opening_side : Geometry → (lanes : ℕ) → Side
+opening_side geometry lanes =
+    record {
+      lanes = replicate lanes opening_lane;
+      tails = replicate lanes 0;
+      controllers = replicate (length geometry.guests) opening;
+    }
