@@ -7,8 +7,10 @@ use Rattle.std.proofs.lemmas.Option.{slice_get_past}
 use Rattle.std.specs.List.{slice_index_or}
 use Rattle.nv_core.proofs.Handed.{lane-there}
 use Rattle.nv_core.proofs.LentHost.{after-lent}
-use Rattle.nv_core.proofs.Sides.{length-tails, rung-one, rung-same, set-nowhere, tail-of}
-use Rattle.nv_core.specs.Front.{HasTailMoved, HasWorld, IsInWorld, IsSideOf, IsSideStep, Side, rung_with, tails_of}
+use Rattle.nv_core.proofs.Sides.{rung-one, rung-same, set-nowhere}
+use Rattle.nv_core.proofs.KeptStates.{kept-of, length-tails, tail-of}
+use Rattle.nv_core.specs.Front.{HasTailMoved, IsLive, IsLiveStep, IsSideOf, IsSideStep, Side, rung_with, tails_of, with_side}
+use Rattle.nv_core.specs.Kept.{AreKept, IsKept, IsLent}
 use Rattle.nv_core.specs.Seat.{IsLoaded}
 use Rattle.nv_core.specs.State.{IsOf, IsStep, State, world_of}
 use Rattle.nv_device.specs.Moving.{IsMoved, unit_of}
@@ -27,7 +29,7 @@ use Rattle.nv_model.specs.declared.reply.Reply.TheVariants as reply
 use Rattle.nv_world_model.specs.Device.{DeviceLane, Held, completion_posted, entry_taken, held_status, opening_device_lane, unit_gone, with_held}
 use Rattle.nv_world_model.specs.Due.{due}
 use Rattle.nv_world_model.specs.Geometry.{Geometry}
-use Rattle.nv_world_model.specs.Step.{After}
+use Rattle.nv_world_model.specs.Step.{After, step}
 use Rattle.nv_world_model.proofs.Seats.{slice_get-set}
 use Rattle.nv_world_model.specs.World.{World}
 use Rattle.nv_world_model.specs.declared.event.Event.{Event}
@@ -127,36 +129,40 @@ module _ (geometry : Geometry) (host : List ℕ) (device : Physical) (front : Si
   of-here : IsOf geometry s
   of-here = subst (IsOf geometry) (sym same) of
 
-  pub side-here : IsSideOf geometry front host (world_of s)
-  side-here =
-      record {
-        host = refl;
-        lanes = refl;
-        controllers = refl;
-        tails = rung;
-        laid_out = of-here.laid_out;
-        consistent = of-here.consistent;
-        phased = of-here.phased;
-      }
+  pub side-here : IsSideOf front host (world_of s)
+  side-here = record { host = refl; lanes = refl; controllers = refl; tails = rung }
 
-  pub has-world : HasWorld geometry front host
-  has-world = record { world = world_of s; is = side-here }
+  pub live-here : IsLive geometry (world_of s)
+  live-here = record { consistent = of-here.consistent; phased = of-here.phased }
 
-  pub in-world : IsInWorld geometry front
-  in-world = record { memory = host; world = world_of s; is = side-here }
+  pub kept-here : IsKept geometry front
+  kept-here = subst (λ (ts : List ℕ). AreKept geometry front.lanes ts front.controllers) rung (kept-of geometry s of-here).kept
+
+  pub lent-here : IsLent geometry front host
+  lent-here = record { laid_out = of-here.laid_out; kept = kept-here }
 
   -- a call that rings no doorbell
-  pub quiet-step : (e : Event) (r : Reply) (new : Side) (after : List ℕ) → IsSideStep geometry e front host r new after → new.tails ≡ front.tails
+  quiet-at : (e : Event) (r : Reply) (new : Side) (after : List ℕ)
+      → (let a : After = record { world = with_side new after (world_of s); reply = r } in a) ≡ step geometry e (world_of s) → new.tails ≡ front.tails
       → length after ≡ length host → IsStep geometry e old r (record s { host = after; lanes = new.lanes; controllers = new.controllers })
-  quiet-step e r new after made stays sized =
+  quiet-at e r new after made stays sized =
       subst (λ (o : State). IsStep geometry e o r (record s { host = after; lanes = new.lanes; controllers = new.controllers })) same
       (record {
         after =
             ap (λ (ds : List DeviceLane). let a : After = record { world = record (world_of s) { host = byte_in after; device = ds; lanes = new.lanes; controllers = new.controllers }; reply = r } in a)
             (sym (ap (λ (ts : List ℕ). rung_with ts device.lanes) (stays ∙ sym rung) ∙ rung-same device.lanes))
-            ∙ made (world_of s) side-here;
+            ∙ made;
         size = record { host = sized; mediator = refl; blocks = refl };
       })
+
+  pub quiet-step : (e : Event) (r : Reply) (new : Side) (after : List ℕ) → IsSideStep geometry e front host r new after → new.tails ≡ front.tails
+      → length after ≡ length host → IsStep geometry e old r (record s { host = after; lanes = new.lanes; controllers = new.controllers })
+  quiet-step e r new after made stays sized = quiet-at e r new after (made (world_of s) side-here) stays sized
+
+  -- one that needs a world as events leave it
+  pub live-step : (e : Event) (r : Reply) (new : Side) → IsLiveStep geometry e front host r new host → new.tails ≡ front.tails
+      → IsStep geometry e old r (record s { lanes = new.lanes; controllers = new.controllers })
+  live-step e r new made stays = quiet-at e r new host (made (world_of s) side-here live-here) stays refl
 
   -- one after which doorbells are rung
   pub rung-step : (e : Event) (r : Reply) (new : Side) (after : List ℕ) → IsSideStep geometry e front host r new after → length after ≡ length host
@@ -167,7 +173,7 @@ module _ (geometry : Geometry) (host : List ℕ) (device : Physical) (front : Si
       (record s { host = after; device = record device { lanes = rung_with new.tails device.lanes }; lanes = new.lanes; controllers = new.controllers })) same
       (record { after = made (world_of s) side-here; size = record { host = sized; mediator = refl; blocks = refl } })
 
-  pub due-here : (e : Event) (b : Bool) → ((w : World) → IsSideOf geometry front host w → b ≡ due geometry e w) → b ≡ due geometry e (world_of old)
+  pub due-here : (e : Event) (b : Bool) → ((w : World) → IsSideOf front host w → b ≡ due geometry e w) → b ≡ due geometry e (world_of old)
   due-here e b is = is (world_of s) side-here ∙ ap (λ (o : State). due geometry e (world_of o)) same
 
 -- the same where the host is lent as a slice of one
@@ -182,10 +188,10 @@ module _ (geometry : Geometry) (hosts : List (List ℕ)) (host : List ℕ) (is :
       ap (λ (h : List ℕ). let s : State = record { host = h; device = device; lanes = front.lanes; controllers = front.controllers } in s) (ap bytes_of_hosts is)
       ∙ same
 
-  pub lent-world : HasWorld geometry front lent
-  lent-world = has-world geometry lent device front old lent-same of rung
+  pub lent-kept : IsLent geometry front lent
+  lent-kept = lent-here geometry lent device front old lent-same of rung
 
-  pub lent-due : (e : Event) (b : Bool) → ((w : World) → IsSideOf geometry front lent w → b ≡ due geometry e w) → b ≡ due geometry e (world_of old)
+  pub lent-due : (e : Event) (b : Bool) → ((w : World) → IsSideOf front lent w → b ≡ due geometry e w) → b ≡ due geometry e (world_of old)
   lent-due e b holds = due-here geometry lent device front old lent-same of rung e b holds
 
   -- for a call that reads it
@@ -194,6 +200,22 @@ module _ (geometry : Geometry) (hosts : List (List ℕ)) (host : List ℕ) (is :
   shown-step e r new made stays =
       subst (λ (h : List ℕ). IsStep geometry e old r (record { host = h; device = device; lanes = new.lanes; controllers = new.controllers })) (ap bytes_of_hosts is)
       (quiet-step geometry lent device front old lent-same of rung e r new lent made stays refl)
+
+  -- and for one that needs a world as events leave it
+  pub shown-live : (e : Event) (r : Reply) (new : Side) → IsLiveStep geometry e front lent r new lent → new.tails ≡ front.tails
+      → IsStep geometry e old r (record { host = host; device = device; lanes = new.lanes; controllers = new.controllers })
+  shown-live e r new made stays =
+      subst (λ (h : List ℕ). IsStep geometry e old r (record { host = h; device = device; lanes = new.lanes; controllers = new.controllers })) (ap bytes_of_hosts is)
+      (live-step geometry lent device front old lent-same of rung e r new made stays)
+
+  pub lent-side : IsSideOf front lent (world_of (record { host = lent; device = device; lanes = front.lanes; controllers = front.controllers }))
+  lent-side = side-here geometry lent device front old lent-same of rung
+
+  pub lent-live : IsLive geometry (world_of (record { host = lent; device = device; lanes = front.lanes; controllers = front.controllers }))
+  lent-live = live-here geometry lent device front old lent-same of rung
+
+  pub lent-due-live : (e : Event) (b : Bool) → ((w : World) → IsSideOf front lent w → IsLive geometry w → b ≡ due geometry e w) → b ≡ due geometry e (world_of old)
+  lent-due-live e b holds = holds _ lent-side lent-live ∙ ap (λ (o : State). due geometry e (world_of o)) lent-same
 
   -- for one that stores to it
   module _ (after : List (List ℕ)) (sized : length (bytes_of_hosts after) ≡ length lent) where

@@ -4,6 +4,7 @@ use Rattle.std.proofs.Common.{refl, sym, ap, ◌∙◌, arith}
 use Rattle.std.specs.List.{list_any}
 use Rattle.nv_admin.specs.Event.{is_stepped}
 use Rattle.nv_core.specs.Groups.{statuses_in}
+use Rattle.nv_core.proofs.KeptStates.{IsKeptOf, length-tails}
 use Rattle.nv_core.specs.State.{IsOf, IsStep, State, world_of}
 use Rattle.nv_core.specs.Tags.{unended, unled}
 use Rattle.nv_core.specs.Take.{is_front_takeable}
@@ -119,14 +120,14 @@ lowest-same test other (Some number) same lowest = (same number ∙ lowest.0, λ
 
 -- ---- Reap
 
-pub reap-due : (geometry : Geometry) (s : State) (is : IsOf geometry s) (lane i : ℕ) (l : Lane) → i ≡ lane → i < length s.lanes → l ≡ get_or s.lanes i l
+pub reap-due : (geometry : Geometry) (s : State) (is : IsKeptOf geometry s) (lane i : ℕ) (l : Lane) → i ≡ lane → i < length s.lanes → l ≡ get_or s.lanes i l
     → due geometry (event.Reap lane) (world_of s) ≡ not (l.head == (lane_of s.device lane).posted)
 unfolding step
 reap-due geometry s is lane i l at below has =
     let w = world_of s in
     let d = lane_of s.device lane in
     let found = looked-up s.lanes lane i l at below has in
-    let there : slice_get s.device.lanes lane ≡ Some d = slice_get-or s.device.lanes lane no_lane (let sides = is.consistent.of_tags.sides in omega arith) in
+    let there : slice_get s.device.lanes lane ≡ Some d = slice_get-or s.device.lanes lane no_lane (let many = is.kept.many in let sides = length-tails s.device.lanes in omega (arith, many, sides, at, below)) in
     due-by geometry (event.Reap lane) w (reap geometry lane l d w)
     (ap (λ (x : Option Lane). for_one x w (λ k. for_one (slice_get w.device lane) w (λ e. reap geometry lane k e w))) found
     ∙ ap (λ (x : Option DeviceLane). for_one x w (λ e. reap geometry lane l e w)) there)

@@ -5,7 +5,8 @@ use Rattle.std.proofs.lemmas.List.Elements.{All-weaker}
 use Rattle.std.proofs.lemmas.Option.{slice_get_read, slice_get_within}
 use Rattle.nv_core.specs.Ending.{IsEnded}
 use Rattle.nv_core.specs.Groups.{AreTaken, all_ended, statuses_in, tags_changed}
-use Rattle.nv_core.specs.State.{IsOf, State, world_of}
+use Rattle.nv_core.specs.Kept.{IsKeptLane}
+use Rattle.nv_core.specs.State.{State, world_of}
 use Rattle.nv_core.specs.Tags.{IsTaken, state_in, unended, unled, untaken}
 use Rattle.nv_entry.specs.Status.{StatusField}
 use Rattle.nv_entry.specs.StatusCode.{done_with}
@@ -166,9 +167,9 @@ taken-step w lane tag t more =
     ∙ leads tag t.command w (more t.command t.reads) t.led
 
 -- all its tags were taken
-pub all-taken : (geometry : Geometry) (s : State) (is : IsOf geometry s) (lane tag i : ℕ) (l : Lane) → IsTakenHere s.lanes lane tag → i ≡ lane
+pub all-taken : (geometry : Geometry) (s : State) (lane tag i : ℕ) (l : Lane) → IsKeptLane geometry l → IsTakenHere s.lanes lane tag → i ≡ lane
     → l ≡ get_or s.lanes i l → AreTaken (group_in (Some l) tag) l
-all-taken geometry s is lane tag i l t at has =
+all-taken geometry s lane tag i l fine t at has =
     let w = world_of s in
     let found = taken-found s.lanes lane tag t i l at has in
     let there = taken-there s.lanes lane tag t i l at has in
@@ -176,7 +177,7 @@ all-taken geometry s is lane tag i l t at has =
     (All-weaker (HasTag (IsTakenBy t.command) w lane) (λ n. state_in (slice_get l.tags n) ≡ Some state.Taken)
     (λ n h. ap (λ (o : Option Lane). state_in (tag_in o n)) (sym found) ∙ ap state_in (h.is ∙ ap (λ (u : Tag). Some u) h.has.is))
     (group w lane tag)
-    (taken-tags geometry w lane tag l t.command t.reads found (is.consistent.groups lane l found)
+    (taken-tags geometry w lane tag l t.command t.reads found fine.groups
     (ap (λ (o : Option Lane). tag_in o tag) found ∙ there) t.led))
 
 -- ---- a command whose first part has ended, by the tag that it goes by

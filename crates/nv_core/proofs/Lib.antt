@@ -1,3 +1,4 @@
+pub mod KeptStates
 pub mod Placed
 pub mod Clear
 pub mod LentHost

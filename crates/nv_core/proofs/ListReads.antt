@@ -2,7 +2,8 @@
 use Rattle.std.proofs.Common.{◌≡◌, ℕ, ◌&&◌, Bool, true, false, cond, List, [], ◌∷◌, ◌++◌, get_or, set, slice_get, Option, Some, None, arith, refl, sym, ap, ◌∙◌, subst}
 use Rattle.std.proofs.lemmas.Option.{slice_get_within}
 use Rattle.std.specs.Prelude.{nat_le}
-use Rattle.nv_core.specs.State.{IsOf, IsStep, State, world_of}
+use Rattle.nv_core.proofs.KeptStates.{IsKeptOf}
+use Rattle.nv_core.specs.State.{IsStep, State, world_of}
 use Rattle.nv_core.specs.Tags.{untaken}
 use Rattle.nv_core.proofs.GroupWorlds.{IsTakenHere, not-taken, taken-found, taken-step, taken-there}
 use Rattle.nv_core.proofs.Placed.{owner, owner-there, same-size}
@@ -48,11 +49,11 @@ module _ (geometry : Geometry) (s old : State) (lane tag addr len : ℕ) where
           size = same-size s;
         }
 
-    module _ (guest : Guest) (of : IsOf geometry s) (there : slice_get geometry.guests t.command.guest ≡ Some guest) where
+    module _ (guest : Guest) (of : IsKeptOf geometry s) (there : slice_get geometry.guests t.command.guest ≡ Some guest) where
       abbrev pub has : (c : Controller) × (slice_get s.controllers t.command.guest ≡ Some c)
       has =
           let below = slice_get_within geometry.guests t.command.guest guest there in
-          let many = of.consistent.of_tags.controllers in
+          let many = of.kept.controllers in
           slice_get-there s.controllers t.command.guest (omega arith)
 
       abbrev pub who : Owner

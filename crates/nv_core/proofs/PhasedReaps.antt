@@ -2,7 +2,7 @@
 use Rattle.std.proofs.Common.{◌≡◌, ℕ, ◌<◌, ◌≤◌, ◌⊎◌, inl, inr, Bool, true, false, not, ◌==◌, eq-eqb, List, length, get_or, slice_get, Some, arith, refl, sym, ap, ◌∙◌, subst}
 use Rattle.std.proofs.lemmas.Bool.{cases_eq, cases_lt, ne_eqb}
 use Rattle.std.specs.Prelude.{◌↔◌, IsTrue, ◌≢◌}
-use Rattle.nv_core.specs.Front.{IsSideOf, Side}
+use Rattle.nv_core.specs.Front.{IsLive, IsSideOf, Side}
 use Rattle.nv_core.proofs.GroupWorlds.{looked-up}
 use Rattle.nv_core.proofs.Reaps.{slice_get-or}
 use Rattle.nv_device.specs.Physical.{no_lane}
@@ -88,8 +88,8 @@ module _ (geometry : Geometry) (host : ℕ → ℕ) (lane head : ℕ) (wanted : 
         by (inr other) = equals p q (read-as p n wanted iff (reads ∙ one-waits other) ∙ sym wants) ∙ ap not (sym (ne_eqb head posted other))
 
 -- a lane of a world with this side
-module _ (geometry : Geometry) (side : Side) (memory : List ℕ) (w : World) (is : IsSideOf geometry side memory w) (lane i : ℕ) (l : Lane) (at : i ≡ lane)
-    (below : i < length side.lanes) (has : l ≡ get_or side.lanes i l) where
+module _ (geometry : Geometry) (side : Side) (memory : List ℕ) (w : World) (is : IsSideOf side memory w) (live : IsLive geometry w) (lane i : ℕ) (l : Lane)
+    (at : i ≡ lane) (below : i < length side.lanes) (has : l ≡ get_or side.lanes i l) where
   abbrev pub d : DeviceLane
   d = slice_index_or w.device lane no_lane
 
@@ -99,10 +99,10 @@ module _ (geometry : Geometry) (side : Side) (memory : List ℕ) (w : World) (is
   there : slice_get w.device lane ≡ Some d
   there =
       slice_get-or w.device lane no_lane
-      (let sides = is.consistent.of_tags.sides in let many : length w.lanes ≡ length side.lanes = ap (λ (ls : List Lane). length ls) is.lanes in omega (arith, sides, many, at, below))
+      (let sides = live.consistent.of_tags.sides in let many : length w.lanes ≡ length side.lanes = ap (λ (ls : List Lane). length ls) is.lanes in omega (arith, sides, many, at, below))
 
   pub phased : IsPhased geometry (byte_in memory) lane l.head l.phase d.posted d.phase
-  phased = subst (λ (h : ℕ → ℕ). IsPhased geometry h lane l.head l.phase d.posted d.phase) is.host (is.phased lane l d found there)
+  phased = subst (λ (h : ℕ → ℕ). IsPhased geometry h lane l.head l.phase d.posted d.phase) is.host (live.phased lane l d found there)
 
   pub low : l.head < ring_size
-  low = (is.consistent.of_tags.lanes lane l d found there).positions.read
+  low = (live.consistent.of_tags.lanes lane l d found there).positions.read

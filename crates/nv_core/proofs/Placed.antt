@@ -5,6 +5,7 @@ use Rattle.std.proofs.lemmas.Option.{slice_get_read, slice_get_within}
 use Rattle.std.specs.Prelude.{nat_le}
 use Rattle.nv_admin.specs.Event.{controller_behind, host_behind, reply_of}
 use Rattle.nv_core.specs.Seat.{IsActed, IsActedAs, IsLoaded, seated, told_by}
+use Rattle.nv_core.proofs.KeptStates.{IsKeptOf}
 use Rattle.nv_core.specs.State.{IsOf, IsSameSize, IsStep, State, world_of}
 use Rattle.nv_laws_sound.proofs.Lists.{set-same, slice_get-there}
 use Rattle.nv_mem.specs.GuestMap.{IsSound, Mapping, all_mapped, everywhere, mapped}
@@ -234,22 +235,21 @@ module _ (geometry : Geometry) (s old : State) (number : ℕ) where
   admin-nobody none = record { after = sym (no-guest geometry (world_of s) number _ none); size = same-size s }
 
   -- each guest has a controller
-  pub has-controller : (guest : Guest) → IsOf geometry s → slice_get geometry.guests number ≡ Some guest → length s.controllers ≤ number → ⊥
-  has-controller guest is there past =
+  pub has-controller : (guest : Guest) → length s.controllers ≡ length geometry.guests → slice_get geometry.guests number ≡ Some guest → length s.controllers ≤ number → ⊥
+  has-controller guest many there past =
       let below = slice_get_within geometry.guests number guest there in
-      let many = is.consistent.of_tags.controllers in
-      omega arith
+      omega (arith, below, many, past)
 
   -- a guest's map was made for the host
-  pub made-for : (guest : Guest) (m : Mapping) → s ≡ old → IsOf geometry old → slice_get geometry.guests number ≡ Some guest
+  pub made-for : (guest : Guest) (m : Mapping) → s ≡ old → IsKeptOf geometry old → slice_get geometry.guests number ≡ Some guest
       → m ≡ guest.memory_map → m.host_len ≡ length s.host
   made-for guest m same is there same_map =
-      let here = subst (λ (o : State). IsOf geometry o) (sym same) is in
+      let here = subst (λ (o : State). IsKeptOf geometry o) (sym same) is in
       ap (λ (k : Mapping). k.host_len) same_map ∙ (here.laid_out.given number guest there).host
 
   -- the guest's act
   pub act-done : (i : ℕ) (guest : Guest) (c c_new : Controller) (a : Act) (r : Reply) (host_new : List ℕ)
-      → s ≡ old → IsOf geometry old → i ≡ number → i < length s.controllers → c ≡ get_or s.controllers i c
+      → s ≡ old → IsKeptOf geometry old → i ≡ number → i < length s.controllers → c ≡ get_or s.controllers i c
       → slice_get geometry.guests number ≡ Some guest
       → IsActed guest a (byte_in s.host) c r (byte_in host_new) c_new → length host_new ≡ length s.host
       → IsStep geometry (event.Guest number a) old r (record s { host = host_new; controllers = set s.controllers i c_new })
@@ -264,16 +264,16 @@ module _ (geometry : Geometry) (s old : State) (number : ℕ) where
       }))
 
   -- the controller of a guest that is there
-  pub controller-of : (guest : Guest) → s ≡ old → IsOf geometry old → slice_get geometry.guests number ≡ Some guest
+  pub controller-of : (guest : Guest) → s ≡ old → IsKeptOf geometry old → slice_get geometry.guests number ≡ Some guest
       → (c : Controller) × (slice_get s.controllers number ≡ Some c)
   controller-of guest same is there =
-      let here = subst (λ (o : State). IsOf geometry o) (sym same) is in
-      let many = here.consistent.of_tags.controllers in
+      let here = subst (λ (o : State). IsKeptOf geometry o) (sym same) is in
+      let many = here.kept.controllers in
       let below = slice_get_within geometry.guests number guest there in
       slice_get-there s.controllers number (omega (arith, many, below))
 
   -- an act that leaves the guest's controller as it is
-  pub act-beside : (guest : Guest) (a : Act) (r : Reply) (host_new : List ℕ) → s ≡ old → IsOf geometry old → slice_get geometry.guests number ≡ Some guest
+  pub act-beside : (guest : Guest) (a : Act) (r : Reply) (host_new : List ℕ) → s ≡ old → IsKeptOf geometry old → slice_get geometry.guests number ≡ Some guest
       → ((c : Controller) → IsActed guest a (byte_in s.host) c r (byte_in host_new) c) → length host_new ≡ length s.host
       → IsStep geometry (event.Guest number a) old r (record s { host = host_new })
   act-beside guest a r host_new same is there acts sized =
@@ -284,12 +284,12 @@ module _ (geometry : Geometry) (s old : State) (number : ℕ) where
             ap (λ (cs : List Controller). let x : After = record { world = record (world_of s) { host = byte_in host_new; controllers = cs }; reply = r } in x)
             (sym (set-same s.controllers number found.0 found.1))
             ∙ act-step geometry (world_of s) number guest found.0 found.0 a r (byte_in host_new)
-            ((subst (λ (o : State). IsOf geometry o) (sym same) is).laid_out.given number guest there).sound there found.1 (acts found.0);
+            ((subst (λ (o : State). IsKeptOf geometry o) (sym same) is).laid_out.given number guest there).sound there found.1 (acts found.0);
         size = record { host = sized; mediator = refl; blocks = refl };
       })
 
   -- an act that leaves the host as it is, too
-  pub act-quiet : (guest : Guest) (c : Controller) (a : Act) (r : Reply) → s ≡ old → IsOf geometry old → slice_get geometry.guests number ≡ Some guest
+  pub act-quiet : (guest : Guest) (c : Controller) (a : Act) (r : Reply) → s ≡ old → IsKeptOf geometry old → slice_get geometry.guests number ≡ Some guest
       → slice_get s.controllers number ≡ Some c → IsActed guest a (byte_in s.host) c r (byte_in s.host) c
       → IsStep geometry (event.Guest number a) old r old
   act-quiet guest c a r same is there has acts =
@@ -298,11 +298,11 @@ module _ (geometry : Geometry) (s old : State) (number : ℕ) where
         after =
             ap (λ (w : World). let x : After = record { world = w; reply = r } in x) (sym (placed-same number (byte_in s.host) c (world_of s) has refl))
             ∙ act-step geometry (world_of s) number guest c c a r (byte_in s.host)
-            ((subst (λ (o : State). IsOf geometry o) (sym same) is).laid_out.given number guest there).sound there has acts;
+            ((subst (λ (o : State). IsKeptOf geometry o) (sym same) is).laid_out.given number guest there).sound there has acts;
         size = same-size s;
       })
 
-  pub load-quiet : (guest : Guest) (a : Act) (r : Reply) (before after : List ℕ) → s ≡ old → IsOf geometry old → slice_get geometry.guests number ≡ Some guest
+  pub load-quiet : (guest : Guest) (a : Act) (r : Reply) (before after : List ℕ) → s ≡ old → IsKeptOf geometry old → slice_get geometry.guests number ≡ Some guest
       → ((c : Controller) → IsLoaded (λ x. IsActed guest a (byte_in s.host) c x (byte_in s.host) c) r before after)
       → IsLoaded (λ x. IsStep geometry (event.Guest number a) old x old) r before after
   load-quiet guest a r before after same is there acts =
@@ -319,11 +319,11 @@ module _ (geometry : Geometry) (s old : State) (number : ℕ) where
       subst (λ (k : ℕ). slice_get s.controllers k ≡ Some c) at (slice_get_read s.controllers (length s.controllers) i c refl below has)
 
   -- the queues of a guest lie in its map
-  pub in-place : (i : ℕ) (guest : Guest) (c : Controller) (m : Mapping) → s ≡ old → IsOf geometry old → i ≡ number → i < length s.controllers
+  pub in-place : (i : ℕ) (guest : Guest) (c : Controller) (m : Mapping) → s ≡ old → IsKeptOf geometry old → i ≡ number → i < length s.controllers
       → c ≡ get_or s.controllers i c → slice_get geometry.guests number ≡ Some guest → m ≡ guest.memory_map → QueuesInPlace (mapped m.regions) c
   in-place i guest c m same is at below has there same_map =
-      let here = subst (λ (o : State). IsOf geometry o) (sym same) is in
-      subst (λ (k : Mapping). QueuesInPlace (mapped k.regions) c) (sym same_map) (here.consistent.of_tags.queues number guest c there (found-at i c at below has))
+      let here = subst (λ (o : State). IsKeptOf geometry o) (sym same) is in
+      subst (λ (k : Mapping). QueuesInPlace (mapped k.regions) c) (sym same_map) (here.kept.queues number guest c there (found-at i c at below has))
 
   -- the event of the guest's admin queue
   pub admin-done : (i : ℕ) (guest : Guest) (c c_new : Controller) (m : Mapping) (blocks : ℕ) (r : Reply) (host_new : List ℕ)

@@ -18,9 +18,9 @@ use Rattle.nv_laws_sound.proofs.Lists.{slice_get-below, some-same}
 use Rattle.nv_laws_sound.proofs.Numbers.{Passes, all-at, numbers-length, numbers-pass, numbers_where}
 use Rattle.nv_laws_sound.proofs.OwnWork.{own-of}
 use Rattle.nv_laws_sound.proofs.PlanSizes.{own-few, planned-kinds}
-use Rattle.nv_laws_sound.proofs.Retags.{is-at, tag-is}
 use Rattle.nv_laws_sound.proofs.Stages.{filter-at}
-use Rattle.nv_laws_sound.specs.Consistent.{IsConsistent, IsPlanned}
+use Rattle.nv_core.specs.Kept.{IsKeptLane}
+use Rattle.nv_laws_sound.specs.Consistent.{IsPlanned}
 use Rattle.nv_laws_sound.specs.Groups.{AtOnce, Handed, Part, command_of, goes_by, group_of, part_of, parts_of}
 use Rattle.nv_laws_sound.specs.LaidOut.{IsLaidOut}
 use Rattle.nv_mem.specs.GuestMap.{guest_of, mapped}
@@ -33,7 +33,7 @@ use Rattle.nv_world_model.specs.Geometry.{Geometry, Guest, regions_of, shape_of}
 use Rattle.nv_world_model.specs.Plan.{Plan}
 use Rattle.nv_world_model.specs.Share.{Share, shares_of}
 use Rattle.nv_world_model.specs.Step.{deciding, ended_status, is_success, status_before}
-use Rattle.nv_world_model.specs.World.{Command, Ended, Flying, Free, Lane, Tag, Taken, World, group_in, tag_in, tag_of}
+use Rattle.nv_world_model.specs.World.{Command, Ended, Flying, Free, Lane, Tag, Taken, World, group_in}
 
 -- ---- a part that may be delivered
 
@@ -106,7 +106,7 @@ ended-handed (Ended c x (Some s)) command share st part ended =
 
 -- ---- the tags of a command that has ended
 
-module _ (geometry : Geometry) (w : World) (lane tag : ℕ) (l : Lane) (at : slice_get w.lanes lane ≡ Some l) (fine : IsConsistent geometry w)
+module _ (geometry : Geometry) (w : World) (lane tag : ℕ) (l : Lane) (at : slice_get w.lanes lane ≡ Some l) (fine : IsKeptLane geometry l)
     (command : Command) (first_st : StatusField) (share : Option Share) (found : slice_get l.tags tag ≡ Some (Ended command first_st share))
     (leads : command.leader ≡ tag) where
   abbrev parts : List Part
@@ -139,15 +139,15 @@ module _ (geometry : Geometry) (w : World) (lane tag : ℕ) (l : Lane) (at : sli
           let many = numbers-length (goes_by tag) parts in
           let none = ap length same in absurd (omega (arith, below, many, none))
       by (n ∷ rest) same =
-          let leader = first-leader geometry parts tag first command n rest (fine.groups lane l at) there has leads same in
+          let leader = first-leader geometry parts tag first command n rest fine.groups there has leads same in
           (rest, group-is ∙ same ∙ ap (λ (k : ℕ). k ∷ rest) leader)
 
   -- of one that ended at once the first decides, which failed
   at-once-fails : share ≡ None → (st : StatusField) → option_map deciding (statuses_in (group_in (Some l) tag) l) ≡ Some st → is_success st ≡ false
   at-once-fails none st e =
       let part_is : slice_get parts tag ≡ Some (AtOnce command first_st) = there ∙ ap (λ (x : Option Share). Some (part_of (Ended command first_st x))) none in
-      let all = answered-group geometry parts tag tag command first_st (fine.groups lane l at) part_is leads in
-      let one = answered-first geometry parts tag command first_st (fine.groups lane l at) part_is leads all in
+      let all = answered-group geometry parts tag tag command first_st fine.groups part_is leads in
+      let one = answered-first geometry parts tag command first_st fine.groups part_is leads all in
       let fails : is_success first_st ≡ false = ap is_success (sym one) ∙ all.fails in
       let d = decided-by (statuses_in (group_in (Some l) tag) l) st e in
       let are = first-and (ended_status (slice_get l.tags tag)) (statuses_in group-starts.0 l) d.sts
@@ -198,13 +198,11 @@ module _ (geometry : Geometry) (w : World) (lane tag : ℕ) (l : Lane) (at : sli
           let tag_now : x.t ≡ Ended command ended.st (Some handed.own) =
           ended-handed x.t command handed.own ended.st (x.part_is ∙ handed.is) (ap ended_status (sym x.is) ∙ ended.is) in
           let here : slice_get l.tags n ≡ Some (Ended command ended.st (Some handed.own)) = x.is ∙ ap (λ (t : Tag). Some t) tag_now in
-          let in_world : tag_of w lane n ≡ Some (Ended command ended.st (Some handed.own)) = ap (λ (o : Option Lane). tag_in o n) at ∙ here in
-          let place = is-at geometry w lane n (Ended command ended.st (Some handed.own)) fine.of_tags in_world in
-          let taken = tag-is geometry w lane n (Ended command ended.st (Some handed.own)) fine.of_tags place in
+          let taken = fine.tags n (Ended command ended.st (Some handed.own)) here in
           let planned : IsPlanned guest command.entry handed.own =
           subst (λ (g : Guest). IsPlanned g command.entry handed.own) (some-same taken.guest guest (sym taken.is.given ∙ given)) taken.planned in
-          let sized = (fine.of_tags.lanes lane place.l place.d place.at_lane place.at_device).positions.tags in
-          let among_tags = slice_get-below place.l.tags n (Ended command ended.st (Some handed.own)) place.at_tag in
+          let sized = fine.tags_are in
+          let among_tags = slice_get-below l.tags n (Ended command ended.st (Some handed.own)) here in
           let below : n < tag_count = omega (arith, sized, among_tags) in
           record {
             command = command;
@@ -234,7 +232,7 @@ module _ (geometry : Geometry) (w : World) (lane tag : ℕ) (l : Lane) (at : sli
         by None none = let bad : true ≡ false = sym went ∙ at-once-fails none st e in cc
         by (Some s) is =
             let part_is : slice_get parts tag ≡ Some (Handed command s) = there ∙ ap (λ (x : Option Share). Some (part_of (Ended command first_st x))) is in
-            let handed = handed-group geometry parts tag tag command s (fine.groups lane l at) part_is leads in
+            let handed = handed-group geometry parts tag tag command s fine.groups part_is leads in
             let all : group_of tag parts ≡ map (Handed command) (shares_of guest.namespace command.entry s.whole) =
             handed.all
             ∙ ap (λ (g : Guest). map (Handed command) (shares_of g.namespace command.entry s.whole)) (some-same handed.guest guest (sym handed.given ∙ given)) in

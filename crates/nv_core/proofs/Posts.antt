@@ -5,7 +5,8 @@ use Rattle.std.specs.Option.{option_map}
 use Rattle.std.proofs.lemmas.Option.{slice_get_within}
 use Rattle.nv_core.specs.Ending.{AreParts, MaySettle, Settled, delivered_host, part_delivered, settled, settled_by, tag_delivered, tags_delivered}
 use Rattle.nv_core.specs.Groups.{statuses_in, tags_changed}
-use Rattle.nv_core.specs.State.{IsOf, IsStep, State, world_of}
+use Rattle.nv_core.proofs.KeptStates.{IsKeptOf}
+use Rattle.nv_core.specs.State.{IsStep, State, world_of}
 use Rattle.nv_core.specs.Submit.{IsPlaced}
 use Rattle.nv_core.specs.Tags.{unended}
 use Rattle.nv_core.proofs.GroupWorlds.{IsEndedHere, ended-below, ended-found, ended-step, ended-there, group-lane, looked-up, not-ended, statuses-lane, with_lane_at, with_tags-lane}
@@ -13,7 +14,6 @@ use Rattle.nv_core.proofs.Placed.{owner, owner-there, same-size}
 use Rattle.nv_core.proofs.PostParts.{parts-of}
 use Rattle.nv_entry.specs.Status.{StatusField}
 use Rattle.nv_entry.specs.Submission.{cid_of}
-use Rattle.nv_laws_sound.proofs.CountedEvents.{tags-sized}
 use Rattle.nv_laws_sound.proofs.CountedTags.{commands-at, owned-by}
 use Rattle.nv_laws_sound.proofs.Lists.{set-same, some-same}
 use Rattle.nv_laws_sound.specs.Counted.{IsCounted, commands}
@@ -184,10 +184,10 @@ module _ (geometry : Geometry) (s old : State) (lane tag : ℕ) where
   post-not u r told is =
       record { after = sym (not-ended tag (tag_of (world_of old) lane tag) r (world_of old) _ (sym told ∙ is)); size = same-size old }
 
-  module _ (same : s ≡ old) (of : IsOf geometry old) (t : IsEndedHere s.lanes lane tag) (i : ℕ) (l : Lane) (at : i ≡ lane)
+  module _ (same : s ≡ old) (of : IsKeptOf geometry old) (t : IsEndedHere s.lanes lane tag) (i : ℕ) (l : Lane) (at : i ≡ lane)
       (has : l ≡ get_or s.lanes i l) where
-    here : IsOf geometry s
-    here = subst (λ (o : State). IsOf geometry o) (sym same) of
+    here : IsKeptOf geometry s
+    here = subst (λ (o : State). IsKeptOf geometry o) (sym same) of
 
     found : slice_get s.lanes lane ≡ Some l
     found = ended-found s.lanes lane tag t i l at has
@@ -244,7 +244,7 @@ module _ (geometry : Geometry) (s old : State) (lane tag : ℕ) where
     tag-below : tag < tag_count
     tag-below =
         let within = slice_get_within l.tags tag (Ended t.command t.st t.share) there in
-        let sized = tags-sized geometry (world_of s) lane l here.consistent.of_tags found in omega arith
+        let fine = here.kept.lanes lane l found in let sized = fine.tags_are in omega (arith, within, sized)
 
     pub post-placed : (mediator : ℕ) → mediator ≡ geometry.mediator → length s.host < 2 ^ 64 → IsPlaced mediator lane tag
     post-placed mediator is fits =
@@ -260,7 +260,7 @@ module _ (geometry : Geometry) (s old : State) (lane tag : ℕ) where
       pub has-controller : number < length s.controllers
       has-controller =
           let below = slice_get_within geometry.guests number guest given in
-          let many = here.consistent.of_tags.controllers in
+          let many = here.kept.controllers in
           omega arith
 
       -- its parts
@@ -274,7 +274,7 @@ module _ (geometry : Geometry) (s old : State) (lane tag : ℕ) where
           subst (λ (k : Mapping). AreParts command.entry mediator lane tag l (length s.host) k.regions) (sym same_map)
           (subst (λ (a : ℕ). AreParts command.entry a lane tag l (length s.host) (regions_of guest)) (sym is)
           (subst (λ (c : Command). AreParts c.entry geometry.mediator lane tag l (length s.host) (regions_of guest)) same_command
-          (parts-of geometry (world_of s) lane tag l found here.consistent t.command t.st t.share there t.led (length s.host) here.laid_out guest own-given st
+          (parts-of geometry (world_of s) lane tag l found (here.kept.lanes lane l found) t.command t.st t.share there t.led (length s.host) here.laid_out guest own-given st
           (sym told ∙ decides) went)))
 
       module _ (j : ℕ) (c : Controller) (at_number : j ≡ number) (has_c : c ≡ get_or s.controllers j c) where
@@ -285,7 +285,7 @@ module _ (geometry : Geometry) (s old : State) (lane tag : ℕ) where
 
         pub queues-there : (m : Mapping) → m ≡ guest.memory_map → QueuesInPlace (mapped m.regions) c
         queues-there m same_map =
-            subst (λ (k : Mapping). QueuesInPlace (mapped k.regions) c) (sym same_map) (here.consistent.of_tags.queues t.command.guest guest c own-given found-c)
+            subst (λ (k : Mapping). QueuesInPlace (mapped k.regions) c) (sym same_map) (here.kept.queues t.command.guest guest c own-given found-c)
 
         -- its controller counts it
         running : IsCounted geometry (world_of old) → IsRunningWith c (commands (world_of s) t.command.guest)

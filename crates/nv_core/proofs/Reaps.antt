@@ -1,10 +1,10 @@
 -- A Reap, from the lane to the world.
-use Rattle.std.proofs.Common.{◌≡◌, ℕ, zero, suc, ◌<◌, ◌≤◌, Bool, true, false, cond, List, [], ◌∷◌, get_or, length, set, slice_get, Option, Some, arith, refl, sym, ap, ◌∙◌, eq-eqb, subst}
+use Rattle.std.proofs.Common.{◌≡◌, ℕ, zero, suc, ◌<◌, ◌≤◌, Bool, true, false, cond, List, [], ◌∷◌, get_or, length, set, slice_get, Option, Some, None, arith, refl, sym, ap, ◌∙◌, eq-eqb, subst}
 use Rattle.std.proofs.lemmas.Bool.{ne_eqb}
 use Rattle.std.proofs.lemmas.Option.{slice_get_past}
 use Rattle.std.specs.List.{slice_index_or}
 use Rattle.nv_core.specs.State.{IsOf, IsStep, State, world_of}
-use Rattle.nv_core.specs.Tags.{state_in}
+use Rattle.nv_core.specs.Tags.{is_flying, state_in}
 use Rattle.nv_core.proofs.Placed.{same-size}
 use Rattle.nv_core.proofs.GroupWorlds.{looked-up}
 use Rattle.nv_device.specs.Physical.{lane_of, no_lane}
@@ -24,7 +24,7 @@ use Rattle.nv_world_model.specs.Geometry.{Geometry}
 use Rattle.nv_world_model.specs.Seat.{completion_at}
 use Rattle.nv_world_model.specs.Share.{Share}
 use Rattle.nv_world_model.specs.Step.{After, completion_read, ended_at, for_one, passed_on, reap, reaped, replied, step}
-use Rattle.nv_world_model.specs.World.{Answered, Command, Ended, Flying, Lane, Standing, Tag, World, tag_changed, tag_of, with_lane}
+use Rattle.nv_world_model.specs.World.{Answered, Command, Ended, Flying, Free, Lane, Standing, Tag, Taken, World, tag_changed, tag_of, with_lane}
 use Rattle.nv_world_model.specs.declared.event.Event.TheVariants as event
 
 -- what is there is what is looked up
@@ -72,6 +72,38 @@ next-is geometry lane host l d is waits =
     let held = slice_get-there d.held next.tag (omega (arith, tags, sized, among)) in
     next-by geometry lane next.tag host l held.0 next.there
     (answered-at geometry lane next.tag l.head host l.head d held.0 next.there (is.tags next.tag next.there held.0 next.is held.1) next.stands) next.is (omega (arith, tags, among))
+
+-- in any world: the lane whose next completion was read, and has ended its tag
+pub reaped-as : (w : World) (lane cid : ℕ) (l mid l_new : Lane) (command : Command) (share : Share) (standing : Standing) (completion target : List ℕ)
+    (st passed : StatusField) → slice_get w.lanes lane ≡ Some l → slice_get l.tags cid ≡ Some (Flying command share standing)
+    → st ≡ status_of completion → passed ≡ passed_on st
+    → ((c : Command) (x : Share) (at : Standing) → slice_get l.tags cid ≡ Some (Flying c x at) → mid ≡ tag_changed cid (Ended c passed (Some x)) l)
+    → l_new ≡ completion_read mid → cid ≡ completed_cid completion → completion ≡ target
+    → (let v : World = record w { lanes = set w.lanes lane l_new } in v) ≡ reaped lane target w
+unfolding reaped
+reaped-as w lane cid l mid l_new command share standing completion target st passed found flies told by ends reads named same =
+    let behind : Lane = completion_read (tag_changed cid (Ended command (passed_on (status_of completion)) (Some share)) l) in
+    let lane_is : l_new ≡ behind =
+    reads ∙ ap completion_read (ends command share standing flies
+    ∙ ap (λ (x : StatusField). tag_changed cid (Ended command x (Some share)) l) (by ∙ ap passed_on told)) in
+    ap (λ (k : Lane). let v : World = record w { lanes = set w.lanes lane k } in v) lane_is
+    ∙ sym (ended-is w lane cid l command share standing (status_of completion) found flies)
+    ∙ ap (λ (n : ℕ). ended_at (tag_of w lane n) (status_of completion) lane n (with_lane lane completion_read w)) named
+    ∙ ap (λ (bytes : List ℕ). reaped lane bytes w) same
+
+-- a tag whose part is with the physical controller
+pub record IsAloft (t : Option Tag) : Type 0 where
+  pub command : Command
+  pub share : Share
+  pub at : Standing
+  pub is : t ≡ Some (Flying command share at)
+
+pub aloft : (t : Option Tag) → is_flying t ≡ true → IsAloft t
+aloft None e = cc
+aloft (Some Free) e = cc
+aloft (Some (Taken command reads)) e = cc
+aloft (Some (Flying command share at)) e = record { command = command; share = share; at = at; is = refl }
+aloft (Some (Ended command st share)) e = cc
 
 module _ (geometry : Geometry) (s old : State) (lane : ℕ) (same : s ≡ old) where
   -- no such lane
@@ -142,24 +174,17 @@ module _ (geometry : Geometry) (s old : State) (lane : ℕ) (same : s ≡ old) w
             → ((command : Command) (share : Share) (standing : Standing) → slice_get l.tags cid ≡ Some (Flying command share standing)
             → mid ≡ tag_changed cid (Ended command passed (Some share)) l) → l_new ≡ completion_read mid
             → IsStep geometry (event.Reap lane) old reply.Done (record s { lanes = set s.lanes i l_new })
-        unfolding reaped
         reap-done st passed mid l_new told by ends reads =
             let w = world_of s in
             let e : is_empty l.head d.posted ≡ false = ne_eqb l.head d.posted (λ equal. waits (h ∙ equal ∙ sym p)) in
             let flies : slice_get l.tags cid ≡ Some (Flying next.command next.share (Answered l.head)) = ap (slice_get l.tags) tag-is ∙ next.flies in
-            let behind : Lane = completion_read (tag_changed cid (Ended next.command (passed_on (status_of completion)) (Some next.share)) l) in
-            let lane_is : l_new ≡ behind =
-            reads ∙ ap completion_read (ends next.command next.share (Answered l.head) flies
-            ∙ ap (λ (x : StatusField). tag_changed cid (Ended next.command x (Some next.share)) l) (by ∙ ap passed_on told)) in
             subst (λ (o : State). IsStep geometry (event.Reap lane) o reply.Done (record s { lanes = set s.lanes i l_new })) same
             (subst (λ (k : ℕ). IsStep geometry (event.Reap lane) s reply.Done (record s { lanes = set s.lanes k l_new })) (sym at)
             (record {
               after =
-                  ap (λ (k : Lane). let a : After = record { world = record w { lanes = set w.lanes lane k }; reply = reply.Done } in a) lane_is
-                  ∙ ap (λ (v : World). let a : After = record { world = v; reply = reply.Done } in a)
-                  (sym (ended-is w lane cid l next.command next.share (Answered l.head) (status_of completion) found flies)
-                  ∙ ap (λ (n : ℕ). ended_at (tag_of w lane n) (status_of completion) lane n (with_lane lane completion_read w)) named
-                  ∙ ap (λ (bytes : List ℕ). reaped lane bytes w) completion-is)
+                  ap (λ (v : World). let a : After = record { world = v; reply = reply.Done } in a)
+                  (reaped-as w lane cid l mid l_new next.command next.share (Answered l.head) completion (completion_at geometry w lane l.head) st passed
+                  found flies told by ends reads named completion-is)
                   ∙ sym (reap-step geometry lane l d w found there
                   ∙ ap (λ (b : Bool). cond b (replied reply.Idle w) (replied reply.Done (reaped lane (completion_at geometry w lane l.head) w))) e);
               size = record { host = refl; mediator = refl; blocks = refl };

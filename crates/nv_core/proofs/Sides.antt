@@ -1,10 +1,11 @@
 -- A world that has the mediator's side, as a state with a device on lists: what an event comes to there, it comes to in that world.
-use Rattle.std.proofs.Common.{◌≡◌, ℕ, zero, suc, ◌<◌, ◌≤◌, Bool, ◌&&◌, List, [], ◌∷◌, length, replicate, set, slice_get, slice_set, Option, Some, None, arith, lit<, refl, sym, ap, ◌∙◌, subst}
-use Rattle.std.proofs.lemmas.Option.{slice_get_within}
+use Rattle.std.proofs.Common.{◌≡◌, ℕ, zero, suc, Bool, false, ◌&&◌, List, [], ◌∷◌, map, replicate, set, slice_get, Option, Some, None, lit<, refl, sym, ap, ◌∙◌, subst}
 use Rattle.std.proofs.lemmas.List.{length-replicate}
-use Rattle.nv_core.specs.Front.{HasTailMoved, IsSideOf, Side, rung_with, tails_of, with_side}
+use Rattle.nv_core.proofs.KeptStates.{IsKeptOf, tail-of}
+use Rattle.nv_core.specs.Front.{HasTailMoved, IsLive, IsSideOf, Side, rung_with, tails_of, with_side}
+use Rattle.nv_core.specs.Kept.{AreKept, IsKept, IsLent}
 use Rattle.nv_core.specs.State.{IsOf, IsStep, State, world_of}
-use Rattle.nv_device.specs.Physical.{with_lane}
+use Rattle.nv_device.specs.Physical.{no_lane, with_lane}
 use Rattle.nv_device.specs.State.{Physical}
 use Rattle.nv_disk.specs.Flat.{byte_of_block}
 use Rattle.nv_disk.specs.Marks.{mark_of}
@@ -17,11 +18,11 @@ use Rattle.nv_laws_sound.specs.Mediators.{IsMediators, after_on, on_disk}
 use Rattle.nv_model.specs.Controller.{Controller}
 use Rattle.nv_model.specs.Memory.{byte_in}
 use Rattle.nv_model.specs.declared.reply.Reply.{Reply}
-use Rattle.nv_world_model.specs.Area.{ring_size}
 use Rattle.nv_world_model.specs.Device.{DeviceLane}
 use Rattle.nv_world_model.specs.Geometry.{Geometry}
 use Rattle.nv_world_model.specs.Due.{due, is_due_kind}
-use Rattle.nv_world_model.specs.Step.{After, is_done, step}
+use Rattle.nv_world_model.specs.Seat.{completion_at}
+use Rattle.nv_world_model.specs.Step.{After, is_done, reaped, step}
 use Rattle.nv_world_model.specs.World.{Lane, World}
 use Rattle.nv_world_model.specs.declared.event.Event.{Event}
 
@@ -39,24 +40,10 @@ rung-one (e ∷ ds) zero tail d there =
     ap (λ (x : DeviceLane). record x { tail = tail } ∷ rung_with (tails_of ds) ds) same ∙ ap (λ (es : List DeviceLane). record d { tail = tail } ∷ es) (rung-same ds)
 rung-one (e ∷ ds) (suc lane) tail d there = ap (λ (es : List DeviceLane). e ∷ es) (rung-one ds lane tail d there)
 
-pub length-tails : (ds : List DeviceLane) → length (tails_of ds) ≡ length ds
-length-tails [] = refl
-length-tails (d ∷ ds) = ap suc (length-tails ds)
-
-pub tail-of : (ds : List DeviceLane) (lane : ℕ) (d : DeviceLane) → slice_get ds lane ≡ Some d → slice_get (tails_of ds) lane ≡ Some d.tail
-tail-of [] lane d there = cc
-tail-of (e ∷ ds) zero d there = ap (λ (x : DeviceLane). Some x.tail) (some-same e d there)
-tail-of (e ∷ ds) (suc lane) d there = tail-of ds lane d there
-
 pub set-nowhere : (ds : List DeviceLane) (lane tail : ℕ) → slice_get ds lane ≡ None → set (tails_of ds) lane tail ≡ tails_of ds
 set-nowhere [] lane tail none = refl
 set-nowhere (e ∷ ds) zero tail none = cc
 set-nowhere (e ∷ ds) (suc lane) tail none = ap (λ (ts : List ℕ). e.tail ∷ ts) (set-nowhere ds lane tail none)
-
-past-none : {X : Type 0} (xs : List X) (at : ℕ) → slice_get xs at ≡ None → length xs ≤ at
-past-none [] at none = omega arith
-past-none (x ∷ xs) zero none = cc
-past-none (x ∷ xs) (suc at) none = (let more = past-none xs at none in omega (arith, more))
 
 -- what is consistent is so beside another disk
 consistent-on : (geometry : Geometry) (w : World) (disk : ℕ → ℕ → ℕ) (kept : ℕ → Bool) → IsConsistent geometry w → IsConsistent geometry (on_disk disk kept w)
@@ -66,7 +53,43 @@ consistent-on geometry w disk kept is =
       groups = is.groups;
     }
 
-module _ (geometry : Geometry) (side : Side) (memory : List ℕ) (w : World) (is : IsSideOf geometry side memory w) where
+-- a lane of the physical controller with that tail
+abbrev with_tail : ℕ → DeviceLane
+with_tail tail = record no_lane { tail = tail }
+
+tails-with : (tails : List ℕ) → tails_of (map with_tail tails) ≡ tails
+tails-with [] = refl
+tails-with (tail ∷ tails) = ap (λ (ts : List ℕ). tail ∷ ts) (tails-with tails)
+
+-- a world that has this side, whatever the side is
+abbrev pub own-world : Side → (memory : List ℕ) → World
+own-world side memory =
+    record {
+      host = byte_in memory;
+      disk = (λ at offset. 0);
+      kept = (λ at. false);
+      device = map with_tail side.tails;
+      lanes = side.lanes;
+      controllers = side.controllers;
+    }
+
+pub own-side : (side : Side) (memory : List ℕ) → IsSideOf side memory (own-world side memory)
+own-side side memory = record { host = refl; lanes = refl; controllers = refl; tails = tails-with side.tails }
+
+-- a tail that is where it was
+pub tail-stays : (geometry : Geometry) (side : Side) (lane : ℕ) → IsKept geometry side → HasTailMoved lane side.tails side.tails
+tail-stays geometry side lane kept = by (slice_get side.tails lane) refl
+  where
+    set-past : (ts : List ℕ) (n tail : ℕ) → slice_get ts n ≡ None → set ts n tail ≡ ts
+    set-past [] n tail none = refl
+    set-past (t ∷ ts) zero tail none = cc
+    set-past (t ∷ ts) (suc n) tail none = ap (λ (us : List ℕ). t ∷ us) (set-past ts n tail none)
+
+    by : (o : Option ℕ) → slice_get side.tails lane ≡ o → HasTailMoved lane side.tails side.tails
+    by None none = record { tail = 0; fits = lit< tt; is = sym (set-past side.tails lane 0 none) }
+    by (Some tail) there = record { tail = tail; fits = kept.slots lane tail there; is = sym (set-same side.tails lane tail there) }
+
+module _ (geometry : Geometry) (side : Side) (memory : List ℕ) (w : World) (is : IsSideOf side memory w) where
   -- the state
   abbrev pub state_in : State
   state_in =
@@ -78,7 +101,7 @@ module _ (geometry : Geometry) (side : Side) (memory : List ℕ) (w : World) (is
       }
 
   -- the world, by the side's parts
-  abbrev own : World
+  abbrev pub own : World
   own = record w { host = byte_in memory; lanes = side.lanes; controllers = side.controllers }
 
   own-is : own ≡ w
@@ -87,14 +110,21 @@ module _ (geometry : Geometry) (side : Side) (memory : List ℕ) (w : World) (is
       ∙ ap (λ (ls : List Lane). let v : World = record w { lanes = ls; controllers = side.controllers } in v) (sym is.lanes)
       ∙ ap (λ (cs : List Controller). let v : World = record w { controllers = cs } in v) (sym is.controllers)
 
-  pub of-side : IsOf geometry state_in
-  of-side =
+  pub kept-side : IsKept geometry side → AreKept geometry state_in.lanes (tails_of state_in.device.lanes) state_in.controllers
+  kept-side kept = subst (λ (ts : List ℕ). AreKept geometry side.lanes ts side.controllers) (sym is.tails) kept
+
+  pub of-side : IsLent geometry side memory → IsKeptOf geometry state_in
+  of-side lent = record { mediator = refl; laid_out = lent.laid_out; kept = kept-side lent.kept }
+
+  -- where the world is as events leave it
+  pub of-live : IsLent geometry side memory → IsLive geometry w → IsOf geometry state_in
+  of-live lent live =
       record {
         mediator = refl;
         blocks = length-replicate {A = List ℕ} geometry.disk_blocks [];
-        laid_out = is.laid_out;
-        consistent = consistent-on geometry own _ _ (subst (IsConsistent geometry) (sym own-is) is.consistent);
-        phased = subst (ArePhased geometry) (sym own-is) is.phased;
+        laid_out = lent.laid_out;
+        consistent = consistent-on geometry own _ _ (subst (IsConsistent geometry) (sym own-is) live.consistent);
+        phased = subst (ArePhased geometry) (sym own-is) live.phased;
       }
 
   -- an event of guests or of the mediator
@@ -113,6 +143,20 @@ module _ (geometry : Geometry) (side : Side) (memory : List ℕ) (w : World) (is
       ap (λ (ds : List DeviceLane). let a : After = record { world = record w { host = byte_in after; device = ds; lanes = new.lanes; controllers = new.controllers }; reply = r } in a)
       (ap (λ (ts : List ℕ). rung_with ts w.device) (same ∙ sym is.tails) ∙ rung-same w.device)
       ∙ made-in e mine r _ made
+
+  -- where the next completion of a lane was read, and has ended its tag
+  pub reaped-in : (lane i : ℕ) (l l_new k : Lane) → i ≡ lane → slice_get w.lanes lane ≡ Some k → slice_get side.lanes lane ≡ Some l
+      → (let v : World = record own { lanes = set side.lanes lane l_new } in v) ≡ reaped lane (completion_at geometry own lane l.head) own
+      → with_side (record { lanes = set side.lanes i l_new; tails = side.tails; controllers = side.controllers }) memory w
+      ≡ reaped lane (completion_at geometry w lane k.head) w
+  reaped-in lane i l l_new k at found there e =
+      ap (λ (ds : List DeviceLane). let v : World = record own { device = ds; lanes = set side.lanes i l_new } in v)
+      (ap (λ (ts : List ℕ). rung_with ts w.device) (sym is.tails) ∙ rung-same w.device)
+      ∙ ap (λ (n : ℕ). let v : World = record own { lanes = set side.lanes n l_new } in v) at
+      ∙ e
+      ∙ ap (λ (v : World). reaped lane (completion_at geometry v lane l.head) v) own-is
+      ∙ ap (λ (x : Lane). reaped lane (completion_at geometry w lane x.head) w)
+      (some-same l k (sym there ∙ ap (λ (ls : List Lane). slice_get ls lane) (sym is.lanes) ∙ found))
 
   -- controllers count their commands there
   pub counted-side : IsCounted geometry w → IsCounted geometry (world_of state_in)
@@ -134,11 +178,7 @@ module _ (geometry : Geometry) (side : Side) (memory : List ℕ) (w : World) (is
       ap (λ (a : After). is_due_kind e && is_done a.reply) (left-alone (byte_of_block (replicate geometry.disk_blocks [])) (mark_of []) geometry e own mine)
       ∙ ap (λ (v : World). is_due_kind e && is_done (step geometry e v).reply) own-is
 
-  -- as many tails as lanes, each that of the device
-  pub tails-many : length side.tails ≡ length side.lanes
-  tails-many =
-      ap (λ (ts : List ℕ). length ts) (sym is.tails) ∙ length-tails w.device ∙ sym is.consistent.of_tags.sides ∙ ap (λ (ls : List Lane). length ls) is.lanes
-
+  -- each tail is that of the device
   pub tail-there : (lane : ℕ) (d : DeviceLane) → slice_get w.device lane ≡ Some d → slice_get side.tails lane ≡ Some d.tail
   tail-there lane d there = ap (λ (ts : List ℕ). slice_get ts lane) (sym is.tails) ∙ tail-of w.device lane d there
 
@@ -152,27 +192,3 @@ module _ (geometry : Geometry) (side : Side) (memory : List ℕ) (w : World) (is
       ap (λ (ds : List DeviceLane). let a : After = record { world = record w { host = byte_in after; device = ds; lanes = new.lanes; controllers = new.controllers }; reply = r } in a)
       (ap (λ (ts : List ℕ). rung_with ts w.device) (moved ∙ ap (λ (ts : List ℕ). set ts lane tail) (sym is.tails)) ∙ rung-one w.device lane tail d there)
       ∙ made-in e mine r _ made
-
-  -- a tail that is where it was
-  pub tail-stays : (lane : ℕ) → HasTailMoved lane side.tails side.tails
-  tail-stays lane = by-device (slice_get w.device lane) refl
-    where
-      by-device : (o : Option DeviceLane) → slice_get w.device lane ≡ o → HasTailMoved lane side.tails side.tails
-      by-device None none =
-          record {
-            tail = 0;
-            fits = lit< tt;
-            is = sym (ap (λ (ts : List ℕ). slice_set ts lane 0) (sym is.tails) ∙ set-nowhere w.device lane 0 none ∙ is.tails);
-          }
-      by-device (Some d) there =
-          record {
-            tail = d.tail;
-            fits = fits-of d there (slice_get w.lanes lane) refl;
-            is = sym (set-same side.tails lane d.tail (tail-there lane d there));
-          }
-        where
-          fits-of : (d : DeviceLane) → slice_get w.device lane ≡ Some d → (l : Option Lane) → slice_get w.lanes lane ≡ l → d.tail < ring_size
-          fits-of d there None none =
-              (let past = past-none w.lanes lane none in let below = slice_get_within w.device lane d there in let sides = is.consistent.of_tags.sides in
-              absurd (omega (arith, past, below, sides)))
-          fits-of d there (Some l) found = (is.consistent.of_tags.lanes lane l d found there).positions.tail

@@ -3,7 +3,8 @@ use Rattle.std.proofs.Common.{◌≡◌, ℕ, ◌+◌, ◌<◌, ◌≤◌, Bool,
 use Rattle.std.proofs.Common.{Option, Some, None, arith, refl, sym, ap, ◌∙◌, subst}
 use Rattle.std.proofs.lemmas.Bool.Decides.{nat_tests}
 use Rattle.std.proofs.lemmas.Option.{slice_get_within}
-use Rattle.nv_core.specs.State.{IsOf, IsStep, State, world_of}
+use Rattle.nv_core.proofs.KeptStates.{IsKeptOf, length-tails}
+use Rattle.nv_core.specs.State.{IsStep, State, world_of}
 use Rattle.nv_core.specs.Submit.{HaveRoom, IsSubmitted, host_behind, tag_bytes, tail_behind}
 use Rattle.nv_core.specs.Tags.{untaken}
 use Rattle.nv_core.proofs.GroupWorlds.{IsTakenHere, group-lane, not-taken, taken-found, taken-step}
@@ -93,18 +94,18 @@ module _ (geometry : Geometry) (s : State) (lane tag : ℕ) where
           size = same-size s;
         }
 
-    module _ (guest : Guest) (of : IsOf geometry s) (there : slice_get geometry.guests t.command.guest ≡ Some guest) where
+    module _ (guest : Guest) (of : IsKeptOf geometry s) (there : slice_get geometry.guests t.command.guest ≡ Some guest) where
       has : (c : Controller) × (slice_get s.controllers t.command.guest ≡ Some c)
       has =
           let below = slice_get_within geometry.guests t.command.guest guest there in
-          let many = of.consistent.of_tags.controllers in
+          let many = of.kept.controllers in
           slice_get-there s.controllers t.command.guest (omega arith)
 
       abbrev who : Owner
       who = owner t.command.guest guest has.0
 
       pub on-device : lane < length s.device.lanes
-      on-device = (let below = slice_get_within s.lanes lane t.at t.found in let sides = of.consistent.of_tags.sides in omega arith)
+      on-device = (let below = slice_get_within s.lanes lane t.at t.found in let many = of.kept.many in let sides = length-tails s.device.lanes in omega (arith, below, many, sides))
 
       abbrev d : DeviceLane
       d = lane_of s.device lane

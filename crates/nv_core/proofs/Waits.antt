@@ -5,7 +5,8 @@ use Rattle.std.specs.List.{All}
 use Rattle.std.proofs.lemmas.List.Elements.{All-head, All-weaker}
 use Rattle.nv_core.proofs.GroupWorlds.{IsTakenHere, all-taken, group-lane, taken-found, taken-there}
 use Rattle.nv_core.specs.Groups.{AreTaken}
-use Rattle.nv_core.specs.State.{IsOf, State, world_of}
+use Rattle.nv_core.proofs.KeptStates.{IsKeptOf}
+use Rattle.nv_core.specs.State.{State, world_of}
 use Rattle.nv_core.specs.Submit.{WaitsForPlan}
 use Rattle.nv_core.specs.Tags.{state_in}
 use Rattle.nv_laws_sound.specs.Groups.{AreGroups, Part, Reading, goes_by, parts_of}
@@ -13,7 +14,6 @@ use Rattle.nv_laws_sound.proofs.Folds.{group-numbers, tag-part}
 use Rattle.nv_laws_sound.proofs.Groupings.{goes-has, goes-of}
 use Rattle.nv_laws_sound.proofs.Lists.{slice_get-below, some-same}
 use Rattle.nv_laws_sound.proofs.Numbers.{Passes, numbers-are, numbers-map, numbers-pass, numbers_where}
-use Rattle.nv_laws_sound.proofs.Retags.{is-at}
 use Rattle.nv_laws_sound.proofs.Stages.{group-count, reading}
 use Rattle.nv_model.specs.Transcript.{ReadDone}
 use Rattle.nv_ns.specs.Extents.{Namespace}
@@ -68,7 +68,7 @@ group-first geometry w lane tag l command reads groups found there led =
 
 -- ---- a command of a consistent world
 
-module _ (geometry : Geometry) (s : State) (is : IsOf geometry s) (lane tag i : ℕ) (l : Lane) (t : IsTakenHere s.lanes lane tag) (at : i ≡ lane)
+module _ (geometry : Geometry) (s : State) (is : IsKeptOf geometry s) (lane tag i : ℕ) (l : Lane) (t : IsTakenHere s.lanes lane tag) (at : i ≡ lane)
     (has : l ≡ get_or s.lanes i l) (guest : Guest) (given : slice_get geometry.guests t.command.guest ≡ Some guest) where
   abbrev w : World
   w = world_of s
@@ -80,7 +80,7 @@ module _ (geometry : Geometry) (s : State) (is : IsOf geometry s) (lane tag i : 
   there = taken-there s.lanes lane tag t i l at has
 
   groups : AreGroups geometry l.tags
-  groups = is.consistent.groups lane l found
+  groups = (is.kept.lanes lane l found).groups
 
   of-world : tag_in (slice_get s.lanes lane) tag ≡ Some (Taken t.command t.reads)
   of-world = ap (λ (o : Option Lane). tag_in o tag) found ∙ there
@@ -98,13 +98,13 @@ module _ (geometry : Geometry) (s : State) (is : IsOf geometry s) (lane tag i : 
   pub waits : WaitsForPlan guest.namespace tag l
   waits =
       let first = group-first geometry w lane tag l t.command t.reads groups found there t.led in
-      let a = is-at geometry w lane tag (Taken t.command t.reads) is.consistent.of_tags of-world in
-      let many = (is.consistent.of_tags.lanes lane a.l a.d a.at_lane a.at_device).positions.tags in
-      let among = slice_get-below a.l.tags tag (Taken t.command t.reads) a.at_tag in
+      let fine = is.kept.lanes lane l found in
+      let many = fine.tags_are in
+      let among = slice_get-below l.tags tag (Taken t.command t.reads) there in
       record {
         below = omega (arith, many, among);
         led = record { command = t.command; reads = t.reads; is = there; led = t.led };
-        together = all-taken geometry s is lane tag i l t at has;
+        together = all-taken geometry s lane tag i l fine t at has;
         others = first.0;
         first = first.1;
         some = some-tags;

@@ -2,7 +2,6 @@
 -- in each of them (profile).
 use Rattle.std.specs.Prelude.{◌≡◌, ℕ, ◌<◌, List, [], ◌∷◌, length, map, replicate, slice_get, slice_index, slice_set, Some}
 use Rattle.nv_laws_sound.specs.Consistent.{IsConsistent}
-use Rattle.nv_laws_sound.specs.LaidOut.{IsLaidOut}
 use Rattle.nv_laws_sound.specs.Phased.{ArePhased}
 use Rattle.nv_model.specs.Controller.{Controller, opening}
 use Rattle.nv_model.specs.Memory.{byte_in}
@@ -11,7 +10,8 @@ use Rattle.nv_vctl.specs.Vctl.{most_taken}
 use Rattle.nv_world_model.specs.Area.{ring_size}
 use Rattle.nv_world_model.specs.Device.{DeviceLane}
 use Rattle.nv_world_model.specs.Geometry.{Geometry}
-use Rattle.nv_world_model.specs.Step.{After, step}
+use Rattle.nv_world_model.specs.Seat.{completion_at}
+use Rattle.nv_world_model.specs.Step.{After, reaped, step}
 use Rattle.nv_world_model.specs.World.{Lane, World, opening_lane}
 use Rattle.nv_world_model.specs.declared.event.Event.{Event}
 
@@ -31,26 +31,17 @@ rung_with [] ds = ds
 rung_with (tail ∷ tails) [] = []
 rung_with (tail ∷ tails) (d ∷ ds) = record d { tail = tail } ∷ rung_with tails ds
 
--- a world has this side, its host is that memory, and it is as events leave it: consistent, and with the phase tags of its passes
-pub record IsSideOf (geometry : Geometry) (side : Side) (memory : List ℕ) (w : World) : Type 0 where
+-- a world has this side, and its host is that memory
+pub record IsSideOf (side : Side) (memory : List ℕ) (w : World) : Type 0 where
   pub host : w.host ≡ byte_in memory
   pub lanes : w.lanes ≡ side.lanes
   pub controllers : w.controllers ≡ side.controllers
   pub tails : tails_of w.device ≡ side.tails
-  pub laid_out : IsLaidOut (length memory) (length side.lanes) geometry
+
+-- a world is as events leave it: consistent, and with the phase tags of its passes
+pub record IsLive (geometry : Geometry) (w : World) : Type 0 where
   pub consistent : IsConsistent geometry w
   pub phased : ArePhased geometry w
-
--- the side is that of some world
-pub record IsInWorld (geometry : Geometry) (side : Side) : Type 0 where
-  pub memory : List ℕ
-  pub world : World
-  pub is : IsSideOf geometry side memory world
-
--- there is such a world
-pub record HasWorld (geometry : Geometry) (side : Side) (memory : List ℕ) : Type 0 where
-  pub world : World
-  pub is : IsSideOf geometry side memory world
 
 -- the world with another side and memory, and with the doorbells rung
 abbrev pub with_side : Side → (memory : List ℕ) → World → World
@@ -60,7 +51,19 @@ with_side side memory w =
 -- in every world that has this side and memory the event is the definition's step: it leaves that side and memory, and is answered so
 abbrev pub IsSideStep : Geometry → Event → (old : Side) → (before : List ℕ) → Reply → (new : Side) → (after : List ℕ) → Type 0
 IsSideStep geometry e old before r new after =
-    (w : World) → IsSideOf geometry old before w → (let a : After = record { world = with_side new after w; reply = r } in a) ≡ step geometry e w
+    (w : World) → IsSideOf old before w → (let a : After = record { world = with_side new after w; reply = r } in a) ≡ step geometry e w
+
+-- the same in every such world that is as events leave it
+abbrev pub IsLiveStep : Geometry → Event → (old : Side) → (before : List ℕ) → Reply → (new : Side) → (after : List ℕ) → Type 0
+IsLiveStep geometry e old before r new after =
+    (w : World) → IsSideOf old before w → IsLive geometry w → (let a : After = record { world = with_side new after w; reply = r } in a) ≡ step geometry e w
+
+-- a Reap in any world that has this side and memory, whatever the physical controller has posted: the next completion of the lane was read, and has
+-- ended its tag
+abbrev pub IsReaped : Geometry → (lane : ℕ) → (old new : Side) → (memory : List ℕ) → Type 0
+IsReaped geometry lane old new memory =
+    (w : World) (l : Lane) → IsSideOf old memory w → slice_get w.lanes lane ≡ Some l
+    → with_side new memory w ≡ reaped lane (completion_at geometry w lane l.head) w
 
 -- the tail of one lane's ring alone has moved
 pub record HasTailMoved (lane : ℕ) (old new : List ℕ) : Type 0 where

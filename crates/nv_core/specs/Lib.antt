@@ -1,5 +1,6 @@
 pub mod State
 pub mod Front
+pub mod Kept
 pub mod Tags
 pub mod Groups
 pub mod Handing

@@ -1,5 +1,5 @@
 -- A lane's tags as they are kept: whose each is and at which point its command is, and beside it what else is kept of the command (profile).
-use Rattle.std.specs.Prelude.{◌≡◌, ℕ, ◌<◌, ◌≤◌, ◌==◌, if◌then◌else◌, List, [], ◌∷◌, length, slice_get, Option, Some, None}
+use Rattle.std.specs.Prelude.{◌≡◌, ℕ, ◌<◌, ◌≤◌, ◌==◌, if◌then◌else◌, List, [], ◌∷◌, length, slice_get, Option, Some, None, Bool, true, false}
 use Rattle.std.specs.Bool.{⊤}
 use Rattle.nv_core.specs.declared.progress.Progress.{Progress}
 use Rattle.nv_core.specs.declared.progress.Progress.TheVariants as progress
@@ -143,6 +143,14 @@ state_of (Ended command st share) = state.Ended st
 abbrev pub state_in : Option Tag → Option TagState
 state_in None = None
 state_in (Some t) = Some (state_of t)
+
+-- whether a tag's part is with the physical controller
+abbrev pub is_flying : Option Tag → Bool
+is_flying None = false
+is_flying (Some Free) = false
+is_flying (Some (Taken command reads)) = false
+is_flying (Some (Flying command share at)) = true
+is_flying (Some (Ended command st share)) = false
 
 -- the command of a tag
 abbrev pub command_at : Option Tag → Option Command

@@ -2,7 +2,8 @@
 
 ghost use Rattle.std.specs.Prelude.{◌≡◌, IfOk, IsTrue, OnErr, length};
 ghost use Rattle.nv_core.specs.Seat.{IsActed, is_long_load};
-ghost use Rattle.nv_core.specs.Front.{HasWorld, IsSideStep};
+ghost use Rattle.nv_core.specs.Front.{IsSideStep};
+ghost use Rattle.nv_core.specs.Kept.{IsLent};
 ghost use Rattle.nv_model.specs.Memory.{byte_in};
 
 use crate::front::Front;
@@ -30,7 +31,7 @@ impl Front {
         act: &Act,
         host: &mut [C],
     ) -> Result<Reply, NoMemory>
-        requires { HasWorld layout.now self.old (C.bytes host.old) }
+        requires { IsLent layout.now self.old (C.bytes host.old) }
         ensures ok { IfOk result (λ reply.
             IsSideStep layout.now (Event.Guest guest act.now) self.old (C.bytes host.old) reply self.new (C.bytes host.new)) }
         ensures err { OnErr result ((self.new ≡ self.old) × ((C.bytes host.new ≡ C.bytes host.old) × IsTrue (is_long_load act.now))) }

@@ -2,7 +2,8 @@
 
 ghost use Rattle.std.specs.Prelude.{◌≡◌, length};
 ghost use Rattle.nv_core.specs.Seat.{told_by};
-ghost use Rattle.nv_core.specs.Front.{HasWorld, IsSideStep};
+ghost use Rattle.nv_core.specs.Front.{IsSideStep};
+ghost use Rattle.nv_core.specs.Kept.{IsLent};
 
 use crate::front::Front;
 use crate::layout::Layout;
@@ -16,7 +17,7 @@ impl Front {
     /// where the admin completion queue is full, Ignored where there is no such guest.
     #[inline(never)]
     pub fn admin<C: MemoryCell>(&mut self, layout: &Layout, guest: u8, host: &mut [C]) -> Reply
-        requires { HasWorld layout.now self.old (C.bytes host.old) }
+        requires { IsLent layout.now self.old (C.bytes host.old) }
         ensures step { IsSideStep layout.now (Event.Admin guest) self.old (C.bytes host.old) result self.new (C.bytes host.new) }
         ensures tails { self.new.tails ≡ self.old.tails }
         ensures len { length (C.bytes host.new) ≡ length (C.bytes host.old) }

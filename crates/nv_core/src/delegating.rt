@@ -177,7 +177,11 @@ impl Core {
         requires { IsOf _layout.now self.old }
         ensures { IsStep _layout.now (Event.Reap lane) self.old result self.new }
     {
-        self.front.reap(_layout, lane, slice::from_ref(&self.host))
+        let host = slice::from_ref(&self.host);
+        let Ok(reply) = self.front.reap(_layout, lane, host) else {
+            unreachable!()
+        };
+        reply
     }
 
     /// The command that goes by a tag, whose parts have all ended, is completed for its guest, and its tags become free. The bytes of a

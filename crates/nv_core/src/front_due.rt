@@ -2,7 +2,8 @@
 
 ghost use Rattle.std.specs.Prelude.{◌≡◌, ℕ, if◌then◌else◌, List, Option, Some, is_some, length, slice_get, true};
 ghost use Rattle.nv_core.specs.Ending.{IsEnded};
-ghost use Rattle.nv_core.specs.Front.{HasWorld, IsInWorld, IsSideOf};
+ghost use Rattle.nv_core.specs.Front.{IsLive, IsSideOf};
+ghost use Rattle.nv_core.specs.Kept.{IsKept, IsLent};
 ghost use Rattle.nv_core.specs.Groups.{statuses_in};
 ghost use Rattle.nv_core.specs.Take.{is_front_takeable};
 ghost use Rattle.nv_entry.specs.Status.{StatusField};
@@ -28,8 +29,8 @@ use nv_world_model::Event;
 impl Front {
     /// Whether a guest's admin queue has something to do.
     pub fn admin_due(&self, layout: &Layout, guest: u8) -> bool
-        requires { IsInWorld layout.now self.now }
-        ensures { (memory : List ℕ) (w : World) → IsSideOf layout.now self.now memory w → result ≡ due layout.now (Event.Admin guest) w }
+        requires { IsKept layout.now self.now }
+        ensures { (memory : List ℕ) (w : World) → IsSideOf self.now memory w → result ≡ due layout.now (Event.Admin guest) w }
     {
         let Some(_given) = layout.guest(guest) else {
             return false;
@@ -44,8 +45,8 @@ impl Front {
 
     /// Whether a completion of a lane waits.
     pub fn reap_due<C: MemoryCell>(&self, layout: &Layout, lane: u8, host: &[C]) -> bool
-        requires { HasWorld layout.now self.now (C.bytes host.now) }
-        ensures { (w : World) → IsSideOf layout.now self.now (C.bytes host.now) w → result ≡ due layout.now (Event.Reap lane) w }
+        requires { IsLent layout.now self.now (C.bytes host.now) }
+        ensures { (w : World) → IsSideOf self.now (C.bytes host.now) w → IsLive layout.now w → result ≡ due layout.now (Event.Reap lane) w }
     {
         let at = usize::from(lane);
         if at >= self.lanes.len() {
@@ -68,8 +69,8 @@ impl Front {
         lane: u8,
         host: &[C],
     ) -> bool
-        requires { HasWorld layout.now self.now (C.bytes host.now) }
-        ensures { (w : World) → IsSideOf layout.now self.now (C.bytes host.now) w → result ≡ due layout.now (Event.Take guest queue lane) w }
+        requires { IsLent layout.now self.now (C.bytes host.now) }
+        ensures { (w : World) → IsSideOf self.now (C.bytes host.now) w → result ≡ due layout.now (Event.Take guest queue lane) w }
     {
         let Some(given) = layout.guest(guest) else {
             return false;
@@ -93,8 +94,8 @@ impl Front {
     /// Whether all tags of the command that goes by a tag have ended, and its guest's controller has room for its completion or is not enabled.
     #[inline(never)]
     pub fn post_due(&self, layout: &Layout, lane: u8, tag: u8) -> bool
-        requires { IsInWorld layout.now self.now }
-        ensures { (memory : List ℕ) (w : World) → IsSideOf layout.now self.now memory w → result ≡ due layout.now (Event.Post lane tag) w }
+        requires { IsKept layout.now self.now }
+        ensures { (memory : List ℕ) (w : World) → IsSideOf self.now memory w → result ≡ due layout.now (Event.Post lane tag) w }
     {
         if self.unended(lane, tag).is_some() {
             return false;

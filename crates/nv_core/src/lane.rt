@@ -2,7 +2,7 @@
 
 ghost use Rattle.std.specs.Prelude.{◌≡◌, ◌<◌, ◌∷◌, ◌++◌, [], All, List, ℕ, None, OnErr, OnOk, Some, is_some, option_map, slice_get, true, vec_len};
 ghost use Rattle.nv_core.specs.Groups.{tags_changed};
-ghost use Rattle.nv_core.specs.Tags.{IsReading, command_at, state_in, unended, unled, untaken};
+ghost use Rattle.nv_core.specs.Tags.{IsReading, command_at, is_flying, state_in, unended, unled, untaken};
 ghost use Rattle.nv_core.specs.declared.progress.Progress.TheVariants as progress;
 ghost use Rattle.nv_model.specs.Transcript.{ReadDone as Read};
 ghost use Rattle.nv_tags.specs.Tags.{command_of, set_each};
@@ -51,6 +51,18 @@ impl Lane {
             return None;
         }
         Some(self.tags.state(tag))
+    }
+
+    /// Whether an identifier is that of a tag whose part is with the physical controller.
+    pub(crate) fn is_flying(&self, identifier: u16) -> bool
+        ensures { result ≡ is_flying (slice_get self.now.tags identifier) }
+    {
+        // With a field comes what is kept of the lane.
+        let _known = &self.head;
+        if usize::from(identifier) >= TAG_COUNT {
+            return false;
+        }
+        matches!(self.tags.state(identifier as u8), TagState::Flying)
     }
 
     /// What is answered where an event wants a command that was taken, by the tag that it goes by; `None` where it is one.

@@ -2,7 +2,8 @@
 
 ghost use Rattle.std.specs.Prelude.{◌≡◌, length};
 ghost use Rattle.nv_core.specs.Seat.{IsLoaded};
-ghost use Rattle.nv_core.specs.Front.{HasWorld, IsSideStep};
+ghost use Rattle.nv_core.specs.Front.{IsSideStep};
+ghost use Rattle.nv_core.specs.Kept.{IsLent};
 
 use crate::front::Front;
 use crate::layout::Layout;
@@ -22,7 +23,7 @@ impl Front {
         bytes: &[u8],
         host: &mut [C],
     ) -> Reply
-        requires { HasWorld layout.now self.now (C.bytes host.old) }
+        requires { IsLent layout.now self.now (C.bytes host.old) }
         ensures step { IsSideStep layout.now (Event.Guest guest (Act.Store addr bytes.now)) self.now (C.bytes host.old) result self.now (C.bytes host.new) }
         ensures len { length (C.bytes host.new) ≡ length (C.bytes host.old) }
     {
@@ -43,7 +44,7 @@ impl Front {
         room: &mut [u8],
         host: &[C],
     ) -> Reply
-        requires { HasWorld layout.now self.now (C.bytes host.now) }
+        requires { IsLent layout.now self.now (C.bytes host.now) }
         ensures { let load = Event.Guest guest (Act.Load addr (length room.old)) in
             IsLoaded (λ reply. IsSideStep layout.now load self.now (C.bytes host.now) reply self.now (C.bytes host.now)) result room.old room.new }
     {

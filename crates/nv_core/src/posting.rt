@@ -3,7 +3,8 @@
 ghost use Rattle.std.specs.Prelude.{◌≡◌, ◌∷◌, ◌<◌, List, ℕ, Option, Some, length, slice_get, true};
 ghost use Rattle.nv_core.specs.Ending.{AreParts, AreReadParts, IsBouncedRead, IsEnded, IsReadPart, MaySettle};
 ghost use Rattle.nv_core.specs.Ending.{delivered_host, delivers, is_bounced, is_read_of, part_delivered, settled, tag_delivered, tags_delivered};
-ghost use Rattle.nv_core.specs.Front.{HasWorld, IsSideOf, IsSideStep};
+ghost use Rattle.nv_core.specs.Front.{IsSideOf, IsSideStep};
+ghost use Rattle.nv_core.specs.Kept.{IsLent};
 ghost use Rattle.nv_core.specs.Submit.{IsPlaced};
 ghost use Rattle.nv_entry.specs.Opcode.{io_opcode};
 ghost use Rattle.nv_entry.specs.Status.{StatusField};
@@ -44,8 +45,8 @@ impl Front {
         tag: u8,
         host: &mut [C],
     ) -> Reply
-        requires world { HasWorld layout.now self.old (C.bytes host.old) }
-        requires counted { (w : World) → IsSideOf layout.now self.old (C.bytes host.old) w → IsCounted layout.now w }
+        requires lent { IsLent layout.now self.old (C.bytes host.old) }
+        requires counted { (w : World) → IsSideOf self.old (C.bytes host.old) w → IsCounted layout.now w }
         ensures step { IsSideStep layout.now (Event.Post lane tag) self.old (C.bytes host.old) result self.new (C.bytes host.new) }
         ensures tails { self.new.tails ≡ self.old.tails }
         ensures len { length (C.bytes host.new) ≡ length (C.bytes host.old) }

@@ -1,11 +1,13 @@
 //! Completions of the physical controller that are read.
 
-ghost use Rattle.std.specs.Prelude.{◌≡◌, length};
-ghost use Rattle.nv_core.specs.Front.{HasWorld, IsSideStep};
+ghost use Rattle.std.specs.Prelude.{◌≡◌, IfOk, Ok, OnErr, length};
+ghost use Rattle.nv_core.specs.Front.{IsLive, IsLiveStep, IsReaped, IsSideOf};
+ghost use Rattle.nv_core.specs.Kept.{IsLent};
 ghost use Rattle.nv_mem.specs.Bytes.{InMemory};
 ghost use Rattle.nv_model.specs.Memory.{byte_in, bytes_from};
 ghost use Rattle.nv_model.specs.Queue.{cqe_size};
 ghost use Rattle.nv_world_model.specs.Step.{passed_on};
+ghost use Rattle.nv_world_model.specs.World.{World};
 
 use crate::area::completion_slot;
 use crate::front::Front;
@@ -18,18 +20,36 @@ use nv_world_model::Event;
 /// The status code type of media and data integrity errors.
 const MEDIA_ERROR: u8 = 2;
 
+/// A completion that names no command that the physical controller has.
+#[derive(Clone, Copy, Debug, PartialEq, Eq)]
+pub struct Stray;
+
 impl Front {
     /// The next completion of a lane ends the command of the tag that it names, with the status that the guest gets. It is there where its slot has
     /// the phase tag that is wanted of it. Idle where none waits, Ignored where there is no such lane.
+    ///
+    /// # Errors
+    ///
+    /// [`Stray`] where it names no command that the physical controller has: nothing has changed. A controller that keeps to the standard posts no
+    /// such completion.
     #[inline(never)]
-    pub fn reap<C: MemoryCell>(&mut self, layout: &Layout, lane: u8, host: &[C]) -> Reply
-        requires { HasWorld layout.now self.old (C.bytes host.now) }
-        ensures step { IsSideStep layout.now (Event.Reap lane) self.old (C.bytes host.now) result self.new (C.bytes host.now) }
+    pub fn reap<C: MemoryCell>(
+        &mut self,
+        layout: &Layout,
+        lane: u8,
+        host: &[C],
+    ) -> Result<Reply, Stray>
+        requires { IsLent layout.now self.old (C.bytes host.now) }
+        ensures ok { IfOk result (λ reply.
+            IsLiveStep layout.now (Event.Reap lane) self.old (C.bytes host.now) reply self.new (C.bytes host.now)) }
+        ensures ended { result ≡ Ok Reply.Done → IsReaped layout.now lane self.old self.new (C.bytes host.now) }
+        ensures same { (result ≡ Ok Reply.Done → ⊥) → self.new ≡ self.old }
+        ensures stray { OnErr result ((w : World) → IsSideOf self.old (C.bytes host.now) w → IsLive layout.now w → ⊥) }
         ensures tails { self.new.tails ≡ self.old.tails }
     {
         let at = usize::from(lane);
         if at >= self.lanes.len() {
-            return Reply::Ignored;
+            return Ok(Reply::Ignored);
         }
         // The end of the host fits in 64 bits.
         let _known = C::len(host);
@@ -37,11 +57,15 @@ impl Front {
         let slot = completion_slot(layout.mediator(), lane, ring.head());
         let completion = completion_at(slot, host);
         if completion.phase() != ring.wanted_phase() {
-            return Reply::Idle;
+            return Ok(Reply::Idle);
         }
-        ring.end_with(completion.cid() as u8, passed_on(completion.status()));
+        let identifier = completion.cid();
+        if !ring.is_flying(identifier) {
+            return Err(Stray);
+        }
+        ring.end_with(identifier as u8, passed_on(completion.status()));
         ring.read_completion();
-        Reply::Done
+        Ok(Reply::Done)
     }
 }
 

@@ -1,7 +1,8 @@
 //! Commands that were taken, planned, and handed on or answered.
 
 ghost use Rattle.std.specs.Prelude.{◌≡◌, ◌<◌, ◌↔◌, [], IfOk, IfSome, IsTrue, List, None, OnErr, Some, length, slice_get};
-ghost use Rattle.nv_core.specs.Front.{HasTailMoved, HasWorld, IsSideStep};
+ghost use Rattle.nv_core.specs.Front.{HasTailMoved, IsSideStep};
+ghost use Rattle.nv_core.specs.Kept.{IsLent};
 ghost use Rattle.nv_core.specs.Submit.{HaveRoom, IsCarriedOut, IsCurrentIn, IsGoing, IsJobOf, IsSubmitted, WaitsForPlan};
 ghost use Rattle.nv_core.specs.Tags.{state_in};
 ghost use Rattle.nv_model.specs.Memory.{byte_in};
@@ -40,7 +41,7 @@ impl Front {
         tag: u8,
         host: &mut [C],
     ) -> Result<Reply, NoMemory>
-        requires { HasWorld layout.now self.old (C.bytes host.old) }
+        requires { IsLent layout.now self.old (C.bytes host.old) }
         ensures ok { IfOk result (λ reply.
             IsSideStep layout.now (Event.Submit lane tag) self.old (C.bytes host.old) reply self.new (C.bytes host.new)) }
         ensures err { OnErr result ((self.new ≡ self.old) × (C.bytes host.new ≡ C.bytes host.old)) }
@@ -75,7 +76,7 @@ impl Front {
         plan: Plan,
         host: &mut [C],
     ) -> Option<Reply>
-        requires { HasWorld layout.now self.old (C.bytes host.old) }
+        requires { IsLent layout.now self.old (C.bytes host.old) }
         ensures some { IfSome result (λ reply.
             IsCurrentIn layout.now self.old.lanes plan
             × IsSideStep layout.now (Event.Submit plan.job.lane plan.job.tag) self.old (C.bytes host.old) reply self.new (C.bytes host.new)) }

@@ -1,7 +1,8 @@
 //! Events of tags that were taken.
 
 ghost use Rattle.std.specs.Prelude.{◌≡◌, ℕ, ◌&&◌, IfOk, List, OnErr, nat_le, slice_get};
-ghost use Rattle.nv_core.specs.Front.{HasWorld, IsInWorld, IsSideStep};
+ghost use Rattle.nv_core.specs.Front.{IsSideStep};
+ghost use Rattle.nv_core.specs.Kept.{IsKept, IsLent};
 ghost use Rattle.nv_core.specs.Seat.{bytes_told};
 ghost use Rattle.nv_core.specs.Tags.{unended, untaken};
 ghost use Rattle.nv_model.specs.Limits.{part_size};
@@ -23,7 +24,7 @@ impl Front {
     /// such tag.
     #[inline(never)]
     pub fn give_up(&mut self, _layout: &Layout, lane: u8, tag: u8) -> Reply
-        requires { IsInWorld _layout.now self.old }
+        requires { IsKept _layout.now self.old }
         ensures step { (memory : List ℕ) → IsSideStep _layout.now (Event.GiveUp lane tag) self.old memory result self.new memory }
         ensures tails { self.new.tails ≡ self.old.tails }
     {
@@ -54,7 +55,7 @@ impl Front {
         len: u64,
         host: &[C],
     ) -> Result<(Reply, Option<Bytes>), NoMemory>
-        requires { HasWorld layout.now self.old (C.bytes host.now) }
+        requires { IsLent layout.now self.old (C.bytes host.now) }
         ensures ok { IfOk result (λ told.
             IsSideStep layout.now (Event.List lane tag addr len) self.old (C.bytes host.now) told.0 self.new (C.bytes host.now)) }
         ensures again { IfOk result (λ told. told.1 ≡ bytes_told told.0) }

@@ -1,7 +1,8 @@
 //! Commands that are taken from the guests' queues.
 
 ghost use Rattle.std.specs.Prelude.{◌≡◌, ◌<◌, length, slice_index};
-ghost use Rattle.nv_core.specs.Front.{CountMore, HasWorld, IsSideStep};
+ghost use Rattle.nv_core.specs.Front.{CountMore, IsSideStep};
+ghost use Rattle.nv_core.specs.Kept.{IsLent};
 ghost use Rattle.nv_core.specs.Take.{IsFrontTaken};
 ghost use Rattle.nv_mem.specs.GuestMap.{mapped};
 ghost use Rattle.nv_model.specs.Controller.{front};
@@ -37,7 +38,7 @@ impl Front {
         lane: u8,
         host: &[C],
     ) -> Reply
-        requires world { HasWorld layout.now self.old (C.bytes host.now) }
+        requires lent { IsLent layout.now self.old (C.bytes host.now) }
         requires counted { CountMore guest self.old.controllers }
         ensures step { IsSideStep layout.now (Event.Take guest queue lane) self.old (C.bytes host.now) result self.new (C.bytes host.now) }
         ensures tails { self.new.tails ≡ self.old.tails }

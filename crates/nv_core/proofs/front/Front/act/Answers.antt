@@ -1,8 +1,9 @@
 use Rattle.std.proofs.Common.{◌≤◌, ◌<◌, length, refl, subst, arith, ◌≡◌, ℕ, List, ap, set}
 use Rattle.nv_core.proofs.Placed.{act-done, act-nobody, has-controller, made-for}
-use Rattle.nv_core.specs.State.{State, IsOf}
+use Rattle.nv_core.specs.State.{State}
 use Rattle.nv_core.specs.Front.{IsSideOf, Side}
-use Rattle.nv_core.proofs.Sides.{of-side, quiet-in, state_in}
+use Rattle.nv_core.proofs.KeptStates.{IsKeptOf}
+use Rattle.nv_core.proofs.Sides.{of-side, own-side, own-world, quiet-in, state_in}
 use Rattle.nv_world_model.specs.World.{World}
 use Rattle.nv_world_model.specs.declared.event.Event.TheVariants as event
 use Rattle.nv_core.proofs.front.Front.act.Goals as goal
@@ -20,11 +21,11 @@ returns-then-number-len-clause-ok g c = λ w is.
     let old : State = state_in c.args.layout.now c.args.self.now m w is in
     let s : State = record { host = m; device = old.device; lanes = c.self.inside.lanes.items; controllers = c.self.inside.controllers.items } in
     let same : s ≡ old = ap (λ (f : Side). let o : State = record { host = m; device = old.device; lanes = f.lanes; controllers = f.controllers } in o) c.self.view_is in
-    let of : IsOf c.args.layout.now old = of-side c.args.layout.now c.args.self.now m w is in
+    let of : IsKeptOf c.args.layout.now old = of-side c.args.layout.now c.args.self.now m w is c.requires in
     let past : length c.self.inside.controllers.items ≤ c.args.guest =
     (let l = c.len.ensures in let n = c.from-number.ensures in let t = c.if-number-len.true in omega arith) in
     quiet-in c.args.layout.now c.args.self.now m w is (event.Guest c.args.guest c.args.act.now) tt _ c.args.self.now m refl
-    (absurd (has-controller c.args.layout.now old old c.args.guest c.in-Some.given.now of c.in-Some.ensures
+    (absurd (has-controller c.args.layout.now old old c.args.guest c.in-Some.given.now c.requires.kept.controllers c.in-Some.ensures
     (subst (λ (o : State). length o.controllers ≤ c.args.guest) same past)))
 
 pub returns-clause-ok : goal.returns-clause-ok
@@ -33,7 +34,7 @@ returns-clause-ok g c = λ w is.
     let old : State = state_in c.args.layout.now c.args.self.now m w is in
     let s : State = record { host = m; device = old.device; lanes = c.self.inside.lanes.items; controllers = c.self.inside.controllers.items } in
     let same : s ≡ old = ap (λ (f : Side). let o : State = record { host = m; device = old.device; lanes = f.lanes; controllers = f.controllers } in o) c.self.view_is in
-    let of : IsOf c.args.layout.now old = of-side c.args.layout.now c.args.self.now m w is in
+    let of : IsKeptOf c.args.layout.now old = of-side c.args.layout.now c.args.self.now m w is c.requires in
     let below : c.from-number.result < length c.self.inside.controllers.items = (let l = c.len.ensures in let t = c.if-number-len.false in omega arith) in
     quiet-in c.args.layout.now c.args.self.now m w is (event.Guest c.args.guest c.args.act.now) tt _ (let n : Side = record { lanes = c.self.inside.lanes.items; tails = c.self.inside.tails.items; controllers = (set c.self.inside.controllers.items c.from-number.result c.act_in_seat.new.vctl) } in n) (g.C.MemoryCell.bytes c.act_in_seat.new.host) (ap (λ (f : Side). f.tails) c.self.view_is)
     (act-done c.args.layout.now s old c.args.guest c.from-number.result c.in-Some.given.now c.index_mut-vctl.result.now c.act_in_seat.new.vctl
@@ -43,11 +44,11 @@ returns-clause-ok g c = λ w is.
 pub act_in_seat-requires : goal.act_in_seat-requires
 act_in_seat-requires g c =
     let m : List ℕ = g.C.MemoryCell.bytes c.args.host.now in
-    let w : World = c.requires.world in
-    let is : IsSideOf c.args.layout.now c.args.self.now m w = c.requires.is in
+    let w : World = own-world c.args.self.now m in
+    let is : IsSideOf c.args.self.now m w = own-side c.args.self.now m in
     let old : State = state_in c.args.layout.now c.args.self.now m w is in
     let s : State = record { host = m; device = old.device; lanes = c.self.inside.lanes.items; controllers = c.self.inside.controllers.items } in
     let same : s ≡ old = ap (λ (f : Side). let o : State = record { host = m; device = old.device; lanes = f.lanes; controllers = f.controllers } in o) c.self.view_is in
-    let of : IsOf c.args.layout.now old = of-side c.args.layout.now c.args.self.now m w is in
+    let of : IsKeptOf c.args.layout.now old = of-side c.args.layout.now c.args.self.now m w is c.requires in
     made-for c.args.layout.now s old c.args.guest c.in-Some.given.now c.in-Some.given.now.memory_map same of
     c.in-Some.ensures refl

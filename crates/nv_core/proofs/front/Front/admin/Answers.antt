@@ -1,10 +1,11 @@
 use Rattle.std.proofs.Common.{◌≤◌, ◌<◌, ◌∙◌, ap, length, subst, arith, ◌≡◌, ℕ, List, refl, set}
 use Rattle.nv_core.proofs.Placed.{admin-done, admin-nobody, has-controller, in-place}
 use Rattle.nv_core.specs.Seat.{told_by}
-use Rattle.nv_core.specs.State.{State, IsOf}
+use Rattle.nv_core.specs.State.{State}
 use Rattle.nv_ns.specs.Extents.{blocks_in}
 use Rattle.nv_core.specs.Front.{IsSideOf, Side}
-use Rattle.nv_core.proofs.Sides.{of-side, quiet-in, state_in}
+use Rattle.nv_core.proofs.KeptStates.{IsKeptOf}
+use Rattle.nv_core.proofs.Sides.{of-side, own-side, own-world, quiet-in, state_in}
 use Rattle.nv_world_model.specs.World.{World}
 use Rattle.nv_world_model.specs.declared.event.Event.TheVariants as event
 use Rattle.nv_core.proofs.front.Front.admin.Goals as goal
@@ -22,22 +23,22 @@ returns-then-number-len-clause-step g c = λ w is.
     let old : State = state_in c.args.layout.now c.args.self.now m w is in
     let s : State = record { host = m; device = old.device; lanes = c.self.inside.lanes.items; controllers = c.self.inside.controllers.items } in
     let same : s ≡ old = ap (λ (f : Side). let o : State = record { host = m; device = old.device; lanes = f.lanes; controllers = f.controllers } in o) c.self.view_is in
-    let of : IsOf c.args.layout.now old = of-side c.args.layout.now c.args.self.now m w is in
+    let of : IsKeptOf c.args.layout.now old = of-side c.args.layout.now c.args.self.now m w is c.requires in
     let past : length c.self.inside.controllers.items ≤ c.args.guest =
     (let l = c.len.ensures in let n = c.from-number.ensures in let t = c.if-number-len.true in omega arith) in
     quiet-in c.args.layout.now c.args.self.now m w is (event.Admin c.args.guest) tt _ c.args.self.now m refl
-    (absurd (has-controller c.args.layout.now old old c.args.guest c.in-Some.given.now of c.in-Some.ensures
+    (absurd (has-controller c.args.layout.now old old c.args.guest c.in-Some.given.now c.requires.kept.controllers c.in-Some.ensures
     (subst (λ (o : State). length o.controllers ≤ c.args.guest) same past)))
 
 pub admin-requires-clause-in_place : goal.admin-requires-clause-in_place
 admin-requires-clause-in_place g c =
     let m : List ℕ = g.C.MemoryCell.bytes c.args.host.now in
-    let w : World = c.requires.world in
-    let is : IsSideOf c.args.layout.now c.args.self.now m w = c.requires.is in
+    let w : World = own-world c.args.self.now m in
+    let is : IsSideOf c.args.self.now m w = own-side c.args.self.now m in
     let old : State = state_in c.args.layout.now c.args.self.now m w is in
     let s : State = record { host = m; device = old.device; lanes = c.self.inside.lanes.items; controllers = c.self.inside.controllers.items } in
     let same : s ≡ old = ap (λ (f : Side). let o : State = record { host = m; device = old.device; lanes = f.lanes; controllers = f.controllers } in o) c.self.view_is in
-    let of : IsOf c.args.layout.now old = of-side c.args.layout.now c.args.self.now m w is in
+    let of : IsKeptOf c.args.layout.now old = of-side c.args.layout.now c.args.self.now m w is c.requires in
     let below : c.from-number.result < length c.self.inside.controllers.items = (let l = c.len.ensures in let t = c.if-number-len.false in omega arith) in
     in-place c.args.layout.now s old c.args.guest c.from-number.result c.in-Some.given.now c.index_mut-vctl.result.now c.map.result.now
     same of c.from-number.ensures below c.index_mut-vctl.ensures.value c.in-Some.ensures c.map.ensures

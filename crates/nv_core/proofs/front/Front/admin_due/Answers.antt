@@ -2,12 +2,12 @@ use Rattle.std.proofs.Common.{◌≡◌, ◌≤◌, ◌<◌, length, subst, sym,
 use Rattle.nv_core.proofs.Dues.{admin-due, due-told}
 use Rattle.nv_core.proofs.Placed.{admin-nobody, has-controller}
 use Rattle.nv_core.proofs.GroupWorlds.{looked-up}
-use Rattle.nv_core.specs.State.{State, world_of, IsOf}
+use Rattle.nv_core.specs.State.{State, world_of}
 use Rattle.nv_model.specs.declared.reply.Reply.TheVariants as reply
 use Rattle.nv_world_model.specs.Due.{due}
 use Rattle.nv_world_model.specs.declared.event.Event.TheVariants as event
 use Rattle.nv_core.specs.Front.{Side}
-use Rattle.nv_core.proofs.Sides.{of-side, state_in, due-side}
+use Rattle.nv_core.proofs.Sides.{due-side, state_in}
 use Rattle.nv_core.proofs.front.Front.admin_due.Goals as goal
 
 pub returns-in_default : goal.returns-in_default
@@ -22,10 +22,9 @@ returns-then-number-len c = λ m w is.
     let old : State = state_in c.args.layout.now c.args.self.now m w is in
     let s : State = record { host = m; device = old.device; lanes = c.self.inside.lanes.items; controllers = c.self.inside.controllers.items } in
     let same : s ≡ old = ap (λ (f : Side). let o : State = record { host = m; device = old.device; lanes = f.lanes; controllers = f.controllers } in o) c.self.view_is in
-    let of : IsOf c.args.layout.now old = of-side c.args.layout.now c.args.self.now m w is in
     let past : length c.self.inside.controllers.items ≤ c.args.guest =
     (let l = c.len.ensures in let n = c.from-number.ensures in let t = c.if-number-len.true in omega arith) in
-    absurd (has-controller c.args.layout.now old old c.args.guest c.in-Some._given.now of c.in-Some.ensures
+    absurd (has-controller c.args.layout.now old old c.args.guest c.in-Some._given.now c.requires.controllers c.in-Some.ensures
     (subst (λ (o : State). length o.controllers ≤ c.args.guest) same past))
 
 pub returns : goal.returns

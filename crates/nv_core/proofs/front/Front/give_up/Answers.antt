@@ -1,9 +1,9 @@
-use Rattle.std.proofs.Common.{sym, arith, subst, ◌≡◌, ℕ, List, ap, refl, set}
+use Rattle.std.proofs.Common.{sym, arith, ◌≡◌, ◌∙◌, ℕ, List, [], Some, slice_get, ap, refl, set}
 use Rattle.nv_core.proofs.GiveUps.{give_up-done, give_up-not}
-use Rattle.nv_core.proofs.GroupWorlds.{all-taken, taken-below, taken-here, taken-led}
-use Rattle.nv_core.specs.State.{IsOf, State}
+use Rattle.nv_core.proofs.GroupWorlds.{all-taken, taken-below, taken-found, taken-here, taken-led}
+use Rattle.nv_core.specs.State.{State}
 use Rattle.nv_core.specs.Front.{IsSideOf, Side}
-use Rattle.nv_core.proofs.Sides.{of-side, quiet-in, state_in}
+use Rattle.nv_core.proofs.Sides.{own-side, own-world, quiet-in, state_in}
 use Rattle.nv_world_model.specs.World.{World}
 use Rattle.nv_world_model.specs.declared.event.Event.TheVariants as event
 use Rattle.nv_core.proofs.front.Front.give_up.Goals as goal
@@ -16,9 +16,9 @@ returns-in-Some-clause-step c = λ m w is.
 
 pub index_mut-requires : goal.index_mut-requires
 index_mut-requires c =
-    let m : List ℕ = c.requires.memory in
-    let w : World = c.requires.world in
-    let is : IsSideOf c.args._layout.now c.args.self.now m w = c.requires.is in
+    let m : List ℕ = [] in
+    let w : World = own-world c.args.self.now m in
+    let is : IsSideOf c.args.self.now m w = own-side c.args.self.now m in
     let old : State = state_in c.args._layout.now c.args.self.now m w is in
     let s : State = record { host = m; device = old.device; lanes = c.self.inside.lanes.items; controllers = c.self.inside.controllers.items } in
     let same : s ≡ old = ap (λ (f : Side). let o : State = record { host = m; device = old.device; lanes = f.lanes; controllers = f.controllers } in o) c.self.view_is in
@@ -28,9 +28,9 @@ index_mut-requires c =
 
 pub answer-requires-clause-led : goal.answer-requires-clause-led
 answer-requires-clause-led c =
-    let m : List ℕ = c.requires.memory in
-    let w : World = c.requires.world in
-    let is : IsSideOf c.args._layout.now c.args.self.now m w = c.requires.is in
+    let m : List ℕ = [] in
+    let w : World = own-world c.args.self.now m in
+    let is : IsSideOf c.args.self.now m w = own-side c.args.self.now m in
     let old : State = state_in c.args._layout.now c.args.self.now m w is in
     let s : State = record { host = m; device = old.device; lanes = c.self.inside.lanes.items; controllers = c.self.inside.controllers.items } in
     let same : s ≡ old = ap (λ (f : Side). let o : State = record { host = m; device = old.device; lanes = f.lanes; controllers = f.controllers } in o) c.self.view_is in
@@ -39,16 +39,18 @@ answer-requires-clause-led c =
 
 pub answer-requires-clause-together : goal.answer-requires-clause-together
 answer-requires-clause-together c =
-    let m : List ℕ = c.requires.memory in
-    let w : World = c.requires.world in
-    let is : IsSideOf c.args._layout.now c.args.self.now m w = c.requires.is in
+    let m : List ℕ = [] in
+    let w : World = own-world c.args.self.now m in
+    let is : IsSideOf c.args.self.now m w = own-side c.args.self.now m in
     let old : State = state_in c.args._layout.now c.args.self.now m w is in
     let s : State = record { host = m; device = old.device; lanes = c.self.inside.lanes.items; controllers = c.self.inside.controllers.items } in
     let same : s ≡ old = ap (λ (f : Side). let o : State = record { host = m; device = old.device; lanes = f.lanes; controllers = f.controllers } in o) c.self.view_is in
-    let of : IsOf c.args._layout.now old = of-side c.args._layout.now c.args.self.now m w is in
     let t = taken-here s old c.args.lane c.args.tag c.untaken.result same c.untaken.ensures c.in_default.is in
-    all-taken c.args._layout.now s (subst (λ (o : State). IsOf c.args._layout.now o) (sym same) of) c.args.lane c.args.tag
-    c.from.result c.index_mut.result.now t c.from.ensures c.index_mut.ensures.value
+    let found : slice_get c.args.self.now.lanes c.args.lane ≡ Some c.index_mut.result.now =
+    ap (λ (f : Side). slice_get f.lanes c.args.lane) (sym c.self.view_is)
+    ∙ taken-found s.lanes c.args.lane c.args.tag t c.from.result c.index_mut.result.now c.from.ensures c.index_mut.ensures.value in
+    all-taken c.args._layout.now s c.args.lane c.args.tag
+    c.from.result c.index_mut.result.now (c.requires.lanes c.args.lane c.index_mut.result.now found) t c.from.ensures c.index_mut.ensures.value
 
 pub returns-clause-step : goal.returns-clause-step
 returns-clause-step c = λ m w is.

@@ -2,13 +2,14 @@ use Rattle.std.proofs.Common.{◌≡◌, ◌∙◌, ◌++◌, ◌∷◌, [], ℕ
 use Rattle.nv_core.proofs.ListReads.{list-done, list-ignored, list-nobody, list-not, list-unmapped}
 use Rattle.nv_core.proofs.Placed.{held-is, made-for}
 use Rattle.nv_core.proofs.GroupWorlds.{taken-below, taken-here, taken-state, taken-there}
-use Rattle.nv_core.specs.State.{IsOf, IsStep, State}
+use Rattle.nv_core.specs.State.{IsStep, State}
 use Rattle.nv_model.specs.Transcript.{ReadDone}
 use Rattle.nv_model.specs.declared.reply.Reply.TheVariants as reply
 use Rattle.nv_world_model.specs.World.{Command, Taken, tag_changed, World}
 use Rattle.nv_world_model.specs.declared.event.Event.TheVariants as event
 use Rattle.nv_core.specs.Front.{IsSideOf, Side}
-use Rattle.nv_core.proofs.Sides.{of-side, quiet-in, state_in}
+use Rattle.nv_core.proofs.KeptStates.{IsKeptOf}
+use Rattle.nv_core.proofs.Sides.{of-side, own-side, own-world, quiet-in, state_in}
 use Rattle.nv_core.proofs.front.Front.list.Goals as goal
 
 pub returns-in-Some-clause-ok : goal.returns-in-Some-clause-ok
@@ -21,8 +22,8 @@ returns-in-Some-clause-ok g c = λ w is.
 pub index-requires : goal.index-requires
 index-requires g c =
     let m : List ℕ = g.C.MemoryCell.bytes c.args.host.now in
-    let w : World = c.requires.world in
-    let is : IsSideOf c.args.layout.now c.args.self.now m w = c.requires.is in
+    let w : World = own-world c.args.self.now m in
+    let is : IsSideOf c.args.self.now m w = own-side c.args.self.now m in
     let old : State = state_in c.args.layout.now c.args.self.now m w is in
     let s : State = record { host = m; device = old.device; lanes = c.self.inside.lanes.items; controllers = c.self.inside.controllers.items } in
     let same : s ≡ old = ap (λ (f : Side). let o : State = record { host = m; device = old.device; lanes = f.lanes; controllers = f.controllers } in o) c.self.view_is in
@@ -33,8 +34,8 @@ index-requires g c =
 pub claimed-requires : goal.claimed-requires
 claimed-requires g c =
     let m : List ℕ = g.C.MemoryCell.bytes c.args.host.now in
-    let w : World = c.requires.world in
-    let is : IsSideOf c.args.layout.now c.args.self.now m w = c.requires.is in
+    let w : World = own-world c.args.self.now m in
+    let is : IsSideOf c.args.self.now m w = own-side c.args.self.now m in
     let old : State = state_in c.args.layout.now c.args.self.now m w is in
     let s : State = record { host = m; device = old.device; lanes = c.self.inside.lanes.items; controllers = c.self.inside.controllers.items } in
     let same : s ≡ old = ap (λ (f : Side). let o : State = record { host = m; device = old.device; lanes = f.lanes; controllers = f.controllers } in o) c.self.view_is in
@@ -60,12 +61,12 @@ returns-then-not-holds-clause-ok g c = λ w is.
     let old : State = state_in c.args.layout.now c.args.self.now m w is in
     let s : State = record { host = m; device = old.device; lanes = c.self.inside.lanes.items; controllers = c.self.inside.controllers.items } in
     let same : s ≡ old = ap (λ (f : Side). let o : State = record { host = m; device = old.device; lanes = f.lanes; controllers = f.controllers } in o) c.self.view_is in
-    let of : IsOf c.args.layout.now old = of-side c.args.layout.now c.args.self.now m w is in
+    let of : IsKeptOf c.args.layout.now old = of-side c.args.layout.now c.args.self.now m w is c.requires in
     let t = taken-here s old c.args.lane c.args.tag c.untaken.result same c.untaken.ensures c.in_default.is in
     let guest = ap (λ (d : Command). d.guest)
     (c.claimed.ensures t.command t.reads (taken-there c.self.inside.lanes.items c.args.lane c.args.tag t c.from-at.result c.index.result.now c.from-at.ensures c.index.ensures)) in
     let there = subst (λ (n : ℕ). slice_get c.args.layout.now.guests n ≡ Some c.in-Some-guest.given.now) guest c.in-Some-guest.ensures in
-    let of = subst (IsOf c.args.layout.now) (sym same) of in
+    let of = subst (IsKeptOf c.args.layout.now) (sym same) of in
     quiet-in c.args.layout.now c.args.self.now m w is (event.List c.args.lane c.args.tag c.args.addr c.args.len) tt _ c.args.self.now m refl
     (subst (λ (o : State). IsStep c.args.layout.now (event.List c.args.lane c.args.tag c.args.addr c.args.len) o reply.Unmapped o) same
     (list-unmapped c.args.layout.now s s c.args.lane c.args.tag c.args.addr c.args.len t c.in-Some-guest.given.now of there
@@ -77,12 +78,12 @@ returns-then-not-is_part-clause-ok g c = λ w is.
     let old : State = state_in c.args.layout.now c.args.self.now m w is in
     let s : State = record { host = m; device = old.device; lanes = c.self.inside.lanes.items; controllers = c.self.inside.controllers.items } in
     let same : s ≡ old = ap (λ (f : Side). let o : State = record { host = m; device = old.device; lanes = f.lanes; controllers = f.controllers } in o) c.self.view_is in
-    let of : IsOf c.args.layout.now old = of-side c.args.layout.now c.args.self.now m w is in
+    let of : IsKeptOf c.args.layout.now old = of-side c.args.layout.now c.args.self.now m w is c.requires in
     let t = taken-here s old c.args.lane c.args.tag c.untaken.result same c.untaken.ensures c.in_default.is in
     let guest = ap (λ (d : Command). d.guest)
     (c.claimed.ensures t.command t.reads (taken-there c.self.inside.lanes.items c.args.lane c.args.tag t c.from-at.result c.index.result.now c.from-at.ensures c.index.ensures)) in
     let there = subst (λ (n : ℕ). slice_get c.args.layout.now.guests n ≡ Some c.in-Some-guest.given.now) guest c.in-Some-guest.ensures in
-    let of = subst (IsOf c.args.layout.now) (sym same) of in
+    let of = subst (IsKeptOf c.args.layout.now) (sym same) of in
     quiet-in c.args.layout.now c.args.self.now m w is (event.List c.args.lane c.args.tag c.args.addr c.args.len) tt _ c.args.self.now m refl
     (subst (λ (o : State). IsStep c.args.layout.now (event.List c.args.lane c.args.tag c.args.addr c.args.len) o reply.Ignored o) same
     (list-ignored c.args.layout.now s s c.args.lane c.args.tag c.args.addr c.args.len t c.in-Some-guest.given.now of there
@@ -92,8 +93,8 @@ returns-then-not-is_part-clause-ok g c = λ w is.
 pub index_mut-ring-requires : goal.index_mut-ring-requires
 index_mut-ring-requires g c =
     let m : List ℕ = g.C.MemoryCell.bytes c.args.host.now in
-    let w : World = c.requires.world in
-    let is : IsSideOf c.args.layout.now c.args.self.now m w = c.requires.is in
+    let w : World = own-world c.args.self.now m in
+    let is : IsSideOf c.args.self.now m w = own-side c.args.self.now m in
     let old : State = state_in c.args.layout.now c.args.self.now m w is in
     let s : State = record { host = m; device = old.device; lanes = c.self.inside.lanes.items; controllers = c.self.inside.controllers.items } in
     let same : s ≡ old = ap (λ (f : Side). let o : State = record { host = m; device = old.device; lanes = f.lanes; controllers = f.controllers } in o) c.self.view_is in
@@ -104,8 +105,8 @@ index_mut-ring-requires g c =
 pub push_read-requires : goal.push_read-requires
 push_read-requires g c =
     let m : List ℕ = g.C.MemoryCell.bytes c.args.host.now in
-    let w : World = c.requires.world in
-    let is : IsSideOf c.args.layout.now c.args.self.now m w = c.requires.is in
+    let w : World = own-world c.args.self.now m in
+    let is : IsSideOf c.args.self.now m w = own-side c.args.self.now m in
     let old : State = state_in c.args.layout.now c.args.self.now m w is in
     let s : State = record { host = m; device = old.device; lanes = c.self.inside.lanes.items; controllers = c.self.inside.controllers.items } in
     let same : s ≡ old = ap (λ (f : Side). let o : State = record { host = m; device = old.device; lanes = f.lanes; controllers = f.controllers } in o) c.self.view_is in
@@ -118,12 +119,12 @@ returns-clause-ok g c = λ w is.
     let old : State = state_in c.args.layout.now c.args.self.now m w is in
     let s : State = record { host = m; device = old.device; lanes = c.self.inside.lanes.items; controllers = c.self.inside.controllers.items } in
     let same : s ≡ old = ap (λ (f : Side). let o : State = record { host = m; device = old.device; lanes = f.lanes; controllers = f.controllers } in o) c.self.view_is in
-    let of : IsOf c.args.layout.now old = of-side c.args.layout.now c.args.self.now m w is in
+    let of : IsKeptOf c.args.layout.now old = of-side c.args.layout.now c.args.self.now m w is c.requires in
     let t = taken-here s old c.args.lane c.args.tag c.untaken.result same c.untaken.ensures c.in_default.is in
     let guest = ap (λ (d : Command). d.guest)
     (c.claimed.ensures t.command t.reads (taken-there c.self.inside.lanes.items c.args.lane c.args.tag t c.from-at.result c.index.result.now c.from-at.ensures c.index.ensures)) in
     let there = subst (λ (n : ℕ). slice_get c.args.layout.now.guests n ≡ Some c.in-Some-guest.given.now) guest c.in-Some-guest.ensures in
-    let of = subst (IsOf c.args.layout.now) (sym same) of in
+    let of = subst (IsKeptOf c.args.layout.now) (sym same) of in
     quiet-in c.args.layout.now c.args.self.now m w is (event.List c.args.lane c.args.tag c.args.addr c.args.len) tt _ (let n : Side = record { lanes = (set c.self.inside.lanes.items c.from-at.result c.push_read.new.self); tails = c.self.inside.tails.items; controllers = c.self.inside.controllers.items } in n) m (ap (λ (f : Side). f.tails) c.self.view_is)
     (list-done c.args.layout.now s old c.args.lane c.args.tag c.args.addr c.args.len t c.in-Some-guest.given.now of there
     c.from-at.result c.index_mut-ring.result.now c.push_read.new.self c.in_ok-shown.shown c.in_ok-kept.kept same c.from-at.ensures c.index_mut-ring.ensures.value
@@ -135,11 +136,11 @@ returns-clause-ok g c = λ w is.
 pub read_bytes-requires-clause-host : goal.read_bytes-requires-clause-host
 read_bytes-requires-clause-host g c =
     let m : List ℕ = g.C.MemoryCell.bytes c.args.host.now in
-    let w : World = c.requires.world in
-    let is : IsSideOf c.args.layout.now c.args.self.now m w = c.requires.is in
+    let w : World = own-world c.args.self.now m in
+    let is : IsSideOf c.args.self.now m w = own-side c.args.self.now m in
     let old : State = state_in c.args.layout.now c.args.self.now m w is in
     let s : State = record { host = m; device = old.device; lanes = c.self.inside.lanes.items; controllers = c.self.inside.controllers.items } in
     let same : s ≡ old = ap (λ (f : Side). let o : State = record { host = m; device = old.device; lanes = f.lanes; controllers = f.controllers } in o) c.self.view_is in
-    let of : IsOf c.args.layout.now old = of-side c.args.layout.now c.args.self.now m w is in
+    let of : IsKeptOf c.args.layout.now old = of-side c.args.layout.now c.args.self.now m w is c.requires in
     made-for c.args.layout.now s old c.claimed.result.now.guest c.in-Some-guest.given.now c.in-Some-guest.given.now.memory_map same
     of c.in-Some-guest.ensures refl

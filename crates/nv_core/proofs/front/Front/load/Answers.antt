@@ -1,7 +1,8 @@
 use Rattle.std.proofs.Common.{◌≡◌, ℕ, List, Some, inl, inr, length, refl, slice_get}
 use Rattle.nv_core.proofs.Placed.{act-nobody, act-quiet, controller-of, made-for}
-use Rattle.nv_core.proofs.Sides.{of-side, quiet-in, state_in}
-use Rattle.nv_core.specs.Front.{HasWorld, IsSideStep, Side}
+use Rattle.nv_core.proofs.Sides.{of-side, own-side, own-world, quiet-in, state_in}
+use Rattle.nv_core.specs.Front.{IsSideStep, Side}
+use Rattle.nv_core.specs.Kept.{IsLent}
 use Rattle.nv_core.specs.Seat.{IsActed, IsLoaded}
 use Rattle.nv_core.specs.State.{State}
 use Rattle.nv_model.specs.Controller.{Controller}
@@ -16,16 +17,16 @@ use Rattle.nv_core.proofs.front.Front.load.Goals as goal
 
 -- a load changes nothing in any world
 quiet-load : (geometry : Geometry) (side : Side) (m : List ℕ) (number : ℕ) (guest : Guest) (a : Act) (r : Reply) (before after : List ℕ)
-    → slice_get geometry.guests number ≡ Some guest → HasWorld geometry side m
+    → slice_get geometry.guests number ≡ Some guest → IsLent geometry side m
     → ((c : Controller) → IsLoaded (λ x. IsActed guest a (byte_in m) c x (byte_in m) c) r before after)
     → IsLoaded (λ x. IsSideStep geometry (event.Guest number a) side m x side m) r before after
-quiet-load geometry side m number guest a r before after there some acts = by-case found.0 found.1 (acts found.0)
+quiet-load geometry side m number guest a r before after there lent acts = by-case found.0 found.1 (acts found.0)
   where
     first : State
-    first = state_in geometry side m some.world some.is
+    first = state_in geometry side m (own-world side m) (own-side side m)
 
     found : (c : Controller) × (slice_get side.controllers number ≡ Some c)
-    found = controller-of geometry first first number guest refl (of-side geometry side m some.world some.is) there
+    found = controller-of geometry first first number guest refl (of-side geometry side m (own-world side m) (own-side side m) lent) there
 
     by-case : (c : Controller) → slice_get side.controllers number ≡ Some c → IsLoaded (λ x. IsActed guest a (byte_in m) c x (byte_in m) c) r before after
         → IsLoaded (λ x. IsSideStep geometry (event.Guest number a) side m x side m) r before after
@@ -34,7 +35,7 @@ quiet-load geometry side m number guest a r before after there some acts = by-ca
           so.0,
           λ w is.
               let s = state_in geometry side m w is in
-              quiet-in geometry side m w is (event.Guest number a) tt _ side m refl (act-quiet geometry s s number guest c a (reply.Bytes after) refl (of-side geometry side m w is) there has so.1),
+              quiet-in geometry side m w is (event.Guest number a) tt _ side m refl (act-quiet geometry s s number guest c a (reply.Bytes after) refl (of-side geometry side m w is lent) there has so.1),
         )
     by-case c has (inr so) =
         inr (
@@ -42,7 +43,7 @@ quiet-load geometry side m number guest a r before after there some acts = by-ca
           so.1,
           λ w is.
               let s = state_in geometry side m w is in
-              quiet-in geometry side m w is (event.Guest number a) tt _ side m refl (act-quiet geometry s s number guest c a r refl (of-side geometry side m w is) there has so.2),
+              quiet-in geometry side m w is (event.Guest number a) tt _ side m refl (act-quiet geometry s s number guest c a r refl (of-side geometry side m w is lent) there has so.2),
         )
 
 pub returns-in_default : goal.returns-in_default
@@ -60,9 +61,9 @@ returns-in_default g c =
 pub load_into-requires : goal.load_into-requires
 load_into-requires g c =
     let m : List ℕ = g.C.MemoryCell.bytes c.args.host.now in
-    let s : State = state_in c.args.layout.now c.args.self.now m c.requires.world c.requires.is in
+    let s : State = state_in c.args.layout.now c.args.self.now m (own-world c.args.self.now m) (own-side c.args.self.now m) in
     made-for c.args.layout.now s s c.args.guest c.in-Some.given.now c.in-Some.given.now.memory_map refl
-    (of-side c.args.layout.now c.args.self.now m c.requires.world c.requires.is) c.in-Some.ensures refl
+    (of-side c.args.layout.now c.args.self.now m (own-world c.args.self.now m) (own-side c.args.self.now m) c.requires) c.in-Some.ensures refl
 
 pub returns : goal.returns
 returns g c =

@@ -4,10 +4,11 @@ use Rattle.nv_core.proofs.Placed.{made-for}
 use Rattle.nv_core.proofs.Posts.{has-controller, may-settle, post-done, post-early, post-held, post-nobody, post-not, post-parts, post-placed}
 use Rattle.nv_core.proofs.Posts.{queues-there, same-lane}
 use Rattle.nv_core.specs.Groups.{tags_changed}
-use Rattle.nv_core.specs.State.{State, IsOf}
+use Rattle.nv_core.specs.State.{State}
 use Rattle.nv_world_model.specs.World.{Command, Free, Lane, group_in, World}
 use Rattle.nv_core.specs.Front.{IsSideOf, Side}
-use Rattle.nv_core.proofs.Sides.{of-side, quiet-in, state_in, counted-side}
+use Rattle.nv_core.proofs.KeptStates.{IsKeptOf}
+use Rattle.nv_core.proofs.Sides.{counted-side, of-side, own-side, own-world, quiet-in, state_in}
 use Rattle.nv_world_model.specs.declared.event.Event.TheVariants as event
 use Rattle.nv_core.proofs.front.Front.post.Goals as goal
 
@@ -21,8 +22,8 @@ returns-in-Some-clause-step g c = λ w is.
 pub index-ring-requires : goal.index-ring-requires
 index-ring-requires g c =
     let m : List ℕ = g.C.MemoryCell.bytes c.args.host.now in
-    let w : World = c.requires.world.world in
-    let is : IsSideOf c.args.layout.now c.args.self.now m w = c.requires.world.is in
+    let w : World = own-world c.args.self.now m in
+    let is : IsSideOf c.args.self.now m w = own-side c.args.self.now m in
     let old : State = state_in c.args.layout.now c.args.self.now m w is in
     let s : State = record { host = m; device = old.device; lanes = c.self.inside.lanes.items; controllers = c.self.inside.controllers.items } in
     let same : s ≡ old = ap (λ (f : Side). let o : State = record { host = m; device = old.device; lanes = f.lanes; controllers = f.controllers } in o) c.self.view_is in
@@ -33,8 +34,8 @@ index-ring-requires g c =
 pub ended-requires : goal.ended-requires
 ended-requires g c =
     let m : List ℕ = g.C.MemoryCell.bytes c.args.host.now in
-    let w : World = c.requires.world.world in
-    let is : IsSideOf c.args.layout.now c.args.self.now m w = c.requires.world.is in
+    let w : World = own-world c.args.self.now m in
+    let is : IsSideOf c.args.self.now m w = own-side c.args.self.now m in
     let old : State = state_in c.args.layout.now c.args.self.now m w is in
     let s : State = record { host = m; device = old.device; lanes = c.self.inside.lanes.items; controllers = c.self.inside.controllers.items } in
     let same : s ≡ old = ap (λ (f : Side). let o : State = record { host = m; device = old.device; lanes = f.lanes; controllers = f.controllers } in o) c.self.view_is in
@@ -47,7 +48,7 @@ returns-in_default-guest-clause-step g c = λ w is.
     let old : State = state_in c.args.layout.now c.args.self.now m w is in
     let s : State = record { host = m; device = old.device; lanes = c.self.inside.lanes.items; controllers = c.self.inside.controllers.items } in
     let same : s ≡ old = ap (λ (f : Side). let o : State = record { host = m; device = old.device; lanes = f.lanes; controllers = f.controllers } in o) c.self.view_is in
-    let of : IsOf c.args.layout.now old = of-side c.args.layout.now c.args.self.now m w is in
+    let of : IsKeptOf c.args.layout.now old = of-side c.args.layout.now c.args.self.now m w is c.requires.lent in
     let t = ended-here s old c.args.lane c.args.tag c.unended.result same c.unended.ensures c.in_default.is in
     let guest = ap (λ (d : Command). d.guest)
     (c.ended.ensures t.command t.st t.share (ended-there c.self.inside.lanes.items c.args.lane c.args.tag t c.from-at.result c.index-ring.result.now c.from-at.ensures c.index-ring.ensures)) in
@@ -59,8 +60,8 @@ returns-in_default-guest-clause-step g c = λ w is.
 pub outcome-requires-clause-ended : goal.outcome-requires-clause-ended
 outcome-requires-clause-ended g c =
     let m : List ℕ = g.C.MemoryCell.bytes c.args.host.now in
-    let w : World = c.requires.world.world in
-    let is : IsSideOf c.args.layout.now c.args.self.now m w = c.requires.world.is in
+    let w : World = own-world c.args.self.now m in
+    let is : IsSideOf c.args.self.now m w = own-side c.args.self.now m in
     let old : State = state_in c.args.layout.now c.args.self.now m w is in
     let s : State = record { host = m; device = old.device; lanes = c.self.inside.lanes.items; controllers = c.self.inside.controllers.items } in
     let same : s ≡ old = ap (λ (f : Side). let o : State = record { host = m; device = old.device; lanes = f.lanes; controllers = f.controllers } in o) c.self.view_is in
@@ -70,8 +71,8 @@ outcome-requires-clause-ended g c =
 pub outcome-requires-clause-led : goal.outcome-requires-clause-led
 outcome-requires-clause-led g c =
     let m : List ℕ = g.C.MemoryCell.bytes c.args.host.now in
-    let w : World = c.requires.world.world in
-    let is : IsSideOf c.args.layout.now c.args.self.now m w = c.requires.world.is in
+    let w : World = own-world c.args.self.now m in
+    let is : IsSideOf c.args.self.now m w = own-side c.args.self.now m in
     let old : State = state_in c.args.layout.now c.args.self.now m w is in
     let s : State = record { host = m; device = old.device; lanes = c.self.inside.lanes.items; controllers = c.self.inside.controllers.items } in
     let same : s ≡ old = ap (λ (f : Side). let o : State = record { host = m; device = old.device; lanes = f.lanes; controllers = f.controllers } in o) c.self.view_is in
@@ -84,7 +85,7 @@ returns-in_default-outcome-clause-step g c = λ w is.
     let old : State = state_in c.args.layout.now c.args.self.now m w is in
     let s : State = record { host = m; device = old.device; lanes = c.self.inside.lanes.items; controllers = c.self.inside.controllers.items } in
     let same : s ≡ old = ap (λ (f : Side). let o : State = record { host = m; device = old.device; lanes = f.lanes; controllers = f.controllers } in o) c.self.view_is in
-    let of : IsOf c.args.layout.now old = of-side c.args.layout.now c.args.self.now m w is in
+    let of : IsKeptOf c.args.layout.now old = of-side c.args.layout.now c.args.self.now m w is c.requires.lent in
     let t = ended-here s old c.args.lane c.args.tag c.unended.result same c.unended.ensures c.in_default.is in
     quiet-in c.args.layout.now c.args.self.now m w is (event.Post c.args.lane c.args.tag) tt _ c.args.self.now m refl
     (post-early c.args.layout.now s old c.args.lane c.args.tag same of t
@@ -94,12 +95,12 @@ returns-in_default-outcome-clause-step g c = λ w is.
 pub index_mut-vctl-requires : goal.index_mut-vctl-requires
 index_mut-vctl-requires g c =
     let m : List ℕ = g.C.MemoryCell.bytes c.args.host.now in
-    let w : World = c.requires.world.world in
-    let is : IsSideOf c.args.layout.now c.args.self.now m w = c.requires.world.is in
+    let w : World = own-world c.args.self.now m in
+    let is : IsSideOf c.args.self.now m w = own-side c.args.self.now m in
     let old : State = state_in c.args.layout.now c.args.self.now m w is in
     let s : State = record { host = m; device = old.device; lanes = c.self.inside.lanes.items; controllers = c.self.inside.controllers.items } in
     let same : s ≡ old = ap (λ (f : Side). let o : State = record { host = m; device = old.device; lanes = f.lanes; controllers = f.controllers } in o) c.self.view_is in
-    let of : IsOf c.args.layout.now old = of-side c.args.layout.now c.args.self.now m w is in
+    let of : IsKeptOf c.args.layout.now old = of-side c.args.layout.now c.args.self.now m w is c.requires.lent in
     let t = ended-here s old c.args.lane c.args.tag c.unended.result same c.unended.ensures c.in_default.is in
     let guest = ap (λ (d : Command). d.guest)
     (c.ended.ensures t.command t.st t.share (ended-there c.self.inside.lanes.items c.args.lane c.args.tag t c.from-at.result c.index-ring.result.now c.from-at.ensures c.index-ring.ensures)) in
@@ -111,12 +112,12 @@ index_mut-vctl-requires g c =
 pub settle-requires-clause-placed : goal.settle-requires-clause-placed
 settle-requires-clause-placed g c =
     let m : List ℕ = g.C.MemoryCell.bytes c.args.host.now in
-    let w : World = c.requires.world.world in
-    let is : IsSideOf c.args.layout.now c.args.self.now m w = c.requires.world.is in
+    let w : World = own-world c.args.self.now m in
+    let is : IsSideOf c.args.self.now m w = own-side c.args.self.now m in
     let old : State = state_in c.args.layout.now c.args.self.now m w is in
     let s : State = record { host = m; device = old.device; lanes = c.self.inside.lanes.items; controllers = c.self.inside.controllers.items } in
     let same : s ≡ old = ap (λ (f : Side). let o : State = record { host = m; device = old.device; lanes = f.lanes; controllers = f.controllers } in o) c.self.view_is in
-    let of : IsOf c.args.layout.now old = of-side c.args.layout.now c.args.self.now m w is in
+    let of : IsKeptOf c.args.layout.now old = of-side c.args.layout.now c.args.self.now m w is c.requires.lent in
     let t = ended-here s old c.args.lane c.args.tag c.unended.result same c.unended.ensures c.in_default.is in
     let fits : length s.host < 2 ^ 64 = (let size = c.len-known.ensures in let few = c.len-known.type_inv in omega (arith, size, few)) in
     post-placed c.args.layout.now s old c.args.lane c.args.tag same of t
@@ -125,8 +126,8 @@ settle-requires-clause-placed g c =
 pub settle-requires-clause-ended : goal.settle-requires-clause-ended
 settle-requires-clause-ended g c =
     let m : List ℕ = g.C.MemoryCell.bytes c.args.host.now in
-    let w : World = c.requires.world.world in
-    let is : IsSideOf c.args.layout.now c.args.self.now m w = c.requires.world.is in
+    let w : World = own-world c.args.self.now m in
+    let is : IsSideOf c.args.self.now m w = own-side c.args.self.now m in
     let old : State = state_in c.args.layout.now c.args.self.now m w is in
     let s : State = record { host = m; device = old.device; lanes = c.self.inside.lanes.items; controllers = c.self.inside.controllers.items } in
     let same : s ≡ old = ap (λ (f : Side). let o : State = record { host = m; device = old.device; lanes = f.lanes; controllers = f.controllers } in o) c.self.view_is in
@@ -136,8 +137,8 @@ settle-requires-clause-ended g c =
 pub settle-requires-clause-led : goal.settle-requires-clause-led
 settle-requires-clause-led g c =
     let m : List ℕ = g.C.MemoryCell.bytes c.args.host.now in
-    let w : World = c.requires.world.world in
-    let is : IsSideOf c.args.layout.now c.args.self.now m w = c.requires.world.is in
+    let w : World = own-world c.args.self.now m in
+    let is : IsSideOf c.args.self.now m w = own-side c.args.self.now m in
     let old : State = state_in c.args.layout.now c.args.self.now m w is in
     let s : State = record { host = m; device = old.device; lanes = c.self.inside.lanes.items; controllers = c.self.inside.controllers.items } in
     let same : s ≡ old = ap (λ (f : Side). let o : State = record { host = m; device = old.device; lanes = f.lanes; controllers = f.controllers } in o) c.self.view_is in
@@ -147,12 +148,12 @@ settle-requires-clause-led g c =
 pub settle-requires-clause-may : goal.settle-requires-clause-may
 settle-requires-clause-may g c =
     let m : List ℕ = g.C.MemoryCell.bytes c.args.host.now in
-    let w : World = c.requires.world.world in
-    let is : IsSideOf c.args.layout.now c.args.self.now m w = c.requires.world.is in
+    let w : World = own-world c.args.self.now m in
+    let is : IsSideOf c.args.self.now m w = own-side c.args.self.now m in
     let old : State = state_in c.args.layout.now c.args.self.now m w is in
     let s : State = record { host = m; device = old.device; lanes = c.self.inside.lanes.items; controllers = c.self.inside.controllers.items } in
     let same : s ≡ old = ap (λ (f : Side). let o : State = record { host = m; device = old.device; lanes = f.lanes; controllers = f.controllers } in o) c.self.view_is in
-    let of : IsOf c.args.layout.now old = of-side c.args.layout.now c.args.self.now m w is in
+    let of : IsKeptOf c.args.layout.now old = of-side c.args.layout.now c.args.self.now m w is c.requires.lent in
     let t = ended-here s old c.args.lane c.args.tag c.unended.result same c.unended.ensures c.in_default.is in
     let guest = ap (λ (d : Command). d.guest)
     (c.ended.ensures t.command t.st t.share (ended-there c.self.inside.lanes.items c.args.lane c.args.tag t c.from-at.result c.index-ring.result.now c.from-at.ensures c.index-ring.ensures)) in
@@ -164,12 +165,12 @@ settle-requires-clause-may g c =
 pub settle-requires-clause-parts : goal.settle-requires-clause-parts
 settle-requires-clause-parts g c =
     let m : List ℕ = g.C.MemoryCell.bytes c.args.host.now in
-    let w : World = c.requires.world.world in
-    let is : IsSideOf c.args.layout.now c.args.self.now m w = c.requires.world.is in
+    let w : World = own-world c.args.self.now m in
+    let is : IsSideOf c.args.self.now m w = own-side c.args.self.now m in
     let old : State = state_in c.args.layout.now c.args.self.now m w is in
     let s : State = record { host = m; device = old.device; lanes = c.self.inside.lanes.items; controllers = c.self.inside.controllers.items } in
     let same : s ≡ old = ap (λ (f : Side). let o : State = record { host = m; device = old.device; lanes = f.lanes; controllers = f.controllers } in o) c.self.view_is in
-    let of : IsOf c.args.layout.now old = of-side c.args.layout.now c.args.self.now m w is in
+    let of : IsKeptOf c.args.layout.now old = of-side c.args.layout.now c.args.self.now m w is c.requires.lent in
     let t = ended-here s old c.args.lane c.args.tag c.unended.result same c.unended.ensures c.in_default.is in
     let guest = ap (λ (d : Command). d.guest)
     (c.ended.ensures t.command t.st t.share (ended-there c.self.inside.lanes.items c.args.lane c.args.tag t c.from-at.result c.index-ring.result.now c.from-at.ensures c.index-ring.ensures)) in
@@ -181,12 +182,12 @@ settle-requires-clause-parts g c =
 pub settle-requires-clause-host : goal.settle-requires-clause-host
 settle-requires-clause-host g c =
     let m : List ℕ = g.C.MemoryCell.bytes c.args.host.now in
-    let w : World = c.requires.world.world in
-    let is : IsSideOf c.args.layout.now c.args.self.now m w = c.requires.world.is in
+    let w : World = own-world c.args.self.now m in
+    let is : IsSideOf c.args.self.now m w = own-side c.args.self.now m in
     let old : State = state_in c.args.layout.now c.args.self.now m w is in
     let s : State = record { host = m; device = old.device; lanes = c.self.inside.lanes.items; controllers = c.self.inside.controllers.items } in
     let same : s ≡ old = ap (λ (f : Side). let o : State = record { host = m; device = old.device; lanes = f.lanes; controllers = f.controllers } in o) c.self.view_is in
-    let of : IsOf c.args.layout.now old = of-side c.args.layout.now c.args.self.now m w is in
+    let of : IsKeptOf c.args.layout.now old = of-side c.args.layout.now c.args.self.now m w is c.requires.lent in
     let t = ended-here s old c.args.lane c.args.tag c.unended.result same c.unended.ensures c.in_default.is in
     made-for c.args.layout.now s old c.ended.result.now.guest c.in-Some-guest.given.now c.map.result.now same of
     c.in-Some-guest.ensures c.map.ensures
@@ -194,12 +195,12 @@ settle-requires-clause-host g c =
 pub settle-requires-clause-in_place : goal.settle-requires-clause-in_place
 settle-requires-clause-in_place g c =
     let m : List ℕ = g.C.MemoryCell.bytes c.args.host.now in
-    let w : World = c.requires.world.world in
-    let is : IsSideOf c.args.layout.now c.args.self.now m w = c.requires.world.is in
+    let w : World = own-world c.args.self.now m in
+    let is : IsSideOf c.args.self.now m w = own-side c.args.self.now m in
     let old : State = state_in c.args.layout.now c.args.self.now m w is in
     let s : State = record { host = m; device = old.device; lanes = c.self.inside.lanes.items; controllers = c.self.inside.controllers.items } in
     let same : s ≡ old = ap (λ (f : Side). let o : State = record { host = m; device = old.device; lanes = f.lanes; controllers = f.controllers } in o) c.self.view_is in
-    let of : IsOf c.args.layout.now old = of-side c.args.layout.now c.args.self.now m w is in
+    let of : IsKeptOf c.args.layout.now old = of-side c.args.layout.now c.args.self.now m w is c.requires.lent in
     let t = ended-here s old c.args.lane c.args.tag c.unended.result same c.unended.ensures c.in_default.is in
     let guest = ap (λ (d : Command). d.guest)
     (c.ended.ensures t.command t.st t.share (ended-there c.self.inside.lanes.items c.args.lane c.args.tag t c.from-at.result c.index-ring.result.now c.from-at.ensures c.index-ring.ensures)) in
@@ -211,8 +212,8 @@ settle-requires-clause-in_place g c =
 pub index_mut-requires : goal.index_mut-requires
 index_mut-requires g c =
     let m : List ℕ = g.C.MemoryCell.bytes c.args.host.now in
-    let w : World = c.requires.world.world in
-    let is : IsSideOf c.args.layout.now c.args.self.now m w = c.requires.world.is in
+    let w : World = own-world c.args.self.now m in
+    let is : IsSideOf c.args.self.now m w = own-side c.args.self.now m in
     let old : State = state_in c.args.layout.now c.args.self.now m w is in
     let s : State = record { host = m; device = old.device; lanes = c.self.inside.lanes.items; controllers = c.self.inside.controllers.items } in
     let same : s ≡ old = ap (λ (f : Side). let o : State = record { host = m; device = old.device; lanes = f.lanes; controllers = f.controllers } in o) c.self.view_is in
@@ -223,8 +224,8 @@ index_mut-requires g c =
 pub release-requires-clause-ended : goal.release-requires-clause-ended
 release-requires-clause-ended g c =
     let m : List ℕ = g.C.MemoryCell.bytes c.args.host.now in
-    let w : World = c.requires.world.world in
-    let is : IsSideOf c.args.layout.now c.args.self.now m w = c.requires.world.is in
+    let w : World = own-world c.args.self.now m in
+    let is : IsSideOf c.args.self.now m w = own-side c.args.self.now m in
     let old : State = state_in c.args.layout.now c.args.self.now m w is in
     let s : State = record { host = m; device = old.device; lanes = c.self.inside.lanes.items; controllers = c.self.inside.controllers.items } in
     let same : s ≡ old = ap (λ (f : Side). let o : State = record { host = m; device = old.device; lanes = f.lanes; controllers = f.controllers } in o) c.self.view_is in
@@ -234,8 +235,8 @@ release-requires-clause-ended g c =
 pub release-requires-clause-led : goal.release-requires-clause-led
 release-requires-clause-led g c =
     let m : List ℕ = g.C.MemoryCell.bytes c.args.host.now in
-    let w : World = c.requires.world.world in
-    let is : IsSideOf c.args.layout.now c.args.self.now m w = c.requires.world.is in
+    let w : World = own-world c.args.self.now m in
+    let is : IsSideOf c.args.self.now m w = own-side c.args.self.now m in
     let old : State = state_in c.args.layout.now c.args.self.now m w is in
     let s : State = record { host = m; device = old.device; lanes = c.self.inside.lanes.items; controllers = c.self.inside.controllers.items } in
     let same : s ≡ old = ap (λ (f : Side). let o : State = record { host = m; device = old.device; lanes = f.lanes; controllers = f.controllers } in o) c.self.view_is in
@@ -248,7 +249,7 @@ returns-in-Held-clause-step g c = λ w is.
     let old : State = state_in c.args.layout.now c.args.self.now m w is in
     let s : State = record { host = m; device = old.device; lanes = c.self.inside.lanes.items; controllers = c.self.inside.controllers.items } in
     let same : s ≡ old = ap (λ (f : Side). let o : State = record { host = m; device = old.device; lanes = f.lanes; controllers = f.controllers } in o) c.self.view_is in
-    let of : IsOf c.args.layout.now old = of-side c.args.layout.now c.args.self.now m w is in
+    let of : IsKeptOf c.args.layout.now old = of-side c.args.layout.now c.args.self.now m w is c.requires.lent in
     let t = ended-here s old c.args.lane c.args.tag c.unended.result same c.unended.ensures c.in_default.is in
     let guest = ap (λ (d : Command). d.guest)
     (c.ended.ensures t.command t.st t.share (ended-there c.self.inside.lanes.items c.args.lane c.args.tag t c.from-at.result c.index-ring.result.now c.from-at.ensures c.index-ring.ensures)) in
@@ -266,7 +267,7 @@ returns-in-Done-clause-step g c = λ w is.
     let old : State = state_in c.args.layout.now c.args.self.now m w is in
     let s : State = record { host = m; device = old.device; lanes = c.self.inside.lanes.items; controllers = c.self.inside.controllers.items } in
     let same : s ≡ old = ap (λ (f : Side). let o : State = record { host = m; device = old.device; lanes = f.lanes; controllers = f.controllers } in o) c.self.view_is in
-    let of : IsOf c.args.layout.now old = of-side c.args.layout.now c.args.self.now m w is in
+    let of : IsKeptOf c.args.layout.now old = of-side c.args.layout.now c.args.self.now m w is c.requires.lent in
     let t = ended-here s old c.args.lane c.args.tag c.unended.result same c.unended.ensures c.in_default.is in
     let guest = ap (λ (d : Command). d.guest)
     (c.ended.ensures t.command t.st t.share (ended-there c.self.inside.lanes.items c.args.lane c.args.tag t c.from-at.result c.index-ring.result.now c.from-at.ensures c.index-ring.ensures)) in

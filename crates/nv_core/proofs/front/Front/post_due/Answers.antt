@@ -1,14 +1,14 @@
-use Rattle.std.proofs.Common.{◌≡◌, ◌∙◌, ℕ, None, cond, is_some, slice_get, true, false, ap, sym, subst, arith, List}
+use Rattle.std.proofs.Common.{length, ◌≡◌, ◌∙◌, ℕ, None, cond, is_some, slice_get, true, false, ap, sym, subst, arith, List, []}
 use Rattle.nv_core.proofs.Dues.{none-by, post-due, post-nobody, post-not, post-waits}
 use Rattle.nv_core.proofs.GroupWorlds.{ended-below, ended-here, ended-is, ended-led, ended-there, looked-up}
-use Rattle.nv_core.specs.State.{IsOf, State, world_of}
+use Rattle.nv_core.specs.State.{State, world_of}
 use Rattle.nv_laws_sound.proofs.Lists.{slice_get-below}
 use Rattle.nv_model.specs.Controller.{is_enabled, post}
 use Rattle.nv_world_model.specs.Due.{due}
 use Rattle.nv_world_model.specs.World.{Command, World}
 use Rattle.nv_world_model.specs.declared.event.Event.TheVariants as event
 use Rattle.nv_core.specs.Front.{IsSideOf, Side}
-use Rattle.nv_core.proofs.Sides.{of-side, state_in, due-side}
+use Rattle.nv_core.proofs.Sides.{due-side, own-side, own-world, state_in}
 use Rattle.nv_core.proofs.front.Front.post_due.Goals as goal
 
 pub returns-then-is_some : goal.returns-then-is_some
@@ -19,9 +19,9 @@ returns-then-is_some c = λ m w is.
 
 pub index-ring-requires : goal.index-ring-requires
 index-ring-requires c =
-    let m : List ℕ = c.requires.memory in
-    let w : World = c.requires.world in
-    let is : IsSideOf c.args.layout.now c.args.self.now m w = c.requires.is in
+    let m : List ℕ = [] in
+    let w : World = own-world c.args.self.now m in
+    let is : IsSideOf c.args.self.now m w = own-side c.args.self.now m in
     let old : State = state_in c.args.layout.now c.args.self.now m w is in
     let s : State = record { host = m; device = old.device; lanes = c.self.inside.lanes.items; controllers = c.self.inside.controllers.items } in
     let same : s ≡ old = ap (λ (f : Side). let o : State = record { host = m; device = old.device; lanes = f.lanes; controllers = f.controllers } in o) c.self.view_is in
@@ -31,9 +31,9 @@ index-ring-requires c =
 
 pub have_ended-requires-clause-ended : goal.have_ended-requires-clause-ended
 have_ended-requires-clause-ended c =
-    let m : List ℕ = c.requires.memory in
-    let w : World = c.requires.world in
-    let is : IsSideOf c.args.layout.now c.args.self.now m w = c.requires.is in
+    let m : List ℕ = [] in
+    let w : World = own-world c.args.self.now m in
+    let is : IsSideOf c.args.self.now m w = own-side c.args.self.now m in
     let old : State = state_in c.args.layout.now c.args.self.now m w is in
     let s : State = record { host = m; device = old.device; lanes = c.self.inside.lanes.items; controllers = c.self.inside.controllers.items } in
     let same : s ≡ old = ap (λ (f : Side). let o : State = record { host = m; device = old.device; lanes = f.lanes; controllers = f.controllers } in o) c.self.view_is in
@@ -42,9 +42,9 @@ have_ended-requires-clause-ended c =
 
 pub have_ended-requires-clause-led : goal.have_ended-requires-clause-led
 have_ended-requires-clause-led c =
-    let m : List ℕ = c.requires.memory in
-    let w : World = c.requires.world in
-    let is : IsSideOf c.args.layout.now c.args.self.now m w = c.requires.is in
+    let m : List ℕ = [] in
+    let w : World = own-world c.args.self.now m in
+    let is : IsSideOf c.args.self.now m w = own-side c.args.self.now m in
     let old : State = state_in c.args.layout.now c.args.self.now m w is in
     let s : State = record { host = m; device = old.device; lanes = c.self.inside.lanes.items; controllers = c.self.inside.controllers.items } in
     let same : s ≡ old = ap (λ (f : Side). let o : State = record { host = m; device = old.device; lanes = f.lanes; controllers = f.controllers } in o) c.self.view_is in
@@ -64,9 +64,9 @@ returns-then-not-have_ended c = λ m w is.
 
 pub ended-claim-requires : goal.ended-claim-requires
 ended-claim-requires c =
-    let m : List ℕ = c.requires.memory in
-    let w : World = c.requires.world in
-    let is : IsSideOf c.args.layout.now c.args.self.now m w = c.requires.is in
+    let m : List ℕ = [] in
+    let w : World = own-world c.args.self.now m in
+    let is : IsSideOf c.args.self.now m w = own-side c.args.self.now m in
     let old : State = state_in c.args.layout.now c.args.self.now m w is in
     let s : State = record { host = m; device = old.device; lanes = c.self.inside.lanes.items; controllers = c.self.inside.controllers.items } in
     let same : s ≡ old = ap (λ (f : Side). let o : State = record { host = m; device = old.device; lanes = f.lanes; controllers = f.controllers } in o) c.self.view_is in
@@ -89,16 +89,15 @@ returns-in_default c = λ m w is.
 
 pub index-vctl-requires : goal.index-vctl-requires
 index-vctl-requires c =
-    let m : List ℕ = c.requires.memory in
-    let w : World = c.requires.world in
-    let is : IsSideOf c.args.layout.now c.args.self.now m w = c.requires.is in
+    let m : List ℕ = [] in
+    let w : World = own-world c.args.self.now m in
+    let is : IsSideOf c.args.self.now m w = own-side c.args.self.now m in
     let old : State = state_in c.args.layout.now c.args.self.now m w is in
     let s : State = record { host = m; device = old.device; lanes = c.self.inside.lanes.items; controllers = c.self.inside.controllers.items } in
     let same : s ≡ old = ap (λ (f : Side). let o : State = record { host = m; device = old.device; lanes = f.lanes; controllers = f.controllers } in o) c.self.view_is in
-    let of : IsOf c.args.layout.now old = of-side c.args.layout.now c.args.self.now m w is in
     let t = ended-here s old c.args.lane c.args.tag c.unended.result same c.unended.ensures (none-by c.unended.result c.is_some.result c.is_some.ensures c.if-is_some.false) in
     let below = slice_get-below c.args.layout.now.guests c.ended-claim.result.now.guest c.in-Some._given.now c.in-Some.ensures in
-    let many = (subst (IsOf c.args.layout.now) (sym same) of).consistent.of_tags.controllers in
+    let many = ap (λ (f : Side). length f.controllers) c.self.view_is ∙ c.requires.controllers in
     let number = c.from.ensures in omega arith
 
 pub returns : goal.returns
@@ -106,13 +105,12 @@ returns c = λ m w is.
     let old : State = state_in c.args.layout.now c.args.self.now m w is in
     let s : State = record { host = m; device = old.device; lanes = c.self.inside.lanes.items; controllers = c.self.inside.controllers.items } in
     let same : s ≡ old = ap (λ (f : Side). let o : State = record { host = m; device = old.device; lanes = f.lanes; controllers = f.controllers } in o) c.self.view_is in
-    let of : IsOf c.args.layout.now old = of-side c.args.layout.now c.args.self.now m w is in
     let t = ended-here s old c.args.lane c.args.tag c.unended.result same c.unended.ensures (none-by c.unended.result c.is_some.result c.is_some.ensures c.if-is_some.false) in
     let claim = c.ended-claim.ensures t.command t.st t.share
     (ended-there c.self.inside.lanes.items c.args.lane c.args.tag t c.from-at.result c.index-ring.result.now c.from-at.ensures c.index-ring.ensures) in
     let guest = ap (λ (d : Command). d.guest) claim in
     let within = slice_get-below c.args.layout.now.guests c.ended-claim.result.now.guest c.in-Some._given.now c.in-Some.ensures in
-    let many = (subst (IsOf c.args.layout.now) (sym same) of).consistent.of_tags.controllers in
+    let many = ap (λ (f : Side). length f.controllers) c.self.view_is ∙ c.requires.controllers in
     let found = looked-up c.self.inside.controllers.items t.command.guest c.from.result c.index-vctl.result.now (c.from.ensures ∙ guest)
     (let number = c.from.ensures in omega (arith, within, many)) c.index-vctl.ensures in
     let there = ap (slice_get c.args.layout.now.guests) (sym guest) ∙ c.in-Some.ensures in

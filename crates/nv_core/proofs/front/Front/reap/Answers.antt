@@ -1,21 +1,33 @@
-use Rattle.std.proofs.Common.{◌≡◌, ℕ, ◌+◌, ◌<◌, ◌^◌, ◌∙◌, List, length, set, ap, refl, subst, sym, arith}
+use Rattle.std.proofs.Common.{◌≡◌, ℕ, ◌+◌, ◌<◌, ◌^◌, ◌∙◌, List, Some, length, set, slice_get, ap, refl, subst, sym, arith, Option, None, false}
+use Rattle.nv_core.proofs.GroupWorlds.{looked-up}
 use Rattle.nv_core.proofs.PhasedReaps.{alike, low, must-idle, must-wait, phased, unlike}
-use Rattle.nv_core.proofs.Reaps.{cid-below, cid-flies, reap-done, reap-idle, reap-no_lane}
-use Rattle.nv_core.proofs.Sides.{of-side, quiet-in, state_in}
+use Rattle.nv_core.proofs.Reaps.{aloft, cid-flies, reap-done, reap-idle, reap-no_lane, reaped-as}
+use Rattle.nv_core.proofs.Sides.{of-live, own, quiet-in, reaped-in, state_in}
 use Rattle.nv_core.specs.Front.{IsSideOf, Side}
+use Rattle.nv_core.specs.Kept.{IsLent}
 use Rattle.nv_core.specs.State.{IsOf, State}
+use Rattle.nv_core.specs.Tags.{is_flying, state_in as point_in}
 use Rattle.nv_device.specs.Physical.{lane_of}
 use Rattle.nv_entry.specs.Completion.{phase_of}
+use Rattle.nv_laws_sound.proofs.Lists.{set-same, slice_get-below}
 use Rattle.nv_laws_sound.specs.Phased.{phase_at}
 use Rattle.nv_model.specs.Memory.{byte_in, bytes_from}
 use Rattle.nv_model.specs.Queue.{cqe_size}
 use Rattle.nv_world_model.specs.Area.{completion_slot, lane_start}
-use Rattle.nv_world_model.specs.World.{Lane, World}
+use Rattle.nv_tags.specs.declared.state.TagState.TheVariants as state
+use Rattle.nv_world_model.specs.World.{Ended, Flying, Free, Lane, Tag, Taken}
 use Rattle.nv_world_model.specs.declared.event.Event.TheVariants as event
 use Rattle.nv_core.proofs.front.Front.reap.Goals as goal
 
-pub returns-then-at-len-clause-step : goal.returns-then-at-len-clause-step
-returns-then-at-len-clause-step g c = λ w is.
+grounded : (t : Option Tag) → point_in t ≡ Some state.Flying → is_flying t ≡ false → ⊥
+grounded None flies e = cc
+grounded (Some Free) flies e = cc
+grounded (Some (Taken command reads)) flies e = cc
+grounded (Some (Flying command share at)) flies e = cc
+grounded (Some (Ended command st share)) flies e = cc
+
+pub returns-then-at-len-clause-ok : goal.returns-then-at-len-clause-ok
+returns-then-at-len-clause-ok g c = λ w is live.
     let m : List ℕ = g.C.MemoryCell.bytes c.args.host.now in
     let old : State = state_in c.args.layout.now c.args.self.now m w is in
     let s : State = record { host = m; device = old.device; lanes = c.self.inside.lanes.items; controllers = c.self.inside.controllers.items } in
@@ -27,12 +39,9 @@ pub completion_slot-slot-requires-clause-area : goal.completion_slot-slot-requir
 completion_slot-slot-requires-clause-area g c =
     let m : List ℕ = g.C.MemoryCell.bytes c.args.host.now in
     let side : Side = record { lanes = c.self.inside.lanes.items; tails = c.self.inside.tails.items; controllers = c.self.inside.controllers.items } in
-    let w : World = c.requires.world in
-    let is : IsSideOf c.args.layout.now side m w = subst (λ (f : Side). IsSideOf c.args.layout.now f m w) (sym c.self.view_is) (c.requires.is) in
-    let s : State = state_in c.args.layout.now side m w is in
-    let of : IsOf c.args.layout.now s = of-side c.args.layout.now side m w is in
+    let lent : IsLent c.args.layout.now side m = subst (λ (f : Side). IsLent c.args.layout.now f m) (sym c.self.view_is) c.requires in
     let below : c.from-at.result < length c.self.inside.lanes.items = (let l = c.len.ensures in let n = c.from-at.ensures in let t = c.if-at-len.false in omega arith) in
-    let area = is.laid_out.area in
+    let area = lent.laid_out.area in
     let size = c.len-known.ensures in
     let few = c.len-known.type_inv in
     let at = c.from-at.ensures in
@@ -43,101 +52,156 @@ pub completion_at-completion-requires : goal.completion_at-completion-requires
 completion_at-completion-requires g c = λ some.
     let m : List ℕ = g.C.MemoryCell.bytes c.args.host.now in
     let side : Side = record { lanes = c.self.inside.lanes.items; tails = c.self.inside.tails.items; controllers = c.self.inside.controllers.items } in
-    let w : World = c.requires.world in
-    let is : IsSideOf c.args.layout.now side m w = subst (λ (f : Side). IsSideOf c.args.layout.now f m w) (sym c.self.view_is) (c.requires.is) in
-    let s : State = state_in c.args.layout.now side m w is in
-    let of : IsOf c.args.layout.now s = of-side c.args.layout.now side m w is in
+    let lent : IsLent c.args.layout.now side m = subst (λ (f : Side). IsLent c.args.layout.now f m) (sym c.self.view_is) c.requires in
     let below : c.from-at.result < length c.self.inside.lanes.items = (let l = c.len.ensures in let n = c.from-at.ensures in let t = c.if-at-len.false in omega arith) in
-    let area = is.laid_out.area in
+    let area = lent.laid_out.area in
     let at = c.from-at.ensures in
     let begins = c.mediator.ensures in
     let slot = c.completion_slot-slot.ensures in
     let low = c.head.ensures.fits in
     omega (arith, area, at, below, begins, slot, low)
 
-pub returns-then-phase-wanted_phase-clause-step : goal.returns-then-phase-wanted_phase-clause-step
-returns-then-phase-wanted_phase-clause-step g c = λ w0 is0.
+pub returns-then-phase-wanted_phase-clause-ok : goal.returns-then-phase-wanted_phase-clause-ok
+returns-then-phase-wanted_phase-clause-ok g c = λ w is0 live.
     let m : List ℕ = g.C.MemoryCell.bytes c.args.host.now in
     let side : Side = record { lanes = c.self.inside.lanes.items; tails = c.self.inside.tails.items; controllers = c.self.inside.controllers.items } in
-    let w : World = w0 in
-    let is : IsSideOf c.args.layout.now side m w = subst (λ (f : Side). IsSideOf c.args.layout.now f m w) (sym c.self.view_is) (is0) in
-    let s : State = state_in c.args.layout.now side m w is in
-    let of : IsOf c.args.layout.now s = of-side c.args.layout.now side m w is in
+    let lent : IsLent c.args.layout.now side m = subst (λ (f : Side). IsLent c.args.layout.now f m) (sym c.self.view_is) c.requires in
     let below : c.from-at.result < length c.self.inside.lanes.items = (let l = c.len.ensures in let n = c.from-at.ensures in let t = c.if-at-len.false in omega arith) in
     let l : Lane = c.index_mut-ring.result.now in
+    let there : slice_get c.self.inside.lanes.items c.args.lane ≡ Some l =
+    looked-up c.self.inside.lanes.items c.args.lane c.from-at.result l c.from-at.ensures below c.index_mut-ring.ensures.value in
+    let is : IsSideOf side m w = subst (λ (f : Side). IsSideOf f m w) (sym c.self.view_is) is0 in
+    let s : State = state_in c.args.layout.now side m w is in
+    let of : IsOf c.args.layout.now s = of-live c.args.layout.now side m w is lent live in
     let p : ℕ = (lane_of s.device c.args.lane).posted in
-    let phased = phased c.args.layout.now side m w is c.args.lane c.from-at.result l c.from-at.ensures below c.index_mut-ring.ensures.value in
-    let low = low c.args.layout.now side m w is c.args.lane c.from-at.result l c.from-at.ensures below c.index_mut-ring.ensures.value in
+    let phased = phased c.args.layout.now side m w is live c.args.lane c.from-at.result l c.from-at.ensures below c.index_mut-ring.ensures.value in
+    let low = low c.args.layout.now side m w is live c.args.lane c.from-at.result l c.from-at.ensures below c.index_mut-ring.ensures.value in
     let located : c.completion_slot-slot.result ≡ completion_slot s.device.mediator c.args.lane c.head.result =
     c.completion_slot-slot.ensures ∙ ap (λ (n : ℕ). completion_slot n c.args.lane c.head.result) c.mediator.ensures in
     let reads : phase_of c.completion_at-completion.result ≡ phase_at c.args.layout.now (byte_in m) c.args.lane l.head =
     ap phase_of (c.completion_at-completion.ensures ∙ ap (λ (a : ℕ). bytes_from (byte_in m) a cqe_size) (located ∙ ap (completion_slot c.args.layout.now.mediator c.args.lane) c.head.ensures.value)) in
     quiet-in c.args.layout.now side m w is (event.Reap c.args.lane) tt _ (let n : Side = record { lanes = set c.self.inside.lanes.items c.from-at.result l; tails = c.self.inside.tails.items; controllers = c.self.inside.controllers.items } in n) m refl
     (reap-idle c.args.layout.now s s c.args.lane refl of c.from-at.result l c.from-at.ensures below c.index_mut-ring.ensures.value c.head.result p c.head.ensures.value refl
-    (c.head.ensures.value ∙ (must-idle c.args.layout.now (byte_in m) c.args.lane l.head l.phase p (lane_of s.device c.args.lane).phase low phased c.phase.result c.wanted_phase.result (phase_of c.completion_at-completion.result) reads c.phase.ensures c.wanted_phase.ensures (unlike c.phase.result c.wanted_phase.result c.if-phase-wanted_phase.true))))
+    (c.head.ensures.value ∙ must-idle c.args.layout.now (byte_in m) c.args.lane l.head l.phase p (lane_of s.device c.args.lane).phase low phased
+    c.phase.result c.wanted_phase.result (phase_of c.completion_at-completion.result) reads c.phase.ensures c.wanted_phase.ensures
+    (unlike c.phase.result c.wanted_phase.result c.if-phase-wanted_phase.true)))
 
-pub overflow_cast-cid : goal.overflow_cast-cid
-overflow_cast-cid g c =
+pub returns-then-phase-wanted_phase-clause-same : goal.returns-then-phase-wanted_phase-clause-same
+returns-then-phase-wanted_phase-clause-same g c = λ never.
     let m : List ℕ = g.C.MemoryCell.bytes c.args.host.now in
     let side : Side = record { lanes = c.self.inside.lanes.items; tails = c.self.inside.tails.items; controllers = c.self.inside.controllers.items } in
-    let w : World = c.requires.world in
-    let is : IsSideOf c.args.layout.now side m w = subst (λ (f : Side). IsSideOf c.args.layout.now f m w) (sym c.self.view_is) (c.requires.is) in
-    let s : State = state_in c.args.layout.now side m w is in
-    let of : IsOf c.args.layout.now s = of-side c.args.layout.now side m w is in
+    let lent : IsLent c.args.layout.now side m = subst (λ (f : Side). IsLent c.args.layout.now f m) (sym c.self.view_is) c.requires in
     let below : c.from-at.result < length c.self.inside.lanes.items = (let l = c.len.ensures in let n = c.from-at.ensures in let t = c.if-at-len.false in omega arith) in
     let l : Lane = c.index_mut-ring.result.now in
+    let there : slice_get c.self.inside.lanes.items c.args.lane ≡ Some l =
+    looked-up c.self.inside.lanes.items c.args.lane c.from-at.result l c.from-at.ensures below c.index_mut-ring.ensures.value in
+    ap (λ (ls : List Lane). let n : Side = record { lanes = ls; tails = c.self.inside.tails.items; controllers = c.self.inside.controllers.items } in n)
+    (ap (λ (n : ℕ). set c.self.inside.lanes.items n l) c.from-at.ensures ∙ set-same c.self.inside.lanes.items c.args.lane l there) ∙ c.self.view_is
+
+pub returns-then-not-is_flying-clause-same : goal.returns-then-not-is_flying-clause-same
+returns-then-not-is_flying-clause-same g c = λ never.
+    let m : List ℕ = g.C.MemoryCell.bytes c.args.host.now in
+    let side : Side = record { lanes = c.self.inside.lanes.items; tails = c.self.inside.tails.items; controllers = c.self.inside.controllers.items } in
+    let lent : IsLent c.args.layout.now side m = subst (λ (f : Side). IsLent c.args.layout.now f m) (sym c.self.view_is) c.requires in
+    let below : c.from-at.result < length c.self.inside.lanes.items = (let l = c.len.ensures in let n = c.from-at.ensures in let t = c.if-at-len.false in omega arith) in
+    let l : Lane = c.index_mut-ring.result.now in
+    let there : slice_get c.self.inside.lanes.items c.args.lane ≡ Some l =
+    looked-up c.self.inside.lanes.items c.args.lane c.from-at.result l c.from-at.ensures below c.index_mut-ring.ensures.value in
+    ap (λ (ls : List Lane). let n : Side = record { lanes = ls; tails = c.self.inside.tails.items; controllers = c.self.inside.controllers.items } in n)
+    (ap (λ (n : ℕ). set c.self.inside.lanes.items n l) c.from-at.ensures ∙ set-same c.self.inside.lanes.items c.args.lane l there) ∙ c.self.view_is
+
+pub returns-then-not-is_flying-clause-stray : goal.returns-then-not-is_flying-clause-stray
+returns-then-not-is_flying-clause-stray g c = λ w is0 live.
+    let m : List ℕ = g.C.MemoryCell.bytes c.args.host.now in
+    let side : Side = record { lanes = c.self.inside.lanes.items; tails = c.self.inside.tails.items; controllers = c.self.inside.controllers.items } in
+    let lent : IsLent c.args.layout.now side m = subst (λ (f : Side). IsLent c.args.layout.now f m) (sym c.self.view_is) c.requires in
+    let below : c.from-at.result < length c.self.inside.lanes.items = (let l = c.len.ensures in let n = c.from-at.ensures in let t = c.if-at-len.false in omega arith) in
+    let l : Lane = c.index_mut-ring.result.now in
+    let there : slice_get c.self.inside.lanes.items c.args.lane ≡ Some l =
+    looked-up c.self.inside.lanes.items c.args.lane c.from-at.result l c.from-at.ensures below c.index_mut-ring.ensures.value in
+    let is : IsSideOf side m w = subst (λ (f : Side). IsSideOf f m w) (sym c.self.view_is) is0 in
+    let s : State = state_in c.args.layout.now side m w is in
+    let of : IsOf c.args.layout.now s = of-live c.args.layout.now side m w is lent live in
     let p : ℕ = (lane_of s.device c.args.lane).posted in
-    let phased = phased c.args.layout.now side m w is c.args.lane c.from-at.result l c.from-at.ensures below c.index_mut-ring.ensures.value in
-    let low = low c.args.layout.now side m w is c.args.lane c.from-at.result l c.from-at.ensures below c.index_mut-ring.ensures.value in
+    let phased = phased c.args.layout.now side m w is live c.args.lane c.from-at.result l c.from-at.ensures below c.index_mut-ring.ensures.value in
+    let low = low c.args.layout.now side m w is live c.args.lane c.from-at.result l c.from-at.ensures below c.index_mut-ring.ensures.value in
     let located : c.completion_slot-slot.result ≡ completion_slot s.device.mediator c.args.lane c.head.result =
     c.completion_slot-slot.ensures ∙ ap (λ (n : ℕ). completion_slot n c.args.lane c.head.result) c.mediator.ensures in
     let reads : phase_of c.completion_at-completion.result ≡ phase_at c.args.layout.now (byte_in m) c.args.lane l.head =
     ap phase_of (c.completion_at-completion.ensures ∙ ap (λ (a : ℕ). bytes_from (byte_in m) a cqe_size) (located ∙ ap (completion_slot c.args.layout.now.mediator c.args.lane) c.head.ensures.value)) in
-    let few = cid-below c.args.layout.now s s c.args.lane refl of c.from-at.result l c.from-at.ensures below
-    c.index_mut-ring.ensures.value c.head.result p c.head.ensures.value refl (λ (e : c.head.result ≡ p). (must-wait c.args.layout.now (byte_in m) c.args.lane l.head l.phase p (lane_of s.device c.args.lane).phase low phased c.phase.result c.wanted_phase.result (phase_of c.completion_at-completion.result) reads c.phase.ensures c.wanted_phase.ensures (alike c.phase.result c.wanted_phase.result c.if-phase-wanted_phase.false)) (sym c.head.ensures.value ∙ e))
-    c.completion_slot-slot.result c.cid.result c.completion_at-completion.result located c.completion_at-completion.ensures c.cid.ensures in
-    omega arith
+    let waits : c.head.result ≡ p → ⊥ =
+    (λ e. must-wait c.args.layout.now (byte_in m) c.args.lane l.head l.phase p (lane_of s.device c.args.lane).phase low phased c.phase.result c.wanted_phase.result
+    (phase_of c.completion_at-completion.result) reads c.phase.ensures c.wanted_phase.ensures
+    (alike c.phase.result c.wanted_phase.result c.if-phase-wanted_phase.false) (sym c.head.ensures.value ∙ e)) in
+    let flies = cid-flies c.args.layout.now s s c.args.lane refl of c.from-at.result l c.from-at.ensures below
+    c.index_mut-ring.ensures.value c.head.result p c.head.ensures.value refl waits
+    c.completion_slot-slot.result c.cid-identifier.result c.completion_at-completion.result located c.completion_at-completion.ensures c.cid-identifier.ensures in
+    grounded (slice_get l.tags c.cid-identifier.result) flies (sym c.is_flying.ensures ∙ c.if-not-is_flying.true)
+
+pub overflow_cast-identifier : goal.overflow_cast-identifier
+overflow_cast-identifier g c =
+    let m : List ℕ = g.C.MemoryCell.bytes c.args.host.now in
+    let side : Side = record { lanes = c.self.inside.lanes.items; tails = c.self.inside.tails.items; controllers = c.self.inside.controllers.items } in
+    let lent : IsLent c.args.layout.now side m = subst (λ (f : Side). IsLent c.args.layout.now f m) (sym c.self.view_is) c.requires in
+    let below : c.from-at.result < length c.self.inside.lanes.items = (let l = c.len.ensures in let n = c.from-at.ensures in let t = c.if-at-len.false in omega arith) in
+    let l : Lane = c.index_mut-ring.result.now in
+    let there : slice_get c.self.inside.lanes.items c.args.lane ≡ Some l =
+    looked-up c.self.inside.lanes.items c.args.lane c.from-at.result l c.from-at.ensures below c.index_mut-ring.ensures.value in
+    let f = aloft (slice_get l.tags c.cid-identifier.result) (sym c.is_flying.ensures ∙ c.if-not-is_flying.false) in
+    let among = slice_get-below l.tags c.cid-identifier.result (Flying f.command f.share f.at) f.is in
+    let many = (lent.kept.lanes c.args.lane l there).tags_are in
+    omega (arith, among, many)
 
 pub end_with-requires : goal.end_with-requires
 end_with-requires g c =
-    let m : List ℕ = g.C.MemoryCell.bytes c.args.host.now in
-    let side : Side = record { lanes = c.self.inside.lanes.items; tails = c.self.inside.tails.items; controllers = c.self.inside.controllers.items } in
-    let w : World = c.requires.world in
-    let is : IsSideOf c.args.layout.now side m w = subst (λ (f : Side). IsSideOf c.args.layout.now f m w) (sym c.self.view_is) (c.requires.is) in
-    let s : State = state_in c.args.layout.now side m w is in
-    let of : IsOf c.args.layout.now s = of-side c.args.layout.now side m w is in
-    let below : c.from-at.result < length c.self.inside.lanes.items = (let l = c.len.ensures in let n = c.from-at.ensures in let t = c.if-at-len.false in omega arith) in
-    let l : Lane = c.index_mut-ring.result.now in
-    let p : ℕ = (lane_of s.device c.args.lane).posted in
-    let phased = phased c.args.layout.now side m w is c.args.lane c.from-at.result l c.from-at.ensures below c.index_mut-ring.ensures.value in
-    let low = low c.args.layout.now side m w is c.args.lane c.from-at.result l c.from-at.ensures below c.index_mut-ring.ensures.value in
-    let located : c.completion_slot-slot.result ≡ completion_slot s.device.mediator c.args.lane c.head.result =
-    c.completion_slot-slot.ensures ∙ ap (λ (n : ℕ). completion_slot n c.args.lane c.head.result) c.mediator.ensures in
-    let reads : phase_of c.completion_at-completion.result ≡ phase_at c.args.layout.now (byte_in m) c.args.lane l.head =
-    ap phase_of (c.completion_at-completion.ensures ∙ ap (λ (a : ℕ). bytes_from (byte_in m) a cqe_size) (located ∙ ap (completion_slot c.args.layout.now.mediator c.args.lane) c.head.ensures.value)) in
-    cid-flies c.args.layout.now s s c.args.lane refl of c.from-at.result l c.from-at.ensures below
-    c.index_mut-ring.ensures.value c.head.result p c.head.ensures.value refl (λ (e : c.head.result ≡ p). (must-wait c.args.layout.now (byte_in m) c.args.lane l.head l.phase p (lane_of s.device c.args.lane).phase low phased c.phase.result c.wanted_phase.result (phase_of c.completion_at-completion.result) reads c.phase.ensures c.wanted_phase.ensures (alike c.phase.result c.wanted_phase.result c.if-phase-wanted_phase.false)) (sym c.head.ensures.value ∙ e))
-    c.completion_slot-slot.result c.cid.result c.completion_at-completion.result located c.completion_at-completion.ensures c.cid.ensures
+    let f = aloft (slice_get c.index_mut-ring.result.now.tags c.cid-identifier.result) (sym c.is_flying.ensures ∙ c.if-not-is_flying.false) in
+    ap point_in f.is
 
-pub returns-clause-step : goal.returns-clause-step
-returns-clause-step g c = λ w0 is0.
+pub returns-clause-ok : goal.returns-clause-ok
+returns-clause-ok g c = λ w is0 live.
     let m : List ℕ = g.C.MemoryCell.bytes c.args.host.now in
     let side : Side = record { lanes = c.self.inside.lanes.items; tails = c.self.inside.tails.items; controllers = c.self.inside.controllers.items } in
-    let w : World = w0 in
-    let is : IsSideOf c.args.layout.now side m w = subst (λ (f : Side). IsSideOf c.args.layout.now f m w) (sym c.self.view_is) (is0) in
-    let s : State = state_in c.args.layout.now side m w is in
-    let of : IsOf c.args.layout.now s = of-side c.args.layout.now side m w is in
+    let lent : IsLent c.args.layout.now side m = subst (λ (f : Side). IsLent c.args.layout.now f m) (sym c.self.view_is) c.requires in
     let below : c.from-at.result < length c.self.inside.lanes.items = (let l = c.len.ensures in let n = c.from-at.ensures in let t = c.if-at-len.false in omega arith) in
     let l : Lane = c.index_mut-ring.result.now in
+    let there : slice_get c.self.inside.lanes.items c.args.lane ≡ Some l =
+    looked-up c.self.inside.lanes.items c.args.lane c.from-at.result l c.from-at.ensures below c.index_mut-ring.ensures.value in
+    let is : IsSideOf side m w = subst (λ (f : Side). IsSideOf f m w) (sym c.self.view_is) is0 in
+    let s : State = state_in c.args.layout.now side m w is in
+    let of : IsOf c.args.layout.now s = of-live c.args.layout.now side m w is lent live in
     let p : ℕ = (lane_of s.device c.args.lane).posted in
-    let phased = phased c.args.layout.now side m w is c.args.lane c.from-at.result l c.from-at.ensures below c.index_mut-ring.ensures.value in
-    let low = low c.args.layout.now side m w is c.args.lane c.from-at.result l c.from-at.ensures below c.index_mut-ring.ensures.value in
+    let phased = phased c.args.layout.now side m w is live c.args.lane c.from-at.result l c.from-at.ensures below c.index_mut-ring.ensures.value in
+    let low = low c.args.layout.now side m w is live c.args.lane c.from-at.result l c.from-at.ensures below c.index_mut-ring.ensures.value in
     let located : c.completion_slot-slot.result ≡ completion_slot s.device.mediator c.args.lane c.head.result =
     c.completion_slot-slot.ensures ∙ ap (λ (n : ℕ). completion_slot n c.args.lane c.head.result) c.mediator.ensures in
     let reads : phase_of c.completion_at-completion.result ≡ phase_at c.args.layout.now (byte_in m) c.args.lane l.head =
     ap phase_of (c.completion_at-completion.ensures ∙ ap (λ (a : ℕ). bytes_from (byte_in m) a cqe_size) (located ∙ ap (completion_slot c.args.layout.now.mediator c.args.lane) c.head.ensures.value)) in
+    let waits : c.head.result ≡ p → ⊥ =
+    (λ e. must-wait c.args.layout.now (byte_in m) c.args.lane l.head l.phase p (lane_of s.device c.args.lane).phase low phased c.phase.result c.wanted_phase.result
+    (phase_of c.completion_at-completion.result) reads c.phase.ensures c.wanted_phase.ensures
+    (alike c.phase.result c.wanted_phase.result c.if-phase-wanted_phase.false) (sym c.head.ensures.value ∙ e)) in
     quiet-in c.args.layout.now side m w is (event.Reap c.args.lane) tt _ (let n : Side = record { lanes = set c.self.inside.lanes.items c.from-at.result c.read_completion.new.self; tails = c.self.inside.tails.items; controllers = c.self.inside.controllers.items } in n) m refl
     (reap-done c.args.layout.now s s c.args.lane refl of c.from-at.result l c.from-at.ensures below
-    c.index_mut-ring.ensures.value c.head.result p c.head.ensures.value refl (λ (e : c.head.result ≡ p). (must-wait c.args.layout.now (byte_in m) c.args.lane l.head l.phase p (lane_of s.device c.args.lane).phase low phased c.phase.result c.wanted_phase.result (phase_of c.completion_at-completion.result) reads c.phase.ensures c.wanted_phase.ensures (alike c.phase.result c.wanted_phase.result c.if-phase-wanted_phase.false)) (sym c.head.ensures.value ∙ e))
-    c.completion_slot-slot.result c.cid.result c.completion_at-completion.result located c.completion_at-completion.ensures c.cid.ensures
+    c.index_mut-ring.ensures.value c.head.result p c.head.ensures.value refl waits
+    c.completion_slot-slot.result c.cid-identifier.result c.completion_at-completion.result located c.completion_at-completion.ensures c.cid-identifier.ensures
     c.status.result c.passed_on.result c.end_with.new.self c.read_completion.new.self c.status.ensures c.passed_on.ensures c.end_with.ensures c.read_completion.ensures)
+
+pub returns-clause-ended : goal.returns-clause-ended
+returns-clause-ended g c = λ done w k is0 found.
+    let m : List ℕ = g.C.MemoryCell.bytes c.args.host.now in
+    let side : Side = record { lanes = c.self.inside.lanes.items; tails = c.self.inside.tails.items; controllers = c.self.inside.controllers.items } in
+    let lent : IsLent c.args.layout.now side m = subst (λ (f : Side). IsLent c.args.layout.now f m) (sym c.self.view_is) c.requires in
+    let below : c.from-at.result < length c.self.inside.lanes.items = (let l = c.len.ensures in let n = c.from-at.ensures in let t = c.if-at-len.false in omega arith) in
+    let l : Lane = c.index_mut-ring.result.now in
+    let there : slice_get c.self.inside.lanes.items c.args.lane ≡ Some l =
+    looked-up c.self.inside.lanes.items c.args.lane c.from-at.result l c.from-at.ensures below c.index_mut-ring.ensures.value in
+    let is : IsSideOf side m w = subst (λ (f : Side). IsSideOf f m w) (sym c.self.view_is) is0 in
+    let at_head : c.completion_slot-slot.result ≡ completion_slot c.args.layout.now.mediator c.args.lane l.head =
+    c.completion_slot-slot.ensures ∙ ap (λ (n : ℕ). completion_slot n c.args.lane c.head.result) c.mediator.ensures
+    ∙ ap (completion_slot c.args.layout.now.mediator c.args.lane) c.head.ensures.value in
+    let f = aloft (slice_get l.tags c.cid-identifier.result) (sym c.is_flying.ensures ∙ c.if-not-is_flying.false) in
+    reaped-in c.args.layout.now side m w is c.args.lane c.from-at.result l c.read_completion.new.self k c.from-at.ensures found there
+    (reaped-as (own c.args.layout.now side m w is) c.args.lane c.cid-identifier.result l c.end_with.new.self c.read_completion.new.self f.command f.share f.at
+    c.completion_at-completion.result (bytes_from (byte_in m) (completion_slot c.args.layout.now.mediator c.args.lane l.head) cqe_size)
+    c.status.result c.passed_on.result there f.is c.status.ensures c.passed_on.ensures c.end_with.ensures c.read_completion.ensures c.cid-identifier.ensures
+    (c.completion_at-completion.ensures ∙ ap (λ (a : ℕ). bytes_from (byte_in m) a cqe_size) at_head))

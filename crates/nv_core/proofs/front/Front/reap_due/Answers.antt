@@ -3,21 +3,23 @@ use Rattle.nv_core.proofs.Dues.{due-told, reap-due}
 use Rattle.nv_core.proofs.PhasedReaps.{low, phased, shows}
 use Rattle.nv_core.proofs.Reaps.{reap-no_lane}
 use Rattle.nv_core.proofs.Sides.{due-side, of-side, state_in}
+use Rattle.nv_core.proofs.KeptStates.{IsKeptOf}
 use Rattle.nv_core.specs.Front.{IsSideOf, Side}
-use Rattle.nv_core.specs.State.{IsOf, State}
+use Rattle.nv_core.specs.Kept.{IsLent}
+use Rattle.nv_core.specs.State.{State}
 use Rattle.nv_device.specs.Physical.{lane_of}
 use Rattle.nv_entry.specs.Completion.{phase_of}
 use Rattle.nv_laws_sound.specs.Phased.{phase_at}
 use Rattle.nv_model.specs.Memory.{byte_in, bytes_from}
 use Rattle.nv_model.specs.Queue.{cqe_size}
 use Rattle.nv_world_model.specs.Area.{completion_slot, lane_start}
-use Rattle.nv_world_model.specs.World.{Lane, World}
+use Rattle.nv_world_model.specs.World.{Lane}
 use Rattle.nv_model.specs.declared.reply.Reply.TheVariants as reply
 use Rattle.nv_world_model.specs.declared.event.Event.TheVariants as event
 use Rattle.nv_core.proofs.front.Front.reap_due.Goals as goal
 
 pub returns-then-at-len : goal.returns-then-at-len
-returns-then-at-len g c = λ w is.
+returns-then-at-len g c = λ w is live.
     let m : List ℕ = g.C.MemoryCell.bytes c.args.host.now in
     let old : State = state_in c.args.layout.now c.args.self.now m w is in
     let s : State = record { host = m; device = old.device; lanes = c.self.inside.lanes.items; controllers = c.self.inside.controllers.items } in
@@ -30,12 +32,9 @@ pub completion_slot-slot-requires-clause-area : goal.completion_slot-slot-requir
 completion_slot-slot-requires-clause-area g c =
     let m : List ℕ = g.C.MemoryCell.bytes c.args.host.now in
     let side : Side = record { lanes = c.self.inside.lanes.items; tails = c.self.inside.tails.items; controllers = c.self.inside.controllers.items } in
-    let w : World = c.requires.world in
-    let is : IsSideOf c.args.layout.now side m w = subst (λ (f : Side). IsSideOf c.args.layout.now f m w) (sym c.self.view_is) (c.requires.is) in
-    let s : State = state_in c.args.layout.now side m w is in
-    let of : IsOf c.args.layout.now s = of-side c.args.layout.now side m w is in
+    let lent : IsLent c.args.layout.now side m = subst (λ (f : Side). IsLent c.args.layout.now f m) (sym c.self.view_is) c.requires in
     let below : c.from-at.result < length c.self.inside.lanes.items = (let l = c.len.ensures in let n = c.from-at.ensures in let t = c.if-at-len.false in omega arith) in
-    let area = is.laid_out.area in
+    let area = lent.laid_out.area in
     let size = c.len-known.ensures in
     let few = c.len-known.type_inv in
     let at = c.from-at.ensures in
@@ -45,12 +44,9 @@ pub completion_at-requires : goal.completion_at-requires
 completion_at-requires g c = λ some.
     let m : List ℕ = g.C.MemoryCell.bytes c.args.host.now in
     let side : Side = record { lanes = c.self.inside.lanes.items; tails = c.self.inside.tails.items; controllers = c.self.inside.controllers.items } in
-    let w : World = c.requires.world in
-    let is : IsSideOf c.args.layout.now side m w = subst (λ (f : Side). IsSideOf c.args.layout.now f m w) (sym c.self.view_is) (c.requires.is) in
-    let s : State = state_in c.args.layout.now side m w is in
-    let of : IsOf c.args.layout.now s = of-side c.args.layout.now side m w is in
+    let lent : IsLent c.args.layout.now side m = subst (λ (f : Side). IsLent c.args.layout.now f m) (sym c.self.view_is) c.requires in
     let below : c.from-at.result < length c.self.inside.lanes.items = (let l = c.len.ensures in let n = c.from-at.ensures in let t = c.if-at-len.false in omega arith) in
-    let area = is.laid_out.area in
+    let area = lent.laid_out.area in
     let at = c.from-at.ensures in
     let begins = c.mediator.ensures in
     let slot = c.completion_slot-slot.ensures in
@@ -58,18 +54,18 @@ completion_at-requires g c = λ some.
     omega (arith, area, at, below, begins, slot, low)
 
 pub returns : goal.returns
-returns g c = λ w0 is0.
+returns g c = λ w is0 live.
     let m : List ℕ = g.C.MemoryCell.bytes c.args.host.now in
     let side : Side = record { lanes = c.self.inside.lanes.items; tails = c.self.inside.tails.items; controllers = c.self.inside.controllers.items } in
-    let w : World = w0 in
-    let is : IsSideOf c.args.layout.now side m w = subst (λ (f : Side). IsSideOf c.args.layout.now f m w) (sym c.self.view_is) (is0) in
+    let lent : IsLent c.args.layout.now side m = subst (λ (f : Side). IsLent c.args.layout.now f m) (sym c.self.view_is) c.requires in
+    let is : IsSideOf side m w = subst (λ (f : Side). IsSideOf f m w) (sym c.self.view_is) is0 in
     let s : State = state_in c.args.layout.now side m w is in
-    let of : IsOf c.args.layout.now s = of-side c.args.layout.now side m w is in
+    let of : IsKeptOf c.args.layout.now s = of-side c.args.layout.now side m w is lent in
     let below : c.from-at.result < length c.self.inside.lanes.items = (let l = c.len.ensures in let n = c.from-at.ensures in let t = c.if-at-len.false in omega arith) in
     let l : Lane = c.index-ring.result.now in
     let p : ℕ = (lane_of s.device c.args.lane).posted in
-    let phased = phased c.args.layout.now side m w is c.args.lane c.from-at.result l c.from-at.ensures below c.index-ring.ensures in
-    let low = low c.args.layout.now side m w is c.args.lane c.from-at.result l c.from-at.ensures below c.index-ring.ensures in
+    let phased = phased c.args.layout.now side m w is live c.args.lane c.from-at.result l c.from-at.ensures below c.index-ring.ensures in
+    let low = low c.args.layout.now side m w is live c.args.lane c.from-at.result l c.from-at.ensures below c.index-ring.ensures in
     let located : c.completion_slot-slot.result ≡ completion_slot s.device.mediator c.args.lane c.head.result =
     c.completion_slot-slot.ensures ∙ ap (λ (n : ℕ). completion_slot n c.args.lane c.head.result) c.mediator.ensures in
     let reads : phase_of c.completion_at.result ≡ phase_at c.args.layout.now (byte_in m) c.args.lane l.head =

@@ -2,11 +2,12 @@ use Rattle.std.proofs.Common.{◌≡◌, ◌<◌, ◌∙◌, ℕ, List, Some, le
 use Rattle.std.proofs.lemmas.Option.{slice_get_read}
 use Rattle.nv_core.proofs.GroupWorlds.{taken-below, taken-here, taken-state, taken-there}
 use Rattle.nv_core.proofs.Handed.{lane-there}
-use Rattle.nv_core.proofs.Sides.{of-side, quiet-in, rung-in, state_in, tail-stays, tail-there, tails-many}
+use Rattle.nv_core.proofs.KeptStates.{IsKeptOf, tail-of}
+use Rattle.nv_core.proofs.Sides.{of-side, own-side, own-world, quiet-in, rung-in, state_in, tail-stays, tail-there}
 use Rattle.nv_core.proofs.Submits.{have-room, on-device, submit-done, submit-nobody, submit-not}
 use Rattle.nv_core.proofs.Waits.{waits}
 use Rattle.nv_core.specs.Front.{HasTailMoved, IsSideOf, Side}
-use Rattle.nv_core.specs.State.{IsOf, IsStep, State}
+use Rattle.nv_core.specs.State.{IsStep, State}
 use Rattle.nv_core.specs.Submit.{HaveRoom}
 use Rattle.nv_device.specs.Physical.{lane_of}
 use Rattle.nv_laws_sound.proofs.Lists.{some-same}
@@ -26,13 +27,13 @@ returns-in-Some-clause-ok g c = λ w is.
 
 pub returns-in-Some-clause-tails : goal.returns-in-Some-clause-tails
 returns-in-Some-clause-tails g c =
-    tail-stays c.args.layout.now c.args.self.now (g.C.MemoryCell.bytes c.args.host.now) c.requires.world c.requires.is c.args.lane
+    tail-stays c.args.layout.now c.args.self.now c.args.lane c.requires.kept
 
 pub index-requires : goal.index-requires
 index-requires g c =
     let m : List ℕ = g.C.MemoryCell.bytes c.args.host.now in
-    let w : World = c.requires.world in
-    let is : IsSideOf c.args.layout.now c.args.self.now m w = c.requires.is in
+    let w : World = own-world c.args.self.now m in
+    let is : IsSideOf c.args.self.now m w = own-side c.args.self.now m in
     let old : State = state_in c.args.layout.now c.args.self.now m w is in
     let s : State = record { host = m; device = old.device; lanes = c.self.inside.lanes.items; controllers = c.self.inside.controllers.items } in
     let same : s ≡ old = ap (λ (f : Side). let o : State = record { host = m; device = old.device; lanes = f.lanes; controllers = f.controllers } in o) c.self.view_is in
@@ -44,8 +45,8 @@ index-requires g c =
 pub claimed-requires : goal.claimed-requires
 claimed-requires g c =
     let m : List ℕ = g.C.MemoryCell.bytes c.args.host.now in
-    let w : World = c.requires.world in
-    let is : IsSideOf c.args.layout.now c.args.self.now m w = c.requires.is in
+    let w : World = own-world c.args.self.now m in
+    let is : IsSideOf c.args.self.now m w = own-side c.args.self.now m in
     let old : State = state_in c.args.layout.now c.args.self.now m w is in
     let s : State = record { host = m; device = old.device; lanes = c.self.inside.lanes.items; controllers = c.self.inside.controllers.items } in
     let same : s ≡ old = ap (λ (f : Side). let o : State = record { host = m; device = old.device; lanes = f.lanes; controllers = f.controllers } in o) c.self.view_is in
@@ -68,13 +69,13 @@ returns-in_default-guest-clause-ok g c = λ w is.
 
 pub returns-in_default-guest-clause-tails : goal.returns-in_default-guest-clause-tails
 returns-in_default-guest-clause-tails g c =
-    tail-stays c.args.layout.now c.args.self.now (g.C.MemoryCell.bytes c.args.host.now) c.requires.world c.requires.is c.args.lane
+    tail-stays c.args.layout.now c.args.self.now c.args.lane c.requires.kept
 
 pub index_mut-ring-requires : goal.index_mut-ring-requires
 index_mut-ring-requires g c =
     let m : List ℕ = g.C.MemoryCell.bytes c.args.host.now in
-    let w : World = c.requires.world in
-    let is : IsSideOf c.args.layout.now c.args.self.now m w = c.requires.is in
+    let w : World = own-world c.args.self.now m in
+    let is : IsSideOf c.args.self.now m w = own-side c.args.self.now m in
     let old : State = state_in c.args.layout.now c.args.self.now m w is in
     let s : State = record { host = m; device = old.device; lanes = c.self.inside.lanes.items; controllers = c.self.inside.controllers.items } in
     let same : s ≡ old = ap (λ (f : Side). let o : State = record { host = m; device = old.device; lanes = f.lanes; controllers = f.controllers } in o) c.self.view_is in
@@ -86,26 +87,26 @@ index_mut-ring-requires g c =
 pub index_mut-tail-requires : goal.index_mut-tail-requires
 index_mut-tail-requires g c =
     let m : List ℕ = g.C.MemoryCell.bytes c.args.host.now in
-    let w : World = c.requires.world in
-    let is : IsSideOf c.args.layout.now c.args.self.now m w = c.requires.is in
+    let w : World = own-world c.args.self.now m in
+    let is : IsSideOf c.args.self.now m w = own-side c.args.self.now m in
     let old : State = state_in c.args.layout.now c.args.self.now m w is in
     let s : State = record { host = m; device = old.device; lanes = c.self.inside.lanes.items; controllers = c.self.inside.controllers.items } in
     let same : s ≡ old = ap (λ (f : Side). let o : State = record { host = m; device = old.device; lanes = f.lanes; controllers = f.controllers } in o) c.self.view_is in
     let t = taken-here s old c.args.lane c.args.tag c.untaken.result same c.untaken.ensures c.in_default.is in
     let below = taken-below c.self.inside.lanes.items c.args.lane c.args.tag t in
     let number = c.from-at.ensures in
-    let many : length c.self.inside.tails.items ≡ length c.self.inside.lanes.items = subst (λ (f : Side). length f.tails ≡ length f.lanes) (sym c.self.view_is) (tails-many c.args.layout.now c.args.self.now m w is) in
+    let many : length c.self.inside.tails.items ≡ length c.self.inside.lanes.items = subst (λ (f : Side). length f.tails ≡ length f.lanes) (sym c.self.view_is) c.requires.kept.many in
     omega (arith, below, number, many)
 
 pub submit_on-requires-clause-room : goal.submit_on-requires-clause-room
 submit_on-requires-clause-room g c =
     let m : List ℕ = g.C.MemoryCell.bytes c.args.host.now in
-    let w : World = c.requires.world in
-    let is : IsSideOf c.args.layout.now c.args.self.now m w = c.requires.is in
+    let w : World = own-world c.args.self.now m in
+    let is : IsSideOf c.args.self.now m w = own-side c.args.self.now m in
     let old : State = state_in c.args.layout.now c.args.self.now m w is in
     let s : State = record { host = m; device = old.device; lanes = c.self.inside.lanes.items; controllers = c.self.inside.controllers.items } in
     let same : s ≡ old = ap (λ (f : Side). let o : State = record { host = m; device = old.device; lanes = f.lanes; controllers = f.controllers } in o) c.self.view_is in
-    let of : IsOf c.args.layout.now s = subst (IsOf c.args.layout.now) (sym same) (of-side c.args.layout.now c.args.self.now m w is) in
+    let of : IsKeptOf c.args.layout.now s = subst (IsKeptOf c.args.layout.now) (sym same) (of-side c.args.layout.now c.args.self.now m w is c.requires) in
     let t = taken-here s old c.args.lane c.args.tag c.untaken.result same c.untaken.ensures c.in_default.is in
     let guest =
     ap (λ (d : Command). d.guest) (c.claimed.ensures t.command t.reads
@@ -117,12 +118,12 @@ submit_on-requires-clause-room g c =
 pub submit_on-requires-clause-tail : goal.submit_on-requires-clause-tail
 submit_on-requires-clause-tail g c =
     let m : List ℕ = g.C.MemoryCell.bytes c.args.host.now in
-    let w : World = c.requires.world in
-    let is : IsSideOf c.args.layout.now c.args.self.now m w = c.requires.is in
+    let w : World = own-world c.args.self.now m in
+    let is : IsSideOf c.args.self.now m w = own-side c.args.self.now m in
     let old : State = state_in c.args.layout.now c.args.self.now m w is in
     let s : State = record { host = m; device = old.device; lanes = c.self.inside.lanes.items; controllers = c.self.inside.controllers.items } in
     let same : s ≡ old = ap (λ (f : Side). let o : State = record { host = m; device = old.device; lanes = f.lanes; controllers = f.controllers } in o) c.self.view_is in
-    let of : IsOf c.args.layout.now s = subst (IsOf c.args.layout.now) (sym same) (of-side c.args.layout.now c.args.self.now m w is) in
+    let of : IsKeptOf c.args.layout.now s = subst (IsKeptOf c.args.layout.now) (sym same) (of-side c.args.layout.now c.args.self.now m w is c.requires) in
     let t = taken-here s old c.args.lane c.args.tag c.untaken.result same c.untaken.ensures c.in_default.is in
     let below = taken-below c.self.inside.lanes.items c.args.lane c.args.tag t in
     let number = c.from-at.ensures in
@@ -130,7 +131,7 @@ submit_on-requires-clause-tail g c =
     ap (λ (d : Command). d.guest) (c.claimed.ensures t.command t.reads
     (taken-there c.self.inside.lanes.items c.args.lane c.args.tag t c.from-at.result c.index.result.now c.from-at.ensures c.index.ensures)) in
     let there = subst (λ (n : ℕ). slice_get c.args.layout.now.guests n ≡ Some c.in-Some-guest.given.now) guest c.in-Some-guest.ensures in
-    let many : length c.self.inside.tails.items ≡ length c.self.inside.lanes.items = subst (λ (f : Side). length f.tails ≡ length f.lanes) (sym c.self.view_is) (tails-many c.args.layout.now c.args.self.now m w is) in
+    let many : length c.self.inside.tails.items ≡ length c.self.inside.lanes.items = subst (λ (f : Side). length f.tails ≡ length f.lanes) (sym c.self.view_is) c.requires.kept.many in
     let d : DeviceLane = lane_of s.device c.args.lane in
     let there_d = lane-there c.args.lane s.device (on-device c.args.layout.now s c.args.lane c.args.tag t c.in-Some-guest.given.now of there) in
     let at : c.index_mut-tail.result.now ≡ d.tail =
@@ -139,18 +140,18 @@ submit_on-requires-clause-tail g c =
     ∙ ap (λ (n : ℕ). slice_get c.self.inside.tails.items n) c.from-at.ensures
     ∙ ap (λ (f : Side). slice_get f.tails c.args.lane) c.self.view_is
     ∙ tail-there c.args.layout.now c.args.self.now m w is c.args.lane d there_d) in
-    let fits : d.tail < ring_size = (of.consistent.of_tags.lanes c.args.lane t.at d t.found there_d).positions.tail in
+    let fits : d.tail < ring_size = of.kept.slots c.args.lane d.tail (tail-of s.device.lanes c.args.lane d there_d) in
     subst (λ (n : ℕ). n < ring_size) (sym at) fits
 
 pub submit_on-requires-clause-waits : goal.submit_on-requires-clause-waits
 submit_on-requires-clause-waits g c =
     let m : List ℕ = g.C.MemoryCell.bytes c.args.host.now in
-    let w : World = c.requires.world in
-    let is : IsSideOf c.args.layout.now c.args.self.now m w = c.requires.is in
+    let w : World = own-world c.args.self.now m in
+    let is : IsSideOf c.args.self.now m w = own-side c.args.self.now m in
     let old : State = state_in c.args.layout.now c.args.self.now m w is in
     let s : State = record { host = m; device = old.device; lanes = c.self.inside.lanes.items; controllers = c.self.inside.controllers.items } in
     let same : s ≡ old = ap (λ (f : Side). let o : State = record { host = m; device = old.device; lanes = f.lanes; controllers = f.controllers } in o) c.self.view_is in
-    let of : IsOf c.args.layout.now s = subst (IsOf c.args.layout.now) (sym same) (of-side c.args.layout.now c.args.self.now m w is) in
+    let of : IsKeptOf c.args.layout.now s = subst (IsKeptOf c.args.layout.now) (sym same) (of-side c.args.layout.now c.args.self.now m w is c.requires) in
     let t = taken-here s old c.args.lane c.args.tag c.untaken.result same c.untaken.ensures c.in_default.is in
     let guest =
     ap (λ (d : Command). d.guest) (c.claimed.ensures t.command t.reads
@@ -164,7 +165,7 @@ returns-clause-ok g c = λ w is.
     let old : State = state_in c.args.layout.now c.args.self.now m w is in
     let s : State = record { host = m; device = old.device; lanes = c.self.inside.lanes.items; controllers = c.self.inside.controllers.items } in
     let same : s ≡ old = ap (λ (f : Side). let o : State = record { host = m; device = old.device; lanes = f.lanes; controllers = f.controllers } in o) c.self.view_is in
-    let of : IsOf c.args.layout.now s = subst (IsOf c.args.layout.now) (sym same) (of-side c.args.layout.now c.args.self.now m w is) in
+    let of : IsKeptOf c.args.layout.now s = subst (IsKeptOf c.args.layout.now) (sym same) (of-side c.args.layout.now c.args.self.now m w is c.requires) in
     let t = taken-here s old c.args.lane c.args.tag c.untaken.result same c.untaken.ensures c.in_default.is in
     let below = taken-below c.self.inside.lanes.items c.args.lane c.args.tag t in
     let number = c.from-at.ensures in
@@ -172,7 +173,7 @@ returns-clause-ok g c = λ w is.
     ap (λ (d : Command). d.guest) (c.claimed.ensures t.command t.reads
     (taken-there c.self.inside.lanes.items c.args.lane c.args.tag t c.from-at.result c.index.result.now c.from-at.ensures c.index.ensures)) in
     let there = subst (λ (n : ℕ). slice_get c.args.layout.now.guests n ≡ Some c.in-Some-guest.given.now) guest c.in-Some-guest.ensures in
-    let many : length c.self.inside.tails.items ≡ length c.self.inside.lanes.items = subst (λ (f : Side). length f.tails ≡ length f.lanes) (sym c.self.view_is) (tails-many c.args.layout.now c.args.self.now m w is) in
+    let many : length c.self.inside.tails.items ≡ length c.self.inside.lanes.items = subst (λ (f : Side). length f.tails ≡ length f.lanes) (sym c.self.view_is) c.requires.kept.many in
     let d : DeviceLane = lane_of s.device c.args.lane in
     let there_d = lane-there c.args.lane s.device (on-device c.args.layout.now s c.args.lane c.args.tag t c.in-Some-guest.given.now of there) in
     let at : c.index_mut-tail.result.now ≡ d.tail =

@@ -3,12 +3,13 @@ use Rattle.std.proofs.lemmas.Option.{slice_get_read}
 use Rattle.nv_core.proofs.GroupWorlds.{taken-below, taken-there}
 use Rattle.nv_core.proofs.Handed.{lane-there}
 use Rattle.nv_core.proofs.PlanSubmits.{come-of, guest-of, tag-of}
-use Rattle.nv_core.proofs.Sides.{of-side, rung-in, state_in, tail-stays, tail-there, tails-many}
+use Rattle.nv_core.proofs.KeptStates.{IsKeptOf, tail-of}
+use Rattle.nv_core.proofs.Sides.{of-side, own-side, own-world, rung-in, state_in, tail-stays, tail-there}
 use Rattle.nv_core.proofs.SubmitJobs.{one-taken}
 use Rattle.nv_core.proofs.Submits.{have-room, on-device, submit-done}
 use Rattle.nv_core.proofs.Waits.{waits}
 use Rattle.nv_core.specs.Front.{HasTailMoved, IsSideOf, Side}
-use Rattle.nv_core.specs.State.{IsOf, State}
+use Rattle.nv_core.specs.State.{State}
 use Rattle.nv_core.specs.Submit.{HaveRoom, IsCarriedOut, IsSubmitted, WaitsForPlan}
 use Rattle.nv_device.specs.Physical.{lane_of}
 use Rattle.nv_laws_sound.proofs.Lists.{some-same}
@@ -26,13 +27,13 @@ use Rattle.nv_core.proofs.front.Front.submit_plan.Goals as goal
 
 pub returns-then-not-is_current-clause-tails : goal.returns-then-not-is_current-clause-tails
 returns-then-not-is_current-clause-tails g c =
-    tail-stays c.args.layout.now c.args.self.now (g.C.MemoryCell.bytes c.args.host.now) c.requires.world c.requires.is c.args.plan.job.lane
+    tail-stays c.args.layout.now c.args.self.now c.args.plan.job.lane c.requires.kept
 
 pub index_mut-ring-requires : goal.index_mut-ring-requires
 index_mut-ring-requires g c =
     let m : List ℕ = g.C.MemoryCell.bytes c.args.host.now in
-    let w : World = c.requires.world in
-    let is : IsSideOf c.args.layout.now c.args.self.now m w = c.requires.is in
+    let w : World = own-world c.args.self.now m in
+    let is : IsSideOf c.args.self.now m w = own-side c.args.self.now m in
     let old : State = state_in c.args.layout.now c.args.self.now m w is in
     let s : State = record { host = m; device = old.device; lanes = c.self.inside.lanes.items; controllers = c.self.inside.controllers.items } in
     let same : s ≡ old = ap (λ (f : Side). let o : State = record { host = m; device = old.device; lanes = f.lanes; controllers = f.controllers } in o) c.self.view_is in
@@ -46,8 +47,8 @@ index_mut-ring-requires g c =
 pub index_mut-tail-requires : goal.index_mut-tail-requires
 index_mut-tail-requires g c =
     let m : List ℕ = g.C.MemoryCell.bytes c.args.host.now in
-    let w : World = c.requires.world in
-    let is : IsSideOf c.args.layout.now c.args.self.now m w = c.requires.is in
+    let w : World = own-world c.args.self.now m in
+    let is : IsSideOf c.args.self.now m w = own-side c.args.self.now m in
     let old : State = state_in c.args.layout.now c.args.self.now m w is in
     let s : State = record { host = m; device = old.device; lanes = c.self.inside.lanes.items; controllers = c.self.inside.controllers.items } in
     let same : s ≡ old = ap (λ (f : Side). let o : State = record { host = m; device = old.device; lanes = f.lanes; controllers = f.controllers } in o) c.self.view_is in
@@ -56,18 +57,18 @@ index_mut-tail-requires g c =
     let t = tag-of c.args.layout.now s old p same current in
     let on = c.from-at.ensures ∙ ap (λ (j : Job). j.lane) c.job-job.ensures.value in
     let below = taken-below c.self.inside.lanes.items p.job.lane p.job.tag t.taken in
-    let many : length c.self.inside.tails.items ≡ length c.self.inside.lanes.items = subst (λ (f : Side). length f.tails ≡ length f.lanes) (sym c.self.view_is) (tails-many c.args.layout.now c.args.self.now m w is) in
+    let many : length c.self.inside.tails.items ≡ length c.self.inside.lanes.items = subst (λ (f : Side). length f.tails ≡ length f.lanes) (sym c.self.view_is) c.requires.kept.many in
     omega (arith, below, on, many)
 
 pub carry_out-requires-clause-room : goal.carry_out-requires-clause-room
 carry_out-requires-clause-room g c =
     let m : List ℕ = g.C.MemoryCell.bytes c.args.host.now in
-    let w : World = c.requires.world in
-    let is : IsSideOf c.args.layout.now c.args.self.now m w = c.requires.is in
+    let w : World = own-world c.args.self.now m in
+    let is : IsSideOf c.args.self.now m w = own-side c.args.self.now m in
     let old : State = state_in c.args.layout.now c.args.self.now m w is in
     let s : State = record { host = m; device = old.device; lanes = c.self.inside.lanes.items; controllers = c.self.inside.controllers.items } in
     let same : s ≡ old = ap (λ (f : Side). let o : State = record { host = m; device = old.device; lanes = f.lanes; controllers = f.controllers } in o) c.self.view_is in
-    let of : IsOf c.args.layout.now s = subst (IsOf c.args.layout.now) (sym same) (of-side c.args.layout.now c.args.self.now m w is) in
+    let of : IsKeptOf c.args.layout.now s = subst (IsKeptOf c.args.layout.now) (sym same) (of-side c.args.layout.now c.args.self.now m w is c.requires) in
     let p = c.args.plan in
     let current = c.is_current.ensures.0 c.if-not-is_current.false in
     let t = tag-of c.args.layout.now s old p same current in
@@ -78,18 +79,18 @@ carry_out-requires-clause-room g c =
 pub carry_out-requires-clause-tail : goal.carry_out-requires-clause-tail
 carry_out-requires-clause-tail g c =
     let m : List ℕ = g.C.MemoryCell.bytes c.args.host.now in
-    let w : World = c.requires.world in
-    let is : IsSideOf c.args.layout.now c.args.self.now m w = c.requires.is in
+    let w : World = own-world c.args.self.now m in
+    let is : IsSideOf c.args.self.now m w = own-side c.args.self.now m in
     let old : State = state_in c.args.layout.now c.args.self.now m w is in
     let s : State = record { host = m; device = old.device; lanes = c.self.inside.lanes.items; controllers = c.self.inside.controllers.items } in
     let same : s ≡ old = ap (λ (f : Side). let o : State = record { host = m; device = old.device; lanes = f.lanes; controllers = f.controllers } in o) c.self.view_is in
-    let of : IsOf c.args.layout.now s = subst (IsOf c.args.layout.now) (sym same) (of-side c.args.layout.now c.args.self.now m w is) in
+    let of : IsKeptOf c.args.layout.now s = subst (IsKeptOf c.args.layout.now) (sym same) (of-side c.args.layout.now c.args.self.now m w is c.requires) in
     let p = c.args.plan in
     let current = c.is_current.ensures.0 c.if-not-is_current.false in
     let t = tag-of c.args.layout.now s old p same current in
     let on = c.from-at.ensures ∙ ap (λ (j : Job). j.lane) c.job-job.ensures.value in
     let below = taken-below c.self.inside.lanes.items p.job.lane p.job.tag t.taken in
-    let many : length c.self.inside.tails.items ≡ length c.self.inside.lanes.items = subst (λ (f : Side). length f.tails ≡ length f.lanes) (sym c.self.view_is) (tails-many c.args.layout.now c.args.self.now m w is) in
+    let many : length c.self.inside.tails.items ≡ length c.self.inside.lanes.items = subst (λ (f : Side). length f.tails ≡ length f.lanes) (sym c.self.view_is) c.requires.kept.many in
     let d : DeviceLane = lane_of s.device p.job.lane in
     let there_d = lane-there p.job.lane s.device (on-device c.args.layout.now s p.job.lane p.job.tag t.taken p.given of (guest-of c.args.layout.now s old p same current)) in
     let at : c.index_mut-tail.result.now ≡ d.tail =
@@ -98,18 +99,18 @@ carry_out-requires-clause-tail g c =
     ∙ ap (λ (n : ℕ). slice_get c.self.inside.tails.items n) on
     ∙ ap (λ (f : Side). slice_get f.tails p.job.lane) c.self.view_is
     ∙ tail-there c.args.layout.now c.args.self.now m w is p.job.lane d there_d) in
-    let fits : d.tail < ring_size = (of.consistent.of_tags.lanes p.job.lane t.taken.at d t.taken.found there_d).positions.tail in
+    let fits : d.tail < ring_size = of.kept.slots p.job.lane d.tail (tail-of s.device.lanes p.job.lane d there_d) in
     subst (λ (n : ℕ). n < ring_size) (sym at) fits
 
 pub carry_out-requires-clause-waits : goal.carry_out-requires-clause-waits
 carry_out-requires-clause-waits g c =
     let m : List ℕ = g.C.MemoryCell.bytes c.args.host.now in
-    let w : World = c.requires.world in
-    let is : IsSideOf c.args.layout.now c.args.self.now m w = c.requires.is in
+    let w : World = own-world c.args.self.now m in
+    let is : IsSideOf c.args.self.now m w = own-side c.args.self.now m in
     let old : State = state_in c.args.layout.now c.args.self.now m w is in
     let s : State = record { host = m; device = old.device; lanes = c.self.inside.lanes.items; controllers = c.self.inside.controllers.items } in
     let same : s ≡ old = ap (λ (f : Side). let o : State = record { host = m; device = old.device; lanes = f.lanes; controllers = f.controllers } in o) c.self.view_is in
-    let of : IsOf c.args.layout.now s = subst (IsOf c.args.layout.now) (sym same) (of-side c.args.layout.now c.args.self.now m w is) in
+    let of : IsKeptOf c.args.layout.now s = subst (IsKeptOf c.args.layout.now) (sym same) (of-side c.args.layout.now c.args.self.now m w is c.requires) in
     let p = c.args.plan in
     let current = c.is_current.ensures.0 c.if-not-is_current.false in
     let t = tag-of c.args.layout.now s old p same current in
@@ -120,8 +121,8 @@ carry_out-requires-clause-waits g c =
 pub carry_out-requires-clause-whose : goal.carry_out-requires-clause-whose
 carry_out-requires-clause-whose g c = λ command reads there.
     let m : List ℕ = g.C.MemoryCell.bytes c.args.host.now in
-    let w : World = c.requires.world in
-    let is : IsSideOf c.args.layout.now c.args.self.now m w = c.requires.is in
+    let w : World = own-world c.args.self.now m in
+    let is : IsSideOf c.args.self.now m w = own-side c.args.self.now m in
     let old : State = state_in c.args.layout.now c.args.self.now m w is in
     let s : State = record { host = m; device = old.device; lanes = c.self.inside.lanes.items; controllers = c.self.inside.controllers.items } in
     let same : s ≡ old = ap (λ (f : Side). let o : State = record { host = m; device = old.device; lanes = f.lanes; controllers = f.controllers } in o) c.self.view_is in
@@ -143,12 +144,12 @@ returns-clause-some g c =
           let old : State = state_in c.args.layout.now c.args.self.now m w is in
           let s : State = record { host = m; device = old.device; lanes = c.self.inside.lanes.items; controllers = c.self.inside.controllers.items } in
           let same : s ≡ old = ap (λ (f : Side). let o : State = record { host = m; device = old.device; lanes = f.lanes; controllers = f.controllers } in o) c.self.view_is in
-          let of : IsOf c.args.layout.now s = subst (IsOf c.args.layout.now) (sym same) (of-side c.args.layout.now c.args.self.now m w is) in
+          let of : IsKeptOf c.args.layout.now s = subst (IsKeptOf c.args.layout.now) (sym same) (of-side c.args.layout.now c.args.self.now m w is c.requires) in
           let current = c.is_current.ensures.0 c.if-not-is_current.false in
           let t = tag-of c.args.layout.now s old p same current in
           let on = c.from-at.ensures ∙ ap (λ (j : Job). j.lane) c.job-job.ensures.value in
           let below = taken-below c.self.inside.lanes.items p.job.lane p.job.tag t.taken in
-          let many : length c.self.inside.tails.items ≡ length c.self.inside.lanes.items = subst (λ (f : Side). length f.tails ≡ length f.lanes) (sym c.self.view_is) (tails-many c.args.layout.now c.args.self.now m w is) in
+          let many : length c.self.inside.tails.items ≡ length c.self.inside.lanes.items = subst (λ (f : Side). length f.tails ≡ length f.lanes) (sym c.self.view_is) c.requires.kept.many in
           let d : DeviceLane = lane_of s.device p.job.lane in
           let there_d = lane-there p.job.lane s.device (on-device c.args.layout.now s p.job.lane p.job.tag t.taken p.given of (guest-of c.args.layout.now s old p same current)) in
           let at : c.index_mut-tail.result.now ≡ d.tail =

@@ -2,10 +2,11 @@ use Rattle.std.proofs.Common.{◌≤◌, ◌<◌, ◌∙◌, length, subst, sym,
 use Rattle.nv_core.proofs.Placed.{has-controller, in-place, made-for}
 use Rattle.nv_core.proofs.GroupWorlds.{looked-up}
 use Rattle.nv_core.proofs.Takes.{take-done, take-no_lane, take-no_queue, take-nobody}
-use Rattle.nv_core.specs.State.{CountsMore, State, IsOf}
+use Rattle.nv_core.specs.State.{CountsMore, State}
 use Rattle.nv_laws_sound.proofs.Lists.{slice_get-there}
 use Rattle.nv_core.specs.Front.{IsSideOf, Side}
-use Rattle.nv_core.proofs.Sides.{of-side, quiet-in, state_in}
+use Rattle.nv_core.proofs.KeptStates.{IsKeptOf}
+use Rattle.nv_core.proofs.Sides.{of-side, own-side, own-world, quiet-in, state_in}
 use Rattle.nv_world_model.specs.World.{World}
 use Rattle.nv_world_model.specs.declared.event.Event.TheVariants as event
 use Rattle.nv_core.proofs.front.Front.take.Goals as goal
@@ -23,11 +24,11 @@ returns-then-number-len-clause-step g c = λ w is.
     let old : State = state_in c.args.layout.now c.args.self.now m w is in
     let s : State = record { host = m; device = old.device; lanes = c.self.inside.lanes.items; controllers = c.self.inside.controllers.items } in
     let same : s ≡ old = ap (λ (f : Side). let o : State = record { host = m; device = old.device; lanes = f.lanes; controllers = f.controllers } in o) c.self.view_is in
-    let of : IsOf c.args.layout.now old = of-side c.args.layout.now c.args.self.now m w is in
+    let of : IsKeptOf c.args.layout.now old = of-side c.args.layout.now c.args.self.now m w is c.requires.lent in
     let past : length c.self.inside.controllers.items ≤ c.args.guest =
     (let l = c.len.ensures in let n = c.from-number.ensures in let t = c.if-number-len.true in omega arith) in
     quiet-in c.args.layout.now c.args.self.now m w is (event.Take c.args.guest c.args.queue c.args.lane) tt _ c.args.self.now m refl
-    (absurd (has-controller c.args.layout.now old old c.args.guest c.in-Some.given.now of c.in-Some.ensures
+    (absurd (has-controller c.args.layout.now old old c.args.guest c.in-Some.given.now c.requires.lent.kept.controllers c.in-Some.ensures
     (subst (λ (o : State). length o.controllers ≤ c.args.guest) same past)))
 
 pub returns-then-at-len-clause-step : goal.returns-then-at-len-clause-step
@@ -56,12 +57,12 @@ returns-then-not-is_io_queue-clause-step g c = λ w is.
 pub take_front-requires-clause-in_place : goal.take_front-requires-clause-in_place
 take_front-requires-clause-in_place g c =
     let m : List ℕ = g.C.MemoryCell.bytes c.args.host.now in
-    let w : World = c.requires.world.world in
-    let is : IsSideOf c.args.layout.now c.args.self.now m w = c.requires.world.is in
+    let w : World = own-world c.args.self.now m in
+    let is : IsSideOf c.args.self.now m w = own-side c.args.self.now m in
     let old : State = state_in c.args.layout.now c.args.self.now m w is in
     let s : State = record { host = m; device = old.device; lanes = c.self.inside.lanes.items; controllers = c.self.inside.controllers.items } in
     let same : s ≡ old = ap (λ (f : Side). let o : State = record { host = m; device = old.device; lanes = f.lanes; controllers = f.controllers } in o) c.self.view_is in
-    let of : IsOf c.args.layout.now old = of-side c.args.layout.now c.args.self.now m w is in
+    let of : IsKeptOf c.args.layout.now old = of-side c.args.layout.now c.args.self.now m w is c.requires.lent in
     let below : c.from-number.result < length c.self.inside.controllers.items = (let l = c.len.ensures in let t = c.if-number-len.false in omega arith) in
     in-place c.args.layout.now s old c.args.guest c.from-number.result c.in-Some.given.now c.index_mut-vctl.result.now c.in-Some.given.now.memory_map
     same of c.from-number.ensures below c.index_mut-vctl.ensures.value c.in-Some.ensures refl
@@ -69,8 +70,8 @@ take_front-requires-clause-in_place g c =
 pub take_front-requires-clause-counted : goal.take_front-requires-clause-counted
 take_front-requires-clause-counted g c =
     let m : List ℕ = g.C.MemoryCell.bytes c.args.host.now in
-    let w : World = c.requires.world.world in
-    let is : IsSideOf c.args.layout.now c.args.self.now m w = c.requires.world.is in
+    let w : World = own-world c.args.self.now m in
+    let is : IsSideOf c.args.self.now m w = own-side c.args.self.now m in
     let old : State = state_in c.args.layout.now c.args.self.now m w is in
     let s : State = record { host = m; device = old.device; lanes = c.self.inside.lanes.items; controllers = c.self.inside.controllers.items } in
     let same : s ≡ old = ap (λ (f : Side). let o : State = record { host = m; device = old.device; lanes = f.lanes; controllers = f.controllers } in o) c.self.view_is in
@@ -96,11 +97,11 @@ returns-clause-step g c = λ w is.
 pub take_front-requires-clause-host : goal.take_front-requires-clause-host
 take_front-requires-clause-host g c =
     let m : List ℕ = g.C.MemoryCell.bytes c.args.host.now in
-    let w : World = c.requires.world.world in
-    let is : IsSideOf c.args.layout.now c.args.self.now m w = c.requires.world.is in
+    let w : World = own-world c.args.self.now m in
+    let is : IsSideOf c.args.self.now m w = own-side c.args.self.now m in
     let old : State = state_in c.args.layout.now c.args.self.now m w is in
     let s : State = record { host = m; device = old.device; lanes = c.self.inside.lanes.items; controllers = c.self.inside.controllers.items } in
     let same : s ≡ old = ap (λ (f : Side). let o : State = record { host = m; device = old.device; lanes = f.lanes; controllers = f.controllers } in o) c.self.view_is in
-    let of : IsOf c.args.layout.now old = of-side c.args.layout.now c.args.self.now m w is in
+    let of : IsKeptOf c.args.layout.now old = of-side c.args.layout.now c.args.self.now m w is c.requires.lent in
     made-for c.args.layout.now s old c.args.guest c.in-Some.given.now c.in-Some.given.now.memory_map same of
     c.in-Some.ensures refl

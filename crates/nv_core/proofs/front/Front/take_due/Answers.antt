@@ -3,13 +3,14 @@ use Rattle.nv_core.proofs.Dues.{due-told, take-due}
 use Rattle.nv_core.proofs.Placed.{has-controller, in-place, made-for}
 use Rattle.nv_core.proofs.GroupWorlds.{looked-up}
 use Rattle.nv_core.proofs.Takes.{take-no_lane, take-no_queue, take-nobody}
-use Rattle.nv_core.specs.State.{State, world_of, IsOf}
+use Rattle.nv_core.specs.State.{State, world_of}
 use Rattle.nv_laws_sound.proofs.Lists.{slice_get-there}
 use Rattle.nv_model.specs.declared.reply.Reply.TheVariants as reply
 use Rattle.nv_world_model.specs.Due.{due}
 use Rattle.nv_world_model.specs.declared.event.Event.TheVariants as event
 use Rattle.nv_core.specs.Front.{IsSideOf, Side}
-use Rattle.nv_core.proofs.Sides.{of-side, state_in, due-side}
+use Rattle.nv_core.proofs.KeptStates.{IsKeptOf}
+use Rattle.nv_core.proofs.Sides.{due-side, of-side, own-side, own-world, state_in}
 use Rattle.nv_world_model.specs.World.{World}
 use Rattle.nv_core.proofs.front.Front.take_due.Goals as goal
 
@@ -27,10 +28,10 @@ returns-then-number-len g c = λ w is.
     let old : State = state_in c.args.layout.now c.args.self.now m w is in
     let s : State = record { host = m; device = old.device; lanes = c.self.inside.lanes.items; controllers = c.self.inside.controllers.items } in
     let same : s ≡ old = ap (λ (f : Side). let o : State = record { host = m; device = old.device; lanes = f.lanes; controllers = f.controllers } in o) c.self.view_is in
-    let of : IsOf c.args.layout.now old = of-side c.args.layout.now c.args.self.now m w is in
+    let of : IsKeptOf c.args.layout.now old = of-side c.args.layout.now c.args.self.now m w is c.requires in
     let past : length c.self.inside.controllers.items ≤ c.args.guest =
     (let l = c.len.ensures in let n = c.from-number.ensures in let t = c.if-number-len.true in omega arith) in
-    absurd (has-controller c.args.layout.now old old c.args.guest c.in-Some.given.now of c.in-Some.ensures
+    absurd (has-controller c.args.layout.now old old c.args.guest c.in-Some.given.now c.requires.kept.controllers c.in-Some.ensures
     (subst (λ (o : State). length o.controllers ≤ c.args.guest) same past))
 
 pub returns-then-at-len : goal.returns-then-at-len
@@ -77,24 +78,24 @@ returns g c = λ w is.
 pub is_takeable-requires-clause-host : goal.is_takeable-requires-clause-host
 is_takeable-requires-clause-host g c =
     let m : List ℕ = g.C.MemoryCell.bytes c.args.host.now in
-    let w : World = c.requires.world in
-    let is : IsSideOf c.args.layout.now c.args.self.now m w = c.requires.is in
+    let w : World = own-world c.args.self.now m in
+    let is : IsSideOf c.args.self.now m w = own-side c.args.self.now m in
     let old : State = state_in c.args.layout.now c.args.self.now m w is in
     let s : State = record { host = m; device = old.device; lanes = c.self.inside.lanes.items; controllers = c.self.inside.controllers.items } in
     let same : s ≡ old = ap (λ (f : Side). let o : State = record { host = m; device = old.device; lanes = f.lanes; controllers = f.controllers } in o) c.self.view_is in
-    let of : IsOf c.args.layout.now old = of-side c.args.layout.now c.args.self.now m w is in
+    let of : IsKeptOf c.args.layout.now old = of-side c.args.layout.now c.args.self.now m w is c.requires in
     made-for c.args.layout.now s old c.args.guest c.in-Some.given.now c.in-Some.given.now.memory_map same of
     c.in-Some.ensures refl
 
 pub is_takeable-requires-clause-in_place : goal.is_takeable-requires-clause-in_place
 is_takeable-requires-clause-in_place g c =
     let m : List ℕ = g.C.MemoryCell.bytes c.args.host.now in
-    let w : World = c.requires.world in
-    let is : IsSideOf c.args.layout.now c.args.self.now m w = c.requires.is in
+    let w : World = own-world c.args.self.now m in
+    let is : IsSideOf c.args.self.now m w = own-side c.args.self.now m in
     let old : State = state_in c.args.layout.now c.args.self.now m w is in
     let s : State = record { host = m; device = old.device; lanes = c.self.inside.lanes.items; controllers = c.self.inside.controllers.items } in
     let same : s ≡ old = ap (λ (f : Side). let o : State = record { host = m; device = old.device; lanes = f.lanes; controllers = f.controllers } in o) c.self.view_is in
-    let of : IsOf c.args.layout.now old = of-side c.args.layout.now c.args.self.now m w is in
+    let of : IsKeptOf c.args.layout.now old = of-side c.args.layout.now c.args.self.now m w is c.requires in
     let below : c.from-number.result < length c.self.inside.controllers.items = (let l = c.len.ensures in let t = c.if-number-len.false in omega arith) in
     in-place c.args.layout.now s old c.args.guest c.from-number.result c.in-Some.given.now c.index-vctl.result.now c.in-Some.given.now.memory_map
     same of c.from-number.ensures below c.index-vctl.ensures c.in-Some.ensures refl

@@ -1,8 +1,18 @@
-use Rattle.nv_core.proofs.Delegated.{shown-step}
+use Rattle.nv_core.proofs.Delegated.{lent-kept, lent-live, lent-side, shown-live}
 use Rattle.nv_world_model.specs.declared.event.Event.TheVariants as event
 use Rattle.nv_core.proofs.state.Core.reap.Goals as goal
 
+pub reap-requires : goal.reap-requires
+reap-requires c =
+    lent-kept c.args._layout.now c.from_ref-host.result.now c.self.inside.host c.from_ref-host.ensures.value c.self.inside.device c.self.inside.front c.args.self.now c.self.view_is c.requires c.self.invariant
+
 pub returns : goal.returns
 returns c =
-    shown-step c.args._layout.now c.from_ref.result.now c.self.inside.host c.from_ref.ensures.value c.self.inside.device c.self.inside.front c.args.self.now c.self.view_is c.requires c.self.invariant
-    (event.Reap c.args.lane) c.reap.result c.reap.new.self c.reap.ensures.step c.reap.ensures.tails
+    shown-live c.args._layout.now c.from_ref-host.result.now c.self.inside.host c.from_ref-host.ensures.value c.self.inside.device c.self.inside.front c.args.self.now c.self.view_is c.requires c.self.invariant
+    (event.Reap c.args.lane) c.in-Ok.reply c.reap.new.self c.in-Ok.ensures.ok c.in-Ok.ensures.tails
+
+pub unreachable-requires : goal.unreachable-requires
+unreachable-requires c =
+    c.in_default.ensures.stray _
+    (lent-side c.args._layout.now c.from_ref-host.result.now c.self.inside.host c.from_ref-host.ensures.value c.self.inside.device c.self.inside.front c.args.self.now c.self.view_is c.requires c.self.invariant)
+    (lent-live c.args._layout.now c.from_ref-host.result.now c.self.inside.host c.from_ref-host.ensures.value c.self.inside.device c.self.inside.front c.args.self.now c.self.view_is c.requires c.self.invariant)

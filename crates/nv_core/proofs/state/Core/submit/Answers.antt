@@ -1,4 +1,4 @@
-use Rattle.nv_core.proofs.Delegated.{lent-rung, tails-after}
+use Rattle.nv_core.proofs.Delegated.{lent-kept, lent-rung, tails-after}
 use Rattle.nv_core.specs.Front.{HasTailMoved, tails_of}
 use Rattle.nv_core.specs.State.{IsStep}
 use Rattle.nv_device.specs.State.{Physical}
@@ -6,6 +6,10 @@ use Rattle.nv_world_model.specs.declared.event.Event.TheVariants as event
 use Rattle.std.proofs.Common.{◌∙◌, ℕ, List, ap, subst, sym}
 use Rattle.std.specs.List.{slice_index_or}
 use Rattle.nv_core.proofs.state.Core.submit.Goals as goal
+
+pub submit-requires : goal.submit-requires
+submit-requires c =
+    lent-kept c.args.layout.now c.from_mut-host.result.now c.self.inside.host c.from_mut-host.ensures.value c.self.inside.device c.self.inside.front c.args.self.now c.self.view_is c.requires c.self.invariant
 
 pub invariant_of-self-2 : goal.invariant_of-self-2
 invariant_of-self-2 c =
