@@ -48,3 +48,5 @@ pub mod CountedRuns
 pub mod GroupShares
 pub mod phases
 pub mod Mediators
+pub mod KeptSteps
+pub mod KeptEvents

@@ -1,5 +1,5 @@
 -- Events of guests and of the mediator neither read nor write the disk and its marks.
-use Rattle.std.proofs.Common.{◌≡◌, ℕ, Bool, true, false, cond, ◌&&◌, ◌==◌, nat_le, List, [], ◌∷◌, ◌++◌, length, slice_get, Option, Some, None, refl, ap, ◌∙◌, subst, sym}
+use Rattle.std.proofs.Common.{◌≡◌, ℕ, Bool, true, false, cond, ◌&&◌, ◌==◌, nat_le, List, [], ◌∷◌, length, slice_get, Option, Some, None, refl, ap, ◌∙◌}
 use Rattle.nv_entry.specs.StatusCode.{done_with}
 use Rattle.nv_entry.specs.Submission.{cid_of}
 use Rattle.nv_entry.specs.Completion.{cid_of as completed_cid, status_of}
@@ -7,17 +7,16 @@ use Rattle.nv_entry.specs.Status.{StatusField}
 use Rattle.nv_entry.specs.declared.status_code.StatusCode.TheVariants.{InternalError, Success}
 use Rattle.nv_laws_sound.specs.Mediators.{IsMediators, after_on, on_disk}
 use Rattle.nv_mem.specs.GuestMap.{all_mapped, everywhere}
-use Rattle.nv_model.specs.Admin.{AdminStep, NothingToDo, QueueFull, Stepped, admin}
-use Rattle.nv_model.specs.Controller.{Controller, Posted, doorbell, front, is_enabled, post, ran_out, reg_read, reg_write, took}
+use Rattle.nv_model.specs.Admin.{NothingToDo, QueueFull, Stepped, admin}
+use Rattle.nv_model.specs.Controller.{Posted, doorbell, front, is_enabled, post, ran_out, reg_read, reg_write, took}
 use Rattle.nv_model.specs.Judge.{is_read}
 use Rattle.nv_model.specs.Limits.{part_size}
 use Rattle.nv_model.specs.Memory.{bytes_from, image, stored}
-use Rattle.nv_model.specs.Private.{Private, controlled, register_replied, replied as done_as}
+use Rattle.nv_model.specs.Private.{controlled, register_replied, replied as done_as}
 use Rattle.nv_model.specs.Queue.{is_empty}
 use Rattle.nv_model.specs.Transcript.{Outcome, ReadDone, Settled, Wanted}
 use Rattle.nv_model.specs.declared.act.Act.{Act}
 use Rattle.nv_model.specs.declared.act.Act.TheVariants as act
-use Rattle.nv_model.specs.declared.reply.Reply.{Reply}
 use Rattle.nv_model.specs.declared.reply.Reply.TheVariants as reply
 use Rattle.nv_world_model.specs.Area.{bounce_page}
 use Rattle.nv_world_model.specs.Device.{DeviceLane}
@@ -29,7 +28,7 @@ use Rattle.nv_world_model.specs.ShareArea.{is_no_command}
 use Rattle.nv_world_model.specs.Step.{After, acted_by, acted_in, administered_by, administered_in, carried_out, carry_out, completion_read, deciding, delivered, delivered_all, delivered_by, delivered_from}
 use Rattle.nv_world_model.specs.Step.{ended_at, ended_at_once, ended_status, entry_at, for_ended, for_one, for_owner, for_taken, handed_on, is_io_queue, is_success, list_at, listed, post_all, post_at, post_by}
 use Rattle.nv_world_model.specs.Step.{posted_to, ran_out_of, reap, reaped, replied, scattered_to, status_before, statuses_of, step, submit_by, submitted, submitted_on, take_from, take_front, take_tags, taken_to}
-use Rattle.nv_world_model.specs.World.{Command, Ended, Flying, Free, Lane, Standing, Tag, Taken, World, claimed, group, tag_of, with_controller, with_lane, with_tag, with_tags}
+use Rattle.nv_world_model.specs.World.{Command, Ended, Flying, Free, Lane, Tag, Taken, World, claimed, group, tag_of, with_controller, with_lane, with_tag, with_tags}
 use Rattle.nv_world_model.specs.declared.event.Event.{Event}
 use Rattle.nv_world_model.specs.declared.event.Event.TheVariants as event
 

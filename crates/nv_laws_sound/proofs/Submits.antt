@@ -68,7 +68,7 @@ carried-is w mediator lane tag command share o l d at there = by (is_no_command 
         }
 
 -- so other tags are as they were
-carried-other : (w z : World) (lane tag other : ℕ) (l : Lane) (command : Command) (share : Share) → slice_get w.lanes lane ≡ Some l
+pub carried-other : (w z : World) (lane tag other : ℕ) (l : Lane) (command : Command) (share : Share) → slice_get w.lanes lane ≡ Some l
     → IsCarried w z lane tag l command share → (other == tag) ≡ false → tag_of z lane other ≡ tag_of w lane other
 carried-other w z lane tag other l command share at c apart =
     ap (λ ls. tag_in (slice_get ls lane) other) c.lanes

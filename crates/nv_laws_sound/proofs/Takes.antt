@@ -115,7 +115,7 @@ module _ (host_bytes : ℕ) (geometry : Geometry) where
       (controller-consistent geometry w o.number o.given (took o.controller queue) owns.given taken_place is)
 
   -- and it has the tags that it wants
-  taken_to-groups : (w : World) (o : Owner) (addr queue lane count : ℕ) (l : Lane) → HasGroups geometry w.lanes → IsOwner geometry w o
+  pub taken_to-groups : (w : World) (o : Owner) (addr queue lane count : ℕ) (l : Lane) → HasGroups geometry w.lanes → IsOwner geometry w o
       → slice_get w.lanes lane ≡ Some l → suc count ≤ length (numbers_where is_free l.tags)
       → tags_of_entry o.given.namespace (entry_at addr o w) ≡ suc count
       → HasGroups geometry (taken_to addr queue lane (take (suc count) (numbers_where is_free l.tags)) o w).lanes

@@ -4,12 +4,14 @@ ghost use Rattle.std.specs.Prelude.{◌≡◌, ℕ, List, Some, None, length, sl
 ghost use Rattle.nv_mem.specs.GuestMap.{IsSound};
 ghost use Rattle.nv_world_model.specs.Geometry.{Geometry, Guest};
 ghost use Rattle.nv_world_model.specs.SetUp.{SetUp, refusal_of};
-ghost use Rattle.nv_world_model.specs.Step.{replay, step};
+ghost use Rattle.nv_world_model.specs.Step.{reaped, replay, step};
 ghost use Rattle.nv_world_model.specs.World.{World};
 ghost use Rattle.nv_world_model.specs.SetUp.{world_at_start};
 ghost use Rattle.nv_world_model.specs.declared.event.Event.{Event};
 ghost use Rattle.nv_laws_sound.specs.Consistent.{IsConsistent};
+ghost use Rattle.nv_laws_sound.specs.Kept.{IsKeptWorld};
 ghost use Rattle.nv_laws_sound.specs.LaidOut.{IsLaidOut};
+ghost use Rattle.nv_laws_sound.specs.Mediators.{IsMediators};
 
 /// Each event leads from a consistent world to one with as many lanes.
 pub fn each_event_keeps_a_world_consistent()
@@ -25,4 +27,13 @@ pub fn worlds_stay_consistent()
     ensures from_start { (s : SetUp) (events : List Event) → refusal_of s ≡ None →
         ((number : ℕ) (guest : Guest) → slice_get s.geometry.guests number ≡ Some guest → IsSound guest.memory_map) →
         IsConsistent s.geometry (replay s.geometry events (world_at_start s)) }
+{}
+
+/// What the mediator's side keeps, it keeps by itself: each event of a guest or of the mediator leads from a world in which it holds to another, whatever
+/// is in memory and whatever the physical controller does. So does reading any completion, whether or not the controller has posted it.
+pub fn the_mediators_side_keeps_itself()
+    ensures step { (host_bytes : ℕ) (geometry : Geometry) (e : Event) (w : World) → IsMediators e →
+        IsLaidOut host_bytes (length w.lanes) geometry → IsKeptWorld geometry w → IsKeptWorld geometry (step geometry e w).world }
+    ensures reaped { (geometry : Geometry) (lane : ℕ) (completion : List ℕ) (w : World) → IsKeptWorld geometry w →
+        IsKeptWorld geometry (reaped lane completion w) }
 {}
