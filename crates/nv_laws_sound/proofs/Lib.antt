@@ -50,3 +50,5 @@ pub mod phases
 pub mod Mediators
 pub mod KeptSteps
 pub mod KeptEvents
+pub mod Unplaced
+pub mod ControllersSide

@@ -6,3 +6,4 @@ pub mod Kept
 pub mod Counted
 pub mod Phased
 pub mod Mediators
+pub mod Unplaced

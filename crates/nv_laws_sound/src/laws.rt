@@ -4,5 +4,6 @@ pub mod disks;
 pub mod grouping;
 pub mod keeping;
 pub mod phases;
+pub mod places;
 pub mod rings;
 pub mod setting_up;
