@@ -46,6 +46,17 @@ pub use setup::{GuestExtent, Region, Sizes};
 use std::alloc::Global;
 use working::Scope;
 
+/// Version 1.0.
+const VERSION: u32 = 65_536;
+
+/// The version of the interface: its major number times 65,536, plus its minor number.
+#[unsafe(no_mangle)]
+pub extern "C" fn nvmed_raw_version() -> u32
+    ensures { result ≡ 65536 }
+{
+    VERSION
+}
+
 /// Makes the mediator of a set-up, and puts it into a handle that holds none. There are as many guests as limits.
 #[unsafe(no_mangle)]
 pub extern "C" fn nvmed_raw_new(
