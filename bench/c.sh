@@ -242,7 +242,8 @@ fi
 flags=("-I$copy/include")
 libs=("-L$copy/lib" -lnvmed)
 if command -v pkg-config > /dev/null; then
-    export PKG_CONFIG_LIBDIR=$copy/lib/pkgconfig
+    unset PKG_CONFIG_SYSROOT_DIR
+    export PKG_CONFIG_PATH=$copy/lib/pkgconfig
     read -ra flags < <(pkg-config --cflags nvmed)
     read -ra libs < <(pkg-config --libs nvmed)
 else
