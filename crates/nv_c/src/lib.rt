@@ -1,8 +1,8 @@
 //! The library that a hypervisor links: the mediator without a log, used through calls from C.
 //!
 //! `include/nvmed.h` has the calls as C sees them. It tests each pointer for null, and passes on what is defined here, by references and slices: a
-//! handle ([`Nvmed`]) and plain structs ([`Sizes`], [`Region`], [`GuestExtent`], [`Event`]). Each call returns one of the numbers of `enum nvmed_status`
-//! for any numbers and any bytes. Nothing here aborts, prints, waits, or keeps anything outside the handle.
+//! handle ([`Nvmed`]) and plain structs ([`Sizes`], [`Region`], [`GuestExtent`], [`Event`]). Each call on a handle returns one of the numbers of
+//! `enum nvmed_status` for any numbers and any bytes. Nothing here aborts, prints, waits, or keeps anything outside the handle.
 //!
 //! A handle is a struct that C owns and that has one pointer. It is null where the handle holds nothing, and else points to a mediator in memory of
 //! its own. A type that holds a `Vec` or a `Box` can't cross to C, and neither can a pointer to one. So the struct has a raw pointer, and its model
