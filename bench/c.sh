@@ -47,6 +47,13 @@ case "$#:${1:-}" in
         exit 2
         ;;
 esac
+if [[ ${1:-} == install ]]; then
+    prefix=$2
+    [[ -n $prefix ]] || stop "the prefix is empty"
+    [[ $prefix == /* ]] || prefix=$PWD/$prefix
+    prefix=${prefix%/}
+    [[ $prefix != *[[:space:]\"\'\\\$\#]* ]] || stop "nvmed.pc cannot name a prefix with spaces, quotes, a backslash, \$ or #: $prefix"
+fi
 
 command -v rt > /dev/null || stop "the toolchain's command rt is not on the path"
 kit=$(dirname "$(rt doc)")
@@ -106,14 +113,9 @@ version() {
     echo "$number"
 }
 
-# Installs the library below a prefix. Each file is written under another name first: they get their own where all of them are there.
+# Installs the library below the prefix. Each file is written under another name first: they get their own where all of them are there.
 install_library() {
-    local prefix=$1 root file major minor
-    [[ -n $prefix ]] || stop "the prefix is empty"
-    [[ $prefix == /* ]] || prefix=$PWD/$prefix
-    prefix=${prefix%/}
-    [[ $prefix != *[[:space:]\"\'\\\$\#]* ]] || stop "nvmed.pc cannot name a prefix with spaces, quotes, a backslash, \$ or #: $prefix"
-    root=${DESTDIR:-}$prefix
+    local root=${DESTDIR:-}$prefix file major minor
     major=$(version MAJOR)
     minor=$(version MINOR)
     make_archive
@@ -145,7 +147,7 @@ END
 }
 
 if [[ ${1:-} == install ]]; then
-    install_library "$2"
+    install_library
     exit
 fi
 
