@@ -1,52 +1,174 @@
 #!/usr/bin/env bash
-# Builds the library for C, its example and its wrong calls, and runs them.
+# Builds the library for C, installs it, and builds and runs programs with it.
 #
-# examples/host.c and bench/wrong/c.c are built in C11 and as C++17, with warnings as errors. A check is one of these programs in one of the
-# languages, run once: what it prints must be its .expected file, and under valgrind there must be no error and no leak. Each check that fails is
-# named, and what could not be run on this machine is named as left out: without clang, cc and c++ are taken, and without valgrind its half of the
-# checks is left out. The last line is 'N passed, M failed', and the status is 0 where M is 0.
+# What is installed is libnvmed.a, nvmed.h and nvmed.pc. The archive is one object: the library's archive, and what that needs of the toolchain's own
+# archive for memory. It links with the C library alone, and its only global names are the functions that nvmed.h declares.
+#
+# The programs are built against a copy that is installed in a folder of this run, with the words of pkg-config: examples/host.c and bench/wrong/c.c in
+# C11 and as C++17, examples/host.cc in C++17, examples/host.rs in Rust, with warnings as errors. A check is one of these programs in one of the
+# languages, run once: what it prints must be its .expected file, and under valgrind there must be no error and no leak. Further checks are both C
+# programs with sanitizers of addresses and of undefined behaviour, examples/host.c with the C library alone beside functions that have names of the
+# toolchain's archive, and two of the installation. Each check that fails is named, and what could not be run on this machine is named as left out:
+# without clang, cc and c++ are taken, and without rustc, valgrind or sanitizers their checks are left out. Without pkg-config the copy is named by its
+# paths. The last line is 'N passed, M failed', and the status is 0 where M is 0.
 #
 #     bench/c.sh                     builds the library by rt lib, which proves what is not proved yet, and does all of the above
+#     bench/c.sh install PREFIX      installs it below PREFIX, or below DESTDIR and PREFIX where DESTDIR is set, and runs nothing
 #     bench/c.sh time                prints how long nvmed_work takes (bench/work.c), and runs nothing else
-#     LIBRARY=libnv_c.a bench/c.sh   takes a library that is built already
+#     LIBRARY=libnv_c.a bench/c.sh   takes a library that is built already; so with install and time
 set -euo pipefail
 export LC_ALL=C
 
-top=$(dirname "$(dirname "$(readlink -f "$0")")")
-kit=$(dirname "$(rt doc)")
+self=$(readlink -f "$0")
+top=$(dirname "$(dirname "$self")")
+header=$top/include/nvmed.h
+# what is installed
+files=(lib/libnvmed.a include/nvmed.h lib/pkgconfig/nvmed.pc)
 # of one run of a program, in seconds; under valgrind they take some ten times as long as without it
 limit=120
 warnings=(-Wall -Wextra -Werror -O1 -gdwarf-4)
+sanitizers=(-fsanitize=address -fsanitize=undefined -fno-sanitize-recover=all)
 passed=0
 failed=0
+
+say() {
+    echo "the library for C: $1"
+}
+
+stop() {
+    say "$1" >&2
+    exit 1
+}
+
+case "$#:${1:-}" in
+    0: | 1:time | 2:install) ;;
+    *)
+        sed -n 's/^#     //p' "$self" >&2
+        exit 2
+        ;;
+esac
+if [[ ${1:-} == install ]]; then
+    prefix=$2
+    [[ -n $prefix ]] || stop "the prefix is empty"
+    [[ $prefix == /* ]] || prefix=$PWD/$prefix
+    prefix=${prefix%/}
+    [[ $prefix != *[[:space:]\"\'\\\$\#]* ]] || stop "nvmed.pc cannot name a prefix with spaces, quotes, a backslash, \$ or #: $prefix"
+fi
+
+command -v rt > /dev/null || stop "the toolchain's command rt is not on the path"
+kit=$(dirname "$(rt doc)")
+memory=$kit/c/liblibc_c.a
 
 library=${LIBRARY:-}
 if [[ -z $library ]]; then
     (cd "$top/crates/nv_c" && rt lib)
     library=$top/crates/nv_c/out/libnv_c.a
 fi
+for archive in "$library" "$memory"; do
+    [[ -f $archive && -r $archive ]] || stop "there is no archive $archive"
+done
 
 room=$(mktemp -d)
-trap 'rm -r "$room"' EXIT
+# files of an installation that have not got their names yet
+unnamed=()
+trap 'rm -rf "$room" "${unnamed[@]}"' EXIT
 
-say() {
-    echo "the library for C: $1"
+# The first of these commands that is there.
+tool() {
+    local it
+    for it in "$@"; do
+        ! command -v "$it" || return 0
+    done
+    stop "none of these commands is there: $*"
 }
 
-# The compiler of a language, c or cxx: clang, or else what the system has.
+# The global names that an object or an archive defines, in their order.
+names_in() {
+    "$(tool nm llvm-nm)" -g --defined-only -P "$1" | sed -nE 's/^([^ ]+) [A-Z] .*/\1/p' | sort
+}
+
+# Makes libnvmed.a in the room.
+make_archive() {
+    local declared name wanted=() linker copier archiver
+    linker=$(tool ld ld.lld)
+    copier=$(tool objcopy llvm-objcopy)
+    archiver=$(tool ar llvm-ar)
+    declared=$(sed -nE 's/^uint32_t (nvmed_raw_[a-z0-9_]+)\(.*/\1/p' "$header" | sort)
+    for name in $declared; do
+        wanted+=(-u "$name")
+    done
+    "$linker" -m elf_x86_64 -r -o "$room/nvmed.o" "${wanted[@]}" "$library" "$memory" || stop "$library was not made one object"
+    "$copier" --wildcard --keep-global-symbol='nvmed_raw_*' "$room/nvmed.o" || stop "the names of $library were not made local"
+    names_in "$room/nvmed.o" > "$room/names"
+    diff <(echo "$declared") "$room/names" >&2 || stop "$library has not the functions that nvmed.h declares: < is not there, > is not declared"
+    rm -f "$room/libnvmed.a"
+    "$archiver" rcsD "$room/libnvmed.a" "$room/nvmed.o" || stop "libnvmed.a was not made"
+}
+
+# A number of the interface's version: MAJOR or MINOR.
+version() {
+    local number
+    number=$(sed -nE "s/^#define NVMED_VERSION_$1 ([0-9]+)$/\1/p" "$header")
+    [[ -n $number ]] || stop "nvmed.h has no NVMED_VERSION_$1"
+    echo "$number"
+}
+
+# Installs the library below the prefix. Each file is written under another name first: they get their own where all of them are there.
+install_library() {
+    local root=${DESTDIR:-}$prefix file major minor
+    major=$(version MAJOR)
+    minor=$(version MINOR)
+    make_archive
+    cp "$header" "$room/nvmed.h"
+    cat > "$room/nvmed.pc" << END
+prefix=$prefix
+includedir=\${prefix}/include
+libdir=\${prefix}/lib
+
+Name: nvmed
+Description: A proved NVMe mediator, as a library
+Version: $major.$minor
+Cflags: -I\${includedir}
+Libs: -L\${libdir} -lnvmed
+END
+    for file in "${files[@]}"; do
+        [[ ! -d $root/$file ]] || stop "nothing was installed: $root/$file is a folder"
+    done
+    mkdir -p "$root/lib/pkgconfig" "$root/include" || stop "nothing was installed: a folder was not made"
+    for file in "${files[@]}"; do
+        unnamed+=("$root/$file.$$")
+        install -m 644 "$room/${file##*/}" "$root/$file.$$" || stop "nothing was installed: $root/$file was not written"
+    done
+    for file in "${files[@]}"; do
+        mv -fT "$root/$file.$$" "$root/$file" || stop "$root/$file was not replaced: install again"
+    done
+    unnamed=()
+    say "version $major.$minor is installed below $root: ${files[*]}"
+}
+
+if [[ ${1:-} == install ]]; then
+    install_library
+    exit
+fi
+
+# The compiler of a language, c, cxx or rust: of C and C++ clang, or else what the system has.
 compiler() {
-    if [[ $1 == c ]]; then
-        command -v clang || command -v cc
-    else
-        command -v clang++ || command -v c++
-    fi
+    case $1 in
+        c) command -v clang || command -v cc ;;
+        cxx) command -v clang++ || command -v c++ ;;
+        rust) command -v rustc ;;
+    esac
 }
 
-# Builds a program in a language: its file, its name and the language.
+# Builds a program against the copy that is installed: its file, the language, the program, and further words for the compiler.
 build() {
     local language=(-std=c11)
-    [[ $3 == c ]] || language=(-x c++ -std=c++17)
-    "$(compiler "$3")" "${language[@]}" "${warnings[@]}" -I "$top/include" "$1" -x none "$library" "$kit/c/liblibc_c.a" -o "$room/$2-$3"
+    if [[ $2 == rust ]]; then
+        rustc --edition 2021 -O -D warnings "$1" "${libs[@]}" -o "$3"
+        return
+    fi
+    [[ $2 == c ]] || language=(-x c++ -std=c++17)
+    "$(compiler "$2")" "${language[@]}" "${warnings[@]}" "${flags[@]}" "$1" -x none "${libs[@]}" "${@:4}" -o "$3"
 }
 
 # Counts a check, and names it where it failed: its name, and the command that it is.
@@ -68,38 +190,106 @@ prints() {
     diff "$1" "$room/out" && [[ $status == 0 ]]
 }
 
-# The checks of a program in a language: its file without .c, the file that has what it must print, and the language.
+# The checks of a program in a language: its file, the file that has what it must print, and the language.
 check_program() {
-    local name valgrind=(valgrind --quiet --leak-check=full --show-leak-kinds=all --error-exitcode=9)
-    name=${1##*/}-$3
-    if ! build "$top/$1.c" "${1##*/}" "$3"; then
+    local program=$room/${1##*/}-$3 valgrind=(valgrind --quiet --leak-check=full --show-leak-kinds=all --error-exitcode=9)
+    # what Rust's own runtime keeps until the end is no leak
+    [[ $3 != rust ]] || valgrind+=(--show-leak-kinds=definite --errors-for-leak-kinds=definite)
+    if ! build "$top/$1" "$3" "$program"; then
         failed=$((failed + 1))
-        say "FAILED: $1.c was not built by the compiler of $3"
+        say "FAILED: $1 was not built by the compiler of $3"
         return
     fi
-    check "$1.c, built by the compiler of $3" prints "$top/$2" "$room/$name"
+    check "$1, built by the compiler of $3" prints "$top/$2" "$program"
     if command -v valgrind > /dev/null; then
-        check "$1.c, built by the compiler of $3, under valgrind" prints "$top/$2" "${valgrind[@]}" "$room/$name"
+        check "$1, built by the compiler of $3, under valgrind" prints "$top/$2" "${valgrind[@]}" "$program"
     fi
 }
 
+# Whether a compiler of C builds programs with sanitizers, and they run here.
+can_sanitize() {
+    command -v "$1" > /dev/null || return 1
+    echo 'int main(void) { return 0; }' | "$1" -x c - "${sanitizers[@]}" -o "$room/empty" 2> /dev/null && "$room/empty" 2> /dev/null
+}
+
+# Whether a program in C prints what it must with sanitizers: its file, the file that has what it must print, and the compiler. What there is no memory
+# for is refused, as by the C library; leaks are for valgrind.
+sanitized() {
+    "$3" -std=c11 "${warnings[@]}" "${sanitizers[@]}" "${flags[@]}" "$top/$1" "${libs[@]}" -o "$room/sanitized" || return 1
+    ASAN_OPTIONS=allocator_may_return_null=1:detect_leaks=0 prints "$top/$2" "$room/sanitized"
+}
+
+# Whether examples/host.c runs with the C library alone, in a program that has functions of its own by the names in the toolchain's archive.
+is_alone() {
+    names_in "$memory" | sed 's/.*/void &(void); void &(void) { __builtin_trap(); }/' > "$room/names.c"
+    [[ -s $room/names.c ]] || return 1
+    "$(compiler c)" -std=c11 "${warnings[@]}" -c "$room/names.c" -o "$room/names.o" || return 1
+    build "$top/examples/host.c" c "$room/alone" "$room/names.o" -nodefaultlibs -lc || return 1
+    prints "$top/examples/host.expected" "$room/alone"
+}
+
+# Installs below a prefix, in a folder of its own or none (DESTDIR), and reports whether all is there then, with this prefix in it, and nothing else.
+installs() {
+    LIBRARY=$library DESTDIR=$1 "$self" install "$2" > /dev/null || return 1
+    diff <(printf '%s\n' "${files[@]}" | sort) <(cd "$1$2" && find . ! -type d | sed 's,^\./,,' | sort) || return 1
+    grep -qFx "prefix=$2" "$1$2/lib/pkgconfig/nvmed.pc"
+}
+
+copy=$room/installed
+check "the installation" installs "" "$copy"
+if [[ $failed != 0 ]]; then
+    echo "$passed passed, $failed failed"
+    exit 1
+fi
+flags=("-I$copy/include")
+libs=("-L$copy/lib" -lnvmed)
+if command -v pkg-config > /dev/null; then
+    unset PKG_CONFIG_SYSROOT_DIR
+    export PKG_CONFIG_PATH=$copy/lib/pkgconfig
+    read -ra flags < <(pkg-config --cflags nvmed)
+    read -ra libs < <(pkg-config --libs nvmed)
+else
+    say "there is no pkg-config: the copy that is installed is named by its paths"
+fi
+
 if [[ ${1:-} == time ]]; then
     warnings+=(-O2)
-    build "$top/bench/work.c" work c
-    "$room/work-c"
+    build "$top/bench/work.c" c "$room/work"
+    "$room/work"
     exit
 fi
 
+check "the installation with DESTDIR" installs "$room/staged" /opt/nvmed
 command -v clang > /dev/null || say "there is no clang: cc is taken in its place"
 command -v clang++ > /dev/null || say "there is no clang++: c++ is taken in its place"
 command -v valgrind > /dev/null || say "there is no valgrind: left out are the checks for bad accesses and leaks"
-for language in c cxx; do
+for language in c cxx rust; do
     if ! compiler "$language" > /dev/null; then
         say "there is no compiler of $language: left out is all that is built by it"
         continue
     fi
-    check_program examples/host examples/host.expected "$language"
-    check_program bench/wrong/c bench/wrong/c.expected "$language"
+    case $language in
+        c | cxx)
+            check_program examples/host.c examples/host.expected "$language"
+            check_program bench/wrong/c.c bench/wrong/c.expected "$language"
+            ;;&
+        c) check "examples/host.c with the C library alone" is_alone ;;
+        cxx) check_program examples/host.cc examples/host.cc.expected cxx ;;
+        rust) check_program examples/host.rs examples/host.rs.expected rust ;;
+    esac
 done
+sanitizing=
+for it in clang gcc cc; do
+    if can_sanitize "$it"; then
+        sanitizing=$it
+        break
+    fi
+done
+if [[ -n $sanitizing ]]; then
+    check "examples/host.c with sanitizers" sanitized examples/host.c examples/host.expected "$sanitizing"
+    check "bench/wrong/c.c with sanitizers" sanitized bench/wrong/c.c bench/wrong/c.expected "$sanitizing"
+else
+    say "no compiler of C has sanitizers: left out are the checks with them"
+fi
 echo "$passed passed, $failed failed"
 [[ $failed == 0 ]]

@@ -41,6 +41,12 @@
 extern "C" {
 #endif
 
+/* The version of this interface. Its major number changes when a call or a struct changes or goes: programs must be compiled anew. Its minor number
+ * changes when calls are added: programs that were compiled before go on as they are. NVMED_VERSION is both in one number, which may be compared. */
+#define NVMED_VERSION_MAJOR 1
+#define NVMED_VERSION_MINOR 0
+#define NVMED_VERSION (NVMED_VERSION_MAJOR * 65536u + NVMED_VERSION_MINOR)
+
 /* What a call returns. All but NVMED_OK are errors. */
 typedef enum nvmed_status {
     NVMED_OK = 0,              /* it was done */
@@ -132,6 +138,7 @@ typedef struct nvmed_event {
 typedef enum nvmed_scope { NVMED_OF_GUEST = 1, NVMED_OF_LANE = 2, NVMED_OF_ALL = 3 } nvmed_scope;
 
 /* What the library exports. No pointer may be null here: use the calls below, which test them. A slice is its pointer and its length. */
+uint32_t nvmed_raw_version(void);
 uint32_t nvmed_raw_new(nvmed *, const nvmed_sizes *, const uint32_t *, size_t, const nvmed_region *, size_t, const nvmed_extent *, size_t);
 uint32_t nvmed_raw_free(nvmed *);
 uint32_t nvmed_raw_store(nvmed *, uint32_t, uint64_t, const uint8_t *, size_t);
@@ -151,6 +158,11 @@ static inline const void *nvmed_some(const void *at, uint64_t length) {
     static const uint64_t none = 0;
     return length == 0 ? &none : at;
 }
+
+/* The version of the library that is linked, counted as NVMED_VERSION is. A library serves a program if their major numbers are the same, and its minor
+ * number is that of the program's header or a higher one. It takes no handle, needs no memory, and returns no status. SAFE, EXACT (the number of the
+ * library is proved; that the macros say the same is tested). Errors: none. */
+static inline uint32_t nvmed_version(void) { return nvmed_raw_version(); }
 
 /* Makes the mediator of a set-up, and puts it into a handle that holds none. There are as many guests as limits: limits[g] is the most descriptors
  * that a list of guest g may have, 1 to 4,096. Its regions and extents are those of number g, in their order; those of a number that is no guest's

@@ -1,6 +1,6 @@
 /* Every call of the library for C with wrong arguments: null pointers, lengths of 0, numbers far out of range, handles without a mediator, set-ups
- * that are refused. Each has to answer one of its statuses, and the mediator has to be as it was. Prints how many calls there were of each function: a
- * hundred or more, those of nvmed_free on handles that hold nothing. */
+ * that are refused. Each has to answer one of its statuses, and the mediator has to be as it was. Prints the version of the library, which has to be
+ * the header's, and how many calls there were of each other function: a hundred or more, those of nvmed_free on handles that hold nothing. */
 #include <stdio.h>
 #include <string.h>
 
@@ -306,8 +306,16 @@ static void outputs(nvmed *m) {
     left("work, block and kept", count == 0 && at == NULL && word == 0);
 }
 
+/* The version of the library that is linked has to be the header's. */
+static void version(void) {
+    uint32_t number = nvmed_version();
+    left("version", number == NVMED_VERSION);
+    printf("version %u.%u\n", (unsigned)(number >> 16), (unsigned)(number & 0xffff));
+}
+
 int main(void) {
     nvmed m = NVMED_INIT;
+    version();
     set_ups();
     views();
     on_nothing(NULL, NVMED_NULL);

@@ -1,8 +1,8 @@
 //! The library that a hypervisor links: the mediator without a log, used through calls from C.
 //!
 //! `include/nvmed.h` has the calls as C sees them. It tests each pointer for null, and passes on what is defined here, by references and slices: a
-//! handle ([`Nvmed`]) and plain structs ([`Sizes`], [`Region`], [`GuestExtent`], [`Event`]). Each call returns one of the numbers of `enum nvmed_status`
-//! for any numbers and any bytes. Nothing here aborts, prints, waits, or keeps anything outside the handle.
+//! handle ([`Nvmed`]) and plain structs ([`Sizes`], [`Region`], [`GuestExtent`], [`Event`]). Each call on a handle returns one of the numbers of
+//! `enum nvmed_status` for any numbers and any bytes. Nothing here aborts, prints, waits, or keeps anything outside the handle.
 //!
 //! A handle is a struct that C owns and that has one pointer. It is null where the handle holds nothing, and else points to a mediator in memory of
 //! its own. A type that holds a `Vec` or a `Box` can't cross to C, and neither can a pointer to one. So the struct has a raw pointer, and its model
@@ -45,6 +45,17 @@ use nv_world_model::Event as Made;
 pub use setup::{GuestExtent, Region, Sizes};
 use std::alloc::Global;
 use working::Scope;
+
+/// Version 1.0.
+const VERSION: u32 = 65_536;
+
+/// The version of the interface: its major number times 65,536, plus its minor number.
+#[unsafe(no_mangle)]
+pub extern "C" fn nvmed_raw_version() -> u32
+    ensures { result ≡ 65536 }
+{
+    VERSION
+}
 
 /// Makes the mediator of a set-up, and puts it into a handle that holds none. There are as many guests as limits.
 #[unsafe(no_mangle)]
