@@ -5,11 +5,12 @@ use Rattle.std.specs.Prelude.{IfSome}
 use Rattle.std.proofs.lemmas.List.{length-set}
 use Rattle.std.proofs.lemmas.Option.{slice_get_past}
 use Rattle.std.specs.List.{slice_index_or}
+use Rattle.nv_core.proofs.Besides.{beside-of}
 use Rattle.nv_core.proofs.Handed.{lane-there}
 use Rattle.nv_core.proofs.LentHost.{after-lent}
 use Rattle.nv_core.proofs.Sides.{rung-one, rung-same, set-nowhere}
 use Rattle.nv_core.proofs.KeptStates.{kept-of, length-tails, tail-of}
-use Rattle.nv_core.specs.Front.{HasTailMoved, IsLive, IsLiveStep, IsSideOf, IsSideStep, Side, rung_with, tails_of, with_side}
+use Rattle.nv_core.specs.Front.{HasTailMoved, IsBeside, IsLive, IsLiveStep, IsSideOf, IsSideStep, Side, rung_with, tails_of, with_side}
 use Rattle.nv_core.specs.Kept.{AreKept, IsKept, IsLent}
 use Rattle.nv_core.specs.Seat.{IsLoaded}
 use Rattle.nv_core.specs.State.{IsOf, IsStep, State, world_of}
@@ -210,6 +211,9 @@ module _ (geometry : Geometry) (hosts : List (List ℕ)) (host : List ℕ) (is :
 
   pub lent-side : IsSideOf front lent (world_of (record { host = lent; device = device; lanes = front.lanes; controllers = front.controllers }))
   lent-side = side-here geometry lent device front old lent-same of rung
+
+  pub lent-beside : IsBeside front lent (world_of (record { host = lent; device = device; lanes = front.lanes; controllers = front.controllers }))
+  lent-beside = beside-of front lent _ lent-side
 
   pub lent-live : IsLive geometry (world_of (record { host = lent; device = device; lanes = front.lanes; controllers = front.controllers }))
   lent-live = live-here geometry lent device front old lent-same of rung

@@ -5,7 +5,7 @@ use Rattle.std.proofs.lemmas.List.Elements.{All-weaker}
 use Rattle.std.proofs.lemmas.Option.{slice_get_read, slice_get_within}
 use Rattle.nv_core.specs.Ending.{IsEnded}
 use Rattle.nv_core.specs.Groups.{AreTaken, all_ended, statuses_in, tags_changed}
-use Rattle.nv_core.specs.Kept.{IsKeptLane}
+use Rattle.nv_laws_sound.specs.Kept.{IsKeptLane}
 use Rattle.nv_core.specs.State.{State, world_of}
 use Rattle.nv_core.specs.Tags.{IsTaken, state_in, unended, unled, untaken}
 use Rattle.nv_entry.specs.Status.{StatusField}

@@ -1,7 +1,8 @@
 -- What the mediator's side keeps, of a state: the events of guests and of the mediator need no more.
 use Rattle.std.proofs.Common.{◌≡◌, ℕ, zero, suc, ◌<◌, List, [], ◌∷◌, length, slice_get, Option, Some, arith, refl, sym, ap, ◌∙◌}
 use Rattle.nv_core.specs.Front.{tails_of}
-use Rattle.nv_core.specs.Kept.{AreKept, IsKeptTag}
+use Rattle.nv_core.specs.Kept.{AreKept}
+use Rattle.nv_laws_sound.specs.Kept.{IsKeptTag}
 use Rattle.nv_core.specs.State.{IsOf, State, world_of}
 use Rattle.nv_laws_sound.proofs.Lists.{slice_get-below, slice_get-there, some-same}
 use Rattle.nv_laws_sound.specs.Consistent.{IsTag}

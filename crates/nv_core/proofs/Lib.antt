@@ -46,3 +46,4 @@ pub mod PlanSubmits
 pub mod EndedParts
 pub mod HandedParts
 pub mod FlownTags
+pub mod Besides

@@ -19,7 +19,7 @@ use Rattle.nv_laws_sound.proofs.Numbers.{Passes, all-at, numbers-length, numbers
 use Rattle.nv_laws_sound.proofs.OwnWork.{own-of}
 use Rattle.nv_laws_sound.proofs.PlanSizes.{own-few, planned-kinds}
 use Rattle.nv_laws_sound.proofs.Stages.{filter-at}
-use Rattle.nv_core.specs.Kept.{IsKeptLane}
+use Rattle.nv_laws_sound.specs.Kept.{IsKeptLane}
 use Rattle.nv_laws_sound.specs.Consistent.{IsPlanned}
 use Rattle.nv_laws_sound.specs.Groups.{AtOnce, Handed, Part, command_of, goes_by, group_of, part_of, parts_of}
 use Rattle.nv_laws_sound.specs.LaidOut.{IsLaidOut}

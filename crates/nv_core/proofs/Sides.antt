@@ -1,5 +1,5 @@
 -- A world that has the mediator's side, as a state with a device on lists: what an event comes to there, it comes to in that world.
-use Rattle.std.proofs.Common.{◌≡◌, ℕ, zero, suc, Bool, false, ◌&&◌, List, [], ◌∷◌, map, replicate, set, slice_get, Option, Some, None, lit<, refl, sym, ap, ◌∙◌, subst}
+use Rattle.std.proofs.Common.{◌≡◌, ℕ, zero, suc, Bool, false, ◌&&◌, List, [], ◌∷◌, map, replicate, set, slice_get, Option, Some, None, lit<, refl, sym, ap, ◌∙◌, subst, length}
 use Rattle.std.proofs.lemmas.List.{length-replicate}
 use Rattle.nv_core.proofs.KeptStates.{IsKeptOf, tail-of}
 use Rattle.nv_core.specs.Front.{HasTailMoved, IsLive, IsSideOf, Side, rung_with, tails_of, with_side}
@@ -13,6 +13,7 @@ use Rattle.nv_laws_sound.proofs.Lists.{set-same, some-same}
 use Rattle.nv_laws_sound.proofs.Mediators.{left-alone}
 use Rattle.nv_laws_sound.specs.Consistent.{IsConsistent}
 use Rattle.nv_laws_sound.specs.Counted.{IsCounted, commands}
+use Rattle.nv_laws_sound.specs.LaidOut.{IsLaidOut}
 use Rattle.nv_laws_sound.specs.Phased.{ArePhased}
 use Rattle.nv_laws_sound.specs.Mediators.{IsMediators, after_on, on_disk}
 use Rattle.nv_model.specs.Controller.{Controller}
@@ -117,12 +118,12 @@ module _ (geometry : Geometry) (side : Side) (memory : List ℕ) (w : World) (is
   of-side lent = record { mediator = refl; laid_out = lent.laid_out; kept = kept-side lent.kept }
 
   -- where the world is as events leave it
-  pub of-live : IsLent geometry side memory → IsLive geometry w → IsOf geometry state_in
-  of-live lent live =
+  pub of-live : IsLaidOut (length memory) (length side.lanes) geometry → IsLive geometry w → IsOf geometry state_in
+  of-live laid live =
       record {
         mediator = refl;
         blocks = length-replicate {A = List ℕ} geometry.disk_blocks [];
-        laid_out = lent.laid_out;
+        laid_out = laid;
         consistent = consistent-on geometry own _ _ (subst (IsConsistent geometry) (sym own-is) live.consistent);
         phased = subst (ArePhased geometry) (sym own-is) live.phased;
       }

@@ -3,6 +3,7 @@
 use Rattle.std.specs.Prelude.{◌≡◌, ℕ, ◌<◌, List, [], ◌∷◌, length, map, replicate, slice_get, slice_index, slice_set, Some}
 use Rattle.nv_laws_sound.specs.Consistent.{IsConsistent}
 use Rattle.nv_laws_sound.specs.Phased.{ArePhased}
+use Rattle.nv_laws_sound.specs.Unplaced.{unplaced_lane}
 use Rattle.nv_model.specs.Controller.{Controller, opening}
 use Rattle.nv_model.specs.Memory.{byte_in}
 use Rattle.nv_model.specs.declared.reply.Reply.{Reply}
@@ -37,6 +38,18 @@ pub record IsSideOf (side : Side) (memory : List ℕ) (w : World) : Type 0 where
   pub lanes : w.lanes ≡ side.lanes
   pub controllers : w.controllers ≡ side.controllers
   pub tails : tails_of w.device ≡ side.tails
+
+-- but for the places of parts, which are the physical controller's
+pub record IsBeside (side : Side) (memory : List ℕ) (w : World) : Type 0 where
+  pub host : w.host ≡ byte_in memory
+  pub lanes : map unplaced_lane w.lanes ≡ map unplaced_lane side.lanes
+  pub controllers : w.controllers ≡ side.controllers
+  pub tails : tails_of w.device ≡ side.tails
+
+-- an event is the definition's step of a world: it is answered so, and the world after it has that side and memory, but for the places of parts
+pub record IsStepBeside (geometry : Geometry) (e : Event) (w : World) (r : Reply) (new : Side) (after : List ℕ) : Type 0 where
+  pub reply : (step geometry e w).reply ≡ r
+  pub world : IsBeside new after (step geometry e w).world
 
 -- a world is as events leave it: consistent, and with the phase tags of its passes
 pub record IsLive (geometry : Geometry) (w : World) : Type 0 where

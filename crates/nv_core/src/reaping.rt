@@ -1,7 +1,7 @@
 //! Completions of the physical controller that are read.
 
 ghost use Rattle.std.specs.Prelude.{◌≡◌, IfOk, Ok, OnErr, length};
-ghost use Rattle.nv_core.specs.Front.{IsLive, IsLiveStep, IsReaped, IsSideOf};
+ghost use Rattle.nv_core.specs.Front.{IsBeside, IsLive, IsLiveStep, IsReaped, IsStepBeside};
 ghost use Rattle.nv_core.specs.Kept.{IsLent};
 ghost use Rattle.nv_mem.specs.Bytes.{InMemory};
 ghost use Rattle.nv_model.specs.Memory.{byte_in, bytes_from};
@@ -44,7 +44,9 @@ impl Front {
             IsLiveStep layout.now (Event.Reap lane) self.old (C.bytes host.now) reply self.new (C.bytes host.now)) }
         ensures ended { result ≡ Ok Reply.Done → IsReaped layout.now lane self.old self.new (C.bytes host.now) }
         ensures same { (result ≡ Ok Reply.Done → ⊥) → self.new ≡ self.old }
-        ensures stray { OnErr result ((w : World) → IsSideOf self.old (C.bytes host.now) w → IsLive layout.now w → ⊥) }
+        ensures beside { IfOk result (λ reply. (w : World) → IsBeside self.old (C.bytes host.now) w → IsLive layout.now w →
+            IsStepBeside layout.now (Event.Reap lane) w reply self.new (C.bytes host.now)) }
+        ensures stray { OnErr result ((w : World) → IsBeside self.old (C.bytes host.now) w → IsLive layout.now w → ⊥) }
         ensures tails { self.new.tails ≡ self.old.tails }
     {
         let at = usize::from(lane);

@@ -1,9 +1,10 @@
-use Rattle.std.proofs.Common.{◌≡◌, ℕ, ◌+◌, ◌<◌, ◌^◌, ◌∙◌, List, Some, length, set, slice_get, ap, refl, subst, sym, arith, Option, None, false}
+use Rattle.std.proofs.Common.{◌≡◌, ℕ, ◌+◌, ◌<◌, ◌^◌, ◌∙◌, List, Some, length, set, slice_get, ap, refl, subst, sym, arith, Option, None, false, ◌≤◌}
+use Rattle.nv_core.proofs.Besides.{beside-done, beside-flies, beside-idle, beside-none}
 use Rattle.nv_core.proofs.GroupWorlds.{looked-up}
 use Rattle.nv_core.proofs.PhasedReaps.{alike, low, must-idle, must-wait, phased, unlike}
-use Rattle.nv_core.proofs.Reaps.{aloft, cid-flies, reap-done, reap-idle, reap-no_lane, reaped-as}
+use Rattle.nv_core.proofs.Reaps.{aloft, reap-done, reap-idle, reap-no_lane, reaped-as}
 use Rattle.nv_core.proofs.Sides.{of-live, own, quiet-in, reaped-in, state_in}
-use Rattle.nv_core.specs.Front.{IsSideOf, Side}
+use Rattle.nv_core.specs.Front.{IsBeside, IsSideOf, Side}
 use Rattle.nv_core.specs.Kept.{IsLent}
 use Rattle.nv_core.specs.State.{IsOf, State}
 use Rattle.nv_core.specs.Tags.{is_flying, state_in as point_in}
@@ -72,7 +73,7 @@ returns-then-phase-wanted_phase-clause-ok g c = λ w is0 live.
     looked-up c.self.inside.lanes.items c.args.lane c.from-at.result l c.from-at.ensures below c.index_mut-ring.ensures.value in
     let is : IsSideOf side m w = subst (λ (f : Side). IsSideOf f m w) (sym c.self.view_is) is0 in
     let s : State = state_in c.args.layout.now side m w is in
-    let of : IsOf c.args.layout.now s = of-live c.args.layout.now side m w is lent live in
+    let of : IsOf c.args.layout.now s = of-live c.args.layout.now side m w is lent.laid_out live in
     let p : ℕ = (lane_of s.device c.args.lane).posted in
     let phased = phased c.args.layout.now side m w is live c.args.lane c.from-at.result l c.from-at.ensures below c.index_mut-ring.ensures.value in
     let low = low c.args.layout.now side m w is live c.args.lane c.from-at.result l c.from-at.ensures below c.index_mut-ring.ensures.value in
@@ -111,32 +112,19 @@ returns-then-not-is_flying-clause-same g c = λ never.
     (ap (λ (n : ℕ). set c.self.inside.lanes.items n l) c.from-at.ensures ∙ set-same c.self.inside.lanes.items c.args.lane l there) ∙ c.self.view_is
 
 pub returns-then-not-is_flying-clause-stray : goal.returns-then-not-is_flying-clause-stray
-returns-then-not-is_flying-clause-stray g c = λ w is0 live.
+returns-then-not-is_flying-clause-stray g c = λ w on0 live.
     let m : List ℕ = g.C.MemoryCell.bytes c.args.host.now in
     let side : Side = record { lanes = c.self.inside.lanes.items; tails = c.self.inside.tails.items; controllers = c.self.inside.controllers.items } in
     let lent : IsLent c.args.layout.now side m = subst (λ (f : Side). IsLent c.args.layout.now f m) (sym c.self.view_is) c.requires in
     let below : c.from-at.result < length c.self.inside.lanes.items = (let l = c.len.ensures in let n = c.from-at.ensures in let t = c.if-at-len.false in omega arith) in
-    let l : Lane = c.index_mut-ring.result.now in
-    let there : slice_get c.self.inside.lanes.items c.args.lane ≡ Some l =
-    looked-up c.self.inside.lanes.items c.args.lane c.from-at.result l c.from-at.ensures below c.index_mut-ring.ensures.value in
-    let is : IsSideOf side m w = subst (λ (f : Side). IsSideOf f m w) (sym c.self.view_is) is0 in
-    let s : State = state_in c.args.layout.now side m w is in
-    let of : IsOf c.args.layout.now s = of-live c.args.layout.now side m w is lent live in
-    let p : ℕ = (lane_of s.device c.args.lane).posted in
-    let phased = phased c.args.layout.now side m w is live c.args.lane c.from-at.result l c.from-at.ensures below c.index_mut-ring.ensures.value in
-    let low = low c.args.layout.now side m w is live c.args.lane c.from-at.result l c.from-at.ensures below c.index_mut-ring.ensures.value in
-    let located : c.completion_slot-slot.result ≡ completion_slot s.device.mediator c.args.lane c.head.result =
+    let on : IsBeside side m w = subst (λ (f : Side). IsBeside f m w) (sym c.self.view_is) on0 in
+    let located : c.completion_slot-slot.result ≡ completion_slot c.args.layout.now.mediator c.args.lane c.head.result =
     c.completion_slot-slot.ensures ∙ ap (λ (n : ℕ). completion_slot n c.args.lane c.head.result) c.mediator.ensures in
-    let reads : phase_of c.completion_at-completion.result ≡ phase_at c.args.layout.now (byte_in m) c.args.lane l.head =
-    ap phase_of (c.completion_at-completion.ensures ∙ ap (λ (a : ℕ). bytes_from (byte_in m) a cqe_size) (located ∙ ap (completion_slot c.args.layout.now.mediator c.args.lane) c.head.ensures.value)) in
-    let waits : c.head.result ≡ p → ⊥ =
-    (λ e. must-wait c.args.layout.now (byte_in m) c.args.lane l.head l.phase p (lane_of s.device c.args.lane).phase low phased c.phase.result c.wanted_phase.result
-    (phase_of c.completion_at-completion.result) reads c.phase.ensures c.wanted_phase.ensures
-    (alike c.phase.result c.wanted_phase.result c.if-phase-wanted_phase.false) (sym c.head.ensures.value ∙ e)) in
-    let flies = cid-flies c.args.layout.now s s c.args.lane refl of c.from-at.result l c.from-at.ensures below
-    c.index_mut-ring.ensures.value c.head.result p c.head.ensures.value refl waits
-    c.completion_slot-slot.result c.cid-identifier.result c.completion_at-completion.result located c.completion_at-completion.ensures c.cid-identifier.ensures in
-    grounded (slice_get l.tags c.cid-identifier.result) flies (sym c.is_flying.ensures ∙ c.if-not-is_flying.true)
+    let flies = beside-flies c.args.layout.now side m w on live lent.laid_out c.args.lane c.from-at.result c.index_mut-ring.result.now c.from-at.ensures below
+    c.index_mut-ring.ensures.value c.head.result c.completion_slot-slot.result c.head.ensures.value located c.completion_at-completion.result
+    c.completion_at-completion.ensures c.phase.result c.wanted_phase.result c.phase.ensures c.wanted_phase.ensures
+    (alike c.phase.result c.wanted_phase.result c.if-phase-wanted_phase.false) c.cid-identifier.result c.cid-identifier.ensures in
+    grounded (slice_get c.index_mut-ring.result.now.tags c.cid-identifier.result) flies (sym c.is_flying.ensures ∙ c.if-not-is_flying.true)
 
 pub overflow_cast-identifier : goal.overflow_cast-identifier
 overflow_cast-identifier g c =
@@ -168,7 +156,7 @@ returns-clause-ok g c = λ w is0 live.
     looked-up c.self.inside.lanes.items c.args.lane c.from-at.result l c.from-at.ensures below c.index_mut-ring.ensures.value in
     let is : IsSideOf side m w = subst (λ (f : Side). IsSideOf f m w) (sym c.self.view_is) is0 in
     let s : State = state_in c.args.layout.now side m w is in
-    let of : IsOf c.args.layout.now s = of-live c.args.layout.now side m w is lent live in
+    let of : IsOf c.args.layout.now s = of-live c.args.layout.now side m w is lent.laid_out live in
     let p : ℕ = (lane_of s.device c.args.lane).posted in
     let phased = phased c.args.layout.now side m w is live c.args.lane c.from-at.result l c.from-at.ensures below c.index_mut-ring.ensures.value in
     let low = low c.args.layout.now side m w is live c.args.lane c.from-at.result l c.from-at.ensures below c.index_mut-ring.ensures.value in
@@ -205,3 +193,38 @@ returns-clause-ended g c = λ done w k is0 found.
     c.completion_at-completion.result (bytes_from (byte_in m) (completion_slot c.args.layout.now.mediator c.args.lane l.head) cqe_size)
     c.status.result c.passed_on.result there f.is c.status.ensures c.passed_on.ensures c.end_with.ensures c.read_completion.ensures c.cid-identifier.ensures
     (c.completion_at-completion.ensures ∙ ap (λ (a : ℕ). bytes_from (byte_in m) a cqe_size) at_head))
+
+pub returns-then-at-len-clause-beside : goal.returns-then-at-len-clause-beside
+returns-then-at-len-clause-beside g c = λ w on live.
+    let m : List ℕ = g.C.MemoryCell.bytes c.args.host.now in
+    let past : length c.self.inside.lanes.items ≤ c.args.lane = (let n = c.from-at.ensures in let l = c.len.ensures in let t = c.if-at-len.true in omega arith) in
+    beside-none c.args.layout.now c.args.self.now m w on live c.requires.laid_out c.args.lane (subst (λ (f : Side). length f.lanes ≤ c.args.lane) c.self.view_is past)
+
+pub returns-then-phase-wanted_phase-clause-beside : goal.returns-then-phase-wanted_phase-clause-beside
+returns-then-phase-wanted_phase-clause-beside g c = λ w on0 live.
+    let m : List ℕ = g.C.MemoryCell.bytes c.args.host.now in
+    let side : Side = record { lanes = c.self.inside.lanes.items; tails = c.self.inside.tails.items; controllers = c.self.inside.controllers.items } in
+    let lent : IsLent c.args.layout.now side m = subst (λ (f : Side). IsLent c.args.layout.now f m) (sym c.self.view_is) c.requires in
+    let below : c.from-at.result < length c.self.inside.lanes.items = (let l = c.len.ensures in let n = c.from-at.ensures in let t = c.if-at-len.false in omega arith) in
+    let on : IsBeside side m w = subst (λ (f : Side). IsBeside f m w) (sym c.self.view_is) on0 in
+    let located : c.completion_slot-slot.result ≡ completion_slot c.args.layout.now.mediator c.args.lane c.head.result =
+    c.completion_slot-slot.ensures ∙ ap (λ (n : ℕ). completion_slot n c.args.lane c.head.result) c.mediator.ensures in
+    beside-idle c.args.layout.now side m w on live lent.laid_out c.args.lane c.from-at.result c.index_mut-ring.result.now c.from-at.ensures below
+    c.index_mut-ring.ensures.value c.head.result c.completion_slot-slot.result c.head.ensures.value located c.completion_at-completion.result
+    c.completion_at-completion.ensures c.phase.result c.wanted_phase.result c.phase.ensures c.wanted_phase.ensures
+    (unlike c.phase.result c.wanted_phase.result c.if-phase-wanted_phase.true)
+
+pub returns-clause-beside : goal.returns-clause-beside
+returns-clause-beside g c = λ w on0 live.
+    let m : List ℕ = g.C.MemoryCell.bytes c.args.host.now in
+    let side : Side = record { lanes = c.self.inside.lanes.items; tails = c.self.inside.tails.items; controllers = c.self.inside.controllers.items } in
+    let lent : IsLent c.args.layout.now side m = subst (λ (f : Side). IsLent c.args.layout.now f m) (sym c.self.view_is) c.requires in
+    let below : c.from-at.result < length c.self.inside.lanes.items = (let l = c.len.ensures in let n = c.from-at.ensures in let t = c.if-at-len.false in omega arith) in
+    let on : IsBeside side m w = subst (λ (f : Side). IsBeside f m w) (sym c.self.view_is) on0 in
+    let located : c.completion_slot-slot.result ≡ completion_slot c.args.layout.now.mediator c.args.lane c.head.result =
+    c.completion_slot-slot.ensures ∙ ap (λ (n : ℕ). completion_slot n c.args.lane c.head.result) c.mediator.ensures in
+    beside-done c.args.layout.now side m w on live lent.laid_out c.args.lane c.from-at.result c.index_mut-ring.result.now c.from-at.ensures below
+    c.index_mut-ring.ensures.value c.head.result c.completion_slot-slot.result c.head.ensures.value located c.completion_at-completion.result
+    c.completion_at-completion.ensures c.phase.result c.wanted_phase.result c.phase.ensures c.wanted_phase.ensures
+    (alike c.phase.result c.wanted_phase.result c.if-phase-wanted_phase.false) c.cid-identifier.result c.cid-identifier.ensures
+    c.status.result c.passed_on.result c.end_with.new.self c.read_completion.new.self c.status.ensures c.passed_on.ensures c.end_with.ensures c.read_completion.ensures
