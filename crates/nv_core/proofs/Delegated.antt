@@ -36,7 +36,7 @@ use Rattle.nv_world_model.specs.World.{World}
 use Rattle.nv_world_model.specs.declared.event.Event.{Event}
 
 -- doorbells that were rung with tails have these
-tails-rung : (ds : List DeviceLane) (ts : List ℕ) → length ts ≡ length ds → tails_of (rung_with ts ds) ≡ ts
+pub tails-rung : (ds : List DeviceLane) (ts : List ℕ) → length ts ≡ length ds → tails_of (rung_with ts ds) ≡ ts
 tails-rung [] [] e = refl
 tails-rung [] (t ∷ ts) e = cc
 tails-rung (d ∷ ds) [] e = cc

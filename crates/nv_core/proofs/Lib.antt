@@ -47,3 +47,4 @@ pub mod EndedParts
 pub mod HandedParts
 pub mod FlownTags
 pub mod Besides
+pub mod FrontLaws

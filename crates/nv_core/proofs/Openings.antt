@@ -21,7 +21,7 @@ reads-one n i x = elim (cases_lt i n) [
   | inr past ↦ get_or_past (replicate n x) i x (let l = length-replicate n x in omega (arith, l))
 ]
 
-bytes-zero : (n : ℕ) → byte_in (replicate n 0) ≡ (λ at. 0)
+pub bytes-zero : (n : ℕ) → byte_in (replicate n 0) ≡ (λ at. 0)
 unfolding byte_in
 bytes-zero n = fun_ext (λ at. reads-one n at 0)
 

@@ -1,0 +1,46 @@
+//! What the calls of a front come to in every world that has its side, as functions that do nothing: each contract is a law.
+//!
+//! A front knows neither where a part is that it has handed on nor what the physical controller does. So its side is that of many worlds, which differ in
+//! these places alone.
+
+ghost use Rattle.std.specs.Prelude.{◌≡◌, ℕ, List, Some, length, replicate, slice_get};
+ghost use Rattle.nv_core.specs.Front.{IsBeside, IsReaped, IsSideOf, IsSideStep, IsStepBeside, Side, opening_side};
+ghost use Rattle.nv_core.specs.Kept.{IsKept, IsLent};
+ghost use Rattle.nv_laws_sound.specs.Mediators.{IsMediators};
+ghost use Rattle.nv_laws_sound.specs.Unplaced.{IsControllers};
+ghost use Rattle.nv_model.specs.Memory.{byte_in};
+ghost use Rattle.nv_model.specs.declared.reply.Reply.{Reply};
+ghost use Rattle.nv_world_model.specs.Geometry.{Geometry};
+ghost use Rattle.nv_world_model.specs.Step.{step};
+ghost use Rattle.nv_world_model.specs.World.{Lane, World, opening_world};
+ghost use Rattle.nv_world_model.specs.declared.event.Event.{Event};
+
+/// The side of a new front is that of the world at the start, in a memory of zeros, and keeps what a side keeps.
+pub fn a_front_begins_at_the_start()
+    ensures world { (geometry : Geometry) (host_bytes lanes : ℕ) →
+        IsSideOf (opening_side geometry lanes) (replicate host_bytes 0) (opening_world geometry lanes) }
+    ensures kept { (geometry : Geometry) (lanes : ℕ) → IsKept geometry (opening_side geometry lanes) }
+{}
+
+/// A call is a step of each world that has the side but for the places of parts: it is answered as the definition's step is, and the world after that step has
+/// the new side and memory in the same way.
+pub fn a_call_is_a_step_of_each_world()
+    ensures { (geometry : Geometry) (e : Event) (old new : Side) (before after : List ℕ) (r : Reply) (w : World) → IsMediators e →
+        IsSideStep geometry e old before r new after → length new.tails ≡ length old.tails → IsBeside old before w →
+        IsStepBeside geometry e w r new after }
+{}
+
+/// What the physical controller does to a world that has the side leaves it one, with the memory as it is then.
+pub fn the_controller_leaves_a_side_alone()
+    ensures { (geometry : Geometry) (e : Event) (side : Side) (before after : List ℕ) (w : World) → IsControllers e → IsBeside side before w →
+        (step geometry e w).world.host ≡ byte_in after → IsBeside side after (step geometry e w).world }
+{}
+
+/// What a call asks of its side and memory it leaves to the next one, whatever is in memory: so any calls may follow each other.
+pub fn a_call_may_follow_a_call()
+    ensures step { (geometry : Geometry) (e : Event) (old new : Side) (before after : List ℕ) (r : Reply) → IsMediators e →
+        IsSideStep geometry e old before r new after → length new.tails ≡ length old.tails → length after ≡ length before →
+        IsLent geometry old before → IsLent geometry new after }
+    ensures reaped { (geometry : Geometry) (lane : ℕ) (l : Lane) (old new : Side) (memory : List ℕ) → slice_get old.lanes lane ≡ Some l →
+        IsReaped geometry lane old new memory → new.tails ≡ old.tails → IsLent geometry old memory → IsLent geometry new memory }
+{}
