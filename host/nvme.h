@@ -69,7 +69,7 @@ typedef struct nvme {
 } nvme;
 
 /* Resets and enables the controller, and looks at it. It is refused where a property, the controller or namespace 1 is not as needed, where it does not
- * answer in time, or where it breaks the rules; then it was disabled again, as far as it can be. */
+ * answer in time, or where it breaks the rules. What had been enabled is disabled again then, as far as it can be. */
 bool nvme_open(nvme *n, const nvme_access *access, const window *memory, const nvme_needs *needs, reason *r);
 
 /* Creates the queues of the lanes, at most once, as many as were needed. The completion rings are zeroed. Lane l has queue pair l + 1. After a refusal
