@@ -1,4 +1,3 @@
-#define _GNU_SOURCE /* MSG_CMSG_CLOEXEC */
 #include "proxy.h"
 
 #include <errno.h>

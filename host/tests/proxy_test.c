@@ -1,4 +1,3 @@
-#define _GNU_SOURCE
 #include "proxy.h"
 
 #include <fcntl.h>
