@@ -53,6 +53,9 @@ drive *drive_qtest_on(const window *memory, const nvme_needs *needs, int socket,
  * has to lie in what drive_vfio_ranges gives. */
 drive *drive_open_vfio(const window *memory, const nvme_needs *needs, const char *address, reason *r);
 
+/* The same with `root` before the paths of /dev/vfio and /sys, for tests. */
+drive *drive_vfio_under(const char *root, const window *memory, const nvme_needs *needs, const char *address, reason *r);
+
 /* Where the window's pieces may lie for that controller: *count of at most DRIVE_RANGES ranges, in ascending order. It opens the device for a moment. */
 bool drive_vfio_ranges(const char *address, drive_range *ranges, unsigned *count, reason *r);
 
