@@ -154,7 +154,20 @@ static bool add_extent(parser *p, config_guest *g, const char *base, const char 
     return true;
 }
 
-/* guest G memory SIZE */
+/* Whether a path is that of a file with memory already: two of them may not be one. */
+static bool is_taken(const config *c, const char *path) {
+    if (c->drive == CONFIG_QEMU && c->memory && !strcmp(c->memory, path)) return true;
+    for (unsigned i = 0; i < c->guests; i++)
+        if (c->guest[i].file && !strcmp(c->guest[i].file, path)) return true;
+    return false;
+}
+
+static bool keep_memory(parser *p, const char *what, const char *text, const char **path) {
+    if (is_taken(p->c, text)) return FAULT(p, "%s has a file that stands in a former line already", what);
+    return keep_path(p, what, text, CONFIG_PATH, path);
+}
+
+/* guest G memory SIZE [FILE] */
 static bool on_guest(parser *p) {
     config *c = p->c;
     uint64_t g, sum = 0;
@@ -167,6 +180,7 @@ static bool on_guest(parser *p) {
     if (!size(p, "the guest's memory", p->word[3], MOST_BYTES, &new->memory)) return false;
     for (unsigned i = 0; i <= g; i++) sum += c->guest[i].memory;
     if (sum > MOST_BYTES) return FAULT(p, "the guests' memories are more than %" PRIu64 " bytes together", MOST_BYTES);
+    if (p->words == 5 && !keep_memory(p, "the guest's memory", p->word[4], &new->file)) return false;
     c->guests++;
     return true;
 }
@@ -260,7 +274,7 @@ static bool on_drive(parser *p) {
     if (!strcmp(kind, "qemu")) {
         c->drive = CONFIG_QEMU;
         if (p->words != 4) return FAULT(p, "%s", "'drive qemu' has a socket and the file of its memory");
-        return keep_path(p, "the socket", p->word[2], CONFIG_SOCKET, &c->socket) && keep_path(p, "the memory", p->word[3], CONFIG_PATH, &c->memory);
+        return keep_path(p, "the socket", p->word[2], CONFIG_SOCKET, &c->socket) && keep_memory(p, "the drive's memory", p->word[3], &c->memory);
     }
     if (strcmp(kind, "vfio")) return FAULT(p, "the drive is none of ram, qemu and vfio: %.40s", kind);
     c->drive = CONFIG_VFIO;
@@ -287,7 +301,7 @@ static const struct {
     unsigned least, most; /* words, the name among them */
     bool (*act)(parser *);
 } kinds[] = {
-    {"guest", 4, 4, on_guest},     {"extent", 4, 4, on_extent},   {"share", 3, 3, on_share}, {"descriptors", 3, 3, on_descriptors},
+    {"guest", 4, 5, on_guest},     {"extent", 4, 4, on_extent},   {"share", 3, 3, on_share}, {"descriptors", 3, 3, on_descriptors},
     {"version", 3, 3, on_version}, {"listen", 3, 3, on_listen},   {"start", 3, WORDS, on_start}, {"drive", 3, 4, on_drive},
     {"lanes", 2, 2, on_lanes},
 };
@@ -312,6 +326,7 @@ static bool whole(parser *p) {
         const config_guest *g = &c->guest[i];
         p->line = g->line;
         if (g->extents == 0) return FAULT(p, "guest %u has no line 'extent'", i);
+        if (c->drive == CONFIG_QEMU && !g->file) return FAULT(p, "guest %u needs a file of memory, which the drive's QEMU maps, too", i);
         if (!g->listen && !g->starts) return FAULT(p, "guest %u has no line 'listen' or 'start'", i);
         p->line = g->share_line;
         if (g->share > CONFIG_TAGS * c->lanes) return FAULT(p, "the share of guest %u is more than the %u tags that there are", i, CONFIG_TAGS * c->lanes);

@@ -33,6 +33,7 @@ typedef struct config_extent {
 
 typedef struct config_guest {
     uint64_t memory;                          /* bytes: a multiple of 4,096, not 0 */
+    const char *file;                         /* the file that is its memory, or NULL: one that the program makes; not NULL where the drive is CONFIG_QEMU */
     config_extent extent[CONFIG_EXTENTS];     /* its namespace, in this order */
     unsigned extents;                         /* 1 to 8 */
     unsigned line;                            /* where it was written */
@@ -57,7 +58,7 @@ typedef struct config {
     uint64_t ram;        /* CONFIG_RAM: bytes, a multiple of 4,096, not 0 */
     const char *image;   /* CONFIG_RAM: the file that holds the blocks, or NULL */
     const char *socket;  /* CONFIG_QEMU: where QEMU's qtest listens */
-    const char *memory;  /* CONFIG_QEMU: the file that is its RAM */
+    const char *memory;  /* CONFIG_QEMU: the file that is the first part of its RAM, for the mediator; those of the guests follow */
     const char *address; /* CONFIG_VFIO: such as 0000:01:00.0 */
     size_t text_used;
     char text[CONFIG_TEXT];

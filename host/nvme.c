@@ -119,19 +119,20 @@ static void put_command(nvme *n, const admin_command *c) {
 
 /* Waits for the completion at the head of the admin completion queue, and copies it. */
 static bool wait_completion(nvme *n, const admin_command *c, uint8_t *copy, reason *r) {
-    const volatile uint8_t *at = window_at(n->memory, n->needs.admin + PAGE_BYTES + COMPLETION * n->head, COMPLETION);
+    const uint8_t *at = window_at(n->memory, n->needs.admin + PAGE_BYTES + COMPLETION * n->head, COMPLETION);
+    const volatile uint16_t *last = (const volatile uint16_t *)(const void *)(at + 14); /* phase tag in bit 0 of this little-endian word */
     uint64_t begin = now(n);
     uint32_t value;
     for (;;) {
         bool late = now(n) - begin > NVME_ADMIN_WAIT;
-        if ((at[14] & 1) == n->phase) break;
+        if ((*last & 1) == n->phase) break;
         if (!status(n, &value, r)) return false;
         if (value & CSTS_FATAL) return refuse(r, "the controller shows a fatal status (CSTS.CFS) during %s", c->name);
         if (late) return refuse(r, "the controller did not answer %s within %d ms", c->name, NVME_ADMIN_WAIT);
         n->access.pause(n->access.context);
     }
     atomic_thread_fence(memory_order_acquire);
-    for (unsigned i = 0; i < COMPLETION; i++) copy[i] = at[i];
+    memcpy(copy, at, COMPLETION);
     return true;
 }
 

@@ -49,8 +49,8 @@ static void test_good(void) {
     CHECK(!strcmp(c.guest[1].start[0], "qemu-system-x86_64") && !strcmp(c.guest[1].start[1], "-append") && !strcmp(c.guest[1].start[2], "a # \"b\" \\"));
     CHECK(!strcmp(c.guest[1].start[3], "") && !strcmp(c.guest[1].start[4], "-m") && !strcmp(c.guest[1].start[5], "512"));
     CHECK(config_blocks(&c) == 0x520);
-    CHECK(parse("drive qemu /run/d.sock /dev/shm/m\nguest 0 memory 1G\nextent 0 281474976710655 1\nlisten 0 a\n"));
-    CHECK(c.drive == CONFIG_QEMU && !strcmp(c.socket, "/run/d.sock") && !strcmp(c.memory, "/dev/shm/m") && c.lanes == 1 && c.guest[0].memory == 1u << 30);
+    CHECK(parse("drive qemu /run/d.sock /dev/shm/m\nguest 0 memory 1G /dev/shm/g0\nextent 0 281474976710655 1\nlisten 0 a\n"));
+    CHECK(c.drive == CONFIG_QEMU && !strcmp(c.socket, "/run/d.sock") && !strcmp(c.memory, "/dev/shm/m") && c.lanes == 1 && c.guest[0].memory == 1u << 30 && !strcmp(c.guest[0].file, "/dev/shm/g0"));
     CHECK(config_blocks(&c) == UINT64_C(1) << 48);
     CHECK(parse("drive vfio 0000:aB:1f.7\nguest 0 memory 4K\nextent 0 0 1\nlisten 0 a#c\n") && !strcmp(c.address, "0000:aB:1f.7") && !strcmp(c.guest[0].listen, "a"));
 }
@@ -71,7 +71,7 @@ static void test_lines(void) {
     refused("listen 0 \"a\\nc\"\n", "line 1: after a backslash there is no quote or backslash in word 3");
     refused("listen 0 \"a\\", "line 1: after a backslash there is no quote or backslash in word 3");
     refused("guest 0 memory\n", "line 1: 'guest' has too few words");
-    refused("guest 0 memory 4K 5\n", "line 1: 'guest' has too many words");
+    refused("guest 0 memory 4K 5 6\n", "line 1: 'guest' has too many words");
     refused("lanes\n", "line 1: 'lanes' has too few words");
     refused("drive ram 4K a b\n", "line 1: 'drive' has too many words");
     CHECK(!config_parse(&c, "lanes 2\nlanes\0 2\n", 17, &r));
@@ -109,6 +109,11 @@ static void test_guests(void) {
     refused("guest 0 memory 18446744073709551615G\n", "line 1: the guest's memory is 18446744073709551615G, more than 70368744177664 bytes");
     refused("guest 0 memory 65537G\n", "line 1: the guest's memory is 65537G, more than 70368744177664 bytes");
     refused("guest 0 memory 65536G\nguest 1 memory 4K\n", "line 2: the guests' memories are more than 70368744177664 bytes together");
+    refused("guest 0 memory 4K \"\"\n", "line 1: the guest's memory has an empty path");
+    refused("guest 0 memory 4K m\nguest 1 memory 4K m\n", "line 2: the guest's memory has a file that stands in a former line already");
+    refused("drive qemu s m\nguest 0 memory 4K m\n", "line 2: the guest's memory has a file that stands in a former line already");
+    refused("guest 0 memory 4K m\ndrive qemu s m\n", "line 2: the drive's memory has a file that stands in a former line already");
+    refused("drive qemu s m\n" G0 "extent 0 0 1\nlisten 0 a\n", "line 2: guest 0 needs a file of memory, which the drive's QEMU maps, too");
     refused(REST "listen 0 a\n", "line 2: guest 0 has no line 'extent'");
     refused(REST "extent 0 0 1\n", "line 2: guest 0 has no line 'listen' or 'start'");
     refused("share 0 1\n", "line 1: guest 0 has no line 'guest' before this one");
