@@ -1,7 +1,8 @@
 /* A drive: a physical controller with a pair of queues for each lane, whatever plays it. The rings, lists and data lie in the window; the mediator
  * writes and reads them, and the host rings the doorbells here.
  *
- * Order of use: drive_open_ram, drive_open_qtest or drive_open_vfio; drive_create_lanes once; then the others in any order; drive_close. No call waits without a limit. */
+ * Order of use: drive_open_ram, drive_open_qtest or drive_open_vfio; drive_create_lanes once; then the others in any order; drive_close. The window has to
+ * stay as long as the drive. Each wait for a controller has a limit; the simulated one waits for its file. */
 #ifndef HOST_DRIVE_H
 #define HOST_DRIVE_H
 
@@ -38,7 +39,7 @@ struct drive {
 };
 
 /* A simulated controller. Its `blocks` blocks of 512 bytes are the file `image`, which is created, or made longer, where it has too few bytes, and
- * is mapped; or memory with zeros, where `image` is NULL. The window has to stay as long as the drive. NULL with a reason where that failed. */
+ * is mapped; or memory with zeros, where `image` is NULL. NULL with a reason where that failed. */
 drive *drive_open_ram(const window *memory, uint64_t blocks, const char *image, reason *r);
 
 /* QEMU's controller, reached by the qtest socket at `path`. The window's bytes are those of QEMU's RAM, in the same order: its pieces have to lie
