@@ -15,7 +15,7 @@ enum { WORDS = 256 }; /* of a line */
 typedef struct parser {
     config *c;
     reason *r;
-    unsigned line;             /* counted from 1 */
+    unsigned line; /* counted from 1 */
     bool lanes_said;
     char room[CONFIG_LINE + 1]; /* the words of the line, with a NUL after each */
     char *word[WORDS];
@@ -269,7 +269,8 @@ static bool on_drive(parser *p) {
     if (c->drive != CONFIG_NO_DRIVE) return FAULT(p, "%s", "the drive stands in a former line already");
     if (!strcmp(kind, "ram")) {
         c->drive = CONFIG_RAM;
-        return size(p, "the drive", p->word[2], MOST_BYTES, &c->ram) && (p->words == 3 || keep_path(p, "the drive's file", p->word[3], CONFIG_PATH, &c->image));
+        return size(p, "the drive", p->word[2], MOST_BYTES, &c->ram) &&
+               (p->words == 3 || keep_path(p, "the drive's file", p->word[3], CONFIG_PATH, &c->image));
     }
     if (!strcmp(kind, "qemu")) {
         c->drive = CONFIG_QEMU;
@@ -301,8 +302,8 @@ static const struct {
     unsigned least, most; /* words, the name among them */
     bool (*act)(parser *);
 } kinds[] = {
-    {"guest", 4, 5, on_guest},     {"extent", 4, 4, on_extent},   {"share", 3, 3, on_share}, {"descriptors", 3, 3, on_descriptors},
-    {"version", 3, 3, on_version}, {"listen", 3, 3, on_listen},   {"start", 3, WORDS, on_start}, {"drive", 3, 4, on_drive},
+    {"guest", 4, 5, on_guest},     {"extent", 4, 4, on_extent}, {"share", 3, 3, on_share},     {"descriptors", 3, 3, on_descriptors},
+    {"version", 3, 3, on_version}, {"listen", 3, 3, on_listen}, {"start", 3, WORDS, on_start}, {"drive", 3, 4, on_drive},
     {"lanes", 2, 2, on_lanes},
 };
 

@@ -14,15 +14,15 @@
 
 enum {
     CONFIG_GUESTS = 16,
-    CONFIG_EXTENTS = 8,   /* of a guest */
+    CONFIG_EXTENTS = 8, /* of a guest */
     CONFIG_LANES = 8,
-    CONFIG_TAGS = 64,     /* of a lane */
-    CONFIG_STARTS = 128,  /* words of one guest's QEMU */
-    CONFIG_LINE = 4096,   /* bytes of a line, without its line feed */
+    CONFIG_TAGS = 64,      /* of a lane */
+    CONFIG_STARTS = 128,   /* words of one guest's QEMU */
+    CONFIG_LINE = 4096,    /* bytes of a line, without its line feed */
     CONFIG_BYTES = 262144, /* of the whole configuration */
-    CONFIG_TEXT = 65536,  /* bytes of all paths and words that are kept, with a NUL each */
-    CONFIG_SOCKET = 107,  /* bytes of a socket's path */
-    CONFIG_PATH = 1023    /* bytes of a file's path */
+    CONFIG_TEXT = 65536,   /* bytes of all paths and words that are kept, with a NUL each */
+    CONFIG_SOCKET = 107,   /* bytes of a socket's path */
+    CONFIG_PATH = 1023     /* bytes of a file's path */
 };
 
 typedef struct config_extent {
@@ -32,18 +32,18 @@ typedef struct config_extent {
 } config_extent;
 
 typedef struct config_guest {
-    uint64_t memory;                          /* bytes: a multiple of 4,096, not 0 */
-    const char *file;                         /* the file that is its memory, or NULL: one that the program makes; not NULL where the drive is CONFIG_QEMU */
-    config_extent extent[CONFIG_EXTENTS];     /* its namespace, in this order */
-    unsigned extents;                         /* 1 to 8 */
-    unsigned line;                            /* where it was written */
-    uint32_t share;                           /* tags that it may hold at a time, 1 to 64 times the lanes; 0: the default */
+    uint64_t memory;                      /* bytes: a multiple of 4,096, not 0 */
+    const char *file;                     /* the file that is its memory, or NULL: one that the program makes; not NULL where the drive is CONFIG_QEMU */
+    config_extent extent[CONFIG_EXTENTS]; /* its namespace, in this order */
+    unsigned extents;                     /* 1 to 8 */
+    unsigned line;                        /* where it was written */
+    uint32_t share;                       /* tags that it may hold at a time, 1 to 64 times the lanes; 0: the default */
     unsigned share_line;
-    uint32_t descriptors;                     /* of an SGL, 1 to 4,096; 1,024 where no line says it */
+    uint32_t descriptors; /* of an SGL, 1 to 4,096; 1,024 where no line says it */
     bool descriptors_said;
-    uint32_t version;                         /* presented in the version register, in its form; 0: the library's own */
-    const char *listen;                       /* the socket to listen on, or NULL */
-    char *start[CONFIG_STARTS + 1];           /* or the words of QEMU to start, then NULL */
+    uint32_t version;               /* presented in the version register, in its form; 0: the library's own */
+    const char *listen;             /* the socket to listen on, or NULL */
+    char *start[CONFIG_STARTS + 1]; /* or the words of QEMU to start, then NULL */
     unsigned starts;
 } config_guest;
 

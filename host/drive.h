@@ -43,9 +43,9 @@ struct drive {
 drive *drive_open_ram(const window *memory, uint64_t blocks, const char *image, reason *r);
 
 /* QEMU's controller, reached by the qtest socket at `path`. The window's bytes are those of QEMU's RAM, in the same order: its pieces have to lie
- * between 1 MiB and 2,816 MiB (0xb0000000), where a machine of type q35 has RAM without holes. That both have the same memory is tried by a pattern at both
- * ends of each piece, which are then as they were: nothing else may use the window meanwhile. The controller is the one NVMe function on bus 0; its BAR0
- * is put at 0xfe000000. */
+ * between 1 MiB and 2,816 MiB (0xb0000000), where a machine of type q35 has RAM without holes. That both have the same memory is tried by a pattern
+ * at both ends of each piece, which are then as they were: nothing else may use the window meanwhile. The controller is the one NVMe function on bus
+ * 0; its BAR0 is put at 0xfe000000. */
 drive *drive_open_qtest(const window *memory, const nvme_needs *needs, const char *path, reason *r);
 
 /* The same on a connected socket, which is the drive's from now on, also where NULL is returned. */

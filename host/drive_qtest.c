@@ -53,7 +53,9 @@ static void pause_little(void *context) {
     clock_pause(1000);
 }
 
-static bool create_lanes(drive *d, const nvme_lane *lanes, unsigned count, reason *r) { return nvme_create_lanes(&emulated_of(d)->controller, lanes, count, r); }
+static bool create_lanes(drive *d, const nvme_lane *lanes, unsigned count, reason *r) {
+    return nvme_create_lanes(&emulated_of(d)->controller, lanes, count, r);
+}
 
 static bool ring_submission(drive *d, unsigned lane, uint32_t tail, reason *r) { return nvme_ring_submission(&emulated_of(d)->controller, lane, tail, r); }
 
@@ -103,9 +105,13 @@ static bool find_function(emulated *d, reason *r) {
     return found || refuse(r, "there is no NVMe function on bus 0");
 }
 
-static bool config_write(emulated *d, unsigned offset, uint32_t value, reason *r) { return qtest_config_write(&d->socket, d->device, d->function, offset, value, r); }
+static bool config_write(emulated *d, unsigned offset, uint32_t value, reason *r) {
+    return qtest_config_write(&d->socket, d->device, d->function, offset, value, r);
+}
 
-static bool config_read(emulated *d, unsigned offset, uint32_t *value, reason *r) { return qtest_config_read(&d->socket, d->device, d->function, offset, value, r); }
+static bool config_read(emulated *d, unsigned offset, uint32_t *value, reason *r) {
+    return qtest_config_read(&d->socket, d->device, d->function, offset, value, r);
+}
 
 /* Sizes BAR0 by all ones, puts it where it is wanted, and switches memory and bus mastering on, interrupts off. A write of 0 to the status register in the
  * command's upper half changes nothing. */
@@ -121,7 +127,8 @@ static bool set_up_function(emulated *d, reason *r) {
     if (!config_read(d, BAR0, &value, r)) return false;
     if ((value & ~UINT32_C(15)) != BAR_AT) return refuse(r, "BAR0 cannot be put at 0x%" PRIx32 ": it reads as 0x%" PRIx32, BAR_AT, value);
     if (!config_write(d, COMMAND, COMMAND_MEMORY | COMMAND_MASTER | COMMAND_SILENT, r) || !config_read(d, COMMAND, &value, r)) return false;
-    if (!(value & COMMAND_MEMORY) || !(value & COMMAND_MASTER)) return refuse(r, "memory and bus mastering cannot be switched on: the command register is 0x%" PRIx32, value & 0xffff);
+    if (!(value & COMMAND_MEMORY) || !(value & COMMAND_MASTER))
+        return refuse(r, "memory and bus mastering cannot be switched on: the command register is 0x%" PRIx32, value & 0xffff);
     return true;
 }
 
@@ -130,7 +137,9 @@ static bool check_window(const window *memory, reason *r) {
     for (unsigned i = 0; i < memory->pieces; i++) {
         const window_piece *p = &memory->piece[i];
         if (p->address < RAM_FROM || p->address >= RAM_TO || p->length > RAM_TO - p->address)
-            return refuse(r, "a piece of the window, 0x%" PRIx64 " and 0x%" PRIx64 " bytes, is not in 0x%x to 0x%" PRIx64 ", where QEMU has RAM without holes", p->address, p->length, RAM_FROM, RAM_TO);
+            return refuse(
+                r, "a piece of the window, 0x%" PRIx64 " and 0x%" PRIx64 " bytes, is not in 0x%x to 0x%" PRIx64 ", where QEMU has RAM without holes",
+                p->address, p->length, RAM_FROM, RAM_TO);
     }
     return true;
 }

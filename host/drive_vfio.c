@@ -47,7 +47,9 @@ static void pause_little(void *context) {
     clock_pause(100);
 }
 
-static bool create_lanes(drive *d, const nvme_lane *lanes, unsigned count, reason *r) { return nvme_create_lanes(&physical_of(d)->controller, lanes, count, r); }
+static bool create_lanes(drive *d, const nvme_lane *lanes, unsigned count, reason *r) {
+    return nvme_create_lanes(&physical_of(d)->controller, lanes, count, r);
+}
 
 static bool ring_submission(drive *d, unsigned lane, uint32_t tail, reason *r) { return nvme_ring_submission(&physical_of(d)->controller, lane, tail, r); }
 
@@ -102,7 +104,9 @@ drive *drive_vfio_under(const char *root, const window *memory, const nvme_needs
     return NULL;
 }
 
-drive *drive_open_vfio(const window *memory, const nvme_needs *needs, const char *address, reason *r) { return drive_vfio_under("", memory, needs, address, r); }
+drive *drive_open_vfio(const window *memory, const nvme_needs *needs, const char *address, reason *r) {
+    return drive_vfio_under("", memory, needs, address, r);
+}
 
 bool drive_vfio_ranges(const char *address, drive_range *ranges, unsigned *count, reason *r) {
     vfio v;

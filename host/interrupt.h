@@ -1,5 +1,5 @@
-/* The interrupt of a guest: two eventfds that QEMU gave. It is level-triggered: raised while completions wait, and raised again where the guest acknowledged the
- * interrupt and completions still wait. */
+/* The interrupt of a guest: two eventfds that QEMU gave. It is level-triggered: raised while completions wait, and raised again where the guest
+ * acknowledged the interrupt and completions still wait. */
 #ifndef HOST_INTERRUPT_H
 #define HOST_INTERRUPT_H
 

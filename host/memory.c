@@ -60,7 +60,8 @@ bool memory_add(memory_file *m, const memory_row *row, window *w, const char *pa
     struct stat about;
     window before = *w;
     *m = (memory_file){.fd = -1, .address = address, .length = length};
-    if (!row->bytes || address > row->length || length > row->length - address) return refuse(r, "0x%" PRIx64 " bytes at 0x%" PRIx64 " are not in the reserved row", length, address);
+    if (!row->bytes || address > row->length || length > row->length - address)
+        return refuse(r, "0x%" PRIx64 " bytes at 0x%" PRIx64 " are not in the reserved row", length, address);
     if (!window_add(w, address, length, r)) return false;
     int fd = path ? open_file(path, length, r) : make_file(length, r);
     if (fd >= 0 && fstat(fd, &about) == 0) {

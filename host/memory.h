@@ -1,8 +1,8 @@
-/* Memory of guests and of the mediator: files that this process and QEMU map. Each file is put at its host address in one reserved row of addresses, so
- * that the window has them all.
+/* Memory of guests and of the mediator: files that this process and QEMU map. Each file is put at its host address in one reserved row of addresses,
+ * so that the window has them all.
  *
- * A file that the program makes for itself is sealed: no one can change its length, so that no access of it fails. A named file is not: whoever may write it can
- * cut it off, and an access of this process beyond its end then ends this process by SIGBUS. */
+ * A file that the program makes for itself is sealed: no one can change its length, so that no access of it fails. A named file is not: whoever may
+ * write it can cut it off, and an access of this process beyond its end then ends this process by SIGBUS. */
 #ifndef HOST_MEMORY_H
 #define HOST_MEMORY_H
 

@@ -84,7 +84,9 @@ static bool check_capabilities(nvme *n, reason *r) {
     if (high >> 16 & 15) return refuse(r, "the controller needs memory pages larger than 4 KiB (CAP.MPSMIN is %" PRIu32 ")", high >> 16 & 15);
     if (n->most_slots < 2) return refuse(r, "the controller has queues of one slot only (CAP.MQES)");
     uint64_t end = DOORBELLS + (2 * (uint64_t)n->needs.lanes + 2) * n->stride;
-    if (end > n->access.bar_bytes) return refuse(r, "the doorbells of %u lanes end at 0x%" PRIx64 ", beyond the 0x%" PRIx32 " bytes of BAR0", n->needs.lanes, end, n->access.bar_bytes);
+    if (end > n->access.bar_bytes)
+        return refuse(r, "the doorbells of %u lanes end at 0x%" PRIx64 ", beyond the 0x%" PRIx32 " bytes of BAR0", n->needs.lanes, end,
+                      n->access.bar_bytes);
     return true;
 }
 
@@ -145,9 +147,11 @@ static bool admin(nvme *n, const admin_command *c, uint32_t *result, reason *r) 
     n->head = (n->head + 1) % ADMIN_SLOTS;
     if (n->head == 0) n->phase = !n->phase;
     if (!write32(n, DOORBELLS + n->stride, n->head, r)) return false;
-    if (get16(done + 12) != n->command) return refuse(r, "the controller completed command %u while %s is command %u", get16(done + 12), c->name, n->command);
+    if (get16(done + 12) != n->command)
+        return refuse(r, "the controller completed command %u while %s is command %u", get16(done + 12), c->name, n->command);
     if (get16(done + 10) != 0) return refuse(r, "the controller completed %s for queue %u, not for the admin queue", c->name, get16(done + 10));
-    if (get16(done + 8) != n->tail) return refuse(r, "the controller completed %s with head %u of the admin queue, not %" PRIu32, c->name, get16(done + 8), n->tail);
+    if (get16(done + 8) != n->tail)
+        return refuse(r, "the controller completed %s with head %u of the admin queue, not %" PRIu32, c->name, get16(done + 8), n->tail);
     unsigned code = get16(done + 14) >> 1;
     if (code & 0x7ff) return refuse(r, "the controller refused %s: status code type %u, status code 0x%02x", c->name, code >> 8 & 7, code & 0xff);
     *result = get32(done);
@@ -216,7 +220,8 @@ static bool ask_queues(nvme *n, reason *r) {
     admin_command c = {"Set Features, Number of Queues", SET_FEATURES, 0, 0, FEATURE_QUEUES, wish << 16 | wish};
     if (!admin(n, &c, &result, r)) return false;
     if ((result & 0xffff) < wish || result >> 16 < wish)
-        return refuse(r, "the controller has %" PRIu32 " submission and %" PRIu32 " completion queues, and %u lanes are needed", (result & 0xffff) + 1, (result >> 16) + 1, n->needs.lanes);
+        return refuse(r, "the controller has %" PRIu32 " submission and %" PRIu32 " completion queues, and %u lanes are needed", (result & 0xffff) + 1,
+                      (result >> 16) + 1, n->needs.lanes);
     return true;
 }
 
@@ -231,7 +236,8 @@ bool nvme_open(nvme *n, const nvme_access *access, const window *memory, const n
 static bool check_ring(const nvme *n, const char *what, unsigned lane, uint64_t address, uint32_t slots, uint32_t entry, reason *r) {
     if (slots < 2 || slots > n->most_slots || slots > 65536)
         return refuse(r, "the %s ring of lane %u has %" PRIu32 " slots, and the controller takes 2 to %" PRIu32, what, lane, slots, n->most_slots);
-    if (address % PAGE_BYTES || !window_at(n->memory, address, (uint64_t)slots * entry)) return refuse(r, "the %s ring of lane %u is not in whole pages of the window", what, lane);
+    if (address % PAGE_BYTES || !window_at(n->memory, address, (uint64_t)slots * entry))
+        return refuse(r, "the %s ring of lane %u is not in whole pages of the window", what, lane);
     return true;
 }
 
@@ -308,7 +314,7 @@ bool nvme_close(nvme *n, reason *r) {
 
 void nvme_describe(const nvme *n, char *text, size_t bytes) {
     const nvme_found *f = &n->found;
-    snprintf(text, bytes, "%s, serial %s, firmware %s, NVMe %" PRIu32 ".%" PRIu32 ", %" PRIu64 " blocks%s%s%s%s", f->model, f->serial, f->firmware, f->version >> 16,
-             f->version >> 8 & 0xff, f->blocks, f->compare ? ", Compare" : "", f->deallocate ? ", Dataset Management" : "", f->write_zeroes ? ", Write Zeroes" : "",
-             f->write_cache ? ", write cache" : "");
+    snprintf(text, bytes, "%s, serial %s, firmware %s, NVMe %" PRIu32 ".%" PRIu32 ", %" PRIu64 " blocks%s%s%s%s", f->model, f->serial, f->firmware,
+             f->version >> 16, f->version >> 8 & 0xff, f->blocks, f->compare ? ", Compare" : "", f->deallocate ? ", Dataset Management" : "",
+             f->write_zeroes ? ", Write Zeroes" : "", f->write_cache ? ", write cache" : "");
 }

@@ -25,9 +25,9 @@ typedef struct nvme_access {
     void *context;
     bool (*read32)(void *context, uint32_t offset, uint32_t *value, reason *r);
     bool (*write32)(void *context, uint32_t offset, uint32_t value, reason *r);
-    uint64_t (*now)(void *context);  /* milliseconds; never goes back */
-    void (*pause)(void *context);    /* waits a little, at most some milliseconds; the clock goes on */
-    uint32_t bar_bytes;              /* what of BAR0 can be accessed */
+    uint64_t (*now)(void *context); /* milliseconds; never goes back */
+    void (*pause)(void *context);   /* waits a little, at most some milliseconds; the clock goes on */
+    uint32_t bar_bytes;             /* what of BAR0 can be accessed */
 } nvme_access;
 
 /* The rings of a lane, as host addresses of whole pages. */
@@ -46,10 +46,10 @@ typedef struct nvme_needs {
 /* What was found out of the drive. */
 typedef struct nvme_found {
     uint64_t blocks;
-    uint32_t version;         /* in the form of the property Version */
+    uint32_t version; /* in the form of the property Version */
     char serial[21], model[41], firmware[9];
     bool compare, deallocate, write_zeroes; /* optional commands that it has */
-    bool write_cache;         /* it has a volatile write cache */
+    bool write_cache;                       /* it has a volatile write cache */
 } nvme_found;
 
 typedef struct nvme {
@@ -57,15 +57,15 @@ typedef struct nvme {
     const window *memory;
     nvme_needs needs;
     nvme_found found;
-    uint32_t stride;      /* bytes between doorbells */
-    uint32_t most_slots;  /* of an I/O queue */
-    uint64_t ready_wait;  /* milliseconds, from CAP.TO */
-    uint16_t command;     /* identifier of the last admin command */
-    uint32_t tail, head;  /* of the admin queues */
-    bool phase;           /* of the next admin completion */
+    uint32_t stride;     /* bytes between doorbells */
+    uint32_t most_slots; /* of an I/O queue */
+    uint64_t ready_wait; /* milliseconds, from CAP.TO */
+    uint16_t command;    /* identifier of the last admin command */
+    uint32_t tail, head; /* of the admin queues */
+    bool phase;          /* of the next admin completion */
     bool enabled;
     nvme_lane lane[NVME_LANES];
-    unsigned lanes;       /* that have queues */
+    unsigned lanes; /* that have queues */
 } nvme;
 
 /* Resets and enables the controller, and looks at it. It is refused where a property, the controller or namespace 1 is not as needed, where it does not

@@ -6,8 +6,18 @@
 
 /* PCI: places of the header of type 0, and bits of its registers. */
 enum {
-    VENDOR = 0x00, DEVICE = 0x02, COMMAND = 0x04, STATUS = 0x06, REVISION = 0x08, CLASS = 0x09, CACHE_LINE = 0x0c, BAR0 = 0x10, SUBSYSTEM_VENDOR = 0x2c,
-    SUBSYSTEM = 0x2e, INTERRUPT_LINE = 0x3c, INTERRUPT_PIN = 0x3d
+    VENDOR = 0x00,
+    DEVICE = 0x02,
+    COMMAND = 0x04,
+    STATUS = 0x06,
+    REVISION = 0x08,
+    CLASS = 0x09,
+    CACHE_LINE = 0x0c,
+    BAR0 = 0x10,
+    SUBSYSTEM_VENDOR = 0x2c,
+    SUBSYSTEM = 0x2e,
+    INTERRUPT_LINE = 0x3c,
+    INTERRUPT_PIN = 0x3d
 };
 enum { COMMAND_MEMORY = 1 << 1, COMMAND_MASTER = 1 << 2, COMMAND_PARITY = 1 << 6, COMMAND_SERR = 1 << 8, COMMAND_SILENT = 1 << 10 };
 enum { STATUS_INTERRUPT = 1 << 3 };

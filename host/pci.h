@@ -14,9 +14,9 @@ enum {
 
 typedef struct pci_function {
     uint8_t config[PCI_CONFIG_BYTES];
-    uint32_t version;  /* what the property Version says instead of the mediator's value; 0: the mediator's */
-    bool shut_asked;   /* the guest has written CC.SHN, and not reset the controller since */
-    bool shut_done;    /* and after that nothing of it was outstanding */
+    uint32_t version; /* what the property Version says instead of the mediator's value; 0: the mediator's */
+    bool shut_asked;  /* the guest has written CC.SHN, and not reset the controller since */
+    bool shut_done;   /* and after that nothing of it was outstanding */
 } pci_function;
 
 /* A function as it is after power-on. */

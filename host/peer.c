@@ -119,7 +119,8 @@ bool peer_start(peer_process *p, char *const *words, const peer_memory *memory, 
     p->pid = -1;
     *socket = -1;
     while (words[count]) count++;
-    if (count == 0 || count + sizeof added / sizeof added[0] > PEER_WORDS) return refuse(r, "a process has 1 to %zu words", PEER_WORDS - sizeof added / sizeof added[0]);
+    if (count == 0 || count + sizeof added / sizeof added[0] > PEER_WORDS)
+        return refuse(r, "a process has 1 to %zu words", PEER_WORDS - sizeof added / sizeof added[0]);
     if (strchr(memory->path, ',')) return refuse(r, "%.120s: QEMU takes no comma in a path", memory->path);
     if (socketpair(AF_UNIX, SOCK_STREAM | SOCK_CLOEXEC, 0, ends)) return refuse(r, "sockets cannot be made: %s", strerror(errno));
     snprintf(size, sizeof size, "%" PRIu64 "B", memory->bytes);

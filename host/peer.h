@@ -19,8 +19,8 @@ typedef struct peer_listener {
     char path[108];
 } peer_listener;
 
-/* Listens at `path`, which is made for this user alone. A socket that is there and on which nobody listens is replaced; anything else there is left as it is,
- * and refused. */
+/* Listens at `path`, which is made for this user alone. A socket that is there and on which nobody listens is replaced; anything else there is left
+ * as it is, and refused. */
 bool peer_listen(peer_listener *l, const char *path, reason *r);
 
 /* Takes a connection, if one waits: its descriptor, or -1. It does not wait. */
@@ -40,9 +40,9 @@ typedef struct peer_memory {
     uint64_t bytes;
 } peer_memory;
 
-/* Starts QEMU: the words, which end with NULL, and after them those for its memory (a backend of the file, which the machine uses) and for the proxy device on its end
- * of a pair of sockets. *socket is the other end. Where the program cannot be started it is refused with what execvp said. QEMU gets no other descriptor of this process
- * than its standard ones, and ends with this process. */
+/* Starts QEMU: the words, which end with NULL, and after them those for its memory (a backend of the file, which the machine uses) and for the proxy
+ * device on its end of a pair of sockets. *socket is the other end. Where the program cannot be started it is refused with what execvp said. QEMU
+ * gets no other descriptor of this process than its standard ones, and ends with this process. */
 bool peer_start(peer_process *p, char *const *words, const peer_memory *memory, int *socket, reason *r);
 
 /* Whether the process has ended; *r says how. It does not wait. */

@@ -13,32 +13,32 @@
 #include <stdint.h>
 
 enum {
-    PROXY_FDS = 8,       /* descriptors of a message */
-    PROXY_HEADER = 16,   /* bytes */
-    PROXY_DATA = 192,    /* most bytes after a header, those of SYNC_SYSMEM */
+    PROXY_FDS = 8,     /* descriptors of a message */
+    PROXY_HEADER = 16, /* bytes */
+    PROXY_DATA = 192,  /* most bytes after a header, those of SYNC_SYSMEM */
     PROXY_MESSAGE = PROXY_HEADER + PROXY_DATA,
-    PROXY_REPLY = 24,    /* bytes of a reply */
-    PROXY_REPLIES = 16,  /* most replies that wait to be written or to be given */
-    PROXY_CONFIG = 256,  /* bytes of configuration space */
-    PROXY_STALL = 10000  /* milliseconds after which the rest of a message is not waited for */
+    PROXY_REPLY = 24,   /* bytes of a reply */
+    PROXY_REPLIES = 16, /* most replies that wait to be written or to be given */
+    PROXY_CONFIG = 256, /* bytes of configuration space */
+    PROXY_STALL = 10000 /* milliseconds after which the rest of a message is not waited for */
 };
 
 typedef enum proxy_error {
     PROXY_OK = 0,
-    PROXY_CLOSED,       /* the peer closed the connection, between two messages */
-    PROXY_CUT,          /* the peer closed it in the middle of a message */
-    PROXY_STALLED,      /* the rest of a message did not come */
-    PROXY_BROKEN,       /* the socket failed */
-    PROXY_COMMAND,      /* no command that a device is sent */
-    PROXY_SIZE,         /* the size is not the one of the command */
-    PROXY_COUNT,        /* the count of descriptors is not the one of the command */
-    PROXY_LOST,         /* a message had more than 8 descriptors, or this process could not take them */
-    PROXY_LENGTH,       /* a length of an access that is none of 1, 2, 4 (of the BAR also 8) */
-    PROXY_ADDRESS,      /* an address beyond its space, or no multiple of the length */
-    PROXY_SPACE,        /* an access of I/O space, of which the device has none */
-    PROXY_REGION,       /* a region of memory that is empty, not of whole pages, wraps, or meets another one */
-    PROXY_FLOOD,        /* more requests than replies were read */
-    PROXY_UNASKED,      /* a reply was given that no request waits for (the caller's fault) */
+    PROXY_CLOSED,  /* the peer closed the connection, between two messages */
+    PROXY_CUT,     /* the peer closed it in the middle of a message */
+    PROXY_STALLED, /* the rest of a message did not come */
+    PROXY_BROKEN,  /* the socket failed */
+    PROXY_COMMAND, /* no command that a device is sent */
+    PROXY_SIZE,    /* the size is not the one of the command */
+    PROXY_COUNT,   /* the count of descriptors is not the one of the command */
+    PROXY_LOST,    /* a message had more than 8 descriptors, or this process could not take them */
+    PROXY_LENGTH,  /* a length of an access that is none of 1, 2, 4 (of the BAR also 8) */
+    PROXY_ADDRESS, /* an address beyond its space, or no multiple of the length */
+    PROXY_SPACE,   /* an access of I/O space, of which the device has none */
+    PROXY_REGION,  /* a region of memory that is empty, not of whole pages, wraps, or meets another one */
+    PROXY_FLOOD,   /* more requests than replies were read */
+    PROXY_UNASKED, /* a reply was given that no request waits for (the caller's fault) */
     PROXY_ERRORS
 } proxy_error;
 
@@ -103,13 +103,13 @@ typedef struct proxy {
     int fd;
     proxy_error error;
     uint8_t in[PROXY_MESSAGE];
-    size_t have;                /* bytes of `in` */
+    size_t have; /* bytes of `in` */
     int fds[PROXY_FDS];
     size_t fd_place[PROXY_FDS]; /* the byte of `in` with which the descriptor came: that of the message it belongs to */
     unsigned fd_count;
-    bool partial;               /* a message has begun and not ended */
-    uint64_t partial_since;     /* milliseconds */
-    unsigned asked;             /* requests that were yielded and have no reply yet */
+    bool partial;           /* a message has begun and not ended */
+    uint64_t partial_since; /* milliseconds */
+    unsigned asked;         /* requests that were yielded and have no reply yet */
     uint8_t out[PROXY_REPLIES * PROXY_REPLY];
     size_t out_from, out_count; /* bytes of `out`, a ring */
 } proxy;

@@ -131,7 +131,8 @@ static bool port_write(qtest *q, unsigned port, uint32_t value, reason *r) {
 
 /* PCI configuration mechanism #1: bit 31 enables, then bus, device, function and offset. */
 static bool select_dword(qtest *q, unsigned device, unsigned function, unsigned offset, reason *r) {
-    if (device > 31 || function > 7 || offset > 252 || offset % 4) return refuse(r, "no dword of configuration space: %u.%u, 0x%x", device, function, offset);
+    if (device > 31 || function > 7 || offset > 252 || offset % 4)
+        return refuse(r, "no dword of configuration space: %u.%u, 0x%x", device, function, offset);
     return port_write(q, 0xcf8, UINT32_C(1) << 31 | device << 11 | function << 8 | offset, r);
 }
 

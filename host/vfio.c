@@ -31,7 +31,8 @@ static bool write_command(vfio *v, uint16_t set, uint16_t clear, reason *r) {
     ssize_t put = pwrite(v->device, command, 2, (off_t)(v->config_at + COMMAND));
     if (put != 2) return refuse(r, "the command register cannot be written: %s", put < 0 ? strerror(errno) : "too few bytes");
     if (!read_config(v, COMMAND, command, 2, r)) return false;
-    return ((get16(command) ^ wanted) & (set | clear)) == 0 || refuse(r, "the command register is 0x%04x after 0x%04x was written", get16(command), wanted);
+    return ((get16(command) ^ wanted) & (set | clear)) == 0 ||
+           refuse(r, "the command register is 0x%04x after 0x%04x was written", get16(command), wanted);
 }
 
 /* The last part of what a link names. */
@@ -67,18 +68,20 @@ static bool open_group(vfio *v, const char *root, const char *address, reason *r
     if (!link_end(path, name, sizeof name)) return refuse(r, "%s has no driver: bind it to vfio-pci", address);
     if (strcmp(name, "vfio-pci")) return refuse(r, "%s has the driver %s: bind it to vfio-pci", address, name);
     snprintf(path, sizeof path, "%s/sys/bus/pci/devices/%s/iommu_group", root, address);
-    if (!link_end(path, name, sizeof name)) return refuse(r, "%s is in no group of an I/O MMU: is it switched on (intel_iommu=on, or in the firmware)?", address);
+    if (!link_end(path, name, sizeof name))
+        return refuse(r, "%s is in no group of an I/O MMU: is it switched on (intel_iommu=on, or in the firmware)?", address);
     snprintf(path, sizeof path, "%s/dev/vfio/%s", root, name);
     v->group = open(path, O_RDWR | O_CLOEXEC);
     if (v->group < 0) return refuse(r, "cannot open %s, the group of %s: %s", path, address, strerror(errno));
     if (ioctl(v->group, VFIO_GROUP_GET_STATUS, &status) < 0) return refuse(r, "%s does not answer as a group of VFIO: %s", path, strerror(errno));
     if (!(status.flags & VFIO_GROUP_FLAGS_VIABLE)) return refuse(r, "group %s has devices that are not bound to vfio-pci", name);
-    if (ioctl(v->group, VFIO_GROUP_SET_CONTAINER, &v->container) < 0) return refuse(r, "group %s cannot be put into a container: %s", name, strerror(errno));
+    if (ioctl(v->group, VFIO_GROUP_SET_CONTAINER, &v->container) < 0)
+        return refuse(r, "group %s cannot be put into a container: %s", name, strerror(errno));
     return ioctl(v->container, VFIO_SET_IOMMU, VFIO_TYPE1v2_IOMMU) == 0 || refuse(r, "the I/O MMU cannot be set up: %s", strerror(errno));
 }
 
-/* The ranges of the capability, whose `end` is the last address; what lies at 2^47 or more is left out, and what is more than there is room for. Offsets are
- * those of the kernel, checked all the same. */
+/* The ranges of the capability, whose `end` is the last address; what lies at 2^47 or more is left out, and what is more than there is room for.
+ * Offsets are those of the kernel, checked all the same. */
 static void take_ranges(vfio *v, const uint8_t *info, size_t bytes, size_t at) {
     struct vfio_iommu_type1_info_cap_iova_range cap;
     struct vfio_iova_range range;
@@ -134,7 +137,8 @@ static bool open_device(vfio *v, const char *address, reason *r) {
     if (fcntl(v->device, F_SETFD, FD_CLOEXEC)) return refuse(r, "the device's descriptor cannot be kept from other programs: %s", strerror(errno));
     if (ioctl(v->device, VFIO_DEVICE_GET_INFO, &about) < 0) return refuse(r, "the device does not answer as VFIO: %s", strerror(errno));
     if (!(about.flags & VFIO_DEVICE_FLAGS_PCI) || about.num_regions <= VFIO_PCI_CONFIG_REGION_INDEX) return refuse(r, "%s is no PCI device", address);
-    if (about.flags & VFIO_DEVICE_FLAGS_RESET && ioctl(v->device, VFIO_DEVICE_RESET) < 0) return refuse(r, "%s cannot be reset: %s", address, strerror(errno));
+    if (about.flags & VFIO_DEVICE_FLAGS_RESET && ioctl(v->device, VFIO_DEVICE_RESET) < 0)
+        return refuse(r, "%s cannot be reset: %s", address, strerror(errno));
     if (!region(v, VFIO_PCI_CONFIG_REGION_INDEX, "configuration space", &info, r)) return false;
     v->config_at = info.offset;
     if (info.size < 64) return refuse(r, "the device's configuration space has %" PRIu64 " bytes only", (uint64_t)info.size);

@@ -10,7 +10,7 @@
 #include "window.h"
 
 typedef struct vfio {
-    int container, group, device; /* descriptors, or -1 */
+    int container, group, device;    /* descriptors, or -1 */
     drive_range range[DRIVE_RANGES]; /* of addresses that the device can be given, in ascending order */
     unsigned ranges;
     uint64_t config_at; /* of configuration space in the device's file */
@@ -19,8 +19,8 @@ typedef struct vfio {
     uint32_t bar_bytes;
 } vfio;
 
-/* Opens the device at `address`, such as 0000:01:00.0, resets it where it can be reset, and maps BAR0. `root` is put before the paths of /dev/vfio and /sys:
- * an empty text, but in tests. Where it fails nothing is left open. */
+/* Opens the device at `address`, such as 0000:01:00.0, resets it where it can be reset, and maps BAR0. `root` is put before the paths of /dev/vfio
+ * and /sys: an empty text, but in tests. Where it fails nothing is left open. */
 bool vfio_open(vfio *v, const char *root, const char *address, reason *r);
 
 /* Stops the device's accesses of memory, and gives back everything. It may be called twice. */

@@ -2,9 +2,7 @@
 
 #include <inttypes.h>
 
-void window_begin(window *w, uint8_t *bytes) {
-    *w = (window){.bytes = bytes};
-}
+void window_begin(window *w, uint8_t *bytes) { *w = (window){.bytes = bytes}; }
 
 bool window_add(window *w, uint64_t address, uint64_t length, reason *r) {
     if (w->pieces == WINDOW_PIECES) return refuse(r, "the window has %d pieces already", WINDOW_PIECES);

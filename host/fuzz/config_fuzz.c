@@ -30,8 +30,17 @@ int LLVMFuzzerTestOneInput(const uint8_t *bytes, size_t length) {
 }
 
 size_t fuzz_example(uint8_t *to, size_t most, uint64_t choice) {
-    static const char *const lines[] = {"drive ram 1M /a\n", "drive qemu /s /m\n", "drive vfio 0000:01:00.0\n", "lanes 2\n", "extent 0 1000 8\n", "extent 1 8 0x10\n",
-                                        "share 0 64\n", "version 1 1.2\n", "start 1 qemu -append \"a \\\" # b\"\n", "descriptors 0 7 # seven\n", "listen 0 /b\n"};
+    static const char *const lines[] = {"drive ram 1M /a\n",
+                                        "drive qemu /s /m\n",
+                                        "drive vfio 0000:01:00.0\n",
+                                        "lanes 2\n",
+                                        "extent 0 1000 8\n",
+                                        "extent 1 8 0x10\n",
+                                        "share 0 64\n",
+                                        "version 1 1.2\n",
+                                        "start 1 qemu -append \"a \\\" # b\"\n",
+                                        "descriptors 0 7 # seven\n",
+                                        "listen 0 /b\n"};
     size_t used = (size_t)snprintf((char *)to, most, "guest 0 memory 512M /g0\nguest 1 memory 8K%s\nextent 0 0 8\nextent 1 32 8\n%s",
                                    choice & 2 ? " /g1" : "", choice & 1 ? "listen 0 /run/a\n" : "");
     for (choice >>= 2; choice && used < most; choice >>= 5) {

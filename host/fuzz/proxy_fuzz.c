@@ -1,5 +1,5 @@
-/* Any bytes, in any pieces, give requests within their limits or an error that stays. Built with clang -fsanitize=fuzzer, or with rounds.c.
- * The first byte says how the rest is cut into pieces, and which pieces have descriptors; they are numbers of no descriptor, so that closing them fails. */
+/* Any bytes, in any pieces, give requests within their limits or an error that stays. Built with clang -fsanitize=fuzzer, or with rounds.c. The
+ * first byte says how the rest is cut into pieces, and which pieces have descriptors; they are numbers of no descriptor, so that closing them fails. */
 #include <stdlib.h>
 #include <string.h>
 

@@ -9,21 +9,21 @@ static config c;
 static reason r;
 
 /* Two guests on a drive in memory, all kinds of lines that they may have. */
-#define GOOD                                   \
-    "# two guests\n"                           \
-    "drive ram 1M /var/tmp/disk   # 2,048 blocks\n" \
-    "lanes 2\n"                                \
-    "guest 0 memory 512M\n"                    \
-    "extent 0 1000 64\n"                       \
-    "extent 0 0x500 0x20\n"                    \
-    "share 0 128\n"                            \
-    "version 0 1.2\n"                          \
-    "descriptors 0 4096\n"                     \
-    "listen 0 /run/guest0.sock\n"              \
-    "\n"                                       \
-    "guest 1 memory 0x1000\n"                  \
-    "extent 1 1064 216\n"                      \
-    "start 1 qemu-system-x86_64 -append \"a # \\\"b\\\" \\\\\" \"\"\n" \
+#define GOOD                                                                                                                                              \
+    "# two guests\n"                                                                                                                                      \
+    "drive ram 1M /var/tmp/disk   # 2,048 blocks\n"                                                                                                       \
+    "lanes 2\n"                                                                                                                                           \
+    "guest 0 memory 512M\n"                                                                                                                               \
+    "extent 0 1000 64\n"                                                                                                                                  \
+    "extent 0 0x500 0x20\n"                                                                                                                               \
+    "share 0 128\n"                                                                                                                                       \
+    "version 0 1.2\n"                                                                                                                                     \
+    "descriptors 0 4096\n"                                                                                                                                \
+    "listen 0 /run/guest0.sock\n"                                                                                                                         \
+    "\n"                                                                                                                                                  \
+    "guest 1 memory 0x1000\n"                                                                                                                             \
+    "extent 1 1064 216\n"                                                                                                                                 \
+    "start 1 qemu-system-x86_64 -append \"a # \\\"b\\\" \\\\\" \"\"\n"                                                                                    \
     "start 1 -m 512"
 
 static bool parse(const char *text) {
@@ -50,9 +50,11 @@ static void test_good(void) {
     CHECK(!strcmp(c.guest[1].start[3], "") && !strcmp(c.guest[1].start[4], "-m") && !strcmp(c.guest[1].start[5], "512"));
     CHECK(config_blocks(&c) == 0x520);
     CHECK(parse("drive qemu /run/d.sock /dev/shm/m\nguest 0 memory 1G /dev/shm/g0\nextent 0 281474976710655 1\nlisten 0 a\n"));
-    CHECK(c.drive == CONFIG_QEMU && !strcmp(c.socket, "/run/d.sock") && !strcmp(c.memory, "/dev/shm/m") && c.lanes == 1 && c.guest[0].memory == 1u << 30 && !strcmp(c.guest[0].file, "/dev/shm/g0"));
+    CHECK(c.drive == CONFIG_QEMU && !strcmp(c.socket, "/run/d.sock") && !strcmp(c.memory, "/dev/shm/m") && c.lanes == 1 && c.guest[0].memory == 1u << 30 &&
+          !strcmp(c.guest[0].file, "/dev/shm/g0"));
     CHECK(config_blocks(&c) == UINT64_C(1) << 48);
-    CHECK(parse("drive vfio 0000:aB:1f.7\nguest 0 memory 4K\nextent 0 0 1\nlisten 0 a#c\n") && !strcmp(c.address, "0000:aB:1f.7") && !strcmp(c.guest[0].listen, "a"));
+    CHECK(parse("drive vfio 0000:aB:1f.7\nguest 0 memory 4K\nextent 0 0 1\nlisten 0 a#c\n") && !strcmp(c.address, "0000:aB:1f.7") &&
+          !strcmp(c.guest[0].listen, "a"));
 }
 
 #define G0 "guest 0 memory 4K\n"

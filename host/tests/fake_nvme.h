@@ -17,16 +17,16 @@ typedef enum fake_fault {
     FAKE_NEVER_DISABLED,
     FAKE_FATAL_ON_ENABLE,
     FAKE_GONE_ON_ENABLE,
-    FAKE_SILENT,       /* no admin command is answered */
-    FAKE_FATAL,        /* an admin command ends in CFS */
-    FAKE_GONE,         /* an admin command ends in all ones */
-    FAKE_PHASE,        /* completions have the wrong phase tag */
-    FAKE_COMMAND_ID,   /* completions name another command */
-    FAKE_QUEUE_ID,     /* or another queue */
-    FAKE_HEAD,         /* or another head */
-    FAKE_REFUSES,      /* status Invalid Field in Command, with DNR */
+    FAKE_SILENT,     /* no admin command is answered */
+    FAKE_FATAL,      /* an admin command ends in CFS */
+    FAKE_GONE,       /* an admin command ends in all ones */
+    FAKE_PHASE,      /* completions have the wrong phase tag */
+    FAKE_COMMAND_ID, /* completions name another command */
+    FAKE_QUEUE_ID,   /* or another queue */
+    FAKE_HEAD,       /* or another head */
+    FAKE_REFUSES,    /* status Invalid Field in Command, with DNR */
     FAKE_NO_SHUTDOWN,
-    FAKE_ACCESS        /* accesses fail */
+    FAKE_ACCESS /* accesses fail */
 } fake_fault;
 
 typedef struct fake_queue {

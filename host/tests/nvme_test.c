@@ -67,7 +67,9 @@ static void test_good(void) {
     CHECK(f.aqa == 0x000f000f && f.asq == ADMIN && f.acq == ADMIN + 4096 && f.cc == 0x00460001 && f.masks == UINT32_MAX && f.commands == 3);
     CHECK(n.found.blocks == 4096 && n.found.version == 0x10400 && n.found.compare && n.found.deallocate && n.found.write_zeroes && n.found.write_cache);
     nvme_describe(&n, text, sizeof text);
-    CHECK_MORE(!strcmp(text, "A fake controller, serial SN 1, firmware 1.0?, NVMe 1.4, 4096 blocks, Compare, Dataset Management, Write Zeroes, write cache"), text);
+    CHECK_MORE(
+        !strcmp(text, "A fake controller, serial SN 1, firmware 1.0?, NVMe 1.4, 4096 blocks, Compare, Dataset Management, Write Zeroes, write cache"),
+        text);
     CHECK(!nvme_ring_submission(&n, 0, 0, &r));
     CHECK_HAS(r.text, "there is no lane 0");
     CHECK_MORE(nvme_create_lanes(&n, lanes, 2, &r), r.text);
@@ -163,12 +165,18 @@ static void test_admin(void) {
         fake_fault fault;
         const char *part;
     } faults[] = {
-        {FAKE_SILENT, "did not answer "}, {FAKE_FATAL, "shows a fatal status (CSTS.CFS) during "}, {FAKE_GONE, "is gone"}, {FAKE_PHASE, "did not answer "},
-        {FAKE_COMMAND_ID, "the controller completed command "}, {FAKE_QUEUE_ID, "for queue 1, not for the admin queue"}, {FAKE_HEAD, " of the admin queue, not "},
+        {FAKE_SILENT, "did not answer "},
+        {FAKE_FATAL, "shows a fatal status (CSTS.CFS) during "},
+        {FAKE_GONE, "is gone"},
+        {FAKE_PHASE, "did not answer "},
+        {FAKE_COMMAND_ID, "the controller completed command "},
+        {FAKE_QUEUE_ID, "for queue 1, not for the admin queue"},
+        {FAKE_HEAD, " of the admin queue, not "},
         {FAKE_REFUSES, "status code type 0, status code 0x02"},
     };
     static const int opcodes[] = {6, 9, 5, 1};
-    static const char *const names[] = {"Identify Controller", "Set Features, Number of Queues", "Create I/O Completion Queue", "Create I/O Submission Queue"};
+    static const char *const names[] = {"Identify Controller", "Set Features, Number of Queues", "Create I/O Completion Queue",
+                                        "Create I/O Submission Queue"};
     for (size_t k = 0; k < 4; k++)
         for (size_t i = 0; i < sizeof faults / sizeof faults[0]; i++) {
             nvme_lane lanes[2] = {lane_at(0), lane_at(1)};
@@ -180,7 +188,10 @@ static void test_admin(void) {
                 CHECK_HAS(r.text, faults[i].part);
                 CHECK(f.gone || f.cc == 0);
             }
-            if (faults[i].fault != FAKE_GONE) CHECK_HAS(r.text, faults[i].fault == FAKE_COMMAND_ID ? "while" : faults[i].fault == FAKE_QUEUE_ID || faults[i].fault == FAKE_HEAD ? "completed" : names[k]);
+            if (faults[i].fault != FAKE_GONE)
+                CHECK_HAS(r.text, faults[i].fault == FAKE_COMMAND_ID                                 ? "while"
+                                  : faults[i].fault == FAKE_QUEUE_ID || faults[i].fault == FAKE_HEAD ? "completed"
+                                                                                                     : names[k]);
             if (faults[i].fault == FAKE_SILENT || faults[i].fault == FAKE_PHASE) CHECK(f.time > NVME_ADMIN_WAIT && f.time < NVME_ADMIN_WAIT + 100);
         }
 }

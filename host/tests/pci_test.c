@@ -9,7 +9,7 @@ static void test_identity(void) {
     CHECK(pci_config_read(&f, 0x08, 4) == 0x01080202);
     CHECK(pci_config_read(&f, 0x0a, 2) == 0x0108); /* what QEMU reads as the class */
     CHECK(pci_config_read(&f, 0x2c, 4) == 0x11001af4);
-    CHECK(pci_config_read(&f, 0x0e, 1) == 0); /* header type 0, one function */
+    CHECK(pci_config_read(&f, 0x0e, 1) == 0);                                      /* header type 0, one function */
     CHECK(pci_config_read(&f, 0x34, 1) == 0 && pci_config_read(&f, 0x06, 2) == 0); /* no capabilities */
     CHECK(pci_config_read(&f, 0x3c, 4) == 0x00000100);
     CHECK(pci_config_read(&f, 255, 2) == 0xff00 && pci_config_read(&f, 256, 4) == 0xffffffff && pci_config_read(&f, UINT32_MAX, 4) == 0xffffffff);

@@ -77,7 +77,10 @@ static void test_start(void) {
     for (ssize_t got; (got = read(socket, text + have, sizeof text - 1 - have)) > 0;) have += (size_t)got;
     int fd = 0;
     sscanf(strstr(text, "fd=") ? strstr(text, "fd=") : "", "fd=%d", &fd);
-    snprintf(expected, sizeof expected, "|-m|1048576B|-object|memory-backend-file,id=mem,share=on,size=1048576,mem-path=/dev/shm/m|-M|memory-backend=mem|-device|x-pci-proxy-dev,id=nvmed,fd=%d|", fd);
+    snprintf(expected, sizeof expected,
+             "|-m|1048576B|-object|memory-backend-file,id=mem,share=on,size=1048576,mem-path=/dev/shm/"
+             "m|-M|memory-backend=mem|-device|x-pci-proxy-dev,id=nvmed,fd=%d|",
+             fd);
     CHECK_MORE(!strncmp(text, expected, strlen(expected)), text);
     unsigned descriptors = (unsigned)strtoul(text + strlen(expected), NULL, 10);
     CHECK_MORE(descriptors == 5, text); /* 0 to 2, the socket, and what ls opens */

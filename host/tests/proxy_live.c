@@ -1,5 +1,5 @@
-/* A guest's side, tried with a real QEMU: its firmware looks for devices on an x-pci-proxy-dev that is served here by proxy.c and pci.c, with registers of a
- * controller that never becomes ready. QEMU is started by peer.c, on memory of memory.c.
+/* A guest's side, tried with a real QEMU: its firmware looks for devices on an x-pci-proxy-dev that is served here by proxy.c and pci.c, with
+ * registers of a controller that never becomes ready. QEMU is started by peer.c, on memory of memory.c.
  *
  *     proxy_live QEMU-WORDS..
  *
@@ -117,9 +117,10 @@ int main(int argc, char **argv) {
     while (e == PROXY_OK) e = serve(&p, &f);
     CHECK_MORE(e == PROXY_CLOSED, proxy_words(e));
     proxy_close(&p);
-    printf("%u of memory, %u and %u config accesses, %u and %u of the BAR, %u of interrupts, %u resets; BAR0 at 0x%" PRIx32 ", CC 0x%" PRIx32 ", 0x%" PRIx64 " bytes of RAM\n",
-           counts[PROXY_MEMORY], counts[PROXY_CONFIG_WRITE], counts[PROXY_CONFIG_READ], counts[PROXY_BAR_WRITE], counts[PROXY_BAR_READ], counts[PROXY_INTERRUPT], counts[PROXY_RESET],
-           pci_bar_address(&f), cc, most_memory);
+    printf("%u of memory, %u and %u config accesses, %u and %u of the BAR, %u of interrupts, %u resets; BAR0 at 0x%" PRIx32 ", CC 0x%" PRIx32
+           ", 0x%" PRIx64 " bytes of RAM\n",
+           counts[PROXY_MEMORY], counts[PROXY_CONFIG_WRITE], counts[PROXY_CONFIG_READ], counts[PROXY_BAR_WRITE], counts[PROXY_BAR_READ],
+           counts[PROXY_INTERRUPT], counts[PROXY_RESET], pci_bar_address(&f), cc, most_memory);
     CHECK(counts[PROXY_MEMORY] > 0 && counts[PROXY_CONFIG_READ] > 20 && counts[PROXY_CONFIG_WRITE] > 14 && counts[PROXY_INTERRUPT] > 0 && odd == 0);
     /* the firmware gave BAR0 a place, read CAP, and enabled the controller with entries of 64 and 16 bytes */
     CHECK(pci_bar_address(&f) != 0 && counts[PROXY_BAR_READ] > 2 && (cc & 0xff0001) == 0x460001);

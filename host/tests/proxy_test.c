@@ -73,7 +73,8 @@ static void test_decode_good(void) {
     CHECK(decode(header(SET_IRQFD, 0), 2, &q) == PROXY_OK && q.kind == PROXY_INTERRUPT && q.irq.interrupt == 100 && q.irq.resample == 101);
     CHECK(decode(header(DEVICE_RESET, 0), 0, &q) == PROXY_OK && q.kind == PROXY_RESET);
     CHECK(decode(memory(), 8, &q) == PROXY_OK && q.kind == PROXY_MEMORY && q.memory.count == 8);
-    CHECK(q.memory.region[7].address == 7 << 20 && q.memory.region[7].length == 1 << 20 && q.memory.region[7].offset == UINT64_C(7) << 32 && q.memory.region[7].fd == 107);
+    CHECK(q.memory.region[7].address == 7 << 20 && q.memory.region[7].length == 1 << 20 && q.memory.region[7].offset == UINT64_C(7) << 32 &&
+          q.memory.region[7].fd == 107);
     CHECK(decode(memory(), 0, &q) == PROXY_OK && q.memory.count == 0);
     message m = memory();
     set_region(&m, 3, 1, 1, 1); /* past the descriptors: says nothing */
@@ -122,10 +123,20 @@ static void test_regions(void) {
     static const struct {
         uint64_t address, length, offset;
     } bad[] = {
-        {0x800000, 0, 0}, {0x800000, 4095, 0}, {0x800001, 4096, 0}, {0x800000, 4096, 8},
-        {UINT64_MAX - 4095, 4096, 0}, {UINT64_MAX - 4095, 8192, 0}, {0x800000, UINT64_MAX - 4095, 0},
-        {0x800000, 4096, UINT64_C(1) << 63}, {0x800000, 4096, UINT64_MAX - 4095}, {0x800000, UINT64_C(1) << 62, UINT64_C(1) << 62},
-        {0x100000, 4096, 0}, {0xff000, 8192, 0}, {0x1ff000, 4096, 0}, {0, 0x800000, 0},
+        {0x800000, 0, 0},
+        {0x800000, 4095, 0},
+        {0x800001, 4096, 0},
+        {0x800000, 4096, 8},
+        {UINT64_MAX - 4095, 4096, 0},
+        {UINT64_MAX - 4095, 8192, 0},
+        {0x800000, UINT64_MAX - 4095, 0},
+        {0x800000, 4096, UINT64_C(1) << 63},
+        {0x800000, 4096, UINT64_MAX - 4095},
+        {0x800000, UINT64_C(1) << 62, UINT64_C(1) << 62},
+        {0x100000, 4096, 0},
+        {0xff000, 8192, 0},
+        {0x1ff000, 4096, 0},
+        {0, 0x800000, 0},
     };
     proxy_request q;
     for (size_t i = 0; i < sizeof bad / sizeof bad[0]; i++) {
@@ -206,7 +217,8 @@ static void test_replies(void) {
 
 /* Each message, a byte at a time, and every cut of it. */
 static void test_bytewise(void) {
-    message all[] = {memory(), config_access(PCI_CFGWRITE, 4, 6, 2), bar_access(BAR_WRITE, 0xfe000014, 1, 4, 1), header(SET_IRQFD, 0), header(DEVICE_RESET, 0)};
+    message all[] = {memory(), config_access(PCI_CFGWRITE, 4, 6, 2), bar_access(BAR_WRITE, 0xfe000014, 1, 4, 1), header(SET_IRQFD, 0),
+                     header(DEVICE_RESET, 0)};
     unsigned counts[] = {3, 0, 0, 2, 0};
     for (unsigned m = 0; m < 5; m++)
         for (size_t cut = 0; cut <= all[m].length; cut++) {
@@ -240,7 +252,8 @@ static void test_descriptors(void) {
     static const struct {
         unsigned count;
         proxy_error reset, memory;
-    } cases[] = {{1, PROXY_COUNT, PROXY_OK}, {2, PROXY_COUNT, PROXY_OK}, {8, PROXY_COUNT, PROXY_OK}, {9, PROXY_LOST, PROXY_LOST}, {10, PROXY_LOST, PROXY_LOST}, {32, PROXY_LOST, PROXY_LOST}};
+    } cases[] = {{1, PROXY_COUNT, PROXY_OK},  {2, PROXY_COUNT, PROXY_OK},   {8, PROXY_COUNT, PROXY_OK},
+                 {9, PROXY_LOST, PROXY_LOST}, {10, PROXY_LOST, PROXY_LOST}, {32, PROXY_LOST, PROXY_LOST}};
     for (size_t i = 0; i < sizeof cases / sizeof cases[0]; i++) {
         proxy p;
         proxy_request q;

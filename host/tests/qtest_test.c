@@ -19,12 +19,12 @@ typedef struct server {
     int fd;
     fake nvme;
     uint32_t config[64], select;
-    uint32_t bar_bits;     /* bits of BAR0 that can be written */
-    unsigned functions;    /* NVMe functions, from device 3 on */
-    bool deaf;             /* the command register keeps its value */
-    bool apart;            /* its RAM is other memory */
+    uint32_t bar_bits;  /* bits of BAR0 that can be written */
+    unsigned functions; /* NVMe functions, from device 3 on */
+    bool deaf;          /* the command register keeps its value */
+    bool apart;         /* its RAM is other memory */
     int at;
-    const char *instead;   /* NULL: it closes the connection */
+    const char *instead; /* NULL: it closes the connection */
     size_t instead_bytes;
     int commands;
     bool running;
@@ -182,8 +182,10 @@ static void test_function(void) {
     prepare(), s.apart = true, refused("QEMU's RAM at 0x100000 is not the window's memory");
     prepare(), s.nvme.controller[77] = 1, refused("transfers at most 8 KiB");
     prepare(), s.bar_bits = 0xfffff000, refused("the doorbells of 2 lanes end at 0x1018, beyond the 0x1000 bytes of BAR0");
-    prepare(), s.nvme.fault = FAKE_NEVER_READY, s.nvme.cap = (s.nvme.cap & ~(UINT64_C(0xff) << 24)) | 1 << 24, refused("did not become ready within 500 ms");
-    prepare(), window_begin(&w, memory), CHECK(window_add(&w, 0xff000, 0x2000, &r)), refused("a piece of the window, 0xff000 and 0x2000 bytes, is not in 0x100000 to 0xb0000000");
+    prepare(), s.nvme.fault = FAKE_NEVER_READY, s.nvme.cap = (s.nvme.cap & ~(UINT64_C(0xff) << 24)) | 1 << 24,
+               refused("did not become ready within 500 ms");
+    prepare(), window_begin(&w, memory), CHECK(window_add(&w, 0xff000, 0x2000, &r)),
+        refused("a piece of the window, 0xff000 and 0x2000 bytes, is not in 0x100000 to 0xb0000000");
     prepare(), window_begin(&w, memory), CHECK(window_add(&w, 0xaffff000, 0x2000, &r)), refused("is not in 0x100000 to 0xb0000000");
     prepare(), window_begin(&w, memory), CHECK(window_add(&w, 0xb0000000, 0x2000, &r)), refused("is not in 0x100000 to 0xb0000000");
 }
@@ -195,14 +197,23 @@ static void test_answers(void) {
         size_t bytes;
         const char *part;
     } bad[] = {
-        {"\n", 1, "an answer is not understood"},         {"OK 0x\n", 6, "an answer is not understood"},       {"OK 0xg\n", 7, "an answer is not understood"},
-        {"OK  \n", 5, "an answer is not understood"},     {"OK 0x1 \n", 8, "an answer is not understood"},     {"ok\n", 3, "an answer is not understood: ok"},
-        {"FAIL Unknown\n", 13, "an answer is not understood: FAIL Unknown"},                                     {"OK 0x100000000\n", 15, "an answer is not understood"},
-        {"OK 0x00000000000000001\n", 23, "an answer is not understood"}, {"OK\r\n", 4, "an answer is not understood"}, {"OK\0\n", 4, "an answer has a NUL"},
-        {"OK -1\n", 6, "an answer is not understood"},    {NULL, 0, "QEMU has closed it"},
+        {"\n", 1, "an answer is not understood"},
+        {"OK 0x\n", 6, "an answer is not understood"},
+        {"OK 0xg\n", 7, "an answer is not understood"},
+        {"OK  \n", 5, "an answer is not understood"},
+        {"OK 0x1 \n", 8, "an answer is not understood"},
+        {"ok\n", 3, "an answer is not understood: ok"},
+        {"FAIL Unknown\n", 13, "an answer is not understood: FAIL Unknown"},
+        {"OK 0x100000000\n", 15, "an answer is not understood"},
+        {"OK 0x00000000000000001\n", 23, "an answer is not understood"},
+        {"OK\r\n", 4, "an answer is not understood"},
+        {"OK\0\n", 4, "an answer has a NUL"},
+        {"OK -1\n", 6, "an answer is not understood"},
+        {NULL, 0, "QEMU has closed it"},
     };
     for (int at = 0; at < 12; at += 1)
-        for (size_t i = 0; i < sizeof bad / sizeof bad[0]; i++) prepare(), s.at = at, s.instead = bad[i].text, s.instead_bytes = bad[i].bytes, refused(bad[i].part);
+        for (size_t i = 0; i < sizeof bad / sizeof bad[0]; i++)
+            prepare(), s.at = at, s.instead = bad[i].text, s.instead_bytes = bad[i].bytes, refused(bad[i].part);
     char longer[QTEST_LINE + 1];
     memset(longer, 'x', sizeof longer);
     prepare(), s.at = 3, s.instead = longer, s.instead_bytes = sizeof longer, refused("an answer is too long");
@@ -237,7 +248,8 @@ static void test_limits(void) {
     qtest_on(&q, ends[0]);
     CHECK(write(ends[1], "OK\nOK\n", 6) == 6 && qtest_write(&q, 0, 0, &r) && !qtest_write(&q, 0, 0, &r));
     CHECK_HAS(r.text, "an answer came to no command");
-    CHECK(!qtest_config_read(&q, 32, 0, 0, &value, &r) && !qtest_config_read(&q, 0, 8, 0, &value, &r) && !qtest_config_write(&q, 0, 0, 2, 0, &r) && !qtest_config_write(&q, 0, 0, 256, 0, &r));
+    CHECK(!qtest_config_read(&q, 32, 0, 0, &value, &r) && !qtest_config_read(&q, 0, 8, 0, &value, &r) && !qtest_config_write(&q, 0, 0, 2, 0, &r) &&
+          !qtest_config_write(&q, 0, 0, 256, 0, &r));
     qtest_close(&q);
     qtest_close(&q);
     close(ends[1]);

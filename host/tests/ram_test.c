@@ -106,7 +106,8 @@ static void test_data(void) {
     put32(memory + 0x99004, 0);
     put64(memory + 0x99008, 1024);
     CHECK(run(d, (entry){9, 0, 1, DATA + 0x1ff0, 0x99000, (UINT64_C(4) << 32) | 1, 0}) == 0);
-    CHECK(run(d, (entry){5, 0, 1, DATA, 0, 703, 0}) == 0 && run(d, (entry){5, 0, 1, DATA, 0, 704, 0}) == 0 && run(d, (entry){5, 0, 1, DATA, 0, 705, 0}) == 0x285 << 1);
+    CHECK(run(d, (entry){5, 0, 1, DATA, 0, 703, 0}) == 0 && run(d, (entry){5, 0, 1, DATA, 0, 704, 0}) == 0 &&
+          run(d, (entry){5, 0, 1, DATA, 0, 705, 0}) == 0x285 << 1);
     /* not deallocated: nothing happens, also of ranges that are nowhere; deallocated: refused, and nothing happens */
     put64(memory + 0x99008, 1025);
     CHECK(run(d, (entry){9, 0, 1, 0x99000, 0, 0, 0}) == 0);
@@ -122,21 +123,42 @@ static void test_refused(void) {
         entry e;
         unsigned status; /* DNR, type and code */
     } bad[] = {
-        {{3, 0, 1, DATA, 0, 0, 0}, 0x4001},           {{0xff, 0, 1, DATA, 0, 0, 0}, 0x4001},
-        {{2, 1, 1, DATA, 0, 0, 0}, 0x4002},           {{2, 0x40, 1, DATA, 0, 0, 0}, 0x4002},        {{2, 0x80, 1, DATA, 0, 0, 0}, 0x4002},
-        {{2, 0, 0, DATA, 0, 0, 0}, 0x400b},           {{2, 0, 2, DATA, 0, 0, 0}, 0x400b},           {{2, 0, UINT32_MAX, DATA, 0, 0, 0}, 0x400b},
-        {{0, 0, 0, DATA, 0, 0, 0}, 0x400b},           {{2, 0, 1, DATA, 0, 0, 256}, 0x4002},         {{1, 0, 1, DATA, 0, 0, 0xffff}, 0x4002},
-        {{2, 0, 1, DATA, 0, 1024, 0}, 0x4080},        {{2, 0, 1, DATA, 0, 1023, 1}, 0x4080},        {{1, 0, 1, DATA, 0, UINT64_MAX, 0}, 0x4080},
-        {{5, 0, 1, DATA, 0, UINT64_MAX, 255}, 0x4080}, {{8, 0, 1, 0, 0, 1000, 24}, 0x4080},         {{8, 0, 1, 0, 0, UINT64_MAX - 4, 0xffff}, 0x4080},
-        {{2, 0, 1, DATA + 1, 0, 0, 0}, 0x4013},       {{2, 0, 1, DATA + 2, 0, 0, 0}, 0x4013},       {{2, 0, 1, DATA + 0xfe00, DATA + 4, 0, 7}, 0x4013},
-        {{2, 0, 1, DATA, LIST + 4, 0, 255}, 0x4013},  {{2, 0, 1, LOW - 512, 0, 0, 0}, 0x4004},      {{2, 0, 1, 0x8fe04, 0x90000, 0, 0}, 0x4004},
-        {{1, 0, 1, 0x90000, 0, 0, 0}, 0x4004},        {{1, 0, 1, UINT64_MAX - 510, 0, 0, 0}, 0x4013}, {{1, 0, 1, UINT64_MAX & ~UINT64_C(511), 0, 0, 0}, 0x4004},
-        {{2, 0, 1, DATA, 0x9a000, 0, 15}, 0x4004},    {{2, 0, 1, DATA, 0x9a000, 0, 255}, 0x4004},   {{2, 0, 1, DATA, LIST, 0, 255}, 0x4013},
-        {{2, 0, 1, DATA, LIST + 0x1000, 0, 255}, 0x4004}, {{9, 0, 1, 0x90000, 0, UINT64_C(4) << 32, 0}, 0x4004}, {{9, 0, 1, DATA + 0xff8, 0x90000, (UINT64_C(4) << 32) | 255, 0}, 0x4004},
+        {{3, 0, 1, DATA, 0, 0, 0}, 0x4001},
+        {{0xff, 0, 1, DATA, 0, 0, 0}, 0x4001},
+        {{2, 1, 1, DATA, 0, 0, 0}, 0x4002},
+        {{2, 0x40, 1, DATA, 0, 0, 0}, 0x4002},
+        {{2, 0x80, 1, DATA, 0, 0, 0}, 0x4002},
+        {{2, 0, 0, DATA, 0, 0, 0}, 0x400b},
+        {{2, 0, 2, DATA, 0, 0, 0}, 0x400b},
+        {{2, 0, UINT32_MAX, DATA, 0, 0, 0}, 0x400b},
+        {{0, 0, 0, DATA, 0, 0, 0}, 0x400b},
+        {{2, 0, 1, DATA, 0, 0, 256}, 0x4002},
+        {{1, 0, 1, DATA, 0, 0, 0xffff}, 0x4002},
+        {{2, 0, 1, DATA, 0, 1024, 0}, 0x4080},
+        {{2, 0, 1, DATA, 0, 1023, 1}, 0x4080},
+        {{1, 0, 1, DATA, 0, UINT64_MAX, 0}, 0x4080},
+        {{5, 0, 1, DATA, 0, UINT64_MAX, 255}, 0x4080},
+        {{8, 0, 1, 0, 0, 1000, 24}, 0x4080},
+        {{8, 0, 1, 0, 0, UINT64_MAX - 4, 0xffff}, 0x4080},
+        {{2, 0, 1, DATA + 1, 0, 0, 0}, 0x4013},
+        {{2, 0, 1, DATA + 2, 0, 0, 0}, 0x4013},
+        {{2, 0, 1, DATA + 0xfe00, DATA + 4, 0, 7}, 0x4013},
+        {{2, 0, 1, DATA, LIST + 4, 0, 255}, 0x4013},
+        {{2, 0, 1, LOW - 512, 0, 0, 0}, 0x4004},
+        {{2, 0, 1, 0x8fe04, 0x90000, 0, 0}, 0x4004},
+        {{1, 0, 1, 0x90000, 0, 0, 0}, 0x4004},
+        {{1, 0, 1, UINT64_MAX - 510, 0, 0, 0}, 0x4013},
+        {{1, 0, 1, UINT64_MAX & ~UINT64_C(511), 0, 0, 0}, 0x4004},
+        {{2, 0, 1, DATA, 0x9a000, 0, 15}, 0x4004},
+        {{2, 0, 1, DATA, 0x9a000, 0, 255}, 0x4004},
+        {{2, 0, 1, DATA, LIST, 0, 255}, 0x4013},
+        {{2, 0, 1, DATA, LIST + 0x1000, 0, 255}, 0x4004},
+        {{9, 0, 1, 0x90000, 0, UINT64_C(4) << 32, 0}, 0x4004},
+        {{9, 0, 1, DATA + 0xff8, 0x90000, (UINT64_C(4) << 32) | 255, 0}, 0x4004},
     };
     drive *d = begin(NULL);
     for (unsigned i = 0; i < 32; i++) {
-        put64(memory + LIST + 8 * i, DATA + 0x1000 * (i + 1) + (i == 20 ? 8u : 0u));       /* an offset in the list */
+        put64(memory + LIST + 8 * i, DATA + 0x1000 * (i + 1) + (i == 20 ? 8u : 0u));        /* an offset in the list */
         put64(memory + LIST + 0x1000 + 8 * i, i == 30 ? 0x9a000 : DATA + 0x1000 * (i + 1)); /* a page outside of the window */
     }
     static uint8_t before[MEMORY];
@@ -158,7 +180,8 @@ static void test_rings(void) {
         put_entry(&e, i);
         CHECK(drive_ring_submission(d, 0, tail, &r) && drive_work(d, 1) == 1);
         const uint8_t *at = memory + CQ + 16 * (i % 65);
-        CHECK(get16(at + 12) == i && get16(at + 8) == (i + 1) % 65 && get16(at + 14) == (i / 65 % 2 == 0) && drive_ring_completion(d, 0, (i + 1u) % 65, &r));
+        CHECK(get16(at + 12) == i && get16(at + 8) == (i + 1) % 65 && get16(at + 14) == (i / 65 % 2 == 0) &&
+              drive_ring_completion(d, 0, (i + 1u) % 65, &r));
     }
     CHECK(drive_work(d, 100) == 0);
     uint32_t acknowledged = 200 % 65;
@@ -168,13 +191,15 @@ static void test_rings(void) {
     CHECK(drive_ring_submission(d, 0, tail, &r) && drive_work(d, 1000) == 0);
     CHECK(drive_ring_completion(d, 0, (acknowledged + 3) % 65, &r) && drive_work(d, 1000) == 3);
     CHECK(drive_ring_completion(d, 0, (acknowledged + 64) % 65, &r) && drive_work(d, 4) == 4 && drive_work(d, 1000) == 3);
-    CHECK(!drive_ring_submission(d, 0, 65, &r) && !drive_ring_submission(d, 1, 0, &r) && !drive_ring_completion(d, 0, 65, &r) && !drive_ring_completion(d, 1, 0, &r));
+    CHECK(!drive_ring_submission(d, 0, 65, &r) && !drive_ring_submission(d, 1, 0, &r) && !drive_ring_completion(d, 0, 65, &r) &&
+          !drive_ring_completion(d, 1, 0, &r));
     CHECK(drive_check(d, &r) && drive_close(d, &r));
 }
 
 static void test_lanes(void) {
     static const nvme_lane bad[] = {
-        {SQ, CQ, 1, 65}, {SQ, CQ, 65, 1}, {SQ, CQ, 65537, 65}, {SQ + 64, CQ, 65, 65}, {SQ, CQ + 16, 65, 65}, {0, CQ, 65, 65}, {SQ, 0x90000, 65, 65}, {0x8f000, CQ, 65, 65}, {UINT64_MAX - 4095, CQ, 65, 65},
+        {SQ, CQ, 1, 65}, {SQ, CQ, 65, 1},       {SQ, CQ, 65537, 65},   {SQ + 64, CQ, 65, 65},           {SQ, CQ + 16, 65, 65},
+        {0, CQ, 65, 65}, {SQ, 0x90000, 65, 65}, {0x8f000, CQ, 65, 65}, {UINT64_MAX - 4095, CQ, 65, 65},
     };
     nvme_lane two[2] = {{SQ, CQ, 65, 65}, {0x14000, 0x16000, 3, 3}};
     window_begin(&w, memory);

@@ -1,5 +1,5 @@
-/* The drive by VFIO, without VFIO: the paths lie under a folder of the test, ioctl is this file's, and the device's file is memory, in which a thread plays
- * the controller. Each step can be made to fail. */
+/* The drive by VFIO, without VFIO: the paths lie under a folder of the test, ioctl is this file's, and the device's file is memory, in which a
+ * thread plays the controller. Each step can be made to fail. */
 #include <errno.h>
 #include <fcntl.h>
 #include <linux/vfio.h>
@@ -156,8 +156,14 @@ static void put_folders(void) {
 static void begin(void) {
     uint8_t config[256] = {0x36, 0x1b, 0x10, 0, 7, 0, 0, 0, 2, 2, 8, 1};
     if (k.file) close(k.file);
-    k = (struct kernel){.version = VFIO_API_VERSION, .extension = 1, .viable = VFIO_GROUP_FLAGS_VIABLE, .regions = 9, .bar_flags = 7, .bar_bytes = BAR_BYTES,
-                        .range_count = 2, .range = {{0, 0xfedfffff}, {0xfef00000, UINT64_MAX}}};
+    k = (struct kernel){.version = VFIO_API_VERSION,
+                        .extension = 1,
+                        .viable = VFIO_GROUP_FLAGS_VIABLE,
+                        .regions = 9,
+                        .bar_flags = 7,
+                        .bar_bytes = BAR_BYTES,
+                        .range_count = 2,
+                        .range = {{0, 0xfedfffff}, {0xfef00000, UINT64_MAX}}};
     k.device_flags = VFIO_DEVICE_FLAGS_PCI | VFIO_DEVICE_FLAGS_RESET;
     k.file = memfd_create("device", MFD_CLOEXEC);
     if (k.file < 0 || ftruncate(k.file, BAR_AT + BAR_BYTES) || pwrite(k.file, config, 256, 0) != 256) abort();
@@ -229,11 +235,16 @@ static void test_steps(void) {
         unsigned long request;
         const char *part;
     } steps[] = {
-        {VFIO_GET_API_VERSION, "does not answer as VFIO: Inappropriate ioctl"}, {VFIO_CHECK_EXTENSION, "has no I/O MMU of type 1 version 2"},
-        {VFIO_GROUP_GET_STATUS, "does not answer as a group of VFIO"}, {VFIO_GROUP_SET_CONTAINER, "group 7 cannot be put into a container"},
-        {VFIO_SET_IOMMU, "the I/O MMU cannot be set up"}, {VFIO_IOMMU_GET_INFO, "the I/O MMU does not say what it can do"},
-        {VFIO_GROUP_GET_DEVICE_FD, "the group does not give 0000:01:00.0"}, {VFIO_DEVICE_GET_INFO, "the device does not answer as VFIO"},
-        {VFIO_DEVICE_RESET, "0000:01:00.0 cannot be reset"}, {VFIO_DEVICE_GET_REGION_INFO, "the device does not say where its configuration space is"},
+        {VFIO_GET_API_VERSION, "does not answer as VFIO: Inappropriate ioctl"},
+        {VFIO_CHECK_EXTENSION, "has no I/O MMU of type 1 version 2"},
+        {VFIO_GROUP_GET_STATUS, "does not answer as a group of VFIO"},
+        {VFIO_GROUP_SET_CONTAINER, "group 7 cannot be put into a container"},
+        {VFIO_SET_IOMMU, "the I/O MMU cannot be set up"},
+        {VFIO_IOMMU_GET_INFO, "the I/O MMU does not say what it can do"},
+        {VFIO_GROUP_GET_DEVICE_FD, "the group does not give 0000:01:00.0"},
+        {VFIO_DEVICE_GET_INFO, "the device does not answer as VFIO"},
+        {VFIO_DEVICE_RESET, "0000:01:00.0 cannot be reset"},
+        {VFIO_DEVICE_GET_REGION_INFO, "the device does not say where its configuration space is"},
         {VFIO_IOMMU_MAP_DMA, "0x40000 bytes cannot be mapped for the device at 0x10000: Inappropriate ioctl"},
     };
     for (size_t i = 0; i < sizeof steps / sizeof steps[0]; i++) begin(), k.fail = steps[i].request, k.error = ENOTTY, refused(steps[i].part);
@@ -274,7 +285,18 @@ static void test_ranges(void) {
 }
 
 int main(void) {
-    static const char *const made[] = {"dev/vfio/vfio", "dev/vfio/7", DEVICE "/driver", DEVICE "/iommu_group", DEVICE, "sys/bus/pci/devices", "sys/bus/pci", "sys/bus", "sys", "dev/vfio", "dev", ""};
+    static const char *const made[] = {"dev/vfio/vfio",
+                                       "dev/vfio/7",
+                                       DEVICE "/driver",
+                                       DEVICE "/iommu_group",
+                                       DEVICE,
+                                       "sys/bus/pci/devices",
+                                       "sys/bus/pci",
+                                       "sys/bus",
+                                       "sys",
+                                       "dev/vfio",
+                                       "dev",
+                                       ""};
     memory = malloc(MEMORY);
     if (!memory || !mkdtemp(root)) return 3;
     put_folders();
