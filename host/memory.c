@@ -10,17 +10,18 @@
 #include <unistd.h>
 
 bool memory_reserve(memory_row *row, uint64_t length, reason *r) {
-    *row = (memory_row){NULL, 0};
+    *row = (memory_row){.bytes = NULL};
     if (length == 0 || length % PAGE_BYTES || length > WINDOW_END) return refuse(r, "0x%" PRIx64 " bytes are no row of whole pages up to 2^47", length);
     void *bytes = mmap(NULL, length, PROT_NONE, MAP_PRIVATE | MAP_ANONYMOUS | MAP_NORESERVE, -1, 0);
     if (bytes == MAP_FAILED) return refuse(r, "0x%" PRIx64 " bytes of addresses cannot be reserved: %s", length, strerror(errno));
-    *row = (memory_row){bytes, length};
+    *row = (memory_row){.bytes = bytes, .length = length};
+    window_begin(&row->mapped, bytes);
     return true;
 }
 
 void memory_release(memory_row *row) {
     if (row->bytes) munmap(row->bytes, row->length);
-    *row = (memory_row){NULL, 0};
+    *row = (memory_row){.bytes = NULL};
 }
 
 /* A file without a name, whose length stays as it is. */
@@ -56,25 +57,24 @@ static int open_file(const char *path, uint64_t length, reason *r) {
     return -1;
 }
 
-bool memory_add(memory_file *m, const memory_row *row, window *w, const char *path, uint64_t address, uint64_t length, reason *r) {
+bool memory_add(memory_file *m, memory_row *row, const char *path, uint64_t address, uint64_t length, reason *r) {
     struct stat about;
-    window before = *w;
+    window before = row->mapped;
     *m = (memory_file){.fd = -1, .address = address, .length = length};
     if (!row->bytes || address > row->length || length > row->length - address)
         return refuse(r, "0x%" PRIx64 " bytes at 0x%" PRIx64 " are not in the reserved row", length, address);
-    if (!window_add(w, address, length, r)) return false;
+    if (!window_add(&row->mapped, address, length, r)) return false;
     int fd = path ? open_file(path, length, r) : make_file(length, r);
-    if (fd >= 0 && fstat(fd, &about) == 0) {
-        if (mmap(row->bytes + address, length, PROT_READ | PROT_WRITE, MAP_SHARED | MAP_FIXED, fd, 0) != MAP_FAILED) {
-            m->fd = fd;
-            m->device = about.st_dev;
-            m->inode = about.st_ino;
-            return true;
-        }
-        refuse(r, "0x%" PRIx64 " bytes of memory cannot be mapped: %s", length, strerror(errno));
+    bool good = fd >= 0;
+    if (good && fstat(fd, &about)) good = refuse(r, "a file of memory cannot be looked at: %s", strerror(errno));
+    if (good && mmap(row->bytes + address, length, PROT_READ | PROT_WRITE, MAP_SHARED | MAP_FIXED, fd, 0) == MAP_FAILED)
+        good = refuse(r, "0x%" PRIx64 " bytes of memory cannot be mapped: %s", length, strerror(errno));
+    if (good) {
+        *m = (memory_file){fd, about.st_dev, about.st_ino, address, length};
+        return true;
     }
     if (fd >= 0) close(fd);
-    *w = before;
+    row->mapped = before;
     return false;
 }
 

@@ -14,10 +14,11 @@
 #include "reason.h"
 #include "window.h"
 
-/* A reserved row of addresses of this process; nothing lies there yet. */
+/* A reserved row of addresses of this process. */
 typedef struct memory_row {
     uint8_t *bytes; /* where host address 0 would lie; NULL: none is reserved */
     uint64_t length;
+    window mapped; /* where files lie in it */
 } memory_row;
 
 /* A file that is mapped. */
@@ -34,10 +35,10 @@ bool memory_reserve(memory_row *row, uint64_t length, reason *r);
 /* Gives the row back, with all that is mapped there. It may be called twice. */
 void memory_release(memory_row *row);
 
-/* Makes or opens a file of `length` bytes, maps it at the host address `address`, and adds it to the window as a piece. `path` NULL: a sealed file of
- * its own, of zeros. Else that file: it is made where there is none, made longer where it is empty, and refused where it has another length. Where it
- * fails nothing is left open, mapped or added. */
-bool memory_add(memory_file *m, const memory_row *row, window *w, const char *path, uint64_t address, uint64_t length, reason *r);
+/* Makes or opens a file of `length` bytes, and maps it at the host address `address`; both are multiples of 4,096. `path` NULL: a sealed file of its
+ * own, of zeros. Else that file: it is made where there is none, made longer where it is empty, and refused where it has another length. Refused, too,
+ * is a place outside of the row or where a file lies. Where it fails nothing is left open or mapped. */
+bool memory_add(memory_file *m, memory_row *row, const char *path, uint64_t address, uint64_t length, reason *r);
 
 /* Closes the file's descriptor. What is mapped stays until memory_release. */
 void memory_close(memory_file *m);

@@ -9,7 +9,6 @@
 #include "check.h"
 
 static reason r;
-static window w;
 static memory_row row;
 
 static void test_own(void) {
@@ -18,9 +17,8 @@ static void test_own(void) {
     uint64_t host = 0;
     unsigned before = open_descriptors();
     CHECK(memory_reserve(&row, 1 << 24, &r));
-    window_begin(&w, row.bytes);
-    CHECK_MORE(memory_add(&a, &row, &w, NULL, 0x100000, 0x10000, &r) && memory_add(&b, &row, &w, NULL, 0x110000, 0x1000, &r), r.text);
-    CHECK(w.pieces == 2 && window_at(&w, 0x10fffc, 4) == row.bytes + 0x10fffc && window_at(&w, 0x110000, 4096));
+    CHECK_MORE(memory_add(&a, &row, NULL, 0x100000, 0x10000, &r) && memory_add(&b, &row, NULL, 0x110000, 0x1000, &r), r.text);
+    CHECK(row.mapped.pieces == 2 && window_at(&row.mapped, 0x10fffc, 4) == row.bytes + 0x10fffc && window_at(&row.mapped, 0x110000, 4096));
     CHECK(row.bytes[0x100000] == 0 && row.bytes[0x110fff] == 0);
     row.bytes[0x100123] = 0x77;
     memory_path(&a, path, sizeof path);
@@ -53,11 +51,11 @@ static void test_own(void) {
 
 static void refused(const char *path, uint64_t address, uint64_t length, const char *part) {
     memory_file m;
-    window before = w;
+    window before = row.mapped;
     unsigned descriptors = open_descriptors();
-    CHECK(!memory_add(&m, &row, &w, path, address, length, &r));
+    CHECK(!memory_add(&m, &row, path, address, length, &r));
     CHECK_HAS(r.text, part);
-    CHECK(m.fd == -1 && !memcmp(&w, &before, sizeof w) && open_descriptors() == descriptors);
+    CHECK(m.fd == -1 && !memcmp(&row.mapped, &before, sizeof before) && open_descriptors() == descriptors);
 }
 
 static void test_named(void) {
@@ -68,13 +66,12 @@ static void test_named(void) {
     snprintf(path, sizeof path, "%s/m", folder);
     snprintf(link, sizeof link, "%s/l", folder);
     CHECK(memory_reserve(&row, 1 << 24, &r));
-    window_begin(&w, row.bytes);
-    CHECK_MORE(memory_add(&m, &row, &w, path, 0x1000, 0x4000, &r), r.text);
+    CHECK_MORE(memory_add(&m, &row, path, 0x1000, 0x4000, &r), r.text);
     CHECK(stat(path, &about) == 0 && about.st_size == 0x4000 && (about.st_mode & 0777) == 0600);
     row.bytes[0x1000] = 5;
     memory_close(&m);
     /* it is there the second time */
-    CHECK(memory_add(&m, &row, &w, path, 0x8000, 0x4000, &r) && row.bytes[0x8000] == 5);
+    CHECK(memory_add(&m, &row, path, 0x8000, 0x4000, &r) && row.bytes[0x8000] == 5);
     memory_close(&m);
     refused(path, 0x10000, 0x5000, "has 16384 bytes, not 20480");
     refused("/dev/null", 0x10000, 0x1000, "/dev/null: is no regular file");

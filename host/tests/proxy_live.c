@@ -21,7 +21,6 @@ enum { SECONDS = 8, ROW = 0x8000000, ADDRESS = 0x2000000, BYTES = 0x4000000 };
 
 static memory_row row;
 static memory_file file;
-static window w;
 static interrupt irq;
 static reason r;
 static unsigned counts[PROXY_RESET + 1], odd;
@@ -60,7 +59,7 @@ static void look_at_memory(proxy_request *q) {
     uint64_t sum = 0, host;
     for (unsigned i = 0; i < q->memory.count; i++) {
         const proxy_region *region = &q->memory.region[i];
-        if (!memory_holds(&file, region, &host) || !window_at(&w, host, region->length)) odd++;
+        if (!memory_holds(&file, region, &host) || !window_at(&row.mapped, host, region->length)) odd++;
         else sum += region->length;
     }
     if (sum > most_memory) most_memory = sum;
@@ -98,8 +97,7 @@ int main(int argc, char **argv) {
     if (argc < 2) return 2;
     unsigned before = open_descriptors();
     CHECK(memory_reserve(&row, ROW, &r));
-    window_begin(&w, row.bytes);
-    CHECK_MORE(memory_add(&file, &row, &w, NULL, ADDRESS, BYTES, &r), r.text);
+    CHECK_MORE(memory_add(&file, &row, NULL, ADDRESS, BYTES, &r), r.text);
     memory_path(&file, path, sizeof path);
     CHECK_MORE(peer_start(&qemu, argv + 1, &(peer_memory){path, BYTES}, &socket, &r), r.text);
     CHECK(proxy_open(&p, socket) == PROXY_OK);
@@ -124,7 +122,7 @@ int main(int argc, char **argv) {
     CHECK(counts[PROXY_MEMORY] > 0 && counts[PROXY_CONFIG_READ] > 20 && counts[PROXY_CONFIG_WRITE] > 14 && counts[PROXY_INTERRUPT] > 0 && odd == 0);
     /* the firmware gave BAR0 a place, read CAP, and enabled the controller with entries of 64 and 16 bytes */
     CHECK(pci_bar_address(&f) != 0 && counts[PROXY_BAR_READ] > 2 && (cc & 0xff0001) == 0x460001);
-    CHECK(most_memory > 0 && most_memory <= BYTES && window_at(&w, ADDRESS, BYTES) != NULL);
+    CHECK(most_memory > 0 && most_memory <= BYTES && window_at(&row.mapped, ADDRESS, BYTES) != NULL);
     /* the firmware's table of vectors is in the guest's first KiB */
     uint32_t vectors = 0;
     for (unsigned i = 0; i < 1024; i++) vectors += row.bytes[ADDRESS + i] != 0;
