@@ -109,31 +109,58 @@ static bool start(peer_process *p, char *const *words, int socket, reason *r) {
     return good;
 }
 
-bool peer_start(peer_process *p, char *const *words, const peer_memory *memory, int *socket, reason *r) {
-    char size[32], backend[300], machine[] = "memory-backend=mem", device[64];
-    char m[] = "-m", object[] = "-object", M[] = "-M", d[] = "-device";
-    char *const added[] = {m, size, object, backend, M, machine, d, device, NULL};
-    char *all[PEER_WORDS + 1];
+/* The words of the configuration, and after them those that are added. */
+typedef struct full_words {
+    char size[32], backend[300], device[64];
+    char *word[PEER_WORDS + 1];
+} full_words;
+
+static bool fill_words(full_words *f, char *const *words, const peer_memory *memory, int socket, reason *r) {
+    static char m[] = "-m", object[] = "-object", machine[] = "-machine", of_backend[] = "memory-backend=mem", device[] = "-device";
+    char *const added[] = {m, f->size, object, f->backend, machine, of_backend, device, f->device, NULL};
+    const size_t room = PEER_WORDS + 1 - sizeof added / sizeof added[0];
     size_t count = 0;
+    while (words[count]) count++;
+    if (count == 0 || count > room) return refuse(r, "a process has 1 to %zu words", room);
+    if (strchr(memory->path, ',')) return refuse(r, "%.120s: QEMU takes no comma in a path", memory->path);
+    snprintf(f->size, sizeof f->size, "%" PRIu64 "B", memory->bytes);
+    snprintf(f->device, sizeof f->device, "x-pci-proxy-dev,id=nvmed,fd=%d", socket);
+    int length = snprintf(f->backend, sizeof f->backend, "memory-backend-file,id=mem,share=on,size=%" PRIu64 ",mem-path=%s", memory->bytes, memory->path);
+    if (length < 0 || (size_t)length >= sizeof f->backend) return refuse(r, "%.120s..: the path is too long", memory->path);
+    memcpy(f->word, words, count * sizeof words[0]);
+    memcpy(f->word + count, added, sizeof added);
+    return true;
+}
+
+bool peer_start(peer_process *p, char *const *words, const peer_memory *memory, int *socket, reason *r) {
+    full_words full;
     int ends[2];
     p->pid = -1;
     *socket = -1;
-    while (words[count]) count++;
-    if (count == 0 || count + sizeof added / sizeof added[0] > PEER_WORDS)
-        return refuse(r, "a process has 1 to %zu words", PEER_WORDS - sizeof added / sizeof added[0]);
-    if (strchr(memory->path, ',')) return refuse(r, "%.120s: QEMU takes no comma in a path", memory->path);
     if (socketpair(AF_UNIX, SOCK_STREAM | SOCK_CLOEXEC, 0, ends)) return refuse(r, "sockets cannot be made: %s", strerror(errno));
-    snprintf(size, sizeof size, "%" PRIu64 "B", memory->bytes);
-    snprintf(device, sizeof device, "x-pci-proxy-dev,id=nvmed,fd=%d", ends[1]);
-    int length = snprintf(backend, sizeof backend, "memory-backend-file,id=mem,share=on,size=%" PRIu64 ",mem-path=%s", memory->bytes, memory->path);
-    bool good = (length > 0 && (size_t)length < sizeof backend) || refuse(r, "%.120s..: the path is too long", memory->path);
-    memcpy(all, words, count * sizeof words[0]);
-    memcpy(all + count, added, sizeof added);
-    good = good && start(p, all, ends[1], r);
+    bool good = fill_words(&full, words, memory, ends[1], r) && start(p, full.word, ends[1], r);
     close(ends[1]);
     if (good) *socket = ends[0];
     else close(ends[0]);
     return good;
+}
+
+void peer_join(const char *path, char *const *words, const peer_memory *memory, reason *r) {
+    struct sockaddr_un name;
+    full_words full;
+    if (!address_of(path, &name, r)) return;
+    int fd = socket(AF_UNIX, SOCK_STREAM, 0);
+    if (fd < 0) {
+        refuse(r, "a socket cannot be made: %s", strerror(errno));
+        return;
+    }
+    if (connect(fd, (const struct sockaddr *)&name, sizeof name)) {
+        refuse(r, "%s: cannot connect: %s", path, strerror(errno));
+    } else if (fill_words(&full, words, memory, fd, r)) {
+        execvp(full.word[0], full.word);
+        refuse(r, "%.100s: cannot be started: %s", words[0], strerror(errno));
+    }
+    close(fd);
 }
 
 static bool note_end(peer_process *p, int status, reason *r) {

@@ -45,6 +45,10 @@ typedef struct peer_memory {
  * gets no other descriptor of this process than its standard ones, and ends with this process. */
 bool peer_start(peer_process *p, char *const *words, const peer_memory *memory, int *socket, reason *r);
 
+/* The other side of peer_listen: connects to the socket at `path`, and becomes QEMU, with the words as peer_start gives them. It returns only where that
+ * failed, with the reason. QEMU by itself takes a connected socket alone. */
+void peer_join(const char *path, char *const *words, const peer_memory *memory, reason *r);
+
 /* Whether the process has ended; *r says how. It does not wait. */
 bool peer_ended(peer_process *p, reason *r);
 

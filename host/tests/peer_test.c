@@ -6,6 +6,7 @@
 #include <sys/socket.h>
 #include <sys/stat.h>
 #include <sys/un.h>
+#include <sys/wait.h>
 #include <unistd.h>
 
 #include "check.h"
@@ -79,7 +80,7 @@ static void test_start(void) {
     sscanf(strstr(text, "fd=") ? strstr(text, "fd=") : "", "fd=%d", &fd);
     snprintf(expected, sizeof expected,
              "|-m|1048576B|-object|memory-backend-file,id=mem,share=on,size=1048576,mem-path=/dev/shm/"
-             "m|-M|memory-backend=mem|-device|x-pci-proxy-dev,id=nvmed,fd=%d|",
+             "m|-machine|memory-backend=mem|-device|x-pci-proxy-dev,id=nvmed,fd=%d|",
              fd);
     CHECK_MORE(!strncmp(text, expected, strlen(expected)), text);
     unsigned descriptors = (unsigned)strtoul(text + strlen(expected), NULL, 10);
@@ -88,6 +89,35 @@ static void test_start(void) {
     CHECK(p.pid == -1 && !strcmp(r.text, "ended with status 0") && peer_ended(&p, &r));
     close(socket);
     peer_stop(&p, 0);
+    CHECK(open_descriptors() == before);
+}
+
+/* A process that connects and becomes the program. */
+static void test_join(void) {
+    peer_listener l;
+    char path[64], text[1000] = "";
+    size_t have = 0;
+    int status = -1;
+    snprintf(path, sizeof path, "%s/j", folder);
+    unsigned before = open_descriptors();
+    peer_join(path, shell, &(peer_memory){"m", 4096}, &r);
+    CHECK_HAS(r.text, "cannot connect: No such file or directory");
+    CHECK(peer_listen(&l, path, &r));
+    peer_join(path, (char *const[]){folder, NULL}, &(peer_memory){"m", 4096}, &r);
+    CHECK_HAS(r.text, "cannot be started: Permission denied");
+    close(peer_accept(&l));
+    pid_t child = fork();
+    if (child == 0) {
+        peer_join(path, shell, &(peer_memory){"m", 8192}, &r);
+        _exit(1);
+    }
+    int fd = -1;
+    for (unsigned i = 0; i < 400 && (fd = peer_accept(&l)) < 0; i++) clock_pause(5000);
+    CHECK(waitpid(child, &status, 0) == child && status == 0);
+    for (ssize_t got; (got = read(fd, text + have, sizeof text - 1 - have)) > 0;) have += (size_t)got;
+    CHECK_HAS(text, "|-m|8192B|-object|memory-backend-file,id=mem,share=on,size=8192,mem-path=m|-machine|memory-backend=mem|-device|x-pci-proxy-dev,");
+    close(fd);
+    peer_unlisten(&l);
     CHECK(open_descriptors() == before);
 }
 
@@ -142,6 +172,7 @@ int main(void) {
     if (!mkdtemp(folder)) return 3;
     test_listener();
     test_start();
+    test_join();
     test_refused();
     test_stop();
     CHECK(rmdir(folder) == 0);
