@@ -85,7 +85,7 @@ static void test_start(void) {
     CHECK_MORE(!strncmp(text, expected, strlen(expected)), text);
     unsigned descriptors = (unsigned)strtoul(text + strlen(expected), NULL, 10);
     CHECK_MORE(descriptors == 5, text); /* 0 to 2, the socket, and what ls opens */
-    for (unsigned i = 0; i < 400 && !peer_ended(&p, &r); i++) clock_pause(5000);
+    for (unsigned i = 0; i < 4000 && !peer_ended(&p, &r); i++) clock_pause(5000);
     CHECK(p.pid == -1 && !strcmp(r.text, "ended with status 0") && peer_ended(&p, &r));
     close(socket);
     peer_stop(&p, 0);
@@ -112,7 +112,7 @@ static void test_join(void) {
         _exit(1);
     }
     int fd = -1;
-    for (unsigned i = 0; i < 400 && (fd = peer_accept(&l)) < 0; i++) clock_pause(5000);
+    for (unsigned i = 0; i < 4000 && (fd = peer_accept(&l)) < 0; i++) clock_pause(5000);
     CHECK(waitpid(child, &status, 0) == child && status == 0);
     for (ssize_t got; (got = read(fd, text + have, sizeof text - 1 - have)) > 0;) have += (size_t)got;
     CHECK_HAS(text, "|-m|8192B|-object|memory-backend-file,id=mem,share=on,size=8192,mem-path=m|-machine|memory-backend=mem|-device|x-pci-proxy-dev,");
@@ -146,24 +146,26 @@ static void test_refused(void) {
 }
 
 static void test_stop(void) {
-    char stubborn[] = "trap '' TERM; while true; do sleep 0.01; done", sh[] = "sh", c[] = "-c", sleeps[] = "exec sleep 100";
+    char stubborn[] = "for last; do true; done; fd=${last##*=}; trap '' TERM; echo >&$fd; while true; do sleep 0.01; done", sh[] = "sh", c[] = "-c",
+         sleeps[] = "exec sleep 100";
     peer_process p;
     int socket;
     CHECK(peer_start(&p, (char *const[]){sh, c, sleeps, NULL}, &(peer_memory){"m", 4096}, &socket, &r));
     CHECK(!peer_ended(&p, &r));
     uint64_t begin = clock_milliseconds();
-    peer_stop(&p, 5000);
-    CHECK(p.pid == -1 && clock_milliseconds() - begin < 4000);
+    peer_stop(&p, 30000);
+    CHECK(p.pid == -1 && clock_milliseconds() - begin < 20000);
     close(socket);
     CHECK(peer_start(&p, (char *const[]){sh, c, stubborn, NULL}, &(peer_memory){"m", 4096}, &socket, &r));
-    clock_pause(200000);
+    char ready = 0;
+    CHECK(read(socket, &ready, 1) == 1 && ready == '\n');
     begin = clock_milliseconds();
     peer_stop(&p, 100);
-    CHECK(p.pid == -1 && clock_milliseconds() - begin >= 100 && clock_milliseconds() - begin < 4000);
+    CHECK(p.pid == -1 && clock_milliseconds() - begin >= 100 && clock_milliseconds() - begin < 20000);
     close(socket);
     CHECK(peer_start(&p, (char *const[]){sh, c, sleeps, NULL}, &(peer_memory){"m", 4096}, &socket, &r));
     kill(p.pid, SIGKILL);
-    for (unsigned i = 0; i < 400 && !peer_ended(&p, &r); i++) clock_pause(5000);
+    for (unsigned i = 0; i < 4000 && !peer_ended(&p, &r); i++) clock_pause(5000);
     CHECK(!strcmp(r.text, "ended by signal 9"));
     close(socket);
 }

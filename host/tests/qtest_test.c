@@ -164,7 +164,7 @@ static void refused(const char *part) {
     CHECK(!d);
     CHECK_HAS(r.text, part);
     pthread_join(thread, NULL);
-    CHECK(open_descriptors() == before && clock_milliseconds() - begin < 3000);
+    CHECK(open_descriptors() == before && clock_milliseconds() - begin < 9000);
 }
 
 static void test_function(void) {
@@ -234,7 +234,7 @@ static void test_limits(void) {
         uint64_t begin = clock_milliseconds();
         CHECK(!qtest_read(&q, 0, &value, &r));
         CHECK_HAS(r.text, "QEMU does not answer in time");
-        CHECK(clock_milliseconds() - begin >= 100 && clock_milliseconds() - begin < 2000);
+        CHECK(clock_milliseconds() - begin >= 100 && clock_milliseconds() - begin < 9000);
         CHECK(!qtest_read(&q, 0, &value, &r));
         CHECK_HAS(r.text, "has failed before");
         qtest_close(&q);

@@ -169,6 +169,7 @@ static void begin(void) {
     if (k.file < 0 || ftruncate(k.file, BAR_AT + BAR_BYTES) || pwrite(k.file, config, 256, 0) != 256) abort();
     memset(memory, 0, MEMORY);
     fake_begin(&k.nvme, memory, MEMORY);
+    k.nvme.cap |= 60 << 24; /* 30 s to become ready, since its thread may have to wait */
     if (pwrite(k.file, &k.nvme.cap, 8, BAR_AT) != 8 || pwrite(k.file, &k.nvme.vs, 4, BAR_AT + 8) != 4) abort();
     window_begin(&w, memory);
     if (!window_add(&w, FROM, 0x40000, &r) || !window_add(&w, 0x80000, 0x80000, &r)) abort();
