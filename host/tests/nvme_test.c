@@ -158,6 +158,10 @@ static void test_identify(void) {
     CHECK_MORE(open_with(2, 4096), r.text);
     CHECK(nvme_close(&n, &r));
     begin(), f.controller[512] = 0x06, refused("SQES is 0x06");
+    /* format 16, whose number has a bit in the upper part of FLBAS */
+    begin(), f.namespace[25] = 16, f.namespace[26] = 0x20, f.namespace[194] = 9, f.namespace[130] = 12;
+    CHECK_MORE(open_with(2, 4096), r.text);
+    CHECK(nvme_close(&n, &r));
 }
 
 static void test_admin(void) {

@@ -6,53 +6,8 @@
 #include <sys/socket.h>
 #include <unistd.h>
 
-#include "bytes.h"
 #include "check.h"
-
-enum { SYNC_SYSMEM, RET, PCI_CFGWRITE, PCI_CFGREAD, BAR_WRITE, BAR_READ, SET_IRQFD, DEVICE_RESET };
-
-/* A message that a test sends. */
-typedef struct message {
-    uint8_t bytes[PROXY_MESSAGE + 64];
-    size_t length;
-} message;
-
-static message header(uint32_t command, uint64_t size) {
-    message m = {.length = PROXY_HEADER + (size_t)(size < 256 ? size : 0)};
-    put32(m.bytes, command);
-    put64(m.bytes + 8, size);
-    return m;
-}
-
-static message config_access(uint32_t command, uint32_t address, uint32_t value, uint32_t length) {
-    message m = header(command, 12);
-    put32(m.bytes + 16, address);
-    put32(m.bytes + 20, value);
-    put32(m.bytes + 24, length);
-    return m;
-}
-
-static message bar_access(uint32_t command, uint64_t address, uint64_t value, uint32_t size, uint8_t memory) {
-    message m = header(command, 24);
-    put64(m.bytes + 16, address);
-    put64(m.bytes + 24, value);
-    put32(m.bytes + 32, size);
-    m.bytes[36] = memory;
-    return m;
-}
-
-static void set_region(message *m, unsigned i, uint64_t address, uint64_t length, uint64_t offset) {
-    put64(m->bytes + 16 + 8 * i, address);
-    put64(m->bytes + 80 + 8 * i, length);
-    put64(m->bytes + 144 + 8 * i, offset);
-}
-
-/* Eight regions of a MiB each, as if all had a descriptor. */
-static message memory(void) {
-    message m = header(SYNC_SYSMEM, 192);
-    for (unsigned i = 0; i < 8; i++) set_region(&m, i, (uint64_t)i << 20, 1 << 20, (uint64_t)i << 32);
-    return m;
-}
+#include "messages.h"
 
 static proxy_error decode(message m, unsigned count, proxy_request *q) {
     static const int fds[9] = {100, 101, 102, 103, 104, 105, 106, 107, 108};
@@ -311,6 +266,25 @@ static void test_attribution(void) {
     CHECK(open_descriptors() == before);
 }
 
+/* One message and the first byte of the next, with which that one's descriptors come. And the clock of a message starts with its first byte. */
+static void test_borders(void) {
+    proxy p;
+    proxy_request q;
+    bool there;
+    uint8_t bytes[44];
+    static const int fds[2] = {1000000, 1000001}; /* not open */
+    message first = config_access(PCI_CFGREAD, 0, 0, 4), second = header(SET_IRQFD, 0);
+    memcpy(bytes, first.bytes, 28);
+    memcpy(bytes + 28, second.bytes, 16);
+    CHECK(proxy_open(&p, -1) == PROXY_OK && proxy_feed(&p, bytes, 29, fds, 2, false, 0) == PROXY_OK);
+    CHECK(proxy_next(&p, &q, &there, 100) == PROXY_OK && there && q.kind == PROXY_CONFIG_READ);
+    CHECK(proxy_feed(&p, bytes + 29, 1, NULL, 0, false, 99 + PROXY_STALL) == PROXY_OK && proxy_check(&p, 99 + PROXY_STALL) == PROXY_OK);
+    proxy late = p;
+    CHECK(proxy_feed(&p, bytes + 30, 14, NULL, 0, false, 0) == PROXY_OK);
+    CHECK(proxy_next(&p, &q, &there, 0) == PROXY_OK && there && q.kind == PROXY_INTERRUPT && q.irq.interrupt == 1000000 && q.irq.resample == 1000001);
+    CHECK(proxy_check(&late, 100 + PROXY_STALL) == PROXY_STALLED);
+}
+
 static void test_floods(void) {
     proxy p;
     proxy_request q;
@@ -387,6 +361,7 @@ int main(void) {
     test_bytewise();
     test_descriptors();
     test_attribution();
+    test_borders();
     test_floods();
     test_odd();
     return checks_end();
