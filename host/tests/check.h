@@ -1,0 +1,43 @@
+/* Counts of checks. A test program says CHECK(..) many times and ends with `return checks_end();`. */
+#ifndef HOST_TESTS_CHECK_H
+#define HOST_TESTS_CHECK_H
+
+#include <dirent.h>
+#include <stdio.h>
+#include <string.h>
+
+static unsigned checks_passed, checks_failed;
+
+static inline void check_that(int good, const char *file, int line, const char *what, const char *more) {
+    if (good) {
+        checks_passed++;
+        return;
+    }
+    checks_failed++;
+    printf("%s:%d: %s%s%s\n", file, line, what, *more ? ": " : "", more);
+}
+
+#define CHECK(good) check_that((good), __FILE__, __LINE__, #good, "")
+
+/* The same, with a text that is shown where it failed. */
+#define CHECK_MORE(good, more) check_that((good), __FILE__, __LINE__, #good, more)
+
+/* A text has to have a part. */
+#define CHECK_HAS(text, part) check_that(strstr((text), (part)) != NULL, __FILE__, __LINE__, part, text)
+
+static inline int checks_end(void) {
+    printf("%u passed, %u failed\n", checks_passed, checks_failed);
+    return checks_failed != 0;
+}
+
+/* How many descriptors this process has. */
+static inline unsigned open_descriptors(void) {
+    unsigned count = 0;
+    DIR *d = opendir("/proc/self/fd");
+    if (!d) return 0;
+    while (readdir(d)) count++;
+    closedir(d);
+    return count;
+}
+
+#endif

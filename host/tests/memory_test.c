@@ -1,0 +1,101 @@
+#include "memory.h"
+
+#include <errno.h>
+#include <fcntl.h>
+#include <stdlib.h>
+#include <sys/stat.h>
+#include <unistd.h>
+
+#include "check.h"
+
+static reason r;
+static memory_row row;
+
+static void test_own(void) {
+    char path[64];
+    memory_file a, b;
+    uint64_t host = 0;
+    unsigned before = open_descriptors();
+    CHECK(memory_reserve(&row, 1 << 24, &r));
+    CHECK_MORE(memory_add(&a, &row, NULL, 0x100000, 0x10000, &r) && memory_add(&b, &row, NULL, 0x110000, 0x1000, &r), r.text);
+    CHECK(row.mapped.pieces == 2 && window_at(&row.mapped, 0x10fffc, 4) == row.bytes + 0x10fffc && window_at(&row.mapped, 0x110000, 4096));
+    CHECK(row.bytes[0x100000] == 0 && row.bytes[0x110fff] == 0);
+    row.bytes[0x100123] = 0x77;
+    memory_path(&a, path, sizeof path);
+    int fd = open(path, O_RDWR | O_CLOEXEC);
+    uint8_t byte = 0;
+    CHECK(fd >= 0 && pread(fd, &byte, 1, 0x123) == 1 && byte == 0x77);
+    CHECK(ftruncate(fd, 0) < 0 && errno == EPERM && ftruncate(fd, 0x20000) < 0 && errno == EPERM); /* its length is sealed */
+    /* a region of QEMU's, by another descriptor of the same file */
+    proxy_region region = {0, 0x10000, 0, fd};
+    CHECK(memory_holds(&a, &region, &host) && host == 0x100000 && !memory_holds(&b, &region, &host));
+    region = (proxy_region){0xc0000, 0x1000, 0xf000, fd};
+    CHECK(memory_holds(&a, &region, &host) && host == 0x10f000);
+    region.length = 0x2000;
+    CHECK(!memory_holds(&a, &region, &host));
+    region = (proxy_region){0, 0x1000, 0x11000, fd};
+    CHECK(!memory_holds(&a, &region, &host));
+    region = (proxy_region){0, UINT64_MAX - 0xfff, 0x1000, fd};
+    CHECK(!memory_holds(&a, &region, &host));
+    region = (proxy_region){0, 0x1000, 0, -1};
+    CHECK(!memory_holds(&a, &region, &host));
+    close(fd);
+    memory_close(&a);
+    memory_close(&a);
+    CHECK(!memory_holds(&a, &(proxy_region){0, 0x1000, 0, b.fd}, &host) && row.bytes[0x100123] == 0x77);
+    memory_close(&b);
+    memory_release(&row);
+    memory_release(&row);
+    CHECK(open_descriptors() == before);
+}
+
+static void refused(const char *path, uint64_t address, uint64_t length, const char *part) {
+    memory_file m;
+    window before = row.mapped;
+    unsigned descriptors = open_descriptors();
+    CHECK(!memory_add(&m, &row, path, address, length, &r));
+    CHECK_HAS(r.text, part);
+    CHECK(m.fd == -1 && !memcmp(&row.mapped, &before, sizeof before) && open_descriptors() == descriptors);
+}
+
+static void test_named(void) {
+    char folder[] = "/tmp/host-memory-XXXXXX", path[80], link[80];
+    memory_file m;
+    struct stat about;
+    CHECK(mkdtemp(folder) != NULL);
+    snprintf(path, sizeof path, "%s/m", folder);
+    snprintf(link, sizeof link, "%s/l", folder);
+    CHECK(memory_reserve(&row, 1 << 24, &r));
+    CHECK_MORE(memory_add(&m, &row, path, 0x1000, 0x4000, &r), r.text);
+    CHECK(stat(path, &about) == 0 && about.st_size == 0x4000 && (about.st_mode & 0777) == 0600);
+    row.bytes[0x1000] = 5;
+    memory_close(&m);
+    /* it is there the second time */
+    CHECK(memory_add(&m, &row, path, 0x8000, 0x4000, &r) && row.bytes[0x8000] == 5);
+    memory_close(&m);
+    refused(path, 0x10000, 0x5000, "has 16384 bytes, not 20480");
+    refused("/dev/null", 0x10000, 0x1000, "/dev/null: is no regular file");
+    refused("/tmp", 0x10000, 0x1000, "/tmp: cannot open: Is a directory");
+    refused("/tmp/no/such", 0x10000, 0x1000, "cannot open: No such file or directory");
+    CHECK(symlink(path, link) == 0);
+    refused(link, 0x10000, 0x4000, "cannot open: Too many levels of symbolic links");
+    refused(NULL, 0x1000, 0x1000, "meet");
+    refused(NULL, 0, 0x2000, "meet");
+    refused(NULL, 0x10001, 0x1000, "not of whole pages");
+    refused(NULL, 0x10000, 0, "is empty");
+    refused(NULL, 0xfff000, 0x2000, "not in the reserved row");
+    refused(NULL, 1 << 25, 0x1000, "not in the reserved row");
+    refused(NULL, 0x1000, UINT64_MAX - 0xfff, "not in the reserved row");
+    memory_release(&row);
+    refused(NULL, 0x20000, 0x1000, "not in the reserved row");
+    CHECK(unlink(path) == 0 && unlink(link) == 0 && rmdir(folder) == 0);
+    CHECK(!memory_reserve(&row, 0, &r) && !memory_reserve(&row, 4095, &r) && !memory_reserve(&row, UINT64_MAX - 4095, &r));
+    CHECK(!memory_reserve(&row, WINDOW_END, &r) && row.bytes == NULL);
+    CHECK_HAS(r.text, "cannot be reserved");
+}
+
+int main(void) {
+    test_own();
+    test_named();
+    return checks_end();
+}
