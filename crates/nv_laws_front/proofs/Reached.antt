@@ -7,7 +7,7 @@ use Rattle.nv_core.specs.Front.{IsBeside, IsLive, IsStepBeside, Side, opening_si
 use Rattle.nv_laws.proofs.headline.Each.{promise-kept}
 use Rattle.nv_laws.specs.Alike.{HasFittingStatus}
 use Rattle.nv_laws_front.specs.Reached.{IsReached}
-use Rattle.nv_laws_sound.proofs.LaidOuts.{laid-out}
+use Rattle.nv_laws_sound.proofs.LaidOuts.{host-laid-out}
 use Rattle.nv_laws_sound.proofs.Openings.{opening-consistent}
 use Rattle.nv_laws_sound.proofs.Steps.{replay-consistent}
 use Rattle.nv_laws_sound.proofs.phases.Steps.{opening-phased, replay-phased}
@@ -24,7 +24,7 @@ use Rattle.nv_world_model.specs.declared.logged.Logged.{Logged}
 use Rattle.nv_world_model.specs.Geometry.{Geometry, Guest}
 use Rattle.nv_world_model.specs.Headline.{Headline}
 use Rattle.nv_world_model.specs.Log.{IsReplay, events_of}
-use Rattle.nv_world_model.specs.SetUp.{SetUp, refusal_of, world_at_start}
+use Rattle.nv_world_model.specs.SetUp.{SetUp, host_refusal_of, world_at_start}
 use Rattle.nv_world_model.specs.Step.{After, replay, replies, step}
 use Rattle.nv_world_model.specs.World.{World, opening_lane, opening_world}
 
@@ -91,12 +91,12 @@ controller-reached s e side before after log z his fits so host =
     (controller-beside s.geometry e his side before after z so.beside host)
 
 -- as events leave it
-pub reached-live : (s : SetUp) (side : Side) (memory : List ℕ) (log : List Logged) (z : World) → refusal_of s ≡ None
+pub reached-live : (s : SetUp) (side : Side) (memory : List ℕ) (log : List Logged) (z : World) → host_refusal_of s ≡ None
     → ((number : ℕ) (guest : Guest) → slice_get s.geometry.guests number ≡ Some guest → IsSound guest.memory_map)
     → IsReached s side memory log z → IsLive s.geometry z
 unfolding opening_world
 reached-live s side memory log z none sound so =
-    let laid = subst (λ n. IsLaidOut s.host_bytes n s.geometry) (sym (length-replicate s.lanes opening_lane)) (laid-out s none sound) in
+    let laid = subst (λ n. IsLaidOut s.host_bytes n s.geometry) (sym (length-replicate s.lanes opening_lane)) (host-laid-out s none sound) in
     let opening = opening-consistent s.geometry s.lanes in
     let w : World = world_at_start s in
     subst (IsLive s.geometry) so.replayed.end
@@ -105,7 +105,7 @@ reached-live s side memory log z none sound so =
       phased = replay-phased s.host_bytes s.geometry (events_of log) w laid opening (opening-phased s.geometry s.lanes);
     })
 
-pub reached-promised : (s : SetUp) (side : Side) (memory : List ℕ) (log : List Logged) (z : World) → refusal_of s ≡ None
+pub reached-promised : (s : SetUp) (side : Side) (memory : List ℕ) (log : List Logged) (z : World) → host_refusal_of s ≡ None
     → ((number : ℕ) (guest : Guest) → slice_get s.geometry.guests number ≡ Some guest → IsSound guest.memory_map)
     → IsReached s side memory log z → Headline s log z
 reached-promised s side memory log z none sound so = promise-kept s log z none sound so.fitting so.replayed

@@ -11,7 +11,7 @@ ghost use Rattle.nv_model.specs.Memory.{byte_in};
 ghost use Rattle.nv_model.specs.declared.reply.Reply.{Reply};
 ghost use Rattle.nv_world_model.specs.Geometry.{Geometry, Guest};
 ghost use Rattle.nv_world_model.specs.Headline.{Headline};
-ghost use Rattle.nv_world_model.specs.SetUp.{SetUp, refusal_of, world_at_start};
+ghost use Rattle.nv_world_model.specs.SetUp.{SetUp, host_refusal_of, world_at_start};
 ghost use Rattle.nv_world_model.specs.Step.{step};
 ghost use Rattle.nv_world_model.specs.World.{World};
 ghost use Rattle.nv_world_model.specs.declared.event.Event.{Event};
@@ -38,7 +38,7 @@ pub fn what_the_controller_does_is_one_more_event()
 
 /// A world that is reached is as events leave it, as a Reap needs it.
 pub fn a_world_that_is_reached_is_live()
-    ensures { (s : SetUp) (side : Side) (memory : List ℕ) (log : List Logged) (z : World) → refusal_of s ≡ None →
+    ensures { (s : SetUp) (side : Side) (memory : List ℕ) (log : List Logged) (z : World) → host_refusal_of s ≡ None →
         ((number : ℕ) (guest : Guest) → slice_get s.geometry.guests number ≡ Some guest → IsSound guest.memory_map) →
         IsReached s side memory log z → IsLive s.geometry z }
 {}
@@ -46,7 +46,7 @@ pub fn a_world_that_is_reached_is_live()
 /// And it keeps the whole promise: what each disciplined guest none of whose commands failed has seen, and has, is a run of its own private controller's,
 /// and each event is contained.
 pub fn a_front_keeps_the_promise()
-    ensures { (s : SetUp) (side : Side) (memory : List ℕ) (log : List Logged) (z : World) → refusal_of s ≡ None →
+    ensures { (s : SetUp) (side : Side) (memory : List ℕ) (log : List Logged) (z : World) → host_refusal_of s ≡ None →
         ((number : ℕ) (guest : Guest) → slice_get s.geometry.guests number ≡ Some guest → IsSound guest.memory_map) →
         IsReached s side memory log z → Headline s log z }
 {}

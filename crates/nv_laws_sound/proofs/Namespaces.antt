@@ -14,7 +14,7 @@ use Rattle.nv_ns.proofs.Spelled.{place_in-beyond, place_in-here}
 use Rattle.nv_model.specs.Judge.{range_fits}
 use Rattle.nv_world_model.specs.Area.{first_base, range_place}
 use Rattle.nv_world_model.specs.Geometry.{Guest}
-use Rattle.nv_world_model.specs.SetUp.{most_disk_blocks}
+use Rattle.nv_world_model.specs.SetUp.{host_limits}
 use Rattle.nv_world_model.specs.View.{in_extents}
 use Rattle.nv_laws_sound.specs.LaidOut.{IsGiven}
 
@@ -163,7 +163,7 @@ first_base-most disk_blocks (extent ∷ rest) each =
 
 -- where a guest's range lies, also one of no blocks, is a number of 64 bits
 pub range_place-ends : (host_bytes disk_blocks : ℕ) (guest : Guest) (range : List ℕ) → IsGiven host_bytes disk_blocks guest
-    → disk_blocks ≤ most_disk_blocks → start_of range + blocks_of range ≤ blocks_in guest.namespace → range_place guest.namespace range < 2 ^ 64
+    → disk_blocks ≤ host_limits.disk_blocks → start_of range + blocks_of range ≤ blocks_in guest.namespace → range_place guest.namespace range < 2 ^ 64
 range_place-ends host_bytes disk_blocks guest range given few within = at (blocks_of range == 0)
   where
     at : (none : Bool)
@@ -174,13 +174,6 @@ range_place-ends host_bytes disk_blocks guest range given few within = at (block
     at false = (let inside = place-fits host_bytes disk_blocks (start_of range) guest given in omega (arith, inside, few))
 
 pub range_place-fits : (host_bytes disk_blocks : ℕ) (guest : Guest) (range : List ℕ) → IsGiven host_bytes disk_blocks guest
-    → disk_blocks ≤ most_disk_blocks → range_fits (blocks_in guest.namespace) range ≡ true → range_place guest.namespace range < 2 ^ 64
+    → disk_blocks ≤ host_limits.disk_blocks → range_fits (blocks_in guest.namespace) range ≡ true → range_place guest.namespace range < 2 ^ 64
 range_place-fits host_bytes disk_blocks guest range given few fits =
     range_place-ends host_bytes disk_blocks guest range given few (range-within (blocks_in guest.namespace) range fits)
-
--- and so few are its blocks that 32 bits hold their number
-pub range-short : (host_bytes disk_blocks : ℕ) (guest : Guest) (range : List ℕ) → IsGiven host_bytes disk_blocks guest
-    → disk_blocks ≤ most_disk_blocks → range_fits (blocks_in guest.namespace) range ≡ true → blocks_of range < 2 ^ 32
-range-short host_bytes disk_blocks guest range given few fits =
-    let within = range-within (blocks_in guest.namespace) range fits in
-    let most = blocks-few host_bytes disk_blocks guest given in omega (arith, within, most, few)

@@ -36,7 +36,7 @@ use Rattle.nv_laws_sound.specs.LaidOut.{IsLaidOut}
 use Rattle.nv_laws_sound.proofs.EntryFields.{form-back, form-start, own_units}
 use Rattle.nv_laws_sound.proofs.Lists.{slice_get-there}
 use Rattle.nv_laws_sound.proofs.Named.{row-all}
-use Rattle.nv_laws_sound.proofs.Namespaces.{AreOwn, blocks-few, place-fits, place-own, range_place-ends}
+use Rattle.nv_laws_sound.proofs.Namespaces.{AreOwn, place-fits, place-own, range_place-ends}
 use Rattle.nv_laws_sound.proofs.Numbers.{all-at}
 use Rattle.nv_laws_sound.proofs.OwnRows.{IsRangeRow}
 use Rattle.nv_laws_sound.proofs.OwnWork.{IsOwn, IsRow, own-of, own_len}
@@ -230,9 +230,7 @@ module _ (host_bytes lanes : ℕ) (geometry : Geometry) (laid : IsLaidOut host_b
     -- which lies in a row
     pub range-lies : form_of is.work.opcode ≡ Manage → (range : List ℕ) → slice_get own.ranges number ≡ Some range → IsRangeRow guest.namespace range
     range-lies form range found =
-        let most = blocks-few host_bytes geometry.disk_blocks guest (laid.given owner guest given) in
-        let few = laid.few_blocks in
-        all-at (IsRangeRow guest.namespace) own.ranges number range (part.rows form (omega (arith, most, few))) found
+        all-at (IsRangeRow guest.namespace) own.ranges number range (part.rows form (laid.given owner guest given).small) found
 
     -- the device reads it as the disk has it
     pub range-read : form_of is.work.opcode ≡ Manage → (range : List ℕ) → slice_get own.ranges number ≡ Some range
@@ -261,12 +259,12 @@ module _ (host_bytes lanes : ℕ) (geometry : Geometry) (laid : IsLaidOut host_b
     range-fields form range found =
         let within = (range-lies form range found).within in
         let is_given = laid.given owner guest given in
-        let most = blocks-few host_bytes geometry.disk_blocks guest is_given in
         let few = laid.few_blocks in
+        let small = is_given.small in
         let read = range-read form range found in (
           ap start_of read
               ∙ translated-start guest.namespace range (range_place-ends host_bytes geometry.disk_blocks guest range is_given few within),
-          ap blocks_of read ∙ translated-blocks guest.namespace range (omega (arith, within, most, few)),
+          ap blocks_of read ∙ translated-blocks guest.namespace range (omega (arith, within, small)),
         )
 
     -- each of its blocks is where the guest's lies

@@ -1,5 +1,5 @@
 -- Worked examples: what of a world is shown to a guest, the world cut down to it, and set-ups that are refused
-use Rattle.std.specs.Prelude.{ℕ, ◌+◌, ◌*◌, List, [], ◌∷◌, map, replicate, slice_set, true, false, Option, Some, None}
+use Rattle.std.specs.Prelude.{ℕ, ◌+◌, ◌-◌, ◌*◌, List, [], ◌∷◌, map, replicate, slice_set, true, false, Option, Some, None}
 use Rattle.std.specs.List.{range_with_len}
 use Rattle.nv_entry.specs.declared.opcode.IoOpcode.TheVariants as opcode
 use Rattle.nv_mem.specs.declared.piece.Piece.{Piece}
@@ -17,7 +17,7 @@ use Rattle.nv_world_model.specs.Device.{Held}
 use Rattle.nv_world_model.specs.Geometry.{Guest}
 use Rattle.nv_world_model.specs.Plan.{Direct, Plan}
 use Rattle.nv_world_model.specs.Rows.{behind, controller_with, guest_at, one_command, set_up, two_commands}
-use Rattle.nv_world_model.specs.SetUp.{Refusal, SetUp, refusal_of}
+use Rattle.nv_world_model.specs.SetUp.{Refusal, SetUp, host_refusal_of, refusal_of}
 use Rattle.nv_world_model.specs.View.{SharedNumbers, Span, shown}
 use Rattle.nv_world_model.specs.World.{Flying, InDevice, Tag, World}
 
@@ -163,6 +163,12 @@ disk_refused disk_blocks base blocks =
             guests = guest_of 0x100000 (extent_at base blocks ∷ []) ∷ [];
           };
     })
+
+-- why a host with so many bytes and a drive of so many blocks, the last of them one guest's, is refused
+abbrev pub large_refused : (host_bytes disk_blocks blocks : ℕ) → Option Refusal
+large_refused host_bytes disk_blocks blocks =
+    (let s = sized host_bytes 1 0x400000 (guest_of 0x100000 (extent_at (disk_blocks - blocks) blocks ∷ []) ∷ []) in
+    host_refusal_of (record s { geometry = record s.geometry { disk_blocks = disk_blocks } }))
 
 -- a guest with this limit of descriptors
 abbrev pub guest_with_limit : (limit : ℕ) → Guest

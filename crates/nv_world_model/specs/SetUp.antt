@@ -1,9 +1,9 @@
 -- Which set-ups make a world (profile): guests whose blocks and memory are apart, within the project's limits.
-use Rattle.std.specs.Prelude.{ℕ, ◌+◌, ◌*◌, ◌%◌, Bool, false, not, ◌&&◌, ◌||◌, ◌==◌, nat_le, nat_lt, if◌then◌else◌, List, [], ◌∷◌, flat_map, length, Option, Some, None}
+use Rattle.std.specs.Prelude.{ℕ, ◌+◌, ◌*◌, ◌%◌, ◌^◌, Bool, false, not, ◌&&◌, ◌||◌, ◌==◌, nat_le, nat_lt, if◌then◌else◌, List, [], ◌∷◌, flat_map, length, Option, Some, None}
 use Rattle.std.specs.List.{list_all, list_any}
 use Rattle.nv_mem.specs.GuestMap.{hosts_meet, span_met, spans_meet}
 use Rattle.nv_ns.specs.BlockRange.{Extent}
-use Rattle.nv_ns.specs.Extents.{most_extents}
+use Rattle.nv_ns.specs.Extents.{blocks_in, most_extents}
 use Rattle.nv_model.specs.Limits.{page}
 use Rattle.nv_world_model.specs.Area.{lane_pages}
 use Rattle.nv_world_model.specs.Geometry.{Geometry, Guest, regions_of}
@@ -33,11 +33,22 @@ most_regions = 64
 abbrev pub most_lanes : ℕ
 most_lanes = 8
 
-abbrev pub most_host_bytes : ℕ
-most_host_bytes = 1073741824
+-- the most bytes of a host's memory, and the most blocks of a disk
+pub record Limits : Type 0 where
+  pub host_bytes : ℕ
+  pub disk_blocks : ℕ
 
-abbrev pub most_disk_blocks : ℕ
-most_disk_blocks = 2097152
+-- those of scripts, whose memory and disk are made for them
+abbrev pub script_limits : Limits
+script_limits = record { host_bytes = 1073741824; disk_blocks = 2097152 }
+
+-- those of a host that has memory and a drive of its own
+abbrev pub host_limits : Limits
+host_limits = record { host_bytes = 2 ^ 47; disk_blocks = 2 ^ 48 }
+
+-- the most blocks of a guest's namespace: as many as the 32 bits of a range of Dataset Management can name
+abbrev pub most_namespace_blocks : ℕ
+most_namespace_blocks = 4294967295
 
 -- the most descriptors of a list that a guest may be given
 abbrev pub most_limit : ℕ
@@ -75,9 +86,9 @@ abbrev pub between : (low high number : ℕ) → Bool
 between low high number = nat_le low number && nat_le number high
 
 -- whether the host and the mediator's area in it have a size that may be
-abbrev pub host_fits : SetUp → Bool
-host_fits s =
-    s.host_bytes % page == 0 && between page most_host_bytes s.host_bytes && between 1 most_lanes s.lanes
+abbrev pub host_fits : Limits → SetUp → Bool
+host_fits limits s =
+    s.host_bytes % page == 0 && between page limits.host_bytes s.host_bytes && between 1 most_lanes s.lanes
     && s.geometry.mediator % page == 0 && nat_le (s.geometry.mediator + area_bytes s) s.host_bytes
 
 -- whether an extent has at least one block, all on the disk
@@ -92,18 +103,31 @@ guest_fits s g =
     && between 1 most_extents (length g.namespace) && list_all (extent_fits s) g.namespace
     && between 1 most_limit g.limit
 
--- whether all sizes may be
-abbrev pub sizes_fit : SetUp → Bool
-sizes_fit s =
-    host_fits s && between 1 most_disk_blocks s.geometry.disk_blocks && list_all (guest_fits s) s.geometry.guests
+-- whether a guest's namespace may have as many blocks as it has
+abbrev pub namespace_fits : Guest → Bool
+namespace_fits g = nat_le (blocks_in g.namespace) most_namespace_blocks
 
--- the first reason that applies, or none
-unfoldable pub refusal_of : SetUp → Option Refusal
-refusal_of s =
+-- whether all sizes may be
+abbrev pub sizes_fit : Limits → SetUp → Bool
+sizes_fit limits s =
+    host_fits limits s && between 1 limits.disk_blocks s.geometry.disk_blocks && list_all (guest_fits s) s.geometry.guests
+    && list_all namespace_fits s.geometry.guests
+
+-- the first reason that applies within these limits, or none
+abbrev pub refusal_within : Limits → SetUp → Option Refusal
+refusal_within limits s =
     if nat_lt most_guests (length s.geometry.guests) then Some TooManyGuests else
     if any_two blocks_meet (all_extents s.geometry.guests) then Some ExtentsMeet else
     if any_two maps_meet s.geometry.guests || list_any (meets_area s) s.geometry.guests then Some MapsMeet else
-    if not (sizes_fit s) then Some BadSize else None
+    if not (sizes_fit limits s) then Some BadSize else None
+
+-- of a script's set-up
+unfoldable pub refusal_of : SetUp → Option Refusal
+refusal_of s = refusal_within script_limits s
+
+-- of a host's
+unfoldable pub host_refusal_of : SetUp → Option Refusal
+host_refusal_of s = refusal_within host_limits s
 
 -- the world that a set-up makes
 abbrev pub world_at_start : SetUp → World

@@ -34,7 +34,6 @@ use Rattle.nv_laws_sound.proofs.TakenEvents.{queued-at, took-world}
 use Rattle.nv_laws.proofs.others.Behind.{retagged-by}
 use Rattle.nv_laws.proofs.others.Parts.{held-put}
 use Rattle.nv_laws.proofs.others.RingEvents.{front-is}
-use Rattle.nv_laws_sound.proofs.Namespaces.{blocks-few}
 use Rattle.nv_laws.specs.Following.{GoesAlong, IsReached}
 use Rattle.nv_laws.specs.Related.{IsUnderWay, Related, form_has_bytes, is_left, left_where, plan_hides}
 use Rattle.nv_laws.proofs.related.Keeping.{row-any}
@@ -110,9 +109,7 @@ module _ (guest : Guest) (entry : List ℕ) (share : Share) (is : IsPlanned gues
 module _ (host_bytes : ℕ) (geometry : Geometry) (number : ℕ) (guest : Guest) (given : slice_get geometry.guests number ≡ Some guest)
     (w : World) (reached : IsReached host_bytes geometry w) (p : Private) (related : Related geometry number guest w p) where
   few_here : blocks_in guest.namespace < 2 ^ 32
-  few_here =
-      let most = blocks-few host_bytes geometry.disk_blocks guest (reached.laid.given number guest given) in
-      let few = reached.laid.few_blocks in omega (arith, most, few)
+  few_here = (reached.laid.given number guest given).small
 
   -- ---- takes
 

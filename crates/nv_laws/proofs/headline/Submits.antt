@@ -34,7 +34,6 @@ use Rattle.nv_laws_sound.specs.Consistent.{IsPlanned}
 use Rattle.nv_laws_sound.proofs.CountedActs.{HasLane, lane-of}
 use Rattle.nv_laws_sound.proofs.Folds.{HasTag, group-distinct}
 use Rattle.nv_laws_sound.proofs.Lists.{slice_get-below, slice_get-there, some-same}
-use Rattle.nv_laws_sound.proofs.Namespaces.{blocks-few}
 use Rattle.nv_laws_sound.proofs.Numbers.{AreDistinct}
 use Rattle.nv_laws_sound.proofs.Planned.{IsOf, IsWhole, shares-count, shares-planned, shares-whole}
 use Rattle.nv_laws_sound.proofs.PlanSizes.{go_plan-kinds}
@@ -132,9 +131,7 @@ module _ (host_bytes : ℕ) (geometry : Geometry) (number : ℕ) (guest : Guest)
     taken = taken-tags geometry w lane tag l.l command reads l.at (reached.consistent.groups lane l.l l.at) there (eqb-true command.leader tag leads)
 
     few : blocks_in guest.namespace < 2 ^ 32
-    few =
-        let most = blocks-few host_bytes geometry.disk_blocks guest (reached.laid.given number guest given) in
-        let small = reached.laid.few_blocks in omega (arith, most, small)
+    few = (reached.laid.given number guest given).small
 
     abbrev judged-to : Work → Private
     judged-to work = judged host_bytes geometry number guest given w reached p related lane tag ordered command reads there leads own (AtWork work (numbers_of work) false)

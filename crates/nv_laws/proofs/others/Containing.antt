@@ -11,7 +11,7 @@ use Rattle.nv_world_model.specs.CutDown.{cut}
 use Rattle.nv_world_model.specs.Geometry.{Geometry, Guest}
 use Rattle.nv_world_model.specs.Headline.{AreContained}
 use Rattle.nv_world_model.specs.Seat.{held_in}
-use Rattle.nv_world_model.specs.SetUp.{SetUp, refusal_of}
+use Rattle.nv_world_model.specs.SetUp.{SetUp, host_refusal_of}
 use Rattle.nv_world_model.specs.Step.{step}
 use Rattle.nv_world_model.specs.View.{IsAlike, is_tag_of}
 use Rattle.nv_world_model.specs.World.{World, opening_lane, opening_world, tag_of}
@@ -19,7 +19,7 @@ use Rattle.nv_world_model.specs.SetUp.{world_at_start}
 use Rattle.nv_world_model.proofs.Replies.{step-answers}
 use Rattle.nv_laws_sound.specs.Consistent.{IsConsistent}
 use Rattle.nv_laws_sound.specs.LaidOut.{IsLaidOut}
-use Rattle.nv_laws_sound.proofs.LaidOuts.{laid-out}
+use Rattle.nv_laws_sound.proofs.LaidOuts.{host-laid-out}
 use Rattle.nv_laws_sound.proofs.Lists.{some-same}
 use Rattle.nv_laws_sound.proofs.Openings.{opening-consistent}
 use Rattle.nv_laws_sound.proofs.ManyLanes.{lanes-kept}
@@ -108,10 +108,10 @@ logs-contained host_bytes geometry (l ∷ log) w laid fine fits = (
       (All-tail (λ x. HasFittingStatus x.event) l log fits),
 )
 
-pub contained-since : (s : SetUp) (log : List Logged) → refusal_of s ≡ None
+pub contained-since : (s : SetUp) (log : List Logged) → host_refusal_of s ≡ None
     → ((number : ℕ) (guest : Guest) → slice_get s.geometry.guests number ≡ Some guest → IsSound guest.memory_map)
     → All (λ l. HasFittingStatus l.event) log → AreContained s.geometry log (world_at_start s)
 unfolding opening_world
 contained-since s log none sound fits =
     logs-contained s.host_bytes s.geometry log (world_at_start s)
-    (subst (λ n. IsLaidOut s.host_bytes n s.geometry) (sym (length-replicate s.lanes opening_lane)) (laid-out s none sound)) (opening-consistent s.geometry s.lanes) fits
+    (subst (λ n. IsLaidOut s.host_bytes n s.geometry) (sym (length-replicate s.lanes opening_lane)) (host-laid-out s none sound)) (opening-consistent s.geometry s.lanes) fits

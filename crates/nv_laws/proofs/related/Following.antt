@@ -16,7 +16,7 @@ use Rattle.nv_world_model.specs.Geometry.{Geometry, Guest, shape_of}
 use Rattle.nv_world_model.specs.Headline.{IsPrivateRun, fails, is_failure, none_failed}
 use Rattle.nv_world_model.specs.Log.{IsReplay, events_of}
 use Rattle.nv_world_model.specs.PrivateSteps.{act_of, private_steps, seen_by, steps_of, with_act}
-use Rattle.nv_world_model.specs.SetUp.{SetUp, refusal_of}
+use Rattle.nv_world_model.specs.SetUp.{SetUp, host_refusal_of}
 use Rattle.nv_world_model.specs.Step.{is_done, replay, replies, step}
 use Rattle.nv_world_model.specs.World.{World, is_that, opening_lane, opening_world}
 use Rattle.nv_world_model.specs.SetUp.{world_at_start}
@@ -24,7 +24,7 @@ use Rattle.nv_laws_sound.specs.Consistent.{IsConsistent}
 use Rattle.nv_laws_sound.specs.LaidOut.{IsLaidOut}
 use Rattle.nv_laws_sound.proofs.CountedSteps.{step-counted}
 use Rattle.nv_laws_sound.proofs.CountedRuns.{opening-counted}
-use Rattle.nv_laws_sound.proofs.LaidOuts.{laid-out}
+use Rattle.nv_laws_sound.proofs.LaidOuts.{host-laid-out}
 use Rattle.nv_laws_sound.proofs.Openings.{opening-consistent}
 use Rattle.nv_laws_sound.proofs.ManyLanes.{lanes-kept}
 use Rattle.nv_laws_sound.proofs.Steps.{replay-consistent, step-consistent}
@@ -44,13 +44,13 @@ step-reached host_bytes geometry e w is =
       counted = step-counted host_bytes geometry e w is.laid is.consistent is.counted;
     }
 
-pub start-reached : (s : SetUp) → refusal_of s ≡ None
+pub start-reached : (s : SetUp) → host_refusal_of s ≡ None
     → ((number : ℕ) (guest : Guest) → slice_get s.geometry.guests number ≡ Some guest → IsSound guest.memory_map)
     → IsReached s.host_bytes s.geometry (world_at_start s)
 unfolding opening_world
 start-reached s none sound =
     record {
-      laid = subst (λ n. IsLaidOut s.host_bytes n s.geometry) (sym (length-replicate s.lanes opening_lane)) (laid-out s none sound);
+      laid = subst (λ n. IsLaidOut s.host_bytes n s.geometry) (sym (length-replicate s.lanes opening_lane)) (host-laid-out s none sound);
       consistent = opening-consistent s.geometry s.lanes;
       counted = opening-counted s.geometry s.lanes;
     }
@@ -138,7 +138,7 @@ module _ (geometry : Geometry) (host_bytes number : ℕ) (guest : Guest) (given 
       (record { end = replayed.end; told = ap rest_replies replayed.told }) one.related)
 
 -- from a set-up on
-pub private-run : (s : SetUp) (log : List Logged) (z : World) (number : ℕ) (guest : Guest) → refusal_of s ≡ None
+pub private-run : (s : SetUp) (log : List Logged) (z : World) (number : ℕ) (guest : Guest) → host_refusal_of s ≡ None
     → ((other : ℕ) (given : Guest) → slice_get s.geometry.guests other ≡ Some given → IsSound given.memory_map)
     → slice_get s.geometry.guests number ≡ Some guest → EachEventIsFollowed s.geometry s.host_bytes number guest
     → none_failed s.geometry number log (world_at_start s) ≡ true → is_disciplined s.geometry number guest log (world_at_start s) ≡ true

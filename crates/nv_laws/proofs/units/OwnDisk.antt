@@ -26,7 +26,7 @@ use Rattle.nv_laws_sound.specs.Consistent.{IsInDevice}
 use Rattle.nv_laws_sound.specs.LaidOut.{IsLaidOut}
 use Rattle.nv_laws_sound.proofs.EntryFields.{form-back, form-start, own_units as units_counted}
 use Rattle.nv_laws_sound.proofs.Lists.{slice_get-there}
-use Rattle.nv_laws_sound.proofs.Namespaces.{AreOwn, blocks-few, place-fits, place-own, range_place-fits}
+use Rattle.nv_laws_sound.proofs.Namespaces.{AreOwn, place-fits, place-own, range_place-fits}
 use Rattle.nv_laws_sound.proofs.OnDisk.{among, row-bytes, shown-range, translated-blocks, translated-start}
 use Rattle.nv_laws_sound.proofs.OwnRows.{IsRangeRow}
 use Rattle.nv_laws_sound.proofs.OwnWork.{IsRow, own_len}
@@ -83,9 +83,7 @@ module _ (host_bytes lanes : ℕ) (geometry : Geometry) (laid : IsLaidOut host_b
       (each (prps_of (Bounced own) guest (list_page geometry.mediator lane tag) bounce))
 
   pub few-blocks : blocks_in guest.namespace < 2 ^ 32
-  few-blocks =
-      let most = blocks-few host_bytes geometry.disk_blocks guest (laid.given owner guest given) in
-      let few = laid.few_blocks in omega (arith, most, few)
+  few-blocks = (laid.given owner guest given).small
 
   -- ---- blocks
 

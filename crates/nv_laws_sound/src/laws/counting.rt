@@ -3,7 +3,7 @@
 ghost use Rattle.std.specs.Prelude.{◌≡◌, ℕ, List, Some, None, length, slice_get};
 ghost use Rattle.nv_mem.specs.GuestMap.{IsSound};
 ghost use Rattle.nv_world_model.specs.Geometry.{Geometry, Guest};
-ghost use Rattle.nv_world_model.specs.SetUp.{SetUp, refusal_of};
+ghost use Rattle.nv_world_model.specs.SetUp.{SetUp, host_refusal_of};
 ghost use Rattle.nv_world_model.specs.Step.{replay, step};
 ghost use Rattle.nv_world_model.specs.World.{World};
 ghost use Rattle.nv_world_model.specs.SetUp.{world_at_start};
@@ -20,7 +20,7 @@ pub fn controllers_count_their_commands()
         IsConsistent geometry w → IsCounted geometry w → IsCounted geometry (step geometry e w).world }
     ensures events { (host_bytes : ℕ) (geometry : Geometry) (events : List Event) (w : World) →
         IsLaidOut host_bytes (length w.lanes) geometry → IsConsistent geometry w → IsCounted geometry w → IsCounted geometry (replay geometry events w) }
-    ensures from_start { (s : SetUp) (events : List Event) → refusal_of s ≡ None →
+    ensures from_start { (s : SetUp) (events : List Event) → host_refusal_of s ≡ None →
         ((number : ℕ) (guest : Guest) → slice_get s.geometry.guests number ≡ Some guest → IsSound guest.memory_map) →
         IsCounted s.geometry (replay s.geometry events (world_at_start s)) }
 {}

@@ -11,7 +11,7 @@ ghost use Rattle.nv_laws_sound.specs.Consistent.{IsConsistent};
 ghost use Rattle.nv_laws_sound.specs.LaidOut.{IsLaidOut};
 ghost use Rattle.nv_world_model.specs.Device.{DeviceLane};
 ghost use Rattle.nv_world_model.specs.Geometry.{Geometry, Guest};
-ghost use Rattle.nv_world_model.specs.SetUp.{SetUp, refusal_of, world_at_start};
+ghost use Rattle.nv_world_model.specs.SetUp.{SetUp, host_refusal_of, world_at_start};
 ghost use Rattle.nv_world_model.specs.Step.{replay, step};
 ghost use Rattle.nv_world_model.specs.World.{Lane, World};
 ghost use Rattle.nv_world_model.specs.declared.event.Event.{Event};
@@ -21,7 +21,7 @@ pub fn slots_have_their_passes_phase_tag()
     ensures start { (s : SetUp) → ArePhased s.geometry (world_at_start s) }
     ensures step { (host_bytes : ℕ) (geometry : Geometry) (e : Event) (w : World) → IsLaidOut host_bytes (length w.lanes) geometry →
         IsConsistent geometry w → ArePhased geometry w → ArePhased geometry (step geometry e w).world }
-    ensures from_start { (s : SetUp) (events : List Event) → refusal_of s ≡ None →
+    ensures from_start { (s : SetUp) (events : List Event) → host_refusal_of s ≡ None →
         ((number : ℕ) (guest : Guest) → slice_get s.geometry.guests number ≡ Some guest → IsSound guest.memory_map) →
         ArePhased s.geometry (replay s.geometry events (world_at_start s)) }
 {}
@@ -29,7 +29,7 @@ pub fn slots_have_their_passes_phase_tag()
 /// So a completion is there to be reaped, where the device's place differs from the mediator's, exactly where the slot that the mediator comes
 /// to next has the phase tag that it wants.
 pub fn a_phase_tag_tells_what_is_to_be_reaped()
-    ensures { (s : SetUp) (events : List Event) (lane : ℕ) (l : Lane) (d : DeviceLane) → refusal_of s ≡ None →
+    ensures { (s : SetUp) (events : List Event) (lane : ℕ) (l : Lane) (d : DeviceLane) → host_refusal_of s ≡ None →
         ((number : ℕ) (guest : Guest) → slice_get s.geometry.guests number ≡ Some guest → IsSound guest.memory_map) →
         slice_get (replay s.geometry events (world_at_start s)).lanes lane ≡ Some l →
         slice_get (replay s.geometry events (world_at_start s)).device lane ≡ Some d →

@@ -1,8 +1,8 @@
 //! Set-ups that make a world, and why others are refused.
 
-ghost use Rattle.std.specs.Prelude.{◌≡◌, [], ◌∷◌, ◌++◌, Some, None};
+ghost use Rattle.std.specs.Prelude.{◌≡◌, [], ◌∷◌, ◌++◌, ◌+◌, ◌^◌, Some, None};
 ghost use Rattle.nv_world_model.specs.Rows.{guest_at};
-ghost use Rattle.nv_world_model.specs.RowsShown.{disk_refused, extent_at, extents_from, first_guest, guest_of, guest_of_regions, guest_with_limit, guests_refused};
+ghost use Rattle.nv_world_model.specs.RowsShown.{disk_refused, extent_at, extents_from, first_guest, guest_of, guest_of_regions, guest_with_limit, guests_refused, large_refused};
 ghost use Rattle.nv_world_model.specs.RowsShown.{refused, refused_of_another_host, second_guest, small_guests};
 ghost use Rattle.nv_world_model.specs.SetUp.{BadSize, MapsMeet, ExtentsMeet, TooManyGuests};
 
@@ -105,4 +105,12 @@ pub fn examples()
     ensures a_map_of_a_smaller_host { refused_of_another_host 0xfff000 ≡ Some BadSize }
     // One that was made for this host.
     ensures a_map_of_this_host { refused_of_another_host 0x1000000 ≡ None }
+    // The most bytes of a host that has memory and a drive of its own, and the most blocks of the drive and of a guest.
+    ensures a_host_and_a_drive_of_their_own { large_refused (2 ^ 47) (2 ^ 48) 4294967295 ≡ None }
+    // Memory of one page more.
+    ensures a_host_of_its_own_that_is_too_large { large_refused (2 ^ 47 + 4096) (2 ^ 48) 4294967295 ≡ Some BadSize }
+    // A drive of one block more.
+    ensures a_drive_that_is_too_large { large_refused (2 ^ 47) (2 ^ 48 + 1) 4294967295 ≡ Some BadSize }
+    // A guest's namespace of one block more.
+    ensures a_namespace_that_is_too_large { large_refused (2 ^ 47) (2 ^ 48) 4294967296 ≡ Some BadSize }
 {}

@@ -7,7 +7,7 @@ ghost use Rattle.nv_world_model.specs.declared.logged.Logged.{Logged};
 ghost use Rattle.nv_world_model.specs.Contained.{Contained};
 ghost use Rattle.nv_world_model.specs.Geometry.{Geometry, Guest};
 ghost use Rattle.nv_world_model.specs.Headline.{AreContained};
-ghost use Rattle.nv_world_model.specs.SetUp.{SetUp, refusal_of};
+ghost use Rattle.nv_world_model.specs.SetUp.{SetUp, host_refusal_of};
 ghost use Rattle.nv_world_model.specs.World.{World};
 ghost use Rattle.nv_world_model.specs.SetUp.{world_at_start};
 ghost use Rattle.nv_laws_sound.specs.Consistent.{IsConsistent};
@@ -21,7 +21,7 @@ pub fn every_event_is_contained()
         HasFittingStatus e → Contained geometry e w }
     ensures along { (host_bytes : ℕ) (geometry : Geometry) (log : List Logged) (w : World) → IsLaidOut host_bytes (length w.lanes) geometry →
         IsConsistent geometry w → All (λ l. HasFittingStatus l.event) log → AreContained geometry log w }
-    ensures from_start { (s : SetUp) (log : List Logged) → refusal_of s ≡ None →
+    ensures from_start { (s : SetUp) (log : List Logged) → host_refusal_of s ≡ None →
         ((number : ℕ) (guest : Guest) → slice_get s.geometry.guests number ≡ Some guest → IsSound guest.memory_map) →
         All (λ l. HasFittingStatus l.event) log → AreContained s.geometry log (world_at_start s) }
 {}

@@ -6,7 +6,7 @@ ghost use Rattle.nv_world_model.specs.declared.event.Event.{Event};
 ghost use Rattle.nv_world_model.specs.declared.event.Event.TheVariants as event;
 ghost use Rattle.nv_world_model.specs.Contained.{Contained, LeavesOthers, RaisesOne, owner};
 ghost use Rattle.nv_world_model.specs.Geometry.{Geometry, Guest};
-ghost use Rattle.nv_world_model.specs.SetUp.{SetUp, refusal_of};
+ghost use Rattle.nv_world_model.specs.SetUp.{SetUp, host_refusal_of};
 ghost use Rattle.nv_world_model.specs.Step.{replay, step};
 ghost use Rattle.nv_world_model.specs.World.{World};
 ghost use Rattle.nv_world_model.specs.SetUp.{world_at_start};
@@ -19,7 +19,7 @@ ghost use Rattle.nv_laws_sound.specs.LaidOut.{IsLaidOut};
 pub fn events_leave_others()
     ensures each { (host_bytes : ℕ) (geometry : Geometry) (w : World) (e : Event) → IsLaidOut host_bytes (length w.lanes) geometry → IsConsistent geometry w →
         LeavesOthers geometry (owner e w) w (step geometry e w).world }
-    ensures from_start { (s : SetUp) (events : List Event) (e : Event) → refusal_of s ≡ None →
+    ensures from_start { (s : SetUp) (events : List Event) (e : Event) → host_refusal_of s ≡ None →
         ((number : ℕ) (guest : Guest) → slice_get s.geometry.guests number ≡ Some guest → IsSound guest.memory_map) →
         let w = replay s.geometry events (world_at_start s) in
         LeavesOthers s.geometry (owner e w) w (step s.geometry e w).world }

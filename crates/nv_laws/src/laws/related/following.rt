@@ -8,7 +8,7 @@ ghost use Rattle.nv_world_model.specs.Disciplined.{is_disciplined};
 ghost use Rattle.nv_world_model.specs.Geometry.{Geometry, Guest};
 ghost use Rattle.nv_world_model.specs.Headline.{IsPrivateRun, none_failed};
 ghost use Rattle.nv_world_model.specs.Log.{IsReplay};
-ghost use Rattle.nv_world_model.specs.SetUp.{SetUp, refusal_of};
+ghost use Rattle.nv_world_model.specs.SetUp.{SetUp, host_refusal_of};
 ghost use Rattle.nv_world_model.specs.World.{World};
 ghost use Rattle.nv_world_model.specs.SetUp.{world_at_start};
 ghost use Rattle.nv_laws.specs.Following.{AreRestFollowed, EachEventIsFollowed, IsReached, LogIsFollowed};
@@ -21,7 +21,7 @@ pub fn logs_are_followed()
         EachEventIsFollowed geometry host_bytes number guest → IsReached host_bytes geometry w → slice_get geometry.guests number ≡ Some guest →
         none_failed geometry number log w ≡ true → is_disciplined geometry number guest log w ≡ true → IsReplay geometry w log z →
         Related geometry number guest w p → LogIsFollowed geometry number guest log w z p }
-    ensures from_start { (s : SetUp) (log : List Logged) (z : World) (number : ℕ) (guest : Guest) → refusal_of s ≡ None →
+    ensures from_start { (s : SetUp) (log : List Logged) (z : World) (number : ℕ) (guest : Guest) → host_refusal_of s ≡ None →
         ((other : ℕ) (given : Guest) → slice_get s.geometry.guests other ≡ Some given → IsSound given.memory_map) →
         slice_get s.geometry.guests number ≡ Some guest → EachEventIsFollowed s.geometry s.host_bytes number guest →
         none_failed s.geometry number log (world_at_start s) ≡ true → is_disciplined s.geometry number guest log (world_at_start s) ≡ true →

@@ -5,7 +5,7 @@ use Rattle.nv_world_model.specs.SetUp.{world_at_start}
 use Rattle.nv_laws_sound.specs.LaidOut.{IsLaidOut}
 use Rattle.nv_laws_sound.proofs.CountedSteps.{step-counted}
 use Rattle.nv_laws_sound.proofs.CountedRuns.{opening-counted, replay-counted}
-use Rattle.nv_laws_sound.proofs.LaidOuts.{laid-out}
+use Rattle.nv_laws_sound.proofs.LaidOuts.{host-laid-out}
 use Rattle.nv_laws_sound.proofs.Openings.{opening-consistent}
 use Rattle.nv_laws_sound.proofs.laws.counting.controllers_count_their_commands.Goals as goal
 
@@ -22,5 +22,5 @@ pub returns-clause-from_start : goal.returns-clause-from_start
 unfolding opening_world
 returns-clause-from_start c = λ s events none sound.
     replay-counted s.host_bytes s.geometry events (world_at_start s)
-    (subst (λ n. IsLaidOut s.host_bytes n s.geometry) (sym (length-replicate s.lanes opening_lane)) (laid-out s none sound))
+    (subst (λ n. IsLaidOut s.host_bytes n s.geometry) (sym (length-replicate s.lanes opening_lane)) (host-laid-out s none sound))
     (opening-consistent s.geometry s.lanes) (opening-counted s.geometry s.lanes)

@@ -3,7 +3,7 @@ use Rattle.std.proofs.lemmas.List.{length-replicate}
 use Rattle.nv_world_model.specs.World.{opening_lane, opening_world}
 use Rattle.nv_world_model.specs.SetUp.{world_at_start}
 use Rattle.nv_laws_sound.specs.LaidOut.{IsLaidOut}
-use Rattle.nv_laws_sound.proofs.LaidOuts.{laid-out}
+use Rattle.nv_laws_sound.proofs.LaidOuts.{host-laid-out}
 use Rattle.nv_laws_sound.proofs.Openings.{opening-consistent}
 use Rattle.nv_laws_sound.proofs.Steps.{replay-consistent}
 use Rattle.nv_laws_sound.proofs.laws.keeping.worlds_stay_consistent.Goals as goal
@@ -15,5 +15,5 @@ pub returns-clause-from_start : goal.returns-clause-from_start
 unfolding opening_world
 returns-clause-from_start c = λ s events none sound.
     replay-consistent s.host_bytes s.geometry events (world_at_start s)
-    (subst (λ n. IsLaidOut s.host_bytes n s.geometry) (sym (length-replicate s.lanes opening_lane)) (laid-out s none sound))
+    (subst (λ n. IsLaidOut s.host_bytes n s.geometry) (sym (length-replicate s.lanes opening_lane)) (host-laid-out s none sound))
     (opening-consistent s.geometry s.lanes)

@@ -4,7 +4,7 @@ use Rattle.nv_world_model.specs.SetUp.{world_at_start}
 use Rattle.nv_world_model.specs.Step.{replay}
 use Rattle.nv_world_model.specs.World.{opening_lane, opening_world}
 use Rattle.nv_laws_sound.specs.LaidOut.{IsLaidOut}
-use Rattle.nv_laws_sound.proofs.LaidOuts.{laid-out}
+use Rattle.nv_laws_sound.proofs.LaidOuts.{host-laid-out}
 use Rattle.nv_laws_sound.proofs.Openings.{opening-consistent}
 use Rattle.nv_laws_sound.proofs.Steps.{replay-consistent}
 use Rattle.nv_laws_sound.proofs.phases.Rounds.{slot-tells}
@@ -14,7 +14,7 @@ use Rattle.nv_laws_sound.proofs.laws.phases.a_phase_tag_tells_what_is_to_be_reap
 pub returns : goal.returns
 unfolding opening_world
 returns c = λ s events lane l d none sound at there.
-    let laid = subst (λ n. IsLaidOut s.host_bytes n s.geometry) (sym (length-replicate s.lanes opening_lane)) (laid-out s none sound) in
+    let laid = subst (λ n. IsLaidOut s.host_bytes n s.geometry) (sym (length-replicate s.lanes opening_lane)) (host-laid-out s none sound) in
     let is = replay-consistent s.host_bytes s.geometry events (world_at_start s) laid (opening-consistent s.geometry s.lanes) in
     let are = replay-phased s.host_bytes s.geometry events (world_at_start s) laid (opening-consistent s.geometry s.lanes) (opening-phased s.geometry s.lanes) in
     slot-tells s.geometry (replay s.geometry events (world_at_start s)).host lane l.head l.phase d.posted d.phase

@@ -3,7 +3,7 @@ use Rattle.std.proofs.lemmas.List.{length-replicate}
 use Rattle.nv_world_model.specs.SetUp.{world_at_start}
 use Rattle.nv_world_model.specs.World.{opening_lane, opening_world}
 use Rattle.nv_laws_sound.specs.LaidOut.{IsLaidOut}
-use Rattle.nv_laws_sound.proofs.LaidOuts.{laid-out}
+use Rattle.nv_laws_sound.proofs.LaidOuts.{host-laid-out}
 use Rattle.nv_laws_sound.proofs.Openings.{opening-consistent}
 use Rattle.nv_laws_sound.proofs.phases.Steps.{opening-phased, replay-phased, step-phased}
 use Rattle.nv_laws_sound.proofs.laws.phases.slots_have_their_passes_phase_tag.Goals as goal
@@ -18,5 +18,5 @@ pub returns-clause-from_start : goal.returns-clause-from_start
 unfolding opening_world
 returns-clause-from_start c = λ s events none sound.
     replay-phased s.host_bytes s.geometry events (world_at_start s)
-    (subst (λ n. IsLaidOut s.host_bytes n s.geometry) (sym (length-replicate s.lanes opening_lane)) (laid-out s none sound))
+    (subst (λ n. IsLaidOut s.host_bytes n s.geometry) (sym (length-replicate s.lanes opening_lane)) (host-laid-out s none sound))
     (opening-consistent s.geometry s.lanes) (opening-phased s.geometry s.lanes)

@@ -23,7 +23,7 @@ use Rattle.nv_world_model.specs.Seat.{units_behind, rest_at, rests_of, members, 
 use Rattle.nv_world_model.specs.Step.{acted_in, administered_in, taken_to, listed, submitted, handed_on, device_took, device_moved}
 use Rattle.nv_world_model.specs.Step.{device_posted, kept_block, reaped, scattered_to, delivered_all, posted_to, ran_out_of, statuses_of}
 use Rattle.nv_world_model.specs.Step.{step, replay, replies}
-use Rattle.nv_world_model.specs.SetUp.{refusal_of}
+use Rattle.nv_world_model.specs.SetUp.{host_refusal_of, refusal_of}
 use Rattle.nv_world_model.proofs.rows.set_ups.examples.Goals as goal
 
 pub returns-clause-two_guests_apart : goal.returns-clause-two_guests_apart
@@ -457,3 +457,19 @@ unfolding number_at dword qword bits bytes_of_dwords completion everywhere addre
     handed_on device_took device_moved device_posted kept_block reaped scattered_to delivered_all posted_to ran_out_of statuses_of step replay replies
     refusal_of
 returns-clause-too_many_extents c = refl
+
+pub returns-clause-a_host_and_a_drive_of_their_own : goal.returns-clause-a_host_and_a_drive_of_their_own
+unfolding host_refusal_of
+returns-clause-a_host_and_a_drive_of_their_own c = refl
+
+pub returns-clause-a_host_of_its_own_that_is_too_large : goal.returns-clause-a_host_of_its_own_that_is_too_large
+unfolding host_refusal_of
+returns-clause-a_host_of_its_own_that_is_too_large c = refl
+
+pub returns-clause-a_drive_that_is_too_large : goal.returns-clause-a_drive_that_is_too_large
+unfolding host_refusal_of
+returns-clause-a_drive_that_is_too_large c = refl
+
+pub returns-clause-a_namespace_that_is_too_large : goal.returns-clause-a_namespace_that_is_too_large
+unfolding host_refusal_of
+returns-clause-a_namespace_that_is_too_large c = refl
