@@ -25,7 +25,7 @@ use Rattle.nv_world_model.specs.Device.{DeviceLane}
 use Rattle.nv_world_model.specs.Due.{due, is_due_kind}
 use Rattle.nv_world_model.specs.Geometry.{Geometry, Guest}
 use Rattle.nv_world_model.specs.Seat.{owner_by, owner_of}
-use Rattle.nv_world_model.specs.SetUp.{Refusal, SetUp, TooManyGuests, most_guests, refusal_of}
+use Rattle.nv_world_model.specs.SetUp.{Refusal, SetUp, TooManyGuests, most_guests, refusal_of, script_limits}
 use Rattle.nv_world_model.specs.Step.{is_done, step}
 use Rattle.nv_world_model.specs.World.{Ended, Flying, Free, Lane, Tag, Taken, World, tag_in, tag_of}
 use Rattle.nv_world_model.specs.declared.event.Event.{Event}
@@ -352,5 +352,5 @@ few-guests s none =
 pub few_of : (s : SetUp) → refusal_of s ≡ None → (length s.geometry.guests ≤ 16) × (s.lanes ≤ 8)
 few_of s none =
     let few = few-guests s none in
-    let lanes = (sizes-of s (accepted s none).sizes).few_lanes in
+    let lanes = (sizes-of script_limits s (accepted s none).sizes).few_lanes in
     (few, omega (arith, lanes))

@@ -3,7 +3,7 @@ use Rattle.std.proofs.Common.{◌≡◌, ◌∙◌, ℕ, ◌+◌, ◌==◌, ◌�
 use Rattle.std.proofs.lemmas.Option.{same_Some}
 use Rattle.std.specs.List.{list_all}
 use Rattle.nv_c.specs.Views.{IsView}
-use Rattle.nv_laws_sound.proofs.LaidOuts.{accepted, all-one}
+use Rattle.nv_laws_sound.proofs.LaidOuts.{accepted, all-one, sizes-of}
 use Rattle.nv_mediator.specs.Hosted.{Hosted, hosted_world, map_of, setup_of}
 use Rattle.nv_mem.specs.Bytes.{bytes_at}
 use Rattle.nv_mem.specs.declared.region.Region.{Region}
@@ -16,7 +16,7 @@ use Rattle.nv_model.proofs.MemoryLemmas.{bytes_from-list, bytes_from-same}
 use Rattle.nv_model.proofs.PutImages.{image-mapped}
 use Rattle.nv_ns.specs.Extents.{most_extents}
 use Rattle.nv_world_model.specs.Geometry.{Guest, regions_of}
-use Rattle.nv_world_model.specs.SetUp.{SetUp, between, extent_fits, guest_fits, host_fits, most_disk_blocks, most_limit, most_regions, refusal_of}
+use Rattle.nv_world_model.specs.SetUp.{SetUp, between, extent_fits, guest_fits, most_limit, most_regions, refusal_of, script_limits}
 
 -- ---- the guest of a map
 
@@ -35,15 +35,9 @@ first_of : (a b c d e : Bool) → (a && b && c && d && e) ≡ true → a ≡ tru
 first_of true b c d e all = refl
 first_of false b c d e all = cc
 
-third_of : (a b c : Bool) → (a && b && c) ≡ true → c ≡ true
-third_of true true c e = e
-third_of true false c e = cc
-third_of false b c e = cc
-
 made-for : (s : SetUp) (number : ℕ) (g : Guest) → refusal_of s ≡ None → slice_get s.geometry.guests number ≡ Some g → g.memory_map.host_len ≡ s.host_bytes
 made-for s number g none is =
-    let all = third_of (host_fits s) (between 1 most_disk_blocks s.geometry.disk_blocks) (list_all (guest_fits s) s.geometry.guests) (accepted s none).sizes in
-    let fits = all-one (guest_fits s) s.geometry.guests number g all is in
+    let fits = all-one (guest_fits s) s.geometry.guests number g (sizes-of script_limits s (accepted s none).sizes).guests is in
     let made = g.memory_map.host_len == s.host_bytes in
     let regions = nat_le (length (regions_of g)) most_regions in
     let count = between 1 most_extents (length g.namespace) in

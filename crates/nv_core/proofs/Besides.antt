@@ -6,13 +6,13 @@ use Rattle.std.proofs.lemmas.List.{length-map, map-set}
 use Rattle.std.proofs.lemmas.Option.{get_or_from_slice_get, slice_get-map}
 use Rattle.nv_core.proofs.GroupWorlds.{looked-up}
 use Rattle.nv_core.proofs.PhasedReaps.{low, must-idle, must-wait, phased}
-use Rattle.nv_core.proofs.Reaps.{IsAloft, cid-flies, reap-done, reap-idle, reap-no_lane}
+use Rattle.nv_core.proofs.Reaps.{IsAloft, cid-flies, queue-named, reap-done, reap-idle, reap-no_lane}
 use Rattle.nv_core.proofs.Sides.{of-live, quiet-in, rung-same, state_in}
 use Rattle.nv_core.specs.Front.{IsBeside, IsLive, IsSideOf, IsStepBeside, Side, rung_with, tails_of, with_side}
 use Rattle.nv_core.specs.State.{IsOf, State}
 use Rattle.nv_core.specs.Tags.{state_in as point_in}
 use Rattle.nv_device.specs.Physical.{lane_of}
-use Rattle.nv_entry.specs.Completion.{cid_of as completed_cid, phase_of, status_of}
+use Rattle.nv_entry.specs.Completion.{cid_of as completed_cid, phase_of, sqid_of, status_of}
 use Rattle.nv_entry.specs.Status.{StatusField}
 use Rattle.nv_laws_sound.proofs.Lists.{some-same}
 use Rattle.nv_laws_sound.specs.LaidOut.{IsLaidOut}
@@ -23,7 +23,7 @@ use Rattle.nv_model.specs.Queue.{cqe_size}
 use Rattle.nv_model.specs.declared.reply.Reply.{Reply}
 use Rattle.nv_model.specs.declared.reply.Reply.TheVariants as reply
 use Rattle.nv_tags.specs.declared.state.TagState.TheVariants as state
-use Rattle.nv_world_model.specs.Area.{completion_slot}
+use Rattle.nv_world_model.specs.Area.{completion_slot, queue_pair}
 use Rattle.nv_world_model.specs.Geometry.{Geometry}
 use Rattle.nv_world_model.specs.Share.{Share}
 use Rattle.nv_world_model.specs.Step.{After, completion_read, passed_on, step}
@@ -199,6 +199,9 @@ module _ (geometry : Geometry) (side : Side) (memory : List ℕ) (w : World) (on
     module _ (same : p ≡ q) (cid : ℕ) (named : cid ≡ completed_cid completion) where
       flies : point_in (slice_get k.tags cid) ≡ Some state.Flying
       flies = cid-flies geometry s s lane refl of i k at below_w has_k head posted head_k refl (waits same) addr cid completion located read named
+
+      pub beside-queue : sqid_of completion ≡ queue_pair lane
+      beside-queue = queue-named geometry s s lane refl of i k at below_w has_k head posted head_k refl (waits same) addr cid completion located read named
 
       pub beside-flies : point_in (slice_get l.tags cid) ≡ Some state.Flying
       beside-flies =

@@ -15,6 +15,7 @@ pub mod DeviceNeeds
 pub mod DeviceSteps
 pub mod DevicePosts
 pub mod DeviceTakes
+pub mod ReapAnswers
 pub mod Reaps
 pub mod Dues
 pub mod PartKinds

@@ -8,7 +8,7 @@ use Rattle.nv_core.specs.Tags.{is_flying, state_in}
 use Rattle.nv_core.proofs.Placed.{same-size}
 use Rattle.nv_core.proofs.GroupWorlds.{looked-up}
 use Rattle.nv_device.specs.Physical.{lane_of, no_lane}
-use Rattle.nv_entry.specs.Completion.{cid_of as completed_cid, status_of}
+use Rattle.nv_entry.specs.Completion.{cid_of as completed_cid, sqid_of, status_of}
 use Rattle.nv_entry.specs.Status.{StatusField}
 use Rattle.nv_laws_sound.proofs.Lists.{set-same, slice_get-below, slice_get-there}
 use Rattle.nv_laws_sound.proofs.ReapEvents.{IsAnsweredAt, answered-at, ended-is}
@@ -18,7 +18,7 @@ use Rattle.nv_model.specs.Memory.{byte_in, bytes_from}
 use Rattle.nv_model.specs.Queue.{cqe_size, is_empty}
 use Rattle.nv_model.specs.declared.reply.Reply.TheVariants as reply
 use Rattle.nv_tags.specs.declared.state.TagState.TheVariants as state
-use Rattle.nv_world_model.specs.Area.{completion_slot, tag_count}
+use Rattle.nv_world_model.specs.Area.{completion_slot, queue_pair, tag_count}
 use Rattle.nv_world_model.specs.Device.{DeviceLane, Held}
 use Rattle.nv_world_model.specs.Geometry.{Geometry}
 use Rattle.nv_world_model.specs.Seat.{completion_at}
@@ -49,6 +49,7 @@ pub record IsNext (geometry : Geometry) (lane : ℕ) (host : ℕ → ℕ) (l : L
   pub below : tag < tag_count
   pub flies : slice_get l.tags tag ≡ Some (Flying command share (Answered l.head))
   pub named : completed_cid (bytes_from host (completion_slot geometry.mediator lane l.head) cqe_size) ≡ tag
+  pub queue : sqid_of (bytes_from host (completion_slot geometry.mediator lane l.head) cqe_size) ≡ queue_pair lane
 
 next-by : (geometry : Geometry) (lane tag : ℕ) (host : ℕ → ℕ) (l : Lane) (held : Option Held) (t : Tag) → IsAnsweredAt geometry lane tag l.head host held t
     → slice_get l.tags tag ≡ Some t → tag < tag_count → IsNext geometry lane host l
@@ -60,6 +61,7 @@ next-by geometry lane tag host l held t a there below =
       below = below;
       flies = there ∙ ap (λ (u : Tag). Some u) a.flies;
       named = a.identifier;
+      queue = a.queue;
     }
 
 next-is : (geometry : Geometry) (lane : ℕ) (host : ℕ → ℕ) (l : Lane) (d : DeviceLane) → IsLane geometry lane host l d → (l.head ≡ d.posted → ⊥)
@@ -163,6 +165,9 @@ module _ (geometry : Geometry) (s old : State) (lane : ℕ) (same : s ≡ old) w
 
         tag-is : cid ≡ next.tag
         tag-is = named ∙ ap completed_cid completion-is ∙ next.named
+
+        pub queue-named : sqid_of completion ≡ queue_pair lane
+        queue-named = ap sqid_of completion-is ∙ next.queue
 
         pub cid-below : cid < tag_count
         cid-below = let below_tag = next.below in let equal = tag-is in omega arith

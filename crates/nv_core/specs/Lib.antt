@@ -1,6 +1,7 @@
 pub mod State
 pub mod Front
 pub mod Kept
+pub mod Reaping
 pub mod Tags
 pub mod Groups
 pub mod Handing

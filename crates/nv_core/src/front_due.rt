@@ -4,6 +4,7 @@ ghost use Rattle.std.specs.Prelude.{◌≡◌, ℕ, if◌then◌else◌, List, O
 ghost use Rattle.nv_core.specs.Ending.{IsEnded};
 ghost use Rattle.nv_core.specs.Front.{IsLive, IsSideOf};
 ghost use Rattle.nv_core.specs.Kept.{IsKept, IsLent};
+ghost use Rattle.nv_core.specs.Reaping.{waits_in};
 ghost use Rattle.nv_core.specs.Groups.{statuses_in};
 ghost use Rattle.nv_core.specs.Take.{is_front_takeable};
 ghost use Rattle.nv_entry.specs.Status.{StatusField};
@@ -46,7 +47,8 @@ impl Front {
     /// Whether a completion of a lane waits.
     pub fn reap_due<C: MemoryCell>(&self, layout: &Layout, lane: u8, host: &[C]) -> bool
         requires { IsLent layout.now self.now (C.bytes host.now) }
-        ensures { (w : World) → IsSideOf self.now (C.bytes host.now) w → IsLive layout.now w → result ≡ due layout.now (Event.Reap lane) w }
+        ensures answer { result ≡ waits_in layout.now lane (slice_get self.now.lanes lane) (C.bytes host.now) }
+        ensures due { (w : World) → IsSideOf self.now (C.bytes host.now) w → IsLive layout.now w → result ≡ due layout.now (Event.Reap lane) w }
     {
         let at = usize::from(lane);
         if at >= self.lanes.len() {

@@ -1,8 +1,10 @@
 //! Completions of the physical controller that are read.
 
-ghost use Rattle.std.specs.Prelude.{◌≡◌, IfOk, Ok, OnErr, length};
+ghost use Rattle.std.specs.Prelude.{◌≡◌, IfOk, Ok, OnErr, length, slice_get};
+ghost use Rattle.std.specs.Result.{result_ok};
 ghost use Rattle.nv_core.specs.Front.{IsBeside, IsLive, IsLiveStep, IsReaped, IsStepBeside};
 ghost use Rattle.nv_core.specs.Kept.{IsLent};
+ghost use Rattle.nv_core.specs.Reaping.{answer_of, names_command};
 ghost use Rattle.nv_mem.specs.Bytes.{InMemory};
 ghost use Rattle.nv_model.specs.Memory.{byte_in, bytes_from};
 ghost use Rattle.nv_model.specs.Queue.{cqe_size};
@@ -11,6 +13,7 @@ ghost use Rattle.nv_world_model.specs.World.{World};
 
 use crate::area::completion_slot;
 use crate::front::Front;
+use crate::lane::Lane;
 use crate::layout::Layout;
 use nv_entry::{Cqe, Status, StatusCode};
 use nv_mem::MemoryCell;
@@ -20,7 +23,7 @@ use nv_world_model::Event;
 /// The status code type of media and data integrity errors.
 const MEDIA_ERROR: u8 = 2;
 
-/// A completion that names no command that the physical controller has.
+/// A completion that names no command that the physical controller has: its submission queue is another, or its identifier is that of no such command.
 #[derive(Clone, Copy, Debug, PartialEq, Eq)]
 pub struct Stray;
 
@@ -30,8 +33,8 @@ impl Front {
     ///
     /// # Errors
     ///
-    /// [`Stray`] where it names no command that the physical controller has: nothing has changed. A controller that keeps to the standard posts no
-    /// such completion.
+    /// [`Stray`] where it names no command that the physical controller has, by its submission queue and its command identifier: nothing has changed. A
+    /// controller that keeps to the standard posts no such completion.
     #[inline(never)]
     pub fn reap<C: MemoryCell>(
         &mut self,
@@ -40,6 +43,7 @@ impl Front {
         host: &[C],
     ) -> Result<Reply, Stray>
         requires { IsLent layout.now self.old (C.bytes host.now) }
+        ensures answer { result_ok result ≡ answer_of layout.now lane (slice_get self.old.lanes lane) (C.bytes host.now) }
         ensures ok { IfOk result (λ reply.
             IsLiveStep layout.now (Event.Reap lane) self.old (C.bytes host.now) reply self.new (C.bytes host.now)) }
         ensures ended { result ≡ Ok Reply.Done → IsReaped layout.now lane self.old self.new (C.bytes host.now) }
@@ -61,14 +65,21 @@ impl Front {
         if completion.phase() != ring.wanted_phase() {
             return Ok(Reply::Idle);
         }
-        let identifier = completion.cid();
-        if !ring.is_flying(identifier) {
+        if !names_command(lane, ring, &completion) {
             return Err(Stray);
         }
+        let identifier = completion.cid();
         ring.end_with(identifier as u8, passed_on(completion.status()));
         ring.read_completion();
         Ok(Reply::Done)
     }
+}
+
+// Whether a completion names a command of a lane that the physical controller has.
+fn names_command(lane: u8, ring: &Lane, completion: &Cqe) -> bool
+    ensures { result ≡ names_command lane ring.now completion.now }
+{
+    completion.sqid() == u16::from(lane) + 1 && ring.is_flying(completion.cid())
 }
 
 // The completion at a host address.

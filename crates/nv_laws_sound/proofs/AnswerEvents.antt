@@ -3,7 +3,7 @@ use Rattle.std.proofs.Common.{◌≡◌, ℕ, ◌+◌, ◌%◌, ◌^◌, ◌<◌
 use Rattle.std.proofs.Common.{[], ◌∷◌, length, set, slice_get, Option, Some, None, arith, refl, sym, ap, ◌∙◌, eq-eqb, subst}
 use Rattle.std.specs.Prelude.{◌≢◌}
 use Rattle.std.proofs.lemmas.Bool.{cases_eq, cases_lt, eqb-false}
-use Rattle.nv_entry.specs.Completion.{cid_of as completed_cid, completion}
+use Rattle.nv_entry.specs.Completion.{cid_of as completed_cid, completion, sqid_of}
 use Rattle.nv_entry.specs.Layout.{bits, bytes_of_dwords, dword, number_at}
 use Rattle.nv_entry.specs.Status.{StatusField}
 use Rattle.nv_entry.proofs.CompletionLemmas.{length-completion}
@@ -37,6 +37,12 @@ pub completion-cid : (dw0 sqhd sqid cid : ℕ) (phase : Bool) (st : StatusField)
     → completed_cid (completion dw0 sqhd sqid cid phase st) ≡ cid
 unfolding completion bits dword number_at bytes_of_dwords
 completion-cid dw0 sqhd sqid cid phase st below = omega arith
+
+-- and so is that of its submission queue
+pub completion-sqid : (dw0 sqhd sqid cid : ℕ) (phase : Bool) (st : StatusField) → sqhd < 2 ^ 16 → sqid < 2 ^ 16
+    → sqid_of (completion dw0 sqhd sqid cid phase st) ≡ sqid
+unfolding completion bits dword number_at bytes_of_dwords
+completion-sqid dw0 sqhd sqid cid phase st head below = omega arith
 
 -- ---- the completion in its slot
 
@@ -94,12 +100,13 @@ module _ (geometry : Geometry) (lanes lane : ℕ) (host : ℕ → ℕ) (d : Devi
 -- ---- the lane
 
 answered-lane : (geometry : Geometry) (lanes lane tag : ℕ) (host : ℕ → ℕ) (st : StatusField) (l : Lane) (d : DeviceLane) (h : Held) (command : Command) (share : Share)
-    → geometry.mediator % page ≡ 0 → lane < lanes → IsLane geometry lane host l d
+    → geometry.mediator % page ≡ 0 → lane < lanes → lanes ≤ 8 → IsLane geometry lane host l d
     → slice_get l.tags tag ≡ Some (Flying command share InDevice) → slice_get d.held tag ≡ Some (Some h)
     → IsLane geometry lane (stored host (completion_slot geometry.mediator lane d.posted) (completion 0 d.head (queue_pair lane) tag d.phase st))
     (tag_changed tag (Flying command share (Answered d.posted)) l) (completion_posted tag d)
-answered-lane geometry lanes lane tag host st l d h command share aligned below is at there =
+answered-lane geometry lanes lane tag host st l d h command share aligned below few is at there =
     let tags = is.positions.tags in
+    let first = is.positions.head in
     let among = slice_get-below l.tags tag (Flying command share InDevice) at in
     let tag_below : tag < tag_count = omega (arith, tags, among) in
     let waiting = count-fewer (tag_stands waits_for_mediator) l.tags tag (Flying command share InDevice) at refl in
@@ -122,6 +129,7 @@ answered-lane geometry lanes lane tag host st l d h command share aligned below 
         record {
           slot = between-tail l.head d.posted is.positions.read is.positions.posted room;
           identifier = ap completed_cid shown ∙ completion-cid 0 d.head (queue_pair lane) tag d.phase st (omega (arith, tag_below));
+          queue = ap sqid_of shown ∙ completion-sqid 0 d.head (queue_pair lane) tag d.phase st (omega (arith, first)) (omega (arith, below, few));
         },
         refl,
       );
@@ -179,7 +187,7 @@ module _ (host_bytes : ℕ) (geometry : Geometry) where
       let flies : slice_get l.tags tag ≡ Some (Flying holds.command holds.share InDevice) = found ∙ ap (λ x. Some x) holds.flies in
       let bytes = completion 0 d.head (queue_pair lane) tag d.phase st in
       let memory = stored w.host (completion_slot geometry.mediator lane d.posted) bytes in
-      let behind = answered-lane geometry (length w.lanes) lane tag w.host st l d h holds.command holds.share laid.pages below before flies held in
+      let behind = answered-lane geometry (length w.lanes) lane tag w.host st l d h holds.command holds.share laid.pages below laid.few_lanes before flies held in
       subst (IsConsistentOfTags geometry)
       (sym (stands-is w lane tag l d holds.command holds.share InDevice (Answered d.posted) memory (completion_posted tag) at there flies))
       (world-lane geometry w lane memory (tag_changed tag (Flying holds.command holds.share (Answered d.posted)) l) (completion_posted tag d) laid.pages

@@ -261,6 +261,7 @@ laid-out-within limits s bytes blocks is sound =
     λ number guest at. all-one namespace_fits s.geometry.guests number guest sizes.namespaces at in
     record {
       few = omega (arith, few, bytes);
+      few_lanes = sizes.few_lanes;
       few_blocks = omega (arith, fewer, blocks);
       pages = sizes.pages;
       area = area;

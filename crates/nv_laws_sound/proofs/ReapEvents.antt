@@ -1,13 +1,13 @@
 -- The mediator reads the next completion, and the tag that it names ends.
 use Rattle.std.proofs.Common.{◌≡◌, ℕ, ◌%◌, ◌<◌, true, false, ◌==◌, set, slice_get, Option, Some, None, arith, refl, sym, ap, ◌∙◌, eqb-true, subst}
 use Rattle.std.proofs.lemmas.Bool.{eqb-false, ne_eqb}
-use Rattle.nv_entry.specs.Completion.{cid_of as completed_cid, status_of}
+use Rattle.nv_entry.specs.Completion.{cid_of as completed_cid, sqid_of, status_of}
 use Rattle.nv_entry.specs.Status.{StatusField}
 use Rattle.nv_model.specs.Limits.{page}
 use Rattle.nv_model.specs.Memory.{bytes_from}
 use Rattle.nv_model.specs.Queue.{cqe_size, is_empty, next_slot}
 use Rattle.nv_world_model.specs.declared.event.Event.TheVariants as event
-use Rattle.nv_world_model.specs.Area.{completion_slot, ring_size}
+use Rattle.nv_world_model.specs.Area.{completion_slot, queue_pair, ring_size}
 use Rattle.nv_world_model.specs.Contained.{is_answered_at, is_queued_at, tag_stands}
 use Rattle.nv_world_model.specs.Device.{DeviceLane, Held}
 use Rattle.nv_world_model.specs.Geometry.{Geometry, Guest}
@@ -35,6 +35,7 @@ pub record IsAnsweredAt (geometry : Geometry) (lane tag at : ℕ) (host : ℕ �
   pub is : IsCommand geometry command guest
   pub planned : IsPlanned guest command.entry share
   pub identifier : completed_cid (bytes_from host (completion_slot geometry.mediator lane at) cqe_size) ≡ tag
+  pub queue : sqid_of (bytes_from host (completion_slot geometry.mediator lane at) cqe_size) ≡ queue_pair lane
   pub not_held : held ≡ None
 
 pub answered-at : (geometry : Geometry) (lane tag at : ℕ) (host : ℕ → ℕ) (head : ℕ) (d : DeviceLane) (held : Option Held) (t : Tag)
@@ -53,6 +54,7 @@ answered-at geometry lane tag at host head d held (Flying command share (Answere
       is = is.is;
       planned = is.planned;
       identifier = subst (λ s. completed_cid (bytes_from host (completion_slot geometry.mediator lane s) cqe_size) ≡ tag) same is.stands.0.identifier;
+      queue = subst (λ s. sqid_of (bytes_from host (completion_slot geometry.mediator lane s) cqe_size) ≡ queue_pair lane) same is.stands.0.queue;
       not_held = is.stands.1;
     }
 answered-at geometry lane tag at host head d held (Ended command st share) is stands = cc

@@ -1,6 +1,6 @@
 -- A tag that an event is not about: it stands as it stood, where its pages and its slot have the same bytes, and its slot still waits.
 use Rattle.std.proofs.Common.{◌≡◌, ℕ, ◌+◌, ◌%◌, true, List, Option, Some, None, arith, refl, sym, ap, ◌∙◌, eq-eqb}
-use Rattle.nv_entry.specs.Completion.{cid_of as completed_cid}
+use Rattle.nv_entry.specs.Completion.{cid_of as completed_cid, sqid_of}
 use Rattle.nv_model.specs.Limits.{page}
 use Rattle.nv_model.specs.Queue.{cqe_size}
 use Rattle.nv_world_model.specs.Area.{bounce_page, completion_slot, list_bytes, list_page, prps_of, submission_slot}
@@ -68,7 +68,7 @@ module _ (geometry : Geometry) (lane tag : ℕ) (host other : ℕ → ℕ) (alig
       let stays = kept.answered at (eq-eqb at at refl) there.0.slot in
       let same = bytes_from-between host other (completion_slot geometry.mediator lane at) (completion_slot geometry.mediator lane (at + 1))
       (completion_slot geometry.mediator lane at) cqe_size stays.1 (omega arith) (omega arith) in
-      (record { slot = stays.0; identifier = sym (ap completed_cid same) ∙ there.0.identifier }, there.1)
+      (record { slot = stays.0; identifier = sym (ap completed_cid same) ∙ there.0.identifier; queue = sym (ap sqid_of same) ∙ there.0.queue }, there.1)
 
   -- the tag
   pub tag-kept : (head now : ℕ) (d e : DeviceLane) (held : Option Held) (t : Tag)

@@ -3,7 +3,7 @@
 use Rattle.std.specs.Prelude.{◌≡◌, ℕ, ◌<◌, Bool, true, false, List, All, length, map, slice_get, Option, Some, None}
 use Rattle.std.specs.Bool.{⊤}
 use Rattle.std.specs.List.{Contains, count_by}
-use Rattle.nv_entry.specs.Completion.{cid_of as completed_cid}
+use Rattle.nv_entry.specs.Completion.{cid_of as completed_cid, sqid_of}
 use Rattle.nv_entry.specs.Opcode.{io_opcode}
 use Rattle.nv_entry.specs.Submission.{opcode_of}
 use Rattle.nv_mem.specs.GuestMap.{mapped}
@@ -15,7 +15,7 @@ use Rattle.nv_model.specs.Laws.{QueuesInPlace}
 use Rattle.nv_model.specs.Memory.{bytes_from}
 use Rattle.nv_model.specs.Queue.{ahead, cqe_size, sqe_size}
 use Rattle.nv_world_model.specs.Area.{addresses_of, bounce_page, completion_slot, list_bytes, list_page, prps_of, ring_size, submission_slot}
-use Rattle.nv_world_model.specs.Area.{tag_count}
+use Rattle.nv_world_model.specs.Area.{queue_pair, tag_count}
 use Rattle.nv_world_model.specs.Contained.{is_answered_at, is_queued_at, tag_stands}
 use Rattle.nv_world_model.specs.Device.{DeviceLane, Held, unit_count}
 use Rattle.nv_world_model.specs.Geometry.{Geometry, Guest, regions_of, shape_of}
@@ -73,10 +73,11 @@ pub record IsInDevice (geometry : Geometry) (guest : Guest) (entry : List ℕ) (
       (share_entry share guest.namespace guest entry geometry.mediator lane tag)) h.left
   pub pages : HasPages geometry guest share lane tag host
 
--- its completion waits in that slot of the completion ring
+-- its completion waits in that slot of the completion ring, and names the lane's submission queue
 pub record IsAnswered (geometry : Geometry) (lane tag at : ℕ) (host : ℕ → ℕ) (head : ℕ) (d : DeviceLane) : Type 0 where
   pub slot : IsBetween head d.posted at
   pub identifier : completed_cid (bytes_from host (completion_slot geometry.mediator lane at) cqe_size) ≡ tag
+  pub queue : sqid_of (bytes_from host (completion_slot geometry.mediator lane at) cqe_size) ≡ queue_pair lane
 
 -- where it is, and what the device holds under its identifier
 abbrev pub StandsThere : Standing → Geometry → Guest → (entry : List ℕ) → Share → (lane tag : ℕ) → (host : ℕ → ℕ) → (head : ℕ) → DeviceLane

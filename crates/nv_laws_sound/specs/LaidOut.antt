@@ -9,7 +9,7 @@ use Rattle.nv_ns.specs.Extents.{blocks_in, most_extents}
 use Rattle.nv_model.specs.Limits.{page}
 use Rattle.nv_world_model.specs.Area.{lane_start}
 use Rattle.nv_world_model.specs.Geometry.{Geometry, Guest, regions_of}
-use Rattle.nv_world_model.specs.SetUp.{host_limits}
+use Rattle.nv_world_model.specs.SetUp.{host_limits, most_lanes}
 use Rattle.nv_world_model.specs.View.{in_extents}
 
 -- a guest's map is sound and made for this host; it has one to eight extents, with fewer than 2 to the 32 blocks; and each of its extents has blocks,
@@ -32,6 +32,7 @@ pub record AreApart (g h : Guest) : Type 0 where
 -- all of it, with so many lanes in a host of that length
 pub record IsLaidOut (host_bytes lanes : ℕ) (geometry : Geometry) : Type 0 where
   pub few : host_bytes ≤ 2 ^ 64
+  pub few_lanes : lanes ≤ most_lanes
   pub few_blocks : geometry.disk_blocks ≤ host_limits.disk_blocks
   pub pages : geometry.mediator % page ≡ 0
   pub area : lane_start geometry.mediator lanes ≤ host_bytes

@@ -12,6 +12,7 @@ use Rattle.nv_model.specs.Private.{Bag, Taken as Member}
 use Rattle.nv_model.specs.Running.{count_below, one_of}
 use Rattle.nv_mediator.specs.Hosted.{Hosted, IsHosted, setup_of}
 use Rattle.nv_world_model.specs.Area.{tag_count}
+use Rattle.nv_world_model.specs.SetUp.{script_limits}
 use Rattle.nv_world_model.specs.World.{Lane, World, tag_in}
 
 one-most : (queue : ℕ) (t : Option Member) → one_of queue t ≤ 1
@@ -50,7 +51,7 @@ none-behind w number name behind =
 
 pub counts-more : (h : Hosted) (guest : ℕ) → IsHosted h → CountsMore guest h.state
 counts-more h guest is c queue found =
-    let few = (sizes-of (setup_of h) (accepted (setup_of h) is.accepted).sizes).few_lanes in
+    let few = (sizes-of script_limits (setup_of h) (accepted (setup_of h) is.accepted).sizes).few_lanes in
     let many = is.of.consistent.of_tags.controllers in
     let below = slice_get_within h.state.controllers guest c found in
     let given = slice_get-there h.geometry.guests guest (omega (arith, many, below)) in

@@ -11,7 +11,7 @@ use Rattle.std.proofs.lemmas.List.Folds.{list_all-append}
 use Rattle.nv_ns.specs.BlockRange.{Extent}
 use Rattle.nv_ns.specs.Extents.{Namespace, blocks_in, is_namespace, is_within, most_extents}
 use Rattle.nv_model.proofs.Endings.{and-true}
-use Rattle.nv_world_model.specs.SetUp.{SetUp, between, extent_fits, guest_fits, most_disk_blocks, most_limit, most_regions}
+use Rattle.nv_world_model.specs.SetUp.{SetUp, between, extent_fits, guest_fits, host_limits, most_limit, most_regions}
 use Rattle.nv_world_model.specs.Geometry.{Guest, regions_of}
 
 -- the tests of a namespace
@@ -112,7 +112,7 @@ fits-within s blocks (extent ∷ es) e below =
     grind (arith, nat_tests, common_steps)
 
 -- a guest that a set-up may have has a namespace
-pub guest-namespace : (s : SetUp) (g : Guest) → guest_fits s g ≡ true → s.geometry.disk_blocks ≤ most_disk_blocks → is_namespace g.namespace ≡ true
+pub guest-namespace : (s : SetUp) (g : Guest) → guest_fits s g ≡ true → s.geometry.disk_blocks ≤ host_limits.disk_blocks → is_namespace g.namespace ≡ true
 guest-namespace s g fits few =
     let host = g.memory_map.host_len == s.host_bytes in
     let regions = nat_le (length (regions_of g)) most_regions in

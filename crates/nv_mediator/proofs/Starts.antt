@@ -4,7 +4,7 @@ use Rattle.std.proofs.lemmas.List.{length-replicate}
 use Rattle.nv_core.specs.State.{IsOpening, State}
 use Rattle.nv_device.specs.Physical.{FitsLimits}
 use Rattle.nv_laws_sound.proofs.CountedRuns.{opening-counted}
-use Rattle.nv_laws_sound.proofs.LaidOuts.{accepted, all-one, laid-out, limit-fits, sizes-of}
+use Rattle.nv_laws_sound.proofs.LaidOuts.{accepted, all-one, host-laid-out, limit-fits, script-accepted, sizes-of}
 use Rattle.nv_laws_sound.proofs.Openings.{opening-consistent}
 use Rattle.nv_laws_sound.proofs.phases.Steps.{opening-phased}
 use Rattle.nv_laws_sound.specs.Consistent.{IsConsistent}
@@ -16,24 +16,24 @@ use Rattle.nv_mediator.proofs.Logs.{log-none}
 use Rattle.nv_mediator.proofs.Namespaces.{guest-namespace}
 use Rattle.nv_mediator.specs.Hosted.{Hosted, IsAtStart, IsHosted, MayBeGiven, setup_of}
 use Rattle.nv_world_model.specs.Geometry.{Geometry, Guest}
-use Rattle.nv_world_model.specs.SetUp.{SetUp, guest_fits, refusal_of}
+use Rattle.nv_world_model.specs.SetUp.{SetUp, guest_fits, refusal_of, script_limits}
 use Rattle.nv_world_model.specs.World.{World, opening_lane, opening_world}
 
 -- what its guests' extents and its sizes come to
 pub may-be-given : (s : SetUp) → refusal_of s ≡ None → (number : ℕ) (guest : Guest) → slice_get s.geometry.guests number ≡ Some guest → MayBeGiven guest
 may-be-given s none number guest at =
-    let sizes = sizes-of s (accepted s none).sizes in
+    let sizes = sizes-of script_limits s (accepted s none).sizes in
     let fits = all-one (guest_fits s) s.geometry.guests number guest sizes.guests at in
     let limit = limit-fits s guest fits in
     let few = sizes.few_blocks in
-    record { blocks = guest-namespace s guest fits few; limit = record { some = limit.0; most = limit.1 } }
+    record { blocks = guest-namespace s guest fits (omega (arith, few)); limit = record { some = limit.0; most = limit.1 } }
 
 pub lanes-small : (s : SetUp) → refusal_of s ≡ None → s.lanes < 256
-lanes-small s none = let few = (sizes-of s (accepted s none).sizes).few_lanes in omega (arith, few)
+lanes-small s none = let few = (sizes-of script_limits s (accepted s none).sizes).few_lanes in omega (arith, few)
 
 pub fits-limits : (s : SetUp) → refusal_of s ≡ None → FitsLimits s.geometry.mediator s.lanes s.geometry.disk_blocks
 fits-limits s none =
-    let sizes = sizes-of s (accepted s none).sizes in
+    let sizes = sizes-of script_limits s (accepted s none).sizes in
     let some = sizes.some_lanes in
     let blocks = sizes.some_blocks in
     let area = sizes.area in
@@ -66,7 +66,7 @@ module _ (s : SetUp) (core : State) (opening : IsOpening s.geometry s.host_bytes
       blocks = opening.blocks;
       laid_out =
           subst (λ (n : ℕ). IsLaidOut n (length core.lanes) s.geometry) (sym opening.host)
-          (subst (λ (n : ℕ). IsLaidOut s.host_bytes n s.geometry) (sym lanes-are) (laid-out s none sound));
+          (subst (λ (n : ℕ). IsLaidOut s.host_bytes n s.geometry) (sym lanes-are) (host-laid-out s (script-accepted s none) sound));
       consistent = subst (IsConsistent s.geometry) (sym opening.world) (opening-consistent s.geometry s.lanes);
       phased = subst (ArePhased s.geometry) (sym opening.world) (opening-phased s.geometry s.lanes);
     };

@@ -5,6 +5,7 @@ use Rattle.nv_core.specs.State.{IsSameSize, IsStep, State, world_of}
 use Rattle.nv_laws.proofs.headline.Each.{promise-kept}
 use Rattle.nv_laws.specs.Alike.{HasFittingStatus}
 use Rattle.nv_laws_sound.proofs.CountedSteps.{step-counted}
+use Rattle.nv_laws_sound.proofs.LaidOuts.{script-accepted}
 use Rattle.nv_laws_sound.proofs.ManyLanes.{lanes-kept}
 use Rattle.nv_laws_sound.proofs.Steps.{step-consistent}
 use Rattle.nv_laws_sound.proofs.phases.Steps.{step-phased}
@@ -121,4 +122,4 @@ module _ (h : Hosted) (new : State) (e : Event) (Current : Type 0) (hosted : IsH
 -- every log that leads to it keeps the whole promise
 pub hosted-promised : (h : Hosted) → IsHosted h → IsPromised h
 hosted-promised h is log leads =
-    promise-kept (setup_of h) log (world_of h.state) is.accepted (λ number guest at. (is.of.laid_out.given number guest at).sound) leads.fitting leads.replayed
+    promise-kept (setup_of h) log (world_of h.state) (script-accepted (setup_of h) is.accepted) (λ number guest at. (is.of.laid_out.given number guest at).sound) leads.fitting leads.replayed

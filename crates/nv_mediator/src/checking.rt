@@ -1,23 +1,41 @@
 //! Whether a set-up makes a world.
 
-ghost use Rattle.std.specs.Prelude.{◌≡◌, ◌||◌, ◌++◌, true};
+ghost use Rattle.std.specs.Prelude.{◌≡◌, ◌||◌, ◌++◌, nat_le, true};
 ghost use Rattle.std.specs.List.{list_all, list_any};
 ghost use Rattle.nv_mediator.specs.Refused.{refused};
+ghost use Rattle.nv_ns.specs.Extents.{blocks_in};
 ghost use Rattle.nv_world_model.specs.SetUp.{all_extents, any_two, blocks_meet, extent_fits, guest_fits, host_fits};
-ghost use Rattle.nv_world_model.specs.SetUp.{maps_meet, meets_area, refusal_of, sizes_fit};
+ghost use Rattle.nv_world_model.specs.SetUp.{host_refusal_of, maps_meet, meets_area, namespace_fits, refusal_of, refusal_within, sizes_fit};
 
+use crate::limits::{Limits, MOST_NAMESPACE_BLOCKS};
 use crate::refusal::Refusal;
 use crate::setup::{Extent, GuestSetup, Setup};
 use nv_mem::{PAGE_SIZE, spans_meet};
 use nv_model::limits::{
-    LANE_SIZE, MOST_DISK_BLOCKS, MOST_EXTENTS, MOST_GUESTS, MOST_HOST_BYTES, MOST_LANES,
-    MOST_LIMIT, MOST_REGIONS,
+    LANE_SIZE, MOST_EXTENTS, MOST_GUESTS, MOST_LANES, MOST_LIMIT, MOST_REGIONS,
 };
 
 #[tactic(auto, unfolding(nv_world_model::specs::SetUp::refusal_of))]
-/// The first reason for which a set-up is refused; `None` where there is none.
+/// The first reason for which a script's set-up is refused; `None` where there is none.
 pub(crate) fn refusal_of(setup: &Setup) -> Option<Refusal>
     ensures { result ≡ refused (refusal_of setup.now) }
+{
+    refusal_within(&Limits::of_scripts(), setup)
+}
+
+impl Setup {
+    /// The first reason for which the set-up is refused of a host that has memory and a drive of its own; `None` where there is none.
+    #[tactic(auto, unfolding(nv_world_model::specs::SetUp::host_refusal_of))]
+    pub fn host_refusal(&self) -> Option<Refusal>
+        ensures { result ≡ refused (host_refusal_of self.now) }
+    {
+        refusal_within(&Limits::of_hosts(), self)
+    }
+}
+
+// The first reason for which a set-up is refused within these limits; `None` where there is none.
+fn refusal_within(limits: &Limits, setup: &Setup) -> Option<Refusal>
+    ensures { result ≡ refused (refusal_within limits.now setup.now) }
 {
     if setup.guests.len() > MOST_GUESTS as usize {
         Some(Refusal::TooManyGuests)
@@ -25,7 +43,7 @@ pub(crate) fn refusal_of(setup: &Setup) -> Option<Refusal>
         Some(Refusal::ExtentsMeet)
     } else if maps_meet(&setup.guests) || area_met(setup) {
         Some(Refusal::MapsMeet)
-    } else if !sizes_fit(setup) {
+    } else if !sizes_fit(limits, setup) {
         Some(Refusal::BadSize)
     } else {
         None
@@ -124,22 +142,23 @@ fn meets_area(setup: &Setup, guest: &GuestSetup) -> bool
 }
 
 // Whether all sizes may be.
-fn sizes_fit(setup: &Setup) -> bool
-    ensures { result ≡ sizes_fit setup.now }
+fn sizes_fit(limits: &Limits, setup: &Setup) -> bool
+    ensures { result ≡ sizes_fit limits.now setup.now }
 {
-    host_fits(setup)
+    host_fits(limits, setup)
         && 1 <= setup.disk_blocks
-        && setup.disk_blocks <= MOST_DISK_BLOCKS
+        && setup.disk_blocks <= limits.disk_blocks
         && all_fit(setup)
+        && namespaces_fit(&setup.guests)
 }
 
 // Whether the host and the mediator's area in it have a size that may be.
-fn host_fits(setup: &Setup) -> bool
-    ensures { result ≡ host_fits setup.now }
+fn host_fits(limits: &Limits, setup: &Setup) -> bool
+    ensures { result ≡ host_fits limits.now setup.now }
 {
     setup.host_bytes % PAGE_SIZE == 0
         && PAGE_SIZE <= setup.host_bytes
-        && setup.host_bytes <= MOST_HOST_BYTES
+        && setup.host_bytes <= limits.host_bytes
         && 1 <= setup.lanes
         && setup.lanes <= u64::from(MOST_LANES)
         && setup.mediator % PAGE_SIZE == 0
@@ -152,6 +171,23 @@ fn all_fit(setup: &Setup) -> bool
     ensures { result ≡ list_all (guest_fits setup.now) setup.now.geometry.guests }
 {
     setup.guests.iter().all(|guest| guest_fits(setup, guest))
+}
+
+// Whether each guest's namespace may have as many blocks as it has.
+fn namespaces_fit(guests: &[GuestSetup]) -> bool
+    ensures { result ≡ list_all namespace_fits guests.now }
+{
+    guests.iter().all(|guest| have_at_most(MOST_NAMESPACE_BLOCKS, &guest.extents))
+}
+
+// Whether extents have so many blocks at most.
+fn have_at_most(most: u64, extents: &[Extent]) -> bool
+    ensures { result ≡ nat_le (blocks_in extents.now) most }
+{
+    let Some((first, rest)) = extents.split_first() else {
+        return true;
+    };
+    first.blocks <= most && have_at_most(most - first.blocks, rest)
 }
 
 // Whether a guest may have what it is to have.

@@ -31,6 +31,7 @@ mod asking;
 mod checking;
 mod copies;
 mod events;
+mod limits;
 mod mediator;
 mod opening;
 mod performing;

@@ -20,7 +20,7 @@ use Rattle.nv_once_script.specs.declared.once.fault.ScriptFault.{ScriptFault}
 use Rattle.nv_once_script.specs.declared.once.fault.ScriptFault.TheVariants as script
 use Rattle.nv_world.specs.Mediated.{mediated}
 use Rattle.nv_world_model.specs.Geometry.{Guest}
-use Rattle.nv_world_model.specs.SetUp.{Refusal, SetUp, refusal_of}
+use Rattle.nv_world_model.specs.SetUp.{Refusal, SetUp, refusal_of, script_limits}
 
 -- a text that is no script
 pub run_of-faulty : (text : List ℕ) (read : ScriptFault) (fault : ReplayFault)
@@ -63,12 +63,12 @@ set_up_of-lanes sizes guests s is = lanes-of sizes (guests_from sizes.host 0 gue
 -- a world that opens has some lanes, and few
 pub lanes-some : (sizes : Sizes) (guests : List GuestValue) (s : SetUp) → set_up_of sizes guests ≡ Ok s → refusal_of s ≡ None → 0 < sizes.lanes
 lanes-some sizes guests s is none =
-    let some = (sizes-of s (is-accepted s none).sizes).some_lanes in
+    let some = (sizes-of script_limits s (is-accepted s none).sizes).some_lanes in
     let same = set_up_of-lanes sizes guests s is in
     omega (arith, some, same)
 
 pub lanes-few : (sizes : Sizes) (guests : List GuestValue) (s : SetUp) → set_up_of sizes guests ≡ Ok s → refusal_of s ≡ None → sizes.lanes < 256
 lanes-few sizes guests s is none =
-    let few = (sizes-of s (is-accepted s none).sizes).few_lanes in
+    let few = (sizes-of script_limits s (is-accepted s none).sizes).few_lanes in
     let same = set_up_of-lanes sizes guests s is in
     omega (arith, few, same)

@@ -1,7 +1,8 @@
-use Rattle.std.proofs.Common.{◌≡◌, ℕ, ◌+◌, ◌<◌, ◌^◌, ◌∙◌, List, Some, length, set, slice_get, ap, refl, subst, sym, arith, Option, None, false, ◌≤◌}
-use Rattle.nv_core.proofs.Besides.{beside-done, beside-flies, beside-idle, beside-none}
+use Rattle.std.proofs.Common.{◌≡◌, ℕ, ◌+◌, ◌<◌, ◌^◌, ◌∙◌, List, Some, length, set, slice_get, ap, refl, subst, sym, arith, Option, None, Bool, true, false, not, ◌≤◌}
+use Rattle.nv_core.proofs.Besides.{beside-done, beside-flies, beside-idle, beside-none, beside-queue}
 use Rattle.nv_core.proofs.GroupWorlds.{looked-up}
 use Rattle.nv_core.proofs.PhasedReaps.{alike, low, must-idle, must-wait, phased, unlike}
+use Rattle.nv_core.proofs.ReapAnswers.{done-told, idle-told, named-flies, not-stray, stray-told}
 use Rattle.nv_core.proofs.Reaps.{aloft, reap-done, reap-idle, reap-no_lane, reaped-as}
 use Rattle.nv_core.proofs.Sides.{of-live, own, quiet-in, reaped-in, state_in}
 use Rattle.nv_core.specs.Front.{IsBeside, IsSideOf, Side}
@@ -9,7 +10,7 @@ use Rattle.nv_core.specs.Kept.{IsLent}
 use Rattle.nv_core.specs.State.{IsOf, State}
 use Rattle.nv_core.specs.Tags.{is_flying, state_in as point_in}
 use Rattle.nv_device.specs.Physical.{lane_of}
-use Rattle.nv_entry.specs.Completion.{phase_of}
+use Rattle.nv_entry.specs.Completion.{cid_of, phase_of}
 use Rattle.nv_laws_sound.proofs.Lists.{set-same, slice_get-below}
 use Rattle.nv_laws_sound.specs.Phased.{phase_at}
 use Rattle.nv_model.specs.Memory.{byte_in, bytes_from}
@@ -18,14 +19,20 @@ use Rattle.nv_world_model.specs.Area.{completion_slot, lane_start}
 use Rattle.nv_tags.specs.declared.state.TagState.TheVariants as state
 use Rattle.nv_world_model.specs.World.{Ended, Flying, Free, Lane, Tag, Taken}
 use Rattle.nv_world_model.specs.declared.event.Event.TheVariants as event
+use mathlib.Core.Bool.{beq}
 use Rattle.nv_core.proofs.front.Front.reap.Goals as goal
 
-grounded : (t : Option Tag) → point_in t ≡ Some state.Flying → is_flying t ≡ false → ⊥
-grounded None flies e = cc
-grounded (Some Free) flies e = cc
-grounded (Some (Taken command reads)) flies e = cc
-grounded (Some (Flying command share at)) flies e = cc
-grounded (Some (Ended command st share)) flies e = cc
+compares : (p q : Bool) → not (beq p q) ≡ false → beq p q ≡ true
+compares true true e = refl
+compares true false e = cc
+compares false true e = cc
+compares false false e = refl
+
+differs : (p q : Bool) → not (beq p q) ≡ true → beq p q ≡ false
+differs true true e = cc
+differs true false e = refl
+differs false true e = refl
+differs false false e = cc
 
 pub returns-then-at-len-clause-ok : goal.returns-then-at-len-clause-ok
 returns-then-at-len-clause-ok g c = λ w is live.
@@ -99,8 +106,8 @@ returns-then-phase-wanted_phase-clause-same g c = λ never.
     ap (λ (ls : List Lane). let n : Side = record { lanes = ls; tails = c.self.inside.tails.items; controllers = c.self.inside.controllers.items } in n)
     (ap (λ (n : ℕ). set c.self.inside.lanes.items n l) c.from-at.ensures ∙ set-same c.self.inside.lanes.items c.args.lane l there) ∙ c.self.view_is
 
-pub returns-then-not-is_flying-clause-same : goal.returns-then-not-is_flying-clause-same
-returns-then-not-is_flying-clause-same g c = λ never.
+pub returns-then-not-names_command-clause-same : goal.returns-then-not-names_command-clause-same
+returns-then-not-names_command-clause-same g c = λ never.
     let m : List ℕ = g.C.MemoryCell.bytes c.args.host.now in
     let side : Side = record { lanes = c.self.inside.lanes.items; tails = c.self.inside.tails.items; controllers = c.self.inside.controllers.items } in
     let lent : IsLent c.args.layout.now side m = subst (λ (f : Side). IsLent c.args.layout.now f m) (sym c.self.view_is) c.requires in
@@ -111,8 +118,8 @@ returns-then-not-is_flying-clause-same g c = λ never.
     ap (λ (ls : List Lane). let n : Side = record { lanes = ls; tails = c.self.inside.tails.items; controllers = c.self.inside.controllers.items } in n)
     (ap (λ (n : ℕ). set c.self.inside.lanes.items n l) c.from-at.ensures ∙ set-same c.self.inside.lanes.items c.args.lane l there) ∙ c.self.view_is
 
-pub returns-then-not-is_flying-clause-stray : goal.returns-then-not-is_flying-clause-stray
-returns-then-not-is_flying-clause-stray g c = λ w on0 live.
+pub returns-then-not-names_command-clause-stray : goal.returns-then-not-names_command-clause-stray
+returns-then-not-names_command-clause-stray g c = λ w on0 live.
     let m : List ℕ = g.C.MemoryCell.bytes c.args.host.now in
     let side : Side = record { lanes = c.self.inside.lanes.items; tails = c.self.inside.tails.items; controllers = c.self.inside.controllers.items } in
     let lent : IsLent c.args.layout.now side m = subst (λ (f : Side). IsLent c.args.layout.now f m) (sym c.self.view_is) c.requires in
@@ -120,11 +127,15 @@ returns-then-not-is_flying-clause-stray g c = λ w on0 live.
     let on : IsBeside side m w = subst (λ (f : Side). IsBeside f m w) (sym c.self.view_is) on0 in
     let located : c.completion_slot-slot.result ≡ completion_slot c.args.layout.now.mediator c.args.lane c.head.result =
     c.completion_slot-slot.ensures ∙ ap (λ (n : ℕ). completion_slot n c.args.lane c.head.result) c.mediator.ensures in
+    let same = alike c.phase.result c.wanted_phase.result c.if-phase-wanted_phase.false in
+    let completion : List ℕ = c.completion_at-completion.result in
     let flies = beside-flies c.args.layout.now side m w on live lent.laid_out c.args.lane c.from-at.result c.index_mut-ring.result.now c.from-at.ensures below
-    c.index_mut-ring.ensures.value c.head.result c.completion_slot-slot.result c.head.ensures.value located c.completion_at-completion.result
-    c.completion_at-completion.ensures c.phase.result c.wanted_phase.result c.phase.ensures c.wanted_phase.ensures
-    (alike c.phase.result c.wanted_phase.result c.if-phase-wanted_phase.false) c.cid-identifier.result c.cid-identifier.ensures in
-    grounded (slice_get c.index_mut-ring.result.now.tags c.cid-identifier.result) flies (sym c.is_flying.ensures ∙ c.if-not-is_flying.true)
+    c.index_mut-ring.ensures.value c.head.result c.completion_slot-slot.result c.head.ensures.value located completion
+    c.completion_at-completion.ensures c.phase.result c.wanted_phase.result c.phase.ensures c.wanted_phase.ensures same (cid_of completion) refl in
+    let queue = beside-queue c.args.layout.now side m w on live lent.laid_out c.args.lane c.from-at.result c.index_mut-ring.result.now c.from-at.ensures below
+    c.index_mut-ring.ensures.value c.head.result c.completion_slot-slot.result c.head.ensures.value located completion
+    c.completion_at-completion.ensures c.phase.result c.wanted_phase.result c.phase.ensures c.wanted_phase.ensures same (cid_of completion) refl in
+    not-stray c.args.lane c.index_mut-ring.result.now completion queue flies (sym c.names_command.ensures ∙ c.if-not-names_command.true)
 
 pub overflow_cast-identifier : goal.overflow_cast-identifier
 overflow_cast-identifier g c =
@@ -135,14 +146,16 @@ overflow_cast-identifier g c =
     let l : Lane = c.index_mut-ring.result.now in
     let there : slice_get c.self.inside.lanes.items c.args.lane ≡ Some l =
     looked-up c.self.inside.lanes.items c.args.lane c.from-at.result l c.from-at.ensures below c.index_mut-ring.ensures.value in
-    let f = aloft (slice_get l.tags c.cid-identifier.result) (sym c.is_flying.ensures ∙ c.if-not-is_flying.false) in
+    let f = aloft (slice_get l.tags c.cid-identifier.result) (named-flies c.args.lane c.index_mut-ring.result.now c.completion_at-completion.result c.cid-identifier.result c.cid-identifier.ensures
+    (sym c.names_command.ensures ∙ c.if-not-names_command.false)) in
     let among = slice_get-below l.tags c.cid-identifier.result (Flying f.command f.share f.at) f.is in
     let many = (lent.kept.lanes c.args.lane l there).tags_are in
     omega (arith, among, many)
 
 pub end_with-requires : goal.end_with-requires
 end_with-requires g c =
-    let f = aloft (slice_get c.index_mut-ring.result.now.tags c.cid-identifier.result) (sym c.is_flying.ensures ∙ c.if-not-is_flying.false) in
+    let f = aloft (slice_get c.index_mut-ring.result.now.tags c.cid-identifier.result) (named-flies c.args.lane c.index_mut-ring.result.now c.completion_at-completion.result c.cid-identifier.result c.cid-identifier.ensures
+    (sym c.names_command.ensures ∙ c.if-not-names_command.false)) in
     ap point_in f.is
 
 pub returns-clause-ok : goal.returns-clause-ok
@@ -187,7 +200,8 @@ returns-clause-ended g c = λ done w k is0 found.
     let at_head : c.completion_slot-slot.result ≡ completion_slot c.args.layout.now.mediator c.args.lane l.head =
     c.completion_slot-slot.ensures ∙ ap (λ (n : ℕ). completion_slot n c.args.lane c.head.result) c.mediator.ensures
     ∙ ap (completion_slot c.args.layout.now.mediator c.args.lane) c.head.ensures.value in
-    let f = aloft (slice_get l.tags c.cid-identifier.result) (sym c.is_flying.ensures ∙ c.if-not-is_flying.false) in
+    let f = aloft (slice_get l.tags c.cid-identifier.result) (named-flies c.args.lane c.index_mut-ring.result.now c.completion_at-completion.result c.cid-identifier.result c.cid-identifier.ensures
+    (sym c.names_command.ensures ∙ c.if-not-names_command.false)) in
     reaped-in c.args.layout.now side m w is c.args.lane c.from-at.result l c.read_completion.new.self k c.from-at.ensures found there
     (reaped-as (own c.args.layout.now side m w is) c.args.lane c.cid-identifier.result l c.end_with.new.self c.read_completion.new.self f.command f.share f.at
     c.completion_at-completion.result (bytes_from (byte_in m) (completion_slot c.args.layout.now.mediator c.args.lane l.head) cqe_size)
@@ -228,3 +242,48 @@ returns-clause-beside g c = λ w on0 live.
     c.completion_at-completion.ensures c.phase.result c.wanted_phase.result c.phase.ensures c.wanted_phase.ensures
     (alike c.phase.result c.wanted_phase.result c.if-phase-wanted_phase.false) c.cid-identifier.result c.cid-identifier.ensures
     c.status.result c.passed_on.result c.end_with.new.self c.read_completion.new.self c.status.ensures c.passed_on.ensures c.end_with.ensures c.read_completion.ensures
+
+pub returns-then-phase-wanted_phase-clause-answer : goal.returns-then-phase-wanted_phase-clause-answer
+returns-then-phase-wanted_phase-clause-answer g c =
+    let m : List ℕ = g.C.MemoryCell.bytes c.args.host.now in
+    let below : c.from-at.result < length c.self.inside.lanes.items = (let l = c.len.ensures in let n = c.from-at.ensures in let t = c.if-at-len.false in omega arith) in
+    let l : Lane = c.index_mut-ring.result.now in
+    let there : slice_get c.args.self.now.lanes c.args.lane ≡ Some l =
+    ap (λ (f : Side). slice_get f.lanes c.args.lane) (sym c.self.view_is)
+    ∙ looked-up c.self.inside.lanes.items c.args.lane c.from-at.result l c.from-at.ensures below c.index_mut-ring.ensures.value in
+    let at_head : c.completion_slot-slot.result ≡ completion_slot c.args.layout.now.mediator c.args.lane l.head =
+    c.completion_slot-slot.ensures ∙ ap (λ (n : ℕ). completion_slot n c.args.lane c.head.result) c.mediator.ensures
+    ∙ ap (completion_slot c.args.layout.now.mediator c.args.lane) c.head.ensures.value in
+    idle-told c.args.layout.now c.args.lane c.args.self.now.lanes l m c.completion_at-completion.result there
+    (c.completion_at-completion.ensures ∙ ap (λ (a : ℕ). bytes_from (byte_in m) a cqe_size) at_head) c.phase.result c.wanted_phase.result c.phase.ensures
+    c.wanted_phase.ensures (differs c.phase.result c.wanted_phase.result c.if-phase-wanted_phase.true)
+
+pub returns-then-not-names_command-clause-answer : goal.returns-then-not-names_command-clause-answer
+returns-then-not-names_command-clause-answer g c =
+    let m : List ℕ = g.C.MemoryCell.bytes c.args.host.now in
+    let below : c.from-at.result < length c.self.inside.lanes.items = (let l = c.len.ensures in let n = c.from-at.ensures in let t = c.if-at-len.false in omega arith) in
+    let l : Lane = c.index_mut-ring.result.now in
+    let there : slice_get c.args.self.now.lanes c.args.lane ≡ Some l =
+    ap (λ (f : Side). slice_get f.lanes c.args.lane) (sym c.self.view_is)
+    ∙ looked-up c.self.inside.lanes.items c.args.lane c.from-at.result l c.from-at.ensures below c.index_mut-ring.ensures.value in
+    let at_head : c.completion_slot-slot.result ≡ completion_slot c.args.layout.now.mediator c.args.lane l.head =
+    c.completion_slot-slot.ensures ∙ ap (λ (n : ℕ). completion_slot n c.args.lane c.head.result) c.mediator.ensures
+    ∙ ap (completion_slot c.args.layout.now.mediator c.args.lane) c.head.ensures.value in
+    stray-told c.args.layout.now c.args.lane c.args.self.now.lanes l m c.completion_at-completion.result there
+    (c.completion_at-completion.ensures ∙ ap (λ (a : ℕ). bytes_from (byte_in m) a cqe_size) at_head) c.phase.result c.wanted_phase.result c.phase.ensures
+    c.wanted_phase.ensures (compares c.phase.result c.wanted_phase.result c.if-phase-wanted_phase.false) (sym c.names_command.ensures ∙ c.if-not-names_command.true)
+
+pub returns-clause-answer : goal.returns-clause-answer
+returns-clause-answer g c =
+    let m : List ℕ = g.C.MemoryCell.bytes c.args.host.now in
+    let below : c.from-at.result < length c.self.inside.lanes.items = (let l = c.len.ensures in let n = c.from-at.ensures in let t = c.if-at-len.false in omega arith) in
+    let l : Lane = c.index_mut-ring.result.now in
+    let there : slice_get c.args.self.now.lanes c.args.lane ≡ Some l =
+    ap (λ (f : Side). slice_get f.lanes c.args.lane) (sym c.self.view_is)
+    ∙ looked-up c.self.inside.lanes.items c.args.lane c.from-at.result l c.from-at.ensures below c.index_mut-ring.ensures.value in
+    let at_head : c.completion_slot-slot.result ≡ completion_slot c.args.layout.now.mediator c.args.lane l.head =
+    c.completion_slot-slot.ensures ∙ ap (λ (n : ℕ). completion_slot n c.args.lane c.head.result) c.mediator.ensures
+    ∙ ap (completion_slot c.args.layout.now.mediator c.args.lane) c.head.ensures.value in
+    done-told c.args.layout.now c.args.lane c.args.self.now.lanes l m c.completion_at-completion.result there
+    (c.completion_at-completion.ensures ∙ ap (λ (a : ℕ). bytes_from (byte_in m) a cqe_size) at_head) c.phase.result c.wanted_phase.result c.phase.ensures
+    c.wanted_phase.ensures (compares c.phase.result c.wanted_phase.result c.if-phase-wanted_phase.false) (sym c.names_command.ensures ∙ c.if-not-names_command.false)

@@ -1,6 +1,8 @@
-use Rattle.std.proofs.Common.{◌≡◌, ℕ, ◌+◌, ◌<◌, ◌^◌, ◌∙◌, List, length, ap, subst, sym, arith}
+use Rattle.std.proofs.Common.{◌≡◌, ℕ, ◌+◌, ◌<◌, ◌^◌, ◌∙◌, List, Some, length, slice_get, ap, subst, sym, arith}
 use Rattle.nv_core.proofs.Dues.{due-told, reap-due}
 use Rattle.nv_core.proofs.PhasedReaps.{low, phased, shows}
+use Rattle.nv_core.proofs.GroupWorlds.{looked-up}
+use Rattle.nv_core.proofs.ReapAnswers.{waits-told}
 use Rattle.nv_core.proofs.Reaps.{reap-no_lane}
 use Rattle.nv_core.proofs.Sides.{due-side, of-side, state_in}
 use Rattle.nv_core.proofs.KeptStates.{IsKeptOf}
@@ -18,8 +20,8 @@ use Rattle.nv_model.specs.declared.reply.Reply.TheVariants as reply
 use Rattle.nv_world_model.specs.declared.event.Event.TheVariants as event
 use Rattle.nv_core.proofs.front.Front.reap_due.Goals as goal
 
-pub returns-then-at-len : goal.returns-then-at-len
-returns-then-at-len g c = λ w is live.
+pub returns-then-at-len-clause-due : goal.returns-then-at-len-clause-due
+returns-then-at-len-clause-due g c = λ w is live.
     let m : List ℕ = g.C.MemoryCell.bytes c.args.host.now in
     let old : State = state_in c.args.layout.now c.args.self.now m w is in
     let s : State = record { host = m; device = old.device; lanes = c.self.inside.lanes.items; controllers = c.self.inside.controllers.items } in
@@ -53,8 +55,8 @@ completion_at-requires g c = λ some.
     let low = c.head.ensures.fits in
     omega (arith, area, at, below, begins, slot, low)
 
-pub returns : goal.returns
-returns g c = λ w is0 live.
+pub returns-clause-due : goal.returns-clause-due
+returns-clause-due g c = λ w is0 live.
     let m : List ℕ = g.C.MemoryCell.bytes c.args.host.now in
     let side : Side = record { lanes = c.self.inside.lanes.items; tails = c.self.inside.tails.items; controllers = c.self.inside.controllers.items } in
     let lent : IsLent c.args.layout.now side m = subst (λ (f : Side). IsLent c.args.layout.now f m) (sym c.self.view_is) c.requires in
@@ -74,3 +76,18 @@ returns g c = λ w is0 live.
     (phase_of c.completion_at.result) reads c.phase.ensures c.wanted_phase.ensures
     ∙ sym (reap-due c.args.layout.now s of c.args.lane c.from-at.result l c.from-at.ensures below c.index-ring.ensures)
     ∙ due-side c.args.layout.now side m w is (event.Reap c.args.lane) tt
+
+pub returns-clause-answer : goal.returns-clause-answer
+returns-clause-answer g c =
+    let m : List ℕ = g.C.MemoryCell.bytes c.args.host.now in
+    let below : c.from-at.result < length c.self.inside.lanes.items = (let l = c.len.ensures in let n = c.from-at.ensures in let t = c.if-at-len.false in omega arith) in
+    let l : Lane = c.index-ring.result.now in
+    let there : slice_get c.args.self.now.lanes c.args.lane ≡ Some l =
+    ap (λ (f : Side). slice_get f.lanes c.args.lane) (sym c.self.view_is)
+    ∙ looked-up c.self.inside.lanes.items c.args.lane c.from-at.result l c.from-at.ensures below c.index-ring.ensures in
+    let at_head : c.completion_slot-slot.result ≡ completion_slot c.args.layout.now.mediator c.args.lane l.head =
+    c.completion_slot-slot.ensures ∙ ap (λ (n : ℕ). completion_slot n c.args.lane c.head.result) c.mediator.ensures
+    ∙ ap (completion_slot c.args.layout.now.mediator c.args.lane) c.head.ensures.value in
+    waits-told c.args.layout.now c.args.lane c.args.self.now.lanes l m c.completion_at.result there
+    (c.completion_at.ensures ∙ ap (λ (a : ℕ). bytes_from (byte_in m) a cqe_size) at_head) c.phase.result c.wanted_phase.result c.phase.ensures
+    c.wanted_phase.ensures
