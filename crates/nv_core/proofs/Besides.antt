@@ -1,13 +1,15 @@
 -- A Reap in a world that has the mediator's side but for the places of parts.
-use Rattle.std.proofs.Common.{◌≡◌, ℕ, ◌<◌, ◌≤◌, Bool, List, get_or, length, map, set, slice_get, Option, Some, None, arith, refl, sym, ap, ◌∙◌, subst}
+use Rattle.std.proofs.Common.{◌≡◌, ℕ, ◌<◌, ◌≤◌, Bool, false, List, get_or, length, map, set, slice_get, Option, Some, None, arith, refl, sym, ap, ◌∙◌, subst}
 use Rattle.std.specs.Prelude.{◌↔◌, IsTrue}
 use Rattle.std.specs.Option.{option_map}
 use Rattle.std.proofs.lemmas.List.{length-map, map-set}
 use Rattle.std.proofs.lemmas.Option.{get_or_from_slice_get, slice_get-map}
+use Rattle.nv_core.proofs.Dues.{due-told, reap-due}
 use Rattle.nv_core.proofs.GroupWorlds.{looked-up}
-use Rattle.nv_core.proofs.PhasedReaps.{low, must-idle, must-wait, phased}
+use Rattle.nv_core.proofs.KeptStates.{kept-of}
+use Rattle.nv_core.proofs.PhasedReaps.{low, must-idle, must-wait, phased, shows}
 use Rattle.nv_core.proofs.Reaps.{IsAloft, cid-flies, queue-named, reap-done, reap-idle, reap-no_lane}
-use Rattle.nv_core.proofs.Sides.{of-live, quiet-in, rung-same, state_in}
+use Rattle.nv_core.proofs.Sides.{due-side, of-live, quiet-in, rung-same, state_in}
 use Rattle.nv_core.specs.Front.{IsBeside, IsLive, IsSideOf, IsStepBeside, Side, rung_with, tails_of, with_side}
 use Rattle.nv_core.specs.State.{IsOf, State}
 use Rattle.nv_core.specs.Tags.{state_in as point_in}
@@ -23,7 +25,9 @@ use Rattle.nv_model.specs.Queue.{cqe_size}
 use Rattle.nv_model.specs.declared.reply.Reply.{Reply}
 use Rattle.nv_model.specs.declared.reply.Reply.TheVariants as reply
 use Rattle.nv_tags.specs.declared.state.TagState.TheVariants as state
+use mathlib.Core.Bool.{beq}
 use Rattle.nv_world_model.specs.Area.{completion_slot, queue_pair}
+use Rattle.nv_world_model.specs.Due.{due}
 use Rattle.nv_world_model.specs.Geometry.{Geometry}
 use Rattle.nv_world_model.specs.Share.{Share}
 use Rattle.nv_world_model.specs.Step.{After, completion_read, passed_on, step}
@@ -145,6 +149,13 @@ module _ (geometry : Geometry) (side : Side) (memory : List ℕ) (w : World) (on
       (reap-no_lane geometry s s lane refl (let many = many-same side memory w on in omega (arith, many, past))))
       on.lanes refl refl
 
+  -- it is not due where there is no such lane
+  pub undue-none : (lane : ℕ) → length side.lanes ≤ lane → false ≡ due geometry (event.Reap lane) w
+  undue-none lane past =
+      sym (due-told geometry (event.Reap lane) s s reply.Ignored
+      (reap-no_lane geometry s s lane refl (let many = many-same side memory w on in omega (arith, many, past))))
+      ∙ due-side geometry theirs memory w exact (event.Reap lane) tt
+
   module _ (lane i : ℕ) (l : Lane) (at : i ≡ lane) (below : i < length side.lanes) (has : l ≡ get_or side.lanes i l) (head addr : ℕ) (head_is : head ≡ l.head)
       (located : addr ≡ completion_slot geometry.mediator lane head) (completion : List ℕ) (read : completion ≡ bytes_from (byte_in memory) addr cqe_size)
       (p q : Bool) (iff : IsTrue p ↔ (phase_of completion ≡ 1)) (wants : q ≡ l.phase) where
@@ -181,6 +192,14 @@ module _ (geometry : Geometry) (side : Side) (memory : List ℕ) (w : World) (on
     idles differ =
         must-idle geometry (byte_in memory) lane k.head k.phase posted (lane_of s.device lane).phase (low geometry theirs memory w exact live lane i k at below_w has_k)
         (phased geometry theirs memory w exact live lane i k at below_w has_k) p q (phase_of completion) reads iff wants_k differ
+
+    -- it is due where the phase tag is the one that is wanted
+    pub beside-due : beq p q ≡ due geometry (event.Reap lane) w
+    beside-due =
+        shows geometry (byte_in memory) lane k.head k.phase posted (lane_of s.device lane).phase (low geometry theirs memory w exact live lane i k at below_w has_k)
+        (phased geometry theirs memory w exact live lane i k at below_w has_k) p q (phase_of completion) reads iff wants_k
+        ∙ sym (reap-due geometry s (kept-of geometry s of) lane i k at below_w has_k)
+        ∙ due-side geometry theirs memory w exact (event.Reap lane) tt
 
     -- the lane of the side changes as that of the world does
     set-alike : (x y : Lane) → unplaced_lane x ≡ unplaced_lane y → map unplaced_lane (set w.lanes i x) ≡ map unplaced_lane (set side.lanes i y)

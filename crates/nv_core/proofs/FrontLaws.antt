@@ -60,7 +60,7 @@ module _ (geometry : Geometry) (e : Event) (mine : IsMediators e) (old new : Sid
           ∙ ap after_unplaced (sym made)
 
 -- what a world with this side keeps is what the side keeps
-own-kept : (geometry : Geometry) (side : Side) (memory : List ℕ) → IsKept geometry side → IsKeptWorld geometry (own-world side memory)
+pub own-kept : (geometry : Geometry) (side : Side) (memory : List ℕ) → IsKept geometry side → IsKeptWorld geometry (own-world side memory)
 own-kept geometry side memory kept =
     let tails = (own-side side memory).tails in
     let w : World = own-world side memory in

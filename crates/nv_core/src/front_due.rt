@@ -2,7 +2,7 @@
 
 ghost use Rattle.std.specs.Prelude.{◌≡◌, ℕ, if◌then◌else◌, List, Option, Some, is_some, length, slice_get, true};
 ghost use Rattle.nv_core.specs.Ending.{IsEnded};
-ghost use Rattle.nv_core.specs.Front.{IsLive, IsSideOf};
+ghost use Rattle.nv_core.specs.Front.{IsBeside, IsLive, IsSideOf};
 ghost use Rattle.nv_core.specs.Kept.{IsKept, IsLent};
 ghost use Rattle.nv_core.specs.Reaping.{waits_in};
 ghost use Rattle.nv_core.specs.Groups.{statuses_in};
@@ -49,6 +49,7 @@ impl Front {
         requires { IsLent layout.now self.now (C.bytes host.now) }
         ensures answer { result ≡ waits_in layout.now lane (slice_get self.now.lanes lane) (C.bytes host.now) }
         ensures due { (w : World) → IsSideOf self.now (C.bytes host.now) w → IsLive layout.now w → result ≡ due layout.now (Event.Reap lane) w }
+        ensures beside { (w : World) → IsBeside self.now (C.bytes host.now) w → IsLive layout.now w → result ≡ due layout.now (Event.Reap lane) w }
     {
         let at = usize::from(lane);
         if at >= self.lanes.len() {

@@ -49,6 +49,7 @@ mod lending;
 mod opening;
 mod parts;
 mod physical_entry;
+mod positions;
 mod posting;
 mod progress;
 mod reaping;

@@ -1,6 +1,6 @@
 //! Completions of the physical controller that are read.
 
-ghost use Rattle.std.specs.Prelude.{◌≡◌, IfOk, Ok, OnErr, length, slice_get};
+ghost use Rattle.std.specs.Prelude.{◌≡◌, ◌<◌, IfOk, Ok, OnErr, length, slice_get};
 ghost use Rattle.std.specs.Result.{result_ok};
 ghost use Rattle.nv_core.specs.Front.{IsBeside, IsLive, IsLiveStep, IsReaped, IsStepBeside};
 ghost use Rattle.nv_core.specs.Kept.{IsLent};
@@ -47,6 +47,7 @@ impl Front {
         ensures ok { IfOk result (λ reply.
             IsLiveStep layout.now (Event.Reap lane) self.old (C.bytes host.now) reply self.new (C.bytes host.now)) }
         ensures ended { result ≡ Ok Reply.Done → IsReaped layout.now lane self.old self.new (C.bytes host.now) }
+        ensures there { result ≡ Ok Reply.Done → lane < length self.old.lanes }
         ensures same { (result ≡ Ok Reply.Done → ⊥) → self.new ≡ self.old }
         ensures beside { IfOk result (λ reply. (w : World) → IsBeside self.old (C.bytes host.now) w → IsLive layout.now w →
             IsStepBeside layout.now (Event.Reap lane) w reply self.new (C.bytes host.now)) }

@@ -4,7 +4,7 @@
 //! calls with their replies, and what the controller did between them. A host that has the contracts of its calls on one side, and a controller that does
 //! what the definition's does on the other, has the whole promise by these laws. `nv_core` says of each call that it is a step of such a world.
 //!
-//! Nothing rests on this crate.
+//! `nv_host` makes these conditions an invariant of a type, and rests on it.
 #![tactic(auto)]
 
 pub mod laws;

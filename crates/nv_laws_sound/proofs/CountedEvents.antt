@@ -30,16 +30,16 @@ use Rattle.nv_world_model.specs.Step.{take_tags, taken_to}
 use Rattle.nv_world_model.specs.World.{Command, Ended, Flying, Free, Lane, Queued, Tag, Taken, World, changed_at, claimed, group, is_free, tag_in, tag_of}
 use Rattle.nv_world_model.specs.World.{with_device, with_host, with_lane, with_tag}
 use Rattle.nv_world_model.proofs.Seats.{IsOwner}
-use Rattle.nv_laws_sound.specs.Consistent.{IsConsistent, IsConsistentOfTags}
+use Rattle.nv_laws_sound.specs.Consistent.{IsConsistent}
 use Rattle.nv_laws_sound.specs.Counted.{IsCounted, command_in, commands}
-use Rattle.nv_laws_sound.specs.Groups.{command_of, ended_part}
+use Rattle.nv_laws_sound.specs.Groups.{AreGroups, command_of, ended_part}
+use Rattle.nv_laws_sound.specs.Kept.{IsKeptWorld}
 use Rattle.nv_laws_sound.proofs.Commands.{counted-same}
-use Rattle.nv_laws_sound.proofs.CountedActs.{end-counted, retag-counted, stand-counted, still-counted}
+use Rattle.nv_laws_sound.proofs.CountedActs.{HasLane, end-counted, lane-of, retag-counted, stand-counted, still-counted}
 use Rattle.nv_laws_sound.proofs.CountedTags.{freed-counted, taken_to-counted}
 use Rattle.nv_laws_sound.proofs.Folds.{HasTag, group-distinct, have-other, tag_of-other, with_tags-fold}
 use Rattle.nv_laws_sound.proofs.Lists.{slice_get-below}
 use Rattle.nv_laws_sound.proofs.Numbers.{AreDistinct, numbers-distinct, numbers_where, take-distinct}
-use Rattle.nv_laws_sound.proofs.Retags.{IsAt, is-at}
 use Rattle.nv_laws_sound.proofs.Slots.{device-there}
 use Rattle.nv_laws_sound.proofs.Stages.{taken-tags}
 use Rattle.nv_laws_sound.proofs.TagEvents.{IsTakenBy}
@@ -47,10 +47,27 @@ use Rattle.nv_laws_sound.proofs.Takes.{IsFree, claimed-free, claimed-is}
 use Rattle.nv_laws_sound.proofs.Walks.{either}
 
 module _ (geometry : Geometry) where
-  -- ---- takes
+  -- ---- what is used of a world
 
-  pub tags-sized : (w : World) (lane : ℕ) (l : Lane) → IsConsistentOfTags geometry w → slice_get w.lanes lane ≡ Some l → length l.tags ≡ tag_count
-  tags-sized w lane l fine at = let d = device-there geometry w lane l fine at in (fine.lanes lane l d.0 at d.1).positions.tags
+  -- a lane has its tags, and those of each command belong together
+  pub record IsWhole (l : Lane) : Type 0 where
+    pub many : length l.tags ≡ tag_count
+    pub groups : AreGroups geometry l.tags
+
+  abbrev pub AreWhole : World → Type 0
+  AreWhole w = (lane : ℕ) (l : Lane) → slice_get w.lanes lane ≡ Some l → IsWhole l
+
+  -- so it is in a consistent world
+  pub consistent-whole : (w : World) → IsConsistent geometry w → AreWhole w
+  consistent-whole w fine lane l at =
+      let d = device-there geometry w lane l fine.of_tags at in
+      record { many = (fine.of_tags.lanes lane l d.0 at d.1).positions.tags; groups = fine.groups lane l at }
+
+  -- and in one that keeps what the mediator's side keeps
+  pub kept-whole : (w : World) → IsKeptWorld geometry w → AreWhole w
+  kept-whole w is lane l at = (let k = is.lanes lane l at in record { many = k.tags_are; groups = k.groups })
+
+  -- ---- takes
 
   tags-found : (found : Option (List ℕ)) (w : World) (addr queue lane : ℕ) (l : Lane) (o : Owner)
       → claimed (tags_of_entry o.given.namespace (entry_at addr o w)) l.tags ≡ found → 0 < tags_of_entry o.given.namespace (entry_at addr o w)
@@ -176,11 +193,11 @@ module _ (geometry : Geometry) where
   submit-counted (Settled plan) w mediator lane tags command o have apart is = carried-counted plan w mediator lane tags command o have apart is
 
   -- the tags of a command that waits
-  pub all-taken : (w : World) (lane tag : ℕ) (command : Command) (reads : List ReadDone) → IsConsistent geometry w
+  pub all-taken : (w : World) (lane tag : ℕ) (command : Command) (reads : List ReadDone) → AreWhole w
       → tag_of w lane tag ≡ Some (Taken command reads) → command.leader ≡ tag → All (HasTag (IsTakenBy command) w lane) (group w lane tag)
-  all-taken w lane tag command reads fine found leads =
-      let a = is-at geometry w lane tag (Taken command reads) fine.of_tags found in
-      taken-tags geometry w lane tag a.l command reads a.at_lane (fine.groups lane a.l a.at_lane) found leads
+  all-taken w lane tag command reads whole found leads =
+      let a = lane-of w lane tag (Taken command reads) found in
+      taken-tags geometry w lane tag a.l command reads a.at (whole lane a.l a.at).groups found leads
 
   -- ---- the device, and what it is told
 
@@ -274,24 +291,24 @@ module _ (geometry : Geometry) where
   ended-has command st (Some share) = refl
 
   -- of a command that has ended
-  module _ (w : World) (lane tag : ℕ) (command : Command) (ended_with : StatusField) (share : Option Share) (o : Owner) (fine : IsConsistent geometry w)
+  module _ (w : World) (lane tag : ℕ) (command : Command) (ended_with : StatusField) (share : Option Share) (o : Owner) (whole : AreWhole w)
       (is : IsCounted geometry w) (found : tag_of w lane tag ≡ Some (Ended command ended_with share)) (leads : command.leader ≡ tag)
       (owns : IsOwner geometry w o) (whose : o.number ≡ command.guest) where
-    place : IsAt w lane tag (Ended command ended_with share)
-    place = is-at geometry w lane tag (Ended command ended_with share) fine.of_tags found
+    place : HasLane w lane tag (Ended command ended_with share)
+    place = lane-of w lane tag (Ended command ended_with share) found
 
     below : tag < tag_count
     below =
-        let tags = tags-sized w lane place.l fine.of_tags place.at_lane in
-        let among = slice_get-below place.l.tags tag (Ended command ended_with share) place.at_tag in
+        let tags = (whole lane place.l place.at).many in
+        let among = slice_get-below place.l.tags tag (Ended command ended_with share) place.found in
         omega (arith, tags, among)
 
     posted-counted : (posted : Posted) (v : World) → IsKept w v → IsPosted o.controller command.queue posted
         → IsCounted geometry (posted_to posted lane (group w lane tag) o v)
     unfolding posted_to put_back
     posted-counted posted v kept behind =
-        freed-counted geometry w _ lane tag command ended_with share o posted.controller place.l below place.at_lane (fine.groups lane place.l place.at_lane)
-        place.at_tag (ended-has command ended_with share) leads whose owns is kept.0 (ap (λ cs. set cs o.number posted.controller) kept.1)
+        freed-counted geometry w _ lane tag command ended_with share o posted.controller place.l below place.at (whole lane place.l place.at).groups
+        place.found (ended-has command ended_with share) leads whose owns is kept.0 (ap (λ cs. set cs o.number posted.controller) kept.1)
         behind.0 behind.1 (group-distinct w lane tag)
 
     out-counted : (v : World) → IsKept w v → is_enabled o.controller ≡ false → IsCounted geometry (ran_out_of command.queue lane (group w lane tag) o v)
@@ -299,8 +316,8 @@ module _ (geometry : Geometry) where
     out-counted v kept out =
         let was = is.running o.number o.given o.controller owns.given owns.controller in
         let behind = ran_out-together o.controller command.queue out was.together in
-        freed-counted geometry w _ lane tag command ended_with share o (ran_out o.controller command.queue) place.l below place.at_lane
-        (fine.groups lane place.l place.at_lane) place.at_tag (ended-has command ended_with share) leads whose owns is kept.0
+        freed-counted geometry w _ lane tag command ended_with share o (ran_out o.controller command.queue) place.l below place.at
+        (whole lane place.l place.at).groups place.found (ended-has command ended_with share) leads whose owns is kept.0
         (ap (λ cs. set cs o.number (ran_out o.controller command.queue)) kept.1) behind.0 behind.1 (group-distinct w lane tag)
 
     post-found : (found : Option Posted) (st : StatusField) → IfSome found (IsPosted o.controller command.queue)

@@ -20,17 +20,35 @@ impl Mediator {
         requires { refusal_of setup ≡ None }
         ensures { IfOk result (λ mediator. IsAtStart setup mediator) }
     {
-        let Setup {
-            host_bytes,
-            mediator,
-            disk_blocks,
-            lanes,
-            guests,
-        } = setup;
-        let guests = all_given(alloc, guests)?;
-        let layout = Layout::new(mediator, disk_blocks, guests);
+        let host_bytes = setup.host_bytes;
+        let lanes = setup.lanes;
+        let layout = setup.into_layout(alloc)?;
         let core = Core::new(alloc, &layout, host_bytes, lanes as u8)?;
         Ok(Mediator { layout, core })
+    }
+}
+
+impl Setup {
+    /// What stays as it is while the world of this set-up runs: the place of the mediator's area, the blocks of the disk, and what each guest has. With
+    /// each map comes what is known of it.
+    ///
+    /// # Errors
+    ///
+    /// [`NoMemory`] where memory for the guests is refused.
+    pub fn into_layout(self, alloc: Global) -> Result<Layout, NoMemory>
+        requires { (number : ℕ) (guest : Guest) → slice_get self.geometry.guests number ≡ Some guest → MayBeGiven guest }
+        ensures given { IfOk result (λ layout. layout ≡ self.geometry) }
+        ensures sound { IfOk result (λ layout. (number : ℕ) (guest : Guest) → slice_get layout.guests number ≡ Some guest → IsSound guest.memory_map) }
+    {
+        let Setup {
+            host_bytes: _,
+            mediator,
+            disk_blocks,
+            lanes: _,
+            guests,
+        } = self;
+        let guests = all_given(alloc, guests)?;
+        Ok(Layout::new(mediator, disk_blocks, guests))
     }
 }
 

@@ -4,12 +4,13 @@ ghost use Rattle.std.specs.Prelude.{◌≡◌, ℕ, List, Some, None, length, sl
 ghost use Rattle.nv_mem.specs.GuestMap.{IsSound};
 ghost use Rattle.nv_world_model.specs.Geometry.{Geometry, Guest};
 ghost use Rattle.nv_world_model.specs.SetUp.{SetUp, host_refusal_of};
-ghost use Rattle.nv_world_model.specs.Step.{replay, step};
-ghost use Rattle.nv_world_model.specs.World.{World};
+ghost use Rattle.nv_world_model.specs.Step.{reaped, replay, step};
+ghost use Rattle.nv_world_model.specs.World.{Lane, World};
 ghost use Rattle.nv_world_model.specs.SetUp.{world_at_start};
 ghost use Rattle.nv_world_model.specs.declared.event.Event.{Event};
 ghost use Rattle.nv_laws_sound.specs.Consistent.{IsConsistent};
 ghost use Rattle.nv_laws_sound.specs.Counted.{IsCounted};
+ghost use Rattle.nv_laws_sound.specs.Kept.{IsKeptWorld};
 ghost use Rattle.nv_laws_sound.specs.LaidOut.{IsLaidOut};
 
 /// Each guest's controller counts that guest's commands in all lanes, each once, in the tag that it goes by, by the queue that they were taken
@@ -23,4 +24,13 @@ pub fn controllers_count_their_commands()
     ensures from_start { (s : SetUp) (events : List Event) → host_refusal_of s ≡ None →
         ((number : ℕ) (guest : Guest) → slice_get s.geometry.guests number ≡ Some guest → IsSound guest.memory_map) →
         IsCounted s.geometry (replay s.geometry events (world_at_start s)) }
+{}
+
+/// They do whatever is in memory and whatever the physical controller does: each event leads from a world that keeps what the mediator's side keeps, and
+/// where they count, to one where they count. So does reading any completion, whether or not the controller has posted it.
+pub fn controllers_count_whatever_is_in_memory()
+    ensures step { (host_bytes : ℕ) (geometry : Geometry) (e : Event) (w : World) → IsLaidOut host_bytes (length w.lanes) geometry →
+        IsKeptWorld geometry w → IsCounted geometry w → IsCounted geometry (step geometry e w).world }
+    ensures reaped { (geometry : Geometry) (lane : ℕ) (completion : List ℕ) (l : Lane) (w : World) → slice_get w.lanes lane ≡ Some l →
+        IsCounted geometry w → IsCounted geometry (reaped lane completion w) }
 {}

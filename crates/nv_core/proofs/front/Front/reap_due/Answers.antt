@@ -1,4 +1,5 @@
 use Rattle.std.proofs.Common.{◌≡◌, ℕ, ◌+◌, ◌<◌, ◌^◌, ◌∙◌, List, Some, length, slice_get, ap, subst, sym, arith}
+use Rattle.nv_core.proofs.Besides.{beside-due, undue-none}
 use Rattle.nv_core.proofs.Dues.{due-told, reap-due}
 use Rattle.nv_core.proofs.PhasedReaps.{low, phased, shows}
 use Rattle.nv_core.proofs.GroupWorlds.{looked-up}
@@ -6,7 +7,7 @@ use Rattle.nv_core.proofs.ReapAnswers.{waits-told}
 use Rattle.nv_core.proofs.Reaps.{reap-no_lane}
 use Rattle.nv_core.proofs.Sides.{due-side, of-side, state_in}
 use Rattle.nv_core.proofs.KeptStates.{IsKeptOf}
-use Rattle.nv_core.specs.Front.{IsSideOf, Side}
+use Rattle.nv_core.specs.Front.{IsBeside, IsSideOf, Side}
 use Rattle.nv_core.specs.Kept.{IsLent}
 use Rattle.nv_core.specs.State.{State}
 use Rattle.nv_device.specs.Physical.{lane_of}
@@ -91,3 +92,23 @@ returns-clause-answer g c =
     waits-told c.args.layout.now c.args.lane c.args.self.now.lanes l m c.completion_at.result there
     (c.completion_at.ensures ∙ ap (λ (a : ℕ). bytes_from (byte_in m) a cqe_size) at_head) c.phase.result c.wanted_phase.result c.phase.ensures
     c.wanted_phase.ensures
+pub returns-then-at-len-clause-beside : goal.returns-then-at-len-clause-beside
+returns-then-at-len-clause-beside g c = λ w on0 live.
+    let m : List ℕ = g.C.MemoryCell.bytes c.args.host.now in
+    let side : Side = record { lanes = c.self.inside.lanes.items; tails = c.self.inside.tails.items; controllers = c.self.inside.controllers.items } in
+    let lent : IsLent c.args.layout.now side m = subst (λ (f : Side). IsLent c.args.layout.now f m) (sym c.self.view_is) c.requires in
+    let on : IsBeside side m w = subst (λ (f : Side). IsBeside f m w) (sym c.self.view_is) on0 in
+    undue-none c.args.layout.now side m w on live lent.laid_out c.args.lane
+    (let l = c.len.ensures in let n = c.from-at.ensures in let t = c.if-at-len.true in omega arith)
+
+pub returns-clause-beside : goal.returns-clause-beside
+returns-clause-beside g c = λ w on0 live.
+    let m : List ℕ = g.C.MemoryCell.bytes c.args.host.now in
+    let side : Side = record { lanes = c.self.inside.lanes.items; tails = c.self.inside.tails.items; controllers = c.self.inside.controllers.items } in
+    let lent : IsLent c.args.layout.now side m = subst (λ (f : Side). IsLent c.args.layout.now f m) (sym c.self.view_is) c.requires in
+    let on : IsBeside side m w = subst (λ (f : Side). IsBeside f m w) (sym c.self.view_is) on0 in
+    let below : c.from-at.result < length c.self.inside.lanes.items = (let l = c.len.ensures in let n = c.from-at.ensures in let t = c.if-at-len.false in omega arith) in
+    beside-due c.args.layout.now side m w on live lent.laid_out c.args.lane c.from-at.result c.index-ring.result.now c.from-at.ensures below c.index-ring.ensures
+    c.head.result c.completion_slot-slot.result c.head.ensures.value
+    (c.completion_slot-slot.ensures ∙ ap (λ (n : ℕ). completion_slot n c.args.lane c.head.result) c.mediator.ensures)
+    c.completion_at.result c.completion_at.ensures c.phase.result c.wanted_phase.result c.phase.ensures c.wanted_phase.ensures
