@@ -28,7 +28,7 @@ pub struct GuestSetup {
     /// the guest's memory, 0 to 64 regions of a map that was made for the host's length
     pub map: GuestMap,
     /// the disk's blocks that are the guest's, in the order in which the guest counts them: one to eight extents, which have no block in common with
-    /// each other or with another guest's
+    /// each other or with another guest's, and fewer than 2 to the 32 blocks together
     pub extents: Vec<Extent>,
     /// the most descriptors of a list, 1 to 4,096
     pub limit: u32,
@@ -45,11 +45,11 @@ impl Model for GuestSetup {
 /// What a world is to be made of.
 #[derive(Debug, Drop)]
 pub struct Setup {
-    /// how many bytes the host's memory has: 4,096 to 1,073,741,824, a multiple of 4,096
+    /// how many bytes the host's memory has, a multiple of 4,096: 4,096 to 1,073,741,824, or up to 2 to the 47 where the memory is a host's own
     pub host_bytes: u64,
     /// where the mediator's area begins in it: a multiple of 4,096; it has 8,663,040 bytes for each lane
     pub mediator: u64,
-    /// how many blocks of 512 bytes the disk has: 1 to 2,097,152
+    /// how many blocks of 512 bytes the disk has: 1 to 2,097,152, or up to 2 to the 48 where the drive is a host's own
     pub disk_blocks: u64,
     /// how many lanes there are: 1 to 8
     pub lanes: u64,

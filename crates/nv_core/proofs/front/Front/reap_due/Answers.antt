@@ -92,6 +92,7 @@ returns-clause-answer g c =
     waits-told c.args.layout.now c.args.lane c.args.self.now.lanes l m c.completion_at.result there
     (c.completion_at.ensures ∙ ap (λ (a : ℕ). bytes_from (byte_in m) a cqe_size) at_head) c.phase.result c.wanted_phase.result c.phase.ensures
     c.wanted_phase.ensures
+
 pub returns-then-at-len-clause-beside : goal.returns-then-at-len-clause-beside
 returns-then-at-len-clause-beside g c = λ w on0 live.
     let m : List ℕ = g.C.MemoryCell.bytes c.args.host.now in
