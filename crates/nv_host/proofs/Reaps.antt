@@ -1,0 +1,88 @@
+-- A Reap of a mediator that is served.
+use Rattle.std.proofs.Common.{◌≡◌, ℕ, ◌<◌, List, length, slice_get, Some, refl, sym, subst, ap, ◌∙◌}
+use Rattle.std.specs.Prelude.{Err, IfOk, Ok, OnErr, Result}
+use Rattle.nv_core.proofs.FrontLaws.{reaped-lent}
+use Rattle.nv_core.proofs.Sides.{own-side, own-world}
+use Rattle.nv_core.specs.Front.{IsBeside, IsLive, IsReaped, IsStepBeside, Side, with_side}
+use Rattle.nv_core.specs.Kept.{IsLent}
+use Rattle.nv_host.proofs.Accepted.{leads-live}
+use Rattle.nv_host.proofs.Calls.{same-served, served-lent, serving}
+use Rattle.nv_host.specs.Served.{IsNext, IsServed, IsUnreached, Served}
+use Rattle.nv_laws_front.proofs.Reached.{call-reached}
+use Rattle.nv_laws_sound.proofs.CountedActs.{still-counted}
+use Rattle.nv_laws_sound.proofs.CountedEvents.{reaped-counted}
+use Rattle.nv_laws_sound.proofs.Lists.{slice_get-there}
+use Rattle.nv_laws_sound.specs.Counted.{IsCounted}
+use Rattle.nv_model.specs.declared.reply.Reply.{Reply}
+use Rattle.nv_model.specs.declared.reply.Reply.TheVariants as reply
+use Rattle.nv_world_model.specs.Seat.{completion_at}
+use Rattle.nv_world_model.specs.World.{Lane, World}
+use Rattle.nv_world_model.specs.declared.event.Event.TheVariants as event
+
+-- a completion was read
+module _ (h : Served) (is : IsServed h) (lane : ℕ) (new : Side) (memory : List ℕ) (lent : IsLent h.setup.geometry h.side memory)
+    (below : lane < length h.side.lanes) (read : IsReaped h.setup.geometry lane h.side new memory) (tails : new.tails ≡ h.side.tails) where
+  abbrev own : World
+  own = own-world h.side memory
+
+  there : (l : Lane) × (slice_get h.side.lanes lane ≡ Some l)
+  there = slice_get-there h.side.lanes lane below
+
+  lent-after : IsLent h.setup.geometry new memory
+  lent-after = reaped-lent h.setup.geometry lane there.0 h.side new memory there.1 read tails lent
+
+  counted-own : IsCounted h.setup.geometry (with_side new memory own)
+  counted-own =
+      subst (IsCounted h.setup.geometry) (sym (read own there.0 (own-side h.side memory) there.1))
+      (reaped-counted h.setup.geometry own lane (completion_at h.setup.geometry own lane there.0.head) there.0 there.1
+      (is.counted memory own (own-side h.side memory)))
+
+  pub read-served : IsServed (serving h new)
+  read-served =
+      record {
+        accepted = is.accepted;
+        sound = is.sound;
+        lanes = sym lent-after.kept.many ∙ ap (λ (ts : List ℕ). length ts) tails ∙ is.kept.many ∙ is.lanes;
+        kept = lent-after.kept;
+        counted = (λ at w on. still-counted h.setup.geometry (with_side new memory own) w on.lanes on.controllers counted-own);
+      }
+
+-- one was, or nothing has changed
+module _ {E : Type 0} (h o : Served) (view : h ≡ o) (is : IsServed h) (lane : ℕ) (new : Side) (memory : List ℕ) (sized : length memory ≡ o.setup.host_bytes)
+    (tails : new.tails ≡ h.side.tails) where
+  pub reap-served : (result : Result Reply E) → (◌≡◌ {A = Result Reply E} result (Ok reply.Done) → lane < length h.side.lanes)
+      → (◌≡◌ {A = Result Reply E} result (Ok reply.Done) → IsReaped h.setup.geometry lane h.side new memory)
+      → ((◌≡◌ {A = Result Reply E} result (Ok reply.Done) → ⊥) → new ≡ h.side) → IsServed (serving h new)
+  reap-served (Ok reply.Done) below read same =
+      read-served h is lane new memory (served-lent h o view is memory sized) (below refl) (read refl) tails
+  reap-served (Ok (reply.Bytes bytes)) below read same = same-served h new is (same (λ e. cc))
+  reap-served (Ok reply.Idle) below read same = same-served h new is (same (λ e. cc))
+  reap-served (Ok reply.Busy) below read same = same-served h new is (same (λ e. cc))
+  reap-served (Ok reply.Held) below read same = same-served h new is (same (λ e. cc))
+  reap-served (Ok reply.Stale) below read same = same-served h new is (same (λ e. cc))
+  reap-served (Ok reply.Unmapped) below read same = same-served h new is (same (λ e. cc))
+  reap-served (Ok reply.Ignored) below read same = same-served h new is (same (λ e. cc))
+  reap-served (Ok reply.NoMemory) below read same = same-served h new is (same (λ e. cc))
+  reap-served (Err x) below read same = same-served h new is (same (λ e. cc))
+
+  -- it is the next event of each log that leads there
+  pub reap-next : (result : Result Reply E) → IfOk result (λ r. (w : World) → IsBeside h.side memory w → IsLive h.setup.geometry w
+      → IsStepBeside h.setup.geometry (event.Reap lane) w r new memory)
+      → IfOk result (λ r. IsNext (event.Reap lane) o memory r (serving h new) memory)
+  reap-next (Ok r) made =
+      subst (λ (x : Served). IsNext (event.Reap lane) x memory r (serving h new) memory) view
+      (record {
+        setup = refl;
+        logs = (λ log z leads.
+            let on = made z leads.beside (leads-live h.setup is.accepted is.sound h.side memory log z leads) in
+            (on.reply, call-reached h.setup (event.Reap lane) h.side new memory memory r log z tt leads on));
+      })
+  reap-next (Err x) made = tt
+
+  -- or there is none
+  pub reap-stray : (result : Result Reply E) → OnErr result ((w : World) → IsBeside h.side memory w → IsLive h.setup.geometry w → ⊥)
+      → OnErr result (IsUnreached o memory)
+  reap-stray (Ok r) never = tt
+  reap-stray (Err x) never =
+      subst (λ (y : Served). IsUnreached y memory) view
+      (λ log z leads. never z leads.beside (leads-live h.setup is.accepted is.sound h.side memory log z leads))

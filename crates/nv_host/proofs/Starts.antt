@@ -1,0 +1,49 @@
+-- The mediator of a set-up at its start.
+use Rattle.std.proofs.Common.{◌≡◌, ℕ, length, slice_get, Some, refl, sym, subst, ap, ◌∙◌}
+use Rattle.std.proofs.lemmas.List.{length-replicate}
+use Rattle.nv_core.proofs.FrontLaws.{start-kept, start-side}
+use Rattle.nv_core.specs.Front.{Side, opening_side}
+use Rattle.nv_core.specs.Kept.{IsKept}
+use Rattle.nv_host.specs.Served.{AreCounted, IsAccepted, IsAtStart, IsServed, Served}
+use Rattle.nv_laws_front.proofs.Reached.{start-reached}
+use Rattle.nv_laws_sound.proofs.CountedActs.{still-counted}
+use Rattle.nv_laws_sound.proofs.CountedRuns.{opening-counted}
+use Rattle.nv_mem.specs.GuestMap.{IsSound}
+use Rattle.nv_world_model.specs.Geometry.{Geometry, Guest}
+use Rattle.nv_world_model.specs.SetUp.{SetUp}
+use Rattle.nv_world_model.specs.World.{opening_lane, opening_world}
+
+opening-side-counted : (geometry : Geometry) (lanes : ℕ) → AreCounted geometry (opening_side geometry lanes)
+opening-side-counted geometry lanes memory w on =
+    let start = start-side geometry 0 lanes in
+    still-counted geometry (opening_world geometry lanes) w (on.lanes ∙ sym start.lanes) (on.controllers ∙ sym start.controllers)
+    (opening-counted geometry lanes)
+
+-- the side and the layout as they are made
+module _ (a s : SetUp) (same : s ≡ a) (g : Geometry) (side : Side) (is : g ≡ s.geometry) (opens : side ≡ opening_side g s.lanes) where
+  abbrev pub made : Served
+  made = record { setup = record { host_bytes = s.host_bytes; lanes = s.lanes; geometry = g }; side = side }
+
+  setup-is : made.setup ≡ s
+  setup-is = ap (λ (x : Geometry). let t : SetUp = record { host_bytes = s.host_bytes; lanes = s.lanes; geometry = x } in t) is
+
+  made-is : (let h : Served = record { setup = s; side = opening_side s.geometry s.lanes } in h) ≡ made
+  made-is =
+      sym (ap (λ (t : SetUp). let h : Served = record { setup = t; side = opening_side s.geometry s.lanes } in h) setup-is)
+      ∙ ap (λ (f : Side). let h : Served = record { setup = made.setup; side = f } in h)
+      (sym (opens ∙ ap (λ (x : Geometry). opening_side x s.lanes) is))
+
+  pub starts-at : IsAtStart a made
+  starts-at =
+      subst (λ (t : SetUp). IsAtStart t made) same
+      (subst (IsAtStart s) made-is (record { setup = refl; led = start-reached s }))
+
+  pub starts-served : IsAccepted a → ((number : ℕ) (guest : Guest) → slice_get g.guests number ≡ Some guest → IsSound guest.memory_map) → IsServed made
+  starts-served accepted sound =
+      record {
+        accepted = subst IsAccepted (sym same ∙ sym setup-is) accepted;
+        sound = sound;
+        lanes = ap (λ (f : Side). length f.lanes) opens ∙ length-replicate s.lanes opening_lane;
+        kept = subst (IsKept g) (sym opens) (start-kept g s.lanes);
+        counted = subst (AreCounted g) (sym opens) (opening-side-counted g s.lanes);
+      }

@@ -1,0 +1,30 @@
+use Rattle.std.proofs.Common.{◌≡◌, true, ℕ, List, ap}
+use Rattle.nv_core.specs.Seat.{is_long_load}
+use Rattle.nv_host.proofs.Calls.{either-done, either-served, many-same, served-lent}
+use Rattle.nv_host.specs.Served.{Served}
+use Rattle.nv_world_model.specs.declared.event.Event.TheVariants as event
+use Rattle.nv_host.proofs.host_mediator.HostMediator.act.Goals as goal
+
+pub act-requires : goal.act-requires
+act-requires g c =
+    let h : Served = record { setup = record { host_bytes = c.self.inside.host_bytes; lanes = c.self.inside.lanes; geometry = c.self.inside.layout }; side = c.self.inside.front } in
+    served-lent h c.args.self.now c.self.view_is c.self.invariant (g.C.MemoryCell.bytes c.args.memory.now) c.requires
+
+pub invariant_of-self : goal.invariant_of-self
+invariant_of-self g c =
+    let h : Served = record { setup = record { host_bytes = c.self.inside.host_bytes; lanes = c.self.inside.lanes; geometry = c.self.inside.layout }; side = c.self.inside.front } in
+    let before : List ℕ = g.C.MemoryCell.bytes c.args.memory.now in
+    let after : List ℕ = g.C.MemoryCell.bytes c.act.new.host in
+    either-served h c.args.self.now c.self.view_is c.self.invariant (event.Guest c.args.guest c.args.act.now) tt c.act.new.self before after (λ r. r)
+    ((c.act.new.self ≡ c.self.inside.front) × ((after ≡ before) × (is_long_load c.args.act.now ≡ true))) (many-same h.side c.act.new.self c.act.ensures.tails) c.act.ensures.len c.act.result c.act.ensures.ok c.act.ensures.err (λ failed. failed.0) c.requires
+
+pub returns-clause-ok : goal.returns-clause-ok
+returns-clause-ok g c =
+    let h : Served = record { setup = record { host_bytes = c.self.inside.host_bytes; lanes = c.self.inside.lanes; geometry = c.self.inside.layout }; side = c.self.inside.front } in
+    let before : List ℕ = g.C.MemoryCell.bytes c.args.memory.now in
+    let after : List ℕ = g.C.MemoryCell.bytes c.act.new.host in
+    either-done h c.args.self.now c.self.view_is c.self.invariant (event.Guest c.args.guest c.args.act.now) tt c.act.new.self before after (λ r. r)
+    ((c.act.new.self ≡ c.self.inside.front) × ((after ≡ before) × (is_long_load c.args.act.now ≡ true))) (many-same h.side c.act.new.self c.act.ensures.tails) c.act.ensures.len c.act.result c.act.ensures.ok
+
+pub returns-clause-setup : goal.returns-clause-setup
+returns-clause-setup g c = ap (λ (x : Served). x.setup) c.self.view_is

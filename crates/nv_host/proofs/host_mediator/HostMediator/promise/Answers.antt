@@ -1,0 +1,12 @@
+use Rattle.std.proofs.Common.{subst}
+use Rattle.nv_host.proofs.Accepted.{leads-promised}
+use Rattle.nv_host.specs.Served.{IsAccepted, IsPromised, Served}
+use Rattle.nv_host.proofs.host_mediator.HostMediator.promise.Goals as goal
+
+pub returns-clause-accepted : goal.returns-clause-accepted
+returns-clause-accepted c = subst (λ (h : Served). IsAccepted h.setup) c.self.view_is c.self.invariant.accepted
+
+pub returns-clause-promised : goal.returns-clause-promised
+returns-clause-promised c =
+    let h : Served = record { setup = record { host_bytes = c.self.inside.host_bytes; lanes = c.self.inside.lanes; geometry = c.self.inside.layout }; side = c.self.inside.front } in
+    subst IsPromised c.self.view_is (λ memory log z leads. leads-promised h.setup c.self.invariant.accepted c.self.invariant.sound h.side memory log z leads)

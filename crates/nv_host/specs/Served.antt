@@ -1,0 +1,104 @@
+-- The mediator of a host that has memory and a drive of its own: what the code holds, which logs lead to it, and what a call comes to (profile).
+use Rattle.std.specs.Prelude.{◌≡◌, ℕ, Bool, true, false, List, [], ◌∷◌, ◌++◌, Option, length, replicate, slice_get, Some, None}
+use Rattle.nv_core.specs.Front.{IsBeside, IsSideOf, IsStepBeside, Side}
+use Rattle.nv_core.specs.Kept.{IsKept}
+use Rattle.nv_laws_front.specs.Reached.{IsReached}
+use Rattle.nv_laws_sound.specs.Counted.{IsCounted}
+use Rattle.nv_mediator.specs.Refused.{refused}
+use Rattle.nv_mediator.specs.declared.refusal.Refusal.{Refusal as Named}
+use Rattle.nv_mem.specs.GuestMap.{IsSound}
+use Rattle.nv_model.specs.declared.reply.Reply.{Reply}
+use Rattle.nv_world_model.specs.Geometry.{Geometry, Guest}
+use Rattle.nv_world_model.specs.Headline.{Headline}
+use Rattle.nv_world_model.specs.SetUp.{SetUp, host_refusal_of, world_at_start}
+use Rattle.nv_world_model.specs.Step.{is_telling, step}
+use Rattle.nv_world_model.specs.World.{World}
+use Rattle.nv_world_model.specs.declared.event.Event.{Event}
+use Rattle.nv_world_model.specs.declared.event.Event.TheVariants as event
+use Rattle.nv_world_model.specs.declared.logged.Logged.{Logged}
+
+-- ---- what it is
+
+-- what it was made of, and the mediator's side of the world
+pub record Served : Type 0 where
+  pub setup : SetUp
+  pub side : Side
+
+-- ---- set-ups
+
+-- a set-up is not refused, by the limits of a host that has memory and a drive of its own
+abbrev pub IsAccepted : SetUp → Type 0
+IsAccepted s = host_refusal_of s ≡ None
+
+-- the first reason for which one is, by the name that the code gives it
+abbrev pub first_refusal : SetUp → Option Named
+first_refusal s = refused (host_refusal_of s)
+
+-- ---- logs
+
+-- a log of calls with their replies, and of what the drive has done meanwhile, leads from the start of the set-up, in a memory of zeros, to the world
+-- z, where the mediator is this and the memory is that; the world says besides what the drive has, and which blocks its disk has
+abbrev pub LeadsTo : Served → (memory : List ℕ) → List Logged → World → Type 0
+LeadsTo h memory log z = IsReached h.setup h.side memory log z
+
+-- a call was the next event of each log that leads to it: its reply is the definition's, and the log with it leads to what is there after the call
+pub record IsNext (e : Event) (old : Served) (before : List ℕ) (r : Reply) (new : Served) (after : List ℕ) : Type 0 where
+  pub setup : new.setup ≡ old.setup
+  pub logs : (log : List Logged) (z : World) → LeadsTo old before log z
+      → ((step old.setup.geometry e z).reply ≡ r)
+      × LeadsTo new after (log ++ record { event = e; reply = r } ∷ []) (step old.setup.geometry e z).world
+
+-- and so it is in each world in which the mediator and the memory may be at all, whatever led there; and where the reply reports neither a change nor
+-- bytes, nothing has changed
+pub record IsDone (e : Event) (old : Served) (before : List ℕ) (r : Reply) (new : Served) (after : List ℕ) : Type 0 where
+  pub next : IsNext e old before r new after
+  pub worlds : (w : World) → IsBeside old.side before w → IsStepBeside old.setup.geometry e w r new.side after
+  pub dull : is_telling r ≡ false → (new ≡ old) × (after ≡ before)
+
+-- at the start of a set-up: the log without events leads there
+pub record IsAtStart (s : SetUp) (h : Served) : Type 0 where
+  pub setup : h.setup ≡ s
+  pub led : LeadsTo h (replicate s.host_bytes 0) [] (world_at_start s)
+
+-- no log leads there
+abbrev pub IsUnreached : Served → (memory : List ℕ) → Type 0
+IsUnreached h memory = (log : List Logged) (z : World) → LeadsTo h memory log z → ⊥
+
+-- ---- what is promised
+
+-- of every log that leads to it, in whatever memory, the whole promise holds: what each disciplined guest none of whose commands failed has seen, and
+-- has, is a run of its own private controller's, and each event is contained
+abbrev pub IsPromised : Served → Type 0
+IsPromised h = (memory : List ℕ) (log : List Logged) (z : World) → LeadsTo h memory log z → Headline h.setup log z
+
+-- ---- what is kept
+
+-- in each world that has this side each guest's controller counts the guest's commands
+abbrev pub AreCounted : Geometry → Side → Type 0
+AreCounted geometry side = (memory : List ℕ) (w : World) → IsSideOf side memory w → IsCounted geometry w
+
+-- the set-up is not refused, each guest's map is sound, and the side keeps what it keeps whatever is in memory and whatever the drive does
+pub record IsServed (h : Served) : Type 0 where
+  pub accepted : IsAccepted h.setup
+  pub sound : (number : ℕ) (guest : Guest) → slice_get h.setup.geometry.guests number ≡ Some guest → IsSound guest.memory_map
+  pub lanes : length h.side.lanes ≡ h.setup.lanes
+  pub kept : IsKept h.setup.geometry h.side
+  pub counted : AreCounted h.setup.geometry h.side
+
+-- ---- which events are asked about
+
+-- whether an event is a guest's or the mediator's, and not the drive's
+abbrev pub is_served : Event → Bool
+is_served (event.Guest guest a) = true
+is_served (event.Admin guest) = true
+is_served (event.Take guest queue lane) = true
+is_served (event.List lane tag addr len) = true
+is_served (event.Submit lane tag) = true
+is_served (event.GiveUp lane tag) = true
+is_served (event.DevTake lane) = false
+is_served (event.DevMove lane slot number) = false
+is_served (event.DevPost lane slot) = false
+is_served (event.DevFail lane slot st) = false
+is_served (event.Keep block) = false
+is_served (event.Reap lane) = true
+is_served (event.Post lane tag) = true

@@ -1,0 +1,73 @@
+//! Whether an event is due.
+
+ghost use Rattle.std.specs.Prelude.{◌≡◌, ◌&&◌, ℕ, List, length};
+ghost use Rattle.nv_host.specs.Served.{LeadsTo, is_served};
+ghost use Rattle.nv_world_model.specs.Due.{due};
+ghost use Rattle.nv_world_model.specs.World.{World};
+ghost use Rattle.nv_world_model.specs.declared.logged.Logged.{Logged};
+
+use crate::host_mediator::HostMediator;
+use nv_mem::MemoryCell;
+use nv_world_model::Event;
+
+impl HostMediator {
+    /// Whether an event is one of Admin, Take, Reap and Post and would be done now. It is what a worker asks before it makes such an event. Nothing changes,
+    /// no memory is taken, and what it costs does not depend on the host.
+    #[tactic(auto, unfolding(nv_world_model::specs::Due::due))]
+    pub fn due<C: MemoryCell>(&self, event: &Event, memory: &[C]) -> bool
+        requires { length (C.bytes memory.now) ≡ self.now.setup.host_bytes }
+        ensures { (log : List Logged) (z : World) → LeadsTo self.now (C.bytes memory.now) log z →
+            result ≡ (is_served event.now && due self.now.setup.geometry event.now z) }
+    {
+        match event {
+            Event::Admin(guest) => self.admin_due(*guest),
+            Event::Take(guest, queue, lane) => self.take_due(*guest, *queue, *lane, memory),
+            Event::Reap(lane) => self.reap_due(*lane, memory),
+            Event::Post(lane, tag) => self.post_due(*lane, *tag),
+            Event::Guest(_guest, _act) => false,
+            Event::List(_lane, _tag, _addr, _len) => false,
+            Event::Submit(_lane, _tag) => false,
+            Event::GiveUp(_lane, _tag) => false,
+            Event::DevTake(_lane) => false,
+            Event::DevMove(_lane, _slot, _number) => false,
+            Event::DevPost(_lane, _slot) => false,
+            Event::DevFail(_lane, _slot, _status) => false,
+            Event::Keep(_block) => false,
+        }
+    }
+
+    // Whether a guest's admin queue has something to do.
+    fn admin_due(&self, guest: u8) -> bool
+        ensures { (memory : List ℕ) (log : List Logged) (z : World) → LeadsTo self.now memory log z →
+            result ≡ due self.now.setup.geometry (Event.Admin guest) z }
+    {
+        self.front.admin_due(&self.layout, guest)
+    }
+
+    // Whether a command of a guest's I/O queue may be taken, and as many tags of the lane are free as it wants.
+    fn take_due<C: MemoryCell>(&self, guest: u8, queue: u16, lane: u8, memory: &[C]) -> bool
+        requires { length (C.bytes memory.now) ≡ self.now.setup.host_bytes }
+        ensures { (log : List Logged) (z : World) → LeadsTo self.now (C.bytes memory.now) log z →
+            result ≡ due self.now.setup.geometry (Event.Take guest queue lane) z }
+    {
+        self.front
+            .take_due(&self.layout, guest, queue, lane, memory)
+    }
+
+    // Whether a completion of a lane waits.
+    fn reap_due<C: MemoryCell>(&self, lane: u8, memory: &[C]) -> bool
+        requires { length (C.bytes memory.now) ≡ self.now.setup.host_bytes }
+        ensures { (log : List Logged) (z : World) → LeadsTo self.now (C.bytes memory.now) log z →
+            result ≡ due self.now.setup.geometry (Event.Reap lane) z }
+    {
+        self.front.reap_due(&self.layout, lane, memory)
+    }
+
+    // Whether all tags of the command that goes by a tag have ended, and it may be completed or runs out.
+    fn post_due(&self, lane: u8, tag: u8) -> bool
+        ensures { (memory : List ℕ) (log : List Logged) (z : World) → LeadsTo self.now memory log z →
+            result ≡ due self.now.setup.geometry (Event.Post lane tag) z }
+    {
+        self.front.post_due(&self.layout, lane, tag)
+    }
+}

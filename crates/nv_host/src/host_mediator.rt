@@ -1,0 +1,84 @@
+//! The mediator of a host, and what is promised of it.
+
+ghost use Rattle.std.specs.Prelude.{◌≡◌, ◌⊎◌, IfErr, IfOk, Some};
+ghost use Rattle.nv_host.specs.Served.{IsAccepted, IsAtStart, IsPromised, first_refusal};
+
+use nv_core::{Front, Layout};
+use nv_mediator::{Refusal, Setup};
+use nv_mem::NoMemory;
+use std::alloc::Global;
+use std::marker::Model;
+
+/// The mediator between up to 16 guests and a drive, for a host that has the memory and the drive.
+///
+/// Its type keeps that its set-up was accepted, and what the mediator's side keeps whatever is in memory.
+#[derive(Drop)]
+pub struct HostMediator {
+    pub(crate) layout: Layout,
+    pub(crate) host_bytes: u64,
+    pub(crate) lanes: u8,
+    pub(crate) front: Front,
+}
+
+impl Model for HostMediator {
+    ghost use Rattle.nv_host.specs.Served.{IsServed, Served};
+
+    ghost Value = { Served };
+
+    ghost view = { λ m. record { setup = record { host_bytes = m.host_bytes; lanes = m.lanes; geometry = m.layout }; side = m.front } };
+
+    ghost invariant = { λ m. IsServed (record { setup = record { host_bytes = m.host_bytes; lanes = m.lanes; geometry = m.layout }; side = m.front }) };
+}
+
+impl HostMediator {
+    /// The mediator of a set-up at its start. The memory that the calls are lent is all zeros then.
+    ///
+    /// # Errors
+    ///
+    /// The first reason for which the set-up is refused, or that memory was.
+    pub fn new(alloc: Global, setup: Setup) -> Result<Self, Refusal>
+        ensures ok { IfOk result (λ mediator. IsAtStart setup mediator) }
+        ensures accepted { IfOk result (λ _. IsAccepted setup) }
+        ensures err { IfErr result (λ refusal. (first_refusal setup ≡ Some refusal) ⊎ ((refusal ≡ Refusal.NoMemory) × IsAccepted setup)) }
+    {
+        if let Some(refusal) = setup.host_refusal() {
+            return Err(refusal);
+        }
+        Self::open(alloc, setup).map_err(|_| Refusal::NoMemory)
+    }
+
+    // The mediator of a set-up that is not refused.
+    fn open(alloc: Global, setup: Setup) -> Result<Self, NoMemory>
+        requires { IsAccepted setup }
+        ensures { IfOk result (λ mediator. IsAtStart setup mediator) }
+    {
+        let host_bytes = setup.host_bytes;
+        let lanes = setup.lanes as u8;
+        let layout = setup.into_layout(alloc)?;
+        let front = Front::new(alloc, &layout, lanes)?;
+        Ok(HostMediator {
+            layout,
+            host_bytes,
+            lanes,
+            front,
+        })
+    }
+
+    /// What is promised of the mediator as it is; it does nothing.
+    ///
+    /// Of every log that leads to it, in whatever memory, the whole promise holds. Each event is contained: it reads and changes nothing of any guest but
+    /// its owner. What a disciplined guest has seen, its memory and its namespace are those of a run of its own commands on a private controller, where
+    /// the drive failed none of them.
+    ///
+    /// That there is such a log rests on the drive and on the host, which nothing here can prove. Between two calls the drive does what the definition's
+    /// events of the physical controller do, DevTake, DevMove, DevPost, DevFail and Keep, in any order and number, and the memory is afterwards as they
+    /// make it. Nothing else changes the memory or the disk but guests, whose stores are events of their own, each to its guest's memory alone. Then the
+    /// calls, in the order in which they were made, and the drive's events between them are a log that leads there.
+    #[inline(always)]
+    pub fn promise(&self)
+        ensures accepted { IsAccepted self.now.setup }
+        ensures promised { IsPromised self.now }
+    {
+        let _known = &self.front;
+    }
+}

@@ -1,0 +1,31 @@
+//! The mediator of a host that has memory and a drive of its own.
+//!
+//! A [`HostMediator`] holds the mediator's side of the world alone: lanes with their tags, the tails of the submission rings, and each guest's
+//! controller. The host's memory is lent to each call, as a slice of cells, and the drive is the host's. [`HostMediator::new`] makes it of a [`Setup`],
+//! or returns the first reason for which the set-up is refused.
+//!
+//! Each other call that changes something is a whole event of the definition (`nv_world_model/specs/Step`). The events of guests are
+//! [`HostMediator::act`], [`HostMediator::store`], [`HostMediator::load`] and [`HostMediator::admin`]. Those of the mediator are
+//! [`HostMediator::take`], [`HostMediator::list`], [`HostMediator::submit`] and [`HostMediator::submit_plan`], [`HostMediator::give_up`],
+//! [`HostMediator::reap`] and [`HostMediator::post`]. [`HostMediator::due`] reports what there is to do, and [`HostMediator::tail`],
+//! [`HostMediator::head`], [`HostMediator::submission_ring`] and [`HostMediator::completion_ring`] what the host needs for the drive's queues and
+//! doorbells.
+//!
+//! What a call comes to is said by logs (`specs/Served`): of each log that leads to the mediator and the memory as they are, the call is the next
+//! event. Such a log has the calls with their replies, and what the drive did between them. Nobody has to keep one. [`HostMediator::promise`] does
+//! nothing: its contract says that every log that leads there keeps the whole promise.
+//!
+//! The type keeps what no byte of memory can spoil. So each call is safe, ends and answers, whatever the drive or a guest has written; a completion
+//! that names no command on its way is a [`Stray`], and changes nothing.
+#![tactic(auto)]
+
+mod asking;
+mod commands;
+mod due;
+mod guests;
+mod host_mediator;
+mod rings;
+
+pub use host_mediator::HostMediator;
+pub use nv_core::{Holder, Stray};
+pub use nv_mediator::{Extent, GuestSetup, Refusal, Setup};
